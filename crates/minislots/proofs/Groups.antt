@@ -1,0 +1,17 @@
+-- The groups of fields that the check goes through are the fields in their order.
+use Rattle.std.proofs.Common.{◌≡◌, Bool, not, ◌++◌, ◌∙◌, ap}
+use Rattle.std.specs.Option.{option_or}
+use Rattle.std.proofs.lemmas.List.Folds.{find-append}
+use Rattle.minislots.specs.declared.config.Config.{Config}
+use Rattle.minislots.specs.declared.config.ConfigFault.{ConfigFault}
+use Rattle.minislots.specs.Config.{is_lawful_field, first_wrong_of, first_wrong, burst_fields, frame_fields, grant_fields, history_fields, backoff_fields}
+
+-- the first wrong field is that of the first group which has one
+pub first_wrong_by_groups : (c : Config) → first_wrong c ≡ option_or (first_wrong_of c burst_fields) (option_or (first_wrong_of c frame_fields) (option_or (first_wrong_of c grant_fields) (option_or (first_wrong_of c history_fields) (first_wrong_of c backoff_fields))))
+unfolding first_wrong
+first_wrong_by_groups c =
+    let test : ConfigFault → Bool = λ field. not (is_lawful_field c field) in
+    find-append test burst_fields (frame_fields ++ (grant_fields ++ (history_fields ++ backoff_fields)))
+    ∙ ap (option_or (first_wrong_of c burst_fields)) (find-append test frame_fields (grant_fields ++ (history_fields ++ backoff_fields))
+    ∙ ap (option_or (first_wrong_of c frame_fields)) (find-append test grant_fields (history_fields ++ backoff_fields)
+    ∙ ap (option_or (first_wrong_of c grant_fields)) (find-append test history_fields backoff_fields)))

@@ -1,0 +1,4 @@
+pub mod Bounds
+pub mod Groups
+mod Rows
+pub mod UnitLaws

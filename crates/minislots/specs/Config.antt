@@ -1,0 +1,105 @@
+-- Which configurations of a channel are lawful, and which field of another is the first that is wrong.
+use Rattle.std.specs.Prelude.{◌≡◌, ℕ, ◌<◌, ◌≤◌, ◌+◌, ◌*◌, ◌%◌, ◌^◌, Bool, not, ◌&&◌, ◌||◌, nat_le, ◌==◌, List, [], ◌∷◌, Option, None, find}
+use Rattle.minislots.specs.declared.config.Config.{Config}
+use Rattle.minislots.specs.declared.config.ConfigFault.{ConfigFault}
+use Rattle.minislots.specs.declared.config.ConfigFault.TheVariants.{Ticks, BytesPerSlot, Overhead, Frame, Cycle, ReqSlots, PollSlots, Lead, ShortMax, Quantum, GrantCap, Receivers, Calls, Start, RangingStart, RangingEnd, DataStart, DataEnd}
+use Rattle.minislots.specs.Units.{slots_for}
+
+-- the number is from low to high
+abbrev pub is_within : ℕ → ℕ → ℕ → Bool
+is_within low high n = nat_le low n && nat_le n high
+
+-- a minislot has 2, 4, 8, 16, 32, 64 or 128 ticks
+abbrev pub is_ticks : ℕ → Bool
+is_ticks n = n == 2 || n == 4 || n == 8 || n == 16 || n == 32 || n == 64 || n == 128
+
+-- whether the field of this fault is lawful
+abbrev pub is_lawful_field : Config → ConfigFault → Bool
+is_lawful_field c Ticks = is_ticks c.ticks
+is_lawful_field c BytesPerSlot = is_within 1 1024 c.bytes_per_slot
+is_lawful_field c Overhead = is_within 1 64 c.overhead
+is_lawful_field c Frame = is_within 16 1024 c.frame
+is_lawful_field c Cycle = is_within 1 64 c.cycle
+is_lawful_field c ReqSlots = nat_le 1 c.req_slots && nat_le (c.req_slots + c.overhead + 1) c.frame
+is_lawful_field c PollSlots = nat_le 1 c.poll_slots && nat_le (c.poll_slots + c.req_slots) c.frame
+is_lawful_field c Lead = nat_le (c.lead + 2 * c.frame) 4096
+is_lawful_field c ShortMax = nat_le c.short_max c.frame
+is_lawful_field c Quantum = is_within 64 1522 c.quantum && nat_le (slots_for c c.quantum + c.req_slots) c.frame
+is_lawful_field c GrantCap = is_within c.quantum 1048560 c.grant_cap
+is_lawful_field c Receivers = is_within 1 16 c.receivers
+is_lawful_field c Calls = is_within 1 16777216 c.calls
+is_lawful_field c Start = c.start % c.frame == 0 && nat_le c.start (2 ^ 60)
+is_lawful_field c RangingStart = nat_le c.ranging_start 15
+is_lawful_field c RangingEnd = nat_le c.ranging_end 15
+is_lawful_field c DataStart = nat_le c.data_start 15
+is_lawful_field c DataEnd = nat_le c.data_end 15
+
+-- the fields of a burst
+abbrev pub burst_fields : List ConfigFault
+burst_fields = Ticks ∷ BytesPerSlot ∷ Overhead ∷ []
+
+-- the fields that lay out a frame
+abbrev pub frame_fields : List ConfigFault
+frame_fields = Frame ∷ Cycle ∷ ReqSlots ∷ PollSlots ∷ Lead ∷ ShortMax ∷ []
+
+-- the fields of a data grant
+abbrev pub grant_fields : List ConfigFault
+grant_fields = Quantum ∷ GrantCap ∷ []
+
+-- the fields of what is recorded, and from where on
+abbrev pub history_fields : List ConfigFault
+history_fields = Receivers ∷ Calls ∷ Start ∷ []
+
+-- the fields of the backoff windows
+abbrev pub backoff_fields : List ConfigFault
+backoff_fields = RangingStart ∷ RangingEnd ∷ DataStart ∷ DataEnd ∷ []
+
+-- the fields that can be wrong, in their order
+abbrev pub fields : List ConfigFault
+fields = Ticks ∷ BytesPerSlot ∷ Overhead ∷ Frame ∷ Cycle ∷ ReqSlots ∷ PollSlots ∷ Lead ∷ ShortMax ∷ Quantum ∷ GrantCap ∷ Receivers ∷ Calls ∷ Start ∷ RangingStart ∷ RangingEnd ∷ DataStart ∷ DataEnd ∷ []
+
+-- the first of some fields that is wrong
+abbrev pub first_wrong_of : Config → List ConfigFault → Option ConfigFault
+first_wrong_of c some = find (λ field. not (is_lawful_field c field)) some
+
+-- the first field that is wrong
+unfoldable pub first_wrong : Config → Option ConfigFault
+first_wrong c = first_wrong_of c fields
+
+-- no field is wrong
+abbrev pub IsLawful : Config → Type 0
+IsLawful c = first_wrong c ≡ None
+
+-- what is known of a lawful configuration
+pub record HasBounds (c : Config) : Type 0 where
+  pub ticks_positive : 0 < c.ticks
+  pub ticks_most : c.ticks ≤ 128
+  pub bytes_positive : 0 < c.bytes_per_slot
+  pub bytes_most : c.bytes_per_slot ≤ 1024
+  pub overhead_positive : 0 < c.overhead
+  pub overhead_most : c.overhead ≤ 64
+  pub frame_least : 16 ≤ c.frame
+  pub frame_most : c.frame ≤ 1024
+  pub cycle_positive : 0 < c.cycle
+  pub cycle_most : c.cycle ≤ 64
+  pub requests_positive : 0 < c.req_slots
+  pub requests_fit : c.req_slots + c.overhead + 1 ≤ c.frame
+  pub poll_positive : 0 < c.poll_slots
+  pub poll_fits : c.poll_slots + c.req_slots ≤ c.frame
+  pub lead_most : c.lead + 2 * c.frame ≤ 4096
+  pub short_most : c.short_max ≤ c.frame
+  pub quantum_least : 64 ≤ c.quantum
+  pub quantum_most : c.quantum ≤ 1522
+  pub quantum_fits : slots_for c c.quantum + c.req_slots ≤ c.frame
+  pub cap_least : c.quantum ≤ c.grant_cap
+  pub cap_most : c.grant_cap ≤ 1048560
+  pub receivers_positive : 0 < c.receivers
+  pub receivers_most : c.receivers ≤ 16
+  pub calls_positive : 0 < c.calls
+  pub calls_most : c.calls ≤ 16777216
+  pub start_aligned : c.start % c.frame ≡ 0
+  pub start_most : c.start ≤ 2 ^ 60
+  pub ranging_start_most : c.ranging_start ≤ 15
+  pub ranging_end_most : c.ranging_end ≤ 15
+  pub data_start_most : c.data_start ≤ 15
+  pub data_end_most : c.data_end ≤ 15

@@ -1,0 +1,150 @@
+//! The configuration of a channel, and the test that it is lawful.
+
+ghost use Rattle.std.specs.Prelude.{◌≡◌, IfOk, OnOk, IfErr};
+ghost use Rattle.minislots.specs.Config.{first_wrong, IsLawful};
+
+mod fields;
+mod readers;
+
+use std::marker::Model;
+use thiserror::Error;
+
+/// The configuration of one upstream channel, as it is handed in. Each limit is this profile's own.
+#[derive(Clone, Copy, Debug, PartialEq, Eq)]
+pub struct Config {
+    /// Ticks of 6.25 microseconds in a minislot: a power of two from 2 to 128.
+    pub ticks: u32,
+    /// Bytes that a minislot carries: 1 to 1024.
+    pub bytes_per_slot: u32,
+    /// Minislots of guard time and preamble in each burst: 1 to 64.
+    pub overhead: u32,
+    /// Minislots that one MAP describes: 16 to 1024.
+    pub frame: u32,
+    /// Frames after which the places of periodic flows repeat: 1 to 64.
+    pub cycle: u32,
+    /// Minislots of the request region at the head of each MAP: at least 1, with room for a burst
+    /// of one minislot behind it.
+    pub req_slots: u32,
+    /// Minislots of a poll: at least 1, at most what the request region leaves.
+    pub poll_slots: u32,
+    /// Minislots before its start at which a MAP must be built: at most 4096 less two frames.
+    pub lead: u32,
+    /// The longest grant that is a Short Data Grant, in minislots: at most a frame.
+    pub short_max: u32,
+    /// The bytes of a grant that a flow must be able to take to be served: 64 to 1522, and a burst
+    /// of so many bytes fits behind the request region.
+    pub quantum: u32,
+    /// The most bytes of one data grant: from the quantum to 1048560.
+    pub grant_cap: u32,
+    /// How many receivers hear requests: 1 to 16.
+    pub receivers: u8,
+    /// How many calls are recorded: 1 to 16777216.
+    pub calls: u32,
+    /// The minislot at which the first MAP starts: a multiple of the frame, at most 2^60.
+    pub start: u64,
+    /// The exponent of the first ranging backoff window: 0 to 15.
+    pub ranging_start: u8,
+    /// The exponent of the last ranging backoff window: 0 to 15.
+    pub ranging_end: u8,
+    /// The exponent of the first data backoff window: 0 to 15.
+    pub data_start: u8,
+    /// The exponent of the last data backoff window: 0 to 15.
+    pub data_end: u8,
+    /// The channel's ID.
+    pub channel: u8,
+    /// The UCD count.
+    pub ucd_count: u8,
+}
+
+/// The first field of a configuration that has no lawful value, in the order of the fields.
+#[derive(Clone, Copy, Debug, PartialEq, Eq, Error)]
+pub enum ConfigFault {
+    #[error("ticks")]
+    Ticks,
+    #[error("bytes_per_slot")]
+    BytesPerSlot,
+    #[error("overhead")]
+    Overhead,
+    #[error("frame")]
+    Frame,
+    #[error("cycle")]
+    Cycle,
+    #[error("req_slots")]
+    ReqSlots,
+    #[error("poll_slots")]
+    PollSlots,
+    #[error("lead")]
+    Lead,
+    #[error("short_max")]
+    ShortMax,
+    #[error("quantum")]
+    Quantum,
+    #[error("grant_cap")]
+    GrantCap,
+    #[error("receivers")]
+    Receivers,
+    #[error("calls")]
+    Calls,
+    #[error("start")]
+    Start,
+    #[error("ranging_start")]
+    RangingStart,
+    #[error("ranging_end")]
+    RangingEnd,
+    #[error("data_start")]
+    DataStart,
+    #[error("data_end")]
+    DataEnd,
+}
+
+/// A configuration in which each field is lawful.
+#[derive(Clone, Copy, Debug, PartialEq, Eq)]
+pub struct Checked {
+    config: Config,
+}
+
+impl Model for Checked {
+    ghost use Rattle.minislots.specs.declared.config.Config.{Config};
+
+    ghost Value = { Config };
+
+    ghost use Rattle.minislots.specs.Config.{IsLawful, HasBounds};
+
+    ghost view = { λ c. c.config };
+
+    // The bounds follow from the first part, and stand here so that each reader knows its own.
+    ghost invariant = { λ c. IsLawful c.config × HasBounds c.config };
+
+    ghost inverse = { λ c. record { config = c } };
+}
+
+impl Config {
+    /// The configuration as it is, once each of its fields is known to be lawful. Otherwise the
+    /// first field that is wrong, in the order of [`ConfigFault`].
+    #[tactic(auto, using(crate::proofs::Groups::first_wrong_by_groups))]
+    pub fn check(self) -> Result<Checked, ConfigFault>
+        // A lawful configuration is given back as it was handed in.
+        ensures ok { IfOk result (λ checked. checked ≡ self) }
+        ensures lawful { OnOk result (IsLawful self) }
+
+        // Of any other the first wrong field is named.
+        ensures err { IfErr result (λ fault. first_wrong self ≡ Some fault) }
+    {
+        self.check_burst()?;
+        self.check_frame()?;
+        self.check_grants()?;
+        self.check_history()?;
+        self.check_backoffs()?;
+        Ok(Checked { config: self })
+    }
+}
+
+impl Checked {
+    /// The configuration that was handed in.
+    pub fn config(&self) -> Config
+        ensures value { result ≡ self.now }
+        ensures lawful { IsLawful self.now }
+    {
+        self.config
+    }
+}

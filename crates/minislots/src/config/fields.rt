@@ -1,0 +1,128 @@
+//! The tests of a configuration's fields, in groups that follow one another.
+
+ghost use Rattle.std.specs.Prelude.{◌≡◌, ◌<◌, IfOk, IfErr, IsTrue, MatchResult, false};
+ghost use Rattle.minislots.specs.Config.{is_within, is_ticks, is_lawful_field, first_wrong_of, burst_fields, frame_fields, grant_fields, history_fields, backoff_fields};
+
+use super::{Config, ConfigFault};
+use crate::units::carriers;
+
+/// The fault where its field isn't lawful.
+fn require(is_lawful: bool, fault: ConfigFault) -> Result<(), ConfigFault>
+    ensures { MatchResult result (λ _. IsTrue is_lawful) (λ e. (is_lawful ≡ false) × (e ≡ fault)) }
+{
+    if is_lawful { Ok(()) } else { Err(fault) }
+}
+
+fn is_ticks(n: u32) -> bool
+    ensures { result ≡ is_ticks n }
+{
+    matches!(n, 2 | 4 | 8 | 16 | 32 | 64 | 128)
+}
+
+fn is_within(low: u32, high: u32, n: u32) -> bool
+    ensures { result ≡ is_within low high n }
+{
+    low <= n && n <= high
+}
+
+impl Config {
+    /// The fields of a burst.
+    pub(super) fn check_burst(&self) -> Result<(), ConfigFault>
+        ensures ok { IfOk result (λ _. first_wrong_of self.now burst_fields ≡ None) }
+        ensures err { IfErr result (λ e. first_wrong_of self.now burst_fields ≡ Some e) }
+    {
+        require(is_ticks(self.ticks), ConfigFault::Ticks)?;
+        require(
+            is_within(1, 1024, self.bytes_per_slot),
+            ConfigFault::BytesPerSlot,
+        )?;
+        require(is_within(1, 64, self.overhead), ConfigFault::Overhead)
+    }
+
+    /// The fields that lay out a frame.
+    pub(super) fn check_frame(&self) -> Result<(), ConfigFault>
+        ensures ok { IfOk result (λ _. first_wrong_of self.now frame_fields ≡ None) }
+        ensures err { IfErr result (λ e. first_wrong_of self.now frame_fields ≡ Some e) }
+    {
+        require(is_within(16, 1024, self.frame), ConfigFault::Frame)?;
+        require(is_within(1, 64, self.cycle), ConfigFault::Cycle)?;
+        require(self.has_room_for_requests(), ConfigFault::ReqSlots)?;
+        require(self.has_room_for_polls(), ConfigFault::PollSlots)?;
+        require(self.has_lawful_lead(), ConfigFault::Lead)?;
+        require(self.short_max <= self.frame, ConfigFault::ShortMax)
+    }
+
+    /// The fields of a data grant.
+    pub(super) fn check_grants(&self) -> Result<(), ConfigFault>
+        requires { 0 < self.now.bytes_per_slot }
+        ensures ok { IfOk result (λ _. first_wrong_of self.now grant_fields ≡ None) }
+        ensures err { IfErr result (λ e. first_wrong_of self.now grant_fields ≡ Some e) }
+    {
+        require(self.has_room_for_quantum(), ConfigFault::Quantum)?;
+        require(
+            is_within(self.quantum, 1_048_560, self.grant_cap),
+            ConfigFault::GrantCap,
+        )
+    }
+
+    /// The fields of what is recorded, and from where on.
+    pub(super) fn check_history(&self) -> Result<(), ConfigFault>
+        requires { 0 < self.now.frame }
+        ensures ok { IfOk result (λ _. first_wrong_of self.now history_fields ≡ None) }
+        ensures err { IfErr result (λ e. first_wrong_of self.now history_fields ≡ Some e) }
+    {
+        require(
+            is_within(1, 16, self.receivers.into()),
+            ConfigFault::Receivers,
+        )?;
+        require(is_within(1, 1 << 24, self.calls), ConfigFault::Calls)?;
+        require(self.has_lawful_start(), ConfigFault::Start)
+    }
+
+    /// The fields of the backoff windows.
+    pub(super) fn check_backoffs(&self) -> Result<(), ConfigFault>
+        ensures ok { IfOk result (λ _. first_wrong_of self.now backoff_fields ≡ None) }
+        ensures err { IfErr result (λ e. first_wrong_of self.now backoff_fields ≡ Some e) }
+    {
+        require(self.ranging_start <= 15, ConfigFault::RangingStart)?;
+        require(self.ranging_end <= 15, ConfigFault::RangingEnd)?;
+        require(self.data_start <= 15, ConfigFault::DataStart)?;
+        require(self.data_end <= 15, ConfigFault::DataEnd)
+    }
+
+    fn has_room_for_requests(&self) -> bool
+        ensures { result ≡ is_lawful_field self.now ConfigFault.ReqSlots }
+    {
+        let used = u64::from(self.req_slots) + u64::from(self.overhead) + 1;
+        1 <= self.req_slots && used <= u64::from(self.frame)
+    }
+
+    fn has_room_for_polls(&self) -> bool
+        ensures { result ≡ is_lawful_field self.now ConfigFault.PollSlots }
+    {
+        let used = u64::from(self.poll_slots) + u64::from(self.req_slots);
+        1 <= self.poll_slots && used <= u64::from(self.frame)
+    }
+
+    fn has_lawful_lead(&self) -> bool
+        ensures { result ≡ is_lawful_field self.now ConfigFault.Lead }
+    {
+        u64::from(self.lead) + 2 * u64::from(self.frame) <= 4096
+    }
+
+    fn has_room_for_quantum(&self) -> bool
+        requires { 0 < self.now.bytes_per_slot }
+        ensures { result ≡ is_lawful_field self.now ConfigFault.Quantum }
+    {
+        let burst = u64::from(self.overhead) + carriers(self.quantum, self.bytes_per_slot);
+        is_within(64, 1522, self.quantum)
+            && burst + u64::from(self.req_slots) <= u64::from(self.frame)
+    }
+
+    fn has_lawful_start(&self) -> bool
+        requires { 0 < self.now.frame }
+        ensures { result ≡ is_lawful_field self.now ConfigFault.Start }
+    {
+        self.start % u64::from(self.frame) == 0 && self.start <= 1 << 60
+    }
+}

@@ -1,0 +1,188 @@
+//! A reader for each field of a lawful configuration.
+
+ghost use Rattle.std.specs.Prelude.{◌≡◌, ◌<◌, ◌≤◌, ◌+◌, ◌*◌, ◌%◌, ◌^◌};
+ghost use Rattle.minislots.specs.Config.{IsLawful};
+
+use super::Checked;
+
+impl Checked {
+    /// The ticks of 6.25 microseconds in a minislot.
+    pub fn ticks(&self) -> u32
+        ensures value { result ≡ self.now.ticks }
+        ensures lawful { IsLawful self.now }
+        ensures positive { 0 < result }
+    {
+        self.config.ticks
+    }
+
+    /// The bytes that a minislot carries.
+    pub fn bytes_per_slot(&self) -> u32
+        ensures value { result ≡ self.now.bytes_per_slot }
+        ensures lawful { IsLawful self.now }
+        ensures positive { 0 < result }
+    {
+        self.config.bytes_per_slot
+    }
+
+    /// The minislots of guard time and preamble in each burst.
+    pub fn overhead(&self) -> u32
+        ensures value { result ≡ self.now.overhead }
+        ensures lawful { IsLawful self.now }
+        ensures positive { 0 < result }
+    {
+        self.config.overhead
+    }
+
+    /// The minislots that one MAP describes.
+    pub fn frame(&self) -> u32
+        ensures value { result ≡ self.now.frame }
+        ensures lawful { IsLawful self.now }
+        ensures least { 16 ≤ result }
+        ensures most { result ≤ 1024 }
+    {
+        self.config.frame
+    }
+
+    /// The frames after which the places of periodic flows repeat.
+    pub fn cycle(&self) -> u32
+        ensures value { result ≡ self.now.cycle }
+        ensures lawful { IsLawful self.now }
+        ensures positive { 0 < result }
+    {
+        self.config.cycle
+    }
+
+    /// The minislots of the request region at the head of each MAP.
+    pub fn req_slots(&self) -> u32
+        ensures value { result ≡ self.now.req_slots }
+        ensures lawful { IsLawful self.now }
+        ensures positive { 0 < result }
+        ensures fits { result + self.now.overhead < self.now.frame }
+    {
+        self.config.req_slots
+    }
+
+    /// The minislots of a poll.
+    pub fn poll_slots(&self) -> u32
+        ensures value { result ≡ self.now.poll_slots }
+        ensures lawful { IsLawful self.now }
+        ensures positive { 0 < result }
+        ensures fits { result + self.now.req_slots ≤ self.now.frame }
+    {
+        self.config.poll_slots
+    }
+
+    /// How many minislots before its start a MAP must be built.
+    pub fn lead(&self) -> u32
+        ensures value { result ≡ self.now.lead }
+        ensures lawful { IsLawful self.now }
+        ensures most { result + 2 * self.now.frame ≤ 4096 }
+    {
+        self.config.lead
+    }
+
+    /// The longest Short Data Grant, in minislots.
+    pub fn short_max(&self) -> u32
+        ensures value { result ≡ self.now.short_max }
+        ensures lawful { IsLawful self.now }
+        ensures most { result ≤ self.now.frame }
+    {
+        self.config.short_max
+    }
+
+    /// The bytes of a grant that a flow must be able to take to be served.
+    pub fn quantum(&self) -> u32
+        ensures value { result ≡ self.now.quantum }
+        ensures lawful { IsLawful self.now }
+        ensures least { 64 ≤ result }
+        ensures most { result ≤ 1522 }
+    {
+        self.config.quantum
+    }
+
+    /// The most bytes of one data grant.
+    pub fn grant_cap(&self) -> u32
+        ensures value { result ≡ self.now.grant_cap }
+        ensures lawful { IsLawful self.now }
+        ensures least { self.now.quantum ≤ result }
+        ensures most { result ≤ 1048560 }
+    {
+        self.config.grant_cap
+    }
+
+    /// How many receivers hear requests.
+    pub fn receivers(&self) -> u8
+        ensures value { result ≡ self.now.receivers }
+        ensures lawful { IsLawful self.now }
+    {
+        self.config.receivers
+    }
+
+    /// How many calls are recorded.
+    pub fn calls(&self) -> u32
+        ensures value { result ≡ self.now.calls }
+        ensures lawful { IsLawful self.now }
+        ensures positive { 0 < result }
+        ensures most { result ≤ 16777216 }
+    {
+        self.config.calls
+    }
+
+    /// The minislot at which the first MAP starts.
+    pub fn start(&self) -> u64
+        ensures value { result ≡ self.now.start }
+        ensures lawful { IsLawful self.now }
+        ensures aligned { result % self.now.frame ≡ 0 }
+        ensures most { result ≤ 2 ^ 60 }
+    {
+        self.config.start
+    }
+
+    /// The exponent of the first ranging backoff window.
+    pub fn ranging_start(&self) -> u8
+        ensures value { result ≡ self.now.ranging_start }
+        ensures lawful { IsLawful self.now }
+    {
+        self.config.ranging_start
+    }
+
+    /// The exponent of the last ranging backoff window.
+    pub fn ranging_end(&self) -> u8
+        ensures value { result ≡ self.now.ranging_end }
+        ensures lawful { IsLawful self.now }
+    {
+        self.config.ranging_end
+    }
+
+    /// The exponent of the first data backoff window.
+    pub fn data_start(&self) -> u8
+        ensures value { result ≡ self.now.data_start }
+        ensures lawful { IsLawful self.now }
+    {
+        self.config.data_start
+    }
+
+    /// The exponent of the last data backoff window.
+    pub fn data_end(&self) -> u8
+        ensures value { result ≡ self.now.data_end }
+        ensures lawful { IsLawful self.now }
+    {
+        self.config.data_end
+    }
+
+    /// The channel's ID.
+    pub fn channel(&self) -> u8
+        ensures value { result ≡ self.now.channel }
+        ensures lawful { IsLawful self.now }
+    {
+        self.config.channel
+    }
+
+    /// The UCD count.
+    pub fn ucd_count(&self) -> u8
+        ensures value { result ≡ self.now.ucd_count }
+        ensures lawful { IsLawful self.now }
+    {
+        self.config.ucd_count
+    }
+}

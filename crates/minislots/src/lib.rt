@@ -1,0 +1,13 @@
+//! Minislots of one upstream TDMA channel: the channel's configuration, and times and bursts counted
+//! in minislots.
+#![tactic(auto)]
+
+mod config;
+mod stamp;
+#[cfg(test)]
+mod tests;
+mod units;
+
+pub use config::{Checked, Config, ConfigFault};
+pub use stamp::Stamp;
+pub use units::wire;

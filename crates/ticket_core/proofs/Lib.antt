@@ -1,0 +1,6 @@
+pub mod Fields
+pub mod Lawful
+pub mod Seats
+pub mod Steps
+pub mod Turns
+pub mod Words

@@ -1,0 +1,3 @@
+pub mod LockWorld
+pub mod Schedule
+pub mod World
