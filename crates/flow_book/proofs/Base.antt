@@ -1,0 +1,34 @@
+-- The channel of the worked examples: minislots of 25 microseconds and 16 bytes, frames of 40 minislots.
+use Rattle.std.proofs.Common.{refl}
+use Rattle.minislots.specs.declared.config.Config.{Config}
+use Rattle.minislots.specs.Config.{first_wrong, IsLawful}
+
+-- the configuration of the worked examples
+abbrev pub base : Config
+base = record {
+  ticks = 4;
+  bytes_per_slot = 16;
+  overhead = 2;
+  frame = 40;
+  cycle = 20;
+  req_slots = 4;
+  poll_slots = 2;
+  lead = 40;
+  short_max = 8;
+  quantum = 64;
+  grant_cap = 2000;
+  receivers = 1;
+  calls = 1000;
+  start = 800;
+  ranging_start = 0;
+  ranging_end = 0;
+  data_start = 0;
+  data_end = 0;
+  channel = 3;
+  ucd_count = 1;
+}
+
+-- it is lawful
+pub the_base_is_lawful : IsLawful base
+unfolding first_wrong
+the_base_is_lawful = refl

@@ -1,0 +1,52 @@
+-- Worked examples of which flow is served first.
+use Rattle.std.proofs.Common.{[], ◌∷◌, refl, ap, inl, inr, lit<, lit≤, arith}
+use Rattle.flow_book.specs.declared.spec.FlowSpec.TheVariants.{BestEffort}
+use Rattle.flow_book.specs.Flows.{LiveFlow}
+use Rattle.flow_book.specs.Choice.{IsEligible, IsNext}
+use Rattle.flow_book.proofs.Base.{base}
+use Rattle.flow_book.proofs.Unlimited.{IsEligible-unlimited}
+
+-- a flow of priority 1 with 544 bytes to be granted
+abbrev pub low : LiveFlow
+low = record { sid = 20; spec = BestEffort 1 0 0; asked = 544; grants = [] }
+
+-- a flow of priority 5 with as many
+abbrev pub high : LiveFlow
+high = record { sid = 21; spec = BestEffort 5 0 0; asked = 544; grants = [] }
+
+-- either may be served behind the request region
+low_is_eligible : IsEligible base 844 36 low
+low_is_eligible = IsEligible-unlimited base low 844 36 refl refl (lit< tt) (lit≤ tt)
+
+high_is_eligible : IsEligible base 844 36 high
+high_is_eligible = IsEligible-unlimited base high 844 36 refl refl (lit< tt) (lit≤ tt)
+
+-- the flow of the higher priority is next
+pub the_higher_priority_is_next : IsNext base (low ∷ high ∷ []) 844 36 high
+the_higher_priority_is_next = record {
+  live = (1, lit< tt, refl);
+  eligible = high_is_eligible;
+  first = ((λ e. inr refl), ((λ e. inl refl), tt));
+}
+
+-- the flow of the lower priority is not
+pub the_lower_priority_is_not_next : IsNext base (low ∷ high ∷ []) 844 36 low → ⊥
+the_lower_priority_is_not_next next = elim (next.first.1.0 high_is_eligible) [
+  | inl e ↦ absurd (omega (arith, ap (λ f. f.sid) e))
+  | inr e ↦ cc
+]
+
+-- two flows of one priority with 1000 bytes to be granted
+abbrev pub lower_sid : LiveFlow
+lower_sid = record { sid = 20; spec = BestEffort 3 0 0; asked = 1000; grants = [] }
+
+abbrev pub higher_sid : LiveFlow
+higher_sid = record { sid = 21; spec = BestEffort 3 0 0; asked = 1000; grants = [] }
+
+-- of equal priorities without a grant the lower SID is next
+pub the_lower_sid_is_next : IsNext base (lower_sid ∷ higher_sid ∷ []) 844 36 lower_sid
+the_lower_sid_is_next = record {
+  live = (0, lit< tt, refl);
+  eligible = IsEligible-unlimited base lower_sid 844 36 refl refl (lit< tt) (lit≤ tt);
+  first = ((λ e. inl refl), ((λ e. inr refl), tt));
+}

@@ -1,0 +1,67 @@
+-- Which flow a data grant goes to, and how many bytes it has.
+use Rattle.std.specs.Prelude.{◌≡◌, ℕ, ◌<◌, ◌≤◌, min, Bool, true, false, ◌&&◌, ◌||◌, nat_lt, ◌==◌, ◌⊎◌, List, [], ◌∷◌, ◌++◌, Contains, Option, None, Some}
+use Rattle.std.specs.List.{AllByRecursion}
+use Rattle.minislots.specs.declared.config.Config.{Config}
+use Rattle.minislots.specs.Units.{slots_for}
+use Rattle.flow_book.specs.FlowSpec.{takes_requests, rank_of, rate_of, burst_of}
+use Rattle.flow_book.specs.Flows.{Grant, LiveFlow, outstanding}
+use Rattle.flow_book.specs.Ceiling.{KeepsCeiling}
+
+-- a grant of so many bytes at this minislot keeps the flow's ceiling, and fits the room
+pub record MayTake (c : Config) (f : LiveFlow) (start room bytes : ℕ) : Type 0 where
+  pub ceiling : KeepsCeiling c (rate_of f.spec) (burst_of f.spec) (f.grants ++ record { start = start; bytes = bytes } ∷ [])
+  pub fits : slots_for c bytes ≤ room
+
+-- so many bytes may be granted: some of those outstanding, at most the cap, within ceiling and room
+pub record MayGrant (c : Config) (f : LiveFlow) (start room bytes : ℕ) : Type 0 where
+  pub positive : 0 < bytes
+  pub asked : bytes ≤ outstanding f
+  pub capped : bytes ≤ c.grant_cap
+  pub taken : MayTake c f start room bytes
+
+-- the most bytes that may be granted
+pub record IsAmount (c : Config) (f : LiveFlow) (start room bytes : ℕ) : Type 0 where
+  pub allowed : MayGrant c f start room bytes
+  pub greatest : (more : ℕ) → MayGrant c f start room more → more ≤ bytes
+
+-- the flow may be served: it has bytes outstanding, of which it may take the quantum, or all where they are fewer
+pub record IsEligible (c : Config) (start room : ℕ) (f : LiveFlow) : Type 0 where
+  pub serves : takes_requests f.spec ≡ true
+  pub waits : 0 < outstanding f
+  pub takes : MayTake c f start room (min (outstanding f) c.quantum)
+
+-- no flow may be served
+abbrev pub NoneEligible : Config → List LiveFlow → ℕ → ℕ → Type 0
+NoneEligible c flows start room = AllByRecursion (λ f. IsEligible c start room f → ⊥) flows
+
+-- the start of the last of some grants
+abbrev pub last_start : List Grant → Option ℕ
+last_start [] = None
+last_start (g ∷ []) = Some g.start
+last_start (g ∷ next ∷ grants) = last_start (next ∷ grants)
+
+-- the earlier of two last starts: none is earlier than any
+abbrev pub is_earlier : Option ℕ → Option ℕ → Bool
+is_earlier None None = false
+is_earlier None (Some n) = true
+is_earlier (Some m) None = false
+is_earlier (Some m) (Some n) = nat_lt m n
+
+-- neither of two last starts is earlier
+abbrev pub is_as_early : Option ℕ → Option ℕ → Bool
+is_as_early None None = true
+is_as_early None (Some n) = false
+is_as_early (Some m) None = false
+is_as_early (Some m) (Some n) = m == n
+
+-- whether f is served before g: by rank from the highest, then by the last grant's start, then by SID
+abbrev pub is_before : LiveFlow → LiveFlow → Bool
+is_before f g = nat_lt (rank_of g.spec) (rank_of f.spec)
+    || (rank_of f.spec == rank_of g.spec && (is_earlier (last_start f.grants) (last_start g.grants)
+    || (is_as_early (last_start f.grants) (last_start g.grants) && nat_lt f.sid g.sid)))
+
+-- f is the eligible flow that is served first: each other eligible one comes after it
+pub record IsNext (c : Config) (flows : List LiveFlow) (start room : ℕ) (f : LiveFlow) : Type 0 where
+  pub live : Contains flows f
+  pub eligible : IsEligible c start room f
+  pub first : AllByRecursion (λ g. IsEligible c start room g → (g ≡ f) ⊎ (is_before f g ≡ true)) flows

@@ -1,0 +1,35 @@
+-- The live flows, each with what it asked and was granted.
+use Rattle.std.specs.Prelude.{ℕ, ◌-◌, ◌==◌, List, [], ◌∷◌, ◌++◌, sum_by, find, Option}
+use Rattle.flow_book.specs.declared.spec.FlowSpec.{FlowSpec}
+
+-- a data grant: the minislot at which it starts, and its bytes
+pub record Grant : Type 0 where
+  pub start : ℕ
+  pub bytes : ℕ
+
+-- a live flow: its SID and parameters, the bytes that it asked, and its data grants in order
+pub record LiveFlow : Type 0 where
+  pub sid : ℕ
+  pub spec : FlowSpec
+  pub asked : ℕ
+  pub grants : List Grant
+
+-- the bytes of some grants
+abbrev pub bytes_of : List Grant → ℕ
+bytes_of grants = sum_by (λ g. g.bytes) grants
+
+-- the bytes granted to a flow
+abbrev pub granted : LiveFlow → ℕ
+granted f = bytes_of f.grants
+
+-- the bytes that a flow asked and was not granted
+abbrev pub outstanding : LiveFlow → ℕ
+outstanding f = f.asked - granted f
+
+-- a flow with one grant more
+abbrev pub with_grant : Grant → LiveFlow → LiveFlow
+with_grant g f = record f { grants = f.grants ++ g ∷ [] }
+
+-- the live flow with this SID
+abbrev pub flow_of : ℕ → List LiveFlow → Option LiveFlow
+flow_of sid flows = find (λ f. f.sid == sid) flows

@@ -1,0 +1,14 @@
+pub mod Apart
+pub mod EachAfterLaws
+pub mod IdleFrame
+pub mod OneFlow
+pub mod OneMap
+pub mod RowsCeiling
+pub mod RowsContention
+pub mod RowsFirstGrant
+pub mod RowsMaps
+pub mod RowsPoll
+pub mod RowsTurns
+pub mod RowsUnlawful
+pub mod RowsUnsolicited
+pub mod WellFormed

@@ -1,0 +1,103 @@
+-- Worked examples of lawful MAPs.
+use Rattle.std.proofs.Common.{◌≡◌, ℕ, List, [], ◌∷◌, map, refl, inl, inr, lit<, lit≤, arith}
+use Rattle.map_codec.specs.declared.element.Element.{Element}
+use Rattle.map_codec.specs.Element.{word_of}
+use Rattle.map_codec.specs.WireMap.{header, spelling}
+use Rattle.flow_book.specs.declared.spec.FlowSpec.TheVariants.{BestEffort}
+use Rattle.flow_book.specs.Flows.{LiveFlow}
+use Rattle.map_build.specs.declared.frame_map.FrameMap.{FrameMap}
+use Rattle.map_build.specs.Plan.{Allocation, DataGrant, Idle}
+use Rattle.map_build.specs.FrameMap.{IsLawfulMap}
+use Rattle.flow_book.proofs.Base.{base}
+
+-- an element
+abbrev pub element : ℕ → ℕ → ℕ → Element
+element sid iuc offset = record { sid = sid; iuc = iuc; offset = offset }
+
+-- a MAP of the base configuration, for times below 2^32
+abbrev pub base_map : ℕ → ℕ → List Element → List ℕ → FrameMap
+base_map start ack elements bytes = record {
+  start = start;
+  ack = ack;
+  wire = record { channel = 3; ucd_count = 1; reserved = 0; alloc_start = start; ack = ack; ranging_start = 0; ranging_end = 0; data_start = 0; data_end = 0; elements = elements };
+  bytes = bytes;
+}
+
+-- a frame that is idle behind its request region
+abbrev pub all_idle : List Allocation
+all_idle = record { offset = 4; slots = 36; purpose = Idle } ∷ []
+
+-- the MAP of the first frame, where no flow is live
+abbrev pub first_map : FrameMap
+first_map = base_map 800 800 (element 0x3fff 1 0 ∷ element 0 6 4 ∷ element 0 7 40 ∷ []) (0 ∷ 0 ∷ 0 ∷ [])
+
+-- it is lawful
+pub a_frame_without_flows : IsLawfulMap base [] [] 800 800 first_map
+a_frame_without_flows = (
+  all_idle,
+  (record {
+    each = (record { some_slots = lit< tt; follows = refl; purpose = (refl, inr tt) }, tt);
+    whole = refl;
+    due = tt;
+  }),
+  refl,
+)
+
+-- its elements are the request region, an idle and the Null
+pub the_words_of_a_frame_without_flows : map word_of first_map.wire.elements ≡ 0xfffc4000 ∷ 0x00018004 ∷ 0x0001c028 ∷ []
+the_words_of_a_frame_without_flows = refl
+
+-- its payload is these 28 bytes
+pub the_bytes_of_a_frame_without_flows : spelling first_map.wire
+    ≡ 3 ∷ 1 ∷ 3 ∷ 0 ∷ 0 ∷ 0 ∷ 3 ∷ 0x20 ∷ 0 ∷ 0 ∷ 3 ∷ 0x20 ∷ 0 ∷ 0 ∷ 0 ∷ 0 ∷ 0xff ∷ 0xfc ∷ 0x40 ∷ 0 ∷ 0 ∷ 1 ∷ 0x80 ∷ 4 ∷ 0 ∷ 1 ∷ 0xc0 ∷ 0x28 ∷ []
+unfolding spelling header
+the_bytes_of_a_frame_without_flows = refl
+
+-- a best effort flow without a ceiling that asked 100 bytes
+abbrev pub small : LiveFlow
+small = record { sid = 17; spec = BestEffort 3 0 0; asked = 100; grants = [] }
+
+-- a frame with its grant of nine minislots
+abbrev pub one_grant : List Allocation
+one_grant = record { offset = 4; slots = 9; purpose = DataGrant 17 100 } ∷ record { offset = 13; slots = 27; purpose = Idle } ∷ []
+
+-- the MAP of the second frame, where that flow is live
+abbrev pub second_map : FrameMap
+second_map = base_map 840 800 (element 0x3fff 1 0 ∷ element 17 6 4 ∷ element 0 6 13 ∷ element 0 7 40 ∷ []) (0 ∷ 100 ∷ 0 ∷ 0 ∷ [])
+
+-- it is lawful
+pub a_frame_with_one_grant : IsLawfulMap base (small ∷ []) [] 840 800 second_map
+a_frame_with_one_grant = (
+  one_grant,
+  (record {
+    each = (
+      record {
+        some_slots = lit< tt;
+        follows = refl;
+        purpose = (
+          lit< tt,
+          small,
+          refl,
+          record {
+            live = (0, lit< tt, refl);
+            eligible = record { serves = refl; waits = lit< tt; takes = record { ceiling = λ limited. absurd (omega arith); fits = lit≤ tt } };
+            first = ((λ e. inl refl), tt);
+          },
+          record {
+            allowed = record { positive = lit< tt; asked = lit≤ tt; capped = lit≤ tt; taken = record { ceiling = λ limited. absurd (omega arith); fits = lit≤ tt } };
+            greatest = λ more may. may.asked;
+          },
+          refl,
+        );
+      },
+      (record { some_slots = lit< tt; follows = refl; purpose = (refl, inr ((λ e. absurd (omega (arith, e.waits))), tt)) }, tt),
+    );
+    whole = refl;
+    due = tt;
+  }),
+  refl,
+)
+
+-- its elements are the request region, a long grant, an idle and the Null, and no grant is pending
+pub the_words_of_a_frame_with_one_grant : map word_of second_map.wire.elements ≡ 0xfffc4000 ∷ 0x00458004 ∷ 0x0001800d ∷ 0x0001c028 ∷ []
+the_words_of_a_frame_with_one_grant = refl

@@ -1,0 +1,46 @@
+-- A worked example of a lawful MAP with a poll.
+use Rattle.std.proofs.Common.{◌≡◌, true, List, [], ◌∷◌, map, refl, inr, lit<, arith}
+use Rattle.map_codec.specs.Element.{word_of}
+use Rattle.flow_book.specs.declared.spec.FlowSpec.TheVariants.{Polled}
+use Rattle.flow_book.specs.Flows.{LiveFlow}
+use Rattle.periodic.specs.declared.placement.Spot.{Spot}
+use Rattle.map_build.specs.declared.frame_map.FrameMap.{FrameMap}
+use Rattle.map_build.specs.Plan.{Allocation, Poll, Idle}
+use Rattle.map_build.specs.FrameMap.{IsLawfulMap}
+use Rattle.flow_book.proofs.Base.{base}
+use Rattle.map_build.proofs.RowsMaps.{element, base_map}
+
+-- a polled flow of 5000 microseconds that asked nothing yet
+abbrev pub polled : LiveFlow
+polled = record { sid = 9; spec = Polled 5000 0 0 0; asked = 0; grants = [] }
+
+-- its poll, two minislots behind the request region
+abbrev pub its_poll : Spot
+its_poll = record { sid = 9; poll = true; offset = 4; slots = 2 }
+
+-- a frame with the poll
+abbrev pub poll_and_idle : List Allocation
+poll_and_idle = record { offset = 4; slots = 2; purpose = Poll 9 } ∷ record { offset = 6; slots = 34; purpose = Idle } ∷ []
+
+-- the MAP of a frame with the poll
+abbrev pub poll_map : FrameMap
+poll_map = base_map 800 800 (element 0x3fff 1 0 ∷ element 9 1 4 ∷ element 0 6 6 ∷ element 0 7 40 ∷ []) (0 ∷ 0 ∷ 0 ∷ 0 ∷ [])
+
+-- it is lawful
+pub a_frame_with_a_poll : IsLawfulMap base (polled ∷ []) (its_poll ∷ []) 800 800 poll_map
+a_frame_with_a_poll = (
+  poll_and_idle,
+  record {
+    each = (
+      record { some_slots = lit< tt; follows = refl; purpose = (0, lit< tt, refl) },
+      (record { some_slots = lit< tt; follows = refl; purpose = (refl, inr ((λ e. absurd (omega (arith, e.waits))), tt)) }, tt),
+    );
+    whole = refl;
+    due = ((0, lit< tt, refl), tt);
+  },
+  refl,
+)
+
+-- its elements are the request region, the poll, an idle and the Null
+pub the_words_of_a_frame_with_a_poll : map word_of poll_map.wire.elements ≡ 0xfffc4000 ∷ 0x00244004 ∷ 0x00018006 ∷ 0x0001c028 ∷ []
+the_words_of_a_frame_with_a_poll = refl

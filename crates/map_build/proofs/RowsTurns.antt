@@ -1,0 +1,95 @@
+-- Worked examples of lawful MAPs where two flows of one priority take turns by their last grants.
+use Rattle.std.proofs.Common.{◌≡◌, ℕ, List, [], ◌∷◌, map, refl, inl, inr, lit<, lit≤, arith}
+use Rattle.map_codec.specs.Element.{word_of}
+use Rattle.flow_book.specs.declared.spec.FlowSpec.TheVariants.{BestEffort}
+use Rattle.flow_book.specs.Flows.{Grant, LiveFlow}
+use Rattle.flow_book.specs.Choice.{IsNext, IsAmount}
+use Rattle.map_build.specs.declared.frame_map.FrameMap.{FrameMap}
+use Rattle.map_build.specs.Plan.{Allocation, DataGrant, Idle}
+use Rattle.map_build.specs.FrameMap.{IsLawfulMap}
+use Rattle.flow_book.proofs.Base.{base}
+use Rattle.flow_book.proofs.Unlimited.{MayGrant-unlimited, IsEligible-unlimited}
+use Rattle.map_build.proofs.RowsMaps.{element, base_map}
+use Rattle.map_build.proofs.RowsContention.{filled_by}
+
+-- flows 20 and 21 of one priority, each with 1000 bytes asked and these grants
+abbrev pub lower : List Grant → LiveFlow
+lower grants = record { sid = 20; spec = BestEffort 3 0 0; asked = 1000; grants = grants }
+
+abbrev pub higher : List Grant → LiveFlow
+higher grants = record { sid = 21; spec = BestEffort 3 0 0; asked = 1000; grants = grants }
+
+-- a grant of 544 bytes at this minislot
+abbrev pub grant_at : ℕ → List Grant
+grant_at start = record { start = start; bytes = 544 } ∷ []
+
+-- the flow without a grant is next
+the_other_is_next : IsNext base (lower (grant_at 844) ∷ higher [] ∷ []) 884 36 (higher [])
+the_other_is_next = record {
+  live = (1, lit< tt, refl);
+  eligible = IsEligible-unlimited base (higher []) 884 36 refl refl (lit< tt) (lit≤ tt);
+  first = ((λ e. inr refl), ((λ e. inl refl), tt));
+}
+
+-- it gets what fits
+amount_of_the_other : IsAmount base (higher []) 884 36 544
+amount_of_the_other = record { allowed = MayGrant-unlimited base (higher []) 884 36 544 refl (lit< tt) (lit≤ tt) (lit≤ tt) (lit≤ tt); greatest = λ more may. omega (arith, may.taken.fits) }
+
+-- the MAP of the other flow's turn
+abbrev pub second_turn : FrameMap
+second_turn = base_map 880 800 (element 0x3fff 1 0 ∷ element 21 6 4 ∷ element 0 7 40 ∷ element 20 6 40 ∷ element 21 6 40 ∷ []) (0 ∷ 544 ∷ 0 ∷ 0 ∷ 0 ∷ [])
+
+-- it is lawful
+pub the_flow_without_a_grant_is_served : IsLawfulMap base (lower (grant_at 844) ∷ higher [] ∷ []) [] 880 800 second_turn
+the_flow_without_a_grant_is_served = (
+  filled_by 21,
+  record {
+    each = (record { some_slots = lit< tt; follows = refl; purpose = (lit< tt, higher [], refl, the_other_is_next, amount_of_the_other, refl) }, tt);
+    whole = refl;
+    due = tt;
+  },
+  refl,
+)
+
+-- its elements are the request region, the grant, the Null and two pending grants
+pub the_words_of_the_second_turn : map word_of second_turn.wire.elements ≡ 0xfffc4000 ∷ 0x00558004 ∷ 0x0001c028 ∷ 0x00518028 ∷ 0x00558028 ∷ []
+the_words_of_the_second_turn = refl
+
+-- then the flow whose last grant is the earlier is next
+the_earlier_is_next : IsNext base (lower (grant_at 844) ∷ higher (grant_at 884) ∷ []) 924 36 (lower (grant_at 844))
+the_earlier_is_next = record {
+  live = (0, lit< tt, refl);
+  eligible = IsEligible-unlimited base (lower (grant_at 844)) 924 36 refl refl (lit< tt) (lit≤ tt);
+  first = ((λ e. inl refl), ((λ e. inr refl), tt));
+}
+
+-- it gets the 456 bytes that are left of its request
+amount_of_the_earlier : IsAmount base (lower (grant_at 844)) 924 36 456
+amount_of_the_earlier = record { allowed = MayGrant-unlimited base (lower (grant_at 844)) 924 36 456 refl (lit< tt) (lit≤ tt) (lit≤ tt) (lit≤ tt); greatest = λ more may. may.asked }
+
+-- the frame with that grant, and five minislots idle
+abbrev rest_granted : List Allocation
+rest_granted = record { offset = 4; slots = 31; purpose = DataGrant 20 456 } ∷ record { offset = 35; slots = 5; purpose = Idle } ∷ []
+
+-- its MAP
+abbrev pub third_turn : FrameMap
+third_turn = base_map 920 800 (element 0x3fff 1 0 ∷ element 20 6 4 ∷ element 0 6 35 ∷ element 0 7 40 ∷ element 21 6 40 ∷ []) (0 ∷ 456 ∷ 0 ∷ 0 ∷ 0 ∷ [])
+
+-- it is lawful: one flow has all it asked, and the quantum of the other does not fit
+pub the_flow_with_the_earlier_grant_is_served : IsLawfulMap base (lower (grant_at 844) ∷ higher (grant_at 884) ∷ []) [] 920 800 third_turn
+the_flow_with_the_earlier_grant_is_served = (
+  rest_granted,
+  record {
+    each = (
+      record { some_slots = lit< tt; follows = refl; purpose = (lit< tt, lower (grant_at 844), refl, the_earlier_is_next, amount_of_the_earlier, refl) },
+      (record { some_slots = lit< tt; follows = refl; purpose = (refl, inr ((λ e. absurd (omega (arith, e.waits))), ((λ e. absurd (omega (arith, e.takes.fits))), tt))) }, tt),
+    );
+    whole = refl;
+    due = tt;
+  },
+  refl,
+)
+
+-- its elements are the request region, the grant, an idle, the Null and one pending grant
+pub the_words_of_the_third_turn : map word_of third_turn.wire.elements ≡ 0xfffc4000 ∷ 0x00518004 ∷ 0x00018023 ∷ 0x0001c028 ∷ 0x00558028 ∷ []
+the_words_of_the_third_turn = refl

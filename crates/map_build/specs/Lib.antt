@@ -1,0 +1,10 @@
+pub use Rattle.minislots.specs.Config
+pub use Rattle.minislots.specs.Units
+pub use Rattle.map_codec.specs.WireMap
+pub use Rattle.flow_book.specs.FlowSpec
+pub use Rattle.flow_book.specs.Flows
+pub use Rattle.flow_book.specs.Choice
+pub use Rattle.periodic.specs.Placement
+pub mod EachAfter
+pub mod Plan
+pub mod FrameMap

@@ -1,0 +1,9 @@
+pub mod Spelling
+pub mod Words
+pub mod Least
+pub mod Nulls
+pub mod Faults
+pub mod Checked
+pub mod Payload
+pub mod Rows
+pub mod Profile

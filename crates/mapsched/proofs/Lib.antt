@@ -1,0 +1,15 @@
+pub mod AckLaws
+pub mod Admissions
+pub mod Answered
+pub mod Bytes
+pub mod Calls
+pub mod Frames
+pub mod Grants
+pub mod LatestLaws
+pub mod LiveFlow
+pub mod Lives
+pub mod Outcome
+pub mod Running
+pub mod Steps
+pub mod Sums
+pub mod Written

@@ -1,0 +1,13 @@
+pub mod Demand
+pub mod Draft
+pub mod Machine
+pub mod Past
+pub mod Sound
+pub mod Answer
+pub mod Fields
+pub mod Script
+pub mod Input
+pub mod Outcome
+pub mod Line
+pub mod Run
+pub mod Table

@@ -1,0 +1,89 @@
+//! Why a run of the program ends.
+
+ghost use Rattle.std.specs.Prelude.{◌≡◌};
+ghost use Rattle.mapsched.specs.declared.fault.RunFault.TheVariants.{Memory, Config};
+
+use minislots::ConfigFault;
+use std::alloc::AllocError;
+use thiserror::Error;
+
+/// Why a command of the program ends without its output. The tests are made in this order; want of
+/// memory can take the place of each but the last.
+#[derive(Clone, Copy, Debug, PartialEq, Eq, Error)]
+pub enum RunFault {
+    /// A read failed.
+    #[error("input failed")]
+    Input,
+    /// The input has more than 16777216 bytes.
+    #[error("input too long")]
+    TooLong,
+    /// The input is not JSON text in UTF-8.
+    #[error("not json")]
+    NotJson,
+    /// The script is broken: 0 in the document or its configuration, else at this call, counted from 1.
+    #[error("bad script at {0}")]
+    Shape(u64),
+    /// This field of the configuration has no lawful value.
+    #[error("bad config {}", number_of(*.0))]
+    Config(ConfigFault),
+    /// Memory ran out.
+    #[error("out of memory")]
+    Memory,
+    /// A write failed.
+    #[error("output failed")]
+    Output,
+}
+
+impl From<AllocError> for RunFault {
+    ghost from_gives = { λ _ fault. fault ≡ Memory };
+
+    fn from(_e: AllocError) -> RunFault {
+        RunFault::Memory
+    }
+}
+
+impl From<ConfigFault> for RunFault {
+    ghost from_gives = { λ field fault. fault ≡ Config field };
+
+    fn from(field: ConfigFault) -> RunFault {
+        RunFault::Config(field)
+    }
+}
+
+impl RunFault {
+    /// The exit status of the program: 3 for a fault of the input, 4 for one of the machine.
+    pub fn status(self) -> u8 {
+        match self {
+            RunFault::Input
+            | RunFault::TooLong
+            | RunFault::NotJson
+            | RunFault::Shape(_)
+            | RunFault::Config(_) => 3,
+            RunFault::Memory | RunFault::Output => 4,
+        }
+    }
+}
+
+/// The number of a field, in the order of the fields.
+fn number_of(fault: ConfigFault) -> u8 {
+    match fault {
+        ConfigFault::Ticks => 1,
+        ConfigFault::BytesPerSlot => 2,
+        ConfigFault::Overhead => 3,
+        ConfigFault::Frame => 4,
+        ConfigFault::Cycle => 5,
+        ConfigFault::ReqSlots => 6,
+        ConfigFault::PollSlots => 7,
+        ConfigFault::Lead => 8,
+        ConfigFault::ShortMax => 9,
+        ConfigFault::Quantum => 10,
+        ConfigFault::GrantCap => 11,
+        ConfigFault::Receivers => 12,
+        ConfigFault::Calls => 13,
+        ConfigFault::Start => 14,
+        ConfigFault::RangingStart => 15,
+        ConfigFault::RangingEnd => 16,
+        ConfigFault::DataStart => 17,
+        ConfigFault::DataEnd => 18,
+    }
+}

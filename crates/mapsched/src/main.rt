@@ -1,0 +1,110 @@
+//! `mapsched`: the upstream scheduler of one TDMA channel, run on a script, and the table of a MAP.
+#![tactic(auto)]
+
+mod fault;
+mod frame;
+mod input;
+mod line;
+mod machine;
+mod output;
+mod run;
+mod script;
+mod table;
+
+use clap::error::ErrorKind;
+use clap::{Arg, ArgMatches, Command, Error};
+use fault::RunFault;
+use std::alloc::{AllocError, Global};
+use std::io::Write;
+use std::process::ExitCode;
+use std::rt::Env;
+use std::{env, io};
+
+/// The command that runs a script.
+fn run_command<'a>(alloc: Global) -> Command<'a> {
+    Command::new(alloc, "run").about(
+        "Reads a script from standard input and prints one line for each call",
+    )
+}
+
+/// The command that shows a payload.
+fn decode_command<'a>(alloc: Global) -> Result<Command<'a>, AllocError> {
+    let payload = Arg::new(alloc, "HEX")
+        .required(true)
+        .help("The payload of a MAP in hexadecimal");
+    Command::new(alloc, "decode")
+        .about("Shows the payload of a MAP as a table")
+        .arg(payload)
+}
+
+/// The commands of the program.
+fn commands<'a>(alloc: Global) -> Result<Command<'a>, AllocError> {
+    Command::new(alloc, "mapsched")
+        .about("The upstream scheduler of one TDMA channel")
+        .subcommand_required(true)
+        .subcommand(run_command(alloc))?
+        .subcommand(decode_command(alloc)?)
+}
+
+/// The words of the command line.
+fn words_of(rt: &(impl Env + AllocGlobal)) -> io::Result<Vec<String>> {
+    let mut words = Vec::new(rt.alloc());
+    for word in env::args(rt)? {
+        words.push(word)?;
+    }
+    Ok(words)
+}
+
+fn matches_of<'a>(alloc: Global, words: &'a [String]) -> Result<ArgMatches<'a>, Error> {
+    commands(alloc)?.try_get_matches_from(words)
+}
+
+/// Prints a fault on standard error.
+fn fail(rt: &impl Eprint, fault: RunFault) -> ExitCode {
+    let _ = rt.eprintln(fault);
+    ExitCode::from(fault.status())
+}
+
+/// Prints a fault of the command line, or the help that was asked for.
+fn explain(rt: &(impl Print + Eprint), error: Error) -> ExitCode {
+    if error.kind() == ErrorKind::OutOfMemory {
+        return fail(rt, RunFault::Memory);
+    }
+    let _ = error.print(rt);
+    ExitCode::from(error.exit_code() as u8)
+}
+
+/// The command `run`: from standard input to standard output.
+fn run_input(rt: &(impl Input + Print + AllocGlobal)) -> Result<bool, RunFault> {
+    let mut writer = io::writer(rt);
+    run::run_script(rt.alloc(), &mut rt.reader(), &mut writer)?;
+    writer.flush().map_err(|_| RunFault::Output)?;
+    Ok(true)
+}
+
+/// The command `decode`: whether the text is a payload.
+fn show_text(rt: &(impl Print + AllocGlobal), text: &str) -> Result<bool, RunFault> {
+    let mut writer = io::writer(rt);
+    let is_payload = table::decode_text(rt.alloc(), text, &mut writer)?;
+    writer.flush().map_err(|_| RunFault::Output)?;
+    Ok(is_payload)
+}
+
+fn main(rt: HostRuntime) -> ExitCode {
+    let Ok(words) = words_of(&rt) else {
+        return fail(&rt, RunFault::Memory);
+    };
+    let matches = match matches_of(rt.alloc(), &words) {
+        Ok(matches) => matches,
+        Err(error) => return explain(&rt, error),
+    };
+    let outcome = match matches.subcommand_matches("decode") {
+        Some(decode) => show_text(&rt, decode.get_str("HEX").unwrap_or("")),
+        None => run_input(&rt),
+    };
+    match outcome {
+        Ok(true) => ExitCode::SUCCESS,
+        Ok(false) => ExitCode::FAILURE,
+        Err(fault) => fail(&rt, fault),
+    }
+}

@@ -1,0 +1,2 @@
+pub mod RowsPlacement
+pub mod RowsNoPlace

@@ -1,0 +1,95 @@
+-- Worked examples of lawful placements, and of one that is not lawful.
+use Rattle.std.proofs.Common.{◌≡◌, ℕ, true, false, List, [], ◌∷◌, refl, inl, inr, lit<, lit≤, arith}
+use Rattle.flow_book.specs.declared.spec.FlowSpec.{FlowSpec}
+use Rattle.flow_book.specs.declared.spec.FlowSpec.TheVariants.{Unsolicited, Polled}
+use Rattle.flow_book.proofs.Base.{base}
+use Rattle.periodic.specs.declared.placement.Placement.{Placement}
+use Rattle.periodic.specs.Placement.{Placed, IsLawfulStart, IsPlacement, spots_in}
+
+-- grants of 200 bytes, 15 minislots, each ten frames, at most 32 minislots late
+abbrev pub voice : FlowSpec
+voice = Unsolicited 200 10000 800
+
+-- a placement whose first nominal time is there
+abbrev pub placement : ℕ → List ℕ → Placement
+placement reference starts = record { reference = reference; starts = starts }
+
+-- the first of these flows stands behind the request region
+pub the_first_flow_stands_behind_the_requests : IsPlacement base [] voice 800 (placement 804 (4 ∷ 4 ∷ []))
+the_first_flow_stands_behind_the_requests = record {
+  not_before = lit≤ tt;
+  first = lit< tt;
+  after_requests = lit≤ tt;
+  starts = (
+    record { after_nominal = lit≤ tt; within_jitter = lit≤ tt; within_frame = lit≤ tt; free = tt },
+    (record { after_nominal = lit≤ tt; within_jitter = lit≤ tt; within_frame = lit≤ tt; free = tt }, tt),
+  );
+}
+
+-- the first flow's place
+abbrev pub first_placed : Placed
+first_placed = record { sid = 5; spec = voice; placement = placement 804 (4 ∷ 4 ∷ []) }
+
+-- the second stands behind the first in the same frames
+pub the_second_flow_stands_behind_the_first : IsPlacement base (first_placed ∷ []) voice 800 (placement 804 (19 ∷ 19 ∷ []))
+the_second_flow_stands_behind_the_first = record {
+  not_before = lit≤ tt;
+  first = lit< tt;
+  after_requests = lit≤ tt;
+  starts = (
+    record { after_nominal = lit≤ tt; within_jitter = lit≤ tt; within_frame = lit≤ tt; free = (inr (lit≤ tt), tt) },
+    (record { after_nominal = lit≤ tt; within_jitter = lit≤ tt; within_frame = lit≤ tt; free = (inr (lit≤ tt), tt) }, tt),
+  );
+}
+
+-- at 5 it would overlap the first
+pub a_placement_that_overlaps_is_not_lawful : IsPlacement base (first_placed ∷ []) voice 800 (placement 804 (5 ∷ 5 ∷ [])) → ⊥
+a_placement_that_overlaps_is_not_lawful p = elim p.starts.0.free.0 [ inl before ↦ omega arith | inr after ↦ omega arith ]
+
+-- one start for two frames is no placement
+pub a_placement_with_a_start_too_few_is_not_lawful : IsPlacement base [] voice 800 (placement 804 (4 ∷ [])) → ⊥
+a_placement_with_a_start_too_few_is_not_lawful p = p.starts.1
+
+-- the second flow's place
+abbrev pub second_placed : Placed
+second_placed = record { sid = 6; spec = voice; placement = placement 804 (19 ∷ 19 ∷ []) }
+
+-- what the two take of the first frame
+pub the_spots_of_two_flows : spots_in base 20 (first_placed ∷ second_placed ∷ [])
+    ≡ record { sid = 5; poll = false; offset = 4; slots = 15 } ∷ record { sid = 6; poll = false; offset = 19; slots = 15 } ∷ []
+the_spots_of_two_flows = refl
+
+-- the third stands in the next frame
+pub the_third_flow_stands_a_frame_later : IsPlacement base (first_placed ∷ second_placed ∷ []) voice 800 (placement 844 (4 ∷ 4 ∷ []))
+the_third_flow_stands_a_frame_later = record {
+  not_before = lit≤ tt;
+  first = lit< tt;
+  after_requests = lit≤ tt;
+  starts = (
+    record { after_nominal = lit≤ tt; within_jitter = lit≤ tt; within_frame = lit≤ tt; free = tt },
+    (record { after_nominal = lit≤ tt; within_jitter = lit≤ tt; within_frame = lit≤ tt; free = tt }, tt),
+  );
+}
+
+-- polls each five frames, without jitter
+abbrev pub polling : FlowSpec
+polling = Polled 5000 0 0 0
+
+-- four polls in a cycle
+pub four_polls_stand_behind_the_requests : IsPlacement base [] polling 800 (placement 804 (4 ∷ 4 ∷ 4 ∷ 4 ∷ []))
+four_polls_stand_behind_the_requests = record {
+  not_before = lit≤ tt;
+  first = lit< tt;
+  after_requests = lit≤ tt;
+  starts = (start, (start, (start, (start, tt))));
+} where
+  start : IsLawfulStart base 0 2 4 [] 4
+  start = record { after_nominal = lit≤ tt; within_jitter = lit≤ tt; within_frame = lit≤ tt; free = tt }
+
+-- the polled flow's place
+abbrev pub polled_placed : Placed
+polled_placed = record { sid = 9; spec = polling; placement = placement 804 (4 ∷ 4 ∷ 4 ∷ 4 ∷ []) }
+
+-- it takes two minislots of the first frame, and nothing of the next
+pub the_spots_of_a_polled_flow : (spots_in base 20 (polled_placed ∷ []) ≡ record { sid = 9; poll = true; offset = 4; slots = 2 } ∷ []) × (spots_in base 21 (polled_placed ∷ []) ≡ [])
+the_spots_of_a_polled_flow = (refl, refl)

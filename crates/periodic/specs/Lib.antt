@@ -1,0 +1,4 @@
+pub use Rattle.minislots.specs.Config
+pub use Rattle.minislots.specs.Units
+pub use Rattle.flow_book.specs.FlowSpec
+pub mod Placement

@@ -1,0 +1,12 @@
+pub mod LiveFlows
+pub mod NextMap
+pub mod RowsTwoMaps
+pub mod RowsTime
+pub mod RowsReceivers
+pub mod RowsRefusals
+pub mod RowsLives
+pub mod RowsCeiling
+pub mod RowsTurns
+pub mod RowsPeriodic
+pub mod RowsPolled
+pub mod RowsUnlawful

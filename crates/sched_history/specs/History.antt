@@ -1,0 +1,58 @@
+-- Which reply may follow a history, and which histories are legal.
+use Rattle.std.specs.Prelude.{◌≡◌, ◌+◌, ◌/◌, ◌⊎◌, List, [], None, Some, MatchOption, if◌then◌else◌}
+use Rattle.minislots.specs.declared.config.Config.{Config}
+use Rattle.flow_book.specs.declared.spec.FlowSpec.{FlowSpec}
+use Rattle.flow_book.specs.declared.spec.FlowSpec.TheVariants.{Unsolicited, Polled, BestEffort}
+use Rattle.flow_book.specs.FlowSpec.{takes_requests}
+use Rattle.flow_book.specs.Flows.{LiveFlow, granted, outstanding}
+use Rattle.periodic.specs.declared.placement.Placement.{Placement}
+use Rattle.periodic.specs.Placement.{IsPlacement, NoPlacement, spots_in}
+use Rattle.map_build.specs.declared.frame_map.FrameMap.{FrameMap}
+use Rattle.map_build.specs.EachAfter.{EachAfter}
+use Rattle.map_build.specs.FrameMap.{IsLawfulMap}
+use Rattle.sched_history.specs.declared.call.Call.{Call}
+use Rattle.sched_history.specs.declared.call.Call.TheVariants.{Admit, Remove, Ask, Heard, Build, Skip, Status}
+use Rattle.sched_history.specs.declared.reply.Refusal.TheVariants.{NoPlace}
+use Rattle.sched_history.specs.declared.reply.Reply.{Reply}
+use Rattle.sched_history.specs.declared.reply.Reply.TheVariants as replies
+use Rattle.sched_history.specs.declared.reply.Entry.{Entry}
+use Rattle.sched_history.specs.Life.{life_of, flow_in_life, flows_of, table_of}
+use Rattle.sched_history.specs.Time.{next_after, ack_after, frame_from}
+use Rattle.sched_history.specs.Refusal.{refusal_of}
+
+-- a flow is admitted with a lawful placement, or refused where there is none
+abbrev pub PlacesOrRefuses : Config → List Entry → FlowSpec → Reply → Type 0
+PlacesOrRefuses c h spec reply = ((p : Placement) × IsPlacement c (table_of h) spec (next_after c h) p × (reply ≡ replies.Admitted (Some p)))
+    ⊎ (NoPlacement c (table_of h) spec (next_after c h) × (reply ≡ replies.Refused NoPlace))
+
+-- an admission's answer: a best effort flow has no place
+abbrev pub AnswersAdmit : Config → List Entry → FlowSpec → Reply → Type 0
+AnswersAdmit c h (Unsolicited size interval jitter) reply = PlacesOrRefuses c h (Unsolicited size interval jitter) reply
+AnswersAdmit c h (Polled interval jitter rate burst) reply = PlacesOrRefuses c h (Polled interval jitter rate burst) reply
+AnswersAdmit c h (BestEffort priority rate burst) reply = reply ≡ replies.Admitted None
+
+-- the bytes that a status answers for a live flow: zeros where it does not ask
+abbrev pub status_of : LiveFlow → Reply
+status_of f = if takes_requests f.spec then replies.Flow f.asked (granted f) (outstanding f) else replies.Flow 0 0 0
+
+-- the MAP is the lawful one of the next frame
+abbrev pub IsNextMap : Config → List Entry → FrameMap → Type 0
+IsNextMap c h m = IsLawfulMap c (flows_of h) (spots_in c (next_after c h / c.frame) (table_of h)) (next_after c h) (ack_after c h) m
+
+-- the reply to a call that no test refuses
+abbrev pub Answers : Config → List Entry → Call → Reply → Type 0
+Answers c h (Admit sid spec) reply = AnswersAdmit c h spec reply
+Answers c h (Remove sid) reply = reply ≡ replies.Removed
+Answers c h (Ask receiver sid bytes heard) reply = reply ≡ replies.Taken
+Answers c h (Heard receiver upto) reply = reply ≡ replies.Noted
+Answers c h (Build now) reply = (m : FrameMap) × IsNextMap c h m × (reply ≡ replies.Built m)
+Answers c h (Skip now) reply = reply ≡ replies.Skipped (frame_from c (now + c.lead))
+Answers c h (Status sid) reply = MatchOption (life_of sid h) ⊥ (λ life. reply ≡ status_of (flow_in_life sid life))
+
+-- the reply may follow the history: the first refusal, or where there is none the answer
+abbrev pub IsStep : Config → List Entry → Call → Reply → Type 0
+IsStep c h call reply = MatchOption (refusal_of c h call) (Answers c h call reply) (λ refusal. reply ≡ replies.Refused refusal)
+
+-- each entry's reply may follow the entries before it
+abbrev pub IsLegal : Config → List Entry → Type 0
+IsLegal c h = EachAfter (λ before e. IsStep c before e.call e.reply) [] h

@@ -1,0 +1,13 @@
+-- The latest of the members of a list that say something.
+use Rattle.std.specs.Prelude.{List, [], ◌∷◌, Option, None, option_map}
+use Rattle.std.specs.Option.{option_or}
+
+-- what the latest member says, and the members after it
+pub record Found (X Y : Type 0) : Type 0 where
+  pub said : Y
+  pub after : List X
+
+-- the latest of the members of which f says something
+abbrev pub latest : {X Y : Type 0} → (X → Option Y) → List X → Option (Found X Y)
+latest f [] = None
+latest f (x ∷ xs) = option_or (latest f xs) (option_map (λ y. record { said = y; after = xs }) (f x))

@@ -1,0 +1,14 @@
+pub use Rattle.minislots.specs.Config
+pub use Rattle.minislots.specs.Units
+pub use Rattle.flow_book.specs.FlowSpec
+pub use Rattle.flow_book.specs.Flows
+pub use Rattle.periodic.specs.Placement
+pub use Rattle.map_build.specs.EachAfter
+pub use Rattle.map_build.specs.Plan
+pub use Rattle.map_build.specs.FrameMap
+pub mod Latest
+pub mod Life
+pub mod Time
+pub mod Refusal
+pub mod History
+pub mod Reply

@@ -1,0 +1,97 @@
+-- The lives of flows in a history: admissions, removals, requests and grants.
+use Rattle.std.specs.Prelude.{ℕ, ◌+◌, ◌&&◌, nat_lt, ◌==◌, List, [], sum_by, filter_map, flat_map, zip, Option, None, Some, option_map, option_and_then, if◌then◌else◌}
+use Rattle.map_codec.specs.declared.element.Element.{Element}
+use Rattle.flow_book.specs.declared.spec.FlowSpec.{FlowSpec}
+use Rattle.flow_book.specs.Flows.{Grant, LiveFlow}
+use Rattle.periodic.specs.declared.placement.Placement.{Placement}
+use Rattle.periodic.specs.Placement.{count_from, Placed}
+use Rattle.map_build.specs.declared.frame_map.FrameMap.{FrameMap}
+use Rattle.sched_history.specs.declared.call.Call.{Call}
+use Rattle.sched_history.specs.declared.call.Call.TheVariants as calls
+use Rattle.sched_history.specs.declared.reply.Reply.{Reply}
+use Rattle.sched_history.specs.declared.reply.Reply.TheVariants as replies
+use Rattle.sched_history.specs.declared.reply.Entry.{Entry}
+use Rattle.sched_history.specs.Latest.{latest}
+
+-- an admission: the flow's parameters, and its placement where it is periodic
+pub record Admission : Type 0 where
+  pub spec : FlowSpec
+  pub placement : Option Placement
+
+-- whether a life begins or ends
+pub data Turn : Type 0 where
+  Begins : Admission → Turn
+  Ends : Turn
+
+-- the accepted admission or removal of this SID that an entry is
+abbrev pub turn_by : ℕ → Call → Reply → Option Turn
+turn_by sid (calls.Admit other spec) (replies.Admitted placement) = if other == sid then Some (Begins (record { spec = spec; placement = placement })) else None
+turn_by sid (calls.Remove other) replies.Removed = if other == sid then Some Ends else None
+turn_by sid call reply = None
+
+abbrev pub turn_of : ℕ → Entry → Option Turn
+turn_of sid e = turn_by sid e.call e.reply
+
+-- a life: how it began, and the entries since
+pub record Life : Type 0 where
+  pub admission : Admission
+  pub since : List Entry
+
+-- the life that a latest turn leaves
+abbrev pub life_after : Turn → List Entry → Option Life
+life_after (Begins admission) after = Some (record { admission = admission; since = after })
+life_after Ends after = None
+
+-- the present life of a SID: the entries after its latest accepted admission, where no accepted removal follows it
+abbrev pub life_of : ℕ → List Entry → Option Life
+life_of sid h = option_and_then (λ found. life_after found.said found.after) (latest (turn_of sid) h)
+
+-- the bytes of an accepted request of this SID
+abbrev pub asked_by : ℕ → Call → Reply → ℕ
+asked_by sid (calls.Ask receiver other bytes heard) replies.Taken = if other == sid then bytes else 0
+asked_by sid call reply = 0
+
+-- the bytes asked under this SID in these entries
+abbrev pub asked_in : ℕ → List Entry → ℕ
+asked_in sid entries = sum_by (λ e. asked_by sid e.call e.reply) entries
+
+-- the data grant that an element with this byte count is, where it is one to this SID, in a MAP that starts there
+abbrev pub grant_by : ℕ → ℕ → Element × ℕ → Option Grant
+grant_by sid start e = if e.0.sid == sid && nat_lt 0 e.1 then Some (record { start = start + e.0.offset; bytes = e.1 }) else None
+
+-- the data grants of a MAP to this SID, in order
+abbrev pub grants_of_map : ℕ → FrameMap → List Grant
+grants_of_map sid m = filter_map (grant_by sid m.start) (zip m.wire.elements m.bytes)
+
+-- the data grants to this SID that a reply has
+abbrev pub grants_by : ℕ → Reply → List Grant
+grants_by sid (replies.Built m) = grants_of_map sid m
+grants_by sid reply = []
+
+-- the data grants to this SID in these entries, in order
+abbrev pub grants_since : ℕ → List Entry → List Grant
+grants_since sid entries = flat_map (λ e. grants_by sid e.reply) entries
+
+-- the live flow that a life is
+abbrev pub flow_in_life : ℕ → Life → LiveFlow
+flow_in_life sid life = record { sid = sid; spec = life.admission.spec; asked = asked_in sid life.since; grants = grants_since sid life.since }
+
+-- the placed flow that a life is
+abbrev pub placed_in_life : ℕ → Life → Option Placed
+placed_in_life sid life = option_map (λ p. record { sid = sid; spec = life.admission.spec; placement = p }) life.admission.placement
+
+-- the greatest SID of a flow
+abbrev pub last_sid : ℕ
+last_sid = 8191
+
+-- the SIDs of flows, ascending
+unfoldable pub sids : List ℕ
+sids = count_from 1 last_sid
+
+-- the live flows after a history, in order of SID
+abbrev pub flows_of : List Entry → List LiveFlow
+flows_of h = filter_map (λ sid. option_map (flow_in_life sid) (life_of sid h)) sids
+
+-- the live placements after a history, in order of SID
+abbrev pub table_of : List Entry → List Placed
+table_of h = filter_map (λ sid. option_and_then (placed_in_life sid) (life_of sid h)) sids

@@ -1,0 +1,80 @@
+-- The refusals of each call, in the order of their tests.
+use Rattle.std.specs.Prelude.{ℕ, ◌+◌, ◌^◌, Bool, false, not, ◌||◌, ◌&&◌, nat_lt, nat_le, ◌==◌, List, [], ◌∷◌, length, count_by, Option, None, Some, is_some, option_map, if◌then◌else◌}
+use Rattle.std.specs.Option.{option_or, option_map_or}
+use Rattle.minislots.specs.declared.config.Config.{Config}
+use Rattle.flow_book.specs.FlowSpec.{is_periodic, takes_requests, first_fault}
+use Rattle.sched_history.specs.declared.call.Call.{Call}
+use Rattle.sched_history.specs.declared.call.Call.TheVariants.{Admit, Remove, Ask, Heard, Build, Skip, Status}
+use Rattle.sched_history.specs.declared.reply.Refusal.{Refusal}
+use Rattle.sched_history.specs.declared.reply.Refusal.TheVariants.{BadSid, SidLive, BadFlow, FlowsFull, PeriodicFull, NoFlow, NotAsking, BadReceiver, BadBytes, Acked, Ahead, Backwards, BadClock, TooEarly, Late, NotLate}
+use Rattle.sched_history.specs.declared.reply.Entry.{Entry}
+use Rattle.sched_history.specs.Life.{last_sid, life_of, flows_of}
+use Rattle.sched_history.specs.Time.{next_after, progress_of}
+
+-- the refusal, where its test holds
+abbrev pub refused_if : Bool → Refusal → Option Refusal
+refused_if test refusal = if test then Some refusal else None
+
+-- the first of some tests that refuses
+abbrev pub first_of : List (Option Refusal) → Option Refusal
+first_of [] = None
+first_of (test ∷ tests) = option_or test (first_of tests)
+
+-- the most live flows, live periodic flows, bytes of a request, and minislots described ahead; the greatest clock
+abbrev pub most_flows : ℕ
+most_flows = 64
+
+abbrev pub most_periodic : ℕ
+most_periodic = 40
+
+abbrev pub most_bytes : ℕ
+most_bytes = 1048560
+
+abbrev pub most_ahead : ℕ
+most_ahead = 4096
+
+abbrev pub last_clock : ℕ
+last_clock = 2 ^ 60
+
+abbrev pub bad_sid : ℕ → Bool
+bad_sid sid = sid == 0 || nat_lt last_sid sid
+
+abbrev pub is_live : ℕ → List Entry → Bool
+is_live sid h = is_some (life_of sid h)
+
+-- whether the live flow of this SID does not ask for bytes
+abbrev pub is_silent : ℕ → List Entry → Bool
+is_silent sid h = option_map_or (λ life. not (takes_requests life.admission.spec)) (life_of sid h) false
+
+abbrev pub periodic_count : List Entry → ℕ
+periodic_count h = count_by (λ f. is_periodic f.spec) (flows_of h)
+
+-- the first refusal of a call after a history; that there is no place for a flow is not among these
+abbrev pub refusal_of : Config → List Entry → Call → Option Refusal
+refusal_of c h (Admit sid spec) = first_of (
+    refused_if (bad_sid sid) BadSid ∷
+    refused_if (is_live sid h) SidLive ∷
+    option_map BadFlow (first_fault c spec) ∷
+    refused_if (nat_le most_flows (length (flows_of h))) FlowsFull ∷
+    refused_if (is_periodic spec && nat_le most_periodic (periodic_count h)) PeriodicFull ∷ [])
+refusal_of c h (Remove sid) = first_of (refused_if (bad_sid sid) BadSid ∷ refused_if (not (is_live sid h)) NoFlow ∷ [])
+refusal_of c h (Ask receiver sid bytes heard) = first_of (
+    refused_if (bad_sid sid) BadSid ∷
+    refused_if (not (is_live sid h)) NoFlow ∷
+    refused_if (is_silent sid h) NotAsking ∷
+    refused_if (nat_le c.receivers receiver) BadReceiver ∷
+    refused_if (bytes == 0 || nat_lt most_bytes bytes) BadBytes ∷
+    refused_if (nat_lt heard (progress_of c receiver h)) (Acked (progress_of c receiver h)) ∷
+    refused_if (nat_le (next_after c h) heard) (Ahead (next_after c h)) ∷ [])
+refusal_of c h (Heard receiver upto) = first_of (
+    refused_if (nat_le c.receivers receiver) BadReceiver ∷
+    refused_if (nat_lt (next_after c h) upto) (Ahead (next_after c h)) ∷
+    refused_if (nat_lt upto (progress_of c receiver h)) (Backwards (progress_of c receiver h)) ∷ [])
+refusal_of c h (Build now) = first_of (
+    refused_if (nat_lt last_clock now) BadClock ∷
+    refused_if (nat_lt (now + most_ahead) (next_after c h + c.frame)) (TooEarly (next_after c h)) ∷
+    refused_if (nat_lt (next_after c h) (now + c.lead)) (Late (next_after c h)) ∷ [])
+refusal_of c h (Skip now) = first_of (
+    refused_if (nat_lt last_clock now) BadClock ∷
+    refused_if (nat_le (now + c.lead) (next_after c h)) (NotLate (next_after c h)) ∷ [])
+refusal_of c h (Status sid) = first_of (refused_if (bad_sid sid) BadSid ∷ refused_if (not (is_live sid h)) NoFlow ∷ [])

@@ -1,0 +1,34 @@
+//! What is asked of the scheduler.
+
+use flow_book::FlowSpec;
+
+/// A call of the scheduler. Minislots are counted in 64 bits from the channel's timebase.
+#[derive(Clone, Copy, Debug, PartialEq, Eq)]
+pub enum Call {
+    /// Admits a flow under this SID.
+    Admit(u16, FlowSpec),
+    /// Forgets a flow with its requests, its grants and its placement.
+    Remove(u16),
+    /// Hands in a bandwidth request for so many bytes, heard by this receiver at this minislot.
+    Ask {
+        receiver: u8,
+        sid: u16,
+        bytes: u32,
+        heard: u64,
+    },
+    /// Says that this receiver has handed in every request that it heard before this minislot.
+    Heard {
+        receiver: u8,
+        upto: u64,
+    },
+    /// Builds the next MAP, at this minislot.
+    Build {
+        now: u64,
+    },
+    /// Leaves out the frames whose MAP would be late, at this minislot.
+    Skip {
+        now: u64,
+    },
+    /// Asks for a flow's bytes.
+    Status(u16),
+}

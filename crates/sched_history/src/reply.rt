@@ -1,0 +1,175 @@
+//! What the scheduler answers.
+
+ghost use Rattle.std.specs.Prelude.{◌≡◌, IfOk, OnErr};
+ghost use Rattle.sched_history.specs.Reply.{OwnsMemory};
+
+use crate::call::Call;
+use flow_book::FlowFault;
+use map_build::FrameMap;
+use minislots::Stamp;
+use periodic::{Placement, Starts};
+use std::alloc::{AllocError, Global};
+use thiserror::Error;
+
+/// Why a call is refused. The tests are made in this order, and the first that holds is answered. A
+/// refusal is recorded, and changes nothing else.
+#[derive(Clone, Copy, Debug, PartialEq, Eq, Error)]
+pub enum Refusal {
+    /// The SID is 0 or above 8191.
+    #[error("no flow has this SID")]
+    BadSid,
+    /// The SID is live already.
+    #[error("the SID is live")]
+    SidLive,
+    /// The parameters of the flow are refused.
+    #[error("bad parameters: {0}")]
+    BadFlow(FlowFault),
+    /// 64 flows are live.
+    #[error("64 flows are live")]
+    FlowsFull,
+    /// 40 periodic flows are live.
+    #[error("40 periodic flows are live")]
+    PeriodicFull,
+    /// No lawful placement exists.
+    #[error("no place")]
+    NoPlace,
+    /// The SID is not live.
+    #[error("no such flow")]
+    NoFlow,
+    /// The flow is unsolicited, so it asks for nothing.
+    #[error("the flow does not ask")]
+    NotAsking,
+    /// There is no such receiver.
+    #[error("no such receiver")]
+    BadReceiver,
+    /// The bytes are 0 or above 1048560.
+    #[error("bad bytes")]
+    BadBytes,
+    /// The request was heard before this progress of its receiver.
+    #[error("heard before {0}")]
+    Acked(u64),
+    /// The minislot is not described by a MAP yet: the next one starts here.
+    #[error("not before {0}")]
+    Ahead(u64),
+    /// The receiver's progress is here already.
+    #[error("progress is {0}")]
+    Backwards(u64),
+    /// The clock is above 2^60.
+    #[error("bad clock")]
+    BadClock,
+    /// The frame that starts here would end more than 4096 minislots ahead.
+    #[error("too early for {0}")]
+    TooEarly(u64),
+    /// The frame that starts here is less than the lead ahead.
+    #[error("too late for {0}")]
+    Late(u64),
+    /// The frame that starts here is not late.
+    #[error("not late for {0}")]
+    NotLate(u64),
+}
+
+/// What the scheduler answers to a call that it records.
+#[derive(Debug, Drop)]
+pub enum Reply {
+    /// The flow is live, a periodic one with this placement.
+    Admitted(Option<Placement>),
+    /// The flow is forgotten.
+    Removed,
+    /// The request is counted.
+    Taken,
+    /// The progress is noted.
+    Noted,
+    /// The MAP of the next frame.
+    Built(FrameMap),
+    /// The start of the frame that the next MAP describes.
+    Skipped(u64),
+    /// Bytes asked, granted and outstanding since the flow was admitted: zeros for an unsolicited one.
+    Flow {
+        asked: u64,
+        granted: u64,
+        outstanding: u64,
+    },
+    /// The call changes nothing.
+    Refused(Refusal),
+}
+
+impl Reply {
+    /// The same reply again. Takes memory where it has a placement or a MAP, and else none.
+    pub fn copy(&self, alloc: Global) -> Result<Reply, AllocError>
+        ensures ok { IfOk result (λ reply. reply ≡ self.now) }
+        ensures memory { OnErr result (OwnsMemory self.now) }
+    {
+        Ok(match self {
+            Reply::Admitted(None) => Reply::Admitted(None),
+            Reply::Admitted(Some(placement)) => {
+                Reply::Admitted(Some(copy_of_placement(alloc, placement)?))
+            }
+            Reply::Removed => Reply::Removed,
+            Reply::Taken => Reply::Taken,
+            Reply::Noted => Reply::Noted,
+            Reply::Built(map) => Reply::Built(map.copy(alloc)?),
+            Reply::Skipped(next) => Reply::Skipped(*next),
+            Reply::Flow {
+                asked,
+                granted,
+                outstanding,
+            } => Reply::Flow {
+                asked: *asked,
+                granted: *granted,
+                outstanding: *outstanding,
+            },
+            Reply::Refused(refusal) => Reply::Refused(*refusal),
+        })
+    }
+}
+
+/// The same placement again.
+fn copy_of_placement(alloc: Global, placement: &Placement) -> Result<Placement, AllocError>
+    ensures { IfOk result (λ p. p ≡ placement.now) }
+{
+    Ok(Placement {
+        reference: placement.reference,
+        starts: Starts::from_vec(Vec::from_slice(alloc, placement.starts.as_slice())?),
+    })
+}
+
+/// A call with its reply, and who made it.
+#[derive(Debug, Drop)]
+pub struct Entry {
+    pub stamp: Stamp,
+    pub call: Call,
+    pub reply: Reply,
+}
+
+/// Why a call was not recorded. It changed nothing.
+#[derive(Clone, Copy, Debug, PartialEq, Eq, Error)]
+pub enum Unrecorded {
+    /// The history has as many entries as are recorded.
+    #[error("history full")]
+    HistoryFull,
+    /// Memory ran out.
+    #[error("out of memory")]
+    Memory,
+}
+
+#[cfg(test)]
+mod tests {
+    use super::*;
+    use std::test::Fail;
+
+    #[test]
+    fn a_copy_has_the_same_placement(rt: HostRuntime) -> Result<(), Fail> {
+        let starts = [4, 19];
+        let placement = Placement {
+            reference: 804,
+            starts: Starts::from_vec(Vec::from_slice(rt.alloc(), &starts)?),
+        };
+        let copy = Reply::Admitted(Some(placement)).copy(rt.alloc())?;
+        let Reply::Admitted(Some(copied)) = copy else {
+            return Err(Fail::from(AllocError));
+        };
+        assert_eq!(rt; copied.reference, 804);
+        assert_eq!(rt; copied.starts.as_slice(), &starts[..]);
+        Ok(())
+    }
+}
