@@ -1,7 +1,7 @@
 -- The first data grant of a flow under a rate ceiling.
 use Rattle.std.proofs.Common.{ℕ, zero, suc, ◌≤◌, [], ◌∷◌, arith}
 use Rattle.minislots.specs.declared.config.Config.{Config}
-use Rattle.flow_book.specs.Flows.{Grant}
+use Rattle.flow_book.specs.declared.flow.Grant.{Grant}
 use Rattle.flow_book.specs.Ceiling.{KeepsCeiling}
 
 -- a first grant of at most the burst keeps the ceiling

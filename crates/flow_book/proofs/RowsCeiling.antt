@@ -1,7 +1,8 @@
 -- Worked examples of data grants under a rate ceiling.
 use Rattle.std.proofs.Common.{ℕ, zero, suc, ◌+◌, ◌*◌, ◌<◌, ◌≤◌, List, [], ◌∷◌, refl, inl, lit<, lit≤, arith}
 use Rattle.flow_book.specs.declared.spec.FlowSpec.TheVariants.{BestEffort}
-use Rattle.flow_book.specs.Flows.{Grant, LiveFlow, bytes_of}
+use Rattle.flow_book.specs.declared.flow.Grant.{Grant}
+use Rattle.flow_book.specs.Flows.{LiveFlow, bytes_of}
 use Rattle.flow_book.specs.Ceiling.{window, start_of}
 use Rattle.flow_book.specs.Choice.{MayTake, MayGrant, IsAmount, IsEligible, IsNext}
 use Rattle.flow_book.proofs.Base.{base}

@@ -1,7 +1,8 @@
 -- The rate ceiling: maximum sustained rate and burst, over every window of a flow's data grants.
-use Rattle.std.specs.Prelude.{ℕ, ◌+◌, ◌*◌, ◌<◌, ◌≤◌, List, length, take, drop, slice_index_or}
+use Rattle.std.specs.Prelude.{ℕ, ◌+◌, ◌*◌, ◌<◌, ◌≤◌, List, [], ◌∷◌, ◌++◌, length, take, drop, slice_index_or}
 use Rattle.minislots.specs.declared.config.Config.{Config}
-use Rattle.flow_book.specs.Flows.{Grant, bytes_of}
+use Rattle.flow_book.specs.declared.flow.Grant.{Grant}
+use Rattle.flow_book.specs.Flows.{bytes_of}
 
 -- the grants from the i-th to the j-th, both counted in
 abbrev pub window : List Grant → ℕ → ℕ → List Grant

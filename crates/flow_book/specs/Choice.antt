@@ -1,15 +1,20 @@
 -- Which flow a data grant goes to, and how many bytes it has.
-use Rattle.std.specs.Prelude.{◌≡◌, ℕ, ◌<◌, ◌≤◌, min, Bool, true, false, ◌&&◌, ◌||◌, nat_lt, ◌==◌, ◌⊎◌, List, [], ◌∷◌, ◌++◌, Contains, Option, None, Some}
+use Rattle.std.specs.Prelude.{◌≡◌, ℕ, ◌+◌, ◌<◌, ◌≤◌, min, Bool, true, false, ◌&&◌, ◌||◌, nat_lt, ◌==◌, ◌⊎◌, List, [], ◌∷◌, ◌++◌, Contains, Option, None, Some, option_map, IsSomeAnd}
 use Rattle.std.specs.List.{AllByRecursion}
 use Rattle.minislots.specs.declared.config.Config.{Config}
 use Rattle.minislots.specs.Units.{slots_for}
 use Rattle.flow_book.specs.FlowSpec.{takes_requests, rank_of, rate_of, burst_of}
-use Rattle.flow_book.specs.Flows.{Grant, LiveFlow, outstanding}
+use Rattle.flow_book.specs.declared.flow.Grant.{Grant}
+use Rattle.flow_book.specs.Flows.{LiveFlow, outstanding, flow_of}
 use Rattle.flow_book.specs.Ceiling.{KeepsCeiling}
+
+-- the flow keeps its ceiling with one grant more
+abbrev pub KeepsWith : Config → LiveFlow → ℕ → ℕ → Type 0
+KeepsWith c f start bytes = KeepsCeiling c (rate_of f.spec) (burst_of f.spec) (f.grants ++ record { start = start; bytes = bytes } ∷ [])
 
 -- a grant of so many bytes at this minislot keeps the flow's ceiling, and fits the room
 pub record MayTake (c : Config) (f : LiveFlow) (start room bytes : ℕ) : Type 0 where
-  pub ceiling : KeepsCeiling c (rate_of f.spec) (burst_of f.spec) (f.grants ++ record { start = start; bytes = bytes } ∷ [])
+  pub ceiling : KeepsWith c f start bytes
   pub fits : slots_for c bytes ≤ room
 
 -- so many bytes may be granted: some of those outstanding, at most the cap, within ceiling and room
@@ -23,6 +28,11 @@ pub record MayGrant (c : Config) (f : LiveFlow) (start room bytes : ℕ) : Type 
 pub record IsAmount (c : Config) (f : LiveFlow) (start room bytes : ℕ) : Type 0 where
   pub allowed : MayGrant c f start room bytes
   pub greatest : (more : ℕ) → MayGrant c f start room more → more ≤ bytes
+
+-- the amount, or 0 where no bytes may be granted
+pub record IsMost (c : Config) (f : LiveFlow) (start room bytes : ℕ) : Type 0 where
+  pub amount : 0 < bytes → IsAmount c f start room bytes
+  pub none : bytes ≡ 0 → (more : ℕ) → MayGrant c f start room more → ⊥
 
 -- the flow may be served: it has bytes outstanding, of which it may take the quantum, or all where they are fewer
 pub record IsEligible (c : Config) (start room : ℕ) (f : LiveFlow) : Type 0 where
@@ -65,3 +75,17 @@ pub record IsNext (c : Config) (flows : List LiveFlow) (start room : ℕ) (f : L
   pub live : Contains flows f
   pub eligible : IsEligible c start room f
   pub first : AllByRecursion (λ g. IsEligible c start room g → (g ≡ f) ⊎ (is_before f g ≡ true)) flows
+
+-- the flow that is served first among these, or none may be served
+abbrev pub IsNextOf : Config → ℕ → ℕ → List LiveFlow → Option LiveFlow → Type 0
+IsNextOf c start room flows None = NoneEligible c flows start room
+IsNextOf c start room flows (Some f) = IsNext c flows start room f
+
+-- what may be served next: the flow with this SID, or none
+abbrev pub IsNextSid : Config → ℕ → ℕ → List LiveFlow → Option ℕ → Type 0
+IsNextSid c start room flows None = NoneEligible c flows start room
+IsNextSid c start room flows (Some sid) = IsSomeAnd (flow_of sid flows) (IsNext c flows start room)
+
+-- each grant of the flow starts at or before this minislot
+abbrev pub HasStartedBy : ℕ → LiveFlow → Type 0
+HasStartedBy start f = AllByRecursion (λ g. g.start ≤ start) f.grants

@@ -1,5 +1,5 @@
 -- The parameters of a flow: what they say in minislots, and which of them are refused.
-use Rattle.std.specs.Prelude.{ℕ, ◌-◌, ◌/◌, ◌%◌, Bool, true, false, not, ◌&&◌, ◌||◌, nat_lt, ◌==◌, List, [], ◌∷◌, Option, is_none, find}
+use Rattle.std.specs.Prelude.{ℕ, ◌+◌, ◌-◌, ◌*◌, ◌/◌, ◌%◌, Bool, true, false, not, ◌&&◌, ◌||◌, nat_lt, ◌==◌, List, [], ◌∷◌, Option, is_none, find}
 use Rattle.minislots.specs.declared.config.Config.{Config}
 use Rattle.minislots.specs.Units.{slots_for, slots_floor, slots_of_micros}
 use Rattle.flow_book.specs.declared.spec.FlowSpec.{FlowSpec}
@@ -82,6 +82,14 @@ has_fault c spec Burst = takes_requests spec && nat_lt 0 (rate_of spec) && nat_l
 abbrev pub faults : List FlowFault
 faults = Size ∷ IntervalNotWhole ∷ IntervalNotFrames ∷ IntervalNotInCycle ∷ Priority ∷ Burst ∷ []
 
+-- the faults of an interval
+abbrev pub interval_faults : List FlowFault
+interval_faults = IntervalNotWhole ∷ IntervalNotFrames ∷ IntervalNotInCycle ∷ []
+
+-- the first of some faults that meets the parameters
+abbrev pub first_fault_of : Config → FlowSpec → List FlowFault → Option FlowFault
+first_fault_of c spec some = find (has_fault c spec) some
+
 -- the first fault of the parameters
 unfoldable pub first_fault : Config → FlowSpec → Option FlowFault
-first_fault c spec = find (has_fault c spec) faults
+first_fault c spec = first_fault_of c spec faults

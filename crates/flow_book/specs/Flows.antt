@@ -1,11 +1,7 @@
 -- The live flows, each with what it asked and was granted.
-use Rattle.std.specs.Prelude.{ℕ, ◌-◌, ◌==◌, List, [], ◌∷◌, ◌++◌, sum_by, find, Option}
+use Rattle.std.specs.Prelude.{ℕ, ◌+◌, ◌-◌, Bool, nat_lt, ◌==◌, List, [], ◌∷◌, ◌++◌, map, sum_by, find, Option}
 use Rattle.flow_book.specs.declared.spec.FlowSpec.{FlowSpec}
-
--- a data grant: the minislot at which it starts, and its bytes
-pub record Grant : Type 0 where
-  pub start : ℕ
-  pub bytes : ℕ
+use Rattle.flow_book.specs.declared.flow.Grant.{Grant}
 
 -- a live flow: its SID and parameters, the bytes that it asked, and its data grants in order
 pub record LiveFlow : Type 0 where

@@ -4,3 +4,5 @@ pub mod FlowSpec
 pub mod Flows
 pub mod Ceiling
 pub mod Choice
+pub mod Book
+pub mod Entry

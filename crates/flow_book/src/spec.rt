@@ -1,5 +1,8 @@
 //! The parameters of a flow.
 
+ghost use Rattle.std.specs.Prelude.{◌≡◌};
+ghost use Rattle.flow_book.specs.FlowSpec.{takes_requests, rank_of, rate_of, burst_of};
+
 use thiserror::Error;
 
 /// The parameters of a service flow, by its upstream scheduling service. Sizes and bursts are in
@@ -51,4 +54,44 @@ pub enum FlowFault {
     /// There is a rate ceiling, and the burst is below the quantum.
     #[error("burst")]
     Burst,
+}
+
+impl FlowSpec {
+    // Whether the flow asks for bytes and gets data grants for them.
+    pub(crate) fn takes_requests(&self) -> bool
+        ensures { result ≡ takes_requests self.now }
+    {
+        !matches!(self, FlowSpec::Unsolicited { .. })
+    }
+
+    // The rank in which flows are served: polled flows before all priorities.
+    pub(crate) fn rank(&self) -> u8
+        ensures { result ≡ rank_of self.now }
+    {
+        match *self {
+            FlowSpec::Unsolicited { .. } => 0,
+            FlowSpec::Polled { .. } => 8,
+            FlowSpec::BestEffort { priority, .. } => priority,
+        }
+    }
+
+    // The maximum sustained rate, in bits per second: 0 is no ceiling.
+    pub(crate) fn rate(&self) -> u32
+        ensures { result ≡ rate_of self.now }
+    {
+        match *self {
+            FlowSpec::Unsolicited { .. } => 0,
+            FlowSpec::Polled { rate, .. } | FlowSpec::BestEffort { rate, .. } => rate,
+        }
+    }
+
+    // The maximum burst, in bytes.
+    pub(crate) fn burst(&self) -> u32
+        ensures { result ≡ burst_of self.now }
+    {
+        match *self {
+            FlowSpec::Unsolicited { .. } => 0,
+            FlowSpec::Polled { burst, .. } | FlowSpec::BestEffort { burst, .. } => burst,
+        }
+    }
 }

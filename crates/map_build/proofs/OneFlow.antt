@@ -8,7 +8,8 @@ use Rattle.minislots.specs.Config.{HasBounds}
 use Rattle.minislots.specs.Units.{slots_for, bytes_in}
 use Rattle.minislots.proofs.UnitLaws.{fits_bytes, fits_slots}
 use Rattle.flow_book.specs.FlowSpec.{takes_requests, rate_of}
-use Rattle.flow_book.specs.Flows.{Grant, LiveFlow, outstanding}
+use Rattle.flow_book.specs.declared.flow.Grant.{Grant}
+use Rattle.flow_book.specs.Flows.{LiveFlow, outstanding}
 use Rattle.flow_book.specs.Ceiling.{KeepsCeiling}
 use Rattle.flow_book.specs.Choice.{IsAmount, IsEligible, IsNext}
 use Rattle.map_build.specs.Plan.{Allocation, DataGrant, Idle, grant_to, grants_to, flow_after, grants_in, end_of, Stands, most_grants}

@@ -2,7 +2,8 @@
 use Rattle.std.proofs.Common.{◌≡◌, ℕ, List, [], ◌∷◌, map, refl, inl, inr, lit<, lit≤, arith}
 use Rattle.map_codec.specs.Element.{word_of}
 use Rattle.flow_book.specs.declared.spec.FlowSpec.TheVariants.{BestEffort}
-use Rattle.flow_book.specs.Flows.{Grant, LiveFlow}
+use Rattle.flow_book.specs.declared.flow.Grant.{Grant}
+use Rattle.flow_book.specs.Flows.{LiveFlow}
 use Rattle.flow_book.specs.Choice.{IsNext, IsAmount}
 use Rattle.map_build.specs.declared.frame_map.FrameMap.{FrameMap}
 use Rattle.map_build.specs.Plan.{Allocation, DataGrant, Idle}

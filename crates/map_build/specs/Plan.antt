@@ -4,7 +4,8 @@ use Rattle.std.specs.Prelude.{◌≡◌, ℕ, ◌+◌, ◌-◌, ◌<◌, ◌≤�
 use Rattle.std.specs.List.{AllByRecursion}
 use Rattle.minislots.specs.declared.config.Config.{Config}
 use Rattle.minislots.specs.Units.{slots_for}
-use Rattle.flow_book.specs.Flows.{Grant, LiveFlow}
+use Rattle.flow_book.specs.declared.flow.Grant.{Grant}
+use Rattle.flow_book.specs.Flows.{LiveFlow}
 use Rattle.flow_book.specs.Choice.{NoneEligible, IsNext, IsAmount}
 use Rattle.periodic.specs.declared.placement.Spot.{Spot}
 use Rattle.map_build.specs.EachAfter.{EachAfter}

@@ -1,0 +1,13 @@
+-- The flows gone through have the room, and the flows are the same.
+use Rattle.std.proofs.Common.{◌≡◌, ℕ, ◌<◌, ◌≤◌, map, get_or}
+use Rattle.flow_book.specs.declared.flow.Flow.{Flow}
+use Rattle.flow_book.specs.Entry.{live, room_in}
+use Rattle.flow_book.specs.Book.{KeepsRoom}
+use Rattle.flow_book.proofs.flow.reserve_each.Given as goal
+
+abbrev pub invariant-loop-flow : goal.invariant-loop-flow
+invariant-loop-flow l = record {
+  same : map live l.flows ≡ map live l.initial.flows;
+  room : (k : ℕ) (d : Flow) → k < l.flow-index → l.grants ≤ (room_in (get_or l.flows k d)).grants;
+  kept : KeepsRoom (map room_in l.initial.flows) (map room_in l.flows);
+}

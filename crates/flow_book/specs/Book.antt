@@ -1,0 +1,55 @@
+-- What contracts see of a book: the live flows, and beside them the room for their grants.
+use Rattle.std.specs.Prelude.{◌≡◌, ◌≢◌, ℕ, ◌+◌, ◌-◌, ◌<◌, ◌≤◌, not, nat_lt, ◌==◌, List, [], ◌∷◌, map, filter, find, Option, option_map, unwrap_or, IsSome, if◌then◌else◌}
+use Rattle.std.specs.List.{AllByRecursion}
+use Rattle.minislots.specs.declared.config.Config.{Config}
+use Rattle.flow_book.specs.declared.spec.FlowSpec.{FlowSpec}
+use Rattle.flow_book.specs.Flows.{LiveFlow, flow_of}
+
+-- how many more grants of this flow fit with no memory
+pub record Room : Type 0 where
+  pub sid : ℕ
+  pub grants : ℕ
+
+-- the channel's configuration, the live flows in order of SID, and the room of each
+pub record BookView : Type 0 where
+  pub config : Config
+  pub flows : List LiveFlow
+  pub rooms : List Room
+
+-- the SID is live
+abbrev pub IsLive : ℕ → List LiveFlow → Type 0
+IsLive sid flows = IsSome (flow_of sid flows)
+
+-- SIDs ascend
+abbrev pub Ascend : List LiveFlow → Type 0
+Ascend [] = Unit {0}
+Ascend (f ∷ flows) = AllByRecursion (λ g. f.sid < g.sid) flows × Ascend flows
+
+-- the flows with one more, in order of SID
+abbrev pub with_flow : LiveFlow → List LiveFlow → List LiveFlow
+with_flow f [] = f ∷ []
+with_flow f (g ∷ flows) = if nat_lt f.sid g.sid then f ∷ g ∷ flows else g ∷ with_flow f flows
+
+-- the flows but that of this SID
+abbrev pub without : ℕ → List LiveFlow → List LiveFlow
+without sid flows = filter (λ f. not (f.sid == sid)) flows
+
+-- the flows, with that of this SID changed
+abbrev pub changed : ℕ → (LiveFlow → LiveFlow) → List LiveFlow → List LiveFlow
+changed sid change flows = map (λ f. if f.sid == sid then change f else f) flows
+
+-- a flow just admitted
+abbrev pub new_flow : ℕ → FlowSpec → LiveFlow
+new_flow sid spec = record { sid = sid; spec = spec; asked = 0; grants = [] }
+
+-- a flow that asked for so many bytes more
+abbrev pub with_asked : ℕ → LiveFlow → LiveFlow
+with_asked bytes f = record f { asked = f.asked + bytes }
+
+-- the room of the flow with this SID
+abbrev pub room_of : ℕ → List Room → ℕ
+room_of sid rooms = unwrap_or (option_map (λ r. r.grants) (find (λ r. r.sid == sid) rooms)) 0
+
+-- no flow has less room than before
+abbrev pub KeepsRoom : List Room → List Room → Type 0
+KeepsRoom old new = (sid : ℕ) → room_of sid old ≤ room_of sid new

@@ -1,0 +1,259 @@
+//! The live flows of a channel, in order of SID.
+
+ghost use Rattle.std.specs.Prelude.{◌≡◌, ◌≢◌, ℕ, ◌+◌, ◌<◌, ◌≤◌, ◌^◌, ◌==◌, [], ◌∷◌, length, IfOk, OnOk, OnErr, IfSome, IsSomeAnd, option_map, slice_index_or, slice_get, nat_lt, unwrap_or, position, find, option_copied};
+ghost use Rattle.std.specs.List.{AllByRecursion};
+ghost use Rattle.minislots.specs.Units.{slots_for};
+ghost use Rattle.flow_book.specs.Flows.{flow_of, outstanding, with_grant};
+ghost use Rattle.flow_book.specs.Choice.{MayGrant, IsMost, IsNextSid, HasStartedBy};
+ghost use Rattle.flow_book.specs.Entry.{live, IsSoundFlow};
+ghost use Rattle.flow_book.specs.Book.{IsLive, Ascend, KeepsRoom, room_of, new_flow, with_flow, without, changed, with_asked};
+
+use crate::flow::{Flow, Grant, first_eligible, reserve_each};
+use crate::spec::FlowSpec;
+use minislots::Checked;
+use std::alloc::{AllocError, Global};
+use std::marker::Model;
+
+/// The live flows of one channel, in order of SID. Each has its parameters, the bytes that it asked
+/// and its data grants, and room for so many more grants.
+#[derive(Drop)]
+pub struct Book {
+    config: Checked,
+    flows: Vec<Flow>,
+}
+
+impl Model for Book {
+    ghost use Rattle.std.specs.Prelude.{map};
+    ghost use Rattle.flow_book.specs.Book.{BookView};
+
+    ghost Value = { BookView };
+
+    ghost use Rattle.flow_book.specs.Entry.{live, room_in, AreSound};
+
+    ghost view = { λ b. record {
+      config = b.config;
+      flows = map live b.flows.items;
+      rooms = map room_in b.flows.items;
+    } };
+
+    ghost invariant = { λ b. AreSound b.config (map live b.flows.items) };
+}
+
+// The flow with this SID.
+fn flow_in(flows: &[Flow], sid: u16) -> Option<&Flow>
+    ensures { option_copied result ≡ find (λ f. f.sid == sid) flows.now }
+{
+    flows.iter().find(|flow| flow.sid == sid)
+}
+
+// The place of the flow with this SID.
+fn place_in(flows: &[Flow], sid: u16) -> Option<usize>
+    ensures { result ≡ position (λ f. f.sid == sid) flows.now }
+{
+    flows.iter().position(|flow| flow.sid == sid)
+}
+
+// The place of the first flow with a higher SID.
+fn place_above(flows: &[Flow], sid: u16) -> Option<usize>
+    ensures { result ≡ position (λ f. nat_lt sid f.sid) flows.now }
+{
+    flows.iter().position(|flow| sid < flow.sid)
+}
+
+impl Book {
+    /// A book for this channel, without flows.
+    pub fn open(alloc: Global, config: Checked) -> Result<Book, AllocError>
+        ensures config { IfOk result (λ book. book.config ≡ config) }
+        ensures empty { IfOk result (λ book. book.flows ≡ []) }
+    {
+        Ok(Book {
+            config,
+            flows: Vec::new(alloc),
+        })
+    }
+
+    /// The channel's configuration.
+    pub fn config(&self) -> &Checked
+        ensures value { result.now ≡ self.now.config }
+    {
+        &self.config
+    }
+
+    /// How many flows are live.
+    pub fn len(&self) -> usize
+        ensures value { result ≡ length self.now.flows }
+        ensures ascending { Ascend self.now.flows }
+    {
+        self.flows.len()
+    }
+
+    /// Whether no flow is live.
+    pub fn is_empty(&self) -> bool
+        ensures { result ≡ (length self.now.flows == 0) }
+    {
+        self.flows.is_empty()
+    }
+
+    /// The SID of a live flow by its place, from 0, in the order of SIDs.
+    pub fn sid_at(&self, index: usize) -> u16
+        requires { index < length self.now.flows }
+        ensures value { option_map (λ f. f.sid) (slice_get self.now.flows index) ≡ Some result }
+        ensures found { flow_of result self.now.flows ≡ slice_get self.now.flows index }
+    {
+        self.flows[index].sid
+    }
+
+    /// The parameters of the live flow with this SID, if there is one.
+    pub fn flow(&self, sid: u16) -> Option<FlowSpec>
+        ensures { result ≡ option_map (λ f. f.spec) (flow_of sid self.now.flows) }
+    {
+        match flow_in(&self.flows, sid) {
+            Some(flow) => Some(flow.spec),
+            None => None,
+        }
+    }
+
+    /// The bytes that a live flow asked.
+    pub fn asked(&self, sid: u16) -> u64
+        requires { IsLive sid self.now.flows }
+        ensures { IfSome (flow_of sid self.now.flows) (λ f. result ≡ f.asked) }
+    {
+        self.at(sid).asked
+    }
+
+    /// The bytes that a live flow asked and was not granted.
+    pub fn outstanding(&self, sid: u16) -> u64
+        requires { IsLive sid self.now.flows }
+        ensures { IfSome (flow_of sid self.now.flows) (λ f. result ≡ outstanding f) }
+    {
+        self.at(sid).outstanding()
+    }
+
+    /// Adds a flow that has asked and been granted nothing. No flow has its SID. Where memory runs out
+    /// nothing changes.
+    pub fn admit(&mut self, sid: u16, spec: FlowSpec) -> Result<(), AllocError>
+        requires { flow_of sid self.old.flows ≡ None }
+        ensures ok { OnOk result (self.new.flows ≡ with_flow (new_flow sid spec) self.old.flows) }
+        ensures err { OnErr result (self.new ≡ self.old) }
+        ensures config { self.new.config ≡ self.old.config }
+        ensures room { KeepsRoom self.old.rooms self.new.rooms }
+    {
+        let place = place_above(&self.flows, sid).unwrap_or(self.flows.len());
+        let flow = Flow {
+            sid,
+            spec,
+            asked: 0,
+            grants: Vec::new(*self.flows.allocator()),
+        };
+        self.flows.insert(place, flow)?;
+        Ok(())
+    }
+
+    /// Takes out a live flow, with what it asked and was granted.
+    pub fn remove(&mut self, sid: u16)
+        requires { IsLive sid self.old.flows }
+        ensures removed { self.new.flows ≡ without sid self.old.flows }
+        ensures config { self.new.config ≡ self.old.config }
+        ensures room { (other : ℕ) → other ≢ sid → room_of other self.new.rooms ≡ room_of other self.old.rooms }
+    {
+        self.flows.retain(|flow| flow.sid != sid);
+    }
+
+    /// Adds bytes to what a live flow asked. The sum fits a `u64`.
+    pub fn ask(&mut self, sid: u16, bytes: u32)
+        requires live { IsLive sid self.old.flows }
+        requires fits { IfSome (flow_of sid self.old.flows) (λ f. f.asked + bytes < 2 ^ 64) }
+        ensures { self.new ≡ record self.old { flows = changed sid (with_asked bytes) self.old.flows } }
+    {
+        let place = self.place(sid);
+        self.flows[place].asked += u64::from(bytes);
+    }
+
+    /// The most bytes of a data grant to a live flow at minislot `start`, in `room` minislots: at most
+    /// what is outstanding and the grant cap, under the rate ceiling, in a burst that fits. 0 where no
+    /// bytes may be granted. The flow's grants start at or before `start`.
+    pub fn most(&self, sid: u16, start: u64, room: u32) -> u32
+        requires live { IsLive sid self.now.flows }
+        requires started { IfSome (flow_of sid self.now.flows) (HasStartedBy start) }
+        ensures { IfSome (flow_of sid self.now.flows) (λ f. IsMost self.now.config f start room result) }
+    {
+        self.at(sid).most(&self.config, start, room)
+    }
+
+    /// The SID of the flow that a data grant at minislot `start`, with `room` minislots before what
+    /// comes next, goes to: of the flows that may take the quantum, or all that they wait for, the first
+    /// by rank from the highest, start of the last grant, none before any, and SID. `None` where no flow
+    /// may. All grants start at or before `start`.
+    pub fn eligible(&self, start: u64, room: u32) -> Option<u16>
+        requires { AllByRecursion (HasStartedBy start) self.now.flows }
+        ensures { IsNextSid self.now.config start room self.now.flows result }
+    {
+        match first_eligible(&self.flows, &self.config, start, room) {
+            Some(flow) => Some(flow.sid),
+            None => None,
+        }
+    }
+
+    /// Makes room for `grants` more grants of each live flow, so that as many calls of [`Book::grant`]
+    /// need no memory.
+    pub fn reserve(&mut self, grants: usize) -> Result<(), AllocError>
+        ensures room { OnOk result ((sid : ℕ) → IsLive sid self.new.flows → grants ≤ room_of sid self.new.rooms) }
+        ensures kept { KeepsRoom self.old.rooms self.new.rooms }
+        ensures same { self.new ≡ record self.old { rooms = self.new.rooms } }
+    {
+        reserve_each(&mut self.flows, grants)
+    }
+
+    /// Grants bytes to a live flow from minislot `start` on: at least 1, at most [`Book::most`] of some
+    /// room. Room for the grant was made by [`Book::reserve`], and the flow's grants start at or before
+    /// `start`.
+    pub fn grant(&mut self, sid: u16, start: u64, bytes: u32)
+        requires room { 0 < room_of sid self.old.rooms }
+        requires started { IfSome (flow_of sid self.old.flows) (HasStartedBy start) }
+        requires lawful { IsSomeAnd (flow_of sid self.old.flows) (λ f. MayGrant self.old.config f start (slots_for self.old.config bytes) bytes) }
+        ensures flows { self.new.flows ≡ changed sid (with_grant (record { start = start; bytes = bytes })) self.old.flows }
+        ensures config { self.new.config ≡ self.old.config }
+        ensures room { room_of sid self.new.rooms + 1 ≡ room_of sid self.old.rooms }
+        ensures other_room { (other : ℕ) → other ≢ sid → room_of other self.new.rooms ≡ room_of other self.old.rooms }
+    {
+        let place = self.place(sid);
+        self.flows[place]
+            .grants
+            .push_reserved(Grant { start, bytes });
+    }
+
+    /// Another book that shows the same configuration and flows. It has no room for grants that
+    /// isn't made by [`Book::reserve`].
+    pub fn copy(&self) -> Result<Book, AllocError>
+        ensures config { IfOk result (λ copy. copy.config ≡ self.now.config) }
+        ensures flows { IfOk result (λ copy. copy.flows ≡ self.now.flows) }
+    {
+        Ok(Book {
+            config: self.config,
+            flows: self.flows.clone()?,
+        })
+    }
+
+    // The live flow with this SID.
+    fn at(&self, sid: u16) -> &Flow
+        requires { IsLive sid self.now.flows }
+        ensures found { flow_of sid self.now.flows ≡ Some (live result.now) }
+        ensures sound { IsSoundFlow self.now.config (live result.now) }
+    {
+        match flow_in(&self.flows, sid) {
+            Some(flow) => flow,
+            None => unreachable!(),
+        }
+    }
+
+    // The place of the live flow with this SID.
+    fn place(&self, sid: u16) -> usize
+        requires { IsLive sid self.now.flows }
+        ensures { position (λ f. f.sid == sid) self.now.flows ≡ Some result }
+    {
+        match place_in(&self.flows, sid) {
+            Some(place) => place,
+            None => unreachable!(),
+        }
+    }
+}

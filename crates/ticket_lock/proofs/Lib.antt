@@ -1,0 +1,10 @@
+pub mod Sums
+pub mod Logs
+pub mod Views
+pub mod OneSeat
+pub mod Draw
+pub mod Look
+pub mod Leave
+pub mod Seats
+pub mod Tokens
+pub mod Gathered

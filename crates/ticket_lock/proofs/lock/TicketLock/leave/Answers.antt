@@ -1,0 +1,34 @@
+-- A leave keeps the rule of the table, and what callers learn of it.
+use Rattle.std.proofs.Common.{rules, ◌∙◌, None}
+use Rattle.ticket_lock.proofs.Tokens.{leaves_as, left_idle, left_as}
+use Rattle.ticket_lock.proofs.lock.TicketLock.leave.Goals as goal
+
+pub exchange-before-requires : goal.exchange-before-requires
+exchange-before-requires g c = record { table = search rules; held = (None, c.held.invariant.1) }
+
+pub fetch_add-requires : goal.fetch_add-requires
+fetch_add-requires g c =
+    let e = c.exchange-before.ensures in (
+      search rules,
+      search rules,
+      leaves_as g.T.Journal.head g.T.Journal.entries g.T.Journal.stamp c.held.inside.place.table_id c.held.inside.place.me.0
+          c.held.inside.number c.held.inside.ticket c.held.invariant.0 c.args.held c.held.view_is c.args.value c.requires.kept
+          c.exchange-before.new.place.me e.view e.put _ _ _,
+    )
+
+pub invariant_of-result : goal.invariant_of-result
+invariant_of-result g c =
+    let e = c.exchange-before.ensures in
+    left_idle g.T.Journal.head g.T.Journal.entries g.T.Journal.stamp c.held.inside.place.table_id c.held.inside.place.me.0
+    c.held.inside.number c.held.inside.ticket c.held.invariant.0 c.args.held c.held.view_is c.args.value c.requires.kept
+    c.exchange-before.new.place.me e.view e.put c.fetch_add.result c.fetch_add.new.seat.me c.fetch_add.ensures.2
+
+pub returns : goal.returns
+returns g c =
+    let e = c.exchange-before.ensures in
+    record {
+      left = left_as g.T.Journal.head g.T.Journal.entries g.T.Journal.stamp c.held.inside.place.table_id c.held.inside.place.me.0
+          c.held.inside.number c.held.inside.ticket c.held.invariant.0 c.args.held c.held.view_is c.args.value c.requires.kept
+          c.exchange-before.new.place.me e.view e.put c.fetch_add.result c.fetch_add.new.seat.me c.fetch_add.ensures.2
+          c.fetch_add.new.seat.table_id (c.fetch_add.ensures.0 ∙ e.same);
+    }

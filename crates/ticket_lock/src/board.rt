@@ -1,0 +1,70 @@
+//! The table that the seats of a lock share, and what a seat at it knows.
+//! Word 0 is the ticket that is drawn next, word 1 the one that is served, both modulo 2^64, and the slot
+//! has the value while no seat holds.
+use crate::journal::Journal;
+use atomic_table::{Seat, Shared, Table, TableRule};
+use std::alloc::Global;
+use std::collections::LinkedList;
+use std::snapshot::Snapshot;
+use ticket_core::SeatState;
+
+/// What a lock was opened about. No value of it is made.
+pub struct About<H, E> {
+    /// The head of the value, alone in a list.
+    pub head: LinkedList<H>,
+    /// The entries that the value had.
+    pub opening: LinkedList<E>,
+    /// How many seats were made.
+    pub seats: u64,
+    /// The first ticket.
+    pub first: u64,
+}
+
+/// An entry past the opening list, with its whole ticket. No value of it is made.
+pub struct Logged<E> {
+    pub entry: E,
+    pub ticket: u64,
+}
+
+/// A seat's number, with the entries past the opening list that it has seen. No value of it is made.
+pub struct Part<E> {
+    pub number: u64,
+    pub log: LinkedList<Logged<E>>,
+}
+
+/// What a seat at the table knows. No value of it is made.
+pub struct View<H, E> {
+    /// None in a seat that was joined to another.
+    pub about: Option<About<H, E>>,
+    /// One, but for the seat of the opening and the one that others were joined to.
+    pub parts: LinkedList<Part<E>>,
+    /// What the seat does, with its whole ticket.
+    pub state: SeatState,
+    pub draws: u64,
+    pub looks: u64,
+    pub leaves: u64,
+}
+
+/// What the table is told once.
+#[derive(Drop)]
+pub struct Key<T> {
+    pub value: Snapshot<T>,
+    pub seats: usize,
+    pub first: u64,
+}
+
+pub struct LockRule;
+
+impl<T: Journal> TableRule<Option<T>, View<T::Head, T::Entry>, Key<T>> for LockRule {
+    ghost use Rattle.ticket_lock.specs.Rule.{Ruled, about_of, first_view};
+
+    ghost holds = { λ key. Ruled T.head T.entries T.stamp (about_of T.head T.entries key) };
+
+    ghost first = { λ key. first_view (about_of T.head T.entries key) };
+}
+
+pub type Board<T: Journal> = Table<Option<T>, View<T::Head, T::Entry>, Key<T>, LockRule, Global>;
+
+pub type Steps<T: Journal> = Shared<Option<T>, View<T::Head, T::Entry>, Key<T>, LockRule>;
+
+pub type Place<T: Journal> = Seat<Option<T>, View<T::Head, T::Entry>>;

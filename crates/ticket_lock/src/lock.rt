@@ -1,0 +1,127 @@
+//! The lock, and the calls by which a seat draws, enters and leaves.
+ghost use Rattle.std.specs.Prelude.{◌≡◌, ◌+◌, ℕ, Option, [], ◌∷◌, IfOk, IfErr};
+ghost use Rattle.ticket_lock.specs.Calls.{Draws, Enters, MayLeave, Leaves};
+
+use crate::board::{Board, Place, Steps};
+use crate::journal::Journal;
+use crate::plays::{Draw, Leave, Look};
+use crate::seat::{Held, Seat, Ticket};
+use std::marker::Model;
+use std::sync::Wait;
+use std::thread;
+
+/// A value that one seat at a time holds, in the order of their tickets. Threads share it by a reference.
+pub struct TicketLock<T: Journal> {
+    pub(crate) table: Board<T>,
+}
+
+// Clauses see which lock it is, and what it was opened about.
+impl<T: Journal> Model for TicketLock<T> {
+    ghost use Rattle.std.specs.Prelude.{◌≡◌, ◌≤◌, Some};
+    ghost use Rattle.ticket_lock.specs.Rule.{about_of};
+    ghost use Rattle.ticket_lock.specs.Standing.{Lock};
+
+    ghost Value = { Lock T.Head T.Entry };
+
+    ghost view = { λ l. record {
+      table = l.table.shared.table_id;
+      about = Some (about_of T.head T.entries l.table.shared.key);
+    } };
+
+    ghost invariant = { λ l. (l.table.shared.table_id.words ≡ 2)
+        × (l.table.shared.table_id.slots ≡ 1) × (1 ≤ l.table.shared.key.seats) };
+}
+
+/// Puts a value into the slot that the seat holds, and gives the one that was there.
+fn exchange<T: Journal>(steps: &Steps<T>, place: &mut Place<T>, value: Option<T>) -> Option<T>
+    requires table { place.old.table_id ≡ steps.now.table_id }
+    requires held { (old : Option T) × (place.old.me.1 ≡ (0, old) ∷ []) }
+    ensures same { place.new.table_id ≡ place.old.table_id }
+    ensures view { place.new.me.0 ≡ place.old.me.0 }
+    ensures put { place.new.me.1 ≡ (0, value) ∷ [] }
+    ensures taken { place.old.me.1 ≡ (0, result) ∷ [] }
+{
+    steps.exchange(place, 0, value)
+}
+
+impl<T: Journal> TicketLock<T> {
+    /// Draws the next ticket. It takes no memory and waits for nobody.
+    pub fn draw(&self, seat: Seat<T>) -> Ticket<T>
+        requires own { seat.lock ≡ self.now }
+        ensures drawn { Draws T.stamp seat result }
+    {
+        let Seat { number, mut place } = seat;
+        let ticket = self.table.shared.fetch_add::<Draw>(&mut place, 0, 1);
+        Ticket {
+            number,
+            ticket,
+            place,
+        }
+    }
+
+    /// Enters if the ticket is served, and gives it back if it is not. One look, no memory, no wait.
+    pub fn try_enter(&self, ticket: Ticket<T>) -> Result<(Held<T>, T), Ticket<T>>
+        requires own { ticket.lock ≡ self.now }
+        ensures entered { IfOk result (λ r. Enters T.stamp T.head T.entries ticket r.0 r.1) }
+        ensures given_back { IfErr result (λ t. t ≡ record ticket { looks = ticket.looks + 1 }) }
+    {
+        let Ticket {
+            number,
+            ticket: own,
+            mut place,
+        } = ticket;
+        let steps = &self.table.shared;
+        let served = steps.load::<Look>(&mut place, 1);
+        if served != own {
+            return Err(Ticket {
+                number,
+                ticket: own,
+                place,
+            });
+        }
+        let found = exchange(steps, &mut place, None);
+        let Some(value) = found else { unreachable!() };
+        let held = Held {
+            number,
+            ticket: own,
+            place,
+        };
+        Ok((held, value))
+    }
+
+    /// Looks until the ticket is served, and enters.
+    pub fn enter<R: Wait>(&self, rt: &R, ticket: Ticket<T>) -> (Held<T>, T)
+        requires own { ticket.lock ≡ self.now }
+        ensures entered { Enters T.stamp T.head T.entries ticket result.0 result.1 }
+    {
+        let mut waiting = ticket;
+        for _ in rt.forever() {
+            match self.try_enter(waiting) {
+                Ok(entered) => return entered,
+                Err(back) => waiting = back,
+            }
+            thread::yield_now();
+        }
+        unreachable!()
+    }
+
+    /// Gives the value back and serves the next ticket. The value has the head with which it was handed out, and its
+    /// list is the one handed out, or that and one entry with the holder's stamp. It takes no memory and
+    /// waits for nobody.
+    pub fn leave(&self, held: Held<T>, value: T) -> Seat<T>
+        requires own { held.lock ≡ self.now }
+        requires kept { MayLeave T.stamp T.head T.entries held value }
+        ensures left { Leaves T.stamp T.head T.entries held value result }
+    {
+        let Held {
+            number,
+            ticket: _,
+            mut place,
+        } = held;
+        let steps = &self.table.shared;
+        let before = exchange(steps, &mut place, Some(value));
+        let None = before else { unreachable!() };
+        steps.fetch_add::<Leave>(&mut place, 1, 1);
+        Seat { number, place }
+    }
+}

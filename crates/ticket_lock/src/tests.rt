@@ -1,0 +1,295 @@
+//! A vector of stamps under the lock.
+ghost use Rattle.std.specs.Prelude.{◌≡◌, ◌≤◌, ◌<◌, ◌+◌, map, length, Some, IfSome};
+ghost use Rattle.std.specs.List.{range_with_len};
+ghost use Rattle.minislots.specs.declared.stamp.Stamp.{Stamp};
+ghost use Rattle.ticket_lock.specs.declared.tests.Stamps.{Stamps};
+ghost use Rattle.ticket_lock.specs.Rule.{Every};
+ghost use Rattle.ticket_lock.specs.Standing.{seats_of, head_of, seen};
+ghost use Rattle.ticket_lock.specs.Calls.{new_standing, Enters, Leaves};
+
+use super::{Held, Journal, LockFault, Seat, Ticket, TicketLock};
+use minislots::Stamp;
+use std::alloc::Global;
+use std::process::Abort;
+use std::sync::Wait;
+use std::test::Fail;
+use std::thread;
+use std::thread::Threads;
+
+const LAST: u64 = 18446744073709551615;
+
+/// The journal of the tests: its entries are stamps, and its head says nothing.
+#[derive(Drop)]
+struct Stamps {
+    list: Vec<Stamp>,
+}
+
+impl Journal for Stamps {
+    type Head = ();
+
+    type Entry = Stamp;
+
+    ghost head = { λ _. tt };
+
+    ghost entries = { λ s. s.list.items };
+
+    ghost stamp = { λ e. e };
+
+    fn len(&self) -> usize {
+        self.list.len()
+    }
+
+    fn stamp_at(&self, i: usize) -> Option<Stamp> {
+        self.list.get(i).copied()
+    }
+}
+
+/// Adds an entry of this holder, or nothing, and leaves.
+fn end_turn(lock: &TicketLock<Stamps>, held: Held<Stamps>, value: Stamps, add: bool) -> Seat<Stamps>
+    requires own { held.lock ≡ lock.now }
+    requires seen { value.list.items ≡ seen held }
+    requires head { head_of held.lock ≡ Some tt }
+    ensures own { result.lock ≡ lock.now }
+{
+    let mut value = value;
+    if add {
+        let stamp = held.stamp();
+        match value.list.push(stamp) {
+            Ok(()) => {}
+            Err(_) => {}
+        }
+    }
+    lock.leave(held, value)
+}
+
+/// A lock with two seats and an empty list.
+fn pair(
+    rt: &impl Abort,
+    alloc: Global,
+    first: u64,
+) -> (TicketLock<Stamps>, Seat<Stamps>, Seat<Stamps>)
+    ensures zero { result.1 ≡ new_standing result.0 0 }
+    ensures one { result.2 ≡ new_standing result.0 1 }
+    ensures count { seats_of result.0 ≡ 2 }
+    ensures head { head_of result.0 ≡ Some tt }
+{
+    let empty = Stamps {
+        list: Vec::new(alloc),
+    };
+    let Ok((lock, mut seats)) = TicketLock::open(alloc, empty, 2, first) else {
+        panic!(rt; "no memory")
+    };
+    let one = seats.pop();
+    let zero = seats.pop();
+    let (Some(zero), Some(one)) = (zero, one) else {
+        unreachable!()
+    };
+    seats.destroy_empty();
+    (lock, zero, one)
+}
+
+/// Closes a lock with two seats, and gives its list.
+fn close_pair(
+    rt: &impl Abort,
+    alloc: Global,
+    lock: TicketLock<Stamps>,
+    zero: Seat<Stamps>,
+    one: Seat<Stamps>,
+) -> Vec<Stamp>
+    requires zero { zero.lock ≡ lock }
+    requires one { one.lock ≡ lock }
+    requires count { seats_of lock ≡ 2 }
+{
+    let Ok(mut seats) = Vec::with_capacity(alloc, 2) else {
+        panic!(rt; "no memory")
+    };
+    seats.push_reserved(zero);
+    seats.push_reserved(one);
+    let Stamps { list } = lock.close(seats);
+    list
+}
+
+/// The ticket is not served yet.
+fn turned_away(rt: &impl Abort, lock: &TicketLock<Stamps>, ticket: Ticket<Stamps>) -> Ticket<Stamps>
+    requires own { ticket.lock ≡ lock.now }
+    ensures same { result ≡ record ticket { looks = ticket.looks + 1 } }
+{
+    match lock.try_enter(ticket) {
+        Ok(_entered) => panic!(rt; "the ticket is not served"),
+        Err(back) => back,
+    }
+}
+
+/// The ticket is served.
+fn let_in(
+    rt: &impl Abort,
+    lock: &TicketLock<Stamps>,
+    ticket: Ticket<Stamps>,
+) -> (Held<Stamps>, Stamps)
+    requires own { ticket.lock ≡ lock.now }
+    ensures entered { Enters (λ (e : Stamp). e) (λ _. tt) (λ (s : Stamps). s.list.items) ticket result.0 result.1 }
+{
+    match lock.try_enter(ticket) {
+        Ok(entered) => entered,
+        Err(_back) => panic!(rt; "the ticket is served"),
+    }
+}
+
+/// Two seats draw, the second is turned away until the first has left, and only the second adds an entry.
+fn turns(rt: &impl Abort, alloc: Global, first: u64) {
+    let (lock, zero, one) = pair(rt, alloc, first);
+    let zero = lock.draw(zero);
+    let one = lock.draw(one);
+    let next = first.wrapping_add(1);
+    assert_eq!(rt; (zero.number(), one.number()), (first, next));
+    let one = turned_away(rt, &lock, one);
+    let (held, value) = let_in(rt, &lock, zero);
+    assert_eq!(rt;
+        held.stamp(),
+        Stamp {
+            seat: 0,
+            ticket: first
+        }
+    );
+    assert_eq!(rt; value.len(), 0);
+    let zero = end_turn(&lock, held, value, false);
+    let (held, value) = let_in(rt, &lock, one);
+    let one = end_turn(&lock, held, value, true);
+    assert_eq!(rt; (zero.number(), one.number()), (0, 1));
+    let list = close_pair(rt, alloc, lock, zero, one);
+    assert_eq!(rt;
+        list.as_slice(),
+        [Stamp {
+            seat: 1,
+            ticket: next
+        }]
+        .as_slice()
+    );
+}
+
+#[test]
+fn seats_enter_in_the_order_of_their_tickets(rt: HostRuntime) {
+    for first in [0, LAST] {
+        turns(&rt, rt.alloc(), first);
+    }
+}
+
+/// A journal with one entry.
+fn one_entry(rt: &impl Abort, alloc: Global) -> Stamps {
+    let mut list = Vec::new(alloc);
+    let made = Stamp { seat: 9, ticket: 7 };
+    assert!(rt; list.push(made).is_ok(), "no memory");
+    Stamps { list }
+}
+
+/// The fault of an opening with this many seats, and the value that came back.
+fn refused(rt: &impl Abort, alloc: Global, seats: usize) -> (LockFault, Stamps) {
+    match TicketLock::open(alloc, one_entry(rt, alloc), seats, 0) {
+        Ok(_opened) => panic!(rt; "{seats} seats are too few or too many"),
+        Err(fault) => fault,
+    }
+}
+
+/// How many seats an opening gave, and the value at the close.
+fn opened_and_closed(rt: &impl Abort, alloc: Global, seats: usize) -> (usize, Stamps) {
+    let Ok((lock, row)) = TicketLock::open(alloc, one_entry(rt, alloc), seats, 0) else {
+        panic!(rt; "{seats} seats are allowed")
+    };
+    (row.len(), lock.close(row))
+}
+
+#[test]
+fn a_lock_has_one_to_64_seats(rt: HostRuntime) {
+    let entry = Some(Stamp { seat: 9, ticket: 7 });
+    for seats in [0, 65] {
+        let (fault, back) = refused(&rt, rt.alloc(), seats);
+        assert_eq!(rt; fault, LockFault::SeatCount, "{seats} seats");
+        assert_eq!(rt; (back.len(), back.stamp_at(0)), (1, entry), "{seats} seats");
+    }
+    for seats in [1, 64] {
+        let (count, back) = opened_and_closed(&rt, rt.alloc(), seats);
+        assert_eq!(rt; count, seats);
+        assert_eq!(rt; (back.len(), back.stamp_at(0)), (1, entry), "{seats} seats");
+    }
+}
+
+/// How many turns each thread takes.
+const TURNS: u64 = 1000;
+
+/// Takes turns, each with an entry.
+fn take_turns<R: Wait>(rt: &R, lock: &TicketLock<Stamps>, seat: Seat<Stamps>) -> Seat<Stamps>
+    requires own { seat.lock ≡ lock.now }
+    requires head { head_of lock.now ≡ Some tt }
+    ensures own { result.lock ≡ lock.now }
+{
+    let mut seat = seat;
+    for _ in 0..TURNS {
+        let ticket = lock.draw(seat);
+        let (held, value) = lock.enter(rt, ticket);
+        seat = end_turn(lock, held, value, true);
+    }
+    seat
+}
+
+/// Takes turns by both seats, in two threads.
+fn race<R: Threads + Wait + Sync>(
+    rt: &R,
+    lock: &TicketLock<Stamps>,
+    zero: Seat<Stamps>,
+    one: Seat<Stamps>,
+) -> (Seat<Stamps>, Seat<Stamps>)
+    requires zero { zero.lock ≡ lock.now }
+    requires one { one.lock ≡ lock.now }
+    requires head { head_of lock.now ≡ Some tt }
+    ensures zero { result.0.lock ≡ lock.now }
+    ensures one { result.1.lock ≡ lock.now }
+{
+    thread::join(
+        rt,
+        move || -> Seat<Stamps>
+            requires own { zero.lock ≡ lock.now }
+            requires head { head_of lock.now ≡ Some tt }
+            ensures own { result.lock ≡ lock.entry.now }
+        { take_turns(rt, lock, zero) },
+        move || -> Seat<Stamps>
+            requires own { one.lock ≡ lock.now }
+            requires head { head_of lock.now ≡ Some tt }
+            ensures own { result.lock ≡ lock.entry.now }
+        { take_turns(rt, lock, one) },
+    )
+}
+
+/// How many entries of the list, at place i, have another ticket than i.
+fn out_of_order(list: &[Stamp]) -> u64 {
+    let mut wrong = 0u64;
+    for (i, stamp) in list.iter().enumerate() {
+        if stamp.ticket != i as u64 {
+            wrong = wrong.wrapping_add(1);
+        }
+    }
+    wrong
+}
+
+/// How many entries of the list the second seat made.
+fn of_second(list: &[Stamp]) -> u64 {
+    let mut count = 0u64;
+    for stamp in list {
+        if stamp.seat == 1 {
+            count = count.wrapping_add(1);
+        }
+    }
+    count
+}
+
+#[test]
+fn entries_of_two_threads_stand_once_in_ticket_order(rt: HostRuntime) {
+    let (lock, zero, one) = pair(&rt, rt.alloc(), 0);
+    let (zero, one) = race(&rt, &lock, zero, one);
+    let list = close_pair(&rt, rt.alloc(), lock, zero, one);
+    let found = (
+        list.len(),
+        out_of_order(list.as_slice()),
+        of_second(list.as_slice()),
+    );
+    assert_eq!(rt; found, (2000, 0, TURNS));
+}
