@@ -144,6 +144,10 @@ fn equal_flows_take_turns(rt: HostRuntime) -> Result<(), Fail> {
     assert_eq!(rt; copy.eligible(924, 36), Some(20), "the older grant");
     assert_eq!(rt; copy.most(20, 924, 36), 456, "the rest");
     assert_eq!(rt; copy.eligible(955, 5), None, "the quantum has 6 minislots");
-    assert_eq!(rt; book.outstanding(21), 1_000, "the copy alone was granted to");
+    assert_eq!(rt;
+        book.outstanding(21),
+        1_000,
+        "the copy alone was granted to"
+    );
     Ok(())
 }
