@@ -152,6 +152,23 @@ fn refusals_have_their_numbers_and_values(rt: HostRuntime) -> Result<(), Fail> {
 }
 
 #[test]
+fn an_sid_above_the_greatest_is_a_refusal(rt: HostRuntime) -> Result<(), Fail> {
+    let alloc = rt.alloc();
+    let calls = [Line::Admit, Line::Build(760), Line::Ask(100, 801)];
+    let text = script(alloc, &[], &calls)?;
+    let text = text.as_str().replace(
+        alloc,
+        "\"receiver\":0,\"sid\":17",
+        "\"receiver\":0,\"sid\":8192",
+    )?;
+    let written = output(alloc, text.as_str())?;
+    let wanted =
+        "admitted\nmap 03010300000003200000032000000000fffc4000000180040001c028\nrefused 1\n";
+    assert_eq!(rt; written.as_slice(), wanted.as_bytes());
+    Ok(())
+}
+
+#[test]
 fn a_build_at_the_last_minislot_ahead_is_accepted(rt: HostRuntime) -> Result<(), Fail> {
     let written = lines(rt.alloc(), &[("start", 5000)], &[Line::Build(944)])?;
     let wanted = "map 03010300000013880000138800000000fffc4000000180040001c028\n";
