@@ -1,5 +1,6 @@
 -- A draw keeps the rule, and is the core's.
-use Rattle.std.proofs.Common.{◌≡◌, ◌≢◌, ℕ, ◌+◌, ◌%◌, ◌^◌, ◌<◌, List, [], ◌∷◌, get_or, set, Option, Some, refl, sym, ap, ◌∙◌, subst, ⊎_elim, arith, length-set}
+use Rattle.std.proofs.Common.{◌≡◌, ◌≢◌, ℕ, ◌+◌, ◌%◌, ◌^◌, ◌<◌, List, [], ◌∷◌, get_or, set, Option, Some, refl, sym, ap, ◌∙◌, subst}
+use Rattle.std.proofs.Common.{⊎_elim, arith, length-set}
 use Rattle.std.specs.Prelude.{slice_index}
 use Rattle.std.proofs.Math.Nat.{mod-add-mod}
 use Rattle.std.proofs.lemmas.List.{get_or-set_same, get_or-set_other}
@@ -38,7 +39,8 @@ module _ {T H E : Type 0} (head : T → H) (entries : T → List E) (stamp : E �
   -- who holds after a draw held before
   held_before : (j t : ℕ) → Holds (drawn_world w p.number) j t → Holds w j t
   held_before j t h = ⊎_elim
-      (λ (c : (j ≡ p.number) × (get_or (set w.seats p.number (Waiting w.next)) j Idle ≡ Waiting w.next)). let e : Waiting w.next ≡ Holding t = sym c.1 ∙ h in absurd (cc))
+      (λ (c : (j ≡ p.number) × (get_or (set w.seats p.number (Waiting w.next)) j Idle ≡ Waiting w.next)).
+      let e : Waiting w.next ≡ Holding t = sym c.1 ∙ h in absurd (cc))
       (λ (c : (j ≢ p.number) × (get_or (set w.seats p.number (Waiting w.next)) j Idle ≡ get_or w.seats j Idle)). sym c.1 ∙ h)
       (get_or-set_cases w.seats p.number (Waiting w.next) part.exists j)
 
@@ -62,7 +64,11 @@ module _ {T H E : Type 0} (head : T → H) (entries : T → List E) (stamp : E �
   -- the table after the draw stands for the core's world after it
   pub draw_is_the_cores : (world_after w p.number Draw ≡ Some (drawn_world w p.number))
       × Stands head entries stamp a (drawn_world w p.number) log
-      record { words = set s.words 0 ((slice_index s.words 0 + 1) % 2 ^ 64); homes = s.homes; views = set s.views id (drawn_view v w.next) }
+      record {
+        words = set s.words 0 ((slice_index s.words 0 + 1) % 2 ^ 64);
+        homes = s.homes;
+        views = set s.views id (drawn_view v w.next);
+      }
   draw_is_the_cores = (
     world_after-draw w p.number part.exists is_idle,
     stands_after head entries stamp a w log s r id v at p only (drawn_world w p.number) log _ s.homes (drawn_view v w.next)
@@ -74,7 +80,8 @@ module _ {T H E : Type 0} (head : T → H) (entries : T → List E) (stamp : E �
         (λ j n. get_or-set_other w.seats p.number j (Waiting w.next) Idle n)
         (λ j seen n e. e)
         (λ j t n h. refl)
-        (subst (λ (ps : List (Part E)). Every (λ q. (v.about ≡ Some a) × PartStands head entries stamp a (drawn_world w p.number) log (Waiting w.next) q) ps)
+        (subst (λ (ps : List (Part E)). Every
+        (λ q. (v.about ≡ Some a) × PartStands head entries stamp a (drawn_world w p.number) log (Waiting w.next) q) ps)
         (sym only) (((own_part head entries stamp a w log s r id v at p only).0, part_drawn), tt))
         (λ free. r.home (λ k t h. free k t (held_after k t h)))
         (λ k t h. r.out k t (held_before k t h)),
@@ -95,6 +102,7 @@ draws head entries stamp a slots id v c p only idle s (w, log, r) deep at fits =
     mine.0,
     ap (λ (ws : List ℕ). slice_index ws 0) r.words,
     refl,
-    IsOrdered-seen stamp a.first a.seats q.number q.log log w.next mine.1.seen (IsOrdered-wider stamp a.first a.seats log w.served w.next (omega (arith, r.lawful.counted)) r.ordered),
+    IsOrdered-seen stamp a.first a.seats q.number q.log log w.next mine.1.seen
+        (IsOrdered-wider stamp a.first a.seats log w.served w.next (omega (arith, r.lawful.counted)) r.ordered),
   ),
 )

@@ -1,5 +1,6 @@
 -- A leave keeps the rule, and is the core's.
-use Rattle.std.proofs.Common.{◌≡◌, ◌≢◌, ℕ, ◌+◌, ◌%◌, ◌^◌, ◌<◌, List, [], ◌∷◌, ◌++◌, map, length, get_or, set, Option, Some, None, refl, sym, ap, ◌∙◌, subst, ⊎_elim, arith, length-set}
+use Rattle.std.proofs.Common.{◌≡◌, ◌≢◌, ℕ, ◌+◌, ◌%◌, ◌^◌, ◌<◌, List, [], ◌∷◌, ◌++◌, map, length, get_or, set, Option, Some, None, refl}
+use Rattle.std.proofs.Common.{sym, ap, ◌∙◌, subst, ⊎_elim, arith, length-set}
 use Rattle.std.specs.Prelude.{slice_index}
 use Rattle.std.proofs.Math.Nat.{mod-add-mod}
 use Rattle.std.proofs.lemmas.List.{get_or-set_same, get_or-set_other, append-nil}
@@ -44,10 +45,12 @@ module _ {E : Type 0} (stamp : E → Stamp) (number t : ℕ) where
       added
 
   -- it is in order behind a log that is in order
-  pub IsOrdered-added : (first seats : ℕ) (log more : List (Logged E)) → number < seats → IsOrdered stamp first seats log t → IsAdded stamp number t more
+  pub IsOrdered-added : (first seats : ℕ) (log more : List (Logged E)) → number < seats → IsOrdered stamp first seats log t
+      → IsAdded stamp number t more
       → IsOrdered stamp first seats (log ++ more) (t + 1)
   IsOrdered-added first seats log more exists o added = ⊎_elim
-      (λ (e : more ≡ []). subst (λ (l : List (Logged E)). IsOrdered stamp first seats l (t + 1)) (sym (append-nil log) ∙ ap (λ (l : List (Logged E)). log ++ l) (sym e))
+      (λ (e : more ≡ []). subst (λ (l : List (Logged E)). IsOrdered stamp first seats l (t + 1))
+      (sym (append-nil log) ∙ ap (λ (l : List (Logged E)). log ++ l) (sym e))
       (IsOrdered-wider stamp first seats log t (t + 1) (omega arith) o))
       (λ (d : (e : E) × (more ≡ record { entry = e; ticket = t } ∷ []) × (stamp e ≡ record { seat = number; ticket = t % 2 ^ 64 })).
       subst (λ (l : List (Logged E)). IsOrdered stamp first seats (log ++ l) (t + 1)) (sym d.1)
@@ -57,7 +60,8 @@ module _ {E : Type 0} (stamp : E → Stamp) (number t : ℕ) where
 
 module _ {T H E : Type 0} (head : T → H) (entries : T → List E) (stamp : E → Stamp) (a : About H E)
     (w : LockWorld) (log : List (Logged E)) (s : State (Option T) (View H E)) (r : Stands head entries stamp a w log s)
-    (id : ℕ) (v : View H E) (at : get_elem? s.views id ≡ some v) (p : Part E) (only : v.parts ≡ p ∷ []) (t : ℕ) (holding : v.state ≡ Holding t)
+    (id : ℕ) (v : View H E) (at : get_elem? s.views id ≡ some v) (p : Part E) (only : v.parts ≡ p ∷ []) (t : ℕ)
+    (holding : v.state ≡ Holding t)
     (x : T) (may : MayPut stamp head entries v.about p t x) where
   mine : (v.about ≡ Some a) × PartStands head entries stamp a w log v.state p
   mine = own_part head entries stamp a w log s r id v at p only
@@ -107,18 +111,25 @@ module _ {T H E : Type 0} (head : T → H) (entries : T → List E) (stamp : E �
   part_left = record {
     exists = subst (λ (n : ℕ). p.number < n) (sym (length-set w.seats p.number Idle)) mine.1.exists;
     state_is = get_or-set_same w.seats p.number Idle Idle mine.1.exists;
-    seen = subst (λ (l : List (Logged E)). Extends stamp p.number (l ++ added) (log ++ added)) (sym all_seen) (Extends-self stamp p.number (log ++ added));
+    seen = subst (λ (l : List (Logged E)). Extends stamp p.number (l ++ added) (log ++ added)) (sym all_seen)
+        (Extends-self stamp p.number (log ++ added));
     holds = λ u e. absurd (cc);
   }
 
   -- the table after the leave stands for the core's world after it
   pub leave_is_the_cores : (world_after w p.number Leave ≡ Some (left_world w p.number))
       × Stands head entries stamp a (left_world w p.number) (log ++ added)
-      record { words = set s.words 1 ((slice_index s.words 1 + 1) % 2 ^ 64); homes = set s.homes 0 (some (Some x)); views = set s.views id (left_view v p added) }
+      record {
+        words = set s.words 1 ((slice_index s.words 1 + 1) % 2 ^ 64);
+        homes = set s.homes 0 (some (Some x));
+        views = set s.views id (left_view v p added);
+      }
   leave_is_the_cores =
-      let filled : set s.homes 0 (some (Some x)) ≡ some (Some x) ∷ [] = ap (λ hs. set hs 0 (some (Some x))) (r.out p.number t is_holding) in (
+      let filled : set s.homes 0 (some (Some x)) ≡ some (Some x) ∷ [] = ap (λ hs. set hs 0 (some (Some x)))
+      (r.out p.number t is_holding) in (
         world_after-leave w p.number mine.1.exists t is_holding,
-        stands_after head entries stamp a w log s r id v at p only (left_world w p.number) (log ++ added) _ (set s.homes 0 (some (Some x))) (left_view v p added)
+        stands_after head entries stamp a w log s r id v at p only (left_world w p.number) (log ++ added) _
+            (set s.homes 0 (some (Some x))) (left_view v p added)
             (IsLawful-leave w p.number r.lawful mine.1.exists t is_holding)
             (length-set w.seats p.number Idle)
             (ap (λ (ws : List ℕ). set ws 1 ((slice_index ws 1 + 1) % 2 ^ 64)) r.words
@@ -136,9 +147,11 @@ module _ {T H E : Type 0} (head : T → H) (entries : T → List E) (stamp : E �
       )
 
 module _ {T H E : Type 0} (head : T → H) (entries : T → List E) (stamp : E → Stamp) (a : About H E)
-    (slots id : ℕ) (v : View H E) (p : Part E) (t : ℕ) (x : T) (only : v.parts ≡ p ∷ []) (holding : v.state ≡ Holding t) (may : MayPut stamp head entries v.about p t x) where
+    (slots id : ℕ) (v : View H E) (p : Part E) (t : ℕ) (x : T) (only : v.parts ≡ p ∷ []) (holding : v.state ≡ Holding t)
+    (may : MayPut stamp head entries v.about p t x) where
   -- what the table asks of a leave, with the value in the slot
-  leaves_with : Allows (Ruled head entries stamp a) slots id (v, (0, Some x) ∷ []) 1 (λ n. (n + 1) % 2 ^ 64) (Left stamp head entries (step 0 0 0 0 none) (v, (0, Some x) ∷ []))
+  leaves_with : Allows (Ruled head entries stamp a) slots id (v, (0, Some x) ∷ []) 1 (λ n. (n + 1) % 2 ^ 64)
+      (Left stamp head entries (step 0 0 0 0 none) (v, (0, Some x) ∷ []))
   leaves_with s (w, log, r) deep at fits =
       let mine = own_part head entries stamp a w log s r id v at p only in
       let more = may.1.0 in (
@@ -155,7 +168,8 @@ module _ {T H E : Type 0} (head : T → H) (entries : T → List E) (stamp : E �
             let back = put_back_is head entries stamp a w log s r id v at p only t holding x may in
             let ordered = ordered_after head entries stamp a w log s r id v at p only t holding x may in
             subst (λ (z : Part E × (ℕ × T)).
-            (b : About H E) × (v.about ≡ Some b) × (m : List (Logged E)) × (◌≡◌ {A = Me (Option T) (View H E)} (left_view v p more, []) (left_view v z.0 m, []))
+            (b : About H E) × (v.about ≡ Some b) × (m : List (Logged E))
+            × (◌≡◌ {A = Me (Option T) (View H E)} (left_view v p more, []) (left_view v z.0 m, []))
             × (entries z.1.1 ≡ b.opening ++ map entry_of (z.0.log ++ m)) × IsAdded stamp z.0.number z.1.0 m
             × IsOrdered stamp b.first b.seats (z.0.log ++ m) (z.1.0 + 1)) (λ i. (same_p i, (same_t i, same_x i))) (
               a,
@@ -164,11 +178,13 @@ module _ {T H E : Type 0} (head : T → H) (entries : T → List E) (stamp : E �
               refl,
               subst (λ (l : List (Logged E)). entries x ≡ a.opening ++ map entry_of (l ++ more)) (sym all_seen) back.1,
               may.1.2,
-              subst (λ (y : List (Logged E) × ℕ). IsOrdered stamp a.first a.seats (y.0 ++ more) (y.1 + 1)) (λ i. (sym all_seen i, sym served i)) ordered,
+              subst (λ (y : List (Logged E) × ℕ). IsOrdered stamp a.first a.seats (y.0 ++ more) (y.1 + 1))
+                  (λ i. (sym all_seen i, sym served i)) ordered,
             ),
       )
 
   -- what the table asks of a leave
   pub leaves : (c : List (ℕ × Option T)) → c ≡ (0, Some x) ∷ []
       → Allows (Ruled head entries stamp a) slots id (v, c) 1 (λ n. (n + 1) % 2 ^ 64) (Left stamp head entries (step 0 0 0 0 none) (v, c))
-  leaves c e = subst (λ (d : List (ℕ × Option T)). Allows (Ruled head entries stamp a) slots id (v, d) 1 (λ n. (n + 1) % 2 ^ 64) (Left stamp head entries (step 0 0 0 0 none) (v, d))) (sym e) leaves_with
+  leaves c e = subst (λ (d : List (ℕ × Option T)). Allows (Ruled head entries stamp a) slots id (v, d) 1 (λ n. (n + 1) % 2 ^ 64)
+      (Left stamp head entries (step 0 0 0 0 none) (v, d))) (sym e) leaves_with

@@ -5,6 +5,9 @@ pub mod OneSeat
 pub mod Draw
 pub mod Look
 pub mod Leave
-pub mod Seats
+pub mod Parts
+pub mod Dealt
+pub mod Opened
+pub mod Numbers
 pub mod Tokens
 pub mod Gathered

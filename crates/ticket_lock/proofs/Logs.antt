@@ -30,7 +30,8 @@ module _ {E : Type 0} where
   Ascends-wider from (x ∷ xs) below wide h a = (a.0, Ascends-wider (x.ticket + 1) xs below wide h a.1)
 
   -- the bound itself may come next
-  pub Ascends-push : (from : ℕ) (xs : List (Logged E)) (x : Logged E) → Ascends from xs x.ticket → Ascends from (xs ++ x ∷ []) (x.ticket + 1)
+  pub Ascends-push : (from : ℕ) (xs : List (Logged E)) (x : Logged E) → Ascends from xs x.ticket
+      → Ascends from (xs ++ x ∷ []) (x.ticket + 1)
   Ascends-push from [] x a = (a, omega arith)
   Ascends-push from (y ∷ xs) x a = (a.0, Ascends-push (y.ticket + 1) xs x a.1)
 
@@ -41,11 +42,13 @@ module _ {E : Type 0} where
 
 module _ {E : Type 0} (stamp : E → Stamp) (first seats : ℕ) where
   -- the front of an ordered log is ordered
-  pub IsOrdered-front : (xs ys : List (Logged E)) (below : ℕ) → IsOrdered stamp first seats (xs ++ ys) below → IsOrdered stamp first seats xs below
+  pub IsOrdered-front : (xs ys : List (Logged E)) (below : ℕ) → IsOrdered stamp first seats (xs ++ ys) below
+      → IsOrdered stamp first seats xs below
   IsOrdered-front xs ys below o = (Ascends-front first xs ys below o.0, Every-front (IsStamped stamp seats) xs ys o.1)
 
   -- an ordered log is ordered below a greater ticket
-  pub IsOrdered-wider : (xs : List (Logged E)) (below wide : ℕ) → below ≤ wide → IsOrdered stamp first seats xs below → IsOrdered stamp first seats xs wide
+  pub IsOrdered-wider : (xs : List (Logged E)) (below wide : ℕ) → below ≤ wide → IsOrdered stamp first seats xs below
+      → IsOrdered stamp first seats xs wide
   IsOrdered-wider xs below wide h o = (Ascends-wider first xs below wide h o.0, o.1)
 
   -- a log with an entry of the bound behind it is ordered
@@ -54,7 +57,8 @@ module _ {E : Type 0} (stamp : E → Stamp) (first seats : ℕ) where
   IsOrdered-push xs x o is = (Ascends-push first xs x o.0, Every-append (IsStamped stamp seats) xs (x ∷ []) o.1 (is, tt))
 
   -- what was seen of an ordered log is ordered
-  pub IsOrdered-seen : (number : ℕ) (seen log : List (Logged E)) (below : ℕ) → Extends stamp number seen log → IsOrdered stamp first seats log below
+  pub IsOrdered-seen : (number : ℕ) (seen log : List (Logged E)) (below : ℕ) → Extends stamp number seen log
+      → IsOrdered stamp first seats log below
       → IsOrdered stamp first seats seen below
   IsOrdered-seen number seen log below e o =
       IsOrdered-front seen e.0 below (subst (λ (l : List (Logged E)). IsOrdered stamp first seats l below) e.1 o)
@@ -65,7 +69,8 @@ module _ {E : Type 0} (stamp : E → Stamp) (number : ℕ) where
   Extends-self log = ([], sym (append-nil log), tt)
 
   -- a log that goes on by others' entries goes on from what was seen
-  pub Extends-more : (seen log more : List (Logged E)) → Extends stamp number seen log → IsOfOthers stamp number more → Extends stamp number seen (log ++ more)
+  pub Extends-more : (seen log more : List (Logged E)) → Extends stamp number seen log → IsOfOthers stamp number more
+      → Extends stamp number seen (log ++ more)
   Extends-more seen log more e o = (
     e.0 ++ more,
     ap (λ (l : List (Logged E)). l ++ more) e.1 ∙ append_assoc seen e.0 more,

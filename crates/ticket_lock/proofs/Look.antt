@@ -1,5 +1,6 @@
 -- A load of the word served keeps the rule: it is the core's entry or the core's look.
-use Rattle.std.proofs.Common.{◌≡◌, ◌≢◌, ℕ, ◌%◌, ◌^◌, ◌<◌, ◌≤◌, List, [], ◌∷◌, ◌++◌, length, set, Option, Some, refl, sym, ap, ◌∙◌, subst, ⊎_elim, arith, length-set}
+use Rattle.std.proofs.Common.{◌≡◌, ◌≢◌, ℕ, ◌%◌, ◌^◌, ◌<◌, ◌≤◌, List, [], ◌∷◌, ◌++◌, length, set, Option, Some, refl, sym, ap, ◌∙◌}
+use Rattle.std.proofs.Common.{subst, ⊎_elim, arith, length-set}
 use Rattle.std.specs.Prelude.{slice_index}
 use Rattle.std.proofs.lemmas.List.{get_or-set_same, get_or-set_other, set-get_or}
 use Rattle.std.proofs.lemmas.Bool.{cases_eq}
@@ -29,7 +30,8 @@ entered_world w number t = record w { seats = set w.seats number (Holding t) }
 
 module _ {T H E : Type 0} (head : T → H) (entries : T → List E) (stamp : E → Stamp) (a : About H E)
     (w : LockWorld) (log : List (Logged E)) (s : State (Option T) (View H E)) (r : Stands head entries stamp a w log s)
-    (id : ℕ) (v : View H E) (at : get_elem? s.views id ≡ some v) (p : Part E) (only : v.parts ≡ p ∷ []) (t : ℕ) (waits : v.state ≡ Waiting t) where
+    (id : ℕ) (v : View H E) (at : get_elem? s.views id ≡ some v) (p : Part E) (only : v.parts ≡ p ∷ []) (t : ℕ)
+    (waits : v.state ≡ Waiting t) where
   mine : (v.about ≡ Some a) × PartStands head entries stamp a w log v.state p
   mine = own_part head entries stamp a w log s r id v at p only
 
@@ -87,13 +89,19 @@ module _ {T H E : Type 0} (head : T → H) (entries : T → List E) (stamp : E �
     }
 
     -- the table after the entry stands for the core's world after it
-    pub entry_is_the_cores : (more : List (Logged E)) → log ≡ p.log ++ more → (world_after w p.number Enter ≡ Some (entered_world w p.number t))
+    pub entry_is_the_cores : (more : List (Logged E)) → log ≡ p.log ++ more
+        → (world_after w p.number Enter ≡ Some (entered_world w p.number t))
         × Stands head entries stamp a (entered_world w p.number t) log
-        record { words = set s.words 1 (slice_index s.words 1); homes = set s.homes 0 none; views = set s.views id (entered_view v p t more) }
+        record {
+          words = set s.words 1 (slice_index s.words 1);
+          homes = set s.homes 0 none;
+          views = set s.views id (entered_view v p t more);
+        }
     entry_is_the_cores more is =
         let emptied : set s.homes 0 none ≡ none ∷ [] = ap (λ hs. set hs 0 none) at_home.1 in (
           world_after-enter w p.number mine.1.exists t is_waiting served,
-          stands_after head entries stamp a w log s r id v at p only (entered_world w p.number t) log _ (set s.homes 0 none) (entered_view v p t more)
+          stands_after head entries stamp a w log s r id v at p only (entered_world w p.number t) log _ (set s.homes 0 none)
+              (entered_view v p t more)
               (IsLawful-enter w p.number r.lawful mine.1.exists t is_waiting served)
               (length-set w.seats p.number (Holding t))
               (same_words 1) refl refl
@@ -130,10 +138,13 @@ looks {T} {H} {E} head entries stamp a slots id v c p t only waits s (w, log, r)
               mine.0,
               seen.0,
               home.0,
-              subst (λ (y : Part E × ℕ). ◌≡◌ {A = Me (Option T) (View H E)} (entered_view v p t seen.0, (0, Some home.0) ∷ c) (entered_view v y.0 y.1 seen.0, (0, Some home.0) ∷ c)) (λ i. (same_p i, same_t i)) refl,
+              subst (λ (y : Part E × ℕ). ◌≡◌ {A = Me (Option T) (View H E)} (entered_view v p t seen.0, (0, Some home.0) ∷ c)
+                  (entered_view v y.0 y.1 seen.0, (0, Some home.0) ∷ c)) (λ i. (same_p i, same_t i)) refl,
               subst (λ (y : Part E). Rattle.ticket_lock.specs.Rule.IsOfOthers stamp y.number seen.0) same_p seen.2,
-              subst (λ (l : List (Logged E)). IsJournal head entries a l home.0) (seen.1 ∙ ap (λ (y : Part E). y.log ++ seen.0) same_p) home.2,
-              subst (λ (y : List (Logged E) × ℕ). IsOrdered stamp a.first a.seats y.0 y.1) (λ i. ((seen.1 ∙ ap (λ (y : Part E). y.log ++ seen.0) same_p) i, (sym served ∙ same_t) i)) r.ordered,
+              subst (λ (l : List (Logged E)). IsJournal head entries a l home.0) (seen.1 ∙ ap (λ (y : Part E). y.log ++ seen.0) same_p)
+                  home.2,
+              subst (λ (y : List (Logged E) × ℕ). IsOrdered stamp a.first a.seats y.0 y.1)
+                  (λ i. ((seen.1 ∙ ap (λ (y : Part E). y.log ++ seen.0) same_p) i, (sym served ∙ same_t) i)) r.ordered,
             )),
             (λ n. absurd (n (found ∙ ap (λ (k : ℕ). k % 2 ^ 64) same_t))),
           ),

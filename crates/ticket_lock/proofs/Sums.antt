@@ -10,7 +10,8 @@ module _ {X : Type 0} (f : X → ℕ) where
   pub sum_by-replaced : (xs : List X) (i : ℕ) (x y : X) → get_elem? xs i ≡ some x
       → sum_by f (set xs i y) + f x ≡ sum_by f xs + f y
   sum_by-replaced [] i x y e = absurd (some-ne-none x (sym e))
-  sum_by-replaced (z ∷ xs) zero x y e = let same : f z ≡ f x = ap f (some-injective z x e) in omega (arith, sum_by-cons f y xs, sum_by-cons f z xs)
+  sum_by-replaced (z ∷ xs) zero x y e = let same : f z ≡ f x = ap f (some-injective z x e) in
+      omega (arith, sum_by-cons f y xs, sum_by-cons f z xs)
   sum_by-replaced (z ∷ xs) (suc i) x y e =
       let rest = sum_by-replaced xs i x y e in omega (arith, sum_by-cons f z (set xs i y), sum_by-cons f z xs)
 

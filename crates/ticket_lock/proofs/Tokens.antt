@@ -17,7 +17,8 @@ use Rattle.ticket_lock.specs.Calls.{MayLeave, Leaves}
 use Rattle.ticket_lock.specs.Tokens.{IsIdle, IsHolding}
 use Rattle.ticket_lock.proofs.Leave.{leaves}
 
-module _ {T H E : Type 0} (head : T → H) (entries : T → List E) (stamp : E → Stamp) (table : TableId) (v : View H E) (p : Part E) (only : v.parts ≡ p ∷ [])
+module _ {T H E : Type 0} (head : T → H) (entries : T → List E) (stamp : E → Stamp) (table : TableId) (v : View H E) (p : Part E)
+    (only : v.parts ≡ p ∷ [])
     (t : ℕ) (holding : v.state ≡ Holding t) (x : T) where
   -- a value that the holder may give back, as the table asks
   pub MayLeave-put : MayLeave stamp head entries (standing_of table v) x → MayPut stamp head entries v.about p t x
@@ -42,7 +43,8 @@ module _ {T H E : Type 0} (head : T → H) (entries : T → List E) (stamp : E �
   )
 
   -- what the table tells of a leave, as callers see it
-  pub Left-told : (found : ℕ) (now : Me (Option T) (View H E)) → Left stamp head entries (step 0 0 0 0 none) (v, (0, Some x) ∷ []) found now
+  pub Left-told : (found : ℕ) (now : Me (Option T) (View H E))
+      → Left stamp head entries (step 0 0 0 0 none) (v, (0, Some x) ∷ []) found now
       → Leaves stamp head entries (standing_of table v) x (standing_of table now.0)
   Left-told found now told =
       let left = told p t x only holding refl in
@@ -62,35 +64,43 @@ module _ {T H E : Type 0} (head : T → H) (entries : T → List E) (stamp : E �
         added = subst (λ (y : ℕ × ℕ). IsAdded stamp y.0 y.1 more) (λ i. (number_in (sym only i), ticket_in (sym holding i))) left.5;
         entries_are = left.4 ∙ ap (λ (o : Option (About H E)). opening_in o ++ map entry_of (p.log ++ more)) (sym about)
             ∙ ap (λ (u : View H E). opening_in u.about ++ map entry_of (log_in u.parts)) (sym view);
-        ordered = rw view (subst (λ (y : Option (About H E) × ℕ). IsOrdered stamp (first_in y.0) (seats_in y.0) (p.log ++ more) (y.1 + 1)) (λ i. (sym about i, ticket_in (sym holding i))) left.6);
+        ordered = rw view (subst (λ (y : Option (About H E) × ℕ). IsOrdered stamp (first_in y.0) (seats_in y.0) (p.log ++ more) (y.1 + 1))
+            (λ i. (sym about i, ticket_in (sym holding i))) left.6);
       }
 
-module _ {T H E : Type 0} (head : T → H) (entries : T → List E) (stamp : E → Stamp) (table : TableId) (v : View H E) (number residue : ℕ) (holds : IsHolding number residue v)
+module _ {T H E : Type 0} (head : T → H) (entries : T → List E) (stamp : E → Stamp) (table : TableId) (v : View H E)
+    (number residue : ℕ) (holds : IsHolding number residue v)
     (held : Standing H E) (held_is : standing_of table v ≡ held) (x : T) (may : MayLeave stamp head entries held x)
     (now : Me (Option T) (View H E)) (view : now.0 ≡ v) (put : now.1 ≡ (0, Some x) ∷ []) where
   -- the holder may leave with the value in the slot
   pub leaves_as : (a : About H E) (slots id : ℕ)
       → Allows (Ruled head entries stamp a) slots id now 1 (λ n. (n + 1) % 2 ^ 64) (Left stamp head entries (step 0 0 0 0 none) now)
   leaves_as a slots id = subst
-      (λ (m : Me (Option T) (View H E)). Allows (Ruled head entries stamp a) slots id m 1 (λ n. (n + 1) % 2 ^ 64) (Left stamp head entries (step 0 0 0 0 none) m))
+      (λ (m : Me (Option T) (View H E)). Allows (Ruled head entries stamp a) slots id m 1 (λ n. (n + 1) % 2 ^ 64)
+      (Left stamp head entries (step 0 0 0 0 none) m))
       (λ i. (sym view i, now.1))
       (leaves head entries stamp a slots id v holds.0.0 holds.1.0 x holds.0.1 holds.1.1
-      (MayLeave-put head entries stamp table v holds.0.0 holds.0.1 holds.1.0 holds.1.1 x (subst (λ (h : Standing H E). MayLeave stamp head entries h x) (sym held_is) may))
+      (MayLeave-put head entries stamp table v holds.0.0 holds.0.1 holds.1.0 holds.1.1 x
+      (subst (λ (h : Standing H E). MayLeave stamp head entries h x) (sym held_is) may))
       now.1 put)
 
   module _ (found : ℕ) (after : Me (Option T) (View H E)) (told : Left stamp head entries (step 0 0 0 0 none) now found after) where
     -- the leave, of the view before the value was put back
     left_told : Left stamp head entries (step 0 0 0 0 none) (v, (0, Some x) ∷ []) found after
-    left_told = subst (λ (m : Me (Option T) (View H E)). Left stamp head entries (step 0 0 0 0 none) m found after) (λ i. (view i, put i)) told
+    left_told = subst (λ (m : Me (Option T) (View H E)). Left stamp head entries (step 0 0 0 0 none) m found after)
+        (λ i. (view i, put i)) told
 
     -- afterwards the seat is idle, with its number
     pub left_idle : IsIdle number after.0 × (after.1 ≡ [])
     left_idle =
         let left = left_told holds.0.0 holds.1.0 x holds.0.1 holds.1.1 refl in
-        let is : after.0 ≡ left_view v holds.0.0 left.2 = ap (λ (m : Me (Option T) (View H E)). m.0) left.3 in
-        ((((part_with holds.0.0 left.2), ap (λ (u : View H E). u.parts) is, holds.0.2), ap (λ (u : View H E). u.state) is), ap (λ (m : Me (Option T) (View H E)). m.1) left.3)
+        let is : after.0 ≡ left_view v holds.0.0 left.2 = ap (λ (m : Me (Option T) (View H E)). m.0) left.3 in (
+          (((part_with holds.0.0 left.2), ap (λ (u : View H E). u.parts) is, holds.0.2), ap (λ (u : View H E). u.state) is),
+          ap (λ (m : Me (Option T) (View H E)). m.1) left.3,
+        )
 
     -- what callers learn
     pub left_as : (after_table : TableId) → after_table ≡ table → Leaves stamp head entries held x (standing_of after_table after.0)
-    left_as after_table same = subst (λ (y : Standing H E × TableId). Leaves stamp head entries y.0 x (standing_of y.1 after.0)) (λ i. (held_is i, sym same i))
+    left_as after_table same = subst (λ (y : Standing H E × TableId). Leaves stamp head entries y.0 x (standing_of y.1 after.0))
+        (λ i. (held_is i, sym same i))
         (Left-told head entries stamp table v holds.0.0 holds.0.1 holds.1.0 holds.1.1 x found after left_told)

@@ -49,7 +49,8 @@ module _ {T H E : Type 0} (head : T → H) (entries : T → List E) (stamp : E �
       ((every.0.0, part_stays state q split.0 every.0.1), parts_stay about state qs split.1 every.1)
 
   -- all views stand, where that of the stepping seat does
-  pub views_stay : (views : List (View H E)) (id : ℕ) (v now : View H E) → get_elem? views id ≡ some v → owns k v ≡ 1 → sum_by (owns k) views ≤ 1
+  pub views_stay : (views : List (View H E)) (id : ℕ) (v now : View H E) → get_elem? views id ≡ some v → owns k v ≡ 1
+      → sum_by (owns k) views ≤ 1
       → ((i : ℕ) (u : View H E) → get_elem? views i ≡ some u → ViewStands head entries stamp a w log u)
       → ViewStands head entries stamp a after grown now
       → (i : ℕ) (u : View H E) → get_elem? (set views id now) i ≡ some u → ViewStands head entries stamp a after grown u

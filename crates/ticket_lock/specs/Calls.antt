@@ -1,11 +1,16 @@
 -- What each call of a lock does, in the words of a standing.
-use Rattle.std.specs.Prelude.{◌≡◌, ◌⊎◌, ℕ, ◌+◌, List, [], ◌∷◌, ◌++◌, map, Some}
+use Rattle.std.specs.Prelude.{◌≡◌, ◌⊎◌, ℕ, ◌+◌, List, [], ◌∷◌, ◌++◌, map, Some, ◌==◌, if◌then◌else◌}
 use Rattle.std.specs.List.{range_with_len}
 use Rattle.minislots.specs.declared.stamp.Stamp.{Stamp}
 use Rattle.ticket_lock.specs.declared.board.Logged.{Logged}
-use Rattle.ticket_lock.specs.Rule.{entry_of, IsOfOthers, Extends, IsOrdered, Every}
+use Rattle.ticket_lock.specs.Rule.{entry_of, IsOfOthers, Extends, IsOrdered, Every, once_below}
 use Rattle.ticket_lock.specs.Standing.{Lock, Standing, head_of, opening_of, seats_of, first_of, seen, stamp_of}
 use Rattle.ticket_lock.specs.Plays.{IsAdded}
+
+-- how many of these seats have this number
+abbrev pub bearers : {H E : Type 0} → ℕ → List (Standing H E) → ℕ
+bearers k [] = 0
+bearers k (s ∷ ss) = (if s.number == k then 1 else 0) + bearers k ss
 
 module _ {H E : Type 0} (stamp : E → Stamp) where
   -- past the opening list the whole tickets of what is seen ascend strictly to below this one, and the stamps have them
@@ -42,7 +47,7 @@ module _ {H E : Type 0} (stamp : E → Stamp) where
       pub ordered : IsInOrder s.lock w.log (s.ticket + 1)
 
     -- the value at the close: its list begins with what each seat has seen, and past the opening list each seat's entries are
-    -- those that it has seen, and there are no others
+    -- those that it has seen, and there are no others, since each number of a seat is that of one of these
     pub record Closes (lock : Lock H E) (seats : List (Standing H E)) (x : T) : Type 0 where
       pub log : List (Logged E)
       pub head_is : Some (head x) ≡ head_of lock
@@ -50,12 +55,14 @@ module _ {H E : Type 0} (stamp : E → Stamp) where
       pub below : ℕ
       pub ordered : IsInOrder lock log below
       pub each : Every (λ s. Extends stamp s.number s.log log) seats
+      pub once : (k : ℕ) → bearers k seats ≡ once_below k (seats_of lock)
 
 -- a seat as it is made
 abbrev pub new_standing : {H E : Type 0} → Lock H E → ℕ → Standing H E
 new_standing lock number = record { lock = lock; number = number; log = []; ticket = 0; looks = 0 }
 
 -- a lock about this value, with this many seats, numbered by their places
-pub record Opens {T H E : Type 0} (head : T → H) (entries : T → List E) (x : T) (count first : ℕ) (lock : Lock H E) (seats : List (Standing H E)) : Type 0 where
+pub record Opens {T H E : Type 0} (head : T → H) (entries : T → List E) (x : T) (count first : ℕ) (lock : Lock H E)
+    (seats : List (Standing H E)) : Type 0 where
   pub about_is : lock.about ≡ Some record { head = head x ∷ []; opening = entries x; seats = count; first = first }
   pub seats_are : seats ≡ map (new_standing lock) (range_with_len 0 count)

@@ -26,17 +26,27 @@ module _ {T H E : Type 0} (head : T → H) (entries : T → List E) (stamp : E �
   table_with s word n id v = record { words = slice_set s.words word n; homes = s.homes; views = slice_set s.views id v }
 
   -- each step of a seat with one number on a table under the rule is its event of the core, and the log is the same, or one more
-  pub record FollowsTheCore (a : About H E) (w : LockWorld) (log : List (Logged E)) (s : State (Option T) (View H E)) (id : ℕ) (v : View H E) (p : Part E) : Type 0 where
+  pub record FollowsTheCore (a : About H E) (w : LockWorld) (log : List (Logged E)) (s : State (Option T) (View H E)) (id : ℕ)
+      (v : View H E) (p : Part E) : Type 0 where
     pub draw : v.state ≡ Idle
         → (after : LockWorld) × (world_after w p.number Draw ≡ Some after)
         × Stands head entries stamp a after log (table_with s 0 ((slice_index s.words 0 + 1) % 2 ^ 64) id (drawn_view v w.next))
     pub look : (t : ℕ) → v.state ≡ Waiting t → ¬ (slice_index s.words 1 ≡ t % 2 ^ 64)
-        → (world_after w p.number Look ≡ Some w) × Stands head entries stamp a w log (table_with s 1 (slice_index s.words 1) id (looked_view v))
+        → (world_after w p.number Look ≡ Some w)
+        × Stands head entries stamp a w log (table_with s 1 (slice_index s.words 1) id (looked_view v))
     pub enter : (t : ℕ) → v.state ≡ Waiting t → slice_index s.words 1 ≡ t % 2 ^ 64
         → (more : List (Logged E)) × (log ≡ p.log ++ more) × (after : LockWorld) × (world_after w p.number Enter ≡ Some after)
         × Stands head entries stamp a after log
-        record { words = slice_set s.words 1 (slice_index s.words 1); homes = slice_set s.homes 0 none; views = slice_set s.views id (entered_view v p t more) }
+        record {
+          words = slice_set s.words 1 (slice_index s.words 1);
+          homes = slice_set s.homes 0 none;
+          views = slice_set s.views id (entered_view v p t more);
+        }
     pub leave : (t : ℕ) (x : T) → v.state ≡ Holding t → MayPut stamp head entries v.about p t x
         → (more : List (Logged E)) × IsAdded stamp p.number t more × (after : LockWorld) × (world_after w p.number Leave ≡ Some after)
         × Stands head entries stamp a after (log ++ more)
-        record { words = slice_set s.words 1 ((slice_index s.words 1 + 1) % 2 ^ 64); homes = slice_set s.homes 0 (some (Some x)); views = slice_set s.views id (left_view v p more) }
+        record {
+          words = slice_set s.words 1 ((slice_index s.words 1 + 1) % 2 ^ 64);
+          homes = slice_set s.homes 0 (some (Some x));
+          views = slice_set s.views id (left_view v p more);
+        }

@@ -60,7 +60,12 @@ module _ {H E : Type 0} where
 
   -- a view with the parts and the counts of another
   abbrev pub joined_view : View H E → View H E → View H E
-  joined_view v u = record v { parts = u.parts ++ v.parts; draws = v.draws + u.draws; looks = v.looks + u.looks; leaves = v.leaves + u.leaves }
+  joined_view v u = record v {
+    parts = u.parts ++ v.parts;
+    draws = v.draws + u.draws;
+    looks = v.looks + u.looks;
+    leaves = v.leaves + u.leaves;
+  }
 
 module _ {T H E : Type 0} (stamp : E → Stamp) where
   -- a draw: an idle seat waits with the ticket whose residue was found, which is above all that it has seen

@@ -11,10 +11,9 @@ use super::{Held, Journal, LockFault, Seat, Ticket, TicketLock};
 use minislots::Stamp;
 use std::alloc::Global;
 use std::process::Abort;
-use std::sync::Wait;
 use std::test::Fail;
-use std::thread;
-use std::thread::Threads;
+
+mod threads;
 
 const LAST: u64 = 18446744073709551615;
 
@@ -211,85 +210,4 @@ fn a_lock_has_one_to_64_seats(rt: HostRuntime) {
         assert_eq!(rt; count, seats);
         assert_eq!(rt; (back.len(), back.stamp_at(0)), (1, entry), "{seats} seats");
     }
-}
-
-/// How many turns each thread takes.
-const TURNS: u64 = 1000;
-
-/// Takes turns, each with an entry.
-fn take_turns<R: Wait>(rt: &R, lock: &TicketLock<Stamps>, seat: Seat<Stamps>) -> Seat<Stamps>
-    requires own { seat.lock ≡ lock.now }
-    requires head { head_of lock.now ≡ Some tt }
-    ensures own { result.lock ≡ lock.now }
-{
-    let mut seat = seat;
-    for _ in 0..TURNS {
-        let ticket = lock.draw(seat);
-        let (held, value) = lock.enter(rt, ticket);
-        seat = end_turn(lock, held, value, true);
-    }
-    seat
-}
-
-/// Takes turns by both seats, in two threads.
-fn race<R: Threads + Wait + Sync>(
-    rt: &R,
-    lock: &TicketLock<Stamps>,
-    zero: Seat<Stamps>,
-    one: Seat<Stamps>,
-) -> (Seat<Stamps>, Seat<Stamps>)
-    requires zero { zero.lock ≡ lock.now }
-    requires one { one.lock ≡ lock.now }
-    requires head { head_of lock.now ≡ Some tt }
-    ensures zero { result.0.lock ≡ lock.now }
-    ensures one { result.1.lock ≡ lock.now }
-{
-    thread::join(
-        rt,
-        move || -> Seat<Stamps>
-            requires own { zero.lock ≡ lock.now }
-            requires head { head_of lock.now ≡ Some tt }
-            ensures own { result.lock ≡ lock.entry.now }
-        { take_turns(rt, lock, zero) },
-        move || -> Seat<Stamps>
-            requires own { one.lock ≡ lock.now }
-            requires head { head_of lock.now ≡ Some tt }
-            ensures own { result.lock ≡ lock.entry.now }
-        { take_turns(rt, lock, one) },
-    )
-}
-
-/// How many entries of the list, at place i, have another ticket than i.
-fn out_of_order(list: &[Stamp]) -> u64 {
-    let mut wrong = 0u64;
-    for (i, stamp) in list.iter().enumerate() {
-        if stamp.ticket != i as u64 {
-            wrong = wrong.wrapping_add(1);
-        }
-    }
-    wrong
-}
-
-/// How many entries of the list the second seat made.
-fn of_second(list: &[Stamp]) -> u64 {
-    let mut count = 0u64;
-    for stamp in list {
-        if stamp.seat == 1 {
-            count = count.wrapping_add(1);
-        }
-    }
-    count
-}
-
-#[test]
-fn entries_of_two_threads_stand_once_in_ticket_order(rt: HostRuntime) {
-    let (lock, zero, one) = pair(&rt, rt.alloc(), 0);
-    let (zero, one) = race(&rt, &lock, zero, one);
-    let list = close_pair(&rt, rt.alloc(), lock, zero, one);
-    let found = (
-        list.len(),
-        out_of_order(list.as_slice()),
-        of_second(list.as_slice()),
-    );
-    assert_eq!(rt; found, (2000, 0, TURNS));
 }

@@ -12,7 +12,8 @@ returns g c =
     let stamp = g.T.Journal.stamp in
     record {
       steps = λ a w log s id v p r at only. record {
-        draw = λ idle. let did = draw_is_the_cores head entries stamp a w log s r id v at p only idle in (drawn_world w p.number, did.0, did.1);
+        draw = λ idle. let did = draw_is_the_cores head entries stamp a w log s r id v at p only idle in
+            (drawn_world w p.number, did.0, did.1);
         look = λ t waits other. look_is_the_cores head entries stamp a w log s r id v at p only t waits other;
         enter = λ t waits found.
             let seen = (own_part head entries stamp a w log s r id v at p only).1.seen in

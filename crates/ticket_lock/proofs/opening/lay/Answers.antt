@@ -1,6 +1,6 @@
 -- The table is opened under its rule.
 use Rattle.std.proofs.Common.{rules, ◌++◌, ◌∷◌, [], Some, ap, ◌∙◌, arith}
-use Rattle.ticket_lock.proofs.Seats.{opens_with}
+use Rattle.ticket_lock.proofs.Opened.{opens_with}
 use Rattle.ticket_lock.proofs.opening.lay.Goals as goal
 
 pub new-requires : goal.new-requires

@@ -3,7 +3,7 @@ use Rattle.std.proofs.Common.{◌≡◌, sym, ap, ◌∙◌, subst, length}
 use Rattle.std.specs.List.{range_with_len}
 use Rattle.ticket_lock.specs.Rule.{Every}
 use Rattle.ticket_lock.specs.Standing.{seats_in}
-use Rattle.ticket_lock.proofs.Seats.{new_standings-own, length-new_standings}
+use Rattle.ticket_lock.proofs.Dealt.{new_standings-own, length-new_standings}
 use Rattle.ticket_lock.proofs.tests.opened_and_closed.Goals as goal
 
 pub close-requires-clause-own : goal.close-requires-clause-own

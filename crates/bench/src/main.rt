@@ -1,0 +1,45 @@
+//! `bench`: what the parts of the scheduler cost on this machine. With no word it prints nothing.
+#![tactic(auto)]
+
+mod locked;
+mod mutexed;
+mod run;
+mod table;
+mod tally;
+
+use std::alloc::Global;
+use std::process::ExitCode;
+use std::rt::Env;
+use std::{env, io};
+
+/// The first word of the command line after the program's name.
+fn word_of(rt: &(impl Env + AllocGlobal)) -> io::Result<Option<String>> {
+    let mut words = env::args(rt)?;
+    let _name = words.next();
+    Ok(words.next())
+}
+
+/// Ends with status 1 where a figure could not be taken or printed.
+fn status_of(outcome: io::Result<()>) -> ExitCode {
+    match outcome {
+        Ok(()) => ExitCode::SUCCESS,
+        Err(_) => ExitCode::FAILURE,
+    }
+}
+
+fn main(rt: HostRuntime) -> ExitCode {
+    let Ok(word) = word_of(&rt) else {
+        return ExitCode::FAILURE;
+    };
+    match word {
+        None => ExitCode::SUCCESS,
+        Some(word) => {
+            if word.as_str() == "lock" {
+                status_of(table::print_lock(&rt, rt.alloc()))
+            } else {
+                let _ = rt.eprintln("usage: bench [lock]");
+                ExitCode::from(2)
+            }
+        }
+    }
+}
