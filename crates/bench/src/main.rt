@@ -1,6 +1,7 @@
 //! `bench`: what the parts of the scheduler cost on this machine. With no word it prints nothing.
 #![tactic(auto)]
 
+mod frames;
 mod locked;
 mod mutexed;
 mod run;
@@ -34,11 +35,13 @@ fn main(rt: HostRuntime) -> ExitCode {
     match word {
         None => ExitCode::SUCCESS,
         Some(word) => {
-            if word.as_str() == "lock" {
-                status_of(table::print_lock(&rt, rt.alloc()))
-            } else {
-                let _ = rt.eprintln("usage: bench [lock]");
-                ExitCode::from(2)
+            match word.as_str() {
+                "lock" => status_of(table::print_lock(&rt, rt.alloc())),
+                "frames" => status_of(table::print_frames(&rt, rt.alloc())),
+                _ => {
+                    let _ = rt.eprintln("usage: bench [lock|frames]");
+                    ExitCode::from(2)
+                }
             }
         }
     }

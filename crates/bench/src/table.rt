@@ -1,6 +1,7 @@
 //! The table of figures.
 ghost use Rattle.std.specs.Prelude.{◌≡◌, IfOk};
 
+use crate::frames::{time_admission, time_build};
 use crate::locked::time_lock;
 use crate::mutexed::time_mutex;
 use crate::run::Run;
@@ -75,4 +76,17 @@ pub fn print_lock<R: Threads + Wait + Sync + Clock + Print>(
         }
     }
     Ok(())
+}
+
+/// Prints the microseconds of the costliest admission and of the costliest build.
+pub fn print_frames<R: Clock + Print>(rt: &R, alloc: Global) -> io::Result<()> {
+    let (mut admissions, mut builds) = ([0u64; RUNS], [0u64; RUNS]);
+    for i in 0..RUNS {
+        admissions[i] = time_admission(rt, alloc)?;
+        builds[i] = time_build(rt, alloc)?;
+    }
+    admissions.sort_unstable();
+    builds.sort_unstable();
+    println!(rt; "no place: {} microseconds", admissions[RUNS / 2] / 1000)?;
+    println!(rt; "93 grants and 40 polls: {} microseconds", builds[RUNS / 2] / 1000)
 }

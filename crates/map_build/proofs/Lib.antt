@@ -1,8 +1,16 @@
 pub mod Apart
+pub mod Begun
+pub mod Clear
+pub mod Counts
 pub mod EachAfterLaws
+pub mod FlowsAfter
 pub mod IdleFrame
+pub mod NextGrants
 pub mod OneFlow
 pub mod OneMap
+pub mod Pendings
+pub mod Planned
+pub mod Plans
 pub mod RowsCeiling
 pub mod RowsContention
 pub mod RowsFirstGrant
@@ -11,4 +19,8 @@ pub mod RowsPoll
 pub mod RowsTurns
 pub mod RowsUnlawful
 pub mod RowsUnsolicited
+pub mod SameSpots
+pub mod Standings
+pub mod Stops
+pub mod Takings
 pub mod WellFormed

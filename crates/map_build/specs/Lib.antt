@@ -5,6 +5,10 @@ pub use Rattle.flow_book.specs.FlowSpec
 pub use Rattle.flow_book.specs.Flows
 pub use Rattle.flow_book.specs.Choice
 pub use Rattle.periodic.specs.Placement
+pub use Rattle.periodic.specs.Table
 pub mod EachAfter
 pub mod Plan
 pub mod FrameMap
+pub mod Spots
+pub mod Draft
+pub mod Walk

@@ -1,6 +1,10 @@
 //! The MAP of one frame: which flow has which minislots.
 #![tactic(auto)]
 
+mod draft;
+mod frame;
 mod frame_map;
+mod walk;
 
+pub use frame::plan_frame;
 pub use frame_map::{ByteCounts, FrameMap};

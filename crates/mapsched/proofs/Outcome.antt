@@ -1,5 +1,5 @@
 -- Which faults a text can have, and what is known once all bytes of a reader were read.
-use Rattle.std.proofs.Common.{◌≡◌, ℕ, ◌+◌, ◌≤◌, Bool, true, false, ◌||◌, cond, List, ◌∷◌, length, Option, Some, None, Result, Ok, Err, refl, subst, ◌∙◌}
+use Rattle.std.proofs.Common.{◌≡◌, ℕ, ◌+◌, ◌≤◌, Bool, true, false, cond, List, ◌∷◌, length, Option, Some, None, Result, Ok, Err, refl, subst, ◌∙◌}
 use Rattle.std.specs.Prelude.{◌≢◌, IfOk, IfErr, ok_or, option_and_then, codes}
 use Rattle.std.specs.Str.{is_utf8}
 use Rattle.std.proofs.lemmas.Bool.{le-ltb}
@@ -12,9 +12,9 @@ use Rattle.minislots.specs.Config.{first_wrong}
 use Rattle.mapsched.specs.declared.input.TheConstants.{MAX_INPUT}
 use Rattle.mapsched.specs.declared.fault.RunFault.{RunFault}
 use Rattle.mapsched.specs.declared.fault.RunFault.TheVariants.{Input, TooLong, NotJson, Shape, Config, Memory, Output}
-use Rattle.mapsched.specs.Machine.{is_admit}
 use Rattle.mapsched.specs.Fields.{config_of}
-use Rattle.mapsched.specs.Script.{◌>>=◌, Gives, Scenario, served_call, calls_of, script_of, AreServed}
+use Rattle.mapsched.specs.Calls.{call_of}
+use Rattle.mapsched.specs.Script.{◌>>=◌, Gives, Scenario, calls_of, script_of}
 use Rattle.mapsched.specs.Input.{value_of, ReadsAll}
 use Rattle.mapsched.specs.Outcome.{unless_wrong, text_outcome, outcome_of, StandsFor, HasFault, StopsScript}
 
@@ -44,16 +44,16 @@ faults-value_of : (bytes : List ℕ) → IfErr (value_of bytes) IsOfText
 unfolding value_of
 faults-value_of bytes = faults-cond (is_utf8 bytes) (ok_or (read bytes) NotJson) NotJson (faults-ok_or (read bytes) NotJson tt) tt
 
-faults-calls_of : (n : ℕ) (admits : Bool) (ds : Items) → IfErr (calls_of n admits ds) IsOfText
+faults-calls_of : (n : ℕ) (ds : Items) → IfErr (calls_of n ds) IsOfText
 unfolding calls_of
-faults-calls_of n admits no_items = tt
-faults-calls_of n admits (item d ds) =
-    faults-bind (ok_or (served_call admits d) (Shape n)) (λ call. calls_of (n + 1) (admits || is_admit call) ds >>= (λ calls. Ok (call ∷ calls)))
-    (faults-ok_or (served_call admits d) (Shape n) tt)
-    (λ call. faults-bind (calls_of (n + 1) (admits || is_admit call) ds) (λ calls. Ok (call ∷ calls)) (faults-calls_of (n + 1) (admits || is_admit call) ds) (λ calls. tt))
+faults-calls_of n no_items = tt
+faults-calls_of n (item d ds) =
+    faults-bind (ok_or (call_of d) (Shape n)) (λ call. calls_of (n + 1) ds >>= (λ calls. Ok (call ∷ calls)))
+    (faults-ok_or (call_of d) (Shape n) tt)
+    (λ call. faults-bind (calls_of (n + 1) ds) (λ calls. Ok (call ∷ calls)) (faults-calls_of (n + 1) ds) (λ calls. tt))
 
 abbrev with_calls : Configuration → Items → Result Scenario RunFault
-with_calls config items = calls_of 1 false items >>= (λ calls. Ok (record { config = config; calls = calls }))
+with_calls config items = calls_of 1 items >>= (λ calls. Ok (record { config = config; calls = calls }))
 
 abbrev with_config : Data → Configuration → Result Scenario RunFault
 with_config d config = ok_or (option_and_then as_array (get (codes "calls") d)) (Shape 0) >>= with_calls config
@@ -63,7 +63,7 @@ unfolding script_of
 faults-script_of d =
     faults-bind (ok_or (option_and_then config_of (get (codes "config") d)) (Shape 0)) (with_config d) (faults-ok_or (option_and_then config_of (get (codes "config") d)) (Shape 0) tt) (λ config.
     faults-bind (ok_or (option_and_then as_array (get (codes "calls") d)) (Shape 0)) (with_calls config) (faults-ok_or (option_and_then as_array (get (codes "calls") d)) (Shape 0) tt) (λ items.
-    faults-bind (calls_of 1 false items) (λ calls. Ok (record { config = config; calls = calls })) (faults-calls_of 1 false items) (λ calls. tt)))
+    faults-bind (calls_of 1 items) (λ calls. Ok (record { config = config; calls = calls })) (faults-calls_of 1 items) (λ calls. tt)))
 
 faults-unless_wrong : (wrong : Option ConfigFault) (scenario : Scenario) → IfErr (unless_wrong wrong scenario) IsOfText
 faults-unless_wrong None scenario = tt
@@ -84,9 +84,9 @@ outcome_of-short bytes short = rw (le-ltb MAX_INPUT (length bytes) short) refl
 
 module _ {X : Type 0} (view : X → Scenario) (old new : Option (List ℕ)) (bytes : List ℕ) where
   -- what was made of all bytes is what they stand for
-  pub stands_for : (result : Result X RunFault) → ReadsAll old new bytes → Gives view result (text_outcome bytes) → IfOk result (λ x. AreServed false (view x).calls) → IfOk result (λ x. StandsFor old new (view x))
-  stands_for (Ok x) all exact served = record { bytes = bytes; all = all; outcome = outcome_of-short bytes all.short ∙ exact; served = served }
-  stands_for (Err fault) all exact served = tt
+  pub stands_for : (result : Result X RunFault) → ReadsAll old new bytes → Gives view result (text_outcome bytes) → IfOk result (λ x. StandsFor old new (view x))
+  stands_for (Ok x) all exact = record { bytes = bytes; all = all; outcome = outcome_of-short bytes all.short ∙ exact }
+  stands_for (Err fault) all exact = tt
 
   of_text : (fault : RunFault) → text_outcome bytes ≡ Err fault → IsOfText fault
   of_text fault e = subst (λ (r : Result Scenario RunFault). IfErr r IsOfText) e (faults-text_outcome bytes)

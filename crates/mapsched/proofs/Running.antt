@@ -10,25 +10,19 @@ use Rattle.sched_history.specs.declared.call.Call.{Call}
 use Rattle.sched_history.specs.declared.reply.Reply.{Reply}
 use Rattle.sched_history.specs.declared.reply.Entry.{Entry}
 use Rattle.sched_history.specs.declared.reply.Unrecorded.TheVariants.{HistoryFull, Memory}
-use Rattle.sched_history.specs.History.{IsStep}
-use Rattle.mapsched.specs.Machine.{Machine, is_served, has_admit}
-use Rattle.mapsched.specs.Script.{AreServed}
-use Rattle.mapsched.specs.Answer.{Answer, MayGet, MayLackMemory, MayGetEach, recorded, entries_of}
+use Rattle.sched_history.specs.History.{IsStep, IsLegal}
+use Rattle.sched_history.specs.Machine.{Machine, MayLackMemory}
+use Rattle.mapsched.specs.Answer.{Answer, MayGet, recorded, entries_of, MakesCall, MakesCalls}
 use Rattle.mapsched.specs.Line.{line_of}
+use Rattle.mapsched.specs.HistoryText.{history_text}
 use Rattle.mapsched.specs.Run.{AnswersEach}
-use Rattle.mapsched.proofs.Answered.{MayGetEach-push, entries_of-push, IsLegal-answered, served_at}
+use Rattle.mapsched.proofs.Answered.{MayGetEach-push, entries_of-push, IsLegal-answered}
 
--- from one state of the scheduler and the writer these calls led to others
+-- from one state of the scheduler and the writer these calls led to others, and the lines of their answers were written
 pub record Runs (old new : Machine) (calls : List Call) (before after : Option (List ℕ)) : Type 0 where
   pub answers : List Answer
-  pub each : MayGetEach old.config [] 0 calls answers
-  pub state : new ≡ record { config = old.config; history = entries_of 0 calls answers }
+  pub makes : MakesCalls old new calls answers
   pub written : Appends before after (flat_map line_of answers)
-
--- what one call of a scheduler does
-pub record Answers (old new : Machine) (ticket : ℕ) (call : Call) (answer : Answer) : Type 0 where
-  pub may : MayGet old.config old.history call answer
-  pub state : new ≡ record { config = old.config; history = old.history ++ recorded ticket call answer }
 
 -- the entry of a call with its reply
 abbrev pub entry_of : ℕ → Call → Reply → Entry
@@ -39,55 +33,70 @@ two_reasons : IsErrOf {T = Reply} (Err Memory) HistoryFull → ⊥
 two_reasons e = cc
 
 -- a call that a scheduler answers as it promises
-pub Answers-from : (old new : Machine) (ticket : ℕ) (call : Call) (answer : Answer)
+pub MakesCall-from : (old new : Machine) (ticket : ℕ) (call : Call) (answer : Answer)
     → IfOk answer (λ reply. new ≡ record old { history = old.history ++ entry_of ticket call reply ∷ [] })
     → IfOk answer (λ reply. IsStep old.config old.history call reply)
     → OnOk answer (length old.history < old.config.calls)
     → OnErr answer (new ≡ old)
     → (IsErrOf answer HistoryFull ↔ (old.config.calls ≤ length old.history))
     → (IsErrOf answer Memory → MayLackMemory old.config old.history call)
-    → Answers old new ticket call answer
-Answers-from old new ticket call (Ok reply) kept step room err full memory = record { may = (room, step); state = kept }
-Answers-from old new ticket call (Err HistoryFull) kept step room err full memory = record { may = full.0 refl; state = err ∙ ap (λ (h : List Entry). record { config = old.config; history = h }) (sym (append-nil old.history)) }
-Answers-from old new ticket call (Err Memory) kept step room err full memory = record {
+    → MakesCall old new ticket call answer
+MakesCall-from old new ticket call (Ok reply) kept step room err full memory = record { may = (room, step); state = kept }
+MakesCall-from old new ticket call (Err HistoryFull) kept step room err full memory = record { may = full.0 refl; state = err ∙ ap (λ (h : List Entry). record { config = old.config; history = h }) (sym (append-nil old.history)) }
+MakesCall-from old new ticket call (Err Memory) kept step room err full memory = record {
   may = elim (cases_lt (length old.history) old.config.calls) [ inl below ↦ (below, memory refl) | inr above ↦ absurd (two_reasons (full.1 above)) ];
   state = err ∙ ap (λ (h : List Entry). record { config = old.config; history = h }) (sym (append-nil old.history));
 }
 
 -- one call more
-pub Runs-push : (old mid new : Machine) (calls : List Call) (i : ℕ) (d : Call) (answer : Answer) (before between after : Option (List ℕ)) → i < length calls
-    → Runs old mid (take i calls) before between → Answers mid new i (get_or calls i d) answer → Appends between after (line_of answer)
-    → Runs old new (take (i + 1) calls) before after
-Runs-push old mid new calls i d answer before between after below runs one line =
+pub MakesCalls-push : (old mid new : Machine) (calls : List Call) (i : ℕ) (d : Call) (answers : List Answer) (answer : Answer) → i < length calls
+    → MakesCalls old mid (take i calls) answers → MakesCall mid new i (get_or calls i d) answer
+    → MakesCalls old new (take (i + 1) calls) (answers ++ answer ∷ [])
+MakesCalls-push old mid new calls i d answers answer below makes one =
     let c = old.config in
-    let same_config : mid.config ≡ c = ap (λ (m : Machine). m.config) runs.state in
-    let same_history : mid.history ≡ entries_of 0 (take i calls) runs.answers = ap (λ (m : Machine). m.history) runs.state in
+    let same_config : mid.config ≡ c = ap (λ (m : Machine). m.config) makes.state in
+    let same_history : mid.history ≡ entries_of 0 (take i calls) answers = ap (λ (m : Machine). m.history) makes.state in
     let place : 0 + length (take i calls) ≡ i = omega (arith, length-take i calls) in
-    let may : MayGet c (entries_of 0 (take i calls) runs.answers) (get_or calls i d) answer = rw (same_config, same_history) at one.may in
-    let pushed : entries_of 0 (take i calls ++ get_or calls i d ∷ []) (runs.answers ++ answer ∷ []) ≡ entries_of 0 (take i calls) runs.answers ++ recorded i (get_or calls i d) answer
-    = entries_of-push c [] 0 (take i calls) runs.answers (get_or calls i d) answer runs.each ∙ ap (λ (n : ℕ). entries_of 0 (take i calls) runs.answers ++ recorded n (get_or calls i d) answer) place in
+    let may : MayGet c (entries_of 0 (take i calls) answers) (get_or calls i d) answer = rw (same_config, same_history) at one.may in
+    let pushed : entries_of 0 (take i calls ++ get_or calls i d ∷ []) (answers ++ answer ∷ []) ≡ entries_of 0 (take i calls) answers ++ recorded i (get_or calls i d) answer
+    = entries_of-push c [] 0 (take i calls) answers (get_or calls i d) answer makes.each ∙ ap (λ (n : ℕ). entries_of 0 (take i calls) answers ++ recorded n (get_or calls i d) answer) place in
     rw (take_more calls i d below) (record {
-      answers = runs.answers ++ answer ∷ [];
-      each = MayGetEach-push c [] 0 (take i calls) runs.answers (get_or calls i d) answer runs.each may;
+      each = MayGetEach-push c [] 0 (take i calls) answers (get_or calls i d) answer makes.each may;
       state = one.state ∙ rw (same_config, same_history, pushed) refl;
-      written = rw (flat_map-append, append-nil) (Appends-trans before between after (flat_map line_of runs.answers) (line_of answer) runs.written line);
     })
 
--- the next call is served
-pub Runs-served : (old new : Machine) (calls : List Call) (i : ℕ) (d : Call) (before after : Option (List ℕ)) → AreServed false calls → i < length calls
-    → Runs old new (take i calls) before after → is_served (has_admit new.history) (get_or calls i d) ≡ true
-Runs-served old new calls i d before after served below runs =
-    let same_history : new.history ≡ entries_of 0 (take i calls) runs.answers = ap (λ (m : Machine). m.history) runs.state in
-    rw same_history (served_at old.config [] 0 calls runs.answers false i d served runs.each (λ e. e) below)
+-- one call more, and its line
+pub Runs-push : (old mid new : Machine) (calls : List Call) (i : ℕ) (d : Call) (answer : Answer) (before between after : Option (List ℕ)) → i < length calls
+    → Runs old mid (take i calls) before between → MakesCall mid new i (get_or calls i d) answer → Appends between after (line_of answer)
+    → Runs old new (take (i + 1) calls) before after
+Runs-push old mid new calls i d answer before between after below runs one line = record {
+  answers = runs.answers ++ answer ∷ [];
+  makes = MakesCalls-push old mid new calls i d runs.answers answer below runs.makes one;
+  written = rw (flat_map-append, append-nil) (Appends-trans before between after (flat_map line_of runs.answers) (line_of answer) runs.written line);
+}
 
--- all calls
+-- what all calls make is a legal history
+pub MakesCalls-legal : (old new : Machine) (calls : List Call) (answers : List Answer) → MakesCalls old new calls answers → IsLegal old.config (entries_of 0 calls answers)
+MakesCalls-legal old new calls answers makes = IsLegal-answered old.config [] 0 calls answers tt makes.each
+
+-- all calls, with their lines
 pub Runs-whole : (old new : Machine) (calls : List Call) (n : ℕ) (before after : Option (List ℕ)) → length calls ≤ n → Runs old new (take n calls) before after
-    → AnswersEach old.config calls before after
+    → AnswersEach false old.config calls before after
 Runs-whole old new calls n before after all runs =
-    let each : MayGetEach old.config [] 0 calls runs.answers = rw (take_all n calls all) at runs.each in
+    let makes : MakesCalls old new calls runs.answers = rw (take_all n calls all) at runs.makes in
     record {
       answers = runs.answers;
-      each = each;
-      legal = IsLegal-answered old.config [] 0 calls runs.answers tt each;
+      each = makes.each;
+      legal = MakesCalls-legal old new calls runs.answers makes;
       written = runs.written;
     }
+
+-- all calls, with the text of their history
+pub history-written : (old new : Machine) (calls : List Call) (answers : List Answer) (before after : Option (List ℕ)) → MakesCalls old new calls answers
+    → Appends before after (history_text old.config new.history) → AnswersEach true old.config calls before after
+history-written old new calls answers before after makes written = record {
+  answers = answers;
+  each = makes.each;
+  legal = MakesCalls-legal old new calls answers makes;
+  written = rw (ap (λ (m : Machine). m.history) makes.state) at written;
+}

@@ -1,45 +1,17 @@
 -- The answers that calls may get, one after the other.
-use Rattle.std.specs.Prelude.{◌≡◌, ℕ, ◌+◌, ◌<◌, ◌≤◌, List, [], ◌∷◌, ◌++◌, length, None, Result, Ok, Err}
+use Rattle.std.specs.Prelude.{◌≡◌, ℕ, ◌+◌, ◌<◌, ◌≤◌, List, [], ◌∷◌, ◌++◌, length, Result, Ok, Err}
 use Rattle.minislots.specs.declared.config.Config.{Config}
-use Rattle.flow_book.specs.declared.spec.FlowSpec.{FlowSpec}
-use Rattle.flow_book.specs.declared.spec.FlowSpec.TheVariants.{Unsolicited, Polled, BestEffort}
-use Rattle.periodic.specs.declared.placement.Placement.{Placement}
-use Rattle.periodic.specs.Placement.{IsPlacement}
 use Rattle.sched_history.specs.declared.call.Call.{Call}
-use Rattle.sched_history.specs.declared.call.Call.TheVariants.{Admit, Remove, Ask, Heard, Build, Skip, Status}
 use Rattle.sched_history.specs.declared.reply.Reply.{Reply}
 use Rattle.sched_history.specs.declared.reply.Entry.{Entry}
 use Rattle.sched_history.specs.declared.reply.Unrecorded.{Unrecorded}
 use Rattle.sched_history.specs.declared.reply.Unrecorded.TheVariants.{HistoryFull, Memory}
-use Rattle.sched_history.specs.Life.{table_of}
-use Rattle.sched_history.specs.Time.{next_after}
-use Rattle.sched_history.specs.Refusal.{refusal_of}
 use Rattle.sched_history.specs.History.{IsStep}
+use Rattle.sched_history.specs.Machine.{Machine, MayLackMemory}
 
 -- the answer to a call: its reply, or that it was not recorded
 abbrev pub Answer : Type 0
 Answer = Result Reply Unrecorded
-
--- a place for the flow exists, where it needs one
-abbrev pub IsPlaceable : Config → List Entry → FlowSpec → Type 0
-IsPlaceable c h (Unsolicited size interval jitter) = (p : Placement) × IsPlacement c (table_of h) (Unsolicited size interval jitter) (next_after c h) p
-IsPlaceable c h (Polled interval jitter rate burst) = (p : Placement) × IsPlacement c (table_of h) (Polled interval jitter rate burst) (next_after c h) p
-IsPlaceable c h (BestEffort priority rate burst) = Unit {0}
-
--- an admission or a build: the calls that take memory, where no refusal meets them
-abbrev pub TakesMemory : Config → List Entry → Call → Type 0
-TakesMemory c h (Admit sid spec) = IsPlaceable c h spec
-TakesMemory c h (Remove sid) = ⊥
-TakesMemory c h (Ask receiver sid bytes heard) = ⊥
-TakesMemory c h (Heard receiver upto) = ⊥
-TakesMemory c h (Build now) = Unit {0}
-TakesMemory c h (Skip now) = ⊥
-TakesMemory c h (Status sid) = ⊥
-
--- an admission or a build that no refusal meets
-pub record MayLackMemory (c : Config) (h : List Entry) (call : Call) : Type 0 where
-  pub unrefused : refusal_of c h call ≡ None
-  pub takes : TakesMemory c h call
 
 -- the call may get this answer after the history: a reply that is a step, where there is room for it
 abbrev pub MayGet : Config → List Entry → Call → Answer → Type 0
@@ -64,3 +36,13 @@ abbrev pub entries_of : ℕ → List Call → List Answer → List Entry
 entries_of ticket [] answers = []
 entries_of ticket (call ∷ calls) [] = []
 entries_of ticket (call ∷ calls) (answer ∷ answers) = recorded ticket call answer ++ entries_of (ticket + 1) calls answers
+
+-- from one state of a scheduler this call, with this answer, led to another
+pub record MakesCall (old new : Machine) (ticket : ℕ) (call : Call) (answer : Answer) : Type 0 where
+  pub may : MayGet old.config old.history call answer
+  pub state : new ≡ record { config = old.config; history = old.history ++ recorded ticket call answer }
+
+-- from a state of a scheduler without entries these calls, with these answers, led to another
+pub record MakesCalls (old new : Machine) (calls : List Call) (answers : List Answer) : Type 0 where
+  pub each : MayGetEach old.config [] 0 calls answers
+  pub state : new ≡ record { config = old.config; history = entries_of 0 calls answers }

@@ -1,12 +1,8 @@
--- What the values of a script's JSON text stand for: numbers that fit their type, a configuration, a call.
-use Rattle.std.specs.Prelude.{ℕ, ◌^◌, nat_lt, if◌then◌else◌, List, codes, bytes_eq, Option, Some, None, option_and_then}
+-- What the fields of a JSON object stand for: numbers that fit their type, texts, a configuration.
+use Rattle.std.specs.Prelude.{ℕ, ◌^◌, nat_lt, if◌then◌else◌, List, codes, Option, Some, None, option_and_then}
 use Rattle.serde_json.specs.Data.{Data}
 use Rattle.serde_json.specs.Find.{get, as_number, as_u64, as_str}
 use Rattle.minislots.specs.declared.config.Config.{Config}
-use Rattle.flow_book.specs.declared.spec.FlowSpec.{FlowSpec}
-use Rattle.flow_book.specs.declared.spec.FlowSpec.TheVariants.{BestEffort}
-use Rattle.sched_history.specs.declared.call.Call.{Call}
-use Rattle.sched_history.specs.declared.call.Call.TheVariants.{Admit, Ask, Build}
 
 infixl 10 ◌>>=◌
 abbrev pub ◌>>=◌ : {A B : Type 0} → Option A → (A → Option B) → Option B
@@ -98,49 +94,3 @@ config_of d = do
     channel = channel;
     ucd_count = ucd_count;
   })
-
--- a best effort flow
-unfoldable pub best_effort_of : Data → Option FlowSpec
-best_effort_of d = do
-  priority ← u8_at (codes "priority") d
-  rate ← u32_at (codes "rate") d
-  burst ← u32_at (codes "burst") d
-  Some (BestEffort priority rate burst)
-
--- the flow that an object stands for, by its kind
-unfoldable pub flow_of : Data → Option FlowSpec
-flow_of d = do
-  kind ← text_at (codes "kind") d
-  if bytes_eq kind (codes "best_effort") then best_effort_of d else None
-
--- an admission
-unfoldable pub admit_of : Data → Option Call
-admit_of d = do
-  sid ← u16_at (codes "sid") d
-  found ← get (codes "flow") d
-  flow ← flow_of found
-  Some (Admit sid flow)
-
--- a request
-unfoldable pub ask_of : Data → Option Call
-ask_of d = do
-  receiver ← u8_at (codes "receiver") d
-  sid ← u16_at (codes "sid") d
-  bytes ← u32_at (codes "bytes") d
-  heard ← u64_at (codes "heard") d
-  Some (Ask receiver sid bytes heard)
-
--- a build
-unfoldable pub build_of : Data → Option Call
-build_of d = do
-  now ← u64_at (codes "now") d
-  Some (Build now)
-
--- the call that an object stands for, by its name
-unfoldable pub call_of : Data → Option Call
-call_of d = do
-  name ← text_at (codes "call") d
-  if bytes_eq name (codes "admit") then admit_of d
-      else (if bytes_eq name (codes "ask") then ask_of d
-      else (if bytes_eq name (codes "build") then build_of d
-      else None))

@@ -1,13 +1,12 @@
-pub mod Demand
-pub mod Draft
-pub mod Machine
-pub mod Past
-pub mod Sound
 pub mod Answer
 pub mod Fields
+pub mod Calls
 pub mod Script
 pub mod Input
 pub mod Outcome
 pub mod Line
+pub mod Json
+pub mod HistoryText
 pub mod Run
 pub mod Table
+pub mod Status

@@ -7,9 +7,9 @@ use Rattle.flow_book.specs.declared.spec.FlowFault.TheVariants.{Size, IntervalNo
 use Rattle.sched_history.specs.declared.reply.Refusal.{Refusal}
 use Rattle.sched_history.specs.declared.reply.Refusal.TheVariants.{BadSid, SidLive, BadFlow, FlowsFull, PeriodicFull, NoPlace, NoFlow, NotAsking, BadReceiver, BadBytes, Acked, Ahead, Backwards, BadClock, TooEarly, Late, NotLate}
 use Rattle.sched_history.specs.declared.reply.Reply.{Reply}
-use Rattle.sched_history.specs.declared.reply.Reply.TheVariants.{Admitted, Removed, Taken, Noted, Built, Skipped, Flow, Refused}
+use Rattle.sched_history.specs.declared.reply.Reply.TheVariants.{Admitted, Removed, Taken, Noted, Built, Skipped, Flow, Latest, Refused}
 use Rattle.sched_history.specs.declared.reply.Unrecorded.TheVariants.{HistoryFull, Memory}
-use Rattle.mapsched.specs.Past.{IsEncodable}
+use Rattle.sched_history.specs.Machine.{IsEncodable}
 use Rattle.mapsched.specs.Answer.{Answer}
 
 -- a space and a number in decimal
@@ -83,6 +83,8 @@ reply_text Taken = codes "taken"
 reply_text Noted = codes "noted"
 reply_text (Built m) = codes "map " ++ encode_lower (spelling m.wire)
 reply_text (Skipped next) = codes "skipped" ++ number_text next
+reply_text (Latest None) = codes "latest"
+reply_text (Latest (Some m)) = codes "latest " ++ encode_lower (spelling m.wire)
 reply_text (Flow asked granted outstanding) = codes "flow" ++ (number_text asked ++ (number_text granted ++ number_text outstanding))
 reply_text (Refused refusal) = codes "refused" ++ (number_text (refusal_number refusal) ++ value_text (refusal_value refusal))
 

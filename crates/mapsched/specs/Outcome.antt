@@ -1,12 +1,12 @@
 -- What the bytes of an input stand for: a scenario under a lawful configuration, or the first fault.
-use Rattle.std.specs.Prelude.{◌≡◌, ℕ, false, nat_lt, if◌then◌else◌, List, length, Option, None, Some, Result, Ok, Err}
+use Rattle.std.specs.Prelude.{◌≡◌, ℕ, nat_lt, if◌then◌else◌, List, length, Option, None, Some, Result, Ok, Err}
 use Rattle.minislots.specs.declared.config.ConfigFault.{ConfigFault}
 use Rattle.minislots.specs.Config.{first_wrong}
 use Rattle.mapsched.specs.declared.input.TheConstants.{MAX_INPUT}
 use Rattle.mapsched.specs.declared.fault.RunFault.{RunFault}
 use Rattle.mapsched.specs.declared.fault.RunFault.TheVariants.{Input, TooLong, NotJson, Shape, Config, Memory, Output}
 use Rattle.mapsched.specs.Input.{value_of, ReadsAll, ReadsTooMany}
-use Rattle.mapsched.specs.Script.{◌>>=◌, Scenario, script_of, AreServed}
+use Rattle.mapsched.specs.Script.{◌>>=◌, Scenario, script_of}
 
 -- the scenario, unless this field of its configuration is wrong
 abbrev pub unless_wrong : Option ConfigFault → Scenario → Result Scenario RunFault
@@ -24,12 +24,11 @@ text_outcome bytes = do
 unfoldable pub outcome_of : List ℕ → Result Scenario RunFault
 outcome_of bytes = if nat_lt MAX_INPUT (length bytes) then Err TooLong else text_outcome bytes
 
--- the bytes of a reader, all of them, stand for this scenario, each call of which is served
+-- the bytes of a reader, all of them, stand for this scenario
 pub record StandsFor (old new : Option (List ℕ)) (scenario : Scenario) : Type 0 where
   pub bytes : List ℕ
   pub all : ReadsAll old new bytes
   pub outcome : outcome_of bytes ≡ Ok scenario
-  pub served : AreServed false scenario.calls
 
 -- the bytes of a reader, all of them, have this fault
 pub record HasFault (old new : Option (List ℕ)) (fault : RunFault) : Type 0 where

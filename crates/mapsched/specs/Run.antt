@@ -1,5 +1,5 @@
 -- What a run reads and writes.
-use Rattle.std.specs.Prelude.{ℕ, List, [], Option, flat_map}
+use Rattle.std.specs.Prelude.{ℕ, Bool, if◌then◌else◌, List, [], Option, flat_map}
 use Rattle.std.specs.Io.KnownBytes.{Appends}
 use Rattle.minislots.specs.declared.config.Config as configs
 use Rattle.sched_history.specs.declared.call.Call.{Call}
@@ -11,22 +11,27 @@ use Rattle.mapsched.specs.Input.{ReadsTooMany}
 use Rattle.mapsched.specs.Outcome.{StandsFor, HasFault}
 use Rattle.mapsched.specs.Answer.{Answer, MayGetEach, entries_of}
 use Rattle.mapsched.specs.Line.{line_of}
+use Rattle.mapsched.specs.HistoryText.{history_text}
 
--- The calls are made one after the other on a scheduler without entries, and the line of each answer is written in order:
+-- what a run writes: the line of each answer in order, or the text of the history of the recorded calls
+abbrev pub output_of : Bool → configs.Config → List Call → List Answer → List ℕ
+output_of as_history c calls answers = if as_history then history_text c (entries_of 0 calls answers) else flat_map line_of answers
+
+-- The calls are made one after the other on a scheduler without entries, and the output of their answers is written:
 -- the recorded ones make a legal history, call i with seat 0 and ticket i
-pub record AnswersEach (c : configs.Config) (calls : List Call) (before after : Option (List ℕ)) : Type 0 where
+pub record AnswersEach (as_history : Bool) (c : configs.Config) (calls : List Call) (before after : Option (List ℕ)) : Type 0 where
   pub answers : List Answer
   pub each : MayGetEach c [] 0 calls answers
   pub legal : IsLegal c (entries_of 0 calls answers)
-  pub written : Appends before after (flat_map line_of answers)
+  pub written : Appends before after (output_of as_history c calls answers)
 
--- The reader's bytes are a script, and the lines of its calls' answers were written, and nothing else
-pub record Ran (unread left written_before written_after : Option (List ℕ)) : Type 0 where
+-- The reader's bytes are a script, and the output of its calls' answers was written, and nothing else
+pub record Ran (as_history : Bool) (unread left written_before written_after : Option (List ℕ)) : Type 0 where
   pub scenario : Scenario
   pub read : StandsFor unread left scenario
-  pub answered : AnswersEach scenario.config scenario.calls written_before written_after
+  pub answered : AnswersEach as_history scenario.config scenario.calls written_before written_after
 
--- why a run ends: want of memory and a failed read or write tell nothing more
+-- why a run ends: a write is tried only after a whole script was read; want of memory and a failed read tell nothing more
 abbrev pub Stops : Option (List ℕ) → Option (List ℕ) → RunFault → Type 0
 Stops unread left Input = Unit {0}
 Stops unread left TooLong = ReadsTooMany unread left
@@ -34,4 +39,4 @@ Stops unread left NotJson = HasFault unread left NotJson
 Stops unread left (Shape n) = HasFault unread left (Shape n)
 Stops unread left (Config fault) = HasFault unread left (Config fault)
 Stops unread left Memory = Unit {0}
-Stops unread left Output = Unit {0}
+Stops unread left Output = (scenario : Scenario) × StandsFor unread left scenario

@@ -1,5 +1,5 @@
 -- What a script is: the configuration and the calls that a JSON value stands for, or the fault in it.
-use Rattle.std.specs.Prelude.{◌≡◌, ◌≢◌, ℕ, ◌+◌, Bool, false, ◌||◌, IsTrue, if◌then◌else◌, List, [], ◌∷◌, codes, Option, Some, None, option_and_then, ok_or, Result, Ok, Err}
+use Rattle.std.specs.Prelude.{◌≡◌, ◌≢◌, ℕ, ◌+◌, List, [], ◌∷◌, codes, option_and_then, ok_or, Result, Ok, Err}
 use Rattle.serde_json.specs.Data.{Data, Items, no_items, item}
 use Rattle.serde_json.specs.Find.{get, as_array}
 use Rattle.minislots.specs.declared.config.Config.{Config}
@@ -7,8 +7,8 @@ use Rattle.sched_history.specs.declared.call.Call.{Call}
 use Rattle.mapsched.specs.declared.fault.RunFault.{RunFault}
 use Rattle.mapsched.specs.declared.fault.RunFault.TheVariants.{Shape, Memory}
 use Rattle.mapsched.specs.declared.script.Script.{Script}
-use Rattle.mapsched.specs.Fields.{config_of, call_of}
-use Rattle.mapsched.specs.Machine.{is_admit, is_served}
+use Rattle.mapsched.specs.Fields.{config_of}
+use Rattle.mapsched.specs.Calls.{call_of}
 
 infixl 10 ◌>>=◌
 abbrev pub ◌>>=◌ : {A B : Type 0} → Result A RunFault → (A → Result B RunFault) → Result B RunFault
@@ -29,16 +29,12 @@ abbrev pub Gives : {X Y : Type 0} → (X → Y) → Result X RunFault → Result
 Gives view (Ok x) there = there ≡ Ok (view x)
 Gives view (Err e) there = e ≢ Memory → there ≡ Err e
 
--- a call that is served, where those before it have an admission or not
-unfoldable pub served_call : Bool → Data → Option Call
-served_call admits d = option_and_then (λ call. if is_served admits call then Some call else None) (call_of d)
-
 -- the calls of an array, the first of which has this number: the first that is none is the fault
-unfoldable pub calls_of : ℕ → Bool → Items → Result (List Call) RunFault
-calls_of n admits no_items = Ok []
-calls_of n admits (item d ds) = do
-  call ← ok_or (served_call admits d) (Shape n)
-  calls ← calls_of (n + 1) (admits || is_admit call) ds
+unfoldable pub calls_of : ℕ → Items → Result (List Call) RunFault
+calls_of n no_items = Ok []
+calls_of n (item d ds) = do
+  call ← ok_or (call_of d) (Shape n)
+  calls ← calls_of (n + 1) ds
   Ok (call ∷ calls)
 
 -- the script that a document stands for: a fault in the document or its configuration comes first
@@ -46,10 +42,5 @@ unfoldable pub script_of : Data → Result Scenario RunFault
 script_of d = do
   config ← ok_or (option_and_then config_of (get (codes "config") d)) (Shape 0)
   items ← ok_or (option_and_then as_array (get (codes "calls") d)) (Shape 0)
-  calls ← calls_of 1 false items
+  calls ← calls_of 1 items
   Ok (record { config = config; calls = calls })
-
--- each of the calls is served after those before it, which have an admission or not
-abbrev pub AreServed : Bool → List Call → Type 0
-AreServed admits [] = Unit {0}
-AreServed admits (call ∷ calls) = IsTrue (is_served admits call) × AreServed (admits || is_admit call) calls

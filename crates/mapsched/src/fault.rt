@@ -2,6 +2,7 @@
 
 ghost use Rattle.std.specs.Prelude.{◌≡◌};
 ghost use Rattle.mapsched.specs.declared.fault.RunFault.TheVariants.{Memory, Config};
+ghost use Rattle.mapsched.specs.Status.{status_of};
 
 use minislots::ConfigFault;
 use std::alloc::AllocError;
@@ -52,7 +53,9 @@ impl From<ConfigFault> for RunFault {
 
 impl RunFault {
     /// The exit status of the program: 3 for a fault of the input, 4 for one of the machine.
-    pub fn status(self) -> u8 {
+    pub fn status(self) -> u8
+        ensures { result ≡ status_of self }
+    {
         match self {
             RunFault::Input
             | RunFault::TooLong
@@ -85,5 +88,27 @@ fn number_of(fault: ConfigFault) -> u8 {
         ConfigFault::RangingEnd => 16,
         ConfigFault::DataStart => 17,
         ConfigFault::DataEnd => 18,
+    }
+}
+
+#[cfg(test)]
+mod tests {
+    use super::*;
+    use std::test::Fail;
+
+    #[test]
+    fn faults_have_their_texts(rt: HostRuntime) -> Result<(), Fail> {
+        let alloc = rt.alloc();
+        for (fault, text, status) in [
+            (RunFault::Input, "input failed", 3),
+            (RunFault::TooLong, "input too long", 3),
+            (RunFault::Config(ConfigFault::DataEnd), "bad config 18", 3),
+            (RunFault::Memory, "out of memory", 4),
+            (RunFault::Output, "output failed", 4),
+        ] {
+            assert_eq!(rt; fault.to_string(alloc)?.as_str(), text);
+            assert_eq!(rt; fault.status(), status, "{text}");
+        }
+        Ok(())
     }
 }

@@ -1,11 +1,11 @@
 //! The lines of a run: one for the answer to each call.
 
-ghost use Rattle.std.specs.Prelude.{◌≡◌, ◌*◌, ◌≤◌, ◌++◌, [], ◌∷◌, length, take, OnOk, IfErr, codes, decimal, Option};
+ghost use Rattle.std.specs.Prelude.{◌≡◌, ◌*◌, ◌≤◌, ◌++◌, [], ◌∷◌, length, take, OnOk, IfErr, codes, decimal, Option, Some};
 ghost use Rattle.std.specs.Io.KnownBytes.{Appends};
 ghost use Rattle.map_codec.specs.WireMap.{IsWellFormed, spelling};
 ghost use Rattle.hex.specs.Hex.{encode_lower};
 ghost use Rattle.mapsched.specs.Line.{number_text, numbers_text, fault_number, refusal_number, refusal_value, value_text, reply_text, answer_text, line_of, HasLine};
-ghost use Rattle.mapsched.specs.Past.{IsEncodable};
+ghost use Rattle.sched_history.specs.Machine.{IsEncodable};
 
 use crate::fault::RunFault;
 use crate::output::put;
@@ -52,7 +52,8 @@ fn fault_number(fault: FlowFault) -> u64
     }
 }
 
-fn refusal_number(refusal: Refusal) -> u64
+/// The number of a refusal, in the order of the tests.
+pub fn refusal_number(refusal: Refusal) -> u64
     ensures { result ≡ refusal_number refusal }
 {
     match refusal {
@@ -76,7 +77,8 @@ fn refusal_number(refusal: Refusal) -> u64
     }
 }
 
-fn refusal_value(refusal: Refusal) -> Option<u64>
+/// The value of a refusal that has one: a minislot, or the number of a fault in a flow's parameters.
+pub fn refusal_value(refusal: Refusal) -> Option<u64>
     ensures { result ≡ refusal_value refusal }
 {
     match refusal {
@@ -147,6 +149,16 @@ fn put_map<W: Write>(writer: &mut W, map: &FrameMap) -> Result<(), RunFault>
     put_payload(writer, &map.wire)
 }
 
+// No call of a script asks for the newest MAP: its line is like that of a MAP that is built.
+fn put_newest<W: Write>(writer: &mut W, map: &FrameMap) -> Result<(), RunFault>
+    requires { IsWellFormed map.now.wire }
+    ensures ok { OnOk result (Appends (W.contents writer.old) (W.contents writer.new) (reply_text (Reply.Latest (Some map.now)))) }
+    ensures err { IfErr result (λ e. e ≡ RunFault.Output) }
+{
+    put(writer, b"latest ")?;
+    put_payload(writer, &map.wire)
+}
+
 fn put_flow<W: Write>(
     writer: &mut W,
     asked: u64,
@@ -182,6 +194,8 @@ fn put_reply<W: Write>(writer: &mut W, reply: &Reply) -> Result<(), RunFault>
             granted,
             outstanding,
         } => put_flow(writer, *asked, *granted, *outstanding),
+        Reply::Latest(None) => put(writer, b"latest"),
+        Reply::Latest(Some(map)) => put_newest(writer, map),
         Reply::Refused(refusal) => put_refusal(writer, *refusal),
     }
 }

@@ -1,18 +1,19 @@
 //! `mapsched`: the upstream scheduler of one TDMA channel, run on a script, and the table of a MAP.
 #![tactic(auto)]
 
+#[cfg(test)]
+mod fakes;
 mod fault;
-mod frame;
+mod history;
 mod input;
 mod line;
-mod machine;
 mod output;
 mod run;
 mod script;
 mod table;
 
 use clap::error::ErrorKind;
-use clap::{Arg, ArgMatches, Command, Error};
+use clap::{Arg, ArgAction, ArgMatches, Command, Error};
 use fault::RunFault;
 use std::alloc::{AllocError, Global};
 use std::io::Write;
@@ -21,10 +22,14 @@ use std::rt::Env;
 use std::{env, io};
 
 /// The command that runs a script.
-fn run_command<'a>(alloc: Global) -> Command<'a> {
-    Command::new(alloc, "run").about(
-        "Reads a script from standard input and prints one line for each call",
-    )
+fn run_command<'a>(alloc: Global) -> Result<Command<'a>, AllocError> {
+    let history = Arg::new(alloc, "history")
+        .long("history")
+        .action(ArgAction::SetTrue)
+        .help("Prints the history of the calls in JSON");
+    Command::new(alloc, "run")
+        .about("Reads a script from standard input and prints one line for each call")
+        .arg(history)
 }
 
 /// The command that shows a payload.
@@ -42,7 +47,7 @@ fn commands<'a>(alloc: Global) -> Result<Command<'a>, AllocError> {
     Command::new(alloc, "mapsched")
         .about("The upstream scheduler of one TDMA channel")
         .subcommand_required(true)
-        .subcommand(run_command(alloc))?
+        .subcommand(run_command(alloc)?)?
         .subcommand(decode_command(alloc)?)
 }
 
@@ -75,9 +80,9 @@ fn explain(rt: &(impl Print + Eprint), error: Error) -> ExitCode {
 }
 
 /// The command `run`: from standard input to standard output.
-fn run_input(rt: &(impl Input + Print + AllocGlobal)) -> Result<bool, RunFault> {
+fn run_input(rt: &(impl Input + Print + AllocGlobal), as_history: bool) -> Result<bool, RunFault> {
     let mut writer = io::writer(rt);
-    run::run_script(rt.alloc(), &mut rt.reader(), &mut writer)?;
+    run::run_script(rt.alloc(), &mut rt.reader(), &mut writer, as_history)?;
     writer.flush().map_err(|_| RunFault::Output)?;
     Ok(true)
 }
@@ -98,9 +103,10 @@ fn main(rt: HostRuntime) -> ExitCode {
         Ok(matches) => matches,
         Err(error) => return explain(&rt, error),
     };
-    let outcome = match matches.subcommand_matches("decode") {
-        Some(decode) => show_text(&rt, decode.get_str("HEX").unwrap_or("")),
-        None => run_input(&rt),
+    let outcome = match matches.subcommand() {
+        Some(("decode", decode)) => show_text(&rt, decode.get_str("HEX").unwrap_or("")),
+        Some((_, run)) => run_input(&rt, run.get_flag("history")),
+        None => run_input(&rt, false),
     };
     match outcome {
         Ok(true) => ExitCode::SUCCESS,

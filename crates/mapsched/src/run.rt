@@ -1,21 +1,33 @@
 //! A run of a script.
 
-ghost use Rattle.std.specs.Prelude.{◌≡◌, ◌≢◌, [], false, OnOk, IfOk, IfErr};
-ghost use Rattle.mapsched.specs.Script.{AreServed};
-ghost use Rattle.mapsched.specs.Outcome.{StopsScript};
+ghost use Rattle.std.specs.Prelude.{◌≡◌, ◌≢◌, ◌⊎◌, [], true, false, List, OnOk, IfErr};
+ghost use Rattle.mapsched.specs.Answer.{Answer, MakesCall, MakesCalls};
+ghost use Rattle.mapsched.specs.Line.{HasLine};
 ghost use Rattle.mapsched.specs.Run.{AnswersEach, Ran, Stops};
 
 #[cfg(test)]
 mod tests;
 
 use crate::fault::RunFault;
+use crate::history::put_history;
 use crate::line::put_line;
-use crate::machine::Scheduler;
 use crate::script::read_script;
-use minislots::Stamp;
-use sched_history::Call;
+use minislots::{Checked, Stamp};
+use sched_history::{Call, Reply, Scheduler, Unrecorded};
 use std::alloc::Global;
 use std::io::{Read, Write};
+
+/// Makes the call at this place of a script. The one seat of a run has the number 0.
+fn make_call(scheduler: &mut Scheduler, place: usize, call: Call) -> Result<Reply, Unrecorded>
+    ensures made { MakesCall scheduler.old scheduler.new place call result }
+    ensures line { HasLine result }
+{
+    let stamp = Stamp {
+        seat: 0,
+        ticket: place as u64,
+    };
+    scheduler.call(stamp, call)
+}
 
 /// Makes the calls of a script one after the other, and writes the line of each answer.
 fn run_calls<W: Write>(
@@ -23,34 +35,62 @@ fn run_calls<W: Write>(
     calls: &[Call],
     writer: &mut W,
 ) -> Result<(), RunFault>
-    requires empty { scheduler.old.history ≡ [] }
-    requires served { AreServed false calls.now }
+    requires { scheduler.old.history ≡ [] }
 
-    ensures ok { OnOk result (AnswersEach scheduler.old.config calls.now
+    ensures ok { OnOk result (AnswersEach false scheduler.old.config calls.now
         (W.contents writer.old) (W.contents writer.new)) }
     ensures err { IfErr result (λ e. e ≡ RunFault.Output) }
 {
-    for (ticket, call) in calls.iter().enumerate() {
-        let stamp = Stamp {
-            seat: 0,
-            ticket: ticket as u64,
-        };
-        let answer = scheduler.call(stamp, *call);
+    for (place, call) in calls.iter().enumerate() {
+        let answer = make_call(scheduler, place, *call);
         put_line(writer, &answer)?;
     }
     Ok(())
 }
 
-/// Reads a script, a configuration and calls in JSON, to the reader's end, makes its calls one after
-/// the other on a new scheduler, and writes one line for the answer to each. The call at place i,
-/// from 0, has the stamp of seat 0 and ticket i. Only a fault of output comes after a line was written.
+/// Makes the calls of a script one after the other.
+fn make_calls(scheduler: &mut Scheduler, calls: &[Call])
+    requires { scheduler.old.history ≡ [] }
+    ensures { (answers : List Answer) × MakesCalls scheduler.old scheduler.new calls.now answers }
+{
+    for (place, call) in calls.iter().enumerate() {
+        let _ = make_call(scheduler, place, *call);
+    }
+}
+
+/// Makes the calls of a script one after the other, and writes the text of their history. Nothing is
+/// written before memory runs out.
+fn run_history<W: Write>(
+    alloc: Global,
+    scheduler: &mut Scheduler,
+    config: &Checked,
+    calls: &[Call],
+    writer: &mut W,
+) -> Result<(), RunFault>
+    requires empty { scheduler.old.history ≡ [] }
+    requires same { config.now ≡ scheduler.old.config }
+
+    ensures ok { OnOk result (AnswersEach true scheduler.old.config calls.now
+        (W.contents writer.old) (W.contents writer.new)) }
+    ensures err { IfErr result (λ e. (e ≡ RunFault.Memory) ⊎ (e ≡ RunFault.Output)) }
+    ensures quiet { IfErr result (λ e. e ≢ RunFault.Output → writer.new ≡ writer.old) }
+{
+    make_calls(scheduler, calls);
+    put_history(alloc, writer, &config.config(), scheduler.history())
+}
+
+/// Reads a script, a configuration and calls in JSON, to the reader's end, and makes its calls one after
+/// the other on a new scheduler. The call at place i, from 0, has the stamp of seat 0 and ticket i.
+/// Writes one line for the answer to each call, and then only a fault of output comes after a line was
+/// written; or with `as_history` the history of the recorded calls in JSON, in one line.
 pub fn run_script<R: Read, W: Write>(
     alloc: Global,
     reader: &mut R,
     writer: &mut W,
+    as_history: bool,
 ) -> Result<(), RunFault>
-    // What was written is the lines of the answers, and nothing else.
-    ensures ok { OnOk result (Ran (R.remaining reader.old) (R.remaining reader.new)
+    // What was written is the lines of the answers, or the text of their history, and nothing else.
+    ensures ok { OnOk result (Ran as_history (R.remaining reader.old) (R.remaining reader.new)
         (W.contents writer.old) (W.contents writer.new)) }
 
     // Each fault comes under its own condition, the first one in their order.
@@ -61,5 +101,9 @@ pub fn run_script<R: Read, W: Write>(
     let Ok(mut scheduler) = Scheduler::open(alloc, config) else {
         return Err(RunFault::Memory);
     };
-    run_calls(&mut scheduler, &calls, writer)
+    if as_history {
+        run_history(alloc, &mut scheduler, &config, &calls, writer)
+    } else {
+        run_calls(&mut scheduler, &calls, writer)
+    }
 }

@@ -1,18 +1,18 @@
 //! The script of a run: the configuration of a channel, and the calls that are made in order.
 
-ghost use Rattle.std.specs.Prelude.{◌≡◌, false, IfOk};
 ghost use Rattle.serde_json.specs.View.{view, items_view};
-ghost use Rattle.mapsched.specs.Script.{Gives, served_call, calls_of, script_of, scenario_of, AreServed};
+ghost use Rattle.mapsched.specs.Script.{Gives, calls_of, script_of, scenario_of};
 
 mod call;
 mod config;
 mod field;
+mod flow;
 mod reading;
 #[cfg(test)]
 mod tests;
 
 use crate::fault::RunFault;
-use call::{call_of, is_admit, is_served};
+use call::call_of;
 use config::config_of;
 use field::member;
 use minislots::Config;
@@ -30,30 +30,15 @@ pub struct Script {
     pub calls: Vec<Call>,
 }
 
-// The call, where it is one that is served after those before it.
-#[tactic(auto, unfolding(crate::specs::Script::served_call))]
-fn served_call(value: &Value, admitted: bool) -> Option<Call>
-    ensures { result ≡ served_call admitted (view value.now) }
-{
-    let call = call_of(value)?;
-    if is_served(admitted, &call) {
-        Some(call)
-    } else {
-        None
-    }
-}
-
 // The calls of an array. The first that is none is the fault, counted from 1.
 fn calls_of(alloc: Global, values: &[Value]) -> Result<Vec<Call>, RunFault>
-    ensures { Gives (λ calls. calls.items) result (calls_of 1 false (items_view values.now)) }
+    ensures { Gives (λ calls. calls.items) result (calls_of 1 (items_view values.now)) }
 {
     let mut calls = Vec::with_capacity(alloc, values.len())?;
-    let mut admitted = false;
     for (index, value) in values.iter().enumerate() {
-        let Some(call) = served_call(value, admitted) else {
+        let Some(call) = call_of(value) else {
             return Err(RunFault::Shape(index as u64 + 1));
         };
-        admitted |= is_admit(&call);
         calls.push_reserved(call);
     }
     Ok(calls)
@@ -62,12 +47,10 @@ fn calls_of(alloc: Global, values: &[Value]) -> Result<Vec<Call>, RunFault>
 /// The script that a JSON value stands for: an object with `config`, an object that has every field
 /// of a configuration as a whole number that fits, and `calls`, an array of objects. Other keys are
 /// ignored. A fault in the document or its configuration is that of shape with 0, and comes first.
-/// Otherwise the first call that is none, counted from 1, is the fault. Another call or kind of
-/// flow, a flow with a rate ceiling and a second admission are none yet.
+/// Otherwise the first call that is none, counted from 1, is the fault.
 #[tactic(auto, unfolding(crate::specs::Script::script_of))]
 pub fn script_of(alloc: Global, value: &Value) -> Result<Script, RunFault>
-    ensures exact { Gives scenario_of result (script_of (view value.now)) }
-    ensures served { IfOk result (λ script. AreServed false script.calls.items) }
+    ensures { Gives scenario_of result (script_of (view value.now)) }
 {
     let Some(config) = member(value, "config").and_then(config_of) else {
         return Err(RunFault::Shape(0));

@@ -1,2 +1,11 @@
 pub mod RowsPlacement
 pub mod RowsNoPlace
+pub mod Parameters
+pub mod Places
+pub mod Fields
+pub mod Frames
+pub mod Reference
+pub mod EachFrame
+pub mod Choosing
+pub mod Adding
+pub mod Removing

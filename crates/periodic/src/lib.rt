@@ -2,5 +2,11 @@
 #![tactic(auto)]
 
 mod placement;
+mod search;
+mod spots;
+mod table;
+#[cfg(test)]
+mod tests;
 
 pub use placement::{PlaceFault, Placement, Spot, Starts};
+pub use table::Table;

@@ -12,3 +12,6 @@ pub mod Time
 pub mod Refusal
 pub mod History
 pub mod Reply
+pub mod Machine
+pub mod State
+pub mod Facts

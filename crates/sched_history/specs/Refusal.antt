@@ -4,7 +4,7 @@ use Rattle.std.specs.Option.{option_or, option_map_or}
 use Rattle.minislots.specs.declared.config.Config.{Config}
 use Rattle.flow_book.specs.FlowSpec.{is_periodic, takes_requests, first_fault}
 use Rattle.sched_history.specs.declared.call.Call.{Call}
-use Rattle.sched_history.specs.declared.call.Call.TheVariants.{Admit, Remove, Ask, Heard, Build, Skip, Status}
+use Rattle.sched_history.specs.declared.call.Call.TheVariants.{Admit, Remove, Ask, Heard, Build, Skip, Status, Newest}
 use Rattle.sched_history.specs.declared.reply.Refusal.{Refusal}
 use Rattle.sched_history.specs.declared.reply.Refusal.TheVariants.{BadSid, SidLive, BadFlow, FlowsFull, PeriodicFull, NoFlow, NotAsking, BadReceiver, BadBytes, Acked, Ahead, Backwards, BadClock, TooEarly, Late, NotLate}
 use Rattle.sched_history.specs.declared.reply.Entry.{Entry}
@@ -78,3 +78,4 @@ refusal_of c h (Skip now) = first_of (
     refused_if (nat_lt last_clock now) BadClock ∷
     refused_if (nat_le (now + c.lead) (next_after c h)) (NotLate (next_after c h)) ∷ [])
 refusal_of c h (Status sid) = first_of (refused_if (bad_sid sid) BadSid ∷ refused_if (not (is_live sid h)) NoFlow ∷ [])
+refusal_of c h Newest = None

@@ -1,9 +1,9 @@
 -- Which replies own memory.
 use Rattle.std.specs.Prelude.{None, Some}
 use Rattle.sched_history.specs.declared.reply.Reply.{Reply}
-use Rattle.sched_history.specs.declared.reply.Reply.TheVariants.{Admitted, Removed, Taken, Noted, Built, Skipped, Flow, Refused}
+use Rattle.sched_history.specs.declared.reply.Reply.TheVariants.{Admitted, Removed, Taken, Noted, Built, Skipped, Flow, Latest, Refused}
 
--- the reply has a list: a placement's starts, or a MAP
+-- the reply has lists: a placement's starts, or a MAP
 abbrev pub OwnsMemory : Reply → Type 0
 OwnsMemory (Admitted None) = ⊥
 OwnsMemory (Admitted (Some placement)) = Unit {0}
@@ -13,4 +13,6 @@ OwnsMemory Noted = ⊥
 OwnsMemory (Built m) = Unit {0}
 OwnsMemory (Skipped next) = ⊥
 OwnsMemory (Flow asked granted outstanding) = ⊥
+OwnsMemory (Latest None) = ⊥
+OwnsMemory (Latest (Some m)) = Unit {0}
 OwnsMemory (Refused refusal) = ⊥

@@ -31,4 +31,6 @@ pub enum Call {
     },
     /// Asks for a flow's bytes.
     Status(u16),
+    /// Asks for the newest MAP.
+    Newest,
 }

@@ -3,6 +3,8 @@
 
 mod call;
 mod reply;
+mod scheduler;
 
 pub use call::Call;
 pub use reply::{Entry, Refusal, Reply, Unrecorded};
+pub use scheduler::Scheduler;

@@ -89,6 +89,8 @@ pub enum Reply {
         granted: u64,
         outstanding: u64,
     },
+    /// The newest MAP, where one was built.
+    Latest(Option<FrameMap>),
     /// The call changes nothing.
     Refused(Refusal),
 }
@@ -118,6 +120,8 @@ impl Reply {
                 granted: *granted,
                 outstanding: *outstanding,
             },
+            Reply::Latest(None) => Reply::Latest(None),
+            Reply::Latest(Some(map)) => Reply::Latest(Some(map.copy(alloc)?)),
             Reply::Refused(refusal) => Reply::Refused(*refusal),
         })
     }

@@ -4,3 +4,4 @@ pub mod Seats
 pub mod Steps
 pub mod Turns
 pub mod Words
+pub mod Profile

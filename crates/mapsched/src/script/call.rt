@@ -2,36 +2,14 @@
 
 ghost use Rattle.std.specs.Prelude.{◌≡◌};
 ghost use Rattle.serde_json.specs.View.{view};
-ghost use Rattle.mapsched.specs.Fields.{best_effort_of, flow_of, admit_of, ask_of, build_of, call_of};
-ghost use Rattle.mapsched.specs.Machine.{is_admit, is_served};
+ghost use Rattle.mapsched.specs.Calls.{admit_of, remove_of, ask_of, heard_of, build_of, skip_of, status_of, call_of};
 
 use super::field::{member, number_u8, number_u16, number_u32, number_u64, text};
-use flow_book::FlowSpec;
+use super::flow::flow_of;
 use sched_history::Call;
 use serde_json::Value;
 
-#[tactic(auto, unfolding(crate::specs::Fields::best_effort_of))]
-fn best_effort_of(value: &Value) -> Option<FlowSpec>
-    ensures { result ≡ best_effort_of (view value.now) }
-{
-    Some(FlowSpec::BestEffort {
-        priority: number_u8(value, "priority")?,
-        rate: number_u32(value, "rate")?,
-        burst: number_u32(value, "burst")?,
-    })
-}
-
-#[tactic(auto, unfolding(crate::specs::Fields::flow_of))]
-fn flow_of(value: &Value) -> Option<FlowSpec>
-    ensures { result ≡ flow_of (view value.now) }
-{
-    match text(value, "kind")? {
-        "best_effort" => best_effort_of(value),
-        _ => None,
-    }
-}
-
-#[tactic(auto, unfolding(crate::specs::Fields::admit_of))]
+#[tactic(auto, unfolding(crate::specs::Calls::admit_of))]
 fn admit_of(value: &Value) -> Option<Call>
     ensures { result ≡ admit_of (view value.now) }
 {
@@ -40,7 +18,14 @@ fn admit_of(value: &Value) -> Option<Call>
     Some(Call::Admit(sid, flow))
 }
 
-#[tactic(auto, unfolding(crate::specs::Fields::ask_of))]
+#[tactic(auto, unfolding(crate::specs::Calls::remove_of))]
+fn remove_of(value: &Value) -> Option<Call>
+    ensures { result ≡ remove_of (view value.now) }
+{
+    Some(Call::Remove(number_u16(value, "sid")?))
+}
+
+#[tactic(auto, unfolding(crate::specs::Calls::ask_of))]
 fn ask_of(value: &Value) -> Option<Call>
     ensures { result ≡ ask_of (view value.now) }
 {
@@ -52,7 +37,17 @@ fn ask_of(value: &Value) -> Option<Call>
     })
 }
 
-#[tactic(auto, unfolding(crate::specs::Fields::build_of))]
+#[tactic(auto, unfolding(crate::specs::Calls::heard_of))]
+fn heard_of(value: &Value) -> Option<Call>
+    ensures { result ≡ heard_of (view value.now) }
+{
+    Some(Call::Heard {
+        receiver: number_u8(value, "receiver")?,
+        upto: number_u64(value, "upto")?,
+    })
+}
+
+#[tactic(auto, unfolding(crate::specs::Calls::build_of))]
 fn build_of(value: &Value) -> Option<Call>
     ensures { result ≡ build_of (view value.now) }
 {
@@ -61,34 +56,35 @@ fn build_of(value: &Value) -> Option<Call>
     })
 }
 
-/// The call that an object stands for, by its name. Other calls and kinds of flow are none yet.
-#[tactic(auto, unfolding(crate::specs::Fields::call_of))]
+#[tactic(auto, unfolding(crate::specs::Calls::skip_of))]
+fn skip_of(value: &Value) -> Option<Call>
+    ensures { result ≡ skip_of (view value.now) }
+{
+    Some(Call::Skip {
+        now: number_u64(value, "now")?,
+    })
+}
+
+#[tactic(auto, unfolding(crate::specs::Calls::status_of))]
+fn status_of(value: &Value) -> Option<Call>
+    ensures { result ≡ status_of (view value.now) }
+{
+    Some(Call::Status(number_u16(value, "sid")?))
+}
+
+/// The call that an object stands for, by its name. The question for the newest MAP has no name.
+#[tactic(auto, unfolding(crate::specs::Calls::call_of))]
 pub fn call_of(value: &Value) -> Option<Call>
     ensures { result ≡ call_of (view value.now) }
 {
     match text(value, "call")? {
         "admit" => admit_of(value),
+        "remove" => remove_of(value),
         "ask" => ask_of(value),
+        "heard" => heard_of(value),
         "build" => build_of(value),
+        "skip" => skip_of(value),
+        "status" => status_of(value),
         _ => None,
-    }
-}
-
-/// Whether the call is an admission.
-pub fn is_admit(call: &Call) -> bool
-    ensures { result ≡ is_admit call.now }
-{
-    matches!(call, Call::Admit(_, _))
-}
-
-/// Whether the scheduler serves this call: the admission of a best effort flow without a rate
-/// ceiling, where no admission was asked before, a request, or a build.
-pub fn is_served(admitted: bool, call: &Call) -> bool
-    ensures { result ≡ is_served admitted call.now }
-{
-    match call {
-        Call::Admit(_, FlowSpec::BestEffort { rate, .. }) => !admitted && *rate == 0,
-        Call::Ask { .. } | Call::Build { .. } => true,
-        _ => false,
     }
 }

@@ -1,7 +1,7 @@
 //! The script in the bytes of a reader.
 
-ghost use Rattle.std.specs.Prelude.{false, IfOk, IfErr};
-ghost use Rattle.mapsched.specs.Script.{Gives, AreServed};
+ghost use Rattle.std.specs.Prelude.{IfOk, IfErr};
+ghost use Rattle.mapsched.specs.Script.{Gives};
 ghost use Rattle.mapsched.specs.Outcome.{text_outcome, StandsFor, StopsScript};
 
 use super::{Script, script_of};
@@ -15,9 +15,8 @@ use std::io::Read;
 // The script that a text stands for, where its configuration is lawful.
 #[tactic(auto, unfolding(crate::specs::Outcome::text_outcome))]
 fn script_in(alloc: Global, bytes: &[u8]) -> Result<(Checked, Vec<Call>), RunFault>
-    ensures exact { Gives (λ r. record { config = r.0; calls = r.1.items }) result
+    ensures { Gives (λ r. record { config = r.0; calls = r.1.items }) result
         (text_outcome bytes.now) }
-    ensures served { IfOk result (λ r. AreServed false r.1.items) }
 {
     let value = parse(alloc, bytes)?;
     let Script { config, calls } = script_of(alloc, &value)?;

@@ -1,21 +1,24 @@
 //! Scripts and their faults, and readers that fail.
 
 use super::read_script;
+use crate::fakes::{CONFIG, edited, push_part, script_of};
 use crate::fault::RunFault;
-use flow_book::FlowSpec;
-use minislots::Config;
-use sched_history::Call;
 use std::alloc::{AllocError, Global};
 use std::io;
 use std::io::{ErrorKind, Read};
 use std::process::Abort;
 use std::test::Fail;
 
-const CONFIG: &str =
-    r#"{"ticks":4,"bytes_per_slot":16,"overhead":2,"frame":40,"cycle":20,"req_slots":4,"poll_slots":2,"lead":40,"short_max":8,"quantum":64,"grant_cap":2000,"receivers":1,"calls":1000,"start":800,"ranging_start":0,"ranging_end":0,"data_start":0,"data_end":0,"channel":3,"ucd_count":1}"#;
-
-const CALLS: &str =
-    r#"[{"call":"build","now":760},{"call":"admit","sid":17,"flow":{"kind":"best_effort","priority":3,"rate":0,"burst":0}},{"call":"ask","receiver":0,"sid":17,"bytes":100,"heard":801},{"call":"build","now":800}]"#;
+// A call of each name and a flow of each kind, and what they are read as.
+const CALLS: &str = r#"{"call":"build","now":760} => Build { now: 760 }
+{"call":"admit","sid":17,"flow":{"kind":"best_effort","priority":3,"rate":64000,"burst":1600}} => Admit(17, BestEffort { priority: 3, rate: 64000, burst: 1600 })
+{"call":"ask","receiver":0,"sid":17,"bytes":100,"heard":801} => Ask { receiver: 0, sid: 17, bytes: 100, heard: 801 }
+{"call":"admit","sid":5,"flow":{"kind":"unsolicited","size":200,"interval_us":10000,"jitter_us":800}} => Admit(5, Unsolicited { size: 200, interval_us: 10000, jitter_us: 800 })
+{"call":"admit","sid":9,"flow":{"kind":"polled","interval_us":5000,"jitter_us":400,"rate":9,"burst":70}} => Admit(9, Polled { interval_us: 5000, jitter_us: 400, rate: 9, burst: 70 })
+{"call":"heard","receiver":2,"upto":840} => Heard { receiver: 2, upto: 840 }
+{"call":"skip","now":802} => Skip { now: 802 }
+{"call":"status","sid":18} => Status(18)
+{"call":"remove","sid":19} => Remove(19)"#;
 
 // Texts, and the line that each gives.
 const TEXTS: &str = r#" => not json
@@ -27,24 +30,18 @@ const TEXTS: &str = r#" => not json
 {} => bad script at 0
 [] => bad script at 0
 null => bad script at 0
-7 => bad script at 0
 {"config":{},"calls":[]} => bad script at 0
 {"config":{},"calls":[1]} => bad script at 0
 {"calls":[1]} => bad script at 0"#;
 
-// What stands under `calls`, and the line that the script gives.
-const ARRAYS: &str = r#"[] => a script
-{} => bad script at 0
-null => bad script at 0
-"[]" => bad script at 0
-[null] => bad script at 1
-[[]] => bad script at 1
-[{}] => bad script at 1"#;
-
-// Parts of the configuration, what stands in their place, and the line that the script gives.
-const FIELDS: &str = r#""ticks":4 -> "ticks":3 => bad config 1
+// Parts of a script, what stands in their place, and the line that the script gives.
+const EDITS: &str = r#""ticks":4 -> "ticks":3 => bad config 1
 "frame":40 -> "frame":15 => bad config 4
+"grant_cap":2000 -> "grant_cap":63 => bad config 11
 "data_end":0 -> "data_end":16 => bad config 18
+"receivers":1 -> "receivers":255 => bad config 12
+"start":800 -> "start":18446744073709551615 => bad config 14
+"start":800 -> "start":18446744073709551616 => bad script at 0
 "ticks":4, ->  => bad script at 0
 ,"ucd_count":1 ->  => bad script at 0
 "ticks":4 -> "ticks":-4 => bad script at 0
@@ -54,58 +51,56 @@ const FIELDS: &str = r#""ticks":4 -> "ticks":3 => bad config 1
 "ticks":4 -> "ticks":null => bad script at 0
 "ticks":4 -> "ticks":4294967296 => bad script at 0
 "receivers":1 -> "receivers":256 => bad script at 0
-"receivers":1 -> "receivers":255 => bad config 12
-"start":800 -> "start":18446744073709551616 => bad script at 0
-"start":800 -> "start":18446744073709551615 => bad config 14
 "ticks":4 -> "ticks":3,"ticks":4 => a script
-"ticks":4 -> "ticks":4,"other":[-1.5] => a script"#;
-
-// The same of the calls.
-const PARTS: &str = r#""now":760 -> "now":-1 => bad script at 1
+"ticks":4 -> "ticks":4,"other":[-1.5] => a script
+"calls":[ -> "calls":null,"other":[ => bad script at 0
+"calls":[ -> "calls":[null, => bad script at 1
+"calls":[ -> "calls":[{}, => bad script at 1
 "now":760 -> "now":-0 => bad script at 1
 "now":760 -> "now":1.0 => bad script at 1
-"now":760 -> "now":1e2 => bad script at 1
 "now":760 -> "now":18446744073709551616 => bad script at 1
 "now":760 -> "now":18446744073709551615 => a script
-"now":760 -> "now":true => bad script at 1
 "now":760 -> "Now":760 => bad script at 1
-"build" -> "skip" => bad script at 1
 "build" -> "Build" => bad script at 1
-"build" -> 1 => bad script at 1
+"build" -> "newest" => bad script at 1
+"build" -> "skip" => a script
 "call":"build", ->  => bad script at 1
-"best_effort" -> "polled" => bad script at 2
+"best_effort" -> "besteffort" => bad script at 2
 "best_effort" -> [] => bad script at 2
+"best_effort" -> "polled" => bad script at 2
+"best_effort" -> "polled","interval_us":1,"jitter_us":0 => a script
 "flow":{ -> "flow":null,"other":{ => bad script at 2
 "sid":17,"flow" -> "flow" => bad script at 2
 "sid":17,"flow" -> "sid":65536,"flow" => bad script at 2
 "sid":17,"flow" -> "sid":65535,"flow" => a script
-"rate":0 -> "rate":1 => bad script at 2
-"rate":0 -> "rate":4294967296 => bad script at 2
-"burst":0 -> "burst":4294967295 => a script
+"rate":64000 -> "rate":4294967296 => bad script at 2
+"rate":64000 -> "rate":4294967295 => a script
+,"burst":1600 ->  => bad script at 2
 "priority":3 -> "priority":256 => bad script at 2
 "priority":3 -> "priority":255 => a script
 "sid":17,"bytes" -> "sid":65536,"bytes" => bad script at 3
-"sid":17,"bytes" -> "sid":8192,"bytes" => a script
 "bytes":100 -> "bytes":4294967296 => bad script at 3
 "receiver":0 -> "receiver":256 => bad script at 3
 ,"heard":801 ->  => bad script at 3
-{"call":"build","now":800} -> 1 => bad script at 4
-{"call":"build","now":800} -> {"call":"build","now":800},1 => bad script at 5"#;
+"size":200, ->  => bad script at 4
+"jitter_us":800 -> "jitter_us":4294967296 => bad script at 4
+,"burst":70 ->  => bad script at 5
+"interval_us":5000 -> "interval":5000 => bad script at 5
+"receiver":2 -> "receiver":256 => bad script at 6
+"upto":840 -> "upto":-1 => bad script at 6
+"now":802 -> "now":true => bad script at 7
+"sid":18 -> "sid":65536 => bad script at 8
+"sid":19 -> "upto":19 => bad script at 9"#;
 
-// Another admission, whose SID is free.
-const ADMISSION: &str =
-    r#"{"call":"admit","sid":18,"flow":{"kind":"best_effort","priority":3,"rate":0,"burst":0}}"#;
-
+// A script of all the calls.
 fn script(alloc: Global) -> Result<String, AllocError> {
-    format!(in alloc; r#"{{"config":{CONFIG},"calls":{CALLS}}}"#)
-}
-
-// The script with one of its parts replaced.
-fn edited(alloc: Global, text: &str, old: &str, new: &str) -> Result<String, AllocError> {
-    match text.split_once(old) {
-        Some((front, back)) => format!(in alloc; "{front}{new}{back}"),
-        None => String::from_str(alloc, "no such part"),
+    let mut calls = String::new(alloc);
+    for row in CALLS.lines() {
+        if let Some((call, _)) = row.split_once(" => ") {
+            push_part(&mut calls, call)?;
+        }
     }
+    script_of(alloc, CONFIG, &calls)
 }
 
 // The line that a reader's script gives: its fault's, if it has one.
@@ -114,19 +109,6 @@ fn line_of<R: Read>(alloc: Global, reader: &mut R) -> Result<String, AllocError>
         Ok(_) => String::from_str(alloc, "a script"),
         Err(fault) => fault.to_string(alloc),
     }
-}
-
-// The line that the script gives after each of the edits.
-fn test_edits(rt: &impl Abort, alloc: Global, rows: &str) -> Result<(), Fail> {
-    let whole = script(alloc)?;
-    for row in rows.lines() {
-        let (edit, expected) = row.split_once(" => ").ok_or("a row has a line")?;
-        let (old, new) = edit.split_once(" -> ").ok_or("a row has an edit")?;
-        let text = edited(alloc, &whole, old, new)?;
-        let line = line_of(alloc, &mut text.as_bytes())?;
-        assert!(rt; line.as_str() == expected, "{row}: {line}");
-    }
-    Ok(())
 }
 
 /// Gives its bytes a few at a time, and fails at one of its reads.
@@ -152,50 +134,15 @@ impl Read for Failing<'_> {
 }
 
 #[test]
-fn the_script_of_two_maps_has_four_calls(rt: HostRuntime) -> Result<(), Fail> {
+fn each_call_is_read(rt: HostRuntime) -> Result<(), Fail> {
     let alloc = rt.alloc();
-    let text = script(alloc)?;
-    let (config, calls) = read_script(alloc, &mut text.as_bytes())?;
-    let flow = FlowSpec::BestEffort {
-        priority: 3,
-        rate: 0,
-        burst: 0,
-    };
-    let expected = [
-        Call::Build { now: 760 },
-        Call::Admit(17, flow),
-        Call::Ask {
-            receiver: 0,
-            sid: 17,
-            bytes: 100,
-            heard: 801,
-        },
-        Call::Build { now: 800 },
-    ];
-    assert!(rt; calls.as_slice() == expected.as_slice(), "{calls:?}");
-    let expected = Config {
-        ticks: 4,
-        bytes_per_slot: 16,
-        overhead: 2,
-        frame: 40,
-        cycle: 20,
-        req_slots: 4,
-        poll_slots: 2,
-        lead: 40,
-        short_max: 8,
-        quantum: 64,
-        grant_cap: 2000,
-        receivers: 1,
-        calls: 1000,
-        start: 800,
-        ranging_start: 0,
-        ranging_end: 0,
-        data_start: 0,
-        data_end: 0,
-        channel: 3,
-        ucd_count: 1,
-    };
-    assert_eq!(rt; config.config(), expected);
+    let (_, calls) = read_script(alloc, &mut script(alloc)?.as_bytes())?;
+    assert_eq!(rt; calls.len(), 9);
+    for (call, row) in calls.iter().zip(CALLS.lines()) {
+        let (_, shown) = row.split_once(" => ").ok_or("a row has a call")?;
+        let found = format!(in alloc; "{call:?}")?;
+        assert_eq!(rt; found.as_str(), shown);
+    }
     Ok(())
 }
 
@@ -204,12 +151,6 @@ fn a_text_that_is_no_script_has_its_fault(rt: HostRuntime) -> Result<(), Fail> {
     let alloc = rt.alloc();
     for row in TEXTS.lines() {
         let (text, expected) = row.split_once(" => ").ok_or("a row has a line")?;
-        let line = line_of(alloc, &mut text.as_bytes())?;
-        assert!(rt; line.as_str() == expected, "{row}: {line}");
-    }
-    for row in ARRAYS.lines() {
-        let (calls, expected) = row.split_once(" => ").ok_or("a row has a line")?;
-        let text = format!(in alloc; r#"{{"config":{CONFIG},"calls":{calls}}}"#)?;
         let line = line_of(alloc, &mut text.as_bytes())?;
         assert!(rt; line.as_str() == expected, "{row}: {line}");
     }
@@ -227,43 +168,42 @@ fn bytes_that_are_no_json_have_their_fault(rt: HostRuntime) -> Result<(), Fail> 
     Ok(())
 }
 
+// Faults are counted from 1 at a call, and are 0 in the document and its configuration.
 #[test]
-fn a_wrong_field_has_its_fault(rt: HostRuntime) -> Result<(), Fail> {
-    test_edits(&rt, rt.alloc(), FIELDS)
-}
-
-#[test]
-fn the_first_broken_call_is_counted_from_1(rt: HostRuntime) -> Result<(), Fail> {
-    test_edits(&rt, rt.alloc(), PARTS)
-}
-
-#[test]
-fn a_second_admission_is_no_call_yet(rt: HostRuntime) -> Result<(), Fail> {
+fn an_edited_script_has_its_fault(rt: HostRuntime) -> Result<(), Fail> {
     let alloc = rt.alloc();
-    let last = r#"{"call":"build","now":800}"#;
-    let text = edited(alloc, &script(alloc)?, last, ADMISSION)?;
-    let outcome = read_script(alloc, &mut text.as_bytes());
-    assert_eq!(rt; outcome.err(), Some(RunFault::Shape(4)));
+    let whole = script(alloc)?;
+    for row in EDITS.lines() {
+        let (edit, expected) = row.split_once(" => ").ok_or("a row has a line")?;
+        let (old, new) = edit.split_once(" -> ").ok_or("a row has an edit")?;
+        let text = edited(alloc, &whole, old, new)?;
+        let line = line_of(alloc, &mut text.as_bytes())?;
+        assert!(rt; line.as_str() == expected, "{row}: {line}");
+    }
     Ok(())
 }
 
+// Each edit is made in the text of the one before.
+const EARLIER: &str = r#""ticks":4 -> "ticks":3 => bad config 1
+"frame":40 -> "frame":1024 => bad config 1
+"ticks":3 -> "ticks":4 => bad config 14
+"lead":40 -> "lead":2049 => bad config 8
+"lead":2049 -> "lead":2048 => bad config 14
+"now":802 -> "now":1.0 => bad script at 7
+"best_effort" -> "other" => bad script at 2
+"channel":3 -> "channel":256 => bad script at 0"#;
+
 #[test]
-fn a_fault_of_shape_comes_before_a_wrong_configuration(rt: HostRuntime) -> Result<(), Fail> {
+fn the_first_fault_is_answered(rt: HostRuntime) -> Result<(), Fail> {
     let alloc = rt.alloc();
-    let text = edited(alloc, &script(alloc)?, "\"ticks\":4", "\"ticks\":3")?;
-    let text = edited(alloc, &text, "\"now\":800", "\"now\":1.0")?;
-    let outcome = read_script(alloc, &mut text.as_bytes());
-    assert_eq!(rt; outcome.err(), Some(RunFault::Shape(4)), "the last call");
-    let text = edited(alloc, &text, "\"best_effort\"", "\"other\"")?;
-    let outcome = read_script(alloc, &mut text.as_bytes());
-    assert_eq!(rt; outcome.err(), Some(RunFault::Shape(2)), "two calls");
-    let text = edited(alloc, &text, "\"channel\":3", "\"channel\":256")?;
-    let outcome = read_script(alloc, &mut text.as_bytes());
-    assert_eq!(rt;
-        outcome.err(),
-        Some(RunFault::Shape(0)),
-        "the configuration"
-    );
+    let mut text = script(alloc)?;
+    for row in EARLIER.lines() {
+        let (edit, expected) = row.split_once(" => ").ok_or("a row has a line")?;
+        let (old, new) = edit.split_once(" -> ").ok_or("a row has an edit")?;
+        text = edited(alloc, &text, old, new)?;
+        let line = line_of(alloc, &mut text.as_bytes())?;
+        assert!(rt; line.as_str() == expected, "{row}: {line}");
+    }
     Ok(())
 }
 

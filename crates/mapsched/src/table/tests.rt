@@ -1,10 +1,10 @@
 //! Tables and fault lines as they are printed, and writers that fail.
 
 use super::decode_text;
+use crate::fakes::Narrow;
 use crate::fault::RunFault;
 use std::alloc::Global;
-use std::io;
-use std::io::{ErrorKind, Write};
+use std::io::ErrorKind;
 use std::test::Fail;
 
 const ONE_MAP: &str = "03010300000003200000032000000000fffc4000000180040001c028";
@@ -46,30 +46,6 @@ fn shown(alloc: Global, text: &str) -> Result<(bool, Vec<u8>), RunFault> {
     Ok((is_payload, written))
 }
 
-/// Takes one byte at each write, as many as it has room for, and then fails.
-#[derive(Drop)]
-struct Narrow {
-    room: usize,
-    kind: ErrorKind,
-}
-
-impl Write for Narrow {
-    fn write(&mut self, buf: &[u8]) -> io::Result<usize> {
-        if self.room == 0 {
-            return Err(io::Error::new(self.kind, "fails here"));
-        }
-        if buf.is_empty() {
-            return Ok(0);
-        }
-        self.room -= 1;
-        Ok(1)
-    }
-
-    fn flush(&mut self) -> io::Result<()> {
-        Ok(())
-    }
-}
-
 #[test]
 fn a_payload_is_shown_as_its_table(rt: HostRuntime) -> Result<(), Fail> {
     let cases = [
@@ -94,42 +70,29 @@ fn a_payload_is_shown_as_its_table(rt: HostRuntime) -> Result<(), Fail> {
     Ok(())
 }
 
+// Texts, and the line that each gives.
+const FAULTS: &str = "0g => fault hex
+030 => fault hex
+0301 0300 => fault hex
+é => fault hex
+03010300000003200000032000000000fffc4000000180040001c02 => fault hex
+ => fault 1
+030103000000032000000320000000 => fault 1
+0301f100000000000000000000000000 => fault 2
+03010300000003200000032000000000fffc4000000180040001c0 => fault 3
+030102000000032000000320000000000003c0000001c000 => fault 4 0
+03010200000003200000032000000000000180050001c004 => fault 5 1
+03010100000003200000032000000000fffc4000 => fault 6
+030102000000032000000320000000000001c0000001c000 => fault 7 1";
+
 #[test]
 fn what_is_no_payload_is_shown_as_its_one_fault(rt: HostRuntime) -> Result<(), Fail> {
-    let cases = [
-        ("0g", "fault hex\n"),
-        ("030", "fault hex\n"),
-        ("0301 0300", "fault hex\n"),
-        ("é", "fault hex\n"),
-        (
-            "03010300000003200000032000000000fffc4000000180040001c02",
-            "fault hex\n",
-        ),
-        ("", "fault 1\n"),
-        ("030103000000032000000320000000", "fault 1\n"),
-        ("0301f100000000000000000000000000", "fault 2\n"),
-        (
-            "03010300000003200000032000000000fffc4000000180040001c0",
-            "fault 3\n",
-        ),
-        (
-            "030102000000032000000320000000000003c0000001c000",
-            "fault 4 0\n",
-        ),
-        (
-            "03010200000003200000032000000000000180050001c004",
-            "fault 5 1\n",
-        ),
-        ("03010100000003200000032000000000fffc4000", "fault 6\n"),
-        (
-            "030102000000032000000320000000000001c0000001c000",
-            "fault 7 1\n",
-        ),
-    ];
-    for (text, line) in cases {
-        let (is_payload, written) = shown(rt.alloc(), text)?;
-        assert!(rt; !is_payload, "{text}");
-        assert_eq!(rt; written.as_slice(), line.as_bytes(), "{text}");
+    for row in FAULTS.lines() {
+        let (text, line) = row.split_once(" => ").ok_or("a row has a line")?;
+        let (is_payload, mut written) = shown(rt.alloc(), text)?;
+        assert!(rt; !is_payload, "{row}");
+        assert!(rt; written.pop() == Some(b'\n'), "{row}");
+        assert!(rt; written.as_slice() == line.as_bytes(), "{row}");
     }
     Ok(())
 }

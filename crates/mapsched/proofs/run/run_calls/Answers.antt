@@ -1,14 +1,11 @@
--- Each call is served, and leads the run one step on.
-use Rattle.mapsched.proofs.Running.{Answers-from, Runs-push, Runs-served, Runs-whole}
+-- Each call leads the run one step on.
+use Rattle.mapsched.proofs.Running.{Runs-push, Runs-whole}
 use Rattle.mapsched.proofs.run.run_calls.Goals as goal
 
-pub call-answer-requires : goal.call-answer-requires
-call-answer-requires g c = record { served = Runs-served _ _ c.args.calls.now c.loop-ticket.ticket _ _ _ c.requires.served c.loop-ticket-test.true c.loop-ticket.invariant }
-
-pub loop-ticket-preserved : goal.loop-ticket-preserved
-loop-ticket-preserved g c = let a = c.call-answer.ensures in
-    Runs-push _ _ _ c.args.calls.now c.loop-ticket.ticket _ c.call-answer.result _ _ _ c.loop-ticket-test.true c.loop-ticket.invariant
-    (Answers-from _ _ c.loop-ticket.ticket _ c.call-answer.result a.recorded a.step a.room a.err a.full a.memory) c.in_ok-put_line.ensures.ok
+pub loop-place-preserved : goal.loop-place-preserved
+loop-place-preserved g c =
+    Runs-push _ _ _ c.args.calls.now c.loop-place.place _ c.make_call-answer.result _ _ _ c.loop-place-test.true c.loop-place.invariant
+    c.make_call-answer.ensures.made c.in_ok-put_line.ensures.ok
 
 pub returns-clause-ok : goal.returns-clause-ok
-returns-clause-ok g c = Runs-whole _ _ c.args.calls.now c.loop-ticket.ticket _ _ c.loop-ticket-test.false c.loop-ticket.invariant
+returns-clause-ok g c = Runs-whole _ _ c.args.calls.now c.loop-place.place _ _ c.loop-place-test.false c.loop-place.invariant

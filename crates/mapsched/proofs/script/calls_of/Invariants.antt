@@ -1,5 +1,5 @@
 -- The calls so far are followed by those of the values that are left.
-use Rattle.std.proofs.Common.{◌≡◌, ◌≤◌, false, length, vec_len, vec_capacity}
+use Rattle.std.proofs.Common.{◌≡◌, ◌≤◌, length, vec_len, vec_capacity}
 use Rattle.serde_json.specs.View.{items_view}
 use Rattle.mapsched.specs.Script.{calls_of}
 use Rattle.mapsched.proofs.Calls.{left}
@@ -7,5 +7,5 @@ use Rattle.mapsched.proofs.script.calls_of.Given as goal
 
 abbrev pub invariant-loop-index : goal.invariant-loop-index
 invariant-loop-index l =
-    (calls_of 1 false (items_view l.values) ≡ left l.values l.calls.items l.index l.admitted)
+    (calls_of 1 (items_view l.values) ≡ left l.values l.calls.items l.index)
     × (vec_len l.calls ≡ l.index) × (length l.values ≤ vec_capacity l.calls)

@@ -1,10 +1,8 @@
 -- Each field that was read is the one that the definition names.
-use Rattle.std.proofs.Common.{◌≡◌, Option, Some, refl, sym}
-use Rattle.mapsched.specs.Fields.{◌>>=◌, config_of}
+use Rattle.std.proofs.Common.{refl, sym}
+use Rattle.mapsched.specs.Fields.{config_of}
+use Rattle.mapsched.proofs.Fields.{then}
 use Rattle.mapsched.proofs.script.config.config_of.Goals as goal
-
-then : {A B : Type 0} {m : Option A} {x : A} (f : A → Option B) {r : Option B} → Some x ≡ m → f x ≡ r → (m >>= f) ≡ r
-then f e h = rw (← e) h
 
 pub returns : goal.returns
 unfolding config_of

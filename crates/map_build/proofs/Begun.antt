@@ -1,0 +1,79 @@
+-- A draft with the request region alone has the plan of nothing.
+use Rattle.std.proofs.Common.{◌≡◌, ℕ, ◌+◌, ◌≤◌, ◌^◌, List, [], ◌∷◌, refl, sym, ap, ◌∙◌, arith}
+use Rattle.std.specs.List.{AllByRecursion}
+use Rattle.minislots.specs.declared.config.Config.{Config}
+use Rattle.minislots.specs.Config.{IsLawful, HasBounds}
+use Rattle.minislots.proofs.Bounds.{bounds_of}
+use Rattle.map_codec.specs.declared.element.iuc.TheConstants.{REQUEST}
+use Rattle.flow_book.specs.Flows.{LiveFlow}
+use Rattle.flow_book.specs.Book.{IsLive, room_of}
+use Rattle.flow_book.specs.Choice.{HasStartedBy}
+use Rattle.periodic.specs.declared.placement.Spot.{Spot}
+use Rattle.map_build.specs.declared.draft.Draft.{Draft}
+use Rattle.map_build.specs.Plan.{most_grants}
+use Rattle.map_build.specs.Spots.{IsInFrame, AreInFrame}
+use Rattle.map_build.specs.Draft.{Puts}
+use Rattle.map_build.specs.Walk.{AreTaken, HasPlan}
+use Rattle.map_build.proofs.FlowsAfter.{flows_after-nil, started-later}
+
+begun-taken : (c : Config) (spots : List Spot) (offset : ℕ) → offset ≤ c.req_slots →
+    AllByRecursion (IsInFrame c) spots → AreTaken spots [] offset
+begun-taken c [] offset le each = tt
+begun-taken c (s ∷ spots) offset le each = (
+  (λ lt. absurd (omega (arith, each.0.after_requests))),
+  begun-taken c spots offset le each.1,
+)
+
+-- the book of a draft, before anything stands in the frame
+pub record IsBegun (c : Config) (flows : List LiveFlow) (start : ℕ) (d : Draft) : Type 0 where
+  pub lawful : IsLawful c
+  pub bounded : start ≤ 2 ^ 61
+  pub config : d.book.config ≡ c
+  pub flows_are : d.book.flows ≡ flows
+  pub starts : d.start ≡ start
+  pub offset : d.offset ≡ 0
+  pub grants : d.grants ≡ 0
+  pub elements : d.elements.items ≡ []
+  pub bytes_of : d.bytes.items ≡ []
+  pub room : (sid : ℕ) → IsLive sid d.book.flows → most_grants ≤ room_of sid d.book.rooms
+  pub started : AllByRecursion (HasStartedBy start) flows
+
+started-flows : (early late : ℕ) (flows : List LiveFlow) → early ≤ late → AllByRecursion (HasStartedBy early) flows →
+    AllByRecursion (HasStartedBy late) flows
+started-flows early late [] le all = tt
+started-flows early late (f ∷ flows) le all = (
+  started-later early late f.grants le all.0,
+  started-flows early late flows le all.1,
+)
+
+-- with the request region it has the plan of nothing
+pub HasPlan-begun : (c : Config) (flows : List LiveFlow) (spots : List Spot) (start : ℕ) (old new : Draft) →
+    IsBegun c flows start old →
+    Puts 16383 REQUEST c.req_slots 0 old new → AreInFrame c spots → HasPlan c flows spots start [] new
+HasPlan-begun c flows spots start old new begun puts are =
+    let bounds : HasBounds c = bounds_of c begun.lawful in
+    let same : new.book.config ≡ c = ap (λ b. b.config) puts.book ∙ begun.config in
+    let at : new.offset ≡ c.req_slots = omega (arith, puts.offset, begun.offset) in
+    let flows_are : new.book.flows ≡ flows = ap (λ b. b.flows) puts.book ∙ begun.flows_are in
+    record {
+      config = same;
+      starts = puts.start ∙ begun.starts;
+      ready = record {
+        lawful = rw same begun.lawful;
+        near = omega (arith, puts.start, begun.starts, begun.bounded);
+        inside = omega (arith, at, bounds.requests_fit, ap (λ k. k.frame) same);
+        few = omega (arith, puts.grants, begun.grants);
+        room = λ sid live. rw puts.book (omega (arith, begun.room sid (rw puts.book at live)));
+        started = rw (flows_are, at, puts.start, begun.starts) (started-flows start (start + c.req_slots) flows
+            (omega arith) begun.started);
+      };
+      after = record {
+        flows_now = flows_are ∙ sym (flows_after-nil new.start flows);
+        ends = omega (arith, at, ap (λ k. k.req_slots) same);
+        grants = omega (arith, puts.grants, begun.grants);
+      };
+      elements = puts.elements ∙ rw (begun.elements, begun.offset) refl;
+      bytes_of = puts.bytes_of ∙ rw begun.bytes_of refl;
+      each = tt;
+      taken = begun-taken c spots new.offset (omega (arith, at)) are.each;
+    }

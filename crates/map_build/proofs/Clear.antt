@@ -1,0 +1,87 @@
+-- What stands at an offset leaves no spot behind: the spots before its end are in the plan.
+use Rattle.std.proofs.Common.{◌≡◌, ℕ, suc, ◌+◌, ◌<◌, ◌≤◌, true, false, List, [], ◌∷◌, ◌++◌, Contains, inl, inr, refl, sym, ap, subst, ◌∙◌, arith}
+use Rattle.std.proofs.lemmas.Bool.{cases_lt}
+use Rattle.std.proofs.lemmas.List.{length_push, get_or_append_left}
+use Rattle.std.proofs.lemmas.List.Elements.{Contains-push}
+use Rattle.minislots.specs.declared.config.Config.{Config}
+use Rattle.flow_book.specs.Flows.{LiveFlow}
+use Rattle.periodic.specs.declared.placement.Spot.{Spot}
+use Rattle.map_build.specs.Plan.{Purpose, Poll, UnsolicitedGrant, DataGrant, Idle, Allocation, next_stop, grants_in, most_grants, StandsFor, allocation_of}
+use Rattle.map_build.specs.Spots.{AreInFrame}
+use Rattle.map_build.specs.Walk.{AreTaken}
+use Rattle.map_build.proofs.FlowsAfter.{allocation}
+use Rattle.map_build.proofs.Stops.{next_stop-most, next_stop-least, next_stop-spot}
+use Rattle.map_build.proofs.Standings.{spot-within, spots-apart}
+
+-- one data grant more is at most the most
+pub grants-within : (c : Config) (flows : List LiveFlow) (spots : List Spot) (start : ℕ) (before : List Allocation)
+    (offset slots : ℕ) (purpose : Purpose) →
+    StandsFor c flows spots start before offset slots purpose → grants_in before ≤ most_grants →
+    grants_in before + grants_in (allocation offset slots purpose ∷ []) ≤ most_grants
+grants-within c flows spots start before offset slots (Poll sid) stands few = omega arith
+grants-within c flows spots start before offset slots (UnsolicitedGrant sid) stands few = omega arith
+grants-within c flows spots start before offset slots (DataGrant sid bytes) stands few = omega (arith, stands.0)
+grants-within c flows spots start before offset slots Idle stands few = omega arith
+
+-- from the offset to the end of what stands there no spot begins but it
+abbrev pub IsClear : Config → List Spot → Allocation → Type 0
+IsClear c spots a = (a.offset + a.slots ≤ c.frame) × ((t : Spot) → Contains spots t → a.offset ≤ t.offset →
+    t.offset < a.offset + a.slots → allocation_of t ≡ a)
+
+clear-spot : (c : Config) (spots : List Spot) (s : Spot) → AreInFrame c spots → Contains spots s →
+    IsClear c spots (allocation_of s)
+clear-spot c spots s are is = (
+  (spot-within c spots s are is).within,
+  λ t begins from to. ap allocation_of (sym (spots-apart c spots are s t is begins from to)),
+)
+
+clear-room : (c : Config) (spots : List Spot) (a : Allocation) → a.offset ≤ c.frame →
+    a.offset + a.slots ≤ next_stop c spots a.offset → IsClear c spots a
+clear-room c spots a inside fits = (
+  omega (arith, next_stop-most c spots a.offset),
+  λ t begins from to. absurd (omega (arith, next_stop-spot c spots a.offset t begins from)),
+)
+
+-- what stands there is clear of other spots
+pub clear-purpose : (c : Config) (flows : List LiveFlow) (spots : List Spot) (start : ℕ) (before : List Allocation)
+    (offset slots : ℕ) (purpose : Purpose) →
+    AreInFrame c spots → offset ≤ c.frame → 0 < slots →
+    StandsFor c flows spots start before offset slots purpose →
+    IsClear c spots (allocation offset slots purpose)
+clear-purpose c flows spots start before offset slots (Poll sid) are inside some stands =
+    clear-spot c spots (record { sid = sid; poll = true; offset = offset; slots = slots }) are stands
+clear-purpose c flows spots start before offset slots (UnsolicitedGrant sid) are inside some stands =
+    clear-spot c spots (record { sid = sid; poll = false; offset = offset; slots = slots }) are stands
+clear-purpose c flows spots start before offset slots (DataGrant sid bytes) are inside some stands =
+    clear-room c spots (record { offset = offset; slots = slots; purpose = DataGrant sid bytes }) inside
+    (omega (arith, stands.4.allowed.taken.fits, stands.5, next_stop-least c spots offset inside))
+clear-purpose c flows spots start before offset slots Idle are inside some stands =
+    clear-room c spots (record { offset = offset; slots = slots; purpose = Idle }) inside
+    (omega (arith, stands.0, next_stop-least c spots offset inside))
+
+contains-more : {X : Type 0} (xs : List X) (x y : X) → Contains xs y → Contains (xs ++ x ∷ []) y
+contains-more xs x y (k, lt, at) = (k, omega (arith, length_push xs x), get_or_append_left xs (x ∷ []) y k lt ∙ at)
+
+contains-later : {X : Type 0} (xs : List X) (x y : X) → Contains xs y → Contains (x ∷ xs) y
+contains-later xs x y (k, lt, at) = (suc k, omega arith, at)
+
+taken-one : (spots : List Spot) (plan : List Allocation) (a : Allocation) (s : Spot) →
+    ((t : Spot) → Contains spots t → a.offset ≤ t.offset → t.offset < a.offset + a.slots → allocation_of t ≡ a) →
+    Contains spots s →
+    (s.offset < a.offset → Contains plan (allocation_of s)) → s.offset < a.offset + a.slots →
+    Contains (plan ++ a ∷ []) (allocation_of s)
+taken-one spots plan a s clear is before lt = elim (cases_lt s.offset a.offset) [
+  | inl early ↦ contains-more plan a (allocation_of s) (before early)
+  | inr late ↦ subst (λ b. Contains (plan ++ a ∷ []) b) (sym (clear s is late lt)) (Contains-push plan a)
+]
+
+-- with what stands there the spots before its end are in the plan
+pub taken-all : (all spots : List Spot) (plan : List Allocation) (a : Allocation) →
+    ((t : Spot) → Contains all t → a.offset ≤ t.offset → t.offset < a.offset + a.slots → allocation_of t ≡ a) →
+    ((s : Spot) → Contains spots s → Contains all s) →
+    AreTaken spots plan a.offset → AreTaken spots (plan ++ a ∷ []) (a.offset + a.slots)
+taken-all all [] plan a clear some taken = tt
+taken-all all (s ∷ spots) plan a clear some taken = (
+  taken-one all plan a s clear (some s (0, omega arith, refl)) taken.0,
+  taken-all all spots plan a clear (λ t is. some t (contains-later spots s t is)) taken.1,
+)

@@ -1,0 +1,149 @@
+-- A lawful MAP is lawful for the same spots in any order.
+use Rattle.std.proofs.Common.{◌≡◌, ℕ, zero, suc, ◌+◌, ◌*◌, Result, ◌≤◌, List, [], ◌∷◌, ◌++◌, length, Contains, inl, inr, refl, subst, ◌∙◌, arith}
+use Rattle.std.specs.List.{AllByRecursion}
+use Rattle.std.specs.List.Sorted.{IsPermutation}
+use Rattle.std.specs.Result.{IfOk}
+use Rattle.std.proofs.lemmas.Result.{IfOk-weaker}
+use Rattle.std.proofs.lemmas.List.Sorted.{Contains-permutation, IsPermutation-sym}
+use Rattle.minislots.specs.declared.config.Config.{Config}
+use Rattle.flow_book.specs.Flows.{LiveFlow}
+use Rattle.flow_book.specs.Choice.{IsNext, IsAmount, NoneEligible}
+use Rattle.periodic.specs.declared.placement.Spot.{Spot}
+use Rattle.periodic.specs.Placement.{Placed, spots_in}
+use Rattle.periodic.specs.Table.{FollowInTurn, IsWithinFrame}
+use Rattle.map_build.specs.declared.frame_map.FrameMap.{FrameMap}
+use Rattle.map_build.specs.EachAfter.{EachAfter}
+use Rattle.map_build.specs.Plan.{Purpose, Poll, UnsolicitedGrant, DataGrant, Idle, Allocation, next_stop, room_at, flows_after, Stands, StandsFor, allocation_of}
+use Rattle.map_build.specs.FrameMap.{IsLawfulMap}
+use Rattle.map_build.specs.Spots.{IsInFrame, AreInFrame, HaveFlowSids}
+use Rattle.map_build.proofs.Standings.{member-at}
+use Rattle.map_build.proofs.Stops.{next_stop-most, next_stop-is, next_stop-spot}
+
+-- what holds of each member holds of all
+pub all-members : {X : Type 0} (P : X → Type 0) (xs : List X) → ((x : X) → Contains xs x → P x) → AllByRecursion P xs
+all-members P [] each = tt
+all-members P (x ∷ xs) each = (
+  each x (zero, omega arith, refl),
+  all-members P xs (λ y (k, lt, at). each y (suc k, omega arith, at)),
+)
+
+-- each of the spots is among the others
+abbrev AreAmong : List Spot → List Spot → Type 0
+AreAmong spots others = (s : Spot) → Contains spots s → Contains others s
+
+-- where there are more spots the next stop is no later
+next_stop-among : (c : Config) (spots others : List Spot) (offset : ℕ) → AreAmong spots others →
+    next_stop c others offset ≤ next_stop c spots offset
+next_stop-among c spots others offset among = elim (next_stop-is c spots offset) [
+  | inl end ↦ omega (arith, end, next_stop-most c others offset)
+  | inr is ↦ omega (arith, is.3, next_stop-spot c others offset is.0 (among is.0 is.1) is.2)
+]
+
+module _ (c : Config) (flows : List LiveFlow) (start : ℕ) (spots others : List Spot) (there : AreAmong spots others)
+    (back : AreAmong others spots) where
+  same-room : (offset : ℕ) → room_at c spots offset ≡ room_at c others offset
+  same-room offset = omega (arith, next_stop-among c spots others offset there, next_stop-among c others spots offset back)
+
+  same-purpose : (before : List Allocation) (offset slots : ℕ) (purpose : Purpose) →
+      StandsFor c flows spots start before offset slots purpose →
+      StandsFor c flows others start before offset slots purpose
+  same-purpose before offset slots (Poll sid) stands = there _ stands
+  same-purpose before offset slots (UnsolicitedGrant sid) stands = there _ stands
+  same-purpose before offset slots (DataGrant sid bytes) stands = (
+    stands.0,
+    stands.1,
+    stands.2,
+    subst (λ r. IsNext c (flows_after start before flows) (start + offset) r stands.1) (same-room offset) stands.3,
+    subst (λ r. IsAmount c stands.1 (start + offset) r bytes) (same-room offset) stands.4,
+    stands.5,
+  )
+  same-purpose before offset slots Idle stands = (
+    stands.0 ∙ same-room offset,
+    elim stands.1 [
+      | inl full ↦ inl full
+      | inr none ↦ inr (subst (λ r. NoneEligible c (flows_after start before flows) (start + offset) r) (same-room offset) none)
+    ],
+  )
+
+  same-each : (before plan : List Allocation) → EachAfter (Stands c flows spots start) before plan →
+      EachAfter (Stands c flows others start) before plan
+  same-each before [] each = tt
+  same-each before (a ∷ plan) each = (
+    record {
+      some_slots = each.0.some_slots;
+      follows = each.0.follows;
+      purpose = same-purpose before a.offset a.slots a.purpose each.0.purpose;
+    },
+    same-each (before ++ a ∷ []) plan each.1,
+  )
+
+  -- a MAP that is lawful for the ones is lawful for the others
+  lawful-among : (ack : ℕ) (m : FrameMap) → IsLawfulMap c flows spots start ack m → IsLawfulMap c flows others start ack m
+  lawful-among ack m (plan, is, made) = (
+    plan,
+    record {
+      each = same-each [] plan is.each;
+      whole = is.whole;
+      due = all-members (λ (t : Spot). Contains plan (allocation_of t)) others
+          (λ s has. member-at (λ (t : Spot). Contains plan (allocation_of t)) spots s is.due (back s has));
+    },
+    made,
+  )
+
+-- a MAP that is lawful for spots in one order is so in another
+pub lawful-reordered : (c : Config) (flows : List LiveFlow) (spots others : List Spot) (start ack : ℕ)
+    (m : FrameMap) → IsPermutation spots others →
+    IsLawfulMap c flows others start ack m → IsLawfulMap c flows spots start ack m
+lawful-reordered c flows spots others start ack m moved lawful =
+    lawful-among c flows start others spots (λ s is. Contains-permutation others spots s
+    (IsPermutation-sym spots others moved) is)
+    (λ s is. Contains-permutation spots others s moved is) ack m lawful
+
+-- and the other way round
+pub lawful-in_order : (c : Config) (flows : List LiveFlow) (spots others : List Spot) (start ack : ℕ) (m : FrameMap) →
+    IsPermutation spots others →
+    IsLawfulMap c flows spots start ack m → IsLawfulMap c flows others start ack m
+lawful-in_order c flows spots others start ack m moved lawful =
+    lawful-among c flows start spots others (λ s is. Contains-permutation spots others s moved is)
+    (λ s is. Contains-permutation others spots s (IsPermutation-sym spots others moved) is) ack m lawful
+
+each-in_frame : (c : Config) (spots : List Spot) → AllByRecursion (IsWithinFrame c) spots → AllByRecursion (IsInFrame c) spots
+each-in_frame c [] within = tt
+each-in_frame c (s ∷ spots) within = (
+  record { some_slots = within.0.not_empty; after_requests = within.0.after_requests; within = within.0.within_frame },
+  each-in_frame c spots within.1,
+)
+
+-- what a table tells of a frame are spots of the frame
+pub written-in_frame : (c : Config) (spots : List Spot) → length spots ≤ 40 → FollowInTurn spots →
+    AllByRecursion (IsWithinFrame c) spots → AreInFrame c spots
+written-in_frame c spots few turn within = record { few = few; each = each-in_frame c spots within; in_turn = turn }
+
+-- of flows
+pub written-sids : (c : Config) (spots : List Spot) → AllByRecursion (IsWithinFrame c) spots → HaveFlowSids spots
+written-sids c [] within = tt
+written-sids c (s ∷ spots) within = ((omega (arith, within.0.sid_positive), within.0.sid_most), written-sids c spots within.1)
+
+-- what is lawful for the spots that a table tells of frame k is lawful for those of its placements
+pub lawful-told : {E : Type 0} (c d : Config) (flows : List LiveFlow) (k n ack : ℕ) (placed : List Placed)
+    (spots : List Spot) (r : Result FrameMap E) →
+    d ≡ c → IsPermutation (spots_in d k placed) spots → n ≡ c.frame → IfOk r (λ m. IsLawfulMap c flows spots (k * n) ack m) →
+    IfOk r (λ m. IsLawfulMap c flows (spots_in c k placed) (k * c.frame) ack m)
+lawful-told c d flows k n ack placed spots r same moved slots lawful =
+    IfOk-weaker r _ _
+    (λ m is. lawful-reordered c flows (spots_in c k placed) spots (k * c.frame) ack m
+    (subst (λ e. IsPermutation (spots_in e k placed) spots) same moved) is)
+    (rw slots at lawful)
+
+-- and there is no other
+pub only-told : {E : Type 0} (c d : Config) (flows : List LiveFlow) (k n ack : ℕ) (placed : List Placed)
+    (spots : List Spot) (r : Result FrameMap E) →
+    d ≡ c → IsPermutation (spots_in d k placed) spots → n ≡ c.frame →
+    IfOk r (λ m. (other : FrameMap) → IsLawfulMap c flows spots (k * n) ack other → other ≡ m) →
+    IfOk r (λ m. (other : FrameMap) → IsLawfulMap c flows (spots_in c k placed) (k * c.frame) ack other → other ≡ m)
+only-told c d flows k n ack placed spots r same moved slots only =
+    IfOk-weaker r _ _
+    (λ m is other lawful. is other
+    (lawful-in_order c flows (spots_in c k placed) spots (k * c.frame) ack other
+    (subst (λ e. IsPermutation (spots_in e k placed) spots) same moved) lawful))
+    (rw slots at only)

@@ -1,0 +1,50 @@
+-- Steps of a draft: an element more of it is an allocation more.
+use Rattle.std.proofs.Common.{◌≡◌, ℕ, ◌-◌, Bool, true, false, [], ◌∷◌, ◌++◌, if◌then◌else◌, refl, sym, ap, ◌∙◌, arith}
+use Rattle.map_codec.specs.declared.element.iuc.TheConstants.{REQUEST, LONG_DATA_GRANT}
+use Rattle.flow_book.specs.Book.{BookView, room_of}
+use Rattle.periodic.specs.declared.placement.Spot.{Spot}
+use Rattle.map_build.specs.declared.draft.Draft.{Draft}
+use Rattle.map_build.specs.Plan.{Allocation, Poll, UnsolicitedGrant, grants_in, grants_to, allocation_of}
+use Rattle.map_build.specs.FrameMap.{element_of, bytes_for, data_iuc}
+use Rattle.map_build.specs.Draft.{Puts}
+use Rattle.map_build.specs.Walk.{Takes, idle_to}
+use Rattle.map_build.proofs.FlowsAfter.{flows_after-none}
+
+module _ (sid iuc slots : ℕ) (old new : Draft) (puts : Puts sid iuc slots 0 old new) where
+  -- an allocation that grants no bytes
+  Takes-other : (a : Allocation) →
+      element_of old.book.config a ≡ record { sid = sid; iuc = iuc; offset = old.offset } → a.slots ≡ slots →
+      bytes_for a.purpose ≡ 0 → grants_in (a ∷ []) ≡ 0 → ((other : ℕ) → grants_to old.start other (a ∷ []) ≡ []) → Takes a old new
+  Takes-other a element long bytes grants none = record {
+    elements = puts.elements ∙ ap (λ e. old.elements.items ++ e ∷ []) (sym element);
+    bytes_of = puts.bytes_of ∙ ap (λ n. old.bytes.items ++ n ∷ []) (sym bytes);
+    offset = omega (arith, puts.offset, long);
+    start = puts.start;
+    config = ap (λ b. b.config) puts.book;
+    flows = ap (λ b. b.flows) puts.book ∙ sym (flows_after-none old.start a old.book.flows none);
+    grants = omega (arith, puts.grants, grants);
+    rooms = λ other. omega (arith, ap (λ (b : BookView). room_of other b.rooms) puts.book);
+  }
+
+-- the idle up to a minislot
+pub Takes-idle : (stop : ℕ) (old new : Draft) → Puts 0 LONG_DATA_GRANT (stop - old.offset) 0 old new →
+    Takes (idle_to old stop) old new
+Takes-idle stop old new puts = Takes-other 0 LONG_DATA_GRANT (stop - old.offset) old new puts (idle_to old stop) refl
+    refl refl refl (λ other. refl)
+
+spot-takes : (poll : Bool) (sid iuc offset slots : ℕ) (old new : Draft) →
+    iuc ≡ (if poll then REQUEST else data_iuc old.book.config slots) → offset ≡ old.offset →
+    Puts sid iuc slots 0 old new →
+    Takes (allocation_of (record { sid = sid; poll = poll; offset = offset; slots = slots })) old new
+spot-takes true sid iuc offset slots old new code here puts =
+    Takes-other sid iuc slots old new puts (record { offset = offset; slots = slots; purpose = Poll sid })
+    (rw (code, here) refl) refl refl refl (λ other. refl)
+spot-takes false sid iuc offset slots old new code here puts =
+    Takes-other sid iuc slots old new puts (record { offset = offset; slots = slots; purpose = UnsolicitedGrant sid })
+    (rw (code, here) refl) refl refl refl (λ other. refl)
+
+-- the poll or unsolicited grant of a spot
+pub Takes-spot : (s : Spot) (iuc : ℕ) (old new : Draft) →
+    iuc ≡ (if s.poll then REQUEST else data_iuc old.book.config s.slots) → s.offset ≡ old.offset →
+    Puts s.sid iuc s.slots 0 old new → Takes (allocation_of s) old new
+Takes-spot s iuc old new code here puts = spot-takes s.poll s.sid iuc s.offset s.slots old new code here puts

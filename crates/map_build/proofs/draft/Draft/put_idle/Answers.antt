@@ -1,0 +1,6 @@
+-- An element more is an idle more.
+use Rattle.map_build.proofs.Takings.{Takes-idle}
+use Rattle.map_build.proofs.draft.Draft.put_idle.Goals as goal
+
+pub returns : goal.returns
+returns c = Takes-idle c.args.stop c.args.self.now c.put_slots.new.self c.in_ok-put_slots.ensures

@@ -1,0 +1,190 @@
+//! The MAP of one frame while it is made.
+
+ghost use Rattle.std.specs.Prelude.{◌≡◌, ℕ, ◌<◌, ◌≤◌, ◌+◌, ◌^◌, List, [], ◌∷◌, IfOk, OnOk, IfSome};
+ghost use Rattle.std.specs.List.{AllByRecursion};
+ghost use Rattle.map_codec.specs.WireMap.{FitsHeader};
+ghost use Rattle.flow_book.specs.Flows.{flow_of};
+ghost use Rattle.flow_book.specs.Book.{IsLive, room_of};
+ghost use Rattle.flow_book.specs.Choice.{HasStartedBy};
+ghost use Rattle.periodic.specs.declared.placement.Spot.{Spot};
+ghost use Rattle.map_build.specs.Plan.{most_grants};
+ghost use Rattle.map_build.specs.FrameMap.{data_iuc};
+ghost use Rattle.map_build.specs.Spots.{AreInFrame};
+ghost use Rattle.map_build.specs.Draft.{Puts, PutsPending, Ends, map_with};
+ghost use Rattle.map_build.specs.Walk.{HasPlan};
+
+use crate::frame_map::{ByteCounts, FrameMap};
+use flow_book::Book;
+use map_codec::{Element, Elements, WireMap, iuc};
+use minislots::{Checked, wire};
+use std::alloc::{AllocError, Global};
+
+/// The most data grants of one MAP.
+pub(crate) const MOST_GRANTS: usize = 93;
+
+// The SID of all modems.
+const BROADCAST: u16 = 0x3fff;
+
+/// The SID of none.
+pub(crate) const NOBODY: u16 = 0;
+
+/// A MAP while it is made.
+#[derive(Drop)]
+pub(crate) struct Draft {
+    /// The flows, with the data grants of the MAP so far.
+    pub(crate) book: Book,
+    /// The minislot at which the frame starts.
+    pub(crate) start: u64,
+    pub(crate) elements: Vec<Element>,
+    /// The bytes of each element.
+    pub(crate) bytes: Vec<u32>,
+    /// The minislot of the frame up to which it is filled.
+    pub(crate) offset: u16,
+    /// The data grants so far.
+    pub(crate) grants: usize,
+}
+
+// A copy of the book, with room for all data grants of a MAP.
+fn copy_with_room(book: &Book) -> Result<Book, AllocError>
+    ensures config { IfOk result (λ copy. copy.config ≡ book.now.config) }
+    ensures flows { IfOk result (λ copy. copy.flows ≡ book.now.flows) }
+    ensures room { IfOk result (λ copy. (sid : ℕ) → IsLive sid copy.flows →
+        most_grants ≤ room_of sid copy.rooms) }
+{
+    let mut copy = book.copy()?;
+    copy.reserve(MOST_GRANTS)?;
+    Ok(copy)
+}
+
+impl Draft {
+    /// The request region alone.
+    pub(crate) fn open(alloc: Global, book: &Book, start: u64) -> Result<Draft, AllocError>
+        requires started { AllByRecursion (HasStartedBy start) book.now.flows }
+        requires bounded { start ≤ 2 ^ 61 }
+        ensures { IfOk result (λ d. (spots : List Spot) → AreInFrame book.now.config spots →
+            HasPlan book.now.config book.now.flows spots start [] d) }
+    {
+        let mut draft = Draft {
+            book: copy_with_room(book)?,
+            start,
+            elements: Vec::new(alloc),
+            bytes: Vec::new(alloc),
+            offset: 0,
+            grants: 0,
+        };
+        let requests = draft.book.config().req_slots() as u16;
+        draft.put_slots(BROADCAST, iuc::REQUEST, requests, 0)?;
+        Ok(draft)
+    }
+
+    /// An element of so many minislots more, at the offset that is reached.
+    pub(crate) fn put_slots(
+        &mut self,
+        sid: u16,
+        iuc: u8,
+        slots: u16,
+        bytes: u32,
+    ) -> Result<(), AllocError>
+        requires { self.old.offset + slots < 2 ^ 16 }
+        ensures { OnOk result (Puts sid iuc slots bytes self.old self.new) }
+    {
+        self.put(sid, iuc, bytes)?;
+        self.offset += slots;
+        Ok(())
+    }
+
+    // An element more at the offset that is reached, which stays.
+    fn put(&mut self, sid: u16, iuc: u8, bytes: u32) -> Result<(), AllocError>
+        ensures { OnOk result (Puts sid iuc 0 bytes self.old self.new) }
+    {
+        let offset = self.offset;
+        self.elements.push(Element { sid, iuc, offset })?;
+        self.bytes.push(bytes)?;
+        Ok(())
+    }
+
+    /// The Null, and behind it the pending grants.
+    pub(crate) fn put_end(&mut self) -> Result<(), AllocError>
+        requires { self.old.offset ≡ self.old.book.config.frame }
+        ensures { OnOk result (Ends self.old self.new) }
+    {
+        self.put(NOBODY, iuc::NULL, 0)?;
+        self.put_pending()
+    }
+
+    // A pending grant for each flow with bytes outstanding.
+    fn put_pending(&mut self) -> Result<(), AllocError>
+        requires { self.old.offset ≡ self.old.book.config.frame }
+        ensures { OnOk result (PutsPending self.old.book.flows self.old self.new) }
+    {
+        for i in 0..self.book.len() {
+            let sid = self.book.sid_at(i);
+            self.put_pending_of(sid)?;
+        }
+        Ok(())
+    }
+
+    // The pending grant of a flow, if it has bytes outstanding.
+    fn put_pending_of(&mut self, sid: u16) -> Result<(), AllocError>
+        requires live { IsLive sid self.old.book.flows }
+        requires end { self.old.offset ≡ self.old.book.config.frame }
+        ensures { OnOk result (IfSome (flow_of sid self.old.book.flows)
+            (λ f. PutsPending (f ∷ []) self.old self.new)) }
+    {
+        if self.book.outstanding(sid) > 0 {
+            self.put(sid, iuc::LONG_DATA_GRANT, 0)?;
+        }
+        Ok(())
+    }
+
+    /// The MAP with the elements of the draft.
+    pub(crate) fn into_map(self, ack: u64) -> FrameMap
+        ensures made { result ≡ map_with self.book.config self.start ack
+            self.elements.items self.bytes.items }
+        ensures fits { FitsHeader result.wire }
+    {
+        let Draft {
+            book,
+            start,
+            elements,
+            bytes,
+            ..
+        } = self;
+        FrameMap {
+            start,
+            ack,
+            wire: wire_map(book.config(), start, ack, elements),
+            bytes: ByteCounts::from_vec(bytes),
+        }
+    }
+}
+
+// The fields of a MAP with these elements, of a frame that starts there.
+fn wire_map(config: &Checked, start: u64, ack: u64, elements: Vec<Element>) -> WireMap
+    ensures made { result ≡ (map_with config.now start ack elements.items []).wire }
+    ensures fits { FitsHeader result }
+{
+    WireMap {
+        channel: config.channel(),
+        ucd_count: config.ucd_count(),
+        reserved: 0,
+        alloc_start: wire(start),
+        ack: wire(ack),
+        ranging_start: config.ranging_start(),
+        ranging_end: config.ranging_end(),
+        data_start: config.data_start(),
+        data_end: config.data_end(),
+        elements: Elements::from_vec(elements),
+    }
+}
+
+/// The usage code of a data grant of so many minislots.
+pub(crate) fn data_iuc(config: &Checked, slots: u64) -> u8
+    ensures { result ≡ data_iuc config.now slots }
+{
+    if slots <= u64::from(config.short_max()) {
+        iuc::SHORT_DATA_GRANT
+    } else {
+        iuc::LONG_DATA_GRANT
+    }
+}

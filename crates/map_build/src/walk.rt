@@ -1,0 +1,140 @@
+//! The walk along a frame: what stands at each offset, up to the end.
+
+ghost use Rattle.std.specs.Prelude.{◌≡◌, ◌<◌, ◌≤◌, ◌+◌, ◌^◌, ◌==◌, OnOk, find, option_copied};
+ghost use Rattle.map_build.specs.Plan.{most_grants, next_stop, allocation_of};
+ghost use Rattle.map_build.specs.Spots.{AreInFrame};
+ghost use Rattle.map_build.specs.Walk.{IsReady, IsUnfilled, IsFilled, Takes, TakesNext, Grants, IsServed, IsNextHere, IsNextAmount, idle_to};
+
+use crate::draft::{Draft, MOST_GRANTS, NOBODY, data_iuc};
+use map_codec::iuc;
+use minislots::Checked;
+use periodic::Spot;
+use std::alloc::AllocError;
+
+impl Draft {
+    /// Fills the frame from the offset that is reached.
+    pub(crate) fn fill(&mut self, spots: &[Spot]) -> Result<(), AllocError>
+        requires placed { AreInFrame self.old.book.config spots.now }
+        requires unfilled { IsUnfilled spots.now self.old }
+        ensures { OnOk result (IsFilled spots.now self.old self.new) }
+    {
+        let frame = self.book.config().frame() as u16;
+        while self.offset < frame {
+            self.put_next(spots)?;
+        }
+        Ok(())
+    }
+
+    // What stands at the offset that is reached: the spot that begins there, else a data grant to the
+    // flow that is next, else an idle.
+    fn put_next(&mut self, spots: &[Spot]) -> Result<(), AllocError>
+        requires placed { AreInFrame self.old.book.config spots.now }
+        requires ready { IsReady self.old }
+        requires inside { self.old.offset < self.old.book.config.frame }
+        ensures { OnOk result (TakesNext spots.now self.old self.new) }
+    {
+        if let Some(spot) = spot_at(spots, self.offset) {
+            return self.put_spot(*spot);
+        }
+        let stop = next_stop(spots, self.offset, self.book.config());
+        let room = u32::from(stop - self.offset);
+        match self.next_flow(room) {
+            Some(sid) => self.grant(sid, room),
+            None => self.put_idle(stop),
+        }
+    }
+
+    // The poll or unsolicited grant of a spot.
+    fn put_spot(&mut self, spot: Spot) -> Result<(), AllocError>
+        requires here { spot.offset ≡ self.old.offset }
+        requires inside { spot.offset + spot.slots < 2 ^ 16 }
+        ensures { OnOk result (Takes (allocation_of spot) self.old self.new) }
+    {
+        let iuc = if spot.poll {
+            iuc::REQUEST
+        } else {
+            data_iuc(self.book.config(), u64::from(spot.slots))
+        };
+        self.put_slots(spot.sid, iuc, spot.slots, 0)?;
+        Ok(())
+    }
+
+    // An idle up to the minislot.
+    fn put_idle(&mut self, stop: u16) -> Result<(), AllocError>
+        requires { self.old.offset ≤ stop }
+        ensures { OnOk result (Takes (idle_to self.old stop) self.old self.new) }
+    {
+        self.put_slots(NOBODY, iuc::LONG_DATA_GRANT, stop - self.offset, 0)?;
+        Ok(())
+    }
+
+    // The minislot that is reached.
+    fn minislot(&self) -> u64
+        requires { self.now.start ≤ 2 ^ 61 }
+        ensures { result ≡ self.now.start + self.now.offset }
+    {
+        self.start + u64::from(self.offset)
+    }
+
+    // The flow that the next data grant goes to.
+    fn next_flow(&self, room: u32) -> Option<u16>
+        requires { IsReady self.now }
+        ensures { IsServed self.now room result }
+    {
+        if self.grants < MOST_GRANTS {
+            self.book.eligible(self.minislot(), room)
+        } else {
+            None
+        }
+    }
+
+    // The bytes of the next data grant to the flow that is next.
+    #[tactic(auto, using(crate::proofs::NextGrants::next_amount))]
+    fn next_bytes(&self, sid: u16, room: u32) -> u32
+        requires ready { IsReady self.now }
+        requires next { IsNextHere self.now room sid }
+        ensures { IsNextAmount self.now room sid result }
+    {
+        self.book.most(sid, self.minislot(), room)
+    }
+
+    // A data grant to the flow that is next.
+    fn grant(&mut self, sid: u16, room: u32) -> Result<(), AllocError>
+        requires ready { IsReady self.old }
+        requires inside { self.old.offset + room ≤ self.old.book.config.frame }
+        requires few { self.old.grants < most_grants }
+        requires next { IsNextHere self.old room sid }
+        ensures { OnOk result (Grants sid room self.old self.new) }
+    {
+        let start = self.minislot();
+        let bytes = self.next_bytes(sid, room);
+        let slots = self.book.config().slots_for(bytes);
+        let iuc = data_iuc(self.book.config(), slots);
+        self.put_slots(sid, iuc, slots as u16, bytes)?;
+        self.book.grant(sid, start, bytes);
+        self.grants += 1;
+        Ok(())
+    }
+}
+
+// The spot that begins at the offset.
+fn spot_at(spots: &[Spot], offset: u16) -> Option<&Spot>
+    ensures { option_copied result ≡ find (λ s. s.offset == offset) spots.now }
+{
+    spots.iter().find(|spot| spot.offset == offset)
+}
+
+// The first minislot from the offset on at which a spot begins, or the end of the frame.
+fn next_stop(spots: &[Spot], offset: u16, config: &Checked) -> u16
+    ensures value { result ≡ next_stop config.now spots.now offset }
+    ensures least { offset ≤ config.now.frame → offset ≤ result }
+    ensures most { result ≤ config.now.frame }
+{
+    let mut stop = config.frame() as u16;
+    for spot in spots {
+        if offset <= spot.offset {
+            stop = stop.min(spot.offset);
+        }
+    }
+    stop
+}

@@ -1,0 +1,181 @@
+-- The spots of a frame: within it, and apart from one another.
+use Rattle.std.proofs.Common.{◌≡◌, ◌≢◌, refl, sym, ap, ◌∙◌, ℕ, zero, suc, ◌+◌, ◌%◌, ◌<◌, ◌≤◌, ◌==◌, List, [], ◌∷◌, length, get_or, filter_map, Option, Some, None, option_map, subst, inl, inr, arith}
+use Rattle.std.specs.List.{AllByRecursion, cons_option, swap}
+use Rattle.std.specs.List.Sorted.{IsPermutation, IsNonDecreasingBy}
+use Rattle.std.proofs.lemmas.Bool.{cond_both, cases_eq, eqb-true}
+use Rattle.std.proofs.lemmas.List.Edits.{Swapped, swapped_from_swap, length-swap}
+use Rattle.std.proofs.lemmas.List.Elements.{All-from_recursion, recursion_from_All}
+use Rattle.std.proofs.lemmas.List.Sorted.{IsPermutation-keeps, All-permutation}
+use Rattle.std.proofs.lemmas.Option.{same_Some}
+use Rattle.std.proofs.Math.Nat.{mod-mod}
+use Rattle.minislots.specs.declared.config.Config.{Config}
+use Rattle.minislots.specs.Config.{IsLawful}
+use Rattle.flow_book.specs.FlowSpec.{is_polled, interval_frames, jitter_slots, periodic_slots}
+use Rattle.periodic.specs.declared.placement.Spot.{Spot}
+use Rattle.periodic.specs.Placement.{Placed, phase_of, offset_of, nominal_places, start_at, spot_in, spots_in, IsLawfulStart, EachPlace}
+use Rattle.periodic.specs.Table.{IsSoundPlaced, IsWithinFrame, IsApart, AreApart, FollowInTurn, AreSound}
+use Rattle.periodic.proofs.Parameters.{places_of}
+
+-- what holds of each place with its start holds of a start that is found
+pub each-at : (P : ℕ → ℕ → Type 0) (place s : ℕ) (places starts : List ℕ) → EachPlace P places starts
+    → start_at place places starts ≡ Some s → P place s
+each-at P place s [] starts each found = absurd (cc)
+each-at P place s (p ∷ places) [] each found = absurd each
+each-at P place s (p ∷ places) (start ∷ starts) each found =
+    cond_both (p == place) (Some start) (start_at place places starts) (λ o. o ≡ Some s → P place s)
+    (λ same here. subst (λ q. P q s) (eqb-true p place same) (subst (P p) (same_Some start s here) each.0))
+    (λ differ there. each-at P place s places starts each.1 there) found
+
+-- a spot stands at a start
+pub spot-found : (c : Config) (f : Placed) (o : Option ℕ) (s : Spot)
+    → option_map (λ start. record { sid = f.sid; poll = is_polled f.spec; offset = start; slots = periodic_slots c f.spec }) o ≡ Some s
+    → (start : ℕ) × (o ≡ Some start) ×
+    (s ≡ record { sid = f.sid; poll = is_polled f.spec; offset = start; slots = periodic_slots c f.spec })
+spot-found c f None s found = absurd (cc)
+spot-found c f (Some start) s found = (start, refl, same_Some _ _ (sym found))
+
+-- a spot of a sound flow is within the frame
+pub spot-within : (c : Config) (k : ℕ) (f : Placed) (s : Spot) → IsLawful c → IsSoundPlaced c f → spot_in c k f ≡ Some s
+    → IsWithinFrame c s
+spot-within c k f s lawful sound found =
+    let (start, at, is) =
+    spot-found c f (start_at (k % c.cycle) (nominal_places c (interval_frames c f.spec) (phase_of c f.spec f.placement))
+    f.placement.starts) s found in
+    let start-lawful =
+    each-at (λ place start. IsLawfulStart c (jitter_slots c f.spec) (periodic_slots c f.spec) (offset_of c f.placement) [] start)
+    (k % c.cycle) start
+    (nominal_places c (interval_frames c f.spec) (phase_of c f.spec f.placement)) f.placement.starts sound.starts at in
+    let places = places_of c f.spec lawful sound.periodic sound.no_fault in
+    rw is (record {
+      sid_positive = sound.sid_positive;
+      sid_most = sound.sid_most;
+      after_requests = omega (arith, sound.after_requests, start-lawful.after_nominal);
+      not_empty = places.not_empty;
+      within_frame = start-lawful.within_frame;
+    })
+
+cons-within : (c : Config) (k : ℕ) (f : Placed) (o : Option Spot) (rest : List Spot) → IsLawful c → IsSoundPlaced c f
+    → spot_in c k f ≡ o → AllByRecursion (IsWithinFrame c) rest → AllByRecursion (IsWithinFrame c) (cons_option o rest)
+cons-within c k f None rest lawful sound is all = all
+cons-within c k f (Some s) rest lawful sound is all = (spot-within c k f s lawful sound is, all)
+
+-- the spots of sound flows are within the frame
+pub spots-within : (c : Config) (k : ℕ) (placed : List Placed) → IsLawful c → AllByRecursion (IsSoundPlaced c) placed
+    → AllByRecursion (IsWithinFrame c) (spots_in c k placed)
+spots-within c k [] lawful sound = tt
+spots-within c k (f ∷ placed) lawful sound =
+    cons-within c k f (spot_in c k f) (spots_in c k placed) lawful sound.0 refl (spots-within c k placed lawful sound.1)
+
+cons-length : (o : Option Spot) (rest : List Spot) (n : ℕ) → length rest ≤ n → length (cons_option o rest) ≤ suc n
+cons-length None rest n le = omega arith
+cons-length (Some s) rest n le = omega arith
+
+-- a flow has at most one spot in a frame
+pub length-spots : (c : Config) (k : ℕ) (placed : List Placed) → length (spots_in c k placed) ≤ length placed
+length-spots c k [] = omega arith
+length-spots c k (f ∷ placed) = cons-length (spot_in c k f) (spots_in c k placed) (length placed) (length-spots c k placed)
+
+-- what the placed flows take of the frames at this place of the cycle
+abbrev spots_at : Config → List Placed → ℕ → List Spot
+spots_at c placed place =
+    filter_map (λ flow. option_map
+    (λ start. record { sid = flow.sid; poll = is_polled flow.spec; offset = start; slots = periodic_slots c flow.spec })
+    (start_at place (nominal_places c (interval_frames c flow.spec) (phase_of c flow.spec flow.placement)) flow.placement.starts)) placed
+
+-- a frame has the spots of its place in the cycle
+pub spots_in-place : (c : Config) (k : ℕ) (placed : List Placed) → spots_in c (k % c.cycle) placed ≡ spots_in c k placed
+spots_in-place c k placed = ap (spots_at c placed) (mod-mod k c.cycle)
+
+-- any two of the first n are apart
+abbrev AreApartAt : ℕ → (ℕ → Spot) → Type 0
+AreApartAt n f = (i j : ℕ) → i < n → j < n → i ≢ j → IsApart (f i) (f j)
+
+-- apart either way round
+pub turned : (s t : Spot) → IsApart s t → IsApart t s
+turned s t (inl before) = inr before
+turned s t (inr after) = inl after
+
+apart-at : (d : Spot) (spots : List Spot) → AreApart spots → AreApartAt (length spots) (λ i. get_or spots i d)
+apart-at d [] apart i j lt lt' differ = absurd (omega arith)
+apart-at d (s ∷ spots) apart zero zero lt lt' differ = absurd (differ refl)
+apart-at d (s ∷ spots) apart zero (suc j) lt lt' differ = All-from_recursion (IsApart s) spots apart.0 j d (omega arith)
+apart-at d (s ∷ spots) apart (suc i) zero lt lt' differ =
+    turned s (get_or spots i d) (All-from_recursion (IsApart s) spots apart.0 i d (omega arith))
+apart-at d (s ∷ spots) apart (suc i) (suc j) lt lt' differ =
+    apart-at d spots apart.1 i j (omega arith) (omega arith) (λ e. differ (ap suc e))
+
+swapped-apart : (n a b : ℕ) (f g : ℕ → Spot) → a < n → b < n → Swapped f g a b → AreApartAt n f → AreApartAt n g
+swapped-apart n a b f g at bt swapped apart i j it jt differ = elim (cases_eq i a) [
+  | inl ia ↦ elim (cases_eq j b) [
+    | inl jb ↦ rw (ia, jb, swapped.0, swapped.1) (apart b a bt at (λ e. differ (ia ∙ sym e ∙ sym jb)))
+    | inr jnb ↦ rw (ia, swapped.0, swapped.2 j (λ e. differ (ia ∙ sym e)) jnb) (apart b j bt jt (λ e. jnb (sym e)))
+  ]
+  | inr ina ↦ elim (cases_eq i b) [
+    | inl ib ↦ elim (cases_eq j a) [
+      | inl ja ↦ rw (ib, ja, swapped.0, swapped.1) (apart a b at bt (λ e. differ (ib ∙ sym e ∙ sym ja)))
+      | inr jna ↦ rw (ib, swapped.1, swapped.2 j jna (λ e. differ (ib ∙ sym e))) (apart a j at jt (λ e. jna (sym e)))
+    ]
+    | inr inb ↦ elim (cases_eq j a) [
+      | inl ja ↦ rw (ja, swapped.0, swapped.2 i ina inb) (apart i b it bt inb)
+      | inr jna ↦ elim (cases_eq j b) [
+        | inl jb ↦ rw (jb, swapped.1, swapped.2 i ina inb) (apart i a it at ina)
+        | inr jnb ↦ rw (swapped.2 i ina inb, swapped.2 j jna jnb) (apart i j it jt differ)
+      ]
+    ]
+  ]
+]
+
+-- in another order they are apart too
+apart-permuted : (d : Spot) (xs ys : List Spot) → IsPermutation xs ys → AreApart xs → AreApartAt (length ys) (λ i. get_or ys i d)
+apart-permuted d xs ys moved apart =
+    IsPermutation-keeps xs (λ l. AreApartAt (length l) (λ i. get_or l i d)) (apart-at d xs apart)
+    (λ l i j it jt before. rw (length-swap l i j)
+    (swapped-apart (length l) i j (λ k. get_or l k d) (λ k. get_or (swap l i j) k d) it jt
+    (swapped_from_swap l (swap l i j) i j d it jt refl) before))
+    ys moved
+
+in-turn : (spots : List Spot)
+    → ((i j : ℕ) (d : Spot) → i < j → j < length spots
+    → (get_or spots i d).offset + (get_or spots i d).slots ≤ (get_or spots j d).offset) → FollowInTurn spots
+in-turn [] ends = tt
+in-turn (s ∷ spots) ends = (
+  recursion_from_All (λ t. s.offset + s.slots ≤ t.offset) spots (λ k d lt. ends 0 (suc k) d (omega arith) (omega arith)),
+  in-turn
+      spots (λ i j d lt lt'. ends (suc i) (suc j) d (omega arith) (omega arith)),
+)
+
+-- spots apart from one another, none empty, by ascending offsets
+pub sorted-in-turn : (c : Config) (xs ys : List Spot) → IsPermutation xs ys → AreApart xs → AllByRecursion (IsWithinFrame c) ys
+    → IsNonDecreasingBy (λ s. s.offset) ys → FollowInTurn ys
+sorted-in-turn c xs ys moved apart within up =
+    in-turn ys (λ i j d lt lt'.
+    let all = All-from_recursion (IsWithinFrame c) ys within j d lt' in
+    elim (apart-permuted d xs ys moved apart i j (omega arith) lt' (λ e. absurd (omega arith))) [
+      | inl before ↦ before
+      | inr after ↦ absurd (omega (arith, up i j d (omega arith) lt', all.not_empty))
+    ])
+
+-- in another order they are within the frame too
+pub within-permuted : (c : Config) (xs ys : List Spot) → IsPermutation xs ys → AllByRecursion (IsWithinFrame c) xs
+    → AllByRecursion (IsWithinFrame c) ys
+within-permuted c xs ys moved within =
+    recursion_from_All (IsWithinFrame c) ys (All-permutation (IsWithinFrame c) xs ys moved (All-from_recursion (IsWithinFrame c) xs within))
+
+-- The spots of frame k, one after the other
+pub record IsFrameOf (c : Config) (k : ℕ) (placed : List Placed) (spots : List Spot) : Type 0 where
+  pub permuted : IsPermutation (spots_in c k placed) spots
+  pub in_turn : FollowInTurn spots
+  pub within : AllByRecursion (IsWithinFrame c) spots
+
+-- what the frame's place in the cycle has, sorted, is the frame
+pub frame-sorted : (c : Config) (k : ℕ) (placed : List Placed) (xs ys : List Spot) → IsLawful c → AreSound c placed
+    → xs ≡ spots_in c (k % c.cycle) placed → IsPermutation xs ys → IsNonDecreasingBy (λ s. s.offset) ys → IsFrameOf c k placed ys
+frame-sorted c k placed xs ys lawful sound is moved up =
+    let same : xs ≡ spots_in c k placed = is ∙ spots_in-place c k placed in
+    let moved' : IsPermutation (spots_in c k placed) ys = rw (← same) moved in
+    let within = within-permuted c (spots_in c k placed) ys moved' (spots-within c k placed lawful sound.each) in
+    record {
+      permuted = moved';
+      in_turn = sorted-in-turn c (spots_in c k placed) ys moved' (sound.apart k) within up;
+      within = within;
+    }

@@ -1,0 +1,9 @@
+-- The key of a spot is its offset.
+use Rattle.std.proofs.Common.{rules}
+use Rattle.std.proofs.lemmas.List.Sorted.{IsNonDecreasingBy-from_sort_by_key}
+use Rattle.periodic.specs.declared.placement.Spot.{Spot}
+use Rattle.periodic.proofs.spots.sort.Goals as goal
+
+pub returns-clause-sorted : goal.returns-clause-sorted
+returns-clause-sorted c =
+    IsNonDecreasingBy-from_sort_by_key (λ (s : Spot). s.offset) _ c.sort_unstable_by_key.ensures.sorted (λ a r q k. search rules)

@@ -1,0 +1,17 @@
+-- Where a placement was chosen there is a place.
+use Rattle.std.proofs.Common.{◌≡◌, Result, Err}
+use Rattle.periodic.specs.declared.placement.Placement.{Placement}
+use Rattle.periodic.specs.declared.placement.PlaceFault.{PlaceFault}
+use Rattle.periodic.specs.declared.placement.PlaceFault.TheVariants.{NoPlace, Memory}
+use Rattle.periodic.specs.Search.{chosen_placement}
+use Rattle.periodic.proofs.table.Table.place.Goals as goal
+
+differ : ◌≡◌ {A = Result Placement PlaceFault} (Err Memory) (Err NoPlace) → ⊥
+differ same = cc
+
+pub returns-in-Err-clause-no_place : goal.returns-in-Err-clause-no_place
+returns-in-Err-clause-no_place c = (
+  λ is. absurd (differ is),
+  λ none. absurd (none (chosen_placement c.in-Some.chosen)
+      (rw (← c.self.view_is, ← c.deref.ensures.value) c.in-Some.ensures.chosen.lawful)),
+)

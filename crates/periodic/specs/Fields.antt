@@ -1,0 +1,25 @@
+-- What the fields of a placed flow stand for.
+use Rattle.std.specs.Prelude.{ℕ, ◌≤◌, List, map, length}
+use Rattle.std.specs.List.{AllByRecursion}
+use Rattle.minislots.specs.declared.config.Config.{Config}
+use Rattle.periodic.specs.declared.placement.Placement.{Placement}
+use Rattle.periodic.specs.declared.spots.PlacedFlow.{PlacedFlow}
+use Rattle.periodic.specs.Placement.{Placed}
+use Rattle.periodic.specs.Table.{IsSoundPlaced}
+
+-- the placement of this reference and these starts
+abbrev pub placement_at : ℕ → List ℕ → Placement
+placement_at reference starts = record { reference = reference; starts = starts }
+
+-- the placed flow that the fields stand for
+abbrev pub placed_of : PlacedFlow → Placed
+placed_of f = record { sid = f.sid; spec = f.spec; placement = f.placement }
+
+-- the placed flows that these stand for
+abbrev pub placed_in : List PlacedFlow → List Placed
+placed_in flows = map placed_of flows
+
+-- Flows soundly placed, at most 40
+pub record AreSoundFlows (c : Config) (flows : List PlacedFlow) : Type 0 where
+  pub each : AllByRecursion (IsSoundPlaced c) (placed_in flows)
+  pub most : length flows ≤ 40

@@ -1,0 +1,181 @@
+//! The placements of a channel's periodic flows in the cycle of frames.
+
+ghost use Rattle.std.specs.Prelude.{◌≡◌, ℕ, ◌<◌, ◌==◌, nat_lt, position, ◌≤◌, ◌^◌, ◌%◌, ◌↔◌, [], length, take, drop, true, None, IfOk, OnErr, IsErrOf};
+ghost use Rattle.std.specs.List.{AllByRecursion};
+ghost use Rattle.std.specs.List.Sorted.{IsPermutation};
+ghost use Rattle.flow_book.specs.FlowSpec.{is_periodic, first_fault};
+ghost use Rattle.periodic.specs.Placement.{spots_in, IsPlacement, NoPlacement};
+ghost use Rattle.periodic.specs.Fields.{placement_at};
+ghost use Rattle.periodic.specs.Table.{IsPlaced, IsNotPlaced, HasPlacement, placed_at, with_placed, without, AreSound, IsWithinFrame, FollowInTurn};
+
+use crate::placement::{PlaceFault, Placement, Spot, Starts};
+use crate::search::choose;
+use crate::spots::{PlacedFlow, fill, sort};
+use flow_book::FlowSpec;
+use minislots::Checked;
+use std::alloc::{AllocError, Global};
+use std::marker::Model;
+
+/// The placements of one channel's periodic flows, in order of SID, at most 40. No two of them take
+/// the same minislot of a frame.
+#[derive(Drop)]
+pub struct Table {
+    config: Checked,
+    flows: Vec<PlacedFlow>,
+}
+
+impl Model for Table {
+    ghost use Rattle.std.specs.Prelude.{map};
+    ghost use Rattle.periodic.specs.Table.{TableView};
+
+    ghost Value = { TableView };
+
+    ghost use Rattle.periodic.specs.Table.{AreSound};
+    ghost use Rattle.periodic.specs.Fields.{placed_of};
+
+    ghost view = { λ t. record { config = t.config; placed = map placed_of t.flows.items } };
+
+    ghost invariant = { λ t. AreSound t.config (map placed_of t.flows.items) };
+}
+
+impl Table {
+    /// A table for this channel, without placements.
+    pub fn open(alloc: Global, config: Checked) -> Result<Table, AllocError>
+        ensures config { IfOk result (λ table. table.config ≡ config) }
+        ensures empty { IfOk result (λ table. table.placed ≡ []) }
+    {
+        Ok(Table {
+            config,
+            flows: Vec::new(alloc),
+        })
+    }
+
+    /// The channel's configuration.
+    pub fn config(&self) -> &Checked
+        ensures value { result.now ≡ self.now.config }
+        ensures sound { AreSound self.now.config self.now.placed }
+    {
+        &self.config
+    }
+
+    /// How many flows are placed.
+    pub fn len(&self) -> usize
+        ensures value { result ≡ length self.now.placed }
+        ensures sound { AreSound self.now.config self.now.placed }
+    {
+        self.flows.len()
+    }
+
+    /// Whether no flow is placed.
+    pub fn is_empty(&self) -> bool
+        ensures { result ≡ (length self.now.placed == 0) }
+    {
+        self.flows.is_empty()
+    }
+
+    /// Places a periodic flow, from `next` on: a lawful placement beside those that stand, and its
+    /// first nominal time at or after `next`. The flow has a new SID from 1 to 8191 and parameters
+    /// without fault, fewer than 40 flows are placed, and `next` is the start of a frame, at most
+    /// 2^61. After a fault nothing has changed.
+    pub fn place(&mut self, sid: u16, spec: &FlowSpec, next: u64) -> Result<Placement, PlaceFault>
+        requires sid_positive { 0 < sid }
+        requires sid_most { sid ≤ 8191 }
+        requires is_new { IsNotPlaced sid self.old.placed }
+        requires periodic { is_periodic spec.now ≡ true }
+        requires no_fault { first_fault self.old.config spec.now ≡ None }
+        requires room { length self.old.placed < 40 }
+        requires aligned { next % self.old.config.frame ≡ 0 }
+        requires most { next ≤ 2 ^ 61 }
+
+        // The placement is lawful, and stands in the table beside the others.
+        ensures lawful { IfOk result (IsPlacement self.old.config self.old.placed spec.now next) }
+        ensures placed { IfOk result (λ p. self.new.placed ≡ with_placed (placed_at sid spec.now p) self.old.placed) }
+        ensures config { self.new.config ≡ self.old.config }
+
+        // No place is answered exactly where there is none.
+        ensures no_place { IsErrOf result PlaceFault.NoPlace ↔ NoPlacement self.old.config self.old.placed spec.now next }
+        ensures memory { IsErrOf result PlaceFault.Memory → HasPlacement self.old.config self.old.placed spec.now next }
+        ensures err { OnErr result (self.new ≡ self.old) }
+    {
+        let Some(chosen) = choose(&self.flows, &self.config, spec, next) else {
+            return Err(PlaceFault::NoPlace);
+        };
+        match self.add(sid, *spec, chosen.reference, chosen.starts()) {
+            Ok(placement) => Ok(placement),
+            Err(_) => Err(PlaceFault::Memory),
+        }
+    }
+
+    /// Takes out a placed flow, with its placement. Takes no memory.
+    pub fn remove(&mut self, sid: u16)
+        requires { IsPlaced sid self.old.placed }
+        ensures { self.new ≡ record self.old { placed = without sid self.old.placed } }
+    {
+        self.flows.retain(|flow| flow.sid != sid);
+    }
+
+    /// Writes what the placed flows take of frame `k`, in the order of their offsets, and answers how
+    /// many spots these are. The rest of the array stays.
+    pub fn in_frame(&self, k: u64, spots: &mut [Spot; 40]) -> usize
+        // Exactly the spots of the frame are written.
+        ensures spots { IsPermutation (spots_in self.now.config k self.now.placed) (take result spots.new) }
+        ensures rest { drop result spots.new ≡ drop result spots.old }
+        ensures most { result ≤ 40 }
+
+        // They stand one after the other, behind the request region and within the frame.
+        ensures ascending { FollowInTurn (take result spots.new) }
+        ensures within { AllByRecursion (IsWithinFrame self.now.config) (take result spots.new) }
+    {
+        let place = k % u64::from(self.config.cycle());
+        let count = fill(&self.flows, &self.config, place, spots);
+        sort(&mut spots[..count]);
+        count
+    }
+
+    // Adds a flow with a placement that is lawful beside those that stand, in order of SID.
+    fn add(
+        &mut self,
+        sid: u16,
+        spec: FlowSpec,
+        reference: u64,
+        starts: &[u16],
+    ) -> Result<Placement, AllocError>
+        requires sid_positive { 0 < sid }
+        requires sid_most { sid ≤ 8191 }
+        requires is_new { IsNotPlaced sid self.old.placed }
+        requires periodic { is_periodic spec ≡ true }
+        requires no_fault { first_fault self.old.config spec ≡ None }
+        requires room { length self.old.placed < 40 }
+        requires lawful { (next : ℕ)
+            × IsPlacement self.old.config self.old.placed spec next (placement_at reference starts.now) }
+        ensures placement { IfOk result (λ p. p ≡ placement_at reference starts.now) }
+        ensures placed { IfOk result (λ p. self.new.placed ≡ with_placed (placed_at sid spec p) self.old.placed) }
+        ensures config { self.new.config ≡ self.old.config }
+        ensures err { OnErr result (self.new ≡ self.old) }
+    {
+        let alloc = *self.flows.allocator();
+        let kept = Vec::from_slice(alloc, starts)?;
+        let answered = Vec::from_slice(alloc, starts)?;
+        let place = place_above(&self.flows, sid).unwrap_or(self.flows.len());
+        let flow = PlacedFlow {
+            sid,
+            spec,
+            placement: Placement {
+                reference,
+                starts: Starts::from_vec(kept),
+            },
+        };
+        self.flows.insert(place, flow)?;
+        Ok(Placement {
+            reference,
+            starts: Starts::from_vec(answered),
+        })
+    }
+}
+
+// The place of the first flow with a higher SID.
+fn place_above(flows: &[PlacedFlow], sid: u16) -> Option<usize>
+    ensures { result ≡ position (λ f. nat_lt sid f.sid) flows.now }
+{
+    flows.iter().position(|flow| sid < flow.sid)
+}

@@ -1,0 +1,101 @@
+-- What follows for every legal history, as an operator of the plant would say it.
+use Rattle.std.specs.Prelude.{◌≡◌, ℕ, ◌+◌, ◌/◌, ◌%◌, ◌<◌, ◌≤◌, false, List, [], ◌∷◌, ◌++◌, length, take, zip, filter_map, Contains}
+use Rattle.std.specs.List.{AllByRecursion}
+use Rattle.minislots.specs.declared.config.Config.{Config}
+use Rattle.map_codec.specs.declared.element.Element.{Element}
+use Rattle.map_codec.specs.declared.wire_map.TheConstants.{MAX_ELEMENTS}
+use Rattle.map_codec.specs.Element.{nulls}
+use Rattle.flow_book.specs.FlowSpec.{rate_of, burst_of, interval_frames, jitter_slots}
+use Rattle.flow_book.specs.Flows.{LiveFlow, granted}
+use Rattle.flow_book.specs.Ceiling.{KeepsCeiling}
+use Rattle.periodic.specs.Placement.{Placed, phase_of, offset_of}
+use Rattle.map_build.specs.declared.frame_map.FrameMap.{FrameMap}
+use Rattle.map_build.specs.EachAfter.{EachAfter}
+use Rattle.map_build.specs.FrameMap.{request_region, null_element}
+use Rattle.sched_history.specs.declared.call.Call.{Call}
+use Rattle.sched_history.specs.declared.call.Call.TheVariants.{Ask}
+use Rattle.sched_history.specs.declared.reply.Reply.{Reply}
+use Rattle.sched_history.specs.declared.reply.Reply.TheVariants.{Taken, Built}
+use Rattle.sched_history.specs.declared.reply.Entry.{Entry}
+use Rattle.sched_history.specs.Life.{flows_of, table_of}
+use Rattle.sched_history.specs.Refusal.{bad_sid}
+use Rattle.sched_history.specs.History.{map_by}
+
+-- the MAPs that were built, in order
+abbrev pub maps_of : List Entry → List FrameMap
+maps_of h = filter_map (λ e. map_by e.reply) h
+
+-- the flow was granted no more bytes than it asked
+abbrev pub IsWithinAsked : LiveFlow → Type 0
+IsWithinAsked f = granted f ≤ f.asked
+
+-- the flow's grants keep its rate and burst over every window
+abbrev pub IsWithinRate : Config → LiveFlow → Type 0
+IsWithinRate c f = KeepsCeiling c (rate_of f.spec) (burst_of f.spec) f.grants
+
+-- each element begins before the next
+abbrev pub OffsetsAscend : List Element → Type 0
+OffsetsAscend [] = Unit {0}
+OffsetsAscend (e ∷ []) = Unit {0}
+OffsetsAscend (e ∷ next ∷ es) = (e.offset < next.offset) × OffsetsAscend (next ∷ es)
+
+-- A front of disjoint ascending allocations, each up to the next: the request region first, the only Null at the frame's end
+pub record HasFront (c : Config) (es : List Element) : Type 0 where
+  pub allocations : List Element
+  pub behind : List Element
+  pub whole : es ≡ request_region ∷ (allocations ++ null_element c ∷ behind)
+  pub one_null : nulls es ≡ 1
+  pub ascend : OffsetsAscend (request_region ∷ (allocations ++ null_element c ∷ []))
+
+-- the MAP has at most 240 elements, a byte count for each, and such a front
+pub record IsOrderly (c : Config) (m : FrameMap) : Type 0 where
+  pub within : length m.wire.elements ≤ MAX_ELEMENTS
+  pub counted : length m.bytes ≡ length m.wire.elements
+  pub front : HasFront c m.wire.elements
+
+-- each MAP starts at least a frame after every earlier one
+abbrev pub StartsAscend : Config → List FrameMap → Type 0
+StartsAscend c maps = EachAfter (λ before m. AllByRecursion (λ earlier. earlier.start + c.frame ≤ m.start) before) [] maps
+
+-- the element is a poll or an unsolicited grant: it lies in the frame, addresses a flow, and grants no bytes that were asked
+pub record IsPeriodic (c : Config) (e : Element) (bytes : ℕ) : Type 0 where
+  pub in_frame : e.offset < c.frame
+  pub to_flow : bad_sid e.sid ≡ false
+  pub unasked : bytes ≡ 0
+
+-- the nominal time of a placed flow in the frame that starts there
+abbrev pub nominal_time : Config → ℕ → Placed → ℕ
+nominal_time c start flow = start + offset_of c flow.placement
+
+-- The element of a MAP that starts there is this live flow's, and begins within the jitter after its nominal time in the frame
+pub record IsOnTime (c : Config) (table : List Placed) (start : ℕ) (e : Element) (flow : Placed) : Type 0 where
+  pub live : Contains table flow
+  pub own : flow.sid ≡ e.sid
+  pub nominal : start / c.frame % interval_frames c flow.spec ≡ phase_of c flow.spec flow.placement
+  pub from_reference : flow.placement.reference ≤ nominal_time c start flow
+  pub not_early : nominal_time c start flow ≤ start + e.offset
+  pub within_jitter : start + e.offset ≤ nominal_time c start flow + jitter_slots c flow.spec
+
+-- every poll and unsolicited grant of a MAP that a reply builds is on time, with these live placements
+abbrev pub KeepsTimes : Config → List Placed → Reply → Type 0
+KeepsTimes c table (Built m) =
+    AllByRecursion (λ e. IsPeriodic c e.0 e.1 → (flow : Placed) × IsOnTime c table m.start e.0 flow) (zip m.wire.elements m.bytes)
+KeepsTimes c table reply = Unit {0}
+
+-- a request that was accepted was heard at or after the acknowledge time of each of these MAPs
+abbrev pub IsHeardAfter : List FrameMap → Call → Reply → Type 0
+IsHeardAfter maps (Ask receiver sid bytes heard) Taken = AllByRecursion (λ m. m.ack ≤ heard) maps
+IsHeardAfter maps call reply = Unit {0}
+
+-- What an operator may rely on after these entries
+pub record HoldsAfter (c : Config) (h : List Entry) : Type 0 where
+  pub within_asked : AllByRecursion IsWithinAsked (flows_of h)
+  pub within_rate : AllByRecursion (IsWithinRate c) (flows_of h)
+  pub orderly : AllByRecursion (IsOrderly c) (maps_of h)
+  pub starts_ascend : StartsAscend c (maps_of h)
+  pub on_time : EachAfter (λ before e. KeepsTimes c (table_of before) e.reply) [] h
+  pub heard_after : EachAfter (λ before e. IsHeardAfter (maps_of before) e.call e.reply) [] h
+
+-- it holds after every entry of the history: for every front of its list
+unfoldable pub FollowsAlways : Config → List Entry → Type 0
+FollowsAlways c h = (n : ℕ) → HoldsAfter c (take n h)

@@ -1,0 +1,219 @@
+//! Which calls are refused: the tests in their order, of which the first that holds is answered.
+
+ghost use Rattle.std.specs.Prelude.{◌≡◌, ◌+◌, ◌^◌, ℕ, List, ◌∷◌, [], false, not, nat_lt, nat_le, ◌==◌, ◌||◌, ◌&&◌, length, option_map, is_some};
+ghost use Rattle.flow_book.specs.FlowSpec.{is_periodic, takes_requests, first_fault};
+ghost use Rattle.sched_history.specs.Life.{life_of, flows_of};
+ghost use Rattle.sched_history.specs.Time.{next_after, progress_of};
+ghost use Rattle.sched_history.specs.Refusal.{bad_sid, is_live, is_silent, periodic_count, refused_if, first_of, refusal_of, most_bytes, most_flows, most_periodic};
+
+use super::Scheduler;
+use crate::call::Call;
+use crate::reply::Refusal;
+use flow_book::FlowSpec;
+
+// The greatest SID of a flow.
+const LAST_SID: u16 = 8191;
+// The most live flows.
+const MOST_FLOWS: usize = 64;
+// The most live periodic flows.
+const MOST_PERIODIC: usize = 40;
+// The most bytes of one request.
+const MOST_BYTES: u32 = 1_048_560;
+// The most minislots that are described ahead.
+const MOST_AHEAD: u64 = 4096;
+// The greatest clock.
+const LAST_CLOCK: u64 = 1 << 60;
+
+// Whether no flow has this SID.
+fn is_bad_sid(sid: u16) -> bool
+    ensures { result ≡ bad_sid sid }
+{
+    sid == 0 || sid > LAST_SID
+}
+
+// Whether a flow with these parameters has a place in the cycle.
+pub(super) fn is_periodic(spec: FlowSpec) -> bool
+    ensures { result ≡ is_periodic spec }
+{
+    !matches!(spec, FlowSpec::BestEffort { .. })
+}
+
+// Whether a flow with these parameters asks for bytes.
+pub(super) fn takes_requests(spec: FlowSpec) -> bool
+    ensures { result ≡ takes_requests spec }
+{
+    !matches!(spec, FlowSpec::Unsolicited { .. })
+}
+
+impl Scheduler {
+    // The first refusal of a call.
+    pub(super) fn refusal_of(&self, call: Call) -> Option<Refusal>
+        ensures { result ≡ refusal_of self.now.config self.now.history call }
+    {
+        match call {
+            Call::Admit(sid, spec) => self.refuse_admission(sid, spec),
+            Call::Remove(sid) | Call::Status(sid) => self.refuse_unknown(sid),
+            Call::Ask {
+                receiver,
+                sid,
+                bytes,
+                heard,
+            } => match self.refuse_asker(sid) {
+                Some(refusal) => Some(refusal),
+                None => self.refuse_request(receiver, bytes, heard),
+            },
+            Call::Heard { receiver, upto } => self.refuse_progress(receiver, upto),
+            Call::Build { now } => self.refuse_build(now),
+            Call::Skip { now } => self.refuse_skip(now),
+            Call::Newest => None,
+        }
+    }
+
+    // The parameters of the live flow with this SID.
+    fn spec_of(&self, sid: u16) -> Option<FlowSpec>
+        requires { bad_sid sid ≡ false }
+        ensures { result ≡ option_map (λ life. life.admission.spec) (life_of sid self.now.history) }
+    {
+        self.state.book.flow(sid)
+    }
+
+    // How many live flows are periodic.
+    fn periodic_count(&self) -> usize
+        ensures { result ≡ periodic_count self.now.history }
+    {
+        self.state.table.len()
+    }
+
+    // The refusal of an admission, but that there is no place.
+    fn refuse_admission(&self, sid: u16, spec: FlowSpec) -> Option<Refusal>
+        ensures { result ≡ refusal_of self.now.config self.now.history (Call.Admit sid spec) }
+    {
+        if is_bad_sid(sid) {
+            Some(Refusal::BadSid)
+        } else if self.spec_of(sid).is_some() {
+            Some(Refusal::SidLive)
+        } else if let Err(fault) = spec.check(&self.state.config) {
+            Some(Refusal::BadFlow(fault))
+        } else if self.state.book.len() >= MOST_FLOWS {
+            Some(Refusal::FlowsFull)
+        } else {
+            self.refuse_periodic(spec)
+        }
+    }
+
+    // The refusal of an admission where too many flows are placed.
+    fn refuse_periodic(&self, spec: FlowSpec) -> Option<Refusal>
+        ensures { result ≡ refused_if
+            (is_periodic spec && nat_le most_periodic (periodic_count self.now.history)) Refusal.PeriodicFull }
+    {
+        if is_periodic(spec) && self.periodic_count() >= MOST_PERIODIC {
+            Some(Refusal::PeriodicFull)
+        } else {
+            None
+        }
+    }
+
+    // The refusal of a removal or of a question for a flow's bytes.
+    fn refuse_unknown(&self, sid: u16) -> Option<Refusal>
+        ensures { result ≡ first_of (
+            refused_if (bad_sid sid) Refusal.BadSid ∷
+            refused_if (not (is_live sid self.now.history)) Refusal.NoFlow ∷ []) }
+    {
+        if is_bad_sid(sid) {
+            Some(Refusal::BadSid)
+        } else if self.spec_of(sid).is_none() {
+            Some(Refusal::NoFlow)
+        } else {
+            None
+        }
+    }
+
+    // The refusal of a request for its SID.
+    fn refuse_asker(&self, sid: u16) -> Option<Refusal>
+        ensures { result ≡ first_of (
+            refused_if (bad_sid sid) Refusal.BadSid ∷
+            refused_if (not (is_live sid self.now.history)) Refusal.NoFlow ∷
+            refused_if (is_silent sid self.now.history) Refusal.NotAsking ∷ []) }
+    {
+        if is_bad_sid(sid) {
+            return Some(Refusal::BadSid);
+        }
+        match self.spec_of(sid) {
+            None => Some(Refusal::NoFlow),
+            Some(spec) if !takes_requests(spec) => Some(Refusal::NotAsking),
+            Some(_) => None,
+        }
+    }
+
+    // The refusal of a request for its receiver, its bytes or its time.
+    fn refuse_request(&self, receiver: u8, bytes: u32, heard: u64) -> Option<Refusal>
+        ensures { result ≡ first_of (
+            refused_if (nat_le self.now.config.receivers receiver) Refusal.BadReceiver ∷
+            refused_if (bytes == 0 || nat_lt most_bytes bytes) Refusal.BadBytes ∷
+            refused_if (nat_lt heard (progress_of self.now.config receiver self.now.history))
+            (Refusal.Acked (progress_of self.now.config receiver self.now.history)) ∷
+            refused_if (nat_le (next_after self.now.config self.now.history) heard)
+            (Refusal.Ahead (next_after self.now.config self.now.history)) ∷ []) }
+    {
+        if receiver >= self.state.config.receivers() {
+            return Some(Refusal::BadReceiver);
+        }
+        let progress = self.state.progress[usize::from(receiver)];
+        if bytes == 0 || bytes > MOST_BYTES {
+            Some(Refusal::BadBytes)
+        } else if heard < progress {
+            Some(Refusal::Acked(progress))
+        } else if heard >= self.state.next {
+            Some(Refusal::Ahead(self.state.next))
+        } else {
+            None
+        }
+    }
+
+    // The refusal of a receiver's progress.
+    fn refuse_progress(&self, receiver: u8, upto: u64) -> Option<Refusal>
+        ensures { result ≡ refusal_of self.now.config self.now.history (Call.Heard receiver upto) }
+    {
+        if receiver >= self.state.config.receivers() {
+            return Some(Refusal::BadReceiver);
+        }
+        let progress = self.state.progress[usize::from(receiver)];
+        if upto > self.state.next {
+            Some(Refusal::Ahead(self.state.next))
+        } else if upto < progress {
+            Some(Refusal::Backwards(progress))
+        } else {
+            None
+        }
+    }
+
+    // The refusal of a build.
+    fn refuse_build(&self, now: u64) -> Option<Refusal>
+        ensures { result ≡ refusal_of self.now.config self.now.history (Call.Build now) }
+    {
+        let next = self.state.next;
+        if now > LAST_CLOCK {
+            Some(Refusal::BadClock)
+        } else if next + u64::from(self.state.config.frame()) > now + MOST_AHEAD {
+            Some(Refusal::TooEarly(next))
+        } else if now + u64::from(self.state.config.lead()) > next {
+            Some(Refusal::Late(next))
+        } else {
+            None
+        }
+    }
+
+    // The refusal of a skip.
+    fn refuse_skip(&self, now: u64) -> Option<Refusal>
+        ensures { result ≡ refusal_of self.now.config self.now.history (Call.Skip now) }
+    {
+        let next = self.state.next;
+        if now > LAST_CLOCK {
+            Some(Refusal::BadClock)
+        } else if now + u64::from(self.state.config.lead()) <= next {
+            Some(Refusal::NotLate(next))
+        } else {
+            None
+        }
+    }
+}

@@ -1,0 +1,233 @@
+//! What the scheduler keeps of the present, so that no call but one for the newest MAP reads the
+//! history again.
+
+ghost use Rattle.std.specs.Prelude.{◌≡◌, ◌≢◌, ℕ, ◌+◌, ◌*◌, ◌/◌, ◌%◌, ◌<◌, ◌≤◌, ◌^◌, ◌==◌, ◌↔◌, [], true, None, length, take, find, IfOk, OnErr, OnOk, IfSome, IsErrOf};
+ghost use Rattle.std.specs.List.{AllByRecursion};
+ghost use Rattle.map_codec.specs.WireMap.{IsWellFormed};
+ghost use Rattle.flow_book.specs.FlowSpec.{is_periodic, first_fault};
+ghost use Rattle.flow_book.specs.Flows.{flow_of};
+ghost use Rattle.flow_book.specs.Choice.{HasStartedBy};
+ghost use Rattle.flow_book.specs.Book.{IsLive, with_flow, new_flow, without};
+ghost use Rattle.periodic.specs.Placement.{IsPlacement, NoPlacement, spots_in};
+ghost use Rattle.periodic.specs.Table.{IsPlaced, with_placed, without as without_placed};
+ghost use Rattle.map_build.specs.FrameMap.{IsLawfulMap};
+ghost use Rattle.sched_history.specs.declared.reply.Reply.TheVariants.{Flow};
+ghost use Rattle.sched_history.specs.Time.{least, frame_from};
+ghost use Rattle.sched_history.specs.History.{status_of};
+ghost use Rattle.map_build.specs.Spots.{AreOfChannel, ArePeriodicOf};
+ghost use Rattle.sched_history.specs.State.{StandsFor, IsCommittable, flows_with};
+ghost use Rattle.sched_history.specs.Facts.{IsWithinAsked};
+
+use super::granting::enter_grants;
+use super::refusing::{is_periodic, takes_requests};
+use flow_book::{Book, FlowSpec};
+use map_build::{FrameMap, plan_frame};
+use minislots::Checked;
+use periodic::{PlaceFault, Placement, Starts, Table};
+use std::alloc::{AllocError, Global};
+
+// The most data grants of one MAP.
+const MOST_GRANTS: usize = 93;
+
+// The live flows, their placements, and the time.
+#[derive(Drop)]
+pub(super) struct State {
+    pub(super) config: Checked,
+    pub(super) book: Book,
+    pub(super) table: Table,
+    // Where the frame of the next MAP starts.
+    pub(super) next: u64,
+    // The minislot before which each receiver has handed in every request that it heard.
+    pub(super) progress: [u64; 16],
+}
+
+// The least of some numbers, 0 where there are none.
+fn least_of(numbers: &[u64]) -> u64
+    ensures { result ≡ least numbers.now }
+{
+    let Some(first) = numbers.first() else {
+        return 0;
+    };
+    let mut least = *first;
+    for number in numbers {
+        least = least.min(*number);
+    }
+    least
+}
+
+impl State {
+    // The state before any call.
+    pub(super) fn open(alloc: Global, config: Checked) -> Result<State, AllocError>
+        ensures config { IfOk result (λ state. state.config ≡ config) }
+        ensures stands { IfOk result (λ state. StandsFor state []) }
+    {
+        let start = config.start();
+        Ok(State {
+            config,
+            book: Book::open(alloc, config)?,
+            table: Table::open(alloc, config)?,
+            next: start,
+            progress: [start; 16],
+        })
+    }
+
+    // The first start of a frame at or after this minislot.
+    pub(super) fn frame_from(&self, slot: u64) -> u64
+        requires { slot ≤ 2 ^ 61 }
+        ensures { result ≡ frame_from self.now.config slot }
+    {
+        let frame = u64::from(self.config.frame());
+        (slot + frame - 1) / frame * frame
+    }
+
+    // The bytes of a live flow that were asked, granted and are outstanding: zeros where it does not
+    // ask.
+    pub(super) fn bytes_of(&self, sid: u16) -> (u64, u64, u64)
+        requires live { IsLive sid self.now.book.flows }
+        requires within { AllByRecursion IsWithinAsked self.now.book.flows }
+        ensures { IfSome (flow_of sid self.now.book.flows) (λ f.
+            status_of f ≡ Flow result.0 result.1 result.2) }
+    {
+        match self.book.flow(sid) {
+            Some(spec) if takes_requests(spec) => {
+                let (asked, outstanding) = (self.book.asked(sid), self.book.outstanding(sid));
+                (asked, asked - outstanding, outstanding)
+            }
+            _ => (0, 0, 0),
+        }
+    }
+
+    // Forgets a live flow, with its placement.
+    pub(super) fn remove(&mut self, sid: u16)
+        requires live { IsLive sid self.old.book.flows }
+        requires placed { IfSome (flow_of sid self.old.book.flows) (λ f.
+            is_periodic f.spec ≡ true → IsPlaced sid self.old.table.placed) }
+        requires unplaced { IfSome (flow_of sid self.old.book.flows) (λ f.
+            is_periodic f.spec ≢ true → without_placed sid self.old.table.placed ≡ self.old.table.placed) }
+        ensures flows { self.new.book.flows ≡ without sid self.old.book.flows }
+        ensures placed { self.new.table.placed ≡ without_placed sid self.old.table.placed }
+        ensures book_config { self.new.book.config ≡ self.old.book.config }
+        ensures table_config { self.new.table.config ≡ self.old.table.config }
+        ensures same { self.new ≡ record self.old { book = self.new.book; table = self.new.table } }
+    {
+        if let Some(spec) = self.book.flow(sid)
+            && is_periodic(spec)
+        {
+            self.table.remove(sid);
+        }
+        self.book.remove(sid);
+    }
+
+    // Places and admits a periodic flow. Its placement comes twice: for the reply and for the history.
+    // After a fault nothing has changed.
+    pub(super) fn admit_periodic(
+        &mut self,
+        alloc: Global,
+        sid: u16,
+        spec: FlowSpec,
+    ) -> Result<(Placement, Placement), PlaceFault>
+        requires sid_positive { 0 < sid }
+        requires sid_most { sid ≤ 8191 }
+        requires is_new { flow_of sid self.old.book.flows ≡ None }
+        requires unplaced { find (λ p. p.sid == sid) self.old.table.placed ≡ None }
+        requires periodic { is_periodic spec ≡ true }
+        requires no_fault { first_fault self.old.table.config spec ≡ None }
+        requires room { length self.old.table.placed < 40 }
+        requires aligned { self.old.next % self.old.table.config.frame ≡ 0 }
+        requires most { self.old.next ≤ 2 ^ 61 }
+
+        ensures lawful { IfOk result (λ twice.
+            IsPlacement self.old.table.config self.old.table.placed spec self.old.next twice.0) }
+        ensures twice { IfOk result (λ twice. twice.1 ≡ twice.0) }
+        ensures placed { IfOk result (λ twice. self.new.table.placed
+            ≡ with_placed (record { sid = sid; spec = spec; placement = twice.0 }) self.old.table.placed) }
+        ensures flows { OnOk result (self.new.book.flows
+            ≡ with_flow (new_flow sid spec) self.old.book.flows) }
+        ensures book_config { self.new.book.config ≡ self.old.book.config }
+        ensures table_config { self.new.table.config ≡ self.old.table.config }
+        ensures same { self.new ≡ record self.old { book = self.new.book; table = self.new.table } }
+
+        ensures no_place { IsErrOf result PlaceFault.NoPlace →
+            NoPlacement self.old.table.config self.old.table.placed spec self.old.next }
+        ensures memory { IsErrOf result PlaceFault.Memory → (p : Placement) ×
+            IsPlacement self.old.table.config self.old.table.placed spec self.old.next p }
+        ensures err { OnErr result (self.new ≡ self.old) }
+    {
+        let placement = self.table.place(sid, &spec, self.next)?;
+        match self.admit_placed(alloc, sid, spec, &placement) {
+            Ok(kept) => Ok((placement, kept)),
+            Err(_) => {
+                self.table.remove(sid);
+                Err(PlaceFault::Memory)
+            }
+        }
+    }
+
+    // Admits a flow whose placement stands in the table, and copies the placement. Where memory runs
+    // out nothing has changed.
+    fn admit_placed(
+        &mut self,
+        alloc: Global,
+        sid: u16,
+        spec: FlowSpec,
+        placement: &Placement,
+    ) -> Result<Placement, AllocError>
+        requires { flow_of sid self.old.book.flows ≡ None }
+        ensures copy { IfOk result (λ kept. kept ≡ placement.now) }
+        ensures flows { OnOk result (self.new.book.flows
+            ≡ with_flow (new_flow sid spec) self.old.book.flows) }
+        ensures config { self.new.book.config ≡ self.old.book.config }
+        ensures same { self.new ≡ record self.old { book = self.new.book } }
+        ensures err { OnErr result (self.new ≡ self.old) }
+    {
+        let starts = Vec::from_slice(alloc, placement.starts.as_slice())?;
+        self.book.admit(sid, spec)?;
+        Ok(Placement {
+            reference: placement.reference,
+            starts: Starts::from_vec(starts),
+        })
+    }
+
+    // The acknowledge time: the least progress of the receivers.
+    fn ack(&self) -> u64
+        ensures { result ≡ least (take self.now.config.receivers self.now.progress) }
+    {
+        least_of(&self.progress[..usize::from(self.config.receivers())])
+    }
+
+    // The MAP of the next frame.
+    pub(super) fn plan(&self, alloc: Global) -> Result<FrameMap, AllocError>
+        requires book_config { self.now.book.config ≡ self.now.config }
+        requires table_config { self.now.table.config ≡ self.now.config }
+        requires aligned { self.now.next % self.now.config.frame ≡ 0 }
+        requires most { self.now.next ≤ 2 ^ 61 }
+        requires started { AllByRecursion (HasStartedBy self.now.next) self.now.book.flows }
+        requires periodic { ArePeriodicOf self.now.book.flows self.now.table.placed }
+        requires channel { AreOfChannel self.now.book.flows }
+        ensures lawful { IfOk result (IsLawfulMap self.now.config self.now.book.flows
+            (spots_in self.now.config (self.now.next / self.now.config.frame) self.now.table.placed)
+            self.now.next (least (take self.now.config.receivers self.now.progress))) }
+        ensures encodable { IfOk result (λ map. IsWellFormed map.wire) }
+    {
+        let frame = self.next / u64::from(self.config.frame());
+        plan_frame(alloc, &self.book, &self.table, frame, self.ack())
+    }
+
+    // Enters the data grants of the MAP of the next frame, and describes the frame. Where memory runs
+    // out nothing has changed but room for grants.
+    pub(super) fn commit(&mut self, map: &FrameMap) -> Result<(), AllocError>
+        requires { IsCommittable self.old map.now }
+        ensures flows { OnOk result (self.new.book.flows ≡ flows_with map.now self.old.book.flows) }
+        ensures next { OnOk result (self.new.next ≡ self.old.next + self.old.config.frame) }
+        ensures config { self.new.book.config ≡ self.old.book.config }
+        ensures same { self.new ≡ record self.old { book = self.new.book; next = self.new.next } }
+        ensures err_flows { OnErr result (self.new.book.flows ≡ self.old.book.flows) }
+        ensures err_next { OnErr result (self.new.next ≡ self.old.next) }
+    {
+        self.book.reserve(MOST_GRANTS)?;
+        let elements = map.wire.elements.as_slice();
+        enter_grants(&mut self.book, map.start, elements, map.bytes.as_slice());
+        self.next += u64::from(self.config.frame());
+        Ok(())
+    }
+}

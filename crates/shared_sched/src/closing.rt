@@ -1,0 +1,37 @@
+//! How a shared scheduler is closed.
+ghost use Rattle.std.specs.Prelude.{◌≡◌, length};
+ghost use Rattle.ticket_lock.specs.Rule.{Every};
+ghost use Rattle.ticket_lock.specs.Standing.{seats_of};
+ghost use Rattle.shared_sched.specs.Closed.{ClosesTo};
+
+use crate::counting::count_each;
+use crate::desk::Desk;
+use crate::shared::Shared;
+use sched_history::Entry;
+use ticket_core::MAX_SEATS;
+use ticket_lock::Seat;
+
+/// The history of a scheduler that was closed.
+#[derive(Drop)]
+pub struct Closed {
+    /// The calls that were recorded, with their replies, in the order of their tickets.
+    pub history: Vec<Entry>,
+    /// How many of them each seat made, by the seats' numbers.
+    pub counts: [u64; MAX_SEATS],
+}
+
+impl Shared {
+    /// Takes the scheduler apart, and gives its history. All its seats come back, each once, in any
+    /// order.
+    pub fn close(self, seats: Vec<Seat<Desk>>) -> Closed
+        requires own { Every (λ s. s.lock ≡ self.lock) seats.items }
+        requires all { length seats.items ≡ seats_of self.lock }
+        ensures closed { ClosesTo self.config self.lock seats.items result.history.items result.counts }
+    {
+        let Shared { lock, config: _ } = self;
+        let Desk { scheduler } = lock.close(seats);
+        let history = scheduler.into_history();
+        let counts = count_each(&history);
+        Closed { history, counts }
+    }
+}

@@ -1,0 +1,13 @@
+//! Why no scheduler was opened.
+use thiserror::Error;
+
+/// Why no scheduler was opened, in the order of the tests.
+#[derive(Clone, Copy, Debug, PartialEq, Eq, Drop, Error)]
+pub enum OpenFault {
+    /// The number of seats is not from 1 to 64.
+    #[error("a scheduler has 1 to 64 seats")]
+    SeatCount,
+    /// There was no memory for the history, the lock or the seats.
+    #[error("out of memory")]
+    Memory,
+}

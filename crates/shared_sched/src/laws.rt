@@ -1,0 +1,26 @@
+//! The law of the lock, at the desk.
+ghost use Rattle.std.specs.Prelude.{List, Option};
+ghost use Rattle.atomic_table.specs.Table.{State};
+ghost use Rattle.minislots.specs.declared.config.Config.{Config};
+ghost use Rattle.sched_history.specs.declared.reply.Entry.{Entry};
+ghost use Rattle.sched_history.specs.Machine.{Machine};
+ghost use Rattle.ticket_core.specs.LockWorld.{LockWorld};
+ghost use Rattle.ticket_lock.specs.declared.board.About.{About};
+ghost use Rattle.ticket_lock.specs.declared.board.Logged.{Logged};
+ghost use Rattle.ticket_lock.specs.declared.board.View.{View};
+ghost use Rattle.ticket_lock.specs.Rule.{Stands};
+ghost use Rattle.ticket_lock.specs.Laws.{HasOneHolder};
+ghost use Rattle.shared_sched.specs.Desk.{config_of, history_of, maker_of};
+
+use crate::desk::Desk;
+
+/// In every state of the lock round a desk at most one seat holds it, and the desk is with that seat
+/// exactly while there is one.
+pub fn one_holder()
+    ensures holder { (a : About Config Entry) (w : LockWorld) (log : List (Logged Entry))
+        (s : State (Option Machine) (View Config Entry))
+        → Stands config_of history_of maker_of a w log s
+        → HasOneHolder config_of history_of maker_of a w log s }
+{
+    ticket_lock::one_holder::<Desk>()
+}

@@ -1,0 +1,77 @@
+//! The scheduler that threads share, and its calls.
+ghost use Rattle.std.specs.Prelude.{◌≡◌};
+ghost use Rattle.shared_sched.specs.Desk.{IsDeskLock};
+ghost use Rattle.shared_sched.specs.Calls.{IsEntered, AnswersHeld, AnswersCall};
+
+use crate::desk::Desk;
+use minislots::Checked;
+use sched_history::{Call, Reply, Unrecorded};
+use std::marker::Model;
+use std::sync::Wait;
+use ticket_lock::{Held, Seat, TicketLock};
+
+/// A scheduler under a ticket lock. Threads share it by a reference, each with a seat of its own. It
+/// has no `Drop`, so it has to be closed.
+#[must_use]
+pub struct Shared {
+    pub(crate) lock: TicketLock<Desk>,
+    // What clauses name: the desk has the same.
+    pub(crate) config: Checked,
+}
+
+// Clauses see the configuration, and the lock round the desk.
+impl Model for Shared {
+    ghost use Rattle.shared_sched.specs.Desk.{SharedDesk, IsDeskLock};
+
+    ghost Value = { SharedDesk };
+
+    ghost view = { λ s. record { config = s.config; lock = s.lock } };
+
+    ghost invariant = { λ s. IsDeskLock s.config s.lock };
+}
+
+impl Shared {
+    /// The lock round the desk, for callers who draw and enter by themselves.
+    pub fn lock(&self) -> &TicketLock<Desk>
+        ensures lock { result.now ≡ self.now.lock }
+        ensures desk { IsDeskLock self.now.config self.now.lock }
+    {
+        &self.lock
+    }
+
+    /// Makes a call by this seat: it draws a ticket, waits until it is served, and records the call
+    /// with its reply. Only the entry waits. A call that is not recorded changes nothing: one where the
+    /// history is full, and one for which memory ran out.
+    pub fn call<R: Wait>(
+        &self,
+        rt: &R,
+        seat: Seat<Desk>,
+        call: Call,
+    ) -> (Seat<Desk>, Result<Reply, Unrecorded>)
+        requires own { seat.lock ≡ self.now.lock }
+        ensures answered { AnswersCall self.now.config seat call result.0 result.1 }
+    {
+        let ticket = self.lock.draw(seat);
+        let (held, desk) = self.lock.enter(rt, ticket);
+        self.call_held(rt, held, desk, call)
+    }
+
+    /// Makes a call by the seat that holds the desk, and leaves. The desk is as it was entered. Nothing
+    /// in it waits yet: the runtime is there for a build that will wait for readers.
+    pub fn call_held<R: Wait>(
+        &self,
+        _rt: &R,
+        held: Held<Desk>,
+        desk: Desk,
+        call: Call,
+    ) -> (Seat<Desk>, Result<Reply, Unrecorded>)
+        requires own { held.lock ≡ self.now.lock }
+        requires entered { IsEntered held desk }
+        ensures answered { AnswersHeld self.now.config held call result.0 result.1 }
+    {
+        let mut desk = desk;
+        let answer = desk.scheduler.call(held.stamp(), call);
+        let seat = self.lock.leave(held, desk);
+        (seat, answer)
+    }
+}
