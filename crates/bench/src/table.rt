@@ -88,5 +88,8 @@ pub fn print_frames<R: Clock + Print>(rt: &R, alloc: Global) -> io::Result<()> {
     admissions.sort_unstable();
     builds.sort_unstable();
     println!(rt; "no place: {} microseconds", admissions[RUNS / 2] / 1000)?;
-    println!(rt; "93 grants and 40 polls: {} microseconds", builds[RUNS / 2] / 1000)
+    println!(rt;
+        "93 grants and 40 polls: {} microseconds",
+        builds[RUNS / 2] / 1000
+    )
 }

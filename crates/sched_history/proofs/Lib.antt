@@ -44,6 +44,9 @@ pub mod SoundLives
 pub mod SoundPlans
 pub mod Entering
 pub mod Building
+pub mod CountedElements
+pub mod PeriodicFlows
+pub mod Recording
 pub mod Accepted
 pub mod NextFrames
 pub mod AckTimes

@@ -1,11 +1,10 @@
 -- The fields that stand for a history with one call more.
 use Rattle.std.proofs.Common.{◌≡◌, ◌≢◌, ℕ, ◌+◌, ◌≤◌, ◌<◌, List, [], ◌∷◌, ◌++◌, length, set, None, Some, refl, sym, ap, ◌∙◌, arith, inl, inr}
-use Rattle.std.specs.Prelude.{vec_capacity, ◌==◌, if◌then◌else◌}
-use Rattle.std.specs.List.{AllByRecursion, zip}
+use Rattle.std.specs.Prelude.{◌==◌, if◌then◌else◌}
+use Rattle.std.specs.List.{zip}
 use Rattle.std.proofs.lemmas.Bool.{cases_eq}
 use Rattle.std.proofs.lemmas.Bool.Decides.{nat_tests}
-use Rattle.std.proofs.lemmas.List.{length_push, length-set, get_or-set_same, get_or-set_other}
-use Rattle.minislots.specs.declared.config.Config.{Config}
+use Rattle.std.proofs.lemmas.List.{length-set, get_or-set_same, get_or-set_other}
 use Rattle.minislots.specs.declared.stamp.Stamp.{Stamp}
 use Rattle.flow_book.specs.declared.spec.FlowSpec.{FlowSpec}
 use Rattle.flow_book.specs.Flows.{LiveFlow}
@@ -14,22 +13,17 @@ use Rattle.periodic.specs.declared.placement.Placement.{Placement}
 use Rattle.periodic.specs.Table.{with_placed, without as without_placed}
 use Rattle.map_build.specs.declared.frame_map.FrameMap.{FrameMap}
 use Rattle.sched_history.specs.declared.scheduler.state.State.{State}
-use Rattle.sched_history.specs.declared.scheduler.Scheduler.TheInside.{Inside}
 use Rattle.sched_history.specs.declared.call.Call.{Call}
 use Rattle.sched_history.specs.declared.call.Call.TheVariants as calls
 use Rattle.sched_history.specs.declared.reply.Reply.{Reply}
 use Rattle.sched_history.specs.declared.reply.Reply.TheVariants as replies
 use Rattle.sched_history.specs.declared.reply.Entry.{Entry}
 use Rattle.sched_history.specs.Life.{life_of, flows_of}
-use Rattle.sched_history.specs.History.{IsStep, IsLegal}
-use Rattle.sched_history.specs.Machine.{Machine, IsEncodable}
-use Rattle.sched_history.specs.State.{StandsFor, IsSound, IsRecorded, IsQuiet, with_grants, flows_with}
+use Rattle.sched_history.specs.State.{StandsFor, IsQuiet, with_grants, flows_with}
 use Rattle.sched_history.proofs.FlowsAfter.{grown_by, flows_of-quiet, flows_of-grown, table_of-stays}
 use Rattle.sched_history.proofs.FlowCalls.{map-each, flows_of-ask, table_of-ask, flows_of-remove, table_of-remove}
 use Rattle.sched_history.proofs.Admissions.{flows_of-admit, table_of-admit_placed, table_of-admit_unplaced}
 use Rattle.sched_history.proofs.TimeAfter.{next_after-same, next_after-built, next_after-skipped, progress_of-same, progress_of-noted}
-use Rattle.sched_history.proofs.Steps.{IsLegal-push}
-use Rattle.sched_history.proofs.Bounded.{IsBounded-legal}
 
 -- a note is of its receiver alone
 noted : (receiver upto : ℕ) → (if receiver == receiver then Some upto else None) ≡ Some upto
@@ -39,11 +33,13 @@ not_noted : (receiver other upto : ℕ) → receiver ≢ other → (if receiver 
 not_noted receiver other upto differ = grind (arith, nat_tests)
 
 module _ (s : State) (h : List Entry) (stands : StandsFor s h) (stamp : Stamp) where
+  -- the call and its reply, with the stamp
   abbrev entry : Call → Reply → Entry
   entry call reply = record { stamp = stamp; call = call; reply = reply }
 
   -- after a call on which nothing depends
-  pub StandsFor-quiet : (call : Call) (reply : Reply) → IsQuiet call reply → StandsFor s (h ++ record { stamp = stamp; call = call; reply = reply } ∷ [])
+  pub StandsFor-quiet : (call : Call) (reply : Reply) → IsQuiet call reply
+      → StandsFor s (h ++ record { stamp = stamp; call = call; reply = reply } ∷ [])
   StandsFor-quiet call reply quiet =
       let e : Entry = entry call reply in
       record {
@@ -58,15 +54,18 @@ module _ (s : State) (h : List Entry) (stands : StandsFor s h) (stamp : Stamp) w
       }
 
   -- after a request
-  pub StandsFor-asked : (receiver sid bytes heard : ℕ) (book : BookView) → book ≡ record s.book { flows = changed sid (with_asked bytes) s.book.flows }
-      → StandsFor (record s { book = book }) (h ++ record { stamp = stamp; call = calls.Ask receiver sid bytes heard; reply = replies.Taken } ∷ [])
+  pub StandsFor-asked : (receiver sid bytes heard : ℕ) (book : BookView)
+      → book ≡ record s.book { flows = changed sid (with_asked bytes) s.book.flows }
+      → StandsFor (record s { book = book })
+      (h ++ record { stamp = stamp; call = calls.Ask receiver sid bytes heard; reply = replies.Taken } ∷ [])
   StandsFor-asked receiver sid bytes heard book asked =
       let e : Entry = entry (calls.Ask receiver sid bytes heard) replies.Taken in
       record {
         lawful = stands.lawful;
         book_config = ap (λ b. b.config) asked ∙ stands.book_config;
         table_config = stands.table_config;
-        flows = ap (λ b. b.flows) asked ∙ ap (changed sid (with_asked bytes)) stands.flows ∙ sym (flows_of-ask stamp h receiver sid bytes heard);
+        flows = ap (λ b. b.flows) asked ∙ ap (changed sid (with_asked bytes)) stands.flows
+            ∙ sym (flows_of-ask stamp h receiver sid bytes heard);
         placed = stands.placed ∙ sym (table_of-ask stamp h receiver sid bytes heard);
         next = stands.next ∙ sym (next_after-same s.config h e refl refl);
         places = stands.places;
@@ -74,7 +73,8 @@ module _ (s : State) (h : List Entry) (stands : StandsFor s h) (stamp : Stamp) w
       }
 
   -- after a removal
-  pub StandsFor-removed : (sid : ℕ) (s' : State) → s' ≡ record s { book = s'.book; table = s'.table } → s'.book.config ≡ s.book.config → s'.book.flows ≡ without sid s.book.flows
+  pub StandsFor-removed : (sid : ℕ) (s' : State) → s' ≡ record s { book = s'.book; table = s'.table } → s'.book.config ≡ s.book.config
+      → s'.book.flows ≡ without sid s.book.flows
       → s'.table.config ≡ s.table.config → s'.table.placed ≡ without_placed sid s.table.placed
       → StandsFor s' (h ++ record { stamp = stamp; call = calls.Remove sid; reply = replies.Removed } ∷ [])
   StandsFor-removed sid s' same book_config flows table_config placed =
@@ -95,7 +95,8 @@ module _ (s : State) (h : List Entry) (stands : StandsFor s h) (stamp : Stamp) w
   -- after an admission without a place
   pub StandsFor-admitted : (sid : ℕ) (spec : FlowSpec) (book : BookView) → life_of sid h ≡ None → 1 ≤ sid → sid ≤ 8191
       → book.config ≡ s.book.config → book.flows ≡ with_flow (new_flow sid spec) s.book.flows
-      → StandsFor (record s { book = book }) (h ++ record { stamp = stamp; call = calls.Admit sid spec; reply = replies.Admitted None } ∷ [])
+      → StandsFor (record s { book = book })
+      (h ++ record { stamp = stamp; call = calls.Admit sid spec; reply = replies.Admitted None } ∷ [])
   StandsFor-admitted sid spec book fresh low high config flows =
       let e : Entry = entry (calls.Admit sid spec) (replies.Admitted None) in
       record {
@@ -110,7 +111,8 @@ module _ (s : State) (h : List Entry) (stands : StandsFor s h) (stamp : Stamp) w
       }
 
   -- after an admission with a place
-  pub StandsFor-placed : (sid : ℕ) (spec : FlowSpec) (p : Placement) (s' : State) → s' ≡ record s { book = s'.book; table = s'.table } → life_of sid h ≡ None → 1 ≤ sid → sid ≤ 8191
+  pub StandsFor-placed : (sid : ℕ) (spec : FlowSpec) (p : Placement) (s' : State) → s' ≡ record s { book = s'.book; table = s'.table }
+      → life_of sid h ≡ None → 1 ≤ sid → sid ≤ 8191
       → s'.book.config ≡ s.book.config → s'.book.flows ≡ with_flow (new_flow sid spec) s.book.flows
       → s'.table.config ≡ s.table.config → s'.table.placed ≡ with_placed (record { sid = sid; spec = spec; placement = p }) s.table.placed
       → StandsFor s' (h ++ record { stamp = stamp; call = calls.Admit sid spec; reply = replies.Admitted (Some p) } ∷ [])
@@ -122,7 +124,8 @@ module _ (s : State) (h : List Entry) (stands : StandsFor s h) (stamp : Stamp) w
         book_config = book_config ∙ stands.book_config;
         table_config = table_config ∙ stands.table_config;
         flows = flows ∙ ap (with_flow (new_flow sid spec)) stands.flows ∙ sym (flows_of-admit stamp h sid spec (Some p) fresh low high);
-        placed = placed ∙ ap (with_placed (record { sid = sid; spec = spec; placement = p })) stands.placed ∙ sym (table_of-admit_placed stamp h sid spec p fresh low high);
+        placed = placed ∙ ap (with_placed (record { sid = sid; spec = spec; placement = p })) stands.placed
+            ∙ sym (table_of-admit_placed stamp h sid spec p fresh low high);
         next = stands.next ∙ sym (next_after-same s.config h e refl refl);
         places = stands.places;
         progress = λ other below. stands.progress other below ∙ sym (progress_of-same s.config other h e refl);
@@ -131,7 +134,8 @@ module _ (s : State) (h : List Entry) (stands : StandsFor s h) (stamp : Stamp) w
 
   -- after a note of a receiver
   pub StandsFor-heard : (receiver upto : ℕ) → receiver < length s.progress
-      → StandsFor (record s { progress = set s.progress receiver upto }) (h ++ record { stamp = stamp; call = calls.Heard receiver upto; reply = replies.Noted } ∷ [])
+      → StandsFor (record s { progress = set s.progress receiver upto })
+      (h ++ record { stamp = stamp; call = calls.Heard receiver upto; reply = replies.Noted } ∷ [])
   StandsFor-heard receiver upto within =
       let e : Entry = entry (calls.Heard receiver upto) replies.Noted in
       record {
@@ -143,14 +147,16 @@ module _ (s : State) (h : List Entry) (stands : StandsFor s h) (stamp : Stamp) w
         next = stands.next ∙ sym (next_after-same s.config h e refl refl);
         places = length-set s.progress receiver upto ∙ stands.places;
         progress = λ other below. elim (cases_eq receiver other) [
-          | inl same ↦ rw (← same) (get_or-set_same s.progress receiver upto 0 within ∙ sym (progress_of-noted s.config receiver h e upto (noted receiver upto)))
+          | inl same ↦ rw (← same) (get_or-set_same s.progress receiver upto 0 within
+              ∙ sym (progress_of-noted s.config receiver h e upto (noted receiver upto)))
           | inr differ ↦ get_or-set_other s.progress receiver other upto 0 (λ same. differ (sym same)) ∙ stands.progress other below
               ∙ sym (progress_of-same s.config other h e (not_noted receiver other upto differ))
         ];
       }
 
   -- after a skip
-  pub StandsFor-skipped : (now next : ℕ) → StandsFor (record s { next = next }) (h ++ record { stamp = stamp; call = calls.Skip now; reply = replies.Skipped next } ∷ [])
+  pub StandsFor-skipped : (now next : ℕ) → StandsFor (record s { next = next })
+      (h ++ record { stamp = stamp; call = calls.Skip now; reply = replies.Skipped next } ∷ [])
   StandsFor-skipped now next =
       let e : Entry = entry (calls.Skip now) (replies.Skipped next) in
       record {
@@ -164,12 +170,15 @@ module _ (s : State) (h : List Entry) (stands : StandsFor s h) (stamp : Stamp) w
         progress = λ other below. stands.progress other below ∙ sym (progress_of-same s.config other h e refl);
       }
 
-  grown-map : (now : ℕ) (m : FrameMap) (f : LiveFlow) → grown_by (entry (calls.Build now) (replies.Built m)) f ≡ with_grants m.start (zip m.wire.elements m.bytes) f
+  grown-map : (now : ℕ) (m : FrameMap) (f : LiveFlow) → grown_by (entry (calls.Build now) (replies.Built m)) f ≡ with_grants m.start
+      (zip m.wire.elements m.bytes) f
   grown-map now m f = let none : f.asked + 0 ≡ f.asked = omega arith in rw none refl
 
   -- after a MAP
-  pub StandsFor-built : (now : ℕ) (m : FrameMap) (s' : State) → s' ≡ record s { book = s'.book; next = s'.next } → s'.book.config ≡ s.book.config → s'.book.flows ≡ flows_with m s.book.flows
-      → s'.next ≡ s.next + s.config.frame → StandsFor s' (h ++ record { stamp = stamp; call = calls.Build now; reply = replies.Built m } ∷ [])
+  pub StandsFor-built : (now : ℕ) (m : FrameMap) (s' : State) → s' ≡ record s { book = s'.book; next = s'.next }
+      → s'.book.config ≡ s.book.config → s'.book.flows ≡ flows_with m s.book.flows
+      → s'.next ≡ s.next + s.config.frame
+      → StandsFor s' (h ++ record { stamp = stamp; call = calls.Build now; reply = replies.Built m } ∷ [])
   StandsFor-built now m s' same book_config flows next =
       let e : Entry = entry (calls.Build now) (replies.Built m) in
       let t : State = record s { book = s'.book; next = s'.next } in
@@ -177,38 +186,12 @@ module _ (s : State) (h : List Entry) (stands : StandsFor s h) (stamp : Stamp) w
         lawful = stands.lawful;
         book_config = book_config ∙ stands.book_config;
         table_config = stands.table_config;
-        flows = flows ∙ ap (flows_with m) stands.flows ∙ sym (flows_of-grown h e (λ sid. refl) ∙ map-each (grown_by e) (with_grants m.start (zip m.wire.elements m.bytes)) (flows_of h) (grown-map now m));
+        flows = flows ∙ ap (flows_with m) stands.flows
+            ∙ sym (flows_of-grown h e (λ sid. refl) ∙ map-each (grown_by e) (with_grants m.start (zip m.wire.elements m.bytes))
+            (flows_of h) (grown-map now m));
         placed = stands.placed ∙ sym (table_of-stays h e (λ sid. refl));
         next = next ∙ ap (λ n. n + s.config.frame) stands.next ∙ sym (next_after-built s.config h e m refl);
         places = stands.places;
         progress = λ other below. stands.progress other below ∙ sym (progress_of-same s.config other h e refl);
       } in
       rw same after
-
--- what holds of all and of one more
-all-push : {X : Type 0} (P : X → Type 0) (xs : List X) (x : X) → AllByRecursion P xs → P x → AllByRecursion P (xs ++ x ∷ [])
-all-push P [] x all here = (here, tt)
-all-push P (y ∷ xs) x all here = (all.0, all-push P xs x all.1 here)
-
--- A scheduler with one entry more is sound, where its fields stand for the history
-pub IsSound-push : (a b : Inside) (e : Entry) → IsSound a → b.entries.items ≡ a.entries.items ++ e ∷ [] → vec_capacity b.entries ≡ vec_capacity a.entries → b.state.config ≡ a.state.config
-    → length a.entries.items < a.state.config.calls → IsStep a.state.config a.entries.items e.call e.reply → IsEncodable e.reply → StandsFor b.state (a.entries.items ++ e ∷ []) → IsSound b
-IsSound-push a b e sound items capacity config room step encodable stands =
-    let legal : IsLegal a.state.config (a.entries.items ++ e ∷ []) = IsLegal-push a.state.config a.entries.items e sound.legal step in
-    record {
-      stands = rw items stands;
-      bounded = rw (items, stands.flows, stands.next, config) (IsBounded-legal a.state.config (a.entries.items ++ e ∷ []) sound.stands.lawful legal);
-      legal = rw (config, items) legal;
-      encodable = rw items (all-push (λ x. IsEncodable x.reply) a.entries.items e sound.encodable encodable);
-      within = rw (config, items) (omega (arith, length_push a.entries.items e));
-      reserved = rw (config, capacity) sound.reserved;
-    }
-
--- the same configuration with the same history
-pub machine-same : (c d : Config) (h k : List Entry) → c ≡ d → h ≡ k → ◌≡◌ {A = Machine} (record { config = c; history = h }) (record { config = d; history = k })
-machine-same c d h k config history = rw (config, history) refl
-
--- a recorded call keeps the history legal
-pub IsLegal-recorded : (old new : Machine) (stamp : Stamp) (call : Call) (reply : Reply) → IsLegal old.config old.history → IsRecorded old new stamp call reply → IsLegal new.config new.history
-IsLegal-recorded old new stamp call reply legal recorded =
-    rw (recorded.entered) (IsLegal-push old.config old.history (record { stamp = stamp; call = call; reply = reply }) legal recorded.step)

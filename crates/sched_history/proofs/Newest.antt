@@ -25,7 +25,8 @@ map_by-none (Latest newest) never = refl
 map_by-none (Refused refusal) never = refl
 
 -- a member after which none says anything is the latest
-latest-here : {X Y : Type 0} (f : X → Option Y) (xs : List X) (x : X) (ys : List X) (y : Y) → f x ≡ Some y → latest f ys ≡ None → latest f (xs ++ x ∷ ys) ≡ Some (record { said = y; after = ys })
+latest-here : {X Y : Type 0} (f : X → Option Y) (xs : List X) (x : X) (ys : List X) (y : Y) → f x ≡ Some y → latest f ys ≡ None
+    → latest f (xs ++ x ∷ ys) ≡ Some (record { said = y; after = ys })
 latest-here f [] x ys y says none = rw (none, says) refl
 latest-here f (z ∷ xs) x ys y says none = rw (latest-here f xs x ys y says none) refl
 
@@ -36,20 +37,24 @@ rest-from h i e some within is =
     drop-cons h (i - 1) e (omega arith) ∙ rw (next, ← is) refl
 
 -- where none after a place has a MAP, nor that place
-pub newest-none : (h : List Entry) (i : ℕ) (e : Entry) → 0 < i → i ≤ length h → e ≡ get_or h (i - 1) e → ((m : FrameMap) → (get_or h (i - 1) e).reply ≡ Built m → ⊥)
+pub newest-none : (h : List Entry) (i : ℕ) (e : Entry) → 0 < i → i ≤ length h → e ≡ get_or h (i - 1) e
+    → ((m : FrameMap) → (get_or h (i - 1) e).reply ≡ Built m → ⊥)
     → latest (λ x. map_by x.reply) (drop i h) ≡ None → latest (λ x. map_by x.reply) (drop (i - 1) h) ≡ None
 newest-none h i e some within is never none =
     let silent : map_by e.reply ≡ None = map_by-none e.reply (λ m built. never m (rw (← is) built)) in
     rw (rest-from h i e some within is, none, silent) refl
 
 -- where none after a place has a MAP, that place has the newest
-pub newest-here : (h : List Entry) (i : ℕ) (e : Entry) (m : FrameMap) → 0 < i → i ≤ length h → e ≡ get_or h (i - 1) e → (get_or h (i - 1) e).reply ≡ Built m
+pub newest-here : (h : List Entry) (i : ℕ) (e : Entry) (m : FrameMap) → 0 < i → i ≤ length h → e ≡ get_or h (i - 1) e
+    → (get_or h (i - 1) e).reply ≡ Built m
     → latest (λ x. map_by x.reply) (drop i h) ≡ None → Some m ≡ newest_map h
 newest-here h i e m some within is built none =
     let own : e.reply ≡ Built m = ap (λ x. x.reply) is ∙ built in
     let says : map_by e.reply ≡ Some m = ap map_by own in
-    let parts : take (i - 1) h ++ e ∷ drop i h ≡ h = ap (λ ys. take (i - 1) h ++ ys) (sym (rest-from h i e some within is)) ∙ take-append-drop (i - 1) h in
-    sym (ap newest_map (sym parts) ∙ ap (option_map (λ found. found.said)) (latest-here (λ x. map_by x.reply) (take (i - 1) h) e (drop i h) m says none))
+    let parts : take (i - 1) h ++ e ∷ drop i h ≡ h = ap (λ ys. take (i - 1) h ++ ys) (sym (rest-from h i e some within is))
+    ∙ take-append-drop (i - 1) h in
+    sym (ap newest_map (sym parts) ∙ ap (option_map (λ found. found.said))
+    (latest-here (λ x. map_by x.reply) (take (i - 1) h) e (drop i h) m says none))
 
 -- after the last entry there is none
 pub newest-last : (h : List Entry) → latest (λ x. map_by x.reply) (drop (length h) h) ≡ None
@@ -63,12 +68,14 @@ newest-first h i low none =
     sym (ap (option_map (λ found. found.said)) whole)
 
 -- of two that are found the later one has bytes, or else the first
-either-encodable : (later here : Option (Found Entry FrameMap)) → IfSome later (λ found. IsWellFormed found.said.wire) → IfSome here (λ found. IsWellFormed found.said.wire)
+either-encodable : (later here : Option (Found Entry FrameMap)) → IfSome later (λ found. IsWellFormed found.said.wire)
+    → IfSome here (λ found. IsWellFormed found.said.wire)
     → IfSome (option_or later here) (λ found. IsWellFormed found.said.wire)
 either-encodable None here one other = other
 either-encodable (Some later) here one other = one
 
-here-encodable : (reply : Reply) (after : List Entry) → IsEncodable reply → IfSome {T = Found Entry FrameMap} (option_map (λ m. record { said = m; after = after }) (map_by reply)) (λ found. IsWellFormed found.said.wire)
+here-encodable : (reply : Reply) (after : List Entry) → IsEncodable reply → IfSome {T = Found Entry FrameMap}
+    (option_map (λ m. record { said = m; after = after }) (map_by reply)) (λ found. IsWellFormed found.said.wire)
 here-encodable (Admitted placement) after good = tt
 here-encodable Removed after good = tt
 here-encodable Taken after good = tt
@@ -79,12 +86,15 @@ here-encodable (Flow asked granted outstanding) after good = tt
 here-encodable (Latest newest) after good = tt
 here-encodable (Refused refusal) after good = tt
 
-found-encodable : (h : List Entry) → AllByRecursion (λ e. IsEncodable e.reply) h → IfSome (latest (λ e. map_by e.reply) h) (λ found. IsWellFormed found.said.wire)
+found-encodable : (h : List Entry) → AllByRecursion (λ e. IsEncodable e.reply) h → IfSome (latest (λ e. map_by e.reply) h)
+    (λ found. IsWellFormed found.said.wire)
 found-encodable [] all = tt
 found-encodable (e ∷ h) all =
-    either-encodable (latest (λ x. map_by x.reply) h) (option_map (λ m. record { said = m; after = h }) (map_by e.reply)) (found-encodable h all.1) (here-encodable e.reply h all.0)
+    either-encodable (latest (λ x. map_by x.reply) h) (option_map (λ m. record { said = m; after = h }) (map_by e.reply))
+    (found-encodable h all.1) (here-encodable e.reply h all.0)
 
-latest-encodable : (o : Option (Found Entry FrameMap)) → IfSome o (λ found. IsWellFormed found.said.wire) → IsEncodable (Latest (option_map (λ found. found.said) o))
+latest-encodable : (o : Option (Found Entry FrameMap)) → IfSome o (λ found. IsWellFormed found.said.wire)
+    → IsEncodable (Latest (option_map (λ found. found.said) o))
 latest-encodable None good = tt
 latest-encodable (Some found) good = good
 

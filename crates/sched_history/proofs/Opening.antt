@@ -17,6 +17,7 @@ use Rattle.sched_history.proofs.Bounded.{IsBounded-legal}
 pub flows_of-open : flows_of [] ≡ []
 flows_of-open = flows_of-none [] (λ sid. refl)
 
+-- and none is placed
 pub table_of-open : table_of [] ≡ []
 table_of-open = table_of-none [] (λ sid. refl)
 
@@ -24,7 +25,8 @@ next-open : (c : Config) → next_after c [] ≡ c.start
 next-open c = omega arith
 
 -- a state without flows stands for the empty history
-pub StandsFor-open : (s : State) → IsLawful s.config → s.book.config ≡ s.config → s.book.flows ≡ [] → s.table.config ≡ s.config → s.table.placed ≡ [] → s.next ≡ s.config.start
+pub StandsFor-open : (s : State) → IsLawful s.config → s.book.config ≡ s.config → s.book.flows ≡ [] → s.table.config ≡ s.config
+    → s.table.placed ≡ [] → s.next ≡ s.config.start
     → s.progress ≡ replicate 16 s.config.start → StandsFor s []
 StandsFor-open s lawful book_config flows table_config placed next progress =
     let bounds = bounds_of s.config lawful in

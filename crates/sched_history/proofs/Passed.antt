@@ -15,11 +15,13 @@ use Rattle.sched_history.specs.Time.{next_after, progress_of}
 use Rattle.sched_history.specs.Refusal.{refused_if, most_flows, most_periodic, most_bytes, most_ahead, last_clock, bad_sid, is_live, is_silent, periodic_count, refusal_of}
 
 -- where no test refuses the first does not, nor do the others
-passed : (b : Bool) (refusal : Refusal) (rest : Option Refusal) → option_or (refused_if b refusal) rest ≡ None → (b ≡ false) × (rest ≡ None)
+passed : (b : Bool) (refusal : Refusal) (rest : Option Refusal) → option_or (refused_if b refusal) rest ≡ None
+    → (b ≡ false) × (rest ≡ None)
 passed true refusal rest e = absurd cc
 passed false refusal rest e = (refl, e)
 
-faultless : (fault : Option FlowFault) (rest : Option Refusal) → option_or (option_map BadFlow fault) rest ≡ None → (fault ≡ None) × (rest ≡ None)
+faultless : (fault : Option FlowFault) (rest : Option Refusal) → option_or (option_map BadFlow fault) rest ≡ None
+    → (fault ≡ None) × (rest ≡ None)
 faultless None rest e = (refl, e)
 faultless (Some fault) rest e = absurd cc
 
@@ -49,7 +51,9 @@ pub record AdmitsFlow (c : Config) (h : List Entry) (sid : ℕ) (spec : FlowSpec
   pub few : length (flows_of h) < most_flows
   pub few_periodic : is_periodic spec ≡ true → periodic_count h < most_periodic
 
-pub passed-admit : (c : Config) (h : List Entry) (sid : ℕ) (spec : FlowSpec) → refusal_of c h (Admit sid spec) ≡ None → AdmitsFlow c h sid spec
+-- an admission that no test refuses passed
+pub passed-admit : (c : Config) (h : List Entry) (sid : ℕ) (spec : FlowSpec) → refusal_of c h (Admit sid spec) ≡ None
+    → AdmitsFlow c h sid spec
 passed-admit c h sid spec e =
     let good = passed _ _ _ e in
     let fresh = passed _ _ _ good.1 in
@@ -61,7 +65,8 @@ passed-admit c h sid spec e =
       fresh = fresh.0;
       no_fault = fault.0;
       few = above most_flows (length (flows_of h)) few.0;
-      few_periodic = λ is. above most_periodic (periodic_count h) (both (is_periodic spec) (nat_le most_periodic (periodic_count h)) periodic.0 is);
+      few_periodic = λ is. above most_periodic (periodic_count h)
+          (both (is_periodic spec) (nat_le most_periodic (periodic_count h)) periodic.0 is);
     }
 
 -- A SID that may be a flow's is live
@@ -69,7 +74,8 @@ pub record IsKnown (h : List Entry) (sid : ℕ) : Type 0 where
   pub good : bad_sid sid ≡ false
   pub live : is_live sid h ≡ true
 
-known : (h : List Entry) (sid : ℕ) (one two : Refusal) (rest : Option Refusal) → option_or (refused_if (bad_sid sid) one) (option_or (refused_if (not (is_live sid h)) two) rest) ≡ None → IsKnown h sid
+known : (h : List Entry) (sid : ℕ) (one two : Refusal) (rest : Option Refusal) → option_or (refused_if (bad_sid sid) one)
+    (option_or (refused_if (not (is_live sid h)) two) rest) ≡ None → IsKnown h sid
 known h sid one two rest e =
     let good = passed _ _ _ e in
     let live = passed _ _ _ good.1 in
@@ -88,10 +94,13 @@ pub record Asks (h : List Entry) (sid bytes : ℕ) : Type 0 where
   pub known : IsKnown h sid
   pub most : bytes ≤ most_bytes
 
-pub passed-ask : (c : Config) (h : List Entry) (receiver sid bytes heard : ℕ) → refusal_of c h (Ask receiver sid bytes heard) ≡ None → Asks h sid bytes
+-- a request that no test refuses passed
+pub passed-ask : (c : Config) (h : List Entry) (receiver sid bytes heard : ℕ) → refusal_of c h (Ask receiver sid bytes heard) ≡ None
+    → Asks h sid bytes
 passed-ask c h receiver sid bytes heard e =
     let progress : ℕ = progress_of c receiver h in
-    let timed : Option Refusal = option_or (refused_if (nat_lt heard progress) (Acked progress)) (option_or (refused_if (nat_le (next_after c h) heard) (Ahead (next_after c h))) None) in
+    let timed : Option Refusal = option_or (refused_if (nat_lt heard progress) (Acked progress))
+    (option_or (refused_if (nat_le (next_after c h) heard) (Ahead (next_after c h))) None) in
     let sized : Option Refusal = option_or (refused_if (bytes == 0 || nat_lt most_bytes bytes) BadBytes) timed in
     let received : Option Refusal = option_or (refused_if (nat_le c.receivers receiver) BadReceiver) sized in
     let asks : Option Refusal = option_or (refused_if (is_silent sid h) NotAsking) received in
@@ -101,10 +110,15 @@ passed-ask c h receiver sid bytes heard e =
     let past_silent = (passed (is_silent sid h) NotAsking received past_live).1 in
     let past_receiver = (passed (nat_le c.receivers receiver) BadReceiver sized past_silent).1 in
     let most = (passed (bytes == 0 || nat_lt most_bytes bytes) BadBytes timed past_receiver).0 in
-    record { known = known h sid BadSid NoFlow asks e; most = within most_bytes bytes (either (bytes == 0) (nat_lt most_bytes bytes) most) }
+    record {
+      known = known h sid BadSid NoFlow asks e;
+      most =
+          within most_bytes bytes (either (bytes == 0) (nat_lt most_bytes bytes) most);
+    }
 
 -- the receiver of a progress exists
-pub passed-heard : (c : Config) (h : List Entry) (receiver upto : ℕ) → refusal_of c h (Heard receiver upto) ≡ None → receiver < c.receivers
+pub passed-heard : (c : Config) (h : List Entry) (receiver upto : ℕ) → refusal_of c h (Heard receiver upto) ≡ None
+    → receiver < c.receivers
 passed-heard c h receiver upto e = above c.receivers receiver (passed _ _ _ e).0
 
 -- A build passed
@@ -112,6 +126,7 @@ pub record Builds (c : Config) (h : List Entry) (now : ℕ) : Type 0 where
   pub clock : now ≤ last_clock
   pub early : next_after c h + c.frame ≤ now + most_ahead
 
+-- a build that no test refuses passed
 pub passed-build : (c : Config) (h : List Entry) (now : ℕ) → refusal_of c h (Build now) ≡ None → Builds c h now
 passed-build c h now e =
     let clock = passed _ _ _ e in
@@ -123,6 +138,7 @@ pub record Skips (c : Config) (h : List Entry) (now : ℕ) : Type 0 where
   pub clock : now ≤ last_clock
   pub late : next_after c h < now + c.lead
 
+-- a skip that no test refuses passed
 pub passed-skip : (c : Config) (h : List Entry) (now : ℕ) → refusal_of c h (Skip now) ≡ None → Skips c h now
 passed-skip c h now e =
     let clock = passed _ _ _ e in

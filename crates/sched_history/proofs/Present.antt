@@ -48,22 +48,26 @@ if_some-follows : {X : Type 0} (P Q : X → Type 0) (o : Option X) → ((x : X) 
 if_some-follows P Q None follows holds = tt
 if_some-follows P Q (Some x) follows holds = follows x holds
 
-told : (sid : ℕ) (o : Option Life) (reply : Reply) → is_some o ≡ true → IfSome (option_map (flow_in_life sid) o) (λ f. status_of f ≡ reply) → MatchOption o ⊥ (λ life. reply ≡ status_of (flow_in_life sid life))
+told : (sid : ℕ) (o : Option Life) (reply : Reply) → is_some o ≡ true → IfSome (option_map (flow_in_life sid) o)
+    (λ f. status_of f ≡ reply) → MatchOption o ⊥ (λ life. reply ≡ status_of (flow_in_life sid life))
 told sid None reply live same = absurd cc
 told sid (Some life) reply live same = sym same
 
-placement-some : (sid : ℕ) (spec : FlowSpec) (placement : Option Placement) → is_some placement ≡ true → IsSome {T = Placed} (option_map (λ p. record { sid = sid; spec = spec; placement = p }) placement)
+placement-some : (sid : ℕ) (spec : FlowSpec) (placement : Option Placement) → is_some placement ≡ true
+    → IsSome {T = Placed} (option_map (λ p. record { sid = sid; spec = spec; placement = p }) placement)
 placement-some sid spec None e = absurd cc
 placement-some sid spec (Some p) e = refl
 
-placement-none : (sid : ℕ) (spec : FlowSpec) (placement : Option Placement) → is_some placement ≡ false → ◌≡◌ {A = Option Placed} (option_map (λ p. record { sid = sid; spec = spec; placement = p }) placement) None
+placement-none : (sid : ℕ) (spec : FlowSpec) (placement : Option Placement) → is_some placement ≡ false
+    → ◌≡◌ {A = Option Placed} (option_map (λ p. record { sid = sid; spec = spec; placement = p }) placement) None
 placement-none sid spec None e = refl
 placement-none sid spec (Some p) e = absurd cc
 
 placed-when : (sid : ℕ) (o : Option Life) → ((life : Life) → o ≡ Some life → IsPaired life.admission)
     → IfSome (option_map (flow_in_life sid) o) (λ f. is_periodic f.spec ≡ true → IsSome (option_and_then (placed_in_life sid) o))
 placed-when sid None paired = tt
-placed-when sid (Some life) paired = λ periodic. placement-some sid life.admission.spec life.admission.placement (paired life refl ∙ periodic)
+placed-when sid (Some life) paired = λ periodic. placement-some sid life.admission.spec life.admission.placement
+    (paired life refl ∙ periodic)
 
 not_true : (b : Bool) → b ≢ true → b ≡ false
 not_true true h = absurd (h refl)
@@ -72,7 +76,8 @@ not_true false h = refl
 unplaced-when : (sid : ℕ) (o : Option Life) → ((life : Life) → o ≡ Some life → IsPaired life.admission)
     → IfSome (option_map (flow_in_life sid) o) (λ f. is_periodic f.spec ≢ true → option_and_then (placed_in_life sid) o ≡ None)
 unplaced-when sid None paired = tt
-unplaced-when sid (Some life) paired = λ aperiodic. placement-none sid life.admission.spec life.admission.placement (paired life refl ∙ not_true (is_periodic life.admission.spec) aperiodic)
+unplaced-when sid (Some life) paired = λ aperiodic. placement-none sid life.admission.spec life.admission.placement
+    (paired life refl ∙ not_true (is_periodic life.admission.spec) aperiodic)
 
 unplaced-life : (sid : ℕ) (o : Option Life) → o ≡ None → option_and_then (placed_in_life sid) o ≡ None
 unplaced-life sid o none = rw none refl
@@ -117,10 +122,13 @@ module _ (s : State) (h : List Entry) (sid : ℕ) (stands : StandsFor s h) where
       find-fresh = find-stands ∙ unplaced-life sid (life_of sid h) life_of-fresh
 
   -- the bytes of one request more fit 64 bits
-  pub asked-fits : (bytes : ℕ) → bytes < 2 ^ 32 → length h ≤ s.config.calls → AllByRecursion (λ f. f.asked ≤ most_bytes * length h) s.book.flows → IfSome (flow_of sid s.book.flows) (λ f. f.asked + bytes < 2 ^ 64)
+  pub asked-fits : (bytes : ℕ) → bytes < 2 ^ 32 → length h ≤ s.config.calls
+      → AllByRecursion (λ f. f.asked ≤ most_bytes * length h) s.book.flows
+      → IfSome (flow_of sid s.book.flows) (λ f. f.asked + bytes < 2 ^ 64)
   asked-fits bytes low room all =
       let calls = (bounds_of s.config stands.lawful).calls_most in
-      if_some-follows (λ f. f.asked ≤ most_bytes * length h) (λ f. f.asked + bytes < 2 ^ 64) (flow_of sid s.book.flows) (λ f most. omega arith)
+      if_some-follows (λ f. f.asked ≤ most_bytes * length h) (λ f. f.asked + bytes < 2 ^ 64) (flow_of sid s.book.flows)
+      (λ f most. omega arith)
       (find-all (λ f. f.asked ≤ most_bytes * length h) (λ f. f.sid == sid) s.book.flows all)
 
   module _ (known : IsKnown h sid) where
@@ -129,35 +137,43 @@ module _ (s : State) (h : List Entry) (sid : ℕ) (stands : StandsFor s h) where
     IsLive-stands = rw (flow_of-stands known.good) (live-from_test sid (life_of sid h) known.live)
 
     -- the three sums are the answer to a question for its bytes
-    pub status-stands : (reply : Reply) → IfSome (flow_of sid s.book.flows) (λ f. status_of f ≡ reply) → MatchOption (life_of sid h) ⊥ (λ life. reply ≡ status_of (flow_in_life sid life))
+    pub status-stands : (reply : Reply) → IfSome (flow_of sid s.book.flows) (λ f. status_of f ≡ reply)
+        → MatchOption (life_of sid h) ⊥ (λ life. reply ≡ status_of (flow_in_life sid life))
     status-stands reply same = told sid (life_of sid h) reply known.live (rw (flow_of-stands known.good) at same)
 
     module _ (legal : IsLegal s.config h) where
       -- where its flow is periodic it has a placement
       pub IsPlaced-stands : IfSome (flow_of sid s.book.flows) (λ f. is_periodic f.spec ≡ true → IsPlaced sid s.table.placed)
-      IsPlaced-stands = rw (flow_of-stands known.good, find-stands known.good) (placed-when sid (life_of sid h) (λ life. life_of-pairs s.config h sid life legal))
+      IsPlaced-stands = rw (flow_of-stands known.good, find-stands known.good)
+          (placed-when sid (life_of sid h) (λ life. life_of-pairs s.config h sid life legal))
 
       -- else it has none
-      pub unplaced-stands : IfSome (flow_of sid s.book.flows) (λ f. is_periodic f.spec ≢ true → without_placed sid s.table.placed ≡ s.table.placed)
+      pub unplaced-stands : IfSome (flow_of sid s.book.flows)
+          (λ f. is_periodic f.spec ≢ true → without_placed sid s.table.placed ≡ s.table.placed)
       unplaced-stands =
-          if_some-follows (λ f. is_periodic f.spec ≢ true → find (λ p. p.sid == sid) s.table.placed ≡ None) (λ f. is_periodic f.spec ≢ true → without_placed sid s.table.placed ≡ s.table.placed) (flow_of sid s.book.flows)
+          if_some-follows (λ f. is_periodic f.spec ≢ true → find (λ p. p.sid == sid) s.table.placed ≡ None)
+          (λ f. is_periodic f.spec ≢ true → without_placed sid s.table.placed ≡ s.table.placed) (flow_of sid s.book.flows)
           (λ f none aperiodic. without_placed-none sid s.table.placed (none aperiodic))
-          (rw (flow_of-stands known.good, find-stands known.good) (unplaced-when sid (life_of sid h) (λ life. life_of-pairs s.config h sid life legal)))
+          (rw (flow_of-stands known.good, find-stands known.good)
+          (unplaced-when sid (life_of sid h) (λ life. life_of-pairs s.config h sid life legal)))
 
 -- a flow without a place is admitted without one
-pub answers-best_effort : (c : Config) (h : List Entry) (spec : FlowSpec) → is_periodic spec ≡ false → AnswersAdmit c h spec (replies.Admitted None)
+pub answers-best_effort : (c : Config) (h : List Entry) (spec : FlowSpec) → is_periodic spec ≡ false
+    → AnswersAdmit c h spec (replies.Admitted None)
 answers-best_effort c h (Unsolicited size interval jitter) aperiodic = absurd cc
 answers-best_effort c h (Polled interval jitter rate burst) aperiodic = absurd cc
 answers-best_effort c h (BestEffort priority rate burst) aperiodic = refl
 
 -- a periodic flow is admitted with its place
-pub answers-periodic : (c : Config) (h : List Entry) (spec : FlowSpec) (reply : Reply) → is_periodic spec ≡ true → PlacesOrRefuses c h spec reply → AnswersAdmit c h spec reply
+pub answers-periodic : (c : Config) (h : List Entry) (spec : FlowSpec) (reply : Reply) → is_periodic spec ≡ true
+    → PlacesOrRefuses c h spec reply → AnswersAdmit c h spec reply
 answers-periodic c h (Unsolicited size interval jitter) reply periodic answers = answers
 answers-periodic c h (Polled interval jitter rate burst) reply periodic answers = answers
 answers-periodic c h (BestEffort priority rate burst) reply periodic answers = absurd cc
 
 -- a periodic flow takes memory where there is a place for it
-pub placeable-periodic : (c : Config) (h : List Entry) (spec : FlowSpec) (p : Placement) → is_periodic spec ≡ true → IsPlacement c (table_of h) spec (next_after c h) p → IsPlaceable c h spec
+pub placeable-periodic : (c : Config) (h : List Entry) (spec : FlowSpec) (p : Placement) → is_periodic spec ≡ true
+    → IsPlacement c (table_of h) spec (next_after c h) p → IsPlaceable c h spec
 placeable-periodic c h (Unsolicited size interval jitter) p periodic lawful = (p, lawful)
 placeable-periodic c h (Polled interval jitter rate burst) p periodic lawful = (p, lawful)
 placeable-periodic c h (BestEffort priority rate burst) p periodic lawful = absurd cc
@@ -169,7 +185,9 @@ placeable-best_effort c h (Polled interval jitter rate burst) aperiodic = absurd
 placeable-best_effort c h (BestEffort priority rate burst) aperiodic = tt
 
 -- a placement in the table is one after the history
-pub placement-stands : (s : State) (h : List Entry) (spec : FlowSpec) (p : Placement) → StandsFor s h → IsPlacement s.table.config s.table.placed spec s.next p → IsPlacement s.config (table_of h) spec (next_after s.config h) p
+pub placement-stands : (s : State) (h : List Entry) (spec : FlowSpec) (p : Placement) → StandsFor s h
+    → IsPlacement s.table.config s.table.placed spec s.next p → IsPlacement s.config (table_of h) spec (next_after s.config h) p
 placement-stands s h spec p stands lawful =
     subst (λ next. IsPlacement s.config (table_of h) spec next p) stands.next
-    (subst (λ placed. IsPlacement s.config placed spec s.next p) stands.placed (subst (λ c. IsPlacement c s.table.placed spec s.next p) stands.table_config lawful))
+    (subst (λ placed. IsPlacement s.config placed spec s.next p) stands.placed
+    (subst (λ c. IsPlacement c s.table.placed spec s.next p) stands.table_config lawful))

@@ -19,8 +19,10 @@ find-all P test [] all = tt
 find-all P test (x ∷ xs) all = found-or P (test x) x (find test xs) all.0 (find-all P test xs all.1)
 
 -- the three sums of a flow that asks
-pub status_of-asking : (o : Option LiveFlow) (spec : FlowSpec) (asked left : ℕ) → Some spec ≡ option_map (λ f. f.spec) o → takes_requests spec ≡ true → IfSome o IsWithinAsked
-    → IfSome o (λ f. asked ≡ f.asked) → IfSome o (λ f. left ≡ outstanding f) → IfSome o (λ f. status_of f ≡ Flow asked (asked - left) left)
+pub status_of-asking : (o : Option LiveFlow) (spec : FlowSpec) (asked left : ℕ) → Some spec ≡ option_map (λ f. f.spec) o
+    → takes_requests spec ≡ true → IfSome o IsWithinAsked
+    → IfSome o (λ f. asked ≡ f.asked) → IfSome o (λ f. left ≡ outstanding f)
+    → IfSome o (λ f. status_of f ≡ Flow asked (asked - left) left)
 status_of-asking None spec asked left is asks within all rest = tt
 status_of-asking (Some f) spec asked left is asks within all rest =
     let same : spec ≡ f.spec = cc in

@@ -50,7 +50,8 @@ pub record StandsFor (s : State) (h : List Entry) : Type 0 where
 abbrev pub machine_of : Inside → Machine
 machine_of a = record { config = a.state.config; history = a.entries.items }
 
--- The fields stand for the history, which is legal and can be encoded; they keep to their bounds, and there is room for the configured number of calls
+-- The fields stand for the history, which is legal and can be encoded; they keep to their bounds, and there is room for the
+-- configured number of calls
 pub record IsSound (a : Inside) : Type 0 where
   pub stands : StandsFor a.state a.entries.items
   pub bounded : IsBounded a.state.config a.state.book.flows a.state.next (length a.entries.items)
@@ -86,7 +87,8 @@ flows_with m flows = map (with_grants m.start (zip m.wire.elements m.bytes)) flo
 pub record IsEnterable (book : BookView) (start : ℕ) (element : Element) (bytes : ℕ) : Type 0 where
   pub room : 0 < room_of element.sid book.rooms
   pub started : IfSome (flow_of element.sid book.flows) (HasStartedBy (start + element.offset))
-  pub lawful : IsSomeAnd (flow_of element.sid book.flows) (λ f. MayGrant book.config f (start + element.offset) (slots_for book.config bytes) bytes)
+  pub lawful : IsSomeAnd (flow_of element.sid book.flows)
+      (λ f. MayGrant book.config f (start + element.offset) (slots_for book.config bytes) bytes)
   pub bound : start ≤ 2 ^ 61
 
 -- The elements, with their byte counts, are those of a plan that fills a frame, and there is room for its data grants

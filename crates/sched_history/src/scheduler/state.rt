@@ -42,6 +42,7 @@ pub(super) struct State {
 }
 
 // The least of some numbers, 0 where there are none.
+#[tactic(auto, using(crate::proofs::Leasts::least_more, crate::proofs::Leasts::least_twice))]
 fn least_of(numbers: &[u64]) -> u64
     ensures { result ≡ least numbers.now }
 {
@@ -50,7 +51,9 @@ fn least_of(numbers: &[u64]) -> u64
     };
     let mut least = *first;
     for number in numbers {
-        least = least.min(*number);
+        if *number < least {
+            least = *number;
+        }
     }
     least
 }

@@ -8,6 +8,7 @@ use crate::call::Call;
 use crate::reply::{Refusal, Reply, Unrecorded};
 use flow_book::{FlowFault, FlowSpec};
 use map_build::FrameMap;
+use map_codec::Element;
 use minislots::{Config, Stamp};
 use std::alloc::Global;
 use std::test::Fail;
@@ -146,19 +147,19 @@ fn first_other(scheduler: &mut Scheduler, rows: &[(Call, Outcome)]) -> Option<us
     None
 }
 
+// The 32 bits of an element.
+fn word_of(element: Element) -> u64 {
+    u64::from(element.sid) * 0x40000 + u64::from(element.iuc) * 0x4000 + u64::from(element.offset)
+}
+
 // Whether the elements of a MAP are these words.
 fn has_words(map: &FrameMap, words: &[u64]) -> bool {
     let elements = map.wire.elements.as_slice();
-    if elements.len() != words.len() {
-        return false;
-    }
-    for (element, expected) in elements.iter().zip(words) {
-        let high = u64::from(element.sid) * 0x40000 + u64::from(element.iuc) * 0x4000;
-        if high + u64::from(element.offset) != *expected {
-            return false;
-        }
-    }
-    true
+    elements.len() == words.len()
+        && elements
+            .iter()
+            .zip(words)
+            .all(|(e, word)| word_of(*e) == *word)
 }
 
 // Whether the newest MAP has these words.

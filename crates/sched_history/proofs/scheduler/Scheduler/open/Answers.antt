@@ -4,4 +4,5 @@ use Rattle.sched_history.proofs.scheduler.Scheduler.open.Goals as goal
 
 pub invariant_of-result : goal.invariant_of-result
 invariant_of-result c =
-    IsSound-open _ c.in_ok-state.ensures.stands c.in_ok-with_capacity.ensures.items (rw (c.in_ok-state.ensures.config) (omega (arith, c.calls-calls.ensures.value, c.in_ok-with_capacity.ensures.exact)))
+    IsSound-open _ c.in_ok-state.ensures.stands c.in_ok-with_capacity.ensures.items
+    (rw (c.in_ok-state.ensures.config) (omega (arith, c.calls-calls.ensures.value, c.in_ok-with_capacity.ensures.exact)))

@@ -3,4 +3,6 @@ use Rattle.sched_history.proofs.Counts.{length-placed_by}
 use Rattle.sched_history.proofs.scheduler.Scheduler.periodic_count.Goals as goal
 
 pub returns : goal.returns
-returns c = rw (← c.self.view_is) (c.len.ensures.value ∙ length-placed_by c.self.inside.state c.self.inside.entries.items c.self.invariant.stands c.self.invariant.legal)
+returns c = rw (← c.self.view_is)
+    (c.len.ensures.value ∙ length-placed_by c.self.inside.state c.self.inside.entries.items c.self.invariant.stands
+    c.self.invariant.legal)

@@ -21,4 +21,5 @@ note-requires-clause-step c =
     let sums = c.bytes_of-asked.result in
     let unrefused : refusal_of a.state.config h (calls.Status c.args.sid) ≡ None = rw (← c.self.view_is) at c.requires.unrefused in
     rw (← c.self.view_is) (IsStep-answered a.state.config h (calls.Status c.args.sid) (replies.Flow sums.0 sums.1 sums.2) unrefused
-    (status-stands a.state h c.args.sid c.self.invariant.stands (passed-status a.state.config h c.args.sid unrefused) (replies.Flow sums.0 sums.1 sums.2) c.bytes_of-asked.ensures))
+    (status-stands a.state h c.args.sid c.self.invariant.stands (passed-status a.state.config h c.args.sid unrefused)
+    (replies.Flow sums.0 sums.1 sums.2) c.bytes_of-asked.ensures))

@@ -3,7 +3,7 @@ use Rattle.std.proofs.Common.{◌≡◌, ℕ, ◌+◌, ◌≤◌, map, take}
 use Rattle.std.specs.List.{zip}
 use Rattle.flow_book.specs.Book.{room_of}
 use Rattle.sched_history.specs.State.{with_grants}
-use Rattle.sched_history.proofs.Entering.{granting}
+use Rattle.sched_history.proofs.CountedElements.{granting}
 use Rattle.sched_history.proofs.scheduler.granting.enter_grants.Given as goal
 
 abbrev pub invariant-loop-i : goal.invariant-loop-i

@@ -16,4 +16,5 @@ returns-in-Err-clause-err c =
     let p : Placed = record { sid = c.args.sid; spec = c.args.spec; placement = c.in_ok-placement.placement } in
     let put : TableView = c.place.new.self in
     rw (c.remove.ensures, c.in-Err.ensures.err)
-    (ap (λ (t : TableView). record old { table = t }) (table-undone old.table put p c.requires.unplaced c.in_ok-placement.ensures.config c.in_ok-placement.ensures.placed))
+    (ap (λ (t : TableView). record old { table = t })
+    (table-undone old.table put p c.requires.unplaced c.in_ok-placement.ensures.config c.in_ok-placement.ensures.placed))

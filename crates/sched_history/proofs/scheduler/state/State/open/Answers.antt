@@ -5,4 +5,5 @@ use Rattle.sched_history.proofs.scheduler.state.State.open.Goals as goal
 pub returns-clause-stands : goal.returns-clause-stands
 returns-clause-stands c =
     let e = c.start-start.ensures.value in
-    StandsFor-open _ c.start-start.ensures.lawful c.in_ok-open.ensures.config c.in_ok-open.ensures.empty c.in_ok-open-2.ensures.config c.in_ok-open-2.ensures.empty e (ap (replicate 16) e)
+    StandsFor-open _ c.start-start.ensures.lawful c.in_ok-open.ensures.config c.in_ok-open.ensures.empty c.in_ok-open-2.ensures.config
+    c.in_ok-open-2.ensures.empty e (ap (replicate 16) e)
