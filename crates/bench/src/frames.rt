@@ -10,7 +10,7 @@ use std::io;
 use std::time::{Clock, Instant};
 
 /// Frames of 1024 minislots of 25 microseconds.
-const WIDE: Config = Config {
+pub const WIDE: Config = Config {
     ticks: 4,
     bytes_per_slot: 16,
     overhead: 2,

@@ -2,9 +2,11 @@
 #![tactic(auto)]
 
 mod frames;
+mod jobs;
 mod locked;
 mod mutexed;
 mod run;
+mod shared;
 mod table;
 mod tally;
 
@@ -37,9 +39,10 @@ fn main(rt: HostRuntime) -> ExitCode {
         Some(word) => {
             match word.as_str() {
                 "lock" => status_of(table::print_lock(&rt, rt.alloc())),
+                "shared" => status_of(table::print_shared(&rt, rt.alloc())),
                 "frames" => status_of(table::print_frames(&rt, rt.alloc())),
                 _ => {
-                    let _ = rt.eprintln("usage: bench [lock|frames]");
+                    let _ = rt.eprintln("usage: bench [lock|frames|shared]");
                     ExitCode::from(2)
                 }
             }

@@ -9,3 +9,10 @@ pub mod RowsLines
 pub mod Running
 pub mod Written
 pub mod Profile
+pub mod MadeLaws
+pub mod Working
+pub mod JobLaws
+pub mod GatherLaws
+pub mod TallyLaws
+pub mod StormCalls
+pub mod StormOutcome

@@ -1,5 +1,5 @@
 -- Which faults a text can have, and what is known once all bytes of a reader were read.
-use Rattle.std.proofs.Common.{◌≡◌, ℕ, ◌+◌, ◌≤◌, Bool, true, false, cond, List, ◌∷◌, length, Option, Some, None, Result, Ok, Err, refl, subst, ◌∙◌}
+use Rattle.std.proofs.Common.{◌≡◌, ℕ, ◌+◌, ◌≤◌, Bool, true, false, ◌||◌, cond, List, ◌∷◌, length, Option, Some, None, Result, Ok, Err, refl, subst, ◌∙◌}
 use Rattle.std.specs.Prelude.{◌≢◌, IfOk, IfErr, ok_or, option_and_then, codes}
 use Rattle.std.specs.Str.{is_utf8}
 use Rattle.std.proofs.lemmas.Bool.{le-ltb}
@@ -11,7 +11,7 @@ use Rattle.minislots.specs.declared.config.ConfigFault.{ConfigFault}
 use Rattle.minislots.specs.Config.{first_wrong}
 use Rattle.mapsched.specs.declared.input.TheConstants.{MAX_INPUT}
 use Rattle.mapsched.specs.declared.fault.RunFault.{RunFault}
-use Rattle.mapsched.specs.declared.fault.RunFault.TheVariants.{Input, TooLong, NotJson, Shape, Config, Memory, Output}
+use Rattle.mapsched.specs.declared.fault.RunFault.TheVariants.{Input, TooLong, NotJson, Shape, Config, Memory, Output, Threads}
 use Rattle.mapsched.specs.Fields.{config_of}
 use Rattle.mapsched.specs.Calls.{call_of}
 use Rattle.mapsched.specs.Script.{◌>>=◌, Gives, Scenario, calls_of, script_of}
@@ -27,24 +27,25 @@ IsOfText (Shape n) = Unit {0}
 IsOfText (Config field) = Unit {0}
 IsOfText Memory = ⊥
 IsOfText Output = ⊥
+IsOfText Threads = ⊥
 
-faults-bind : {A B : Type 0} (r : Result A RunFault) (f : A → Result B RunFault) → IfErr r IsOfText → ((x : A) → IfErr (f x) IsOfText) → IfErr (r >>= f) IsOfText
+pub faults-bind : {A B : Type 0} (r : Result A RunFault) (f : A → Result B RunFault) → IfErr r IsOfText → ((x : A) → IfErr (f x) IsOfText) → IfErr (r >>= f) IsOfText
 faults-bind (Ok x) f first next = next x
 faults-bind (Err fault) f first next = first
 
-faults-ok_or : {A : Type 0} (o : Option A) (fault : RunFault) → IsOfText fault → IfErr (ok_or o fault) IsOfText
+pub faults-ok_or : {A : Type 0} (o : Option A) (fault : RunFault) → IsOfText fault → IfErr (ok_or o fault) IsOfText
 faults-ok_or (Some x) fault is = tt
 faults-ok_or None fault is = is
 
-faults-cond : {A : Type 0} (b : Bool) (r : Result A RunFault) (fault : RunFault) → IfErr r IsOfText → IsOfText fault → IfErr (cond b r (Err fault)) IsOfText
+pub faults-cond : {A : Type 0} (b : Bool) (r : Result A RunFault) (fault : RunFault) → IfErr r IsOfText → IsOfText fault → IfErr (cond b r (Err fault)) IsOfText
 faults-cond true r fault first is = first
 faults-cond false r fault first is = is
 
-faults-value_of : (bytes : List ℕ) → IfErr (value_of bytes) IsOfText
+pub faults-value_of : (bytes : List ℕ) → IfErr (value_of bytes) IsOfText
 unfolding value_of
 faults-value_of bytes = faults-cond (is_utf8 bytes) (ok_or (read bytes) NotJson) NotJson (faults-ok_or (read bytes) NotJson tt) tt
 
-faults-calls_of : (n : ℕ) (ds : Items) → IfErr (calls_of n ds) IsOfText
+pub faults-calls_of : (n : ℕ) (ds : Items) → IfErr (calls_of n ds) IsOfText
 unfolding calls_of
 faults-calls_of n no_items = tt
 faults-calls_of n (item d ds) =
@@ -102,6 +103,7 @@ module _ {X : Type 0} (view : X → Scenario) (old new : Option (List ℕ)) (byt
   stops (Config field) all exact = has_fault (Config field) all (exact (λ e. cc))
   stops Memory all exact = tt
   stops Output all exact = of_text Output (exact (λ e. cc))
+  stops Threads all exact = of_text Threads (exact (λ e. cc))
 
   -- a fault in all bytes is the one that they have
   pub stops_script : (result : Result X RunFault) → ReadsAll old new bytes → Gives view result (text_outcome bytes) → IfErr result (StopsScript old new)

@@ -6,7 +6,7 @@ use Rattle.serde_json.specs.Data.{Data}
 use Rattle.serde_json.specs.Read.{read}
 use Rattle.mapsched.specs.declared.input.TheConstants.{MAX_INPUT}
 use Rattle.mapsched.specs.declared.fault.RunFault.{RunFault}
-use Rattle.mapsched.specs.declared.fault.RunFault.TheVariants.{Input, TooLong, NotJson, Shape, Config, Memory, Output}
+use Rattle.mapsched.specs.declared.fault.RunFault.TheVariants.{Input, TooLong, NotJson, Shape, Config, Memory, Output, Threads}
 
 -- the value that the bytes are the text of, in UTF-8
 unfoldable pub value_of : List ℕ → Result Data RunFault
@@ -33,3 +33,4 @@ StopsReading old new (Shape n) = ⊥
 StopsReading old new (Config field) = ⊥
 StopsReading old new Memory = Unit {0}
 StopsReading old new Output = ⊥
+StopsReading old new Threads = ⊥

@@ -10,3 +10,10 @@ pub mod HistoryText
 pub mod Run
 pub mod Table
 pub mod Status
+pub mod Made
+pub mod StormWork
+pub mod Jobs
+pub mod Storm
+pub mod StormLines
+pub mod StormScript
+pub mod StormRun

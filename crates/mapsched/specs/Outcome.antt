@@ -4,7 +4,7 @@ use Rattle.minislots.specs.declared.config.ConfigFault.{ConfigFault}
 use Rattle.minislots.specs.Config.{first_wrong}
 use Rattle.mapsched.specs.declared.input.TheConstants.{MAX_INPUT}
 use Rattle.mapsched.specs.declared.fault.RunFault.{RunFault}
-use Rattle.mapsched.specs.declared.fault.RunFault.TheVariants.{Input, TooLong, NotJson, Shape, Config, Memory, Output}
+use Rattle.mapsched.specs.declared.fault.RunFault.TheVariants.{Input, TooLong, NotJson, Shape, Config, Memory, Output, Threads}
 use Rattle.mapsched.specs.Input.{value_of, ReadsAll, ReadsTooMany}
 use Rattle.mapsched.specs.Script.{◌>>=◌, Scenario, script_of}
 
@@ -45,3 +45,4 @@ StopsScript old new (Shape n) = HasFault old new (Shape n)
 StopsScript old new (Config field) = HasFault old new (Config field)
 StopsScript old new Memory = Unit {0}
 StopsScript old new Output = ⊥
+StopsScript old new Threads = ⊥

@@ -6,7 +6,7 @@ use Rattle.sched_history.specs.declared.call.Call.{Call}
 use Rattle.sched_history.specs.History.{IsLegal}
 use Rattle.mapsched.specs.Script.{Scenario}
 use Rattle.mapsched.specs.declared.fault.RunFault.{RunFault}
-use Rattle.mapsched.specs.declared.fault.RunFault.TheVariants.{Input, TooLong, NotJson, Shape, Config, Memory, Output}
+use Rattle.mapsched.specs.declared.fault.RunFault.TheVariants.{Input, TooLong, NotJson, Shape, Config, Memory, Output, Threads}
 use Rattle.mapsched.specs.Input.{ReadsTooMany}
 use Rattle.mapsched.specs.Outcome.{StandsFor, HasFault}
 use Rattle.mapsched.specs.Answer.{Answer, MayGetEach, entries_of}
@@ -40,3 +40,4 @@ Stops unread left (Shape n) = HasFault unread left (Shape n)
 Stops unread left (Config fault) = HasFault unread left (Config fault)
 Stops unread left Memory = Unit {0}
 Stops unread left Output = (scenario : Scenario) × StandsFor unread left scenario
+Stops unread left Threads = ⊥

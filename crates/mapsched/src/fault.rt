@@ -2,7 +2,7 @@
 
 ghost use Rattle.std.specs.Prelude.{◌≡◌};
 ghost use Rattle.mapsched.specs.declared.fault.RunFault.TheVariants.{Memory, Config};
-ghost use Rattle.mapsched.specs.Status.{status_of};
+ghost use Rattle.mapsched.specs.Status.{status_of, field_number};
 
 use minislots::ConfigFault;
 use std::alloc::AllocError;
@@ -33,6 +33,9 @@ pub enum RunFault {
     /// A write failed.
     #[error("output failed")]
     Output,
+    /// A thread was not started.
+    #[error("no thread")]
+    Threads,
 }
 
 impl From<AllocError> for RunFault {
@@ -62,13 +65,15 @@ impl RunFault {
             | RunFault::NotJson
             | RunFault::Shape(_)
             | RunFault::Config(_) => 3,
-            RunFault::Memory | RunFault::Output => 4,
+            RunFault::Memory | RunFault::Output | RunFault::Threads => 4,
         }
     }
 }
 
 /// The number of a field, in the order of the fields.
-fn number_of(fault: ConfigFault) -> u8 {
+fn number_of(fault: ConfigFault) -> u8
+    ensures { result ≡ field_number fault }
+{
     match fault {
         ConfigFault::Ticks => 1,
         ConfigFault::BytesPerSlot => 2,
@@ -102,9 +107,13 @@ mod tests {
         for (fault, text, status) in [
             (RunFault::Input, "input failed", 3),
             (RunFault::TooLong, "input too long", 3),
+            (RunFault::NotJson, "not json", 3),
+            (RunFault::Shape(2), "bad script at 2", 3),
+            (RunFault::Config(ConfigFault::Ticks), "bad config 1", 3),
             (RunFault::Config(ConfigFault::DataEnd), "bad config 18", 3),
             (RunFault::Memory, "out of memory", 4),
             (RunFault::Output, "output failed", 4),
+            (RunFault::Threads, "no thread", 4),
         ] {
             assert_eq!(rt; fault.to_string(alloc)?.as_str(), text);
             assert_eq!(rt; fault.status(), status, "{text}");

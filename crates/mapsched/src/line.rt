@@ -19,7 +19,7 @@ use std::io::Write;
 
 /// A space, and a number in decimal.
 #[tactic(auto, unfolding(crate::specs::Line::number_text))]
-fn put_number<W: Write>(writer: &mut W, number: u64) -> Result<(), RunFault>
+pub fn put_number<W: Write>(writer: &mut W, number: u64) -> Result<(), RunFault>
     ensures ok { OnOk result (Appends (W.contents writer.old) (W.contents writer.new) (number_text number)) }
     ensures err { IfErr result (λ e. e ≡ RunFault.Output) }
 {

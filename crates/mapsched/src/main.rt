@@ -4,12 +4,14 @@
 #[cfg(test)]
 mod fakes;
 mod fault;
+mod gate;
 mod history;
 mod input;
 mod line;
 mod output;
 mod run;
 mod script;
+mod storm;
 mod table;
 
 use clap::error::ErrorKind;
@@ -19,6 +21,8 @@ use std::alloc::{AllocError, Global};
 use std::io::Write;
 use std::process::ExitCode;
 use std::rt::Env;
+use std::sync::Wait;
+use std::thread::Threads;
 use std::{env, io};
 
 /// The command that runs a script.
@@ -42,13 +46,21 @@ fn decode_command<'a>(alloc: Global) -> Result<Command<'a>, AllocError> {
         .arg(payload)
 }
 
+/// The command that runs scripts at the same time.
+fn storm_command<'a>(alloc: Global) -> Command<'a> {
+    Command::new(alloc, "storm").about(
+        "Reads scripts from standard input, runs them in threads and prints what each recorded",
+    )
+}
+
 /// The commands of the program.
 fn commands<'a>(alloc: Global) -> Result<Command<'a>, AllocError> {
     Command::new(alloc, "mapsched")
         .about("The upstream scheduler of one TDMA channel")
         .subcommand_required(true)
         .subcommand(run_command(alloc)?)?
-        .subcommand(decode_command(alloc)?)
+        .subcommand(decode_command(alloc)?)?
+        .subcommand(storm_command(alloc))
 }
 
 /// The words of the command line.
@@ -95,6 +107,16 @@ fn show_text(rt: &(impl Print + AllocGlobal), text: &str) -> Result<bool, RunFau
     Ok(is_payload)
 }
 
+/// The command `storm`: whether no worker was held.
+fn storm_input<R: Input + Print + AllocGlobal + Threads + Wait + Sync>(
+    rt: &R,
+) -> Result<bool, RunFault> {
+    let mut writer = io::writer(rt);
+    let is_free = storm::run_storm(rt, rt.alloc(), &mut rt.reader(), &mut writer, &gate::Open)?;
+    writer.flush().map_err(|_| RunFault::Output)?;
+    Ok(is_free)
+}
+
 fn main(rt: HostRuntime) -> ExitCode {
     let Ok(words) = words_of(&rt) else {
         return fail(&rt, RunFault::Memory);
@@ -105,6 +127,7 @@ fn main(rt: HostRuntime) -> ExitCode {
     };
     let outcome = match matches.subcommand() {
         Some(("decode", decode)) => show_text(&rt, decode.get_str("HEX").unwrap_or("")),
+        Some(("storm", _)) => storm_input(&rt),
         Some((_, run)) => run_input(&rt, run.get_flag("history")),
         None => run_input(&rt, false),
     };

@@ -8,6 +8,7 @@ mod config;
 mod field;
 mod flow;
 mod reading;
+mod storms;
 #[cfg(test)]
 mod tests;
 
@@ -20,6 +21,7 @@ pub use reading::read_script;
 use sched_history::Call;
 use serde_json::Value;
 use std::alloc::Global;
+pub use storms::read_storm;
 
 /// A script as it was read: its configuration may have a wrong field.
 #[derive(Debug, Drop)]
