@@ -2,11 +2,10 @@
 #![tactic(auto)]
 
 mod frames;
-mod jobs;
 mod locked;
 mod mutexed;
 mod run;
-mod shared;
+mod storms;
 mod table;
 mod tally;
 
@@ -39,10 +38,10 @@ fn main(rt: HostRuntime) -> ExitCode {
         Some(word) => {
             match word.as_str() {
                 "lock" => status_of(table::print_lock(&rt, rt.alloc())),
-                "shared" => status_of(table::print_shared(&rt, rt.alloc())),
+                "storm" => status_of(table::print_storm(&rt, rt.alloc())),
                 "frames" => status_of(table::print_frames(&rt, rt.alloc())),
                 _ => {
-                    let _ = rt.eprintln("usage: bench [lock|frames|shared]");
+                    let _ = rt.eprintln("usage: bench [lock|frames|storm]");
                     ExitCode::from(2)
                 }
             }

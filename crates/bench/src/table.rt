@@ -5,7 +5,7 @@ use crate::frames::{time_admission, time_build};
 use crate::locked::time_lock;
 use crate::mutexed::time_mutex;
 use crate::run::Run;
-use crate::shared::{CALLS, TAKEN, time_bare, time_shared};
+use crate::storms::{CALLS, TAKEN, time_bare, time_storm};
 use crate::tally::{Added, Workers};
 use std::alloc::Global;
 use std::io;
@@ -102,38 +102,37 @@ fn rate(nanos: [u64; RUNS], calls: u64) -> u64 {
     calls.saturating_mul(1_000_000_000) / nanos[RUNS / 2].max(1)
 }
 
-/// Calls per second of so many threads under the lock.
-fn shared_rate<R: Threads + Wait + Sync + Clock>(
+/// Calls per second of a storm of so many workers.
+fn storm_rate<R: Threads + Wait + Sync + Clock>(
     rt: &R,
     alloc: Global,
-    threads: u64,
+    workers: u64,
 ) -> io::Result<u64> {
-    let (calls, taken) = (threads.saturating_mul(CALLS), threads.saturating_mul(TAKEN));
+    let (calls, taken) = (workers.saturating_mul(CALLS), workers.saturating_mul(TAKEN));
     let mut nanos = [0u64; RUNS];
     for i in 0..RUNS {
-        nanos[i] = checked(time_shared(rt, alloc, threads as usize)?, taken, calls)?;
+        nanos[i] = checked(time_storm(rt, alloc, workers as usize)?, taken, calls)?;
     }
     Ok(rate(nanos, calls))
 }
 
-/// Prints the calls per second of a scheduler without a lock, and of one that threads share, as multiples of the
-/// first.
-pub fn print_shared<R: Threads + Wait + Sync + Clock + Print>(
+/// Prints the calls per second of a scheduler without a lock, and of storms, as multiples of the first.
+pub fn print_storm<R: Threads + Wait + Sync + Clock + Print>(
     rt: &R,
     alloc: Global,
 ) -> io::Result<()> {
-    println!(rt; "threads calls per second   ratio")?;
+    println!(rt; "workers calls per second   ratio")?;
     let mut nanos = [0u64; RUNS];
     for i in 0..RUNS {
         nanos[i] = checked(time_bare(rt, alloc)?, TAKEN, CALLS)?;
     }
     let bare = rate(nanos, CALLS);
     println!(rt; "no lock {bare:>16}   1.000")?;
-    for threads in [1, 2, 4, 8] {
-        let shared = shared_rate(rt, alloc, threads)?;
-        let ratio = shared.saturating_mul(1000) / bare.max(1);
+    for workers in [1, 2, 4, 8] {
+        let storm = storm_rate(rt, alloc, workers)?;
+        let ratio = storm.saturating_mul(1000) / bare.max(1);
         println!(rt;
-            "{threads:>7} {shared:>16} {:>3}.{:03}",
+            "{workers:>7} {storm:>16} {:>3}.{:03}",
             ratio / 1000,
             ratio % 1000
         )?;

@@ -6,7 +6,8 @@ use Rattle.sched_history.specs.declared.call.Call.{Call}
 use Rattle.sched_history.specs.declared.reply.Entry.{Entry}
 use Rattle.sched_history.specs.History.{IsStep, IsLegal}
 use Rattle.map_build.proofs.EachAfterLaws.{EachAfter-push}
-use Rattle.mapsched.specs.Answer.{Answer, MayGet, recorded, MayGetEach, entries_of}
+use Rattle.sched_text.specs.Line.{Answer}
+use Rattle.mapsched.specs.Answer.{MayGet, recorded, MayGetEach, entries_of}
 
 -- one call more behind
 pub MayGetEach-push : (c : Config) (h : List Entry) (ticket : ℕ) (calls : List Call) (answers : List Answer) (call : Call) (answer : Answer) → MayGetEach c h ticket calls answers

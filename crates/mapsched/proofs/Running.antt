@@ -12,9 +12,10 @@ use Rattle.sched_history.specs.declared.reply.Entry.{Entry}
 use Rattle.sched_history.specs.declared.reply.Unrecorded.TheVariants.{HistoryFull, Memory}
 use Rattle.sched_history.specs.History.{IsStep, IsLegal}
 use Rattle.sched_history.specs.Machine.{Machine, MayLackMemory}
-use Rattle.mapsched.specs.Answer.{Answer, MayGet, recorded, entries_of, MakesCall, MakesCalls}
-use Rattle.mapsched.specs.Line.{line_of}
-use Rattle.mapsched.specs.HistoryText.{history_text}
+use Rattle.sched_text.specs.Line.{Answer}
+use Rattle.mapsched.specs.Answer.{MayGet, recorded, entries_of, MakesCall, MakesCalls}
+use Rattle.sched_text.specs.Line.{line_of}
+use Rattle.sched_text.specs.HistoryText.{history_text}
 use Rattle.mapsched.specs.Run.{AnswersEach}
 use Rattle.mapsched.proofs.Answered.{MayGetEach-push, entries_of-push, IsLegal-answered}
 

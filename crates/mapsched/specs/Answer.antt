@@ -1,17 +1,12 @@
 -- The answers that calls may get, one after the other.
-use Rattle.std.specs.Prelude.{◌≡◌, ℕ, ◌+◌, ◌<◌, ◌≤◌, List, [], ◌∷◌, ◌++◌, length, Result, Ok, Err}
+use Rattle.std.specs.Prelude.{◌≡◌, ℕ, ◌+◌, ◌<◌, ◌≤◌, List, [], ◌∷◌, ◌++◌, length, Ok, Err}
 use Rattle.minislots.specs.declared.config.Config.{Config}
 use Rattle.sched_history.specs.declared.call.Call.{Call}
-use Rattle.sched_history.specs.declared.reply.Reply.{Reply}
 use Rattle.sched_history.specs.declared.reply.Entry.{Entry}
-use Rattle.sched_history.specs.declared.reply.Unrecorded.{Unrecorded}
 use Rattle.sched_history.specs.declared.reply.Unrecorded.TheVariants.{HistoryFull, Memory}
 use Rattle.sched_history.specs.History.{IsStep}
 use Rattle.sched_history.specs.Machine.{Machine, MayLackMemory}
-
--- the answer to a call: its reply, or that it was not recorded
-abbrev pub Answer : Type 0
-Answer = Result Reply Unrecorded
+use Rattle.sched_text.specs.Line.{Answer}
 
 -- the call may get this answer after the history: a reply that is a step, where there is room for it
 abbrev pub MayGet : Config → List Entry → Call → Answer → Type 0

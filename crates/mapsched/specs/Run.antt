@@ -4,14 +4,15 @@ use Rattle.std.specs.Io.KnownBytes.{Appends}
 use Rattle.minislots.specs.declared.config.Config as configs
 use Rattle.sched_history.specs.declared.call.Call.{Call}
 use Rattle.sched_history.specs.History.{IsLegal}
-use Rattle.mapsched.specs.Script.{Scenario}
-use Rattle.mapsched.specs.declared.fault.RunFault.{RunFault}
-use Rattle.mapsched.specs.declared.fault.RunFault.TheVariants.{Input, TooLong, NotJson, Shape, Config, Memory, Output, Threads}
-use Rattle.mapsched.specs.Input.{ReadsTooMany}
-use Rattle.mapsched.specs.Outcome.{StandsFor, HasFault}
-use Rattle.mapsched.specs.Answer.{Answer, MayGetEach, entries_of}
-use Rattle.mapsched.specs.Line.{line_of}
-use Rattle.mapsched.specs.HistoryText.{history_text}
+use Rattle.sched_text.specs.Script.{Scenario}
+use Rattle.sched_text.specs.declared.fault.RunFault.{RunFault}
+use Rattle.sched_text.specs.declared.fault.RunFault.TheVariants.{Input, TooLong, NotJson, Shape, Config, Memory, Output, Threads}
+use Rattle.sched_text.specs.Input.{ReadsTooMany}
+use Rattle.sched_text.specs.Outcome.{StandsFor, HasFault}
+use Rattle.sched_text.specs.Line.{Answer}
+use Rattle.mapsched.specs.Answer.{MayGetEach, entries_of}
+use Rattle.sched_text.specs.Line.{line_of}
+use Rattle.sched_text.specs.HistoryText.{history_text}
 
 -- what a run writes: the line of each answer in order, or the text of the history of the recorded calls
 abbrev pub output_of : Bool → configs.Config → List Call → List Answer → List ℕ

@@ -1,7 +1,7 @@
 -- The lines of a tally.
 use Rattle.std.specs.Prelude.{ℕ, zero, suc, List, [], ◌∷◌, ◌++◌, Option, None, Some, codes, slice_index}
-use Rattle.mapsched.specs.declared.storm.tally.Tally.{Tally}
-use Rattle.mapsched.specs.Line.{number_text}
+use Rattle.sched_storm.specs.declared.tally.Tally.{Tally}
+use Rattle.sched_text.specs.Line.{number_text}
 
 -- the line of a number under this name
 unfoldable pub number_line : List ℕ → ℕ → List ℕ

@@ -1,12 +1,12 @@
 -- What a storm reads and writes.
-use Rattle.std.specs.Prelude.{◌≡◌, ◌↔◌, ℕ, Bool, true, List, length, Option, None, Result, Ok, Err}
+use Rattle.std.specs.Prelude.{◌≡◌, ◌↔◌, ℕ, Bool, true, List, length, Option, None, Ok, Err}
 use Rattle.std.specs.Io.KnownBytes.{Appends}
-use Rattle.mapsched.specs.declared.fault.RunFault.{RunFault}
-use Rattle.mapsched.specs.declared.fault.RunFault.TheVariants.{Input, TooLong, NotJson, Shape, Config, Memory, Output, Threads}
-use Rattle.mapsched.specs.declared.storm.tally.Tally.{Tally}
-use Rattle.mapsched.specs.Input.{ReadsTooMany}
-use Rattle.mapsched.specs.StormScript.{Storm, GivesStorm}
-use Rattle.mapsched.specs.Storm.{IsTally}
+use Rattle.sched_text.specs.declared.fault.RunFault.{RunFault}
+use Rattle.sched_text.specs.declared.fault.RunFault.TheVariants.{Input, TooLong, NotJson, Shape, Config, Memory, Output, Threads}
+use Rattle.sched_storm.specs.declared.tally.Tally.{Tally}
+use Rattle.sched_text.specs.Input.{ReadsTooMany}
+use Rattle.sched_text.specs.StormScript.{Storm, GivesStorm}
+use Rattle.sched_storm.specs.Storm.{IsTally}
 use Rattle.mapsched.specs.StormLines.{tally_text}
 
 -- the reader's bytes are a script of a storm, and the lines of a tally of it were written, and nothing else; the answer is

@@ -3,20 +3,14 @@
 
 #[cfg(test)]
 mod fakes;
-mod fault;
-mod gate;
-mod history;
-mod input;
-mod line;
-mod output;
 mod run;
-mod script;
 mod storm;
 mod table;
 
 use clap::error::ErrorKind;
 use clap::{Arg, ArgAction, ArgMatches, Command, Error};
-use fault::RunFault;
+use sched_storm::Open;
+use sched_text::RunFault;
 use std::alloc::{AllocError, Global};
 use std::io::Write;
 use std::process::ExitCode;
@@ -112,7 +106,7 @@ fn storm_input<R: Input + Print + AllocGlobal + Threads + Wait + Sync>(
     rt: &R,
 ) -> Result<bool, RunFault> {
     let mut writer = io::writer(rt);
-    let is_free = storm::run_storm(rt, rt.alloc(), &mut rt.reader(), &mut writer, &gate::Open)?;
+    let is_free = storm::run_storm(rt, rt.alloc(), &mut rt.reader(), &mut writer, &Open)?;
     writer.flush().map_err(|_| RunFault::Output)?;
     Ok(is_free)
 }

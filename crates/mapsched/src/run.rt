@@ -1,19 +1,19 @@
 //! A run of a script.
 
 ghost use Rattle.std.specs.Prelude.{◌≡◌, ◌≢◌, ◌⊎◌, [], true, false, List, OnOk, IfErr};
-ghost use Rattle.mapsched.specs.Answer.{Answer, MakesCall, MakesCalls};
-ghost use Rattle.mapsched.specs.Line.{HasLine};
+ghost use Rattle.sched_text.specs.Line.{Answer};
+ghost use Rattle.mapsched.specs.Answer.{MakesCall, MakesCalls};
+ghost use Rattle.sched_text.specs.Line.{HasLine};
 ghost use Rattle.mapsched.specs.Run.{AnswersEach, Ran, Stops};
 
 #[cfg(test)]
+mod histories;
+#[cfg(test)]
 mod tests;
 
-use crate::fault::RunFault;
-use crate::history::put_history;
-use crate::line::put_line;
-use crate::script::read_script;
 use minislots::{Checked, Stamp};
 use sched_history::{Call, Reply, Scheduler, Unrecorded};
+use sched_text::{RunFault, put_history, put_line, read_script};
 use std::alloc::Global;
 use std::io::{Read, Write};
 

@@ -6,11 +6,10 @@ ghost use Rattle.std.specs.Io.KnownBytes.{Appends};
 ghost use Rattle.map_codec.specs.WireMap.{IsPayload};
 ghost use Rattle.mapsched.specs.Table.{labelled, window, at_right, column, name_of, counts_line, times_line, element_line, element_lines, table_of, number_of, index_of, place_text, fault_line, not_hex_line, IsHexOfPayload, PutsTable, PutsFault, ShowsMap, ShowsFault};
 
-use crate::fault::RunFault;
-use crate::output::put;
 use hex::FromHexError;
 use itoa::Buffer;
 use map_codec::{DecodeFault, Element, WireMap, decode, iuc};
+use sched_text::{RunFault, put};
 use std::alloc::Global;
 use std::io::Write;
 

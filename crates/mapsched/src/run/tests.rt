@@ -2,7 +2,7 @@
 
 use super::run_script;
 use crate::fakes::{CONFIG, Narrow, edited, push_part, script_of};
-use crate::fault::RunFault;
+use sched_text::RunFault;
 use std::alloc::{AllocError, Global};
 use std::fmt::Write as _;
 use std::io::ErrorKind;

@@ -4,10 +4,8 @@ ghost use Rattle.std.specs.Prelude.{◌≡◌, ◌≤◌, OnOk, IfErr};
 ghost use Rattle.std.specs.Io.KnownBytes.{Appends};
 ghost use Rattle.mapsched.specs.StormLines.{number_line, seat_line, seat_lines, held_line, tally_text};
 
-use super::tally::Tally;
-use crate::fault::RunFault;
-use crate::line::put_number;
-use crate::output::put;
+use sched_storm::Tally;
+use sched_text::{RunFault, put, put_number};
 use std::io::Write;
 use ticket_core::MAX_SEATS;
 

@@ -2,7 +2,7 @@
 
 use super::decode_text;
 use crate::fakes::Narrow;
-use crate::fault::RunFault;
+use sched_text::RunFault;
 use std::alloc::Global;
 use std::io::ErrorKind;
 use std::test::Fail;

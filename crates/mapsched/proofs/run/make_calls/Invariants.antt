@@ -1,6 +1,7 @@
 -- The calls so far, and their answers.
 use Rattle.std.proofs.Common.{List, take}
-use Rattle.mapsched.specs.Answer.{Answer, MakesCalls}
+use Rattle.sched_text.specs.Line.{Answer}
+use Rattle.mapsched.specs.Answer.{MakesCalls}
 use Rattle.mapsched.proofs.run.make_calls.Given as goal
 
 abbrev pub invariant-loop-place : goal.invariant-loop-place

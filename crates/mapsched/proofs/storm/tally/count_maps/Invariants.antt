@@ -1,7 +1,0 @@
--- The MAPs so far.
-use Rattle.std.proofs.Common.{◌≡◌, length, take}
-use Rattle.mapsched.specs.Made.{maps_in}
-use Rattle.mapsched.proofs.storm.tally.count_maps.Given as goal
-
-abbrev pub invariant-loop-entry : goal.invariant-loop-entry
-invariant-loop-entry l = l.maps ≡ length (maps_in (take l.entry-index l.history))

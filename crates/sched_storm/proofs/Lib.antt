@@ -1,0 +1,5 @@
+pub mod MadeLaws
+pub mod Working
+pub mod JobLaws
+pub mod GatherLaws
+pub mod TallyLaws

@@ -1,0 +1,4 @@
+pub mod Made
+pub mod Work
+pub mod Jobs
+pub mod Storm

@@ -1,0 +1,11 @@
+pub mod Bytes
+pub mod Calls
+pub mod Fields
+pub mod HistoryText
+pub mod Outcome
+pub mod RowsHistory
+pub mod RowsLines
+pub mod Written
+pub mod Profile
+pub mod StormCalls
+pub mod StormOutcome

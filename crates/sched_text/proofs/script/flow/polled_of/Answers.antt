@@ -1,0 +1,11 @@
+-- Each field that was read is the one that the definition names.
+use Rattle.std.proofs.Common.{refl, sym}
+use Rattle.sched_text.specs.Calls.{polled_of}
+use Rattle.sched_text.proofs.Fields.{then}
+use Rattle.sched_text.proofs.script.flow.polled_of.Goals as goal
+
+pub returns : goal.returns
+unfolding polled_of
+returns c = sym (
+    then _ c.in_ok-number_u32.ensures (then _ c.in_ok-number_u32-2.ensures (then _ c.in_ok-number_u32-3.ensures (then _ c.in_ok-number_u32-4.ensures
+    refl))))

@@ -1,0 +1,13 @@
+-- They are not none and not too many.
+use Rattle.std.proofs.Common.{◌∙◌, sym, arith}
+use Rattle.sched_text.proofs.StormCalls.{are_scripts-few, are_scripts-none, are_scripts-many}
+use Rattle.sched_text.proofs.script.storms.are_scripts.Goals as goal
+
+pub returns-then-count-eq0-clause-are : goal.returns-then-count-eq0-clause-are
+returns-then-count-eq0-clause-are c = sym (are_scripts-none c.args.values.now c.if-count-eq0.true)
+
+pub returns-then-count-gt-MAX_SCRIPTS-clause-are : goal.returns-then-count-gt-MAX_SCRIPTS-clause-are
+returns-then-count-gt-MAX_SCRIPTS-clause-are c = sym (are_scripts-many c.args.values.now c.if-count-gt-MAX_SCRIPTS.true)
+
+pub returns-clause-are : goal.returns-clause-are
+returns-clause-are c = c.are_arrays.ensures ∙ are_scripts-few c.args.values.now (let none = c.if-count-eq0.false in omega (arith, none)) c.if-count-gt-MAX_SCRIPTS.false

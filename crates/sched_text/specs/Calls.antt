@@ -1,0 +1,104 @@
+-- The flow and the call that a JSON object stands for.
+use Rattle.std.specs.Prelude.{if◌then◌else◌, codes, bytes_eq, Option, Some, None}
+use Rattle.serde_json.specs.Data.{Data}
+use Rattle.serde_json.specs.Find.{get}
+use Rattle.flow_book.specs.declared.spec.FlowSpec.{FlowSpec}
+use Rattle.flow_book.specs.declared.spec.FlowSpec.TheVariants.{Unsolicited, Polled, BestEffort}
+use Rattle.sched_history.specs.declared.call.Call.{Call}
+use Rattle.sched_history.specs.declared.call.Call.TheVariants.{Admit, Remove, Ask, Heard, Build, Skip, Status}
+use Rattle.sched_text.specs.Fields.{◌>>=◌, u8_at, u16_at, u32_at, u64_at, text_at}
+
+-- a flow of unsolicited grants
+unfoldable pub unsolicited_of : Data → Option FlowSpec
+unsolicited_of d = do
+  size ← u32_at (codes "size") d
+  interval ← u32_at (codes "interval_us") d
+  jitter ← u32_at (codes "jitter_us") d
+  Some (Unsolicited size interval jitter)
+
+-- a polled flow
+unfoldable pub polled_of : Data → Option FlowSpec
+polled_of d = do
+  interval ← u32_at (codes "interval_us") d
+  jitter ← u32_at (codes "jitter_us") d
+  rate ← u32_at (codes "rate") d
+  burst ← u32_at (codes "burst") d
+  Some (Polled interval jitter rate burst)
+
+-- a best effort flow
+unfoldable pub best_effort_of : Data → Option FlowSpec
+best_effort_of d = do
+  priority ← u8_at (codes "priority") d
+  rate ← u32_at (codes "rate") d
+  burst ← u32_at (codes "burst") d
+  Some (BestEffort priority rate burst)
+
+-- the flow that an object stands for, by its kind
+unfoldable pub flow_of : Data → Option FlowSpec
+flow_of d = do
+  kind ← text_at (codes "kind") d
+  if bytes_eq kind (codes "unsolicited") then unsolicited_of d
+      else (if bytes_eq kind (codes "polled") then polled_of d
+      else (if bytes_eq kind (codes "best_effort") then best_effort_of d
+      else None))
+
+-- an admission
+unfoldable pub admit_of : Data → Option Call
+admit_of d = do
+  sid ← u16_at (codes "sid") d
+  found ← get (codes "flow") d
+  flow ← flow_of found
+  Some (Admit sid flow)
+
+-- a removal
+unfoldable pub remove_of : Data → Option Call
+remove_of d = do
+  sid ← u16_at (codes "sid") d
+  Some (Remove sid)
+
+-- a request
+unfoldable pub ask_of : Data → Option Call
+ask_of d = do
+  receiver ← u8_at (codes "receiver") d
+  sid ← u16_at (codes "sid") d
+  bytes ← u32_at (codes "bytes") d
+  heard ← u64_at (codes "heard") d
+  Some (Ask receiver sid bytes heard)
+
+-- a receiver's progress
+unfoldable pub heard_of : Data → Option Call
+heard_of d = do
+  receiver ← u8_at (codes "receiver") d
+  upto ← u64_at (codes "upto") d
+  Some (Heard receiver upto)
+
+-- a build
+unfoldable pub build_of : Data → Option Call
+build_of d = do
+  now ← u64_at (codes "now") d
+  Some (Build now)
+
+-- a skip
+unfoldable pub skip_of : Data → Option Call
+skip_of d = do
+  now ← u64_at (codes "now") d
+  Some (Skip now)
+
+-- a question for a flow's bytes
+unfoldable pub status_of : Data → Option Call
+status_of d = do
+  sid ← u16_at (codes "sid") d
+  Some (Status sid)
+
+-- the call that an object stands for, by its name
+unfoldable pub call_of : Data → Option Call
+call_of d = do
+  name ← text_at (codes "call") d
+  if bytes_eq name (codes "admit") then admit_of d
+      else (if bytes_eq name (codes "remove") then remove_of d
+      else (if bytes_eq name (codes "ask") then ask_of d
+      else (if bytes_eq name (codes "heard") then heard_of d
+      else (if bytes_eq name (codes "build") then build_of d
+      else (if bytes_eq name (codes "skip") then skip_of d
+      else (if bytes_eq name (codes "status") then status_of d
+      else None))))))

@@ -1,0 +1,36 @@
+-- The bytes that a reader has, and the JSON value that they are the text of.
+use Rattle.std.specs.Prelude.{ℕ, ◌<◌, ◌≤◌, if◌then◌else◌, List, length, Option, ok_or, Result, Err}
+use Rattle.std.specs.Str.{is_utf8}
+use Rattle.std.specs.Io.KnownBytes.{Consumes, IsAtEnd}
+use Rattle.serde_json.specs.Data.{Data}
+use Rattle.serde_json.specs.Read.{read}
+use Rattle.sched_text.specs.declared.input.TheConstants.{MAX_INPUT}
+use Rattle.sched_text.specs.declared.fault.RunFault.{RunFault}
+use Rattle.sched_text.specs.declared.fault.RunFault.TheVariants.{Input, TooLong, NotJson, Shape, Config, Memory, Output, Threads}
+
+-- the value that the bytes are the text of, in UTF-8
+unfoldable pub value_of : List ℕ → Result Data RunFault
+value_of bytes = if is_utf8 bytes then ok_or (read bytes) NotJson else Err NotJson
+
+-- the reader had these bytes and no more, and they are not too many
+pub record ReadsAll (old new : Option (List ℕ)) (bytes : List ℕ) : Type 0 where
+  pub consumed : Consumes old new bytes
+  pub ended : IsAtEnd new
+  pub short : length bytes ≤ MAX_INPUT
+
+-- too many bytes came from the reader
+pub record ReadsTooMany (old new : Option (List ℕ)) : Type 0 where
+  pub bytes : List ℕ
+  pub consumed : Consumes old new bytes
+  pub long : MAX_INPUT < length bytes
+
+-- why the bytes of a reader are not had: nothing is said of what a read that failed leaves
+abbrev pub StopsReading : Option (List ℕ) → Option (List ℕ) → RunFault → Type 0
+StopsReading old new Input = Unit {0}
+StopsReading old new TooLong = ReadsTooMany old new
+StopsReading old new NotJson = ⊥
+StopsReading old new (Shape n) = ⊥
+StopsReading old new (Config field) = ⊥
+StopsReading old new Memory = Unit {0}
+StopsReading old new Output = ⊥
+StopsReading old new Threads = ⊥

@@ -1,0 +1,95 @@
+-- The JSON values that a flow, a call and a reply stand for in the text of a history: members in ascending order of their keys.
+use Rattle.std.specs.Prelude.{ℕ, List, map, codes, Option, None, Some}
+use Rattle.hex.specs.Hex.{encode_lower}
+use Rattle.serde_json.specs.Data.{Data, number, unsigned, string, array, object, no_members, member}
+use Rattle.serde_json.specs.View.{items_of}
+use Rattle.map_codec.specs.WireMap.{spelling}
+use Rattle.flow_book.specs.declared.spec.FlowSpec.{FlowSpec}
+use Rattle.flow_book.specs.declared.spec.FlowSpec.TheVariants.{Unsolicited, Polled, BestEffort}
+use Rattle.periodic.specs.declared.placement.Placement.{Placement}
+use Rattle.map_build.specs.declared.frame_map.FrameMap.{FrameMap}
+use Rattle.sched_history.specs.declared.call.Call.{Call}
+use Rattle.sched_history.specs.declared.call.Call.TheVariants.{Admit, Remove, Ask, Heard, Build, Skip, Status, Newest}
+use Rattle.sched_history.specs.declared.reply.Reply.{Reply}
+use Rattle.sched_history.specs.declared.reply.Reply.TheVariants.{Admitted, Removed, Taken, Noted, Built, Skipped, Flow, Latest, Refused}
+use Rattle.sched_text.specs.Line.{refusal_number, refusal_value}
+
+-- a whole number
+abbrev pub count : ℕ → Data
+count n = number (unsigned n)
+
+-- an array of whole numbers
+unfoldable pub counts : List ℕ → Data
+counts ns = array (items_of (map count ns))
+
+-- a flow, by its kind
+unfoldable pub flow_data : FlowSpec → Data
+flow_data (Unsolicited size interval jitter) = object (
+    member (codes "interval_us") (count interval) (member (codes "jitter_us") (count jitter) (
+    member (codes "kind") (string (codes "unsolicited")) (member (codes "size") (count size) no_members))))
+flow_data (Polled interval jitter rate burst) = object (
+    member (codes "burst") (count burst) (member (codes "interval_us") (count interval) (
+    member (codes "jitter_us") (count jitter) (member (codes "kind") (string (codes "polled")) (
+    member (codes "rate") (count rate) no_members)))))
+flow_data (BestEffort priority rate burst) = object (
+    member (codes "burst") (count burst) (member (codes "kind") (string (codes "best_effort")) (
+    member (codes "priority") (count priority) (member (codes "rate") (count rate) no_members))))
+
+-- a call, by its name
+unfoldable pub call_data : Call → Data
+call_data (Admit sid spec) = object (
+    member (codes "call") (string (codes "admit")) (member (codes "flow") (flow_data spec) (
+    member (codes "sid") (count sid) no_members)))
+call_data (Remove sid) = object (member (codes "call") (string (codes "remove")) (member (codes "sid") (count sid) no_members))
+call_data (Ask receiver sid bytes heard) = object (
+    member (codes "bytes") (count bytes) (member (codes "call") (string (codes "ask")) (
+    member (codes "heard") (count heard) (member (codes "receiver") (count receiver) (
+    member (codes "sid") (count sid) no_members)))))
+call_data (Heard receiver upto) = object (
+    member (codes "call") (string (codes "heard")) (member (codes "receiver") (count receiver) (
+    member (codes "upto") (count upto) no_members)))
+call_data (Build now) = object (member (codes "call") (string (codes "build")) (member (codes "now") (count now) no_members))
+call_data (Skip now) = object (member (codes "call") (string (codes "skip")) (member (codes "now") (count now) no_members))
+call_data (Status sid) = object (member (codes "call") (string (codes "status")) (member (codes "sid") (count sid) no_members))
+call_data Newest = object (member (codes "call") (string (codes "newest")) no_members)
+
+-- a reply of this kind that says nothing more
+unfoldable pub plain_data : List ℕ → Data
+plain_data kind = object (member (codes "kind") (string kind) no_members)
+
+-- the place of a flow
+unfoldable pub placed_data : Placement → Data
+placed_data p = object (
+    member (codes "kind") (string (codes "admitted")) (member (codes "reference") (count p.reference) (
+    member (codes "starts") (counts p.starts) no_members)))
+
+-- a MAP, in a reply of this kind
+unfoldable pub map_data : List ℕ → FrameMap → Data
+map_data kind m = object (
+    member (codes "ack") (count m.ack) (member (codes "bytes") (counts m.bytes) (
+    member (codes "hex") (string (encode_lower (spelling m.wire))) (member (codes "kind") (string kind) (
+    member (codes "start") (count m.start) no_members)))))
+
+-- a refusal's number, and its value where it has one
+unfoldable pub refused_data : ℕ → Option ℕ → Data
+refused_data n None = object (member (codes "kind") (string (codes "refused")) (member (codes "number") (count n) no_members))
+refused_data n (Some value) = object (
+    member (codes "kind") (string (codes "refused")) (member (codes "number") (count n) (
+    member (codes "value") (count value) no_members)))
+
+-- a reply, by its kind
+unfoldable pub reply_data : Reply → Data
+reply_data (Admitted None) = plain_data (codes "admitted")
+reply_data (Admitted (Some p)) = placed_data p
+reply_data Removed = plain_data (codes "removed")
+reply_data Taken = plain_data (codes "taken")
+reply_data Noted = plain_data (codes "noted")
+reply_data (Built m) = map_data (codes "map") m
+reply_data (Skipped next) = object (
+    member (codes "kind") (string (codes "skipped")) (member (codes "next") (count next) no_members))
+reply_data (Flow asked granted outstanding) = object (
+    member (codes "asked") (count asked) (member (codes "granted") (count granted) (
+    member (codes "kind") (string (codes "flow")) (member (codes "outstanding") (count outstanding) no_members))))
+reply_data (Latest None) = plain_data (codes "latest")
+reply_data (Latest (Some m)) = map_data (codes "latest") m
+reply_data (Refused refusal) = refused_data (refusal_number refusal) (refusal_value refusal)

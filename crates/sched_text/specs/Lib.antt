@@ -1,0 +1,10 @@
+pub mod Fields
+pub mod Calls
+pub mod Script
+pub mod Input
+pub mod Outcome
+pub mod StormScript
+pub mod Line
+pub mod Json
+pub mod HistoryText
+pub mod Status

@@ -1,0 +1,46 @@
+-- What a script is: the configuration and the calls that a JSON value stands for, or the fault in it.
+use Rattle.std.specs.Prelude.{◌≡◌, ◌≢◌, ℕ, ◌+◌, List, [], ◌∷◌, codes, option_and_then, ok_or, Result, Ok, Err}
+use Rattle.serde_json.specs.Data.{Data, Items, no_items, item}
+use Rattle.serde_json.specs.Find.{get, as_array}
+use Rattle.minislots.specs.declared.config.Config.{Config}
+use Rattle.sched_history.specs.declared.call.Call.{Call}
+use Rattle.sched_text.specs.declared.fault.RunFault.{RunFault}
+use Rattle.sched_text.specs.declared.fault.RunFault.TheVariants.{Shape, Memory}
+use Rattle.sched_text.specs.declared.script.Script.{Script}
+use Rattle.sched_text.specs.Fields.{config_of}
+use Rattle.sched_text.specs.Calls.{call_of}
+
+infixl 10 ◌>>=◌
+abbrev pub ◌>>=◌ : {A B : Type 0} → Result A RunFault → (A → Result B RunFault) → Result B RunFault
+(Ok x) >>= f = f x
+(Err e) >>= f = Err e
+
+-- what a run is made of: a configuration, and calls in their order
+pub record Scenario : Type 0 where
+  pub config : Config
+  pub calls : List Call
+
+-- what a script that was read has
+abbrev pub scenario_of : Script → Scenario
+scenario_of script = record { config = script.config; calls = script.calls.items }
+
+-- what was made, seen by view, is what stands there, or the fault is, unless memory ran out
+abbrev pub Gives : {X Y : Type 0} → (X → Y) → Result X RunFault → Result Y RunFault → Type 0
+Gives view (Ok x) there = there ≡ Ok (view x)
+Gives view (Err e) there = e ≢ Memory → there ≡ Err e
+
+-- the calls of an array, the first of which has this number: the first that is none is the fault
+unfoldable pub calls_of : ℕ → Items → Result (List Call) RunFault
+calls_of n no_items = Ok []
+calls_of n (item d ds) = do
+  call ← ok_or (call_of d) (Shape n)
+  calls ← calls_of (n + 1) ds
+  Ok (call ∷ calls)
+
+-- the script that a document stands for: a fault in the document or its configuration comes first
+unfoldable pub script_of : Data → Result Scenario RunFault
+script_of d = do
+  config ← ok_or (option_and_then config_of (get (codes "config") d)) (Shape 0)
+  items ← ok_or (option_and_then as_array (get (codes "calls") d)) (Shape 0)
+  calls ← calls_of 1 items
+  Ok (record { config = config; calls = calls })

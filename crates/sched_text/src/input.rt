@@ -1,0 +1,53 @@
+//! The bytes of an input, and the JSON value that they are the text of.
+
+ghost use Rattle.std.specs.Prelude.{IfOk, IfErr};
+ghost use Rattle.serde_json.specs.View.{view};
+ghost use Rattle.sched_text.specs.Script.{Gives};
+ghost use Rattle.sched_text.specs.Input.{value_of, ReadsAll, StopsReading};
+
+use crate::fault::RunFault;
+use serde_json::Value;
+use std::alloc::Global;
+use std::io::Read;
+
+/// The most bytes of an input.
+pub const MAX_INPUT: usize = 16_777_216;
+
+/// The bytes of one read.
+const PIECE: usize = 4096;
+
+/// All bytes that the reader has. A read that fails ends it, one that was interrupted among them,
+/// and so does the first byte too many, after which nothing more is read.
+pub fn read_all<R: Read>(alloc: Global, reader: &mut R) -> Result<Vec<u8>, RunFault>
+    ensures ok { IfOk result (λ bytes.
+        ReadsAll (R.remaining reader.old) (R.remaining reader.new) bytes.items) }
+    ensures stops { IfErr result
+        (StopsReading (R.remaining reader.old) (R.remaining reader.new)) }
+{
+    let mut bytes = Vec::new(alloc);
+    let mut piece = [0; PIECE];
+    loop {
+        let Ok(len) = reader.read(&mut piece) else {
+            return Err(RunFault::Input);
+        };
+        if len == 0 {
+            return Ok(bytes);
+        }
+        if len > MAX_INPUT - bytes.len() {
+            return Err(RunFault::TooLong);
+        }
+        bytes.extend_from_slice(&piece[..len])?;
+    }
+}
+
+/// The JSON value that the bytes are the text of, in UTF-8.
+#[tactic(auto, unfolding(crate::specs::Input::value_of))]
+pub fn parse(alloc: Global, bytes: &[u8]) -> Result<Value, RunFault>
+    ensures { Gives (λ v. view v) result (value_of bytes.now) }
+{
+    match Value::from_slice(alloc, bytes) {
+        Ok(value) => Ok(value),
+        Err(e) if e.is_memory() => Err(RunFault::Memory),
+        Err(_) => Err(RunFault::NotJson),
+    }
+}

@@ -1,0 +1,64 @@
+//! Fields of a JSON object.
+
+ghost use Rattle.std.specs.Prelude.{◌≡◌, option_map};
+ghost use Rattle.serde_json.specs.Find.{get};
+ghost use Rattle.serde_json.specs.View.{view};
+ghost use Rattle.sched_text.specs.Fields.{number_at, u8_at, u16_at, u32_at, u64_at, text_at};
+
+use serde_json::Value;
+
+/// The value under this key, where there is one.
+pub fn member<'v>(value: &'v Value, key: &str) -> Option<&'v Value>
+    ensures { option_map (λ v. view v.now) result ≡ get key.now (view value.now) }
+{
+    value.get(key)
+}
+
+/// The text under this key.
+#[tactic(auto, unfolding(crate::specs::Fields::text_at))]
+pub fn text<'v>(value: &'v Value, key: &str) -> Option<&'v str>
+    ensures { option_map (λ s. s.now) result ≡ text_at key.now (view value.now) }
+{
+    member(value, key)?.as_str()
+}
+
+/// The number under this key. One below 0, or one that is written with a fraction or an exponent,
+/// is none.
+#[tactic(auto, unfolding(crate::specs::Fields::number_at))]
+fn number(value: &Value, key: &str) -> Option<u64>
+    ensures { result ≡ number_at key.now (view value.now) }
+{
+    member(value, key)?.as_u64()
+}
+
+/// The number under this key, where it fits.
+#[tactic(auto, unfolding(crate::specs::Fields::u8_at))]
+pub fn number_u8(value: &Value, key: &str) -> Option<u8>
+    ensures { result ≡ u8_at key.now (view value.now) }
+{
+    u8::try_from(number(value, key)?).ok()
+}
+
+/// The number under this key, where it fits.
+#[tactic(auto, unfolding(crate::specs::Fields::u16_at))]
+pub fn number_u16(value: &Value, key: &str) -> Option<u16>
+    ensures { result ≡ u16_at key.now (view value.now) }
+{
+    u16::try_from(number(value, key)?).ok()
+}
+
+/// The number under this key, where it fits.
+#[tactic(auto, unfolding(crate::specs::Fields::u32_at))]
+pub fn number_u32(value: &Value, key: &str) -> Option<u32>
+    ensures { result ≡ u32_at key.now (view value.now) }
+{
+    u32::try_from(number(value, key)?).ok()
+}
+
+/// The number under this key.
+#[tactic(auto, unfolding(crate::specs::Fields::u64_at))]
+pub fn number_u64(value: &Value, key: &str) -> Option<u64>
+    ensures { result ≡ u64_at key.now (view value.now) }
+{
+    number(value, key)
+}

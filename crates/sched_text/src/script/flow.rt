@@ -1,0 +1,56 @@
+//! The parameters of a flow in a script.
+
+ghost use Rattle.std.specs.Prelude.{◌≡◌};
+ghost use Rattle.serde_json.specs.View.{view};
+ghost use Rattle.sched_text.specs.Calls.{unsolicited_of, polled_of, best_effort_of, flow_of};
+
+use super::field::{number_u8, number_u32, text};
+use flow_book::FlowSpec;
+use serde_json::Value;
+
+#[tactic(auto, unfolding(crate::specs::Calls::unsolicited_of))]
+fn unsolicited_of(value: &Value) -> Option<FlowSpec>
+    ensures { result ≡ unsolicited_of (view value.now) }
+{
+    Some(FlowSpec::Unsolicited {
+        size: number_u32(value, "size")?,
+        interval_us: number_u32(value, "interval_us")?,
+        jitter_us: number_u32(value, "jitter_us")?,
+    })
+}
+
+#[tactic(auto, unfolding(crate::specs::Calls::polled_of))]
+fn polled_of(value: &Value) -> Option<FlowSpec>
+    ensures { result ≡ polled_of (view value.now) }
+{
+    Some(FlowSpec::Polled {
+        interval_us: number_u32(value, "interval_us")?,
+        jitter_us: number_u32(value, "jitter_us")?,
+        rate: number_u32(value, "rate")?,
+        burst: number_u32(value, "burst")?,
+    })
+}
+
+#[tactic(auto, unfolding(crate::specs::Calls::best_effort_of))]
+fn best_effort_of(value: &Value) -> Option<FlowSpec>
+    ensures { result ≡ best_effort_of (view value.now) }
+{
+    Some(FlowSpec::BestEffort {
+        priority: number_u8(value, "priority")?,
+        rate: number_u32(value, "rate")?,
+        burst: number_u32(value, "burst")?,
+    })
+}
+
+/// The flow that an object stands for, by its kind. Its values may be ones that are refused.
+#[tactic(auto, unfolding(crate::specs::Calls::flow_of))]
+pub fn flow_of(value: &Value) -> Option<FlowSpec>
+    ensures { result ≡ flow_of (view value.now) }
+{
+    match text(value, "kind")? {
+        "unsolicited" => unsolicited_of(value),
+        "polled" => polled_of(value),
+        "best_effort" => best_effort_of(value),
+        _ => None,
+    }
+}
