@@ -98,27 +98,29 @@ mod tests {
     use map_codec::Element;
     use std::test::Fail;
 
-    #[test]
-    fn a_copy_is_the_same_map(rt: HostRuntime) -> Result<(), Fail> {
-        let elements = [
-            Element {
-                sid: 0x3fff,
-                iuc: 1,
-                offset: 0,
-            },
-            Element {
-                sid: 17,
-                iuc: 5,
-                offset: 4,
-            },
-            Element {
-                sid: 0,
-                iuc: 7,
-                offset: 40,
-            },
-        ];
-        let bytes = [0, 96, 0];
-        let map = FrameMap {
+    const ELEMENTS: [Element; 3] = [
+        Element {
+            sid: 0x3fff,
+            iuc: 1,
+            offset: 0,
+        },
+        Element {
+            sid: 17,
+            iuc: 5,
+            offset: 4,
+        },
+        Element {
+            sid: 0,
+            iuc: 7,
+            offset: 40,
+        },
+    ];
+
+    const BYTES: [u32; 3] = [0, 96, 0];
+
+    /// A MAP with one data grant.
+    fn map(alloc: Global) -> Result<FrameMap, AllocError> {
+        Ok(FrameMap {
             start: 840,
             ack: 800,
             wire: WireMap {
@@ -131,15 +133,19 @@ mod tests {
                 ranging_end: 5,
                 data_start: 6,
                 data_end: 7,
-                elements: Elements::from_vec(Vec::from_slice(rt.alloc(), &elements)?),
+                elements: Elements::from_vec(Vec::from_slice(alloc, &ELEMENTS)?),
             },
-            bytes: ByteCounts::from_vec(Vec::from_slice(rt.alloc(), &bytes)?),
-        };
-        let copy = map.copy(rt.alloc())?;
+            bytes: ByteCounts::from_vec(Vec::from_slice(alloc, &BYTES)?),
+        })
+    }
+
+    #[test]
+    fn a_copy_is_the_same_map(rt: HostRuntime) -> Result<(), Fail> {
+        let copy = map(rt.alloc())?.copy(rt.alloc())?;
         assert_eq!(rt; (copy.start, copy.ack), (840, 800));
         assert_eq!(rt; (copy.wire.ranging_end, copy.wire.data_end), (5, 7));
-        assert_eq!(rt; copy.wire.elements.as_slice(), &elements[..]);
-        assert_eq!(rt; copy.bytes.as_slice(), &bytes[..]);
+        assert_eq!(rt; copy.wire.elements.as_slice(), &ELEMENTS[..]);
+        assert_eq!(rt; copy.bytes.as_slice(), &BYTES[..]);
         Ok(())
     }
 }

@@ -101,81 +101,29 @@ fn readers_give_each_field(rt: HostRuntime) -> Result<(), Fail> {
 
 // The configuration with another value in one field.
 fn with(config: Config, field: ConfigFault, value: u32) -> Config {
+    let mut config = config;
     let byte = (value & 0xff) as u8;
     match field {
-        ConfigFault::Ticks => Config {
-            ticks: value,
-            ..config
-        },
-        ConfigFault::BytesPerSlot => Config {
-            bytes_per_slot: value,
-            ..config
-        },
-        ConfigFault::Overhead => Config {
-            overhead: value,
-            ..config
-        },
-        ConfigFault::Frame => Config {
-            frame: value,
-            ..config
-        },
-        ConfigFault::Cycle => Config {
-            cycle: value,
-            ..config
-        },
-        ConfigFault::ReqSlots => Config {
-            req_slots: value,
-            ..config
-        },
-        ConfigFault::PollSlots => Config {
-            poll_slots: value,
-            ..config
-        },
-        ConfigFault::Lead => Config {
-            lead: value,
-            ..config
-        },
-        ConfigFault::ShortMax => Config {
-            short_max: value,
-            ..config
-        },
-        ConfigFault::Quantum => Config {
-            quantum: value,
-            ..config
-        },
-        ConfigFault::GrantCap => Config {
-            grant_cap: value,
-            ..config
-        },
-        ConfigFault::Receivers => Config {
-            receivers: byte,
-            ..config
-        },
-        ConfigFault::Calls => Config {
-            calls: value,
-            ..config
-        },
-        ConfigFault::Start => Config {
-            start: u64::from(value),
-            ..config
-        },
-        ConfigFault::RangingStart => Config {
-            ranging_start: byte,
-            ..config
-        },
-        ConfigFault::RangingEnd => Config {
-            ranging_end: byte,
-            ..config
-        },
-        ConfigFault::DataStart => Config {
-            data_start: byte,
-            ..config
-        },
-        ConfigFault::DataEnd => Config {
-            data_end: byte,
-            ..config
-        },
+        ConfigFault::Ticks => config.ticks = value,
+        ConfigFault::BytesPerSlot => config.bytes_per_slot = value,
+        ConfigFault::Overhead => config.overhead = value,
+        ConfigFault::Frame => config.frame = value,
+        ConfigFault::Cycle => config.cycle = value,
+        ConfigFault::ReqSlots => config.req_slots = value,
+        ConfigFault::PollSlots => config.poll_slots = value,
+        ConfigFault::Lead => config.lead = value,
+        ConfigFault::ShortMax => config.short_max = value,
+        ConfigFault::Quantum => config.quantum = value,
+        ConfigFault::GrantCap => config.grant_cap = value,
+        ConfigFault::Receivers => config.receivers = byte,
+        ConfigFault::Calls => config.calls = value,
+        ConfigFault::Start => config.start = u64::from(value),
+        ConfigFault::RangingStart => config.ranging_start = byte,
+        ConfigFault::RangingEnd => config.ranging_end = byte,
+        ConfigFault::DataStart => config.data_start = byte,
+        ConfigFault::DataEnd => config.data_end = byte,
     }
+    config
 }
 
 #[test]

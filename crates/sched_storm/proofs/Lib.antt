@@ -2,4 +2,5 @@ pub mod MadeLaws
 pub mod Working
 pub mod JobLaws
 pub mod GatherLaws
+pub mod SeatLaws
 pub mod TallyLaws

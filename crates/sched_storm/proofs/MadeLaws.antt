@@ -1,76 +1,142 @@
--- Calls that were made one after the other, and what a longer history leaves out.
-use Rattle.std.proofs.Common.{◌≡◌, ◌⊎◌, inl, inr, ◌≤◌, ◌+◌, ℕ, Bool, true, false, not, cond, length, List, [], ◌∷◌, ◌++◌, map, filter, take, get_or, ◌<◌, Option, Some, None, refl, sym, ap, ◌∙◌, subst, append_assoc, arith, length-append}
-use Rattle.std.specs.List.{AllByRecursion}
+-- Calls that were made one after the other, and the lists that they lead to.
+use Rattle.std.proofs.Common.{◌≡◌, ◌≤◌, ◌+◌, ℕ, Bool, true, false, not, cond, ◌==◌, length, List, [], ◌∷◌, ◌++◌, filter, take, get_or}
+use Rattle.std.proofs.Common.{◌<◌, Option, Some, None, refl, sym, ap, ◌∙◌, append_assoc, append-nil, eq-eqb, arith, length-append}
+use Rattle.std.specs.Prelude.{IfSome}
 use Rattle.std.specs.List.{filter_map}
-use Rattle.std.proofs.lemmas.List.{map-append, take_more, length-take-le}
-use Rattle.std.proofs.lemmas.List.Elements.{filter_map-append}
-use Rattle.std.proofs.lemmas.List.Elements.{filter-append}
+use Rattle.std.specs.Option.{option_to_list}
+use Rattle.std.proofs.lemmas.List.{map-append, take_more}
+use Rattle.std.proofs.lemmas.List.Elements.{filter-append, filter_map-append}
 use mathlib.Core.List.{IsPrefix}
 use Rattle.minislots.specs.declared.config.Config.{Config}
 use Rattle.sched_history.specs.declared.call.Call.{Call}
 use Rattle.sched_history.specs.declared.reply.Entry.{Entry}
 use Rattle.sched_history.specs.History.{map_by}
-use Rattle.sched_history.specs.Machine.{MayLackMemory}
+use Rattle.sched_history.specs.Facts.{maps_of}
 use Rattle.map_build.specs.declared.frame_map.FrameMap.{FrameMap}
-use Rattle.sched_storm.specs.Made.{MadeCall, calls_made, calls_recorded, left_out, maps_in, MayBeLeftOut, LeavesOut}
+use Rattle.shared_sched.specs.Closed.{entries_of}
+use Rattle.sched_storm.specs.Made.{MadeCall, is_recorded, list_left, calls_made, calls_recorded, calls_in, left_out_count}
+use Rattle.sched_storm.specs.Made.{GrowsByOthers, IsMadeAfter, Leads}
 
 -- a front of a front
 pub IsPrefix-trans : {X : Type 0} (xs ys zs : List X) → IsPrefix xs ys → IsPrefix ys zs → IsPrefix xs zs
 IsPrefix-trans xs ys zs p q = (p.0 ++ q.0, sym (append_assoc xs p.0 q.0) ∙ ap (λ l. l ++ q.0) p.1 ∙ q.1)
 
--- a front is no longer
-pub length-front : {X : Type 0} (xs ys : List X) → IsPrefix xs ys → length xs ≤ length ys
-length-front xs ys p =
-    let e : length xs + length p.0 ≡ length ys = sym (length-append xs p.0) ∙ ap length p.1 in omega (arith, e)
-
 module _ (made more : List MadeCall) where
+  -- the calls of a list and of more behind it
   pub calls_made-append : calls_made (made ++ more) ≡ calls_made made ++ calls_made more
   calls_made-append = map-append (λ (m : MadeCall). m.call) made more
 
+  -- and so with those that were recorded
   pub calls_recorded-append : calls_recorded (made ++ more) ≡ calls_recorded made ++ calls_recorded more
   calls_recorded-append =
-      ap calls_made (filter-append (λ (m : MadeCall). m.is_recorded) made more)
-      ∙ map-append (λ (m : MadeCall). m.call) (filter (λ (m : MadeCall). m.is_recorded) made) (filter (λ (m : MadeCall). m.is_recorded) more)
+      ap calls_made (filter-append is_recorded made more)
+      ∙ map-append (λ (m : MadeCall). m.call) (filter is_recorded made) (filter is_recorded more)
 
-  pub left_out-append : left_out (made ++ more) ≡ left_out made + left_out more
-  left_out-append =
-      ap length (filter-append (λ (m : MadeCall). not m.is_recorded) made more)
-      ∙ length-append (filter (λ (m : MadeCall). not m.is_recorded) made) (filter (λ (m : MadeCall). not m.is_recorded) more)
+  -- and with how many were not
+  pub left_out_count-append : left_out_count (made ++ more) ≡ left_out_count made + left_out_count more
+  left_out_count-append =
+      ap length (filter-append (λ (m : MadeCall). not (is_recorded m)) made more)
+      ∙ length-append (filter (λ (m : MadeCall). not (is_recorded m)) made) (filter (λ (m : MadeCall). not (is_recorded m)) more)
+
+-- one call is one where it was not recorded
+pub left_out_count-one : (m : MadeCall) → cond (is_recorded m) 0 1 ≡ left_out_count (m ∷ [])
+left_out_count-one m = by (is_recorded m)
+  where
+    by : (b : Bool) → cond b 0 1 ≡ length (cond (not b) (m ∷ []) [])
+    by true = refl
+    by false = refl
 
 -- no more are left out than were made
-pub left_out-le : (made : List MadeCall) → left_out made ≤ length made
-left_out-le [] = omega arith
-left_out-le (m ∷ ms) = by m.is_recorded (left_out-le ms)
+pub left_out_count-le : (made : List MadeCall) → left_out_count made ≤ length made
+left_out_count-le [] = omega arith
+left_out_count-le (m ∷ ms) = by (is_recorded m) (left_out_count-le ms)
   where
-    by : (b : Bool) → left_out ms ≤ length ms
-        → length (cond (not b) (m ∷ filter (λ (x : MadeCall). not x.is_recorded) ms) (filter (λ (x : MadeCall). not x.is_recorded) ms)) ≤ length (m ∷ ms)
+    others : List MadeCall
+    others = filter (λ (x : MadeCall). not (is_recorded x)) ms
+
+    by : (b : Bool) → left_out_count ms ≤ length ms → length (cond (not b) (m ∷ others) others) ≤ length (m ∷ ms)
     by true few = omega (arith, few)
     by false few = omega (arith, few)
 
--- what a history leaves out, a longer one may leave out
-pub MayBeLeftOut-longer : (c : Config) (h longer : List Entry) (call : Call) → IsPrefix h longer → MayBeLeftOut c h call → MayBeLeftOut c longer call
-MayBeLeftOut-longer c h longer call p (inl full) = let e = length-front h longer p in inl (omega (arith, e, full))
-MayBeLeftOut-longer c h longer call p (inr lacks) = inr (lacks.0, IsPrefix-trans lacks.0 h longer lacks.1 p, lacks.2)
+-- the seat's entries of a list and then more
+pub entries_of-append : (number : ℕ) (h more : List Entry) → entries_of number (h ++ more) ≡ entries_of number h ++ entries_of number more
+entries_of-append number h more = filter-append (λ (e : Entry). e.stamp.seat == number) h more
 
-pub LeavesOut-longer : (c : Config) (h longer : List Entry) (made : List MadeCall) → IsPrefix h longer → LeavesOut c h made → LeavesOut c longer made
-LeavesOut-longer c h longer [] p others = tt
-LeavesOut-longer c h longer (m ∷ ms) p others =
-    ((λ unrecorded. MayBeLeftOut-longer c h longer m.call p (others.0 unrecorded)), LeavesOut-longer c h longer ms p others.1)
+module _ (number : ℕ) where
+  -- nothing was added
+  pub GrowsByOthers-same : (h : List Entry) → GrowsByOthers number h h
+  GrowsByOthers-same h = record { begins = ([], append-nil h); same_own = refl }
 
-pub LeavesOut-append : (c : Config) (h : List Entry) (made more : List MadeCall) → LeavesOut c h made → LeavesOut c h more → LeavesOut c h (made ++ more)
-LeavesOut-append c h [] more first then = then
-LeavesOut-append c h (m ∷ ms) more first then = (first.0, LeavesOut-append c h ms more first.1 then)
+  -- others added, and then again
+  pub GrowsByOthers-trans : (from mid to : List Entry) → GrowsByOthers number from mid → GrowsByOthers number mid to
+      → GrowsByOthers number from to
+  GrowsByOthers-trans from mid to first then = record {
+    begins = IsPrefix-trans from mid to first.begins then.begins;
+    same_own = then.same_own ∙ first.same_own;
+  }
+
+  -- the calls of what an entry of this seat adds
+  added_calls : (call : Call) (entered : List Entry) (added : Option Entry) → IfSome added (λ e. (e.stamp.seat ≡ number) × (e.call ≡ call))
+      → calls_in (entries_of number (option_to_list added)) ≡ calls_recorded (record { call = call; entered = entered; added = added } ∷ [])
+  added_calls call entered None adds = refl
+  added_calls call entered (Some e) adds =
+      ap (λ b. calls_in (cond b (e ∷ []) [])) (eq-eqb e.stamp.seat number adds.0) ∙ ap (λ x. x ∷ []) adds.1
+
+  module _ (c : Config) where
+    -- after a call the seat's entries have it too, if it was recorded
+    list_left-entries : (from : List Entry) (m : MadeCall) → IsMadeAfter c number from m
+        → calls_in (entries_of number (list_left m)) ≡ calls_in (entries_of number from) ++ calls_recorded (m ∷ [])
+    list_left-entries from m is =
+        ap calls_in (entries_of-append number m.entered (option_to_list m.added))
+        ∙ map-append (λ (e : Entry). e.call) (entries_of number m.entered) (entries_of number (option_to_list m.added))
+        ∙ ap (λ l. calls_in l ++ calls_in (entries_of number (option_to_list m.added))) is.enters.same_own
+        ∙ ap (λ l. calls_in (entries_of number from) ++ l) (added_calls m.call m.entered m.added is.adds)
+
+    -- the seat's entries in the last list are those in the first, and the calls that were recorded
+    pub Leads-entries : (from : List Entry) (made : List MadeCall) (h : List Entry) → Leads c number from made h
+        → calls_in (entries_of number h) ≡ calls_in (entries_of number from) ++ calls_recorded made
+    Leads-entries from [] h leads = ap calls_in leads.same_own ∙ sym (append-nil (calls_in (entries_of number from)))
+    Leads-entries from (m ∷ ms) h leads =
+        Leads-entries (list_left m) ms h leads.1
+        ∙ ap (λ l. l ++ calls_recorded ms) (list_left-entries from m leads.0)
+        ∙ append_assoc (calls_in (entries_of number from)) (calls_recorded (m ∷ [])) (calls_recorded ms)
+        ∙ ap (λ l. calls_in (entries_of number from) ++ l) (sym (calls_recorded-append (m ∷ []) ms))
+
+    -- what leads to a list leads to what others make of it
+    pub Leads-longer : (from : List Entry) (made : List MadeCall) (h longer : List Entry) → GrowsByOthers number h longer
+        → Leads c number from made h → Leads c number from made longer
+    Leads-longer from [] h longer grows leads = GrowsByOthers-trans from h longer leads grows
+    Leads-longer from (m ∷ ms) h longer grows leads = (leads.0, Leads-longer (list_left m) ms h longer grows leads.1)
+
+    -- what leads from what others made of a list leads from that list
+    Leads-from : (start from : List Entry) (made : List MadeCall) (h : List Entry) → GrowsByOthers number start from
+        → Leads c number from made h → Leads c number start made h
+    Leads-from start from [] h grows leads = GrowsByOthers-trans start from h grows leads
+    Leads-from start from (m ∷ ms) h grows leads = (
+      record {
+        enters = GrowsByOthers-trans start from m.entered grows leads.0.enters;
+        adds = leads.0.adds;
+        leaves_out = leads.0.leaves_out;
+      },
+      leads.1,
+    )
+
+    -- some calls, and then more
+    pub Leads-append : (from : List Entry) (made more : List MadeCall) (mid h : List Entry) → Leads c number from made mid
+        → Leads c number mid more h → Leads c number from (made ++ more) h
+    Leads-append from [] more mid h first then = Leads-from from mid more h first then
+    Leads-append from (m ∷ ms) more mid h first then = (first.0, Leads-append (list_left m) ms more mid h first.1 then)
 
 -- one entry more
 pub count_maps-push : (h : List Entry) (i : ℕ) (d : Entry) → i < length h
-    → length (maps_in (take (i + 1) h)) ≡ length (maps_in (take i h)) + length (maps_in (get_or h i d ∷ []))
+    → length (maps_of (take (i + 1) h)) ≡ length (maps_of (take i h)) + length (maps_of (get_or h i d ∷ []))
 count_maps-push h i d below =
-    ap (λ l. length (maps_in l)) (take_more h i d below)
+    ap (λ l. length (maps_of l)) (take_more h i d below)
     ∙ ap length (filter_map-append (λ (e : Entry). map_by e.reply) (take i h) (get_or h i d ∷ []))
-    ∙ length-append (maps_in (take i h)) (maps_in (get_or h i d ∷ []))
+    ∙ length-append (maps_of (take i h)) (maps_of (get_or h i d ∷ []))
 
 -- an entry has one MAP at most
-pub one_map : (e : Entry) → length (maps_in (e ∷ [])) ≤ 1
+pub one_map : (e : Entry) → length (maps_of (e ∷ [])) ≤ 1
 one_map e = by (map_by e.reply)
   where
     by : (found : Option FrameMap) → length (filter_map (λ (o : Option FrameMap). o) (found ∷ [])) ≤ 1
@@ -78,9 +144,9 @@ one_map e = by (map_by e.reply)
     by None = omega arith
 
 -- a history has no more MAPs than entries
-pub count_maps-le : (h : List Entry) → length (maps_in h) ≤ length h
+pub count_maps-le : (h : List Entry) → length (maps_of h) ≤ length h
 count_maps-le [] = omega arith
 count_maps-le (e ∷ es) =
-    let more : length (maps_in (e ∷ es)) ≡ length (maps_in (e ∷ [])) + length (maps_in es) =
-    ap length (filter_map-append (λ (x : Entry). map_by x.reply) (e ∷ []) es) ∙ length-append (maps_in (e ∷ [])) (maps_in es) in
+    let more : length (maps_of (e ∷ es)) ≡ length (maps_of (e ∷ [])) + length (maps_of es) =
+    ap length (filter_map-append (λ (x : Entry). map_by x.reply) (e ∷ []) es) ∙ length-append (maps_of (e ∷ [])) (maps_of es) in
     omega (arith, more, one_map e, count_maps-le es)

@@ -1,26 +1,30 @@
 -- What one worker of a storm makes of its script with the seat that it is given.
-use Rattle.std.specs.Prelude.{◌≡◌, ◌++◌, ℕ, Bool, List, length, nat_lt}
+use Rattle.std.specs.Prelude.{◌≡◌, ℕ, Bool, List, [], ◌∷◌, length, nat_lt}
 use mathlib.Core.List.{IsPrefix}
 use Rattle.minislots.specs.declared.config.Config.{Config}
 use Rattle.sched_history.specs.declared.call.Call.{Call}
 use Rattle.sched_history.specs.declared.reply.Entry.{Entry}
-use Rattle.ticket_lock.specs.Standing.{Standing, seen, own}
-use Rattle.shared_sched.specs.Desk.{maker_of}
-use Rattle.sched_storm.specs.Made.{MadeCall, calls_made, calls_recorded, calls_in, left_out, LeavesOut}
+use Rattle.ticket_lock.specs.Standing.{Standing, seen}
+use Rattle.sched_storm.specs.Made.{MadeCall, is_recorded, calls_made, left_out_count, Leads}
 
--- these calls were made by a seat that stood so, and then stands so
+-- by making these calls, and no others, a seat came from the first standing to the second
 pub record Makes (c : Config) (s w : Standing Config Entry) (made : List MadeCall) : Type 0 where
   pub lock_is : w.lock ≡ s.lock
   pub number_is : w.number ≡ s.number
-  -- its own entries grow by the calls that were recorded, and the others may be left out of what it has seen
-  pub grown : IsPrefix (seen s) (seen w)
-  pub own_is : calls_in (own maker_of w) ≡ calls_in (own maker_of s) ++ calls_recorded made
-  pub others : LeavesOut c (seen w) made
+  pub leads : Leads c s.number (seen s) made (seen w)
+
+-- by making this call, which was recorded or not, a seat came from the first standing to the second
+pub record MakesOne (c : Config) (s w : Standing Config Entry) (call : Call) (recorded : Bool) : Type 0 where
+  pub made : MadeCall
+  pub call_is : made.call ≡ call
+  pub recorded_is : is_recorded made ≡ recorded
+  pub makes : Makes c s w (made ∷ [])
 
 -- a worker with this seat made calls of its script, so many of which were not recorded, and was held or made all of them
-pub record HasWorked (c : Config) (s : Standing Config Entry) (script : List Call) (w : Standing Config Entry) (unrecorded : ℕ) (held : Bool) : Type 0 where
+pub record HasWorked (c : Config) (s : Standing Config Entry) (script : List Call) (w : Standing Config Entry) (unrecorded : ℕ)
+    (held : Bool) : Type 0 where
   pub made : List MadeCall
   pub makes : Makes c s w made
   pub front : IsPrefix (calls_made made) script
-  pub unrecorded_is : unrecorded ≡ left_out made
+  pub unrecorded_is : unrecorded ≡ left_out_count made
   pub held_is : held ≡ nat_lt (length made) (length script)

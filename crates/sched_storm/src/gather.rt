@@ -1,6 +1,6 @@
 //! What the workers of a storm gave back, put together.
 
-ghost use Rattle.std.specs.Prelude.{◌≡◌, ◌≤◌, ◌<◌, ◌+◌, ◌^◌, [], map, reverse, vec_len, vec_capacity};
+ghost use Rattle.std.specs.Prelude.{◌≡◌, ◌≤◌, ◌<◌, ◌^◌, [], map, reverse, vec_len, vec_capacity};
 ghost use Rattle.ticket_lock.specs.Rule.{Every};
 ghost use Rattle.sched_storm.specs.Jobs.{unrecorded_by, first_held};
 
@@ -19,7 +19,7 @@ pub struct Gathered {
 /// last first.
 pub fn gather(done: Vec<Worked>, seats: Vec<Seat<Desk>>) -> Gathered
     requires empty { seats.items ≡ [] }
-    requires room { vec_len done + vec_len seats ≤ vec_capacity seats }
+    requires room { vec_len done ≤ vec_capacity seats }
     requires workers { vec_len done ≤ 16 }
     requires few { Every (λ w. w.unrecorded < 2 ^ 59) done.items }
     ensures seats { result.seats.items ≡ reverse (map (λ w. w.seat) done.items) }

@@ -1,9 +1,9 @@
 //! The threads of a storm: one for each worker, and what they give back.
 
-ghost use Rattle.std.specs.Prelude.{◌≡◌, ◌≤◌, ◌+◌, [], reverse, vec_len, vec_capacity};
+ghost use Rattle.std.specs.Prelude.{◌≡◌, ◌≤◌, [], reverse, vec_len, vec_capacity};
 ghost use Rattle.std.specs.List.{AllZip};
 ghost use Rattle.ticket_lock.specs.Rule.{Every};
-ghost use Rattle.sched_storm.specs.Jobs.{IsKeptBy, IsJob, IsReady, GivesBack, EachOf, calls_each};
+ghost use Rattle.sched_storm.specs.Jobs.{IsResultOf, IsJob, IsReady, GivesBack, EachOf, calls_each};
 
 use crate::gate::Gate;
 use crate::worker::{Worked, work};
@@ -27,7 +27,7 @@ pub struct Given {
 }
 
 impl Promise<Worked> for Given {
-    ghost kept_by = { λ given worked. IsKeptBy given.shared.value.config given.seat.value given.script.value.items worked };
+    ghost kept_by = { λ given worked. IsResultOf given.shared.value.config given.seat.value given.script.value.items worked };
 }
 
 /// A worker that runs, or one that got no thread and was ended.
@@ -57,7 +57,7 @@ pub fn start<'s, E: 's, R: Wait + Sync, G: Gate>(
     };
     let run = move || -> Worked
         requires { seat.lock ≡ shared.now.lock }
-        ensures { IsKeptBy shared.entry.now.config seat script.items result }
+        ensures { IsResultOf shared.entry.now.config seat script.items result }
     { work(rt, shared, gate, stop, seat, &script) };
     match scope.spawn_with(given, run) {
         Ok(handle) => Job::Started(handle),
@@ -82,9 +82,9 @@ pub fn start_all<'s, E: 's, R: Wait + Sync, G: Gate>(
     requires own { Every (λ s. s.lock ≡ shared.now.lock) seats.items }
     requires each { vec_len seats ≡ vec_len scripts }
     requires empty { jobs.items ≡ [] }
-    requires room { vec_len seats + vec_len jobs ≤ vec_capacity jobs }
+    requires room { vec_len seats ≤ vec_capacity jobs }
     ensures started { EachOf (IsJob shared.now.config) seats.items (calls_each scripts.items) (reverse result.items) }
-    ensures room { vec_len result ≤ vec_len seats + vec_len jobs }
+    ensures room { vec_len result ≤ vec_len seats }
 {
     let (mut seats, mut scripts, mut jobs) = (seats, scripts, jobs);
     while let Some(seat) = seats.pop() {
@@ -130,14 +130,14 @@ pub fn run_workers<R: Threads + Wait + Sync, G: Gate>(
     rooms: (Vec<Job>, Vec<Worked>),
 ) -> Vec<Worked>
     requires ready { IsReady shared.now.lock seats scripts rooms.0 rooms.1 }
-    ensures worked { EachOf (IsKeptBy shared.now.config) seats.items (calls_each scripts.items) result.items }
+    ensures worked { EachOf (IsResultOf shared.now.config) seats.items (calls_each scripts.items) result.items }
 {
     thread::scope(
         thread::scope_env(),
         rt,
         move |scope| -> Vec<Worked>
             requires { IsReady shared.now.lock seats scripts rooms.0 rooms.1 }
-            ensures { EachOf (IsKeptBy shared.entry.now.config) seats.items (calls_each scripts.items) result.items }
+            ensures { EachOf (IsResultOf shared.entry.now.config) seats.items (calls_each scripts.items) result.items }
         {
             let (jobs, done) = rooms;
             let jobs = start_all(scope, rt, shared, gate, stop, seats, scripts, jobs);

@@ -1,8 +1,8 @@
 //! A storm: scripts that threads run at the same time, each with a seat of its own, on one scheduler.
 
-ghost use Rattle.std.specs.Prelude.{◌≡◌, ◌⊎◌, ◌<◌, ◌≤◌, ◌+◌, ◌↔◌, IfOk, IsErrOf, [], vec_len, vec_capacity};
+ghost use Rattle.std.specs.Prelude.{◌≡◌, ◌⊎◌, ◌<◌, ◌≤◌, ◌↔◌, IfOk, IsErrOf, [], vec_len, vec_capacity};
 ghost use Rattle.sched_storm.specs.Jobs.{calls_each};
-ghost use Rattle.sched_storm.specs.Storm.{IsTally, CameFrom};
+ghost use Rattle.sched_storm.specs.Storm.{IsTally, AreResultsOf};
 
 use crate::gate::Gate;
 use crate::gather::{Gathered, gather};
@@ -32,9 +32,9 @@ struct Rooms {
 
 /// Makes room for so many workers.
 fn reserve(alloc: Global, workers: usize) -> Result<Rooms, AllocError>
-    ensures jobs { IfOk result (λ r. (r.jobs.items ≡ []) × (vec_len r.jobs ≡ 0) × (vec_capacity r.jobs ≡ workers)) }
+    ensures jobs { IfOk result (λ r. (r.jobs.items ≡ []) × (vec_capacity r.jobs ≡ workers)) }
     ensures done { IfOk result (λ r. (r.done.items ≡ []) × (vec_capacity r.done ≡ workers)) }
-    ensures row { IfOk result (λ r. (r.row.items ≡ []) × (vec_len r.row ≡ 0) × (vec_capacity r.row ≡ workers)) }
+    ensures row { IfOk result (λ r. (r.row.items ≡ []) × (vec_capacity r.row ≡ workers)) }
 {
     Ok(Rooms {
         jobs: Vec::with_capacity(alloc, workers)?,
@@ -50,9 +50,9 @@ fn close(
     done: Vec<Worked>,
     row: Vec<Seat<Desk>>,
 ) -> Tally
-    requires came { CameFrom shared.config shared.lock (calls_each scripts.value.items) done.items }
+    requires results { AreResultsOf shared.config shared.lock (calls_each scripts.value.items) done.items }
     requires empty { row.items ≡ [] }
-    requires room { vec_len done + vec_len row ≤ vec_capacity row }
+    requires room { vec_len done ≤ vec_capacity row }
     ensures tally { IsTally shared.config (calls_each scripts.value.items) result }
 {
     let Gathered {
@@ -71,10 +71,10 @@ fn close(
     }
 }
 
-/// Runs 1 to 16 scripts at the same time on a new scheduler of this configuration: script i has a thread, which
-/// is worker i, and seat i. Before each call its worker asks the gate and yields until the gate lets it pass; a
-/// worker that asked 1000000 times makes no more calls, and is held. After each call the gate is told. It waits
-/// until all workers have ended. Where a thread was not started, there is no tally.
+/// Runs 1 to 16 scripts at the same time on a new scheduler of this configuration: script i has a thread,
+/// which is worker i, and seat i. Before each call its worker asks the gate and yields until the gate lets it
+/// pass; a worker that asked 1000000 times in vain makes no more calls, and is held. After each call the gate
+/// is told. It waits until all workers have ended. Where a thread was not started, there is no tally.
 pub fn storm_with<R: Threads + Wait + Sync, G: Gate>(
     rt: &R,
     alloc: Global,

@@ -1,7 +1,7 @@
 //! What a storm tells, and why there is none.
 
 ghost use Rattle.std.specs.Prelude.{◌≡◌, [], ◌∷◌, length};
-ghost use Rattle.sched_storm.specs.Made.{maps_in};
+ghost use Rattle.sched_history.specs.Facts.{maps_of};
 
 use sched_history::{Entry, Reply};
 use thiserror::Error;
@@ -18,11 +18,11 @@ pub struct Tally {
     pub unrecorded: u64,
     /// How many MAPs the history has.
     pub maps: u64,
-    /// The first worker that its gate held, if any.
+    /// The least of the workers that their gates held, if any.
     pub held: Option<usize>,
 }
 
-/// Why there is no tally, in the order of the tests.
+/// Why there is no tally.
 #[derive(Clone, Copy, Debug, PartialEq, Eq, Drop, Error)]
 pub enum StormFault {
     /// The number of scripts is not from 1 to 16.
@@ -38,7 +38,7 @@ pub enum StormFault {
 
 /// How many MAPs an entry has.
 fn count_map(entry: &Entry) -> u64
-    ensures { result ≡ length (maps_in (entry.now ∷ [])) }
+    ensures { result ≡ length (maps_of (entry.now ∷ [])) }
 {
     match entry.reply {
         Reply::Built(_) => 1,
@@ -48,7 +48,7 @@ fn count_map(entry: &Entry) -> u64
 
 /// How many MAPs a history has.
 pub fn count_maps(history: &[Entry]) -> u64
-    ensures { result ≡ length (maps_in history.now) }
+    ensures { result ≡ length (maps_of history.now) }
 {
     let mut maps = 0;
     for entry in history {

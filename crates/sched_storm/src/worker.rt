@@ -1,7 +1,7 @@
 //! One worker of a storm: the calls that it makes by its seat.
 
-ghost use Rattle.std.specs.Prelude.{◌≡◌, ◌<◌, ◌^◌, [], ◌∷◌, length};
-ghost use Rattle.sched_storm.specs.Work.{Makes, HasWorked};
+ghost use Rattle.std.specs.Prelude.{◌≡◌, ◌<◌, ◌^◌, length};
+ghost use Rattle.sched_storm.specs.Work.{MakesOne, HasWorked};
 
 use crate::gate::Gate;
 use sched_history::Call;
@@ -26,7 +26,8 @@ pub struct Worked {
     pub held: bool,
 }
 
-/// Whether the worker may make its call at this place. The storm's end holds it too.
+/// Whether the worker may make its call at this place. The gate holds it, and so does the stop of a storm in
+/// which a thread was not started.
 fn passes(gate: &impl Gate, stop: &AtomicBool, worker: usize, index: usize) -> bool {
     for _ in 0..MAX_TURNS {
         if stop.load(SeqCst) {
@@ -43,7 +44,7 @@ fn passes(gate: &impl Gate, stop: &AtomicBool, worker: usize, index: usize) -> b
 /// Makes a call by this seat, and tells whether it was recorded.
 fn make_call(rt: &impl Wait, shared: &Shared, seat: Seat<Desk>, call: Call) -> (Seat<Desk>, bool)
     requires own { seat.lock ≡ shared.now.lock }
-    ensures makes { Makes shared.now.config seat result.0 (record { call = call; is_recorded = result.1 } ∷ []) }
+    ensures makes { MakesOne shared.now.config seat result.0 call result.1 }
 {
     let (seat, answer) = shared.call(rt, seat, call);
     (seat, answer.is_ok())

@@ -79,6 +79,40 @@ fn a_new_life_forgets_the_old_one(rt: HostRuntime) -> Result<(), Fail> {
     Ok(())
 }
 
+// Clocks, and the elements of the MAP that is built then: two flows of one priority take turns.
+const TURNS: [(u64, [u64; 5]); 3] = [
+    (
+        800,
+        [
+            0xfffc_4000,
+            0x0051_8004,
+            0x0001_c028,
+            0x0051_8028,
+            0x0055_8028,
+        ],
+    ),
+    (
+        840,
+        [
+            0xfffc_4000,
+            0x0055_8004,
+            0x0001_c028,
+            0x0051_8028,
+            0x0055_8028,
+        ],
+    ),
+    (
+        880,
+        [
+            0xfffc_4000,
+            0x0051_8004,
+            0x0001_8023,
+            0x0001_c028,
+            0x0055_8028,
+        ],
+    ),
+];
+
 #[test]
 fn flows_of_one_priority_take_turns(rt: HostRuntime) -> Result<(), Fail> {
     let mut scheduler = open(rt.alloc(), BASE)?;
@@ -90,38 +124,7 @@ fn flows_of_one_priority_take_turns(rt: HostRuntime) -> Result<(), Fail> {
         (ask(21, 1000, 801), Outcome::Taken),
     ];
     assert_eq!(rt; first_other(&mut scheduler, &rows), None);
-    for (now, words) in [
-        (
-            800,
-            [
-                0xfffc_4000,
-                0x0051_8004,
-                0x0001_c028,
-                0x0051_8028,
-                0x0055_8028,
-            ],
-        ),
-        (
-            840,
-            [
-                0xfffc_4000,
-                0x0055_8004,
-                0x0001_c028,
-                0x0051_8028,
-                0x0055_8028,
-            ],
-        ),
-        (
-            880,
-            [
-                0xfffc_4000,
-                0x0051_8004,
-                0x0001_8023,
-                0x0001_c028,
-                0x0055_8028,
-            ],
-        ),
-    ] {
+    for (now, words) in TURNS {
         let rows = [(build(now), Outcome::Built(now + 40, 800))];
         assert_eq!(rt; first_other(&mut scheduler, &rows), None, "at {now}");
         assert!(rt; newest_has(&mut scheduler, &words), "built at {now}");

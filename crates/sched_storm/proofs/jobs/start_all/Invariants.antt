@@ -8,7 +8,7 @@ invariant-loop-seat g l = record {
   so_far : Starting l.shared.config l.shared.lock l.initial.seats.items l.initial.scripts.items l.seats.items l.scripts.items l.jobs.items;
   each : vec_len l.seats ≡ vec_len l.scripts;
   room : vec_len l.seats + vec_len l.jobs ≤ vec_capacity l.jobs;
-  count : vec_len l.seats + vec_len l.jobs ≡ vec_len l.initial.seats + vec_len l.initial.jobs;
+  count : vec_len l.seats + vec_len l.jobs ≡ vec_len l.initial.seats;
 }
 
 abbrev pub decreases-loop-seat : goal.decreases-loop-seat

@@ -1,7 +1,7 @@
 -- The MAPs so far.
 use Rattle.std.proofs.Common.{◌≡◌, length, take}
-use Rattle.sched_storm.specs.Made.{maps_in}
+use Rattle.sched_history.specs.Facts.{maps_of}
 use Rattle.sched_storm.proofs.tally.count_maps.Given as goal
 
 abbrev pub invariant-loop-entry : goal.invariant-loop-entry
-invariant-loop-entry l = l.maps ≡ length (maps_in (take l.entry-index l.history))
+invariant-loop-entry l = l.maps ≡ length (maps_of (take l.entry-index l.history))
