@@ -1,11 +1,10 @@
 -- What a storm reads and writes.
-use Rattle.std.specs.Prelude.{◌≡◌, ◌↔◌, ℕ, Bool, true, List, length, Option, None, Ok, Err}
+use Rattle.std.specs.Prelude.{◌≡◌, ◌↔◌, ℕ, Bool, true, List, length, Option, None, Ok}
 use Rattle.std.specs.Io.KnownBytes.{Appends}
 use Rattle.sched_text.specs.declared.fault.RunFault.{RunFault}
 use Rattle.sched_text.specs.declared.fault.RunFault.TheVariants.{Input, TooLong, NotJson, Shape, Config, Memory, Output, Threads}
 use Rattle.sched_storm.specs.declared.tally.Tally.{Tally}
-use Rattle.sched_text.specs.Input.{ReadsTooMany}
-use Rattle.sched_text.specs.StormScript.{Storm, GivesStorm}
+use Rattle.sched_text.specs.StormScript.{Storm, GivesStorm, StopsStormScript}
 use Rattle.sched_storm.specs.Storm.{IsTally}
 use Rattle.mapsched.specs.StormLines.{tally_text}
 
@@ -19,13 +18,13 @@ pub record Stormed (unread left written_before written_after : Option (List ℕ)
   pub written : Appends written_before written_after (tally_text (length storm.scripts) tally)
   pub free_is : free ≡ true ↔ (tally.held ≡ None)
 
--- why a storm ends: a thread or a write is tried only after a whole script was read; want of memory and a failed read tell nothing more
+-- why a storm ends: there is no script, or a thread or a write was tried after a whole one was read
 abbrev pub StopsStorm : Option (List ℕ) → Option (List ℕ) → RunFault → Type 0
-StopsStorm unread left Input = Unit {0}
-StopsStorm unread left TooLong = ReadsTooMany unread left
-StopsStorm unread left NotJson = GivesStorm unread left (Err NotJson)
-StopsStorm unread left (Shape n) = GivesStorm unread left (Err (Shape n))
-StopsStorm unread left (Config field) = GivesStorm unread left (Err (Config field))
-StopsStorm unread left Memory = Unit {0}
+StopsStorm unread left Input = StopsStormScript unread left Input
+StopsStorm unread left TooLong = StopsStormScript unread left TooLong
+StopsStorm unread left NotJson = StopsStormScript unread left NotJson
+StopsStorm unread left (Shape n) = StopsStormScript unread left (Shape n)
+StopsStorm unread left (Config field) = StopsStormScript unread left (Config field)
+StopsStorm unread left Memory = StopsStormScript unread left Memory
 StopsStorm unread left Output = (storm : Storm) × GivesStorm unread left (Ok storm)
 StopsStorm unread left Threads = (storm : Storm) × GivesStorm unread left (Ok storm)

@@ -17,7 +17,7 @@ use std::thread::Threads;
 
 /// Reads a script of a storm, a configuration and 1 to 16 scripts in JSON, to the reader's end, runs the scripts
 /// at the same time, and writes the lines of their tally: one for each seat with its number and its count, then
-/// the number of calls that were not recorded, that of the MAPs, and the least worker that its gate held, if any.
+/// the number of calls that were not recorded, that of the MAPs, and the least of the workers that the gate held, if any.
 /// Answers whether no worker was held. Nothing is written before another fault than one of output.
 pub fn run_storm<R: Threads + Wait + Sync, I: Read, W: Write, G: Gate>(
     rt: &R,

@@ -50,7 +50,7 @@ abbrev pub first_held : ℕ → List Worked → Option ℕ
 first_held number [] = None
 first_held number (w ∷ ws) = if w.held then Some number else first_held (number + 1) ws
 
--- there is a script for each seat of the lock, and room for as many threads and for what they give back
+-- there is a script for each of these seats, which are of the lock, and room for as many threads and for what they give back
 pub record IsReady (lock : Lock Config Entry) (seats : Vec (Standing Config Entry)) (scripts : Vec (Vec Call)) (jobs : Vec Job)
     (done : Vec Worked) : Type 0 where
   pub own : Every (λ s. s.lock ≡ lock) seats.items

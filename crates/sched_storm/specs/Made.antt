@@ -1,4 +1,4 @@
--- The calls that a worker of a storm made, and the lists that its seat entered with them.
+-- The calls that a worker of a storm made, and the lists that its seat found when it entered the lock with them: the lists entered.
 use Rattle.std.specs.Prelude.{◌≡◌, ◌⊎◌, ◌≤◌, ◌++◌, ℕ, Bool, not, List, [], ◌∷◌, length, map, filter, Option, is_some, IfSome, IfNone}
 use Rattle.std.specs.Option.{option_to_list}
 use mathlib.Core.List.{IsPrefix}
@@ -8,7 +8,7 @@ use Rattle.sched_history.specs.declared.reply.Entry.{Entry}
 use Rattle.sched_history.specs.Machine.{MayLackMemory}
 use Rattle.shared_sched.specs.Closed.{entries_of}
 
--- a call that a worker made: the list that its seat entered with it, and the entry that it added to that list, if any
+-- a call that a worker made: the list entered with it, and the entry that it added to that list, if any
 pub record MadeCall : Type 0 where
   pub call : Call
   pub entered : List Entry
@@ -49,7 +49,7 @@ pub record GrowsByOthers (number : ℕ) (from to : List Entry) : Type 0 where
 
 -- the seat with this number, which had seen this list, made this call
 pub record IsMadeAfter (c : Config) (number : ℕ) (from : List Entry) (m : MadeCall) : Type 0 where
-  -- since then others alone had added to the list that it entered
+  -- since then others alone had added to the list entered
   pub enters : GrowsByOthers number from m.entered
   -- it added an entry of its own with this call, or the call may be left out
   pub adds : IfSome m.added (λ e. (e.stamp.seat ≡ number) × (e.call ≡ m.call))

@@ -31,7 +31,7 @@ EachHasMade c h number [] (made ∷ rest) = ⊥
 EachHasMade c h number (script ∷ scripts) [] = ⊥
 EachHasMade c h number (script ∷ scripts) (made ∷ rest) = HasMade c h number script made × EachHasMade c h (number + 1) scripts rest
 
--- the first worker, from this number on, that made fewer calls than its script has: its gate held it
+-- the first that made fewer calls than its script has, of workers of which the first has this number: the gate held it
 abbrev pub held_of : ℕ → List (List Call) → List (List MadeCall) → Option ℕ
 held_of number [] mades = None
 held_of number (script ∷ scripts) [] = None
@@ -54,7 +54,7 @@ pub record IsTally (c : Config) (scripts : List (List Call)) (t : Tally) : Type 
   pub maps_is : t.maps ≡ length (maps_of t.history.items)
   pub held_is : t.held ≡ held_of 0 scripts made
 
--- these are the results of workers of these scripts, with the new seats of this lock, which has one for each and opened with no entries
+-- these are the results of workers of at most 16 scripts, with the new seats of this lock, which has one for each and opened with no entries
 pub record AreResultsOf (c : Config) (lock : Lock Config Entry) (scripts : List (List Call)) (done : List Worked) : Type 0 where
   pub each : EachOf (IsResultOf c) (map (new_standing lock) (range_with_len 0 (length scripts))) scripts done
   pub opening_is : opening_of lock ≡ []

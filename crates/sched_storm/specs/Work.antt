@@ -7,7 +7,7 @@ use Rattle.sched_history.specs.declared.reply.Entry.{Entry}
 use Rattle.ticket_lock.specs.Standing.{Standing, seen}
 use Rattle.sched_storm.specs.Made.{MadeCall, is_recorded, calls_made, left_out_count, Leads}
 
--- by making these calls, and no others, a seat came from the first standing to the second
+-- by making these calls, and no others in between, a seat came from the first standing to the second
 pub record Makes (c : Config) (s w : Standing Config Entry) (made : List MadeCall) : Type 0 where
   pub lock_is : w.lock ≡ s.lock
   pub number_is : w.number ≡ s.number

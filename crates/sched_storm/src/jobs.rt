@@ -68,7 +68,7 @@ pub fn start<'s, E: 's, R: Wait + Sync, G: Gate>(
     }
 }
 
-/// Starts a worker for each seat, with the script at the same place, the last first.
+/// Starts a worker for each seat, with the script at the same place, the last of the lists first.
 pub fn start_all<'s, E: 's, R: Wait + Sync, G: Gate>(
     scope: &Scope<'s, E>,
     rt: &'s R,
@@ -106,7 +106,7 @@ fn join(rt: &impl Threads, job: Job) -> Worked
     }
 }
 
-/// Waits until all workers have ended, the last one first.
+/// Waits until all workers have ended, the last of the list first.
 pub fn join_all(rt: &impl Threads, jobs: Vec<Job>, done: Vec<Worked>) -> Vec<Worked>
     requires empty { done.items ≡ [] }
     requires room { vec_len jobs ≤ vec_capacity done }

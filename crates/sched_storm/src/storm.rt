@@ -73,7 +73,7 @@ fn close(
 
 /// Runs 1 to 16 scripts at the same time on a new scheduler of this configuration: script i has a thread,
 /// which is worker i, and seat i. Before each call its worker asks the gate and yields until the gate lets it
-/// pass; a worker that asked 1000000 times in vain makes no more calls, and is held. After each call the gate
+/// pass; a worker that asked 1000000 times in vain before one call makes no more of them, and is held. After each call the gate
 /// is told. It waits until all workers have ended. Where a thread was not started, there is no tally.
 pub fn storm_with<R: Threads + Wait + Sync, G: Gate>(
     rt: &R,

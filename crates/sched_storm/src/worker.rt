@@ -26,8 +26,8 @@ pub struct Worked {
     pub held: bool,
 }
 
-/// Whether the worker may make its call at this place. The gate holds it, and so does the stop of a storm in
-/// which a thread was not started.
+/// Whether the worker may make its call at this place. The gate may hold it, and so does the stop of a
+/// storm in which a thread was not started.
 fn passes(gate: &impl Gate, stop: &AtomicBool, worker: usize, index: usize) -> bool {
     for _ in 0..MAX_TURNS {
         if stop.load(SeqCst) {

@@ -9,3 +9,4 @@ pub mod Written
 pub mod Profile
 pub mod StormCalls
 pub mod StormOutcome
+pub mod ReadBack

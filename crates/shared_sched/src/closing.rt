@@ -30,6 +30,7 @@ impl Shared {
     {
         let Shared { lock, config: _ } = self;
         let Desk { scheduler } = lock.close(seats);
+        let scheduler = Box::into_inner(scheduler);
         let history = scheduler.into_history();
         let counts = count_each(&history);
         Closed { history, counts }

@@ -10,7 +10,8 @@ use ticket_lock::Journal;
 /// The scheduler that the holder of the lock has. Contracts see its configuration and its history.
 #[derive(Drop)]
 pub struct Desk {
-    pub(crate) scheduler: Scheduler,
+    // On the heap, since each turn at the lock moves the desk several times.
+    pub(crate) scheduler: Box<Scheduler>,
 }
 
 impl Model for Desk {
@@ -18,7 +19,7 @@ impl Model for Desk {
 
     ghost Value = { Machine };
 
-    ghost view = { λ d. d.scheduler };
+    ghost view = { λ d. d.scheduler.value };
 }
 
 impl Journal for Desk {

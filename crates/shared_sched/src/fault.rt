@@ -7,7 +7,7 @@ pub enum OpenFault {
     /// The number of seats is not from 1 to 64.
     #[error("a scheduler has 1 to 64 seats")]
     SeatCount,
-    /// There was no memory for the history, the lock or the seats.
+    /// There was no memory for the scheduler, its history, the lock or the seats.
     #[error("out of memory")]
     Memory,
 }

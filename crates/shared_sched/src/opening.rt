@@ -31,6 +31,9 @@ pub fn open(
     let Ok(scheduler) = Scheduler::open(alloc, checked) else {
         return Err(OpenFault::Memory);
     };
+    let Ok(scheduler) = Box::new(alloc, scheduler) else {
+        return Err(OpenFault::Memory);
+    };
     let Ok((lock, row)) = TicketLock::open(alloc, Desk { scheduler }, seats, 0) else {
         return Err(OpenFault::Memory);
     };

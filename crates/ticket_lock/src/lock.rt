@@ -8,7 +8,7 @@ use crate::plays::{Draw, Leave, Look};
 use crate::seat::{Held, Seat, Ticket};
 use std::marker::Model;
 use std::sync::Wait;
-use std::thread;
+use std::{hint, thread};
 
 /// A value that one seat at a time holds, in the order of their tickets. Threads share it by a reference.
 pub struct TicketLock<T: Journal> {
@@ -30,6 +30,20 @@ impl<T: Journal> Model for TicketLock<T> {
 
     ghost invariant = { λ l. (l.table.shared.table_id.words ≡ 2)
         × (l.table.shared.table_id.slots ≡ 1) × (1 ≤ l.table.shared.key.seats) };
+}
+
+/// How often a waiting seat looks before it lets other threads run.
+const LOOKS: u32 = 100;
+
+/// What passes between two looks, after so many since other threads last ran; and how many there are then.
+fn pause(looks: u32) -> u32 {
+    if looks < LOOKS {
+        hint::spin_loop();
+        looks + 1
+    } else {
+        thread::yield_now();
+        0
+    }
 }
 
 /// Puts a value into the slot that the seat holds, and gives the one that was there.
@@ -95,12 +109,13 @@ impl<T: Journal> TicketLock<T> {
         ensures entered { Enters T.stamp T.head T.entries ticket result.0 result.1 }
     {
         let mut waiting = ticket;
+        let mut looks = 0;
         for _ in rt.forever() {
             match self.try_enter(waiting) {
                 Ok(entered) => return entered,
                 Err(back) => waiting = back,
             }
-            thread::yield_now();
+            looks = pause(looks);
         }
         unreachable!()
     }

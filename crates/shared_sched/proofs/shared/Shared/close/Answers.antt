@@ -17,25 +17,25 @@ use Rattle.shared_sched.proofs.shared.Shared.close.Goals as goal
 pub count_each-counts-requires : goal.count_each-counts-requires
 count_each-counts-requires c = record {
   seats = subst (All (λ (e : Entry). (maker_of e).seat < MAX_SEATS))
-      (sym (c.deref.ensures.value ∙ c.into_history-history.ensures.value ∙ ap history_of c.scheduler.view_is))
+      (sym (c.deref.ensures.value ∙ c.into_history-history.ensures.value ∙ ap history_of (c.into_inner-scheduler.ensures ∙ c.scheduler.view_is)))
       (seats_few c.self.inside.config c.self.inside.lock c.self.invariant c.args.seats.items c.close.result c.close.ensures.closed);
 }
 
 pub returns : goal.returns
 returns c =
     let x = c.close.result in
-    let d = c.scheduler.inside.scheduler in
+    let inside : c.into_inner-scheduler.result ≡ x = c.into_inner-scheduler.ensures ∙ c.scheduler.view_is in
     let items : c.into_history-history.result.items ≡ x.history =
-    c.into_history-history.ensures.value ∙ ap history_of c.scheduler.view_is in
+    c.into_history-history.ensures.value ∙ ap history_of inside in
     let counted : c.deref.result.now ≡ x.history = c.deref.ensures.value ∙ items in
     let legal : IsLegal x.config x.history =
-    subst (λ (m : Machine). IsLegal m.config m.history) c.scheduler.view_is c.into_history-history.ensures.legal in
+    subst (λ (m : Machine). IsLegal m.config m.history) inside c.into_history-history.ensures.legal in
     let within : length x.history ≤ x.config.calls =
-    subst (λ (m : Machine). length m.history ≤ m.config.calls) c.scheduler.view_is c.into_history-history.ensures.within in
+    subst (λ (m : Machine). length m.history ≤ m.config.calls) inside c.into_history-history.ensures.within in
     let encodable : AllByRecursion (λ (e : Entry). IsEncodable e.reply) x.history =
-    subst (λ (m : Machine). AllByRecursion (λ (e : Entry). IsEncodable e.reply) m.history) c.scheduler.view_is c.into_history-history.ensures.encodable in
+    subst (λ (m : Machine). AllByRecursion (λ (e : Entry). IsEncodable e.reply) m.history) inside c.into_history-history.ensures.encodable in
     let facts : FollowsAlways x.config x.history =
-    subst (λ (m : Machine). FollowsAlways m.config m.history) c.scheduler.view_is c.into_history-history.ensures.facts in
+    subst (λ (m : Machine). FollowsAlways m.config m.history) inside c.into_history-history.ensures.facts in
     let counts = c.count_each-counts.result in
     let told : ClosesTo c.self.inside.config c.self.inside.lock c.args.seats.items x.history counts =
     closes_to c.self.inside.config c.self.inside.lock c.self.invariant c.args.seats.items x c.close.ensures.closed
