@@ -1,9 +1,9 @@
--- The four seats of a lock, as they are passed about.
-use Rattle.std.specs.Prelude.{◌≡◌}
+-- The seats of a lock, as they are passed about.
+use Rattle.std.specs.Prelude.{◌≡◌, List}
 use Rattle.minislots.specs.declared.stamp.Stamp.{Stamp}
-use Rattle.ticket_lock.specs.Standing.{Lock}
-use Rattle.bench.specs.declared.locked.Row.{Row}
+use Rattle.ticket_lock.specs.Rule.{Every}
+use Rattle.ticket_lock.specs.Standing.{Lock, Standing}
 
--- all four are seats of this lock
-abbrev pub IsRowOf : Lock (Unit {0}) Stamp → Row → Type 0
-IsRowOf lock row = (row.zero.lock ≡ lock) × (row.one.lock ≡ lock) × (row.two.lock ≡ lock) × (row.three.lock ≡ lock)
+-- all of them are of this lock
+abbrev pub AreSeatsOf : Lock (Unit {0}) Stamp → List (Standing (Unit {0}) Stamp) → Type 0
+AreSeatsOf lock seats = Every (λ s. s.lock ≡ lock) seats

@@ -1,13 +1,13 @@
 //! The costliest admission and the costliest frame that there are: a placement that is sought everywhere in a
 //! cycle of 64 frames beside 39 others, and a MAP of 93 data grants and 40 polls.
 
+use crate::run::{figure, now};
 use flow_book::FlowSpec;
 use map_build::FrameMap;
 use minislots::{Config, Stamp};
-use sched_history::{Call, Refusal, Reply, Scheduler};
+use sched_history::{Call, Refusal, Reply, Scheduler, Unrecorded};
 use std::alloc::Global;
-use std::io;
-use std::time::{Clock, Instant};
+use std::time::Clock;
 
 /// Frames of 1024 minislots of 25 microseconds.
 pub const WIDE: Config = Config {
@@ -33,26 +33,31 @@ pub const WIDE: Config = Config {
     ucd_count: 1,
 };
 
-/// The microseconds of one frame.
+// The microseconds of one frame.
 const FRAME_US: u32 = 25_600;
 
-/// All calls are made by one seat.
+// All calls are made by one seat.
 const STAMP: Stamp = Stamp { seat: 0, ticket: 0 };
 
-/// A figure that was taken of another call than is meant.
-fn another_call() -> io::Error {
-    io::Error::from(io::ErrorKind::InvalidData)
+// The replies that figures are taken of.
+#[derive(Clone, Copy)]
+enum Wanted {
+    NoPlace,
+    FullMap,
 }
 
-/// A scheduler of wide frames.
-fn open(alloc: Global) -> io::Result<Scheduler> {
+// A scheduler of wide frames.
+fn open(alloc: Global) -> Option<Scheduler> {
     let Ok(config) = WIDE.check() else {
-        return Err(another_call());
+        return None;
     };
-    Ok(Scheduler::open(alloc, config)?)
+    match Scheduler::open(alloc, config) {
+        Ok(scheduler) => Some(scheduler),
+        Err(_) => None,
+    }
 }
 
-/// A flow of grants of 26 minislots, one every so many frames.
+// A flow of grants of 26 minislots, one every so many frames.
 fn grants_every(frames: u32, jitter_us: u32) -> FlowSpec {
     FlowSpec::Unsolicited {
         size: 384,
@@ -61,60 +66,82 @@ fn grants_every(frames: u32, jitter_us: u32) -> FlowSpec {
     }
 }
 
-/// Makes a call that is recorded.
-fn made(scheduler: &mut Scheduler, call: Call) -> io::Result<Reply> {
-    match scheduler.call(STAMP, call) {
-        Ok(reply) => Ok(reply),
-        Err(_) => Err(another_call()),
+// A flow of this SID with a ceiling: 40 are polled, and the others best effort.
+fn capped(sid: u16) -> FlowSpec {
+    let (rate, burst) = (4_000_000, 100_000);
+    if sid <= 40 {
+        FlowSpec::Polled {
+            interval_us: FRAME_US,
+            jitter_us: 0,
+            rate,
+            burst,
+        }
+    } else {
+        FlowSpec::BestEffort {
+            priority: 3,
+            rate,
+            burst,
+        }
     }
 }
 
-/// Makes a call, and answers its reply and how many nanoseconds it took.
-fn timed<R: Clock>(rt: &R, scheduler: &mut Scheduler, call: Call) -> io::Result<(Reply, u64)> {
-    let start = Instant::now(rt)?;
-    let reply = made(scheduler, call)?;
-    let took = Instant::now(rt)?.duration_since(start);
-    Ok((reply, u64::try_from(took.as_nanos()).unwrap_or(u64::MAX)))
+/// Makes a call of which nothing is told.
+pub fn make(scheduler: &mut Scheduler, stamp: Stamp, call: Call) {
+    let _answer = scheduler.call(stamp, call);
+}
+
+// Whether a MAP has 93 data grants, 40 polls, the request region, the Null and 64 pending grants.
+fn is_full(map: &FrameMap) -> bool {
+    let mut granted = 0u64;
+    for bytes in map.bytes.as_slice() {
+        if *bytes > 0 {
+            granted = granted.saturating_add(1);
+        }
+    }
+    granted == 93 && map.wire.elements.len() >= 199
+}
+
+// Whether a call was answered so.
+fn is_wanted(answer: &Result<Reply, Unrecorded>, wanted: Wanted) -> bool {
+    match answer {
+        Ok(Reply::Refused(Refusal::NoPlace)) => matches!(wanted, Wanted::NoPlace),
+        Ok(Reply::Built(map)) => matches!(wanted, Wanted::FullMap) && is_full(map),
+        _ => false,
+    }
+}
+
+// The nanoseconds of a call with this reply.
+fn time_call<R: Clock>(
+    rt: &R,
+    scheduler: &mut Scheduler,
+    call: Call,
+    wanted: Wanted,
+) -> Option<u64> {
+    let start = now(rt);
+    let answer = scheduler.call(STAMP, call);
+    let end = now(rt);
+    let is_whole = is_wanted(&answer, wanted);
+    figure(start, end, is_whole)
 }
 
 /// The nanoseconds of an admission that finds no place in any frame of the cycle: 39 flows fill each of them.
-pub fn time_admission<R: Clock>(rt: &R, alloc: Global) -> io::Result<u64> {
+pub fn time_admission<R: Clock>(rt: &R, alloc: Global) -> Option<u64> {
     let mut scheduler = open(alloc)?;
     for sid in 1..40u16 {
-        made(&mut scheduler, Call::Admit(sid, grants_every(1, 0)))?;
+        make(&mut scheduler, STAMP, Call::Admit(sid, grants_every(1, 0)));
     }
     let wanted = Call::Admit(40, grants_every(64, FRAME_US));
-    match timed(rt, &mut scheduler, wanted)? {
-        (Reply::Refused(Refusal::NoPlace), nanos) => Ok(nanos),
-        _ => Err(another_call()),
-    }
+    time_call(rt, &mut scheduler, wanted, Wanted::NoPlace)
 }
 
-/// Admits 40 polled flows and 24 best effort ones, with ceilings.
-fn admit_all(scheduler: &mut Scheduler) -> io::Result<()> {
-    let (rate, burst) = (4_000_000, 100_000);
+/// The nanoseconds of a build with 93 data grants, 40 polls and 64 pending grants: each of 64 flows has asked for
+/// more than a frame carries.
+pub fn time_build<R: Clock>(rt: &R, alloc: Global) -> Option<u64> {
+    let mut scheduler = open(alloc)?;
     for sid in 1..65u16 {
-        let spec = if sid <= 40 {
-            FlowSpec::Polled {
-                interval_us: FRAME_US,
-                jitter_us: 0,
-                rate,
-                burst,
-            }
-        } else {
-            FlowSpec::BestEffort {
-                priority: 3,
-                rate,
-                burst,
-            }
-        };
-        made(scheduler, Call::Admit(sid, spec))?;
+        make(&mut scheduler, STAMP, Call::Admit(sid, capped(sid)));
     }
-    Ok(())
-}
-
-/// Has each of the 64 flows ask for more than a frame carries.
-fn ask_all(scheduler: &mut Scheduler) -> io::Result<()> {
+    make(&mut scheduler, STAMP, Call::Build { now: 102_400 });
     for sid in 1..65u16 {
         let ask = Call::Ask {
             receiver: 0,
@@ -122,35 +149,12 @@ fn ask_all(scheduler: &mut Scheduler) -> io::Result<()> {
             bytes: 64_000,
             heard: 102_400,
         };
-        made(scheduler, ask)?;
+        make(&mut scheduler, STAMP, ask);
     }
-    Ok(())
-}
-
-/// Whether a MAP has 93 data grants, 40 polls, the request region, the Null and 64 pending grants.
-fn is_full(map: &FrameMap) -> bool {
-    let granted = map
-        .bytes
-        .as_slice()
-        .iter()
-        .filter(|bytes| **bytes > 0)
-        .count();
-    granted == 93 && map.wire.elements.len() >= 199
-}
-
-/// The nanoseconds of a build with 93 data grants, 40 polls and 64 pending grants.
-pub fn time_build<R: Clock>(rt: &R, alloc: Global) -> io::Result<u64> {
-    let mut scheduler = open(alloc)?;
-    admit_all(&mut scheduler)?;
-    made(&mut scheduler, Call::Build { now: 102_400 })?;
-    ask_all(&mut scheduler)?;
-    let (reply, nanos) = timed(rt, &mut scheduler, Call::Build { now: 103_424 })?;
-    let Reply::Built(map) = reply else {
-        return Err(another_call());
-    };
-    if is_full(&map) {
-        Ok(nanos)
-    } else {
-        Err(another_call())
-    }
+    time_call(
+        rt,
+        &mut scheduler,
+        Call::Build { now: 103_424 },
+        Wanted::FullMap,
+    )
 }

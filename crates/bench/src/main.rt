@@ -14,18 +14,18 @@ use std::process::ExitCode;
 use std::rt::Env;
 use std::{env, io};
 
-/// The first word of the command line after the program's name.
+// The first word of the command line after the program's name.
 fn word_of(rt: &(impl Env + AllocGlobal)) -> io::Result<Option<String>> {
     let mut words = env::args(rt)?;
     let _name = words.next();
     Ok(words.next())
 }
 
-/// Ends with status 1 where a figure could not be taken or printed.
-fn status_of(outcome: io::Result<()>) -> ExitCode {
-    match outcome {
-        Ok(()) => ExitCode::SUCCESS,
-        Err(_) => ExitCode::FAILURE,
+// Ends with status 1 where a figure could not be taken or printed.
+fn status_of(printed: Option<()>) -> ExitCode {
+    match printed {
+        Some(()) => ExitCode::SUCCESS,
+        None => ExitCode::FAILURE,
     }
 }
 
@@ -33,18 +33,16 @@ fn main(rt: HostRuntime) -> ExitCode {
     let Ok(word) = word_of(&rt) else {
         return ExitCode::FAILURE;
     };
-    match word {
-        None => ExitCode::SUCCESS,
-        Some(word) => {
-            match word.as_str() {
-                "lock" => status_of(table::print_lock(&rt, rt.alloc())),
-                "storm" => status_of(table::print_storm(&rt, rt.alloc())),
-                "frames" => status_of(table::print_frames(&rt, rt.alloc())),
-                _ => {
-                    let _ = rt.eprintln("usage: bench [lock|frames|storm]");
-                    ExitCode::from(2)
-                }
-            }
+    let Some(word) = word else {
+        return ExitCode::SUCCESS;
+    };
+    match word.as_str() {
+        "lock" => status_of(table::print_lock(&rt, rt.alloc())),
+        "storm" => status_of(table::print_storm(&rt, rt.alloc())),
+        "frames" => status_of(table::print_frames(&rt, rt.alloc())),
+        _ => {
+            let _ = rt.eprintln("usage: bench [lock|frames|storm]");
+            ExitCode::from(2)
         }
     }
 }

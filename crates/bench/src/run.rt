@@ -1,31 +1,21 @@
-//! What one run of a lock was measured at.
-ghost use Rattle.std.specs.Prelude.{◌≡◌, length};
+//! How long a run took.
 
-use crate::tally::Tally;
-use std::time::Instant;
+use std::time::{Clock, Instant};
 
-/// One run.
-#[derive(Clone, Copy)]
-pub struct Run {
-    /// How long all turns took.
-    pub nanos: u64,
-    /// The count at the end.
-    pub count: u64,
-    /// The number of entries at the end.
-    pub entries: u64,
+/// This moment, or none where the clock cannot be read.
+pub fn now<R: Clock>(rt: &R) -> Option<Instant> {
+    match Instant::now(rt) {
+        Ok(moment) => Some(moment),
+        Err(_) => None,
+    }
 }
 
-impl Run {
-    /// A run between these two moments, which has left this tally.
-    pub fn of(start: Instant, end: Instant, tally: &Tally) -> Run
-        ensures count { result.count ≡ tally.now.count }
-        ensures entries { result.entries ≡ length tally.now.list.items }
-    {
-        let took = end.duration_since(start);
-        Run {
-            nanos: u64::try_from(took.as_nanos()).unwrap_or(u64::MAX),
-            count: tally.count,
-            entries: tally.list.len() as u64,
-        }
+/// The nanoseconds between two moments, of a run that did what it was to do. None of any other.
+pub fn figure(start: Option<Instant>, end: Option<Instant>, is_whole: bool) -> Option<u64> {
+    let took = end?.duration_since(start?);
+    if is_whole {
+        Some(u64::try_from(took.as_nanos()).unwrap_or(u64::MAX))
+    } else {
+        None
     }
 }

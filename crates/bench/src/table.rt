@@ -1,141 +1,153 @@
-//! The table of figures.
-ghost use Rattle.std.specs.Prelude.{◌≡◌, IfOk};
+//! The tables of figures.
 
 use crate::frames::{time_admission, time_build};
 use crate::locked::time_lock;
 use crate::mutexed::time_mutex;
-use crate::run::Run;
-use crate::storms::{CALLS, TAKEN, time_bare, time_storm};
-use crate::tally::{Added, Workers};
+use crate::storms::{CALLS, time_bare, time_storm};
+use crate::tally::{Added, TURNS};
 use std::alloc::Global;
 use std::io;
 use std::sync::Wait;
 use std::thread::Threads;
 use std::time::Clock;
 
-/// How often each figure is taken. The middle one is shown.
+// How often each figure is taken. The middle one is shown.
 const RUNS: usize = 5;
 
-/// How long a run took. Fails where it has another count or another number of entries than it is to have.
-fn checked(run: Run, count: u64, entries: u64) -> io::Result<u64>
-    ensures count { IfOk result (λ _. run.count ≡ count) }
-    ensures entries { IfOk result (λ _. run.entries ≡ entries) }
-    ensures nanos { IfOk result (λ nanos. nanos ≡ run.nanos) }
-{
-    if run.count == count && run.entries == entries {
-        Ok(run.nanos)
-    } else {
-        Err(io::Error::from(io::ErrorKind::InvalidData))
+// What is left of a figure once it is printed: nothing, or none where it could not be.
+fn shown(printed: io::Result<()>) -> Option<()> {
+    match printed {
+        Ok(()) => Some(()),
+        Err(_) => None,
     }
 }
 
-/// Tenths of a nanosecond for each turn, of the run in the middle.
-fn middle(nanos: [u64; RUNS], workers: Workers) -> u64 {
+// The one in the middle.
+fn middle(nanos: [u64; RUNS]) -> u64 {
     let mut nanos = nanos;
     nanos.sort_unstable();
-    nanos[RUNS / 2].saturating_mul(10) / workers.turns()
+    nanos[RUNS / 2]
 }
 
-/// Takes the figures of both locks by turns, and prints one row.
+// The nanoseconds of runs at a ticket lock and at a mutex by turns, the middle one of each.
+fn lock_figures<R: Threads + Wait + Sync + Clock>(
+    rt: &R,
+    alloc: Global,
+    workers: usize,
+    added: Added,
+) -> Option<(u64, u64)> {
+    let (mut tickets, mut mutexes) = ([0u64; RUNS], [0u64; RUNS]);
+    for i in 0..RUNS {
+        tickets[i] = time_lock(rt, alloc, workers, added)?;
+        mutexes[i] = time_mutex(rt, alloc, workers, added)?;
+    }
+    Some((middle(tickets), middle(mutexes)))
+}
+
+// Tenths of a nanosecond for each turn of so many threads.
+fn tenths_of(nanos: u64, workers: usize) -> u64 {
+    nanos.saturating_mul(10) / (workers.saturating_mul(TURNS) as u64).max(1)
+}
+
+// Prints a number of tenths, hundredths or the like, with as many digits after the point.
+fn print_parts<R: Print>(
+    rt: &R,
+    width: usize,
+    number: u64,
+    parts: u64,
+    digits: usize,
+) -> Option<()> {
+    let (whole, rest) = (number / parts.max(1), number % parts.max(1));
+    shown(print!(rt; " {whole:>width$}.{rest:0digits$}"))
+}
+
+// Prints one row of the locks.
 fn print_row<R: Threads + Wait + Sync + Clock + Print>(
     rt: &R,
     alloc: Global,
-    workers: Workers,
+    workers: usize,
     added: Added,
-) -> io::Result<()> {
-    let count = workers.turns();
-    let entries = if added == Added::Entry { count } else { 0 };
-    let (mut tickets, mut mutexes) = ([0u64; RUNS], [0u64; RUNS]);
-    for i in 0..RUNS {
-        tickets[i] = checked(time_lock(rt, alloc, workers, added)?, count, entries)?;
-        mutexes[i] = checked(time_mutex(rt, alloc, workers, added)?, count, entries)?;
-    }
-    let (ticket, mutex) = (middle(tickets, workers), middle(mutexes, workers));
-    let ratio = ticket.saturating_mul(100) / mutex.max(1);
-    println!(rt;
-        "{:>7} {:>7} {:>9}.{} {:>9}.{} {:>5}.{:02}",
-        workers.count(),
-        added.name(),
-        ticket / 10,
-        ticket % 10,
-        mutex / 10,
-        mutex % 10,
-        ratio / 100,
-        ratio % 100
-    )
+) -> Option<()> {
+    let (ticket, mutex) = lock_figures(rt, alloc, workers, added)?;
+    let (ticket, mutex) = (tenths_of(ticket, workers), tenths_of(mutex, workers));
+    shown(print!(rt; "{workers:>7} {:>7}", added.name()))?;
+    print_parts(rt, 9, ticket, 10, 1)?;
+    print_parts(rt, 9, mutex, 10, 1)?;
+    print_parts(rt, 5, ticket.saturating_mul(100) / mutex.max(1), 100, 2)?;
+    shown(rt.println(""))
 }
 
 /// Prints the nanoseconds for each turn at a ticket lock, at a mutex, and the first as a multiple of the second.
-pub fn print_lock<R: Threads + Wait + Sync + Clock + Print>(
-    rt: &R,
-    alloc: Global,
-) -> io::Result<()> {
-    println!(rt; "threads   added ticket_lock       Mutex    ratio")?;
+pub fn print_lock<R: Threads + Wait + Sync + Clock + Print>(rt: &R, alloc: Global) -> Option<()> {
+    shown(rt.println("threads   added ticket_lock       Mutex    ratio"))?;
     for added in [Added::Nothing, Added::Entry] {
-        for workers in [Workers::One, Workers::Two, Workers::Four] {
+        for workers in [1, 2, 4] {
             print_row(rt, alloc, workers, added)?;
         }
     }
-    Ok(())
+    Some(())
+}
+
+// Prints the microseconds of a call.
+fn print_call<R: Print>(rt: &R, name: &str, nanos: u64) -> Option<()> {
+    shown(println!(rt; "{name}: {} microseconds", nanos / 1000))
 }
 
 /// Prints the microseconds of the costliest admission and of the costliest build.
-pub fn print_frames<R: Clock + Print>(rt: &R, alloc: Global) -> io::Result<()> {
+pub fn print_frames<R: Clock + Print>(rt: &R, alloc: Global) -> Option<()> {
     let (mut admissions, mut builds) = ([0u64; RUNS], [0u64; RUNS]);
     for i in 0..RUNS {
         admissions[i] = time_admission(rt, alloc)?;
         builds[i] = time_build(rt, alloc)?;
     }
-    admissions.sort_unstable();
-    builds.sort_unstable();
-    println!(rt; "no place: {} microseconds", admissions[RUNS / 2] / 1000)?;
-    println!(rt;
-        "93 grants and 40 polls: {} microseconds",
-        builds[RUNS / 2] / 1000
-    )
+    print_call(rt, "no place", middle(admissions))?;
+    print_call(rt, "93 grants and 40 polls", middle(builds))
 }
 
-/// Calls per second, of the run in the middle.
-fn rate(nanos: [u64; RUNS], calls: u64) -> u64 {
-    let mut nanos = nanos;
-    nanos.sort_unstable();
-    calls.saturating_mul(1_000_000_000) / nanos[RUNS / 2].max(1)
+// Calls per second.
+fn rate(nanos: u64, calls: usize) -> u64 {
+    (calls as u64).saturating_mul(1_000_000_000) / nanos.max(1)
 }
 
-/// Calls per second of a storm of so many workers.
+// Calls per second of a scheduler without a lock.
+fn bare_rate<R: Clock>(rt: &R, alloc: Global) -> Option<u64> {
+    let mut nanos = [0u64; RUNS];
+    for i in 0..RUNS {
+        nanos[i] = time_bare(rt, alloc)?;
+    }
+    Some(rate(middle(nanos), CALLS))
+}
+
+// Calls per second of a storm of so many workers.
 fn storm_rate<R: Threads + Wait + Sync + Clock>(
     rt: &R,
     alloc: Global,
-    workers: u64,
-) -> io::Result<u64> {
-    let (calls, taken) = (workers.saturating_mul(CALLS), workers.saturating_mul(TAKEN));
+    workers: usize,
+) -> Option<u64> {
     let mut nanos = [0u64; RUNS];
     for i in 0..RUNS {
-        nanos[i] = checked(time_storm(rt, alloc, workers as usize)?, taken, calls)?;
+        nanos[i] = time_storm(rt, alloc, workers)?;
     }
-    Ok(rate(nanos, calls))
+    Some(rate(middle(nanos), workers.saturating_mul(CALLS)))
+}
+
+// Prints the rest of a row of the storms.
+fn print_rate<R: Print>(rt: &R, calls: u64, bare: u64) -> Option<()> {
+    shown(print!(rt; " {calls:>16}"))?;
+    print_parts(rt, 3, calls.saturating_mul(1000) / bare.max(1), 1000, 3)?;
+    shown(rt.println(""))
 }
 
 /// Prints the calls per second of a scheduler without a lock, and of storms, as multiples of the first.
-pub fn print_storm<R: Threads + Wait + Sync + Clock + Print>(
-    rt: &R,
-    alloc: Global,
-) -> io::Result<()> {
-    println!(rt; "workers calls per second   ratio")?;
-    let mut nanos = [0u64; RUNS];
-    for i in 0..RUNS {
-        nanos[i] = checked(time_bare(rt, alloc)?, TAKEN, CALLS)?;
-    }
-    let bare = rate(nanos, CALLS);
-    println!(rt; "no lock {bare:>16}   1.000")?;
+pub fn print_storm<R: Threads + Wait + Sync + Clock + Print>(rt: &R, alloc: Global) -> Option<()> {
+    shown(rt.println("workers calls per second   ratio"))?;
+    let bare = bare_rate(rt, alloc)?;
+    shown(rt.print("no lock"))?;
+    print_rate(rt, bare, bare)?;
     for workers in [1, 2, 4, 8] {
-        let storm = storm_rate(rt, alloc, workers)?;
-        let ratio = storm.saturating_mul(1000) / bare.max(1);
-        println!(rt;
-            "{workers:>7} {storm:>16} {:>3}.{:03}",
-            ratio / 1000,
-            ratio % 1000
-        )?;
+        let calls = storm_rate(rt, alloc, workers)?;
+        shown(print!(rt; "{workers:>7}"))?;
+        print_rate(rt, calls, bare)?;
     }
-    Ok(())
+    Some(())
 }

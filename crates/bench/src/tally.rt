@@ -1,19 +1,17 @@
 //! What both locks keep.
-ghost use Rattle.std.specs.Prelude.{◌≡◌, ◌≤◌, ◌*◌, [], IfOk};
-ghost use Rattle.bench.specs.declared.tally.TheConstants.{TURNS};
+ghost use Rattle.std.specs.Prelude.{◌≡◌, ◌⊎◌, ◌++◌, [], ◌∷◌};
 
 use minislots::Stamp;
-use std::alloc::Global;
-use std::io;
+use std::alloc::{AllocError, Global};
 use ticket_lock::Journal;
 
 /// How many turns each thread takes in one run.
-pub const TURNS: u64 = 200_000;
+pub const TURNS: usize = 200_000;
 
 /// A count that every turn raises by one, and a list of stamped entries, of which the lock sees the list alone.
 #[derive(Drop)]
 pub struct Tally {
-    pub count: u64,
+    pub count: usize,
     pub list: Vec<Stamp>,
 }
 
@@ -38,20 +36,12 @@ impl Journal for Tally {
 }
 
 /// What a turn leaves in the value beside one more in the count.
-#[derive(Clone, Copy, PartialEq, Eq)]
+#[derive(Clone, Copy)]
 pub enum Added {
     /// No entry.
     Nothing,
     /// One entry.
     Entry,
-}
-
-/// How many threads take turns at once.
-#[derive(Clone, Copy, PartialEq, Eq)]
-pub enum Workers {
-    One,
-    Two,
-    Four,
 }
 
 impl Added {
@@ -62,42 +52,42 @@ impl Added {
             Added::Entry => "entry",
         }
     }
-}
 
-impl Workers {
-    /// Their number.
-    pub fn count(self) -> u64
-        ensures some { 1 ≤ result }
-        ensures few { result ≤ 4 }
-    {
+    /// How many entries so many threads add in one run.
+    pub fn entries(self, workers: usize) -> usize {
         match self {
-            Workers::One => 1,
-            Workers::Two => 2,
-            Workers::Four => 4,
+            Added::Nothing => 0,
+            Added::Entry => workers.saturating_mul(TURNS),
         }
-    }
-
-    /// How many turns they take in one run.
-    pub fn turns(self) -> u64
-        ensures some { TURNS ≤ result }
-        ensures few { result ≤ 4 * TURNS }
-    {
-        self.count() * TURNS
     }
 }
 
 impl Tally {
-    /// An empty tally, with room for the entries of a run.
-    pub fn for_run(alloc: Global, workers: Workers, added: Added) -> io::Result<Tally>
-        ensures empty { IfOk result (λ t. t.list.items ≡ []) }
-    {
-        let room = match added {
-            Added::Nothing => 0,
-            Added::Entry => workers.turns() as usize,
-        };
+    /// An empty tally, with room for the entries that so many threads add in one run.
+    pub fn for_run(alloc: Global, workers: usize, added: Added) -> Result<Tally, AllocError> {
         Ok(Tally {
             count: 0,
-            list: Vec::with_capacity(alloc, room)?,
+            list: Vec::with_capacity(alloc, added.entries(workers))?,
         })
+    }
+
+    /// Whether it has the turns of so many threads, and the entries that are wanted of them.
+    pub fn is_whole(&self, workers: usize, added: Added) -> bool {
+        self.count == workers.saturating_mul(TURNS) && self.list.len() == added.entries(workers)
+    }
+
+    /// Raises the count, and adds an entry where one is wanted.
+    pub fn take_turn(&mut self, stamp: Stamp, added: Added)
+        ensures { (self.new.list.items ≡ self.old.list.items)
+            ⊎ (self.new.list.items ≡ self.old.list.items ++ stamp ∷ []) }
+    {
+        self.count = self.count.wrapping_add(1);
+        match added {
+            Added::Nothing => {}
+            Added::Entry => match self.list.push(stamp) {
+                Ok(()) => {}
+                Err(_) => {}
+            },
+        }
     }
 }

@@ -1,12 +1,12 @@
 -- From what the ceiling leaves to a flow follow its amount and whether it may be served.
-use Rattle.std.proofs.Common.{◌≡◌, refl, sym, subst, ℕ, ◌<◌, ◌≤◌, min, Bool, true, false, nat_eq, ◌==◌, IsTrue, ◌↔◌, arith}
+use Rattle.std.proofs.Common.{◌≡◌, sym, subst, ℕ, ◌<◌, ◌≤◌, min, true, nat_eq, IsTrue, ◌↔◌, arith}
 use Rattle.std.proofs.lemmas.Bool.Decides.{nat_tests}
 use Rattle.minislots.specs.declared.config.Config.{Config}
 use Rattle.minislots.specs.Units.{slots_for, bytes_in}
 use Rattle.minislots.proofs.UnitLaws.{fits_bytes, fits_slots}
 use Rattle.flow_book.specs.FlowSpec.{takes_requests}
 use Rattle.flow_book.specs.Flows.{LiveFlow, outstanding}
-use Rattle.flow_book.specs.Choice.{KeepsWith, MayTake, MayGrant, IsAmount, IsMost, IsEligible}
+use Rattle.flow_book.specs.Choice.{KeepsWith, MayGrant, IsMost, IsEligible}
 
 module _ (c : Config) (f : LiveFlow) (start room limit most : ℕ) where
   -- of the bytes up to the limit the flow may have these under its ceiling, and no more
@@ -16,17 +16,22 @@ module _ (c : Config) (f : LiveFlow) (start room limit most : ℕ) where
     pub greatest : (n : ℕ) → 0 < n → n ≤ limit → KeepsWith c f start n → n ≤ most
 
   -- with the limit of what is outstanding, capped and fits these are the most
-  pub most-is : 0 < c.bytes_per_slot → limit ≡ min (min (outstanding f) c.grant_cap) (bytes_in c room) → IsWithin → IsMost c f start room most
+  pub most-is : 0 < c.bytes_per_slot → limit ≡ min (min (outstanding f) c.grant_cap) (bytes_in c room) → IsWithin
+      → IsMost c f start room most
   most-is carries limits is =
       let no_more : (n : ℕ) → MayGrant c f start room n → n ≤ most =
-      λ n may. is.greatest n may.positive (omega (arith, may.asked, may.capped, fits_bytes c carries n room may.taken.fits)) may.taken.ceiling in
+      λ n may. is.greatest n may.positive
+      (omega (arith, may.asked, may.capped, fits_bytes c carries n room may.taken.fits)) may.taken.ceiling in
       record {
         amount = λ some. record {
           allowed = record {
             positive = some;
             asked = omega (arith, is.within);
             capped = omega (arith, is.within);
-            taken = record { ceiling = is.keeps most some (omega arith); fits = fits_slots c carries most room some (omega (arith, is.within)) };
+            taken = record {
+              ceiling = is.keeps most some (omega arith);
+              fits = fits_slots c carries most room some (omega (arith, is.within));
+            };
           };
           greatest = no_more;
         };
@@ -34,14 +39,18 @@ module _ (c : Config) (f : LiveFlow) (start room limit most : ℕ) where
       }
 
   -- the flow may be served where it may have the whole limit
-  pub eligible-is : takes_requests f.spec ≡ true → limit ≡ min (outstanding f) c.quantum → 0 < limit → slots_for c limit ≤ room → IsWithin → IsTrue (nat_eq most limit) ↔ IsEligible c start room f
+  pub eligible-is : takes_requests f.spec ≡ true → limit ≡ min (outstanding f) c.quantum → 0 < limit
+      → slots_for c limit ≤ room → IsWithin → IsTrue (nat_eq most limit) ↔ IsEligible c start room f
   eligible-is serves limits some fits is =
       let whole : IsTrue (nat_eq most limit) → IsEligible c start room f = λ all.
       let e : most ≡ limit = grind (arith, nat_tests) in
       record {
         serves = serves;
         waits = omega arith;
-        takes = record { ceiling = subst (λ (n : ℕ). KeepsWith c f start n) limits (is.keeps limit some (omega arith)); fits = subst (λ (n : ℕ). slots_for c n ≤ room) limits fits };
+        takes = record {
+          ceiling = subst (λ (n : ℕ). KeepsWith c f start n) limits (is.keeps limit some (omega arith));
+          fits = subst (λ (n : ℕ). slots_for c n ≤ room) limits fits;
+        };
       } in
       let same : IsEligible c start room f → IsTrue (nat_eq most limit) = λ may.
       let kept : KeepsWith c f start limit = subst (λ (n : ℕ). KeepsWith c f start n) (sym limits) may.takes.ceiling in

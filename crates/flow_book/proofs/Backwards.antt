@@ -1,5 +1,6 @@
 -- The bytes that the windows from some grant on leave, gone through from the last grant back to the first.
-use Rattle.std.proofs.Common.{◌≡◌, refl, sym, ap, ◌∙◌, ℕ, ◌+◌, ◌-◌, ◌*◌, ◌/◌, ◌<◌, ◌≤◌, min, List, ◌++◌, length, drop, get_or, inl, inr, arith}
+use Rattle.std.proofs.Common.{◌≡◌, sym, ap, ◌∙◌, ℕ, ◌+◌, ◌-◌, ◌*◌, ◌/◌, ◌<◌, ◌≤◌, min, List, ◌++◌, length, drop}
+use Rattle.std.proofs.Common.{get_or, inl, inr, arith}
 use Rattle.std.proofs.Math.Nat.{mul_assoc}
 use Rattle.std.proofs.lemmas.Bool.{cases_eq}
 use Rattle.std.proofs.lemmas.List.{get_or_default}
@@ -15,21 +16,16 @@ module _ (c : Config) (rate burst : ℕ) (grants : List Grant) (start limit : �
   pub record LeaveFrom (first most : ℕ) : Type 0 where
     pub within : most ≤ limit
     pub small : most ≤ burst
-    pub keeps : (n : ℕ) → 0 < n → n ≤ most → (k : ℕ) → first ≤ k → k < length grants → Leaves c rate burst grants start n k
-    pub greatest : (n : ℕ) → 0 < n → n ≤ limit → n ≤ burst → ((k : ℕ) → first ≤ k → k < length grants → Leaves c rate burst grants start n k) → n ≤ most
-
-  -- no window begins past the last grant
-  pub leave-none : LeaveFrom (length grants) (min limit burst)
-  leave-none = record {
-    within = omega arith;
-    small = omega arith;
-    keeps = λ n some le k past lt. absurd (omega arith);
-    greatest = λ n some le small all. omega arith;
-  }
+    pub keeps : (n : ℕ) → 0 < n → n ≤ most → (k : ℕ) → first ≤ k → k < length grants
+        → Leaves c rate burst grants start n k
+    pub greatest : (n : ℕ) → 0 < n → n ≤ limit → n ≤ burst
+        → ((k : ℕ) → first ≤ k → k < length grants → Leaves c rate burst grants start n k) → n ≤ most
 
   -- one window more
-  pub leave-more : (i most bytes from level less : ℕ) → i < length grants → LeaveFrom (i + 1) most → bytes ≡ bytes_of (drop i grants) → from ≡ start_of grants i * c.ticks * rate
-      → level ≡ start * c.ticks * rate + 1280000 * burst → less ≡ min most ((level - from) / 1280000 - bytes) → LeaveFrom i less
+  pub leave-more : (i most bytes from level less : ℕ) → i < length grants → LeaveFrom (i + 1) most
+      → bytes ≡ bytes_of (drop i grants) → from ≡ start_of grants i * c.ticks * rate
+      → level ≡ start * c.ticks * rate + 1280000 * burst → less ≡ min most ((level - from) / 1280000 - bytes)
+      → LeaveFrom i less
   leave-more i most bytes from level less lt later bytes-is from-is level-is is = record {
     within = omega (arith, later.within);
     small = omega (arith, later.small);
@@ -46,20 +42,26 @@ module _ (c : Config) (rate burst : ℕ) (grants : List Grant) (start limit : �
   }
 
   -- all windows
-  pub leave-keeps : (most n : ℕ) → LeaveFrom 0 most → KeepsCeiling c rate burst grants → n ≤ most → 0 < n → KeepsCeiling c rate burst (grants ++ one_more start n)
+  pub leave-keeps : (most n : ℕ) → LeaveFrom 0 most → KeepsCeiling c rate burst grants → n ≤ most → 0 < n
+      → KeepsCeiling c rate burst (grants ++ one_more start n)
   leave-keeps most n leave kept le some =
-      keeps-more c rate burst start n grants kept (λ positive. omega (arith, leave.small)) (λ positive k lt. leave.keeps n some le k (omega arith) lt)
+      keeps-more c rate burst start n grants kept (λ positive. omega (arith, leave.small))
+      (λ positive k lt. leave.keeps n some le k (omega arith) lt)
 
-  pub leave-greatest : (most n : ℕ) → LeaveFrom 0 most → 0 < rate → 0 < n → n ≤ limit → KeepsCeiling c rate burst (grants ++ one_more start n) → n ≤ most
+  pub leave-greatest : (most n : ℕ) → LeaveFrom 0 most → 0 < rate → 0 < n → n ≤ limit
+      → KeepsCeiling c rate burst (grants ++ one_more start n) → n ≤ most
   leave-greatest most n leave positive some le kept =
-      leave.greatest n some le (more-small c rate burst start n grants kept positive) (λ k past lt. more-leaves c rate burst start n grants kept positive k lt)
+      leave.greatest n some le (more-small c rate burst start n grants kept positive)
+      (λ k past lt. more-leaves c rate burst start n grants kept positive k lt)
 
 -- where a grant starts, by any reading of the list
-pub start_of-read : (grants : List Grant) (i : ℕ) (g : Grant) → i < length grants → g ≡ get_or grants i g → start_of grants i ≡ g.start
+pub start_of-read : (grants : List Grant) (i : ℕ) (g : Grant) → i < length grants → g ≡ get_or grants i g
+    → start_of grants i ≡ g.start
 start_of-read grants i g lt is = ap (λ (h : Grant). h.start) (get_or_default grants i _ g lt ∙ sym is)
 
 -- the bytes from a grant on
-pub bytes_of-more : (grants : List Grant) (i : ℕ) (g : Grant) → i < length grants → g ≡ get_or grants i g → bytes_of (drop i grants) ≡ bytes_of (drop (i + 1) grants) + g.bytes
+pub bytes_of-more : (grants : List Grant) (i : ℕ) (g : Grant) → i < length grants → g ≡ get_or grants i g
+    → bytes_of (drop i grants) ≡ bytes_of (drop (i + 1) grants) + g.bytes
 bytes_of-more grants i g lt is =
     let more = sum_by-drop_more (λ (h : Grant). h.bytes) grants i g lt in
     let same : (get_or grants i g).bytes ≡ g.bytes = ap (λ (h : Grant). h.bytes) (sym is) in
@@ -69,5 +71,6 @@ pub bytes_of-part : (grants : List Grant) (i : ℕ) → bytes_of (drop i grants)
 bytes_of-part grants i = omega (arith, sum_by-take-drop (λ (h : Grant). h.bytes) grants i)
 
 -- what was sent, by the product at each minislot
-pub sent-is : (sent slots t r ticks rate : ℕ) → sent ≡ slots * (t * r) → t ≡ ticks → r ≡ rate → sent ≡ slots * ticks * rate
+pub sent-is : (sent slots t r ticks rate : ℕ) → sent ≡ slots * (t * r) → t ≡ ticks → r ≡ rate
+    → sent ≡ slots * ticks * rate
 sent-is sent slots t r ticks rate is t-is r-is = is ∙ rw (t-is, r-is) (sym (mul_assoc slots ticks rate))

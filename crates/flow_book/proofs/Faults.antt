@@ -1,5 +1,5 @@
 -- The groups of faults that the check goes through are the faults in their order.
-use Rattle.std.proofs.Common.{◌≡◌, Bool, List, [], ◌∷◌, ◌++◌, ◌∙◌, ap}
+use Rattle.std.proofs.Common.{◌≡◌, Bool, [], ◌∷◌, ◌++◌, ◌∙◌, ap}
 use Rattle.std.specs.Option.{option_or}
 use Rattle.std.proofs.lemmas.List.Folds.{find-append}
 use Rattle.minislots.specs.declared.config.Config.{Config}
@@ -9,10 +9,14 @@ use Rattle.flow_book.specs.declared.spec.FlowFault.TheVariants.{Size, Priority, 
 use Rattle.flow_book.specs.FlowSpec.{has_fault, first_fault_of, first_fault, interval_faults}
 
 -- the first fault is that of the first group which has one
-pub first_fault_by_groups : (c : Config) (spec : FlowSpec) → first_fault c spec ≡ option_or (first_fault_of c spec (Size ∷ [])) (option_or (first_fault_of c spec interval_faults) (option_or (first_fault_of c spec (Priority ∷ [])) (first_fault_of c spec (Burst ∷ []))))
+pub first_fault_by_groups : (c : Config) (spec : FlowSpec)
+    → first_fault c spec ≡ option_or (first_fault_of c spec (Size ∷ []))
+    (option_or (first_fault_of c spec interval_faults)
+    (option_or (first_fault_of c spec (Priority ∷ [])) (first_fault_of c spec (Burst ∷ []))))
 unfolding first_fault
 first_fault_by_groups c spec =
     let test : FlowFault → Bool = has_fault c spec in
     find-append test (Size ∷ []) (interval_faults ++ (Priority ∷ [] ++ (Burst ∷ [])))
-    ∙ ap (option_or (first_fault_of c spec (Size ∷ []))) (find-append test interval_faults (Priority ∷ [] ++ (Burst ∷ []))
+    ∙ ap (option_or (first_fault_of c spec (Size ∷ [])))
+    (find-append test interval_faults (Priority ∷ [] ++ (Burst ∷ []))
     ∙ ap (option_or (first_fault_of c spec interval_faults)) (find-append test (Priority ∷ []) (Burst ∷ [])))

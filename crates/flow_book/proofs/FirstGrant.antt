@@ -5,7 +5,8 @@ use Rattle.flow_book.specs.declared.flow.Grant.{Grant}
 use Rattle.flow_book.specs.Ceiling.{KeepsCeiling}
 
 -- a first grant of at most the burst keeps the ceiling
-pub KeepsCeiling-first : (c : Config) (rate burst : ℕ) (g : Grant) → g.bytes ≤ burst → KeepsCeiling c rate burst (g ∷ [])
+pub KeepsCeiling-first : (c : Config) (rate burst : ℕ) (g : Grant) → g.bytes ≤ burst
+    → KeepsCeiling c rate burst (g ∷ [])
 KeepsCeiling-first c rate burst g few limited zero zero h k = omega arith
 KeepsCeiling-first c rate burst g few limited (suc i) zero h k = absurd (omega arith)
 KeepsCeiling-first c rate burst g few limited i (suc j) h k = absurd (omega arith)

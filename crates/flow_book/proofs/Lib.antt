@@ -5,8 +5,10 @@ pub mod Base
 pub mod Changes
 pub mod Faults
 pub mod FirstGrant
+pub mod Insertion
 pub mod Order
 pub mod Places
+pub mod Profile
 pub mod Removal
 pub mod Rooms
 pub mod RowsCeiling

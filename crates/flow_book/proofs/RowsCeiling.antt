@@ -1,6 +1,6 @@
 -- Worked examples of data grants under a rate ceiling.
 use Rattle.std.proofs.Common.{ℕ, zero, suc, ◌+◌, ◌*◌, ◌<◌, ◌≤◌, List, [], ◌∷◌, refl, inl, lit<, lit≤, arith}
-use Rattle.flow_book.specs.declared.spec.FlowSpec.TheVariants.{BestEffort}
+use Rattle.flow_book.specs.declared.spec.FlowSpec.TheVariants.{Polled, BestEffort}
 use Rattle.flow_book.specs.declared.flow.Grant.{Grant}
 use Rattle.flow_book.specs.Flows.{LiveFlow, bytes_of}
 use Rattle.flow_book.specs.Ceiling.{window, start_of}
@@ -15,10 +15,14 @@ under_ceiling grants = record { sid = 17; spec = BestEffort 3 64000 1600; asked 
 abbrev pub grant : ℕ → ℕ → Grant
 grant start bytes = record { start = start; bytes = bytes }
 
+-- its first grant with one more at 884
+abbrev two : ℕ → List Grant
+two bytes = grant 844 544 ∷ grant 884 bytes ∷ []
+
 -- before its second grant it may take up to 544 bytes at 884
-kept_by_two : (bytes : ℕ) → bytes ≤ 544 → (i j : ℕ) → i ≤ j → j < 2 →
-    1280000 * bytes_of (window (grant 844 544 ∷ grant 884 bytes ∷ []) i j) + start_of (grant 844 544 ∷ grant 884 bytes ∷ []) i * 4 * 64000
-    ≤ start_of (grant 844 544 ∷ grant 884 bytes ∷ []) j * 4 * 64000 + 1280000 * 1600
+kept_by_two : (bytes : ℕ) → bytes ≤ 544 → (i j : ℕ) → i ≤ j → j < 2
+    → 1280000 * bytes_of (window (two bytes) i j) + start_of (two bytes) i * 4 * 64000
+    ≤ start_of (two bytes) j * 4 * 64000 + 1280000 * 1600
 kept_by_two bytes few zero zero h k = lit≤ tt
 kept_by_two bytes few zero (suc zero) h k = omega arith
 kept_by_two bytes few (suc zero) zero h k = absurd (omega arith)
@@ -38,7 +42,8 @@ the_second_grant_fills_the_room = record {
 }
 
 -- alone it is next
-pub a_flow_with_one_grant_is_next : IsNext base (under_ceiling (grant 844 544 ∷ []) ∷ []) 884 36 (under_ceiling (grant 844 544 ∷ []))
+pub a_flow_with_one_grant_is_next : IsNext base (under_ceiling (grant 844 544 ∷ []) ∷ []) 884 36
+    (under_ceiling (grant 844 544 ∷ []))
 a_flow_with_one_grant_is_next = record {
   live = (0, lit< tt, refl);
   eligible = record { serves = refl; waits = lit< tt; takes = may_take_second 64 (lit≤ tt) };
@@ -54,8 +59,9 @@ abbrev three : ℕ → List Grant
 three bytes = grant 844 544 ∷ grant 884 544 ∷ grant 924 bytes ∷ []
 
 -- each window of three grants with at most 528 bytes in the last keeps the ceiling
-kept : (bytes : ℕ) → bytes ≤ 528 → (i j : ℕ) → i ≤ j → j < 3 →
-    1280000 * bytes_of (window (three bytes) i j) + start_of (three bytes) i * 4 * 64000 ≤ start_of (three bytes) j * 4 * 64000 + 1280000 * 1600
+kept : (bytes : ℕ) → bytes ≤ 528 → (i j : ℕ) → i ≤ j → j < 3
+    → 1280000 * bytes_of (window (three bytes) i j) + start_of (three bytes) i * 4 * 64000
+    ≤ start_of (three bytes) j * 4 * 64000 + 1280000 * 1600
 kept bytes few zero zero h k = lit≤ tt
 kept bytes few zero (suc zero) h k = lit≤ tt
 kept bytes few zero (suc (suc zero)) h k = omega arith
@@ -98,3 +104,26 @@ exhausted = under_ceiling (three 528)
 -- a frame later it may take 8 bytes, less than the quantum, and is not eligible
 pub a_flow_at_its_ceiling_is_not_eligible : IsEligible base 964 36 exhausted → ⊥
 a_flow_at_its_ceiling_is_not_eligible e = let all = e.takes.ceiling (lit< tt) 0 3 (lit≤ tt) (lit< tt) in omega arith
+
+-- the flow with two grants, polled each five frames under the same ceiling
+abbrev pub polled_limited : LiveFlow
+polled_limited = record limited { spec = Polled 5000 0 64000 1600 }
+
+polled_may_take : (bytes : ℕ) → bytes ≤ 528 → MayTake base polled_limited 924 36 bytes
+polled_may_take bytes few = record { ceiling = λ positive. kept bytes few; fits = omega arith }
+
+polled_most : (more : ℕ) → MayGrant base polled_limited 924 36 more → more ≤ 528
+polled_most more may = let all = may.taken.ceiling (lit< tt) 0 2 (lit≤ tt) (lit< tt) in omega arith
+
+-- its third grant has the same 528 bytes
+pub the_third_grant_of_a_polled_flow_is_at_the_ceiling_to_the_byte : IsAmount base polled_limited 924 36 528
+the_third_grant_of_a_polled_flow_is_at_the_ceiling_to_the_byte = record {
+  allowed = record { positive = lit< tt; asked = lit≤ tt; capped = lit≤ tt; taken = polled_may_take 528 (lit≤ tt) };
+  greatest = polled_most;
+}
+
+-- and a frame later it is not eligible
+pub a_polled_flow_at_its_ceiling_is_not_eligible :
+    IsEligible base 964 36 (record exhausted { spec = Polled 5000 0 64000 1600 }) → ⊥
+a_polled_flow_at_its_ceiling_is_not_eligible e =
+    let all = e.takes.ceiling (lit< tt) 0 3 (lit≤ tt) (lit< tt) in omega arith

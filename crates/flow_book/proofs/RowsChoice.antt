@@ -1,6 +1,6 @@
 -- Worked examples of which flow is served first.
 use Rattle.std.proofs.Common.{[], ◌∷◌, refl, ap, inl, inr, lit<, lit≤, arith}
-use Rattle.flow_book.specs.declared.spec.FlowSpec.TheVariants.{BestEffort}
+use Rattle.flow_book.specs.declared.spec.FlowSpec.TheVariants.{Polled, BestEffort}
 use Rattle.flow_book.specs.Flows.{LiveFlow}
 use Rattle.flow_book.specs.Choice.{IsEligible, IsNext}
 use Rattle.flow_book.proofs.Base.{base}
@@ -50,3 +50,29 @@ the_lower_sid_is_next = record {
   eligible = IsEligible-unlimited base lower_sid 844 36 refl refl (lit< tt) (lit≤ tt);
   first = ((λ e. inl refl), ((λ e. inr refl), tt));
 }
+
+-- a flow of priority 7, the highest, with 544 bytes to be granted
+abbrev pub highest : LiveFlow
+highest = record { sid = 20; spec = BestEffort 7 0 0; asked = 544; grants = [] }
+
+-- a polled flow of a higher SID with as many
+abbrev pub polled_waiting : LiveFlow
+polled_waiting = record { sid = 21; spec = Polled 5000 0 0 0; asked = 544; grants = [] }
+
+polled_is_eligible : IsEligible base 844 36 polled_waiting
+polled_is_eligible = IsEligible-unlimited base polled_waiting 844 36 refl refl (lit< tt) (lit≤ tt)
+
+-- the polled flow is next
+pub a_polled_flow_is_served_before_priority_seven : IsNext base (highest ∷ polled_waiting ∷ []) 844 36 polled_waiting
+a_polled_flow_is_served_before_priority_seven = record {
+  live = (1, lit< tt, refl);
+  eligible = polled_is_eligible;
+  first = ((λ e. inr refl), ((λ e. inl refl), tt));
+}
+
+-- the flow of priority 7 is not
+pub priority_seven_is_not_served_before_a_polled_flow : IsNext base (highest ∷ polled_waiting ∷ []) 844 36 highest → ⊥
+priority_seven_is_not_served_before_a_polled_flow next = elim (next.first.1.0 polled_is_eligible) [
+  | inl e ↦ absurd (omega (arith, ap (λ f. f.sid) e))
+  | inr e ↦ cc
+]

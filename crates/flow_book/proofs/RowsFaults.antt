@@ -1,7 +1,8 @@
 -- Worked examples of parameters that are refused, and of the first reason.
 use Rattle.std.proofs.Common.{◌≡◌, Some, None, refl}
-use Rattle.flow_book.specs.declared.spec.FlowSpec.TheVariants.{Unsolicited, BestEffort}
-use Rattle.flow_book.specs.declared.spec.FlowFault.TheVariants.{Size, IntervalNotWhole, IntervalNotFrames, IntervalNotInCycle, Priority, Burst}
+use Rattle.flow_book.specs.declared.spec.FlowSpec.TheVariants.{Unsolicited, Polled, BestEffort}
+use Rattle.flow_book.specs.declared.spec.FlowFault.TheVariants.{Size, IntervalNotWhole, IntervalNotFrames}
+use Rattle.flow_book.specs.declared.spec.FlowFault.TheVariants.{IntervalNotInCycle, Priority, Burst}
 use Rattle.flow_book.specs.FlowSpec.{first_fault}
 use Rattle.flow_book.proofs.Base.{base}
 
@@ -35,7 +36,14 @@ pub a_burst_below_the_quantum_is_refused : first_fault base (BestEffort 7 1 63) 
 unfolding first_fault
 a_burst_below_the_quantum_is_refused = refl
 
+-- that of a polled flow too: 63 bytes are below it, and 64 are not
+pub a_polled_burst_below_the_quantum_is_refused : (first_fault base (Polled 5000 0 1 63) ≡ Some Burst)
+    × (first_fault base (Polled 5000 0 1 64) ≡ None)
+unfolding first_fault
+a_polled_burst_below_the_quantum_is_refused = (refl, refl)
+
 -- 544 bytes fill a frame behind its request region, and 545 are too long
-pub the_longest_size_fills_the_frame : (first_fault base (Unsolicited 544 10000 0) ≡ None) × (first_fault base (Unsolicited 545 10000 0) ≡ Some Size)
+pub the_longest_size_fills_the_frame : (first_fault base (Unsolicited 544 10000 0) ≡ None)
+    × (first_fault base (Unsolicited 545 10000 0) ≡ Some Size)
 unfolding first_fault
 the_longest_size_fills_the_frame = (refl, refl)

@@ -1,9 +1,9 @@
 -- What contracts see of a book: the live flows, and beside them the room for their grants.
-use Rattle.std.specs.Prelude.{◌≡◌, ◌≢◌, ℕ, ◌+◌, ◌-◌, ◌<◌, ◌≤◌, not, nat_lt, ◌==◌, List, [], ◌∷◌, map, filter, find, Option, option_map, unwrap_or, IsSome, if◌then◌else◌}
-use Rattle.std.specs.List.{AllByRecursion}
+use Rattle.std.specs.Prelude.{ℕ, ◌+◌, ◌≤◌, ◌==◌, List, [], map, find, option_map, unwrap_or, IsSome, if◌then◌else◌}
 use Rattle.minislots.specs.declared.config.Config.{Config}
 use Rattle.flow_book.specs.declared.spec.FlowSpec.{FlowSpec}
 use Rattle.flow_book.specs.Flows.{LiveFlow, flow_of}
+use Rattle.flow_book.specs.Sids.{AscendBy, put_in, taken_out}
 
 -- how many more grants of this flow fit with no memory
 pub record Room : Type 0 where
@@ -22,17 +22,15 @@ IsLive sid flows = IsSome (flow_of sid flows)
 
 -- SIDs ascend
 abbrev pub Ascend : List LiveFlow → Type 0
-Ascend [] = Unit {0}
-Ascend (f ∷ flows) = AllByRecursion (λ g. f.sid < g.sid) flows × Ascend flows
+Ascend flows = AscendBy (λ f. f.sid) flows
 
 -- the flows with one more, in order of SID
 abbrev pub with_flow : LiveFlow → List LiveFlow → List LiveFlow
-with_flow f [] = f ∷ []
-with_flow f (g ∷ flows) = if nat_lt f.sid g.sid then f ∷ g ∷ flows else g ∷ with_flow f flows
+with_flow f flows = put_in (λ g. g.sid) f flows
 
 -- the flows but that of this SID
 abbrev pub without : ℕ → List LiveFlow → List LiveFlow
-without sid flows = filter (λ f. not (f.sid == sid)) flows
+without sid flows = taken_out (λ f. f.sid) sid flows
 
 -- the flows, with that of this SID changed
 abbrev pub changed : ℕ → (LiveFlow → LiveFlow) → List LiveFlow → List LiveFlow

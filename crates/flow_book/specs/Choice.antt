@@ -1,5 +1,6 @@
 -- Which flow a data grant goes to, and how many bytes it has.
-use Rattle.std.specs.Prelude.{◌≡◌, ℕ, ◌+◌, ◌<◌, ◌≤◌, min, Bool, true, false, ◌&&◌, ◌||◌, nat_lt, ◌==◌, ◌⊎◌, List, [], ◌∷◌, ◌++◌, Contains, Option, None, Some, option_map, IsSomeAnd}
+use Rattle.std.specs.Prelude.{◌≡◌, ℕ, ◌<◌, ◌≤◌, min, Bool, true, false, ◌&&◌, ◌||◌, nat_lt, ◌==◌, ◌⊎◌, List, [], ◌∷◌}
+use Rattle.std.specs.Prelude.{◌++◌, Contains, Option, None, Some, IsSomeAnd}
 use Rattle.std.specs.List.{AllByRecursion}
 use Rattle.minislots.specs.declared.config.Config.{Config}
 use Rattle.minislots.specs.Units.{slots_for}
@@ -10,7 +11,8 @@ use Rattle.flow_book.specs.Ceiling.{KeepsCeiling}
 
 -- the flow keeps its ceiling with one grant more
 abbrev pub KeepsWith : Config → LiveFlow → ℕ → ℕ → Type 0
-KeepsWith c f start bytes = KeepsCeiling c (rate_of f.spec) (burst_of f.spec) (f.grants ++ record { start = start; bytes = bytes } ∷ [])
+KeepsWith c f start bytes =
+    KeepsCeiling c (rate_of f.spec) (burst_of f.spec) (f.grants ++ record { start = start; bytes = bytes } ∷ [])
 
 -- a grant of so many bytes at this minislot keeps the flow's ceiling, and fits the room
 pub record MayTake (c : Config) (f : LiveFlow) (start room bytes : ℕ) : Type 0 where

@@ -1,5 +1,5 @@
 -- What the fields of a flow stand for, and what is true of every book.
-use Rattle.std.specs.Prelude.{ℕ, ◌-◌, ◌≤◌, List, map, vec_len, vec_capacity}
+use Rattle.std.specs.Prelude.{◌-◌, ◌≤◌, List, vec_len, vec_capacity}
 use Rattle.std.specs.List.{AllByRecursion}
 use Rattle.minislots.specs.declared.config.Config.{Config}
 use Rattle.flow_book.specs.declared.flow.Flow.{Flow}
@@ -22,6 +22,6 @@ pub record IsSoundFlow (c : Config) (f : LiveFlow) : Type 0 where
   pub kept : KeepsCeiling c (rate_of f.spec) (burst_of f.spec) f.grants
 
 -- what is true of the flows of every book
-pub record AreSound (c : Config) (flows : List LiveFlow) : Type 0 where
+pub record IsSoundBook (c : Config) (flows : List LiveFlow) : Type 0 where
   pub ascending : Ascend flows
   pub each : AllByRecursion (IsSoundFlow c) flows

@@ -1,11 +1,13 @@
 -- The parameters of a flow: what they say in minislots, and which of them are refused.
-use Rattle.std.specs.Prelude.{ℕ, ◌+◌, ◌-◌, ◌*◌, ◌/◌, ◌%◌, Bool, true, false, not, ◌&&◌, ◌||◌, nat_lt, ◌==◌, List, [], ◌∷◌, Option, is_none, find}
+use Rattle.std.specs.Prelude.{ℕ, ◌-◌, ◌/◌, ◌%◌, Bool, true, false, not, ◌&&◌, ◌||◌, nat_lt, ◌==◌, List, [], ◌∷◌}
+use Rattle.std.specs.Prelude.{Option, is_none, find}
 use Rattle.minislots.specs.declared.config.Config.{Config}
 use Rattle.minislots.specs.Units.{slots_for, slots_floor, slots_of_micros}
 use Rattle.flow_book.specs.declared.spec.FlowSpec.{FlowSpec}
 use Rattle.flow_book.specs.declared.spec.FlowSpec.TheVariants.{Unsolicited, Polled, BestEffort}
 use Rattle.flow_book.specs.declared.spec.FlowFault.{FlowFault}
-use Rattle.flow_book.specs.declared.spec.FlowFault.TheVariants.{Size, IntervalNotWhole, IntervalNotFrames, IntervalNotInCycle, Priority, Burst}
+use Rattle.flow_book.specs.declared.spec.FlowFault.TheVariants.{Size, IntervalNotWhole, IntervalNotFrames}
+use Rattle.flow_book.specs.declared.spec.FlowFault.TheVariants.{IntervalNotInCycle, Priority, Burst}
 
 -- whether the flow has a place in the cycle: unsolicited grants or polls
 abbrev pub is_periodic : FlowSpec → Bool
@@ -71,7 +73,8 @@ has_fault c (Unsolicited size interval jitter) Size = size == 0 || nat_lt (c.fra
 has_fault c (Polled interval jitter rate burst) Size = false
 has_fault c (BestEffort priority rate burst) Size = false
 has_fault c spec IntervalNotWhole = is_periodic spec && is_none (slots_of_micros c (interval_of spec))
-has_fault c spec IntervalNotFrames = is_periodic spec && (slots_floor c (interval_of spec) == 0 || not (slots_floor c (interval_of spec) % c.frame == 0))
+has_fault c spec IntervalNotFrames = is_periodic spec
+    && (slots_floor c (interval_of spec) == 0 || not (slots_floor c (interval_of spec) % c.frame == 0))
 has_fault c spec IntervalNotInCycle = is_periodic spec && not (c.cycle % interval_frames c spec == 0)
 has_fault c (Unsolicited size interval jitter) Priority = false
 has_fault c (Polled interval jitter rate burst) Priority = false

@@ -1,5 +1,5 @@
 -- The live flows, each with what it asked and was granted.
-use Rattle.std.specs.Prelude.{ℕ, ◌+◌, ◌-◌, Bool, nat_lt, ◌==◌, List, [], ◌∷◌, ◌++◌, map, sum_by, find, Option}
+use Rattle.std.specs.Prelude.{ℕ, ◌-◌, ◌==◌, List, [], ◌∷◌, ◌++◌, sum_by, find, Option}
 use Rattle.flow_book.specs.declared.spec.FlowSpec.{FlowSpec}
 use Rattle.flow_book.specs.declared.flow.Grant.{Grant}
 

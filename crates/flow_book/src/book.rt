@@ -1,12 +1,14 @@
 //! The live flows of a channel, in order of SID.
 
-ghost use Rattle.std.specs.Prelude.{◌≡◌, ◌≢◌, ℕ, ◌+◌, ◌<◌, ◌≤◌, ◌^◌, ◌==◌, [], ◌∷◌, length, IfOk, OnOk, OnErr, IfSome, IsSomeAnd, option_map, slice_index_or, slice_get, nat_lt, unwrap_or, position, find, option_copied};
+ghost use Rattle.std.specs.Prelude.{◌≡◌, ◌≢◌, ℕ, ◌+◌, ◌<◌, ◌≤◌, ◌^◌, ◌==◌, [], length, IfOk, OnOk, OnErr, IfSome};
+ghost use Rattle.std.specs.Prelude.{IsSomeAnd, option_map, slice_get, nat_lt, position, find, option_copied};
 ghost use Rattle.std.specs.List.{AllByRecursion};
 ghost use Rattle.minislots.specs.Units.{slots_for};
 ghost use Rattle.flow_book.specs.Flows.{flow_of, outstanding, with_grant};
 ghost use Rattle.flow_book.specs.Choice.{MayGrant, IsMost, IsNextSid, HasStartedBy};
 ghost use Rattle.flow_book.specs.Entry.{live, IsSoundFlow};
-ghost use Rattle.flow_book.specs.Book.{IsLive, Ascend, KeepsRoom, room_of, new_flow, with_flow, without, changed, with_asked};
+ghost use Rattle.flow_book.specs.Book.{IsLive, Ascend, KeepsRoom, room_of, new_flow, with_flow, without, changed};
+ghost use Rattle.flow_book.specs.Book.{with_asked};
 
 use crate::flow::{Flow, Grant, first_eligible, reserve_each};
 use crate::spec::FlowSpec;
@@ -28,7 +30,7 @@ impl Model for Book {
 
     ghost Value = { BookView };
 
-    ghost use Rattle.flow_book.specs.Entry.{live, room_in, AreSound};
+    ghost use Rattle.flow_book.specs.Entry.{live, room_in, IsSoundBook};
 
     ghost view = { λ b. record {
       config = b.config;
@@ -36,14 +38,7 @@ impl Model for Book {
       rooms = map room_in b.flows.items;
     } };
 
-    ghost invariant = { λ b. AreSound b.config (map live b.flows.items) };
-}
-
-// The flow with this SID.
-fn flow_in(flows: &[Flow], sid: u16) -> Option<&Flow>
-    ensures { option_copied result ≡ find (λ f. f.sid == sid) flows.now }
-{
-    flows.iter().find(|flow| flow.sid == sid)
+    ghost invariant = { λ b. IsSoundBook b.config (map live b.flows.items) };
 }
 
 // The place of the flow with this SID.
@@ -107,8 +102,8 @@ impl Book {
     pub fn flow(&self, sid: u16) -> Option<FlowSpec>
         ensures { result ≡ option_map (λ f. f.spec) (flow_of sid self.now.flows) }
     {
-        match flow_in(&self.flows, sid) {
-            Some(flow) => Some(flow.spec),
+        match place_in(&self.flows, sid) {
+            Some(place) => Some(self.flows[place].spec),
             None => None,
         }
     }
@@ -210,8 +205,10 @@ impl Book {
     pub fn grant(&mut self, sid: u16, start: u64, bytes: u32)
         requires room { 0 < room_of sid self.old.rooms }
         requires started { IfSome (flow_of sid self.old.flows) (HasStartedBy start) }
-        requires lawful { IsSomeAnd (flow_of sid self.old.flows) (λ f. MayGrant self.old.config f start (slots_for self.old.config bytes) bytes) }
-        ensures flows { self.new.flows ≡ changed sid (with_grant (record { start = start; bytes = bytes })) self.old.flows }
+        requires lawful { IsSomeAnd (flow_of sid self.old.flows) (λ f.
+            MayGrant self.old.config f start (slots_for self.old.config bytes) bytes) }
+        ensures flows { self.new.flows
+            ≡ changed sid (with_grant (record { start = start; bytes = bytes })) self.old.flows }
         ensures config { self.new.config ≡ self.old.config }
         ensures room { room_of sid self.new.rooms + 1 ≡ room_of sid self.old.rooms }
         ensures other_room { (other : ℕ) → other ≢ sid → room_of other self.new.rooms ≡ room_of other self.old.rooms }
@@ -240,10 +237,7 @@ impl Book {
         ensures found { flow_of sid self.now.flows ≡ Some (live result.now) }
         ensures sound { IsSoundFlow self.now.config (live result.now) }
     {
-        match flow_in(&self.flows, sid) {
-            Some(flow) => flow,
-            None => unreachable!(),
-        }
+        &self.flows[self.place(sid)]
     }
 
     // The place of the live flow with this SID.

@@ -1,9 +1,10 @@
 //! One live flow, with the list of its data grants.
 
-ghost use Rattle.std.specs.Prelude.{◌≡◌, ℕ, ◌-◌, ◌*◌, ◌/◌, ◌<◌, ◌≤◌, ◌^◌, min, map, length, slice_index_or, IsTrue, ◌↔◌, MatchOption, OnOk, option_map, option_copied};
+ghost use Rattle.std.specs.Prelude.{◌≡◌, ℕ, ◌-◌, ◌*◌, ◌/◌, ◌<◌, ◌≤◌, ◌^◌, min, map, length, slice_index_or, IsTrue};
+ghost use Rattle.std.specs.Prelude.{◌↔◌, MatchOption, OnOk, option_map, option_copied};
 ghost use Rattle.flow_book.specs.Flows.{granted, outstanding};
 ghost use Rattle.flow_book.specs.Choice.{last_start, is_earlier, is_as_early, is_before, IsEligible, IsMost, KeepsWith};
-ghost use Rattle.flow_book.specs.Entry.{live, room_in, IsSoundFlow, AreSound};
+ghost use Rattle.flow_book.specs.Entry.{live, room_in, IsSoundFlow, IsSoundBook};
 ghost use Rattle.flow_book.specs.Book.{KeepsRoom};
 ghost use Rattle.flow_book.specs.declared.flow.Flow.{Flow};
 ghost use Rattle.flow_book.specs.Choice.{IsNextOf};
@@ -153,7 +154,7 @@ pub(crate) fn first_eligible<'a>(
     start: u64,
     room: u32,
 ) -> Option<&'a Flow>
-    requires { AreSound config.now (map live flows.now) }
+    requires { IsSoundBook config.now (map live flows.now) }
     ensures { IsNextOf config.now start room (map live flows.now) (option_map live (option_copied result)) }
 {
     let mut next = None;
@@ -168,7 +169,8 @@ pub(crate) fn first_eligible<'a>(
 // Makes room for so many more grants of each flow.
 pub(crate) fn reserve_each(flows: &mut [Flow], grants: usize) -> Result<(), AllocError>
     ensures same { map live flows.new ≡ map live flows.old }
-    ensures room { OnOk result ((k : ℕ) (d : Flow) → k < length flows.new → grants ≤ (room_in (slice_index_or flows.new k d)).grants) }
+    ensures room { OnOk result ((k : ℕ) (d : Flow) → k < length flows.new
+        → grants ≤ (room_in (slice_index_or flows.new k d)).grants) }
     ensures kept { KeepsRoom (map room_in flows.old) (map room_in flows.new) }
 {
     for flow in flows.iter_mut() {

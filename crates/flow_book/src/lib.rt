@@ -6,9 +6,10 @@ mod book;
 mod check;
 mod flow;
 mod spec;
-#[cfg(test)]
-mod tests;
 
 pub use book::Book;
 pub use flow::Grant;
 pub use spec::{FlowFault, FlowSpec};
+
+/// The most flows that are live at a time on one channel.
+pub const MAX_FLOWS: usize = 64;

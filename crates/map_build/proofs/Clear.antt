@@ -1,12 +1,14 @@
 -- What stands at an offset leaves no spot behind: the spots before its end are in the plan.
-use Rattle.std.proofs.Common.{◌≡◌, ℕ, suc, ◌+◌, ◌<◌, ◌≤◌, true, false, List, [], ◌∷◌, ◌++◌, Contains, inl, inr, refl, sym, ap, subst, ◌∙◌, arith}
+use Rattle.std.proofs.Common.{◌≡◌, ℕ, suc, ◌+◌, ◌<◌, ◌≤◌, true, false, List, [], ◌∷◌, ◌++◌, Contains, inl, inr, refl}
+use Rattle.std.proofs.Common.{sym, ap, subst, ◌∙◌, arith}
 use Rattle.std.proofs.lemmas.Bool.{cases_lt}
 use Rattle.std.proofs.lemmas.List.{length_push, get_or_append_left}
 use Rattle.std.proofs.lemmas.List.Elements.{Contains-push}
 use Rattle.minislots.specs.declared.config.Config.{Config}
 use Rattle.flow_book.specs.Flows.{LiveFlow}
 use Rattle.periodic.specs.declared.placement.Spot.{Spot}
-use Rattle.map_build.specs.Plan.{Purpose, Poll, UnsolicitedGrant, DataGrant, Idle, Allocation, next_stop, grants_in, most_grants, StandsFor, allocation_of}
+use Rattle.map_build.specs.Plan.{Purpose, Poll, UnsolicitedGrant, DataGrant, Idle, Allocation, next_stop, grants_in}
+use Rattle.map_build.specs.Plan.{most_grants, StandsByItsRule, allocation_of}
 use Rattle.map_build.specs.Spots.{AreInFrame}
 use Rattle.map_build.specs.Walk.{AreTaken}
 use Rattle.map_build.proofs.FlowsAfter.{allocation}
@@ -16,7 +18,7 @@ use Rattle.map_build.proofs.Standings.{spot-within, spots-apart}
 -- one data grant more is at most the most
 pub grants-within : (c : Config) (flows : List LiveFlow) (spots : List Spot) (start : ℕ) (before : List Allocation)
     (offset slots : ℕ) (purpose : Purpose) →
-    StandsFor c flows spots start before offset slots purpose → grants_in before ≤ most_grants →
+    StandsByItsRule c flows spots start before offset slots purpose → grants_in before ≤ most_grants →
     grants_in before + grants_in (allocation offset slots purpose ∷ []) ≤ most_grants
 grants-within c flows spots start before offset slots (Poll sid) stands few = omega arith
 grants-within c flows spots start before offset slots (UnsolicitedGrant sid) stands few = omega arith
@@ -46,7 +48,7 @@ clear-room c spots a inside fits = (
 pub clear-purpose : (c : Config) (flows : List LiveFlow) (spots : List Spot) (start : ℕ) (before : List Allocation)
     (offset slots : ℕ) (purpose : Purpose) →
     AreInFrame c spots → offset ≤ c.frame → 0 < slots →
-    StandsFor c flows spots start before offset slots purpose →
+    StandsByItsRule c flows spots start before offset slots purpose →
     IsClear c spots (allocation offset slots purpose)
 clear-purpose c flows spots start before offset slots (Poll sid) are inside some stands =
     clear-spot c spots (record { sid = sid; poll = true; offset = offset; slots = slots }) are stands

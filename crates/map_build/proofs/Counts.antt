@@ -1,14 +1,22 @@
--- How many allocations a lawful plan has: at most 93 data grants, the spots, and an idle before each spot and at the end.
-use Rattle.std.proofs.Common.{◌≡◌, ℕ, zero, suc, ◌+◌, ◌*◌, ◌<◌, ◌≤◌, ◌⊎◌, inl, inr, Bool, true, false, nat_le, List, [], ◌∷◌, ◌++◌, length, Contains, if◌then◌else◌, refl, ap, ◌∙◌, arith}
+-- How many allocations a lawful plan has: at most 93 data grants, the spots, and an idle before each spot and
+-- at the end.
+use Rattle.std.proofs.Common.{◌≡◌, ℕ, zero, suc, ◌+◌, ◌*◌, ◌<◌, ◌≤◌, ◌⊎◌, inl, inr, Bool, true, false, nat_le, List}
+use Rattle.std.proofs.Common.{[], ◌∷◌, ◌++◌, length, Contains, if◌then◌else◌, refl, ap, ◌∙◌, arith}
 use Rattle.std.proofs.lemmas.Bool.Decides.{nat_tests}
 use Rattle.std.proofs.lemmas.List.Sums.{sum_by_push}
 use Rattle.minislots.specs.declared.config.Config.{Config}
 use Rattle.flow_book.specs.Flows.{LiveFlow}
 use Rattle.periodic.specs.declared.placement.Spot.{Spot}
 use Rattle.map_build.specs.EachAfter.{EachAfter}
-use Rattle.map_build.specs.Plan.{Purpose, Poll, UnsolicitedGrant, DataGrant, Idle, Allocation, next_stop, grants_in, end_of, is_data_grant, most_grants, Stands, StandsFor}
+use Rattle.map_build.specs.Plan.{Purpose, Poll, UnsolicitedGrant, DataGrant, Idle, Allocation, next_stop, grants_in}
+use Rattle.map_build.specs.Plan.{end_of, is_data_grant, most_grants, Stands, StandsByItsRule}
 use Rattle.map_build.proofs.FlowsAfter.{allocation}
 use Rattle.map_build.proofs.Stops.{next_stop-again}
+
+-- a frame's end with one allocation more
+pub end_of-push : (c : Config) (plan : List Allocation) (a : Allocation) →
+    end_of c (plan ++ a ∷ []) ≡ end_of c plan + a.slots
+end_of-push c plan a = omega (arith, sum_by_push (λ (b : Allocation). b.slots) plan a)
 
 -- how many spots begin at this minislot or after it
 abbrev spots_from : ℕ → List Spot → ℕ
@@ -54,7 +62,7 @@ module _ (c : Config) (flows : List LiveFlow) (spots : List Spot) (start : ℕ) 
 
   few-step : (idles : ℕ) (before : List Allocation) (offset slots : ℕ) (purpose : Purpose) (more : ℕ) → 0 < slots →
       grants_in before ≤ most_grants →
-      IsVacant idles offset → StandsFor c flows spots start before offset slots purpose →
+      IsVacant idles offset → StandsByItsRule c flows spots start before offset slots purpose →
       ((idles' : ℕ) → grants_in before + grants_in (allocation offset slots purpose ∷ []) ≤ most_grants →
       IsVacant idles' (offset + slots) →
       IsFew idles' (offset + slots) (grants_in before + grants_in (allocation offset slots purpose ∷ [])) more) →
@@ -92,14 +100,16 @@ module _ (c : Config) (flows : List LiveFlow) (spots : List Spot) (start : ℕ) 
 
   few-allocations : (idles : ℕ) (before plan : List Allocation) → grants_in before ≤ most_grants →
       IsVacant idles (end_of c before) →
-      EachAfter (Stands c flows spots start) before plan → IsFew idles (end_of c before) (grants_in before) (length plan)
+      EachAfter (Stands c flows spots start) before plan →
+      IsFew idles (end_of c before) (grants_in before) (length plan)
   few-allocations idles before [] few vacant each = omega arith
   few-allocations idles before (a ∷ plan) few vacant each =
       let end : end_of c (before ++ a ∷ []) ≡ a.offset + a.slots =
-      omega (arith, each.0.follows, sum_by_push (λ (b : Allocation). b.slots) before a) in
+      omega (arith, each.0.follows, end_of-push c before a) in
       let grants : grants_in (before ++ a ∷ []) ≡ grants_in before + grants_in (a ∷ []) =
       omega (arith, sum_by_push (λ (b : Allocation). if is_data_grant b.purpose then 1 else 0) before a) in
-      let rest : (idles' : ℕ) → grants_in before + grants_in (a ∷ []) ≤ most_grants → IsVacant idles' (a.offset + a.slots) →
+      let rest : (idles' : ℕ) → grants_in before + grants_in (a ∷ []) ≤ most_grants
+      → IsVacant idles' (a.offset + a.slots) →
       IsFew idles' (a.offset + a.slots) (grants_in before + grants_in (a ∷ [])) (length plan) =
       λ idles' few' vacant'. rw (← end, ← grants) (few-allocations idles' (before ++ a ∷ []) plan (rw grants few')
       (rw end vacant') each.1) in

@@ -7,4 +7,5 @@ use Rattle.map_build.specs.EachAfter.{EachAfter}
 pub EachAfter-push : {X : Type 0} (P : List X → X → Type 0) (before xs : List X) (x : X) →
     EachAfter P before xs → P (before ++ xs) x → EachAfter P before (xs ++ x ∷ [])
 EachAfter-push P before [] x each last = (rw append-nil at last, tt)
-EachAfter-push P before (y ∷ ys) x each last = (each.0, EachAfter-push P (before ++ y ∷ []) ys x each.1 (rw append_assoc last))
+EachAfter-push P before (y ∷ ys) x each last =
+    (each.0, EachAfter-push P (before ++ y ∷ []) ys x each.1 (rw append_assoc last))

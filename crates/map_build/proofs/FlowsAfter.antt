@@ -1,5 +1,6 @@
 -- The live flows after one allocation more of the frame.
-use Rattle.std.proofs.Common.{◌≡◌, ℕ, ◌+◌, ◌≤◌, Bool, true, false, ◌==◌, List, [], ◌∷◌, ◌++◌, filter_map, Option, None, Some, IsSome, if◌then◌else◌, refl, sym, ap, ◌∙◌, arith}
+use Rattle.std.proofs.Common.{◌≡◌, ℕ, ◌+◌, ◌≤◌, Bool, true, false, ◌==◌, List, [], ◌∷◌, ◌++◌, filter_map, Option}
+use Rattle.std.proofs.Common.{None, Some, IsSome, if◌then◌else◌, refl, sym, ap, ◌∙◌, arith}
 use Rattle.std.specs.Option.{option_map}
 use Rattle.std.specs.List.{AllByRecursion}
 use Rattle.std.proofs.lemmas.List.{append-nil, append_assoc}
@@ -9,7 +10,8 @@ use Rattle.flow_book.specs.Flows.{LiveFlow, flow_of}
 use Rattle.flow_book.specs.Choice.{HasStartedBy}
 use Rattle.flow_book.specs.Book.{IsLive}
 use Rattle.flow_book.proofs.Places.{find-map}
-use Rattle.map_build.specs.Plan.{Purpose, Poll, UnsolicitedGrant, DataGrant, Idle, Allocation, grant_to, grants_to, flow_after, flows_after}
+use Rattle.map_build.specs.Plan.{Purpose, Poll, UnsolicitedGrant, DataGrant, Idle, Allocation, grant_to, grants_to}
+use Rattle.map_build.specs.Plan.{flow_after, flows_after}
 
 -- so many minislots from an offset on, for this purpose
 abbrev pub allocation : ℕ → ℕ → Purpose → Allocation
@@ -30,7 +32,8 @@ flow_after-push start plan a f =
 pub flows_after-push : (start : ℕ) (plan : List Allocation) (a : Allocation) (flows : List LiveFlow) →
     flows_after start (plan ++ a ∷ []) flows ≡ flows_after start (a ∷ []) (flows_after start plan flows)
 flows_after-push start plan a [] = refl
-flows_after-push start plan a (f ∷ flows) = rw (flow_after-push start plan a f, flows_after-push start plan a flows) refl
+flows_after-push start plan a (f ∷ flows) =
+    rw (flow_after-push start plan a f, flows_after-push start plan a flows) refl
 
 -- after nothing they are the same
 pub flows_after-nil : (start : ℕ) (flows : List LiveFlow) → flows_after start [] flows ≡ flows
@@ -38,24 +41,28 @@ flows_after-nil start [] = refl
 flows_after-nil start (f ∷ flows) = rw (append-nil f.grants, flows_after-nil start flows) refl
 
 -- after an allocation that grants nothing they are the same
-pub flows_after-none : (start : ℕ) (a : Allocation) (flows : List LiveFlow) → ((sid : ℕ) → grants_to start sid (a ∷ []) ≡ []) →
+pub flows_after-none : (start : ℕ) (a : Allocation) (flows : List LiveFlow) →
+    ((sid : ℕ) → grants_to start sid (a ∷ []) ≡ []) →
     flows_after start (a ∷ []) flows ≡ flows
 flows_after-none start a [] none = refl
-flows_after-none start a (f ∷ flows) none = rw (none f.sid, append-nil f.grants, flows_after-none start a flows none) refl
+flows_after-none start a (f ∷ flows) none =
+    rw (none f.sid, append-nil f.grants, flows_after-none start a flows none) refl
 
 -- a grant, or none
 abbrev granted_if : Bool → Grant → List Grant
 granted_if true g = g ∷ []
 granted_if false g = []
 
-one-if : (b : Bool) (g : Grant) → filter_map (λ (o : Option Grant). o) ((if b then Some g else None) ∷ []) ≡ granted_if b g
+one-if : (b : Bool) (g : Grant) → filter_map (λ (o : Option Grant). o) ((if b then Some g else None) ∷ [])
+    ≡ granted_if b g
 one-if true g = refl
 one-if false g = refl
 
 grants_to-one : (start sid other offset slots bytes : ℕ) →
     grants_to start other (record { offset = offset; slots = slots; purpose = DataGrant sid bytes } ∷ [])
     ≡ granted_if (sid == other) (record { start = start + offset; bytes = bytes })
-grants_to-one start sid other offset slots bytes = one-if (sid == other) (record { start = start + offset; bytes = bytes })
+grants_to-one start sid other offset slots bytes =
+    one-if (sid == other) (record { start = start + offset; bytes = bytes })
 
 -- the flow of an SID after a plan
 pub flow_of-after : (start sid : ℕ) (plan : List Allocation) (flows : List LiveFlow) →
@@ -72,7 +79,8 @@ pub live-after : (start sid : ℕ) (plan : List Allocation) (flows : List LiveFl
 live-after start sid plan flows live = live-option (flow_after start plan) (flow_of sid flows)
     (rw (flow_of-after start sid plan flows) at live)
 
-started-if : (b : Bool) (g : Grant) (later : ℕ) → g.start ≤ later → AllByRecursion (λ g. g.start ≤ later) (granted_if b g)
+started-if : (b : Bool) (g : Grant) (later : ℕ) → g.start ≤ later →
+    AllByRecursion (λ g. g.start ≤ later) (granted_if b g)
 started-if true g later le = (le, tt)
 started-if false g later le = tt
 
@@ -86,7 +94,8 @@ started-purpose start later sid offset slots (DataGrant other bytes) le =
 started-purpose start later sid offset slots Idle le = tt
 
 -- grants that started by some minislot did by a later one
-pub started-later : (early later : ℕ) (grants : List Grant) → early ≤ later → AllByRecursion (λ g. g.start ≤ early) grants →
+pub started-later : (early later : ℕ) (grants : List Grant) → early ≤ later →
+    AllByRecursion (λ g. g.start ≤ early) grants →
     AllByRecursion (λ g. g.start ≤ later) grants
 started-later early later [] le all = tt
 started-later early later (g ∷ grants) le all = (omega (arith, all.0), started-later early later grants le all.1)
@@ -98,7 +107,8 @@ all-append P [] ys left right = right
 all-append P (x ∷ xs) ys left right = (left.0, all-append P xs ys left.1 right)
 
 -- after an allocation all grants have started by its end, where they had by its offset
-pub started-after : (start early later : ℕ) (a : Allocation) (flows : List LiveFlow) → early ≤ later → start + a.offset ≤ later →
+pub started-after : (start early later : ℕ) (a : Allocation) (flows : List LiveFlow) → early ≤ later →
+    start + a.offset ≤ later →
     AllByRecursion (HasStartedBy early) flows → AllByRecursion (HasStartedBy later) (flows_after start (a ∷ []) flows)
 started-after start early later a [] le here all = tt
 started-after start early later a (f ∷ flows) le here all = (

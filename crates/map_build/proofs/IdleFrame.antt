@@ -14,7 +14,8 @@ abbrev pub idle_map : Config → ℕ → ℕ → FrameMap
 idle_map c start ack = map_of c [] start ack (idle_plan c)
 
 -- it is lawful where no flow is live
-pub IsLawfulMap-idle : (c : Config) (start ack : ℕ) → c.req_slots < c.frame → IsLawfulMap c [] [] start ack (idle_map c start ack)
+pub IsLawfulMap-idle : (c : Config) (start ack : ℕ) → c.req_slots < c.frame →
+    IsLawfulMap c [] [] start ack (idle_map c start ack)
 IsLawfulMap-idle c start ack room = (
   idle_plan c,
   record {

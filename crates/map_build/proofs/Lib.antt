@@ -6,11 +6,11 @@ pub mod EachAfterLaws
 pub mod FlowsAfter
 pub mod IdleFrame
 pub mod NextGrants
-pub mod OneFlow
 pub mod OneMap
 pub mod Pendings
 pub mod Planned
 pub mod Plans
+pub mod Profile
 pub mod RowsCeiling
 pub mod RowsContention
 pub mod RowsFirstGrant

@@ -1,9 +1,11 @@
 -- The pending grants of flows, as they are gone through.
-use Rattle.std.proofs.Common.{◌≡◌, ℕ, zero, suc, ◌+◌, ◌<◌, true, nat_lt, ◌==◌, List, [], ◌∷◌, ◌++◌, length, take, slice_get, get_or, Option, None, Some, refl, ap, ◌∙◌, arith}
+use Rattle.std.proofs.Common.{◌≡◌, ℕ, ◌+◌, ◌<◌, true, nat_lt, ◌==◌, List, [], ◌∷◌, ◌++◌, length, take, slice_get}
+use Rattle.std.proofs.Common.{get_or, Option, None, Some, refl, ap, ◌∙◌, arith}
 use Rattle.std.specs.Option.{IfSome}
 use Rattle.std.proofs.lemmas.Bool.Decides.{nat_tests}
 use Rattle.std.proofs.lemmas.List.{map-append, append_assoc, take_more}
 use Rattle.std.proofs.lemmas.List.Elements.{filter-append}
+use Rattle.std.proofs.lemmas.Option.{slice_get-get_or}
 use Rattle.minislots.specs.declared.config.Config.{Config}
 use Rattle.map_codec.specs.declared.element.Element.{Element}
 use Rattle.map_codec.specs.declared.element.iuc.TheConstants.{LONG_DATA_GRANT}
@@ -47,24 +49,21 @@ PutsPending-some sid left old new end waits puts (Some f) named is =
 -- the flow that is found has the SID
 pub found-sid : (sid : ℕ) (flows : List LiveFlow) (f : LiveFlow) → flow_of sid flows ≡ Some f → f.sid ≡ sid
 found-sid sid flows f found =
-    let test : (f.sid == sid) ≡ true = (found-in (λ (g : LiveFlow). g.sid == sid) flows f found).1 in grind (arith, nat_tests)
+    let test : (f.sid == sid) ≡ true = (found-in (λ (g : LiveFlow). g.sid == sid) flows f found).1 in
+    grind (arith, nat_tests)
 
 -- the pending grants of some flows, and then of one more
 PutsPending-both : (flows : List LiveFlow) (f : LiveFlow) (old mid new : Draft) → PutsPending flows old mid →
     PutsPending (f ∷ []) mid new → PutsPending (flows ++ f ∷ []) old new
 PutsPending-both flows f old mid new first last = record {
   elements = last.elements ∙ rw (first.elements, ap (λ b. b.config) first.book, pending-push, append_assoc) refl;
-  bytes_of = last.bytes_of ∙ rw (first.bytes_of, ap (λ b. b.config) first.book, pending-push, map-append, append_assoc) refl;
+  bytes_of = last.bytes_of
+      ∙ rw (first.bytes_of, ap (λ b. b.config) first.book, pending-push, map-append, append_assoc) refl;
   offset = last.offset ∙ first.offset;
   book = last.book ∙ first.book;
   start = last.start ∙ first.start;
   grants = last.grants ∙ first.grants;
 }
-
-get-some : {X : Type 0} (xs : List X) (i : ℕ) (d : X) → i < length xs → slice_get xs i ≡ Some (get_or xs i d)
-get-some [] i d lt = absurd (omega arith)
-get-some (x ∷ xs) zero d lt = refl
-get-some (x ∷ xs) (suc i) d lt = get-some xs i d (omega arith)
 
 -- what a place past the end is read as
 abbrev no_flow : LiveFlow
@@ -73,11 +72,12 @@ no_flow = record { sid = 0; spec = BestEffort 0 0 0; asked = 0; grants = [] }
 -- of the flows up to a place, and then of the one in it
 pub PutsPending-more : (i sid : ℕ) (old mid new : Draft) → i < length old.book.flows →
     flow_of sid mid.book.flows ≡ slice_get mid.book.flows i →
-    PutsPending (take i old.book.flows) old mid → IfSome (flow_of sid mid.book.flows) (λ f. PutsPending (f ∷ []) mid new) →
+    PutsPending (take i old.book.flows) old mid →
+    IfSome (flow_of sid mid.book.flows) (λ f. PutsPending (f ∷ []) mid new) →
     PutsPending (take (i + 1) old.book.flows) old new
 PutsPending-more i sid old mid new lt found first after =
     let flows : List LiveFlow = old.book.flows in
     let at : flow_of sid mid.book.flows ≡ Some (get_or flows i no_flow) = found
-    ∙ ap (λ (b : BookView). slice_get b.flows i) first.book ∙ get-some flows i no_flow lt in
+    ∙ ap (λ (b : BookView). slice_get b.flows i) first.book ∙ slice_get-get_or flows i no_flow lt in
     let last : PutsPending (get_or flows i no_flow ∷ []) mid new = rw at at after in
     rw (take_more flows i no_flow lt) (PutsPending-both (take i flows) (get_or flows i no_flow) old mid new first last)

@@ -1,5 +1,6 @@
 -- The MAP of a draft that is filled and ended is lawful, and a lawful MAP has bytes.
-use Rattle.std.proofs.Common.{◌≡◌, ℕ, ◌<◌, ◌≤◌, List, [], ◌∷◌, map, filter, length, nat_lt, Contains, Bool, refl, sym, ap, subst, ◌∙◌, arith}
+use Rattle.std.proofs.Common.{◌≡◌, ℕ, ◌<◌, ◌≤◌, List, [], ◌∷◌, map, filter, length, nat_lt, Contains, Bool, refl, sym}
+use Rattle.std.proofs.Common.{ap, subst, ◌∙◌, arith}
 use Rattle.std.specs.List.{AllByRecursion}
 use Rattle.std.proofs.lemmas.List.{length-append, length-map}
 use Rattle.std.proofs.lemmas.List.Sums.{length-filter, count_by-le-length}
@@ -15,12 +16,13 @@ use Rattle.map_build.specs.declared.draft.Draft.{Draft}
 use Rattle.map_build.specs.declared.frame_map.FrameMap.{FrameMap}
 use Rattle.map_build.specs.Plan.{Allocation, end_of, flow_after, flows_after, allocation_of, IsPlan}
 use Rattle.map_build.specs.FrameMap.{element_of, null_element, pending, elements_of, bytes_of_plan, IsLawfulMap}
+use Rattle.map_build.specs.FrameMap.{map_with}
 use Rattle.map_build.specs.Spots.{IsInFrame, AreInFrame, IsFlowSid, HaveFlowSids, AreOfChannel}
-use Rattle.map_build.specs.Draft.{Ends, map_with}
+use Rattle.map_build.specs.Draft.{Ends}
 use Rattle.map_build.specs.Walk.{IsFilled, HasPlan, AreTaken}
 use Rattle.map_build.proofs.Counts.{length-plan}
 use Rattle.map_build.proofs.FlowsAfter.{flows_after-nil}
-use Rattle.map_build.proofs.OneMap.{AreApart}
+use Rattle.map_build.proofs.OneMap.{BeginApart}
 use Rattle.map_build.proofs.Standings.{spot-within, spots-apart}
 use Rattle.map_build.proofs.WellFormed.{AreEncodable, HaveSids, HaveSpotSids, elements_of-encodable}
 
@@ -32,7 +34,8 @@ all-taken c [] plan offset end each taken = tt
 all-taken c (s ∷ spots) plan offset end each taken =
     (taken.0 (omega (arith, each.0.some_slots, each.0.within)), all-taken c spots plan offset end each.1 taken.1)
 
-module _ (c : Config) (flows : List LiveFlow) (spots : List Spot) (start : ℕ) (plan : List Allocation) (filled ended : Draft)
+module _ (c : Config) (flows : List LiveFlow) (spots : List Spot) (start : ℕ) (plan : List Allocation)
+    (filled ended : Draft)
     (are : AreInFrame c spots) (has : HasPlan c flows spots start plan filled) (full : filled.offset ≡ c.frame)
     (ends : Ends filled ended) where
   plan-is : IsPlan c flows spots start plan
@@ -55,7 +58,8 @@ module _ (c : Config) (flows : List LiveFlow) (spots : List Spot) (start : ℕ) 
   pub lawful-map : (ack : ℕ) (m : FrameMap) → m ≡ map_with ended.book.config ended.start ack ended.elements.items
       ended.bytes.items →
       IsLawfulMap c flows spots start ack m
-  lawful-map ack m made = (plan, plan-is, made ∙ rw (elements-are, bytes-are, ends.book, ends.start, has.config, has.starts) refl)
+  lawful-map ack m made =
+      (plan, plan-is, made ∙ rw (elements-are, bytes-are, ends.book, ends.start, has.config, has.starts) refl)
 
 -- a draft with the plan of nothing has the flows
 begun-flows : (c : Config) (flows : List LiveFlow) (spots : List Spot) (start : ℕ) (d : Draft) →
@@ -80,14 +84,15 @@ filled-full spots begun filled is = is.2 ∙ ap (λ k. k.frame) (sym is.1.config
 pub planned : (c : Config) (flows : List LiveFlow) (spots : List Spot) (start ack : ℕ) (begun filled ended : Draft)
     (m : FrameMap) → AreInFrame c spots →
     HasPlan c flows spots start [] begun → IsFilled spots begun filled → Ends filled ended →
-    m ≡ map_with ended.book.config ended.start ack ended.elements.items ended.bytes.items → IsLawfulMap c flows spots start ack m
+    m ≡ map_with ended.book.config ended.start ack ended.elements.items ended.bytes.items →
+    IsLawfulMap c flows spots start ack m
 planned c flows spots start ack begun filled ended m are has (plan, filling, full) ends made =
     lawful-map c flows spots start plan filled ended are
     (rw (has.config, begun-flows c flows spots start begun has, has.starts) at filling) (full
     ∙ ap (λ k. k.frame) has.config) ends ack m made
 
 -- spots that do not overlap are apart
-pub apart-in-frame : (c : Config) (spots : List Spot) → AreInFrame c spots → AreApart spots
+pub apart-in-frame : (c : Config) (spots : List Spot) → AreInFrame c spots → BeginApart spots
 apart-in-frame c spots are = λ s t has has' begins.
     spots-apart c spots are s t has has' (omega (arith, begins))
     (omega (arith, begins, (spot-within c spots s are has).some_slots))
@@ -107,7 +112,12 @@ pending_of c f = record { sid = f.sid; iuc = LONG_DATA_GRANT; offset = c.frame }
 few-pending : (c : Config) (flows : List LiveFlow) → length (pending c flows) ≤ length flows
 few-pending c flows =
     let waits : LiveFlow → Bool = λ f. nat_lt 0 (outstanding f) in
-    omega (arith, length-map (filter waits flows) (pending_of c), length-filter waits flows, count_by-le-length waits flows)
+    omega (
+      arith,
+      length-map (filter waits flows) (pending_of c),
+      length-filter waits flows,
+      count_by-le-length waits flows,
+    )
 
 -- the elements of a lawful plan are few
 few-elements : (c : Config) (flows : List LiveFlow) (spots : List Spot) (start : ℕ) (plan : List Allocation) →
@@ -125,7 +135,8 @@ few-elements c flows spots start plan overhead places live is = omega (
 -- a lawful MAP of flows of a channel has bytes
 pub lawful-encodable : (c : Config) (flows : List LiveFlow) (spots : List Spot) (start ack : ℕ) (m : FrameMap) →
     IsLawful c → AreInFrame c spots →
-    IsLawfulMap c flows spots start ack m → FitsHeader m.wire → AreOfChannel flows → HaveFlowSids spots → IsWellFormed m.wire
+    IsLawfulMap c flows spots start ack m → FitsHeader m.wire → AreOfChannel flows → HaveFlowSids spots →
+    IsWellFormed m.wire
 lawful-encodable c flows spots start ack m lawful are (plan, is, made) fits channel places =
     let bounds : HasBounds c = bounds_of c lawful in
     let elements : m.wire.elements ≡ elements_of c flows start plan = ap (λ (n : FrameMap). n.wire.elements) made in

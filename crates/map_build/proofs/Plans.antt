@@ -8,7 +8,7 @@ use Rattle.periodic.specs.declared.placement.Spot.{Spot}
 use Rattle.map_build.specs.declared.draft.Draft.{Draft}
 use Rattle.map_build.specs.Plan.{Allocation, end_of, flows_after, is_data_grant, Stands}
 use Rattle.map_build.specs.Spots.{AreInFrame}
-use Rattle.map_build.specs.Walk.{IsReady, IsAfter, Takes, HasPlan}
+use Rattle.map_build.specs.Walk.{IsWellBegun, IsAfter, Takes, HasPlan}
 use Rattle.map_build.proofs.EachAfterLaws.{EachAfter-push}
 use Rattle.map_build.proofs.FlowsAfter.{flows_after-push, live-after, started-after}
 use Rattle.map_build.proofs.Clear.{grants-within, IsClear, clear-purpose, taken-all}
@@ -46,7 +46,7 @@ module _ (c : Config) (flows : List LiveFlow) (spots : List Spot) (start : ℕ) 
     );
   }
 
-  ready-push : IsReady new
+  ready-push : IsWellBegun new
   ready-push = record {
     lawful = rw takes.config has.ready.lawful;
     near = rw takes.start has.ready.near;

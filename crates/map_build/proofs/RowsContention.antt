@@ -7,27 +7,40 @@ use Rattle.map_build.specs.Plan.{Allocation, DataGrant}
 use Rattle.map_build.specs.FrameMap.{IsLawfulMap}
 use Rattle.flow_book.proofs.Base.{base}
 use Rattle.flow_book.proofs.Unlimited.{MayGrant-unlimited}
-use Rattle.flow_book.proofs.RowsChoice.{low, high, lower_sid, higher_sid, the_higher_priority_is_next, the_lower_sid_is_next}
+use Rattle.flow_book.proofs.RowsChoice.{low, high, lower_sid, higher_sid, the_higher_priority_is_next}
+use Rattle.flow_book.proofs.RowsChoice.{the_lower_sid_is_next}
+use Rattle.map_build.proofs.FlowsAfter.{allocation}
 use Rattle.map_build.proofs.RowsMaps.{element, base_map}
 
 -- the frame behind the request region as one grant to this flow
 abbrev pub filled_by : ℕ → List Allocation
-filled_by sid = record { offset = 4; slots = 36; purpose = DataGrant sid 544 } ∷ []
+filled_by sid = allocation 4 36 (DataGrant sid 544) ∷ []
 
 -- the MAP that serves the higher priority: the other flow's grant is pending
 abbrev pub high_first : FrameMap
-high_first = base_map 840 800 (element 0x3fff 1 0 ∷ element 21 6 4 ∷ element 0 7 40 ∷ element 20 6 40 ∷ []) (0 ∷ 544 ∷ 0 ∷ 0 ∷ [])
+high_first = base_map 840 800 (element 0x3fff 1 0 ∷ element 21 6 4 ∷ element 0 7 40 ∷ element 20 6 40 ∷ [])
+    (0 ∷ 544 ∷ 0 ∷ 0 ∷ [])
 
 -- 544 bytes fill the room of 36 minislots
 amount_of_high : IsAmount base high 844 36 544
-amount_of_high = record { allowed = MayGrant-unlimited base high 844 36 544 refl (lit< tt) (lit≤ tt) (lit≤ tt) (lit≤ tt); greatest = λ more may. may.asked }
+amount_of_high = record {
+  allowed = MayGrant-unlimited base high 844 36 544 refl (lit< tt) (lit≤ tt) (lit≤ tt) (lit≤ tt);
+  greatest = λ more may. may.asked;
+}
 
 -- it is lawful
 pub the_higher_priority_is_served_first : IsLawfulMap base (low ∷ high ∷ []) [] 840 800 high_first
 the_higher_priority_is_served_first = (
   filled_by 21,
   record {
-    each = (record { some_slots = lit< tt; follows = refl; purpose = (lit< tt, high, refl, the_higher_priority_is_next, amount_of_high, refl) }, tt);
+    each = (
+      record {
+        some_slots = lit< tt;
+        follows = refl;
+        purpose = (lit< tt, high, refl, the_higher_priority_is_next, amount_of_high, refl);
+      },
+      tt,
+    );
     whole = refl;
     due = tt;
   },
@@ -35,23 +48,36 @@ the_higher_priority_is_served_first = (
 )
 
 -- its elements are the request region, the grant, the Null and the pending grant
-pub the_words_where_the_higher_priority_is_served : map word_of high_first.wire.elements ≡ 0xfffc4000 ∷ 0x00558004 ∷ 0x0001c028 ∷ 0x00518028 ∷ []
+pub the_words_where_the_higher_priority_is_served : map word_of high_first.wire.elements
+    ≡ 0xfffc4000 ∷ 0x00558004 ∷ 0x0001c028 ∷ 0x00518028 ∷ []
 the_words_where_the_higher_priority_is_served = refl
 
 -- the MAP of two flows of one priority: the lower SID's grant, and both have one pending
 abbrev pub both_pending : FrameMap
-both_pending = base_map 840 800 (element 0x3fff 1 0 ∷ element 20 6 4 ∷ element 0 7 40 ∷ element 20 6 40 ∷ element 21 6 40 ∷ []) (0 ∷ 544 ∷ 0 ∷ 0 ∷ 0 ∷ [])
+both_pending =
+    base_map 840 800 (element 0x3fff 1 0 ∷ element 20 6 4 ∷ element 0 7 40 ∷ element 20 6 40 ∷ element 21 6 40 ∷ [])
+    (0 ∷ 544 ∷ 0 ∷ 0 ∷ 0 ∷ [])
 
 -- of 1000 bytes 544 fit the room
 amount_of_lower_sid : IsAmount base lower_sid 844 36 544
-amount_of_lower_sid = record { allowed = MayGrant-unlimited base lower_sid 844 36 544 refl (lit< tt) (lit≤ tt) (lit≤ tt) (lit≤ tt); greatest = λ more may. omega (arith, may.taken.fits) }
+amount_of_lower_sid = record {
+  allowed = MayGrant-unlimited base lower_sid 844 36 544 refl (lit< tt) (lit≤ tt) (lit≤ tt) (lit≤ tt);
+  greatest = λ more may. omega (arith, may.taken.fits);
+}
 
 -- it is lawful
 pub two_flows_take_turns : IsLawfulMap base (lower_sid ∷ higher_sid ∷ []) [] 840 800 both_pending
 two_flows_take_turns = (
   filled_by 20,
   record {
-    each = (record { some_slots = lit< tt; follows = refl; purpose = (lit< tt, lower_sid, refl, the_lower_sid_is_next, amount_of_lower_sid, refl) }, tt);
+    each = (
+      record {
+        some_slots = lit< tt;
+        follows = refl;
+        purpose = (lit< tt, lower_sid, refl, the_lower_sid_is_next, amount_of_lower_sid, refl);
+      },
+      tt,
+    );
     whole = refl;
     due = tt;
   },
@@ -59,5 +85,6 @@ two_flows_take_turns = (
 )
 
 -- its elements are the request region, the grant, the Null and two pending grants
-pub the_words_where_two_flows_take_turns : map word_of both_pending.wire.elements ≡ 0xfffc4000 ∷ 0x00518004 ∷ 0x0001c028 ∷ 0x00518028 ∷ 0x00558028 ∷ []
+pub the_words_where_two_flows_take_turns : map word_of both_pending.wire.elements
+    ≡ 0xfffc4000 ∷ 0x00518004 ∷ 0x0001c028 ∷ 0x00518028 ∷ 0x00558028 ∷ []
 the_words_where_two_flows_take_turns = refl

@@ -17,10 +17,14 @@ fresh burst asked = record { sid = 17; spec = BestEffort 3 64000 burst; asked = 
 
 -- it may take up to 544 bytes at once, where these are no more than its burst
 may_take : (burst asked start bytes : ℕ) → 544 ≤ burst → bytes ≤ 544 → MayTake base (fresh burst asked) start 36 bytes
-may_take burst asked start bytes enough few = record { ceiling = KeepsCeiling-first base 64000 burst (record { start = start; bytes = bytes }) (omega arith); fits = omega arith }
+may_take burst asked start bytes enough few = record {
+  ceiling = KeepsCeiling-first base 64000 burst (record { start = start; bytes = bytes }) (omega arith);
+  fits = omega arith;
+}
 
 -- alone it is next
-next : (burst asked start : ℕ) → 544 ≤ burst → 544 ≤ asked → IsNext base (fresh burst asked ∷ []) start 36 (fresh burst asked)
+next : (burst asked start : ℕ) → 544 ≤ burst → 544 ≤ asked →
+    IsNext base (fresh burst asked ∷ []) start 36 (fresh burst asked)
 next burst asked start enough many = record {
   live = (0, lit< tt, refl);
   eligible = record { serves = refl; waits = omega arith; takes = may_take burst asked start _ enough (omega arith) };
@@ -30,20 +34,42 @@ next burst asked start enough many = record {
 -- its amount is 544 bytes
 amount : (burst asked start : ℕ) → 544 ≤ burst → 544 ≤ asked → IsAmount base (fresh burst asked) start 36 544
 amount burst asked start enough many = record {
-  allowed = record { positive = lit< tt; asked = omega arith; capped = lit≤ tt; taken = may_take burst asked start 544 enough (lit≤ tt) };
+  allowed = record {
+    positive = lit< tt;
+    asked = omega arith;
+    capped = lit≤ tt;
+    taken = may_take burst asked start 544 enough (lit≤ tt);
+  };
   greatest = λ more may. omega (arith, may.taken.fits);
 }
 
 -- the MAP of its first grant, with the rest pending
 abbrev pub first_grant : FrameMap
-first_grant = base_map 840 800 (element 0x3fff 1 0 ∷ element 17 6 4 ∷ element 0 7 40 ∷ element 17 6 40 ∷ []) (0 ∷ 544 ∷ 0 ∷ 0 ∷ [])
+first_grant = base_map 840 800 (element 0x3fff 1 0 ∷ element 17 6 4 ∷ element 0 7 40 ∷ element 17 6 40 ∷ [])
+    (0 ∷ 544 ∷ 0 ∷ 0 ∷ [])
 
 -- it is lawful, whatever the burst above 544
-pub a_first_grant_fills_the_room : (burst : ℕ) → 544 ≤ burst → IsLawfulMap base (fresh burst 3000 ∷ []) [] 840 800 first_grant
+pub a_first_grant_fills_the_room : (burst : ℕ) → 544 ≤ burst →
+    IsLawfulMap base (fresh burst 3000 ∷ []) [] 840 800 first_grant
 a_first_grant_fills_the_room burst enough = (
   filled_by 17,
   record {
-    each = (record { some_slots = lit< tt; follows = refl; purpose = (lit< tt, fresh burst 3000, refl, next burst 3000 844 enough (lit≤ tt), amount burst 3000 844 enough (lit≤ tt), refl) }, tt);
+    each = (
+      record {
+        some_slots = lit< tt;
+        follows = refl;
+        purpose = (
+          lit< tt,
+          fresh burst 3000,
+          refl,
+          next burst 3000 844 enough (lit≤ tt),
+          amount burst 3000 844 enough
+              (lit≤ tt),
+          refl,
+        );
+      },
+      tt,
+    );
     whole = refl;
     due = tt;
   },
@@ -51,7 +77,8 @@ a_first_grant_fills_the_room burst enough = (
 )
 
 -- its elements are the request region, the grant, the Null and a pending grant
-pub the_words_of_a_first_grant : map word_of first_grant.wire.elements ≡ 0xfffc4000 ∷ 0x00458004 ∷ 0x0001c028 ∷ 0x00458028 ∷ []
+pub the_words_of_a_first_grant : map word_of first_grant.wire.elements
+    ≡ 0xfffc4000 ∷ 0x00458004 ∷ 0x0001c028 ∷ 0x00458028 ∷ []
 the_words_of_a_first_grant = refl
 
 -- the MAP of a first grant of all that was asked
@@ -63,7 +90,22 @@ pub a_first_grant_of_all_that_was_asked : IsLawfulMap base (fresh 600 544 ∷ []
 a_first_grant_of_all_that_was_asked = (
   filled_by 17,
   record {
-    each = (record { some_slots = lit< tt; follows = refl; purpose = (lit< tt, fresh 600 544, refl, next 600 544 884 (lit≤ tt) (lit≤ tt), amount 600 544 884 (lit≤ tt) (lit≤ tt), refl) }, tt);
+    each = (
+      record {
+        some_slots = lit< tt;
+        follows = refl;
+        purpose = (
+          lit< tt,
+          fresh 600 544,
+          refl,
+          next 600 544 884 (lit≤ tt) (lit≤ tt),
+          amount 600 544 884 (lit≤ tt)
+              (lit≤ tt),
+          refl,
+        );
+      },
+      tt,
+    );
     whole = refl;
     due = tt;
   },

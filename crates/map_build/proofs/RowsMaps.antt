@@ -9,6 +9,7 @@ use Rattle.map_build.specs.declared.frame_map.FrameMap.{FrameMap}
 use Rattle.map_build.specs.Plan.{Allocation, DataGrant, Idle}
 use Rattle.map_build.specs.FrameMap.{IsLawfulMap}
 use Rattle.flow_book.proofs.Base.{base}
+use Rattle.map_build.proofs.FlowsAfter.{allocation}
 
 -- an element
 abbrev pub element : ℕ → ℕ → ℕ → Element
@@ -19,13 +20,24 @@ abbrev pub base_map : ℕ → ℕ → List Element → List ℕ → FrameMap
 base_map start ack elements bytes = record {
   start = start;
   ack = ack;
-  wire = record { channel = 3; ucd_count = 1; reserved = 0; alloc_start = start; ack = ack; ranging_start = 0; ranging_end = 0; data_start = 0; data_end = 0; elements = elements };
+  wire = record {
+    channel = 3;
+    ucd_count = 1;
+    reserved = 0;
+    alloc_start = start;
+    ack = ack;
+    ranging_start = 0;
+    ranging_end = 0;
+    data_start = 0;
+    data_end = 0;
+    elements = elements;
+  };
   bytes = bytes;
 }
 
 -- a frame that is idle behind its request region
 abbrev pub all_idle : List Allocation
-all_idle = record { offset = 4; slots = 36; purpose = Idle } ∷ []
+all_idle = allocation 4 36 Idle ∷ []
 
 -- the MAP of the first frame, where no flow is live
 abbrev pub first_map : FrameMap
@@ -49,7 +61,8 @@ the_words_of_a_frame_without_flows = refl
 
 -- its payload is these 28 bytes
 pub the_bytes_of_a_frame_without_flows : spelling first_map.wire
-    ≡ 3 ∷ 1 ∷ 3 ∷ 0 ∷ 0 ∷ 0 ∷ 3 ∷ 0x20 ∷ 0 ∷ 0 ∷ 3 ∷ 0x20 ∷ 0 ∷ 0 ∷ 0 ∷ 0 ∷ 0xff ∷ 0xfc ∷ 0x40 ∷ 0 ∷ 0 ∷ 1 ∷ 0x80 ∷ 4 ∷ 0 ∷ 1 ∷ 0xc0 ∷ 0x28 ∷ []
+    ≡ 3 ∷ 1 ∷ 3 ∷ 0 ∷ 0 ∷ 0 ∷ 3 ∷ 0x20 ∷ 0 ∷ 0 ∷ 3 ∷ 0x20 ∷ 0 ∷ 0 ∷ 0 ∷ 0
+    ∷ 0xff ∷ 0xfc ∷ 0x40 ∷ 0 ∷ 0 ∷ 1 ∷ 0x80 ∷ 4 ∷ 0 ∷ 1 ∷ 0xc0 ∷ 0x28 ∷ []
 unfolding spelling header
 the_bytes_of_a_frame_without_flows = refl
 
@@ -59,11 +72,12 @@ small = record { sid = 17; spec = BestEffort 3 0 0; asked = 100; grants = [] }
 
 -- a frame with its grant of nine minislots
 abbrev pub one_grant : List Allocation
-one_grant = record { offset = 4; slots = 9; purpose = DataGrant 17 100 } ∷ record { offset = 13; slots = 27; purpose = Idle } ∷ []
+one_grant = allocation 4 9 (DataGrant 17 100) ∷ allocation 13 27 Idle ∷ []
 
 -- the MAP of the second frame, where that flow is live
 abbrev pub second_map : FrameMap
-second_map = base_map 840 800 (element 0x3fff 1 0 ∷ element 17 6 4 ∷ element 0 6 13 ∷ element 0 7 40 ∷ []) (0 ∷ 100 ∷ 0 ∷ 0 ∷ [])
+second_map = base_map 840 800 (element 0x3fff 1 0 ∷ element 17 6 4 ∷ element 0 6 13 ∷ element 0 7 40 ∷ [])
+    (0 ∷ 100 ∷ 0 ∷ 0 ∷ [])
 
 -- it is lawful
 pub a_frame_with_one_grant : IsLawfulMap base (small ∷ []) [] 840 800 second_map
@@ -80,17 +94,33 @@ a_frame_with_one_grant = (
           refl,
           record {
             live = (0, lit< tt, refl);
-            eligible = record { serves = refl; waits = lit< tt; takes = record { ceiling = λ limited. absurd (omega arith); fits = lit≤ tt } };
+            eligible = record {
+              serves = refl;
+              waits = lit< tt;
+              takes = record { ceiling = λ limited. absurd (omega arith); fits = lit≤ tt };
+            };
             first = ((λ e. inl refl), tt);
           },
           record {
-            allowed = record { positive = lit< tt; asked = lit≤ tt; capped = lit≤ tt; taken = record { ceiling = λ limited. absurd (omega arith); fits = lit≤ tt } };
+            allowed = record {
+              positive = lit< tt;
+              asked = lit≤ tt;
+              capped = lit≤ tt;
+              taken = record { ceiling = λ limited. absurd (omega arith); fits = lit≤ tt };
+            };
             greatest = λ more may. may.asked;
           },
           refl,
         );
       },
-      (record { some_slots = lit< tt; follows = refl; purpose = (refl, inr ((λ e. absurd (omega (arith, e.waits))), tt)) }, tt),
+      (
+        record {
+          some_slots = lit< tt;
+          follows = refl;
+          purpose = (refl, inr ((λ e. absurd (omega (arith, e.waits))), tt));
+        },
+        tt,
+      ),
     );
     whole = refl;
     due = tt;
@@ -99,5 +129,6 @@ a_frame_with_one_grant = (
 )
 
 -- its elements are the request region, a long grant, an idle and the Null, and no grant is pending
-pub the_words_of_a_frame_with_one_grant : map word_of second_map.wire.elements ≡ 0xfffc4000 ∷ 0x00458004 ∷ 0x0001800d ∷ 0x0001c028 ∷ []
+pub the_words_of_a_frame_with_one_grant : map word_of second_map.wire.elements
+    ≡ 0xfffc4000 ∷ 0x00458004 ∷ 0x0001800d ∷ 0x0001c028 ∷ []
 the_words_of_a_frame_with_one_grant = refl

@@ -8,6 +8,7 @@ use Rattle.map_build.specs.declared.frame_map.FrameMap.{FrameMap}
 use Rattle.map_build.specs.Plan.{Allocation, Poll, Idle}
 use Rattle.map_build.specs.FrameMap.{IsLawfulMap}
 use Rattle.flow_book.proofs.Base.{base}
+use Rattle.map_build.proofs.FlowsAfter.{allocation}
 use Rattle.map_build.proofs.RowsMaps.{element, base_map}
 
 -- a polled flow of 5000 microseconds that asked nothing yet
@@ -20,11 +21,12 @@ its_poll = record { sid = 9; poll = true; offset = 4; slots = 2 }
 
 -- a frame with the poll
 abbrev pub poll_and_idle : List Allocation
-poll_and_idle = record { offset = 4; slots = 2; purpose = Poll 9 } ∷ record { offset = 6; slots = 34; purpose = Idle } ∷ []
+poll_and_idle = allocation 4 2 (Poll 9) ∷ allocation 6 34 Idle ∷ []
 
 -- the MAP of a frame with the poll
 abbrev pub poll_map : FrameMap
-poll_map = base_map 800 800 (element 0x3fff 1 0 ∷ element 9 1 4 ∷ element 0 6 6 ∷ element 0 7 40 ∷ []) (0 ∷ 0 ∷ 0 ∷ 0 ∷ [])
+poll_map = base_map 800 800 (element 0x3fff 1 0 ∷ element 9 1 4 ∷ element 0 6 6 ∷ element 0 7 40 ∷ [])
+    (0 ∷ 0 ∷ 0 ∷ 0 ∷ [])
 
 -- it is lawful
 pub a_frame_with_a_poll : IsLawfulMap base (polled ∷ []) (its_poll ∷ []) 800 800 poll_map
@@ -33,7 +35,14 @@ a_frame_with_a_poll = (
   record {
     each = (
       record { some_slots = lit< tt; follows = refl; purpose = (0, lit< tt, refl) },
-      (record { some_slots = lit< tt; follows = refl; purpose = (refl, inr ((λ e. absurd (omega (arith, e.waits))), tt)) }, tt),
+      (
+        record {
+          some_slots = lit< tt;
+          follows = refl;
+          purpose = (refl, inr ((λ e. absurd (omega (arith, e.waits))), tt));
+        },
+        tt,
+      ),
     );
     whole = refl;
     due = ((0, lit< tt, refl), tt);
@@ -42,5 +51,6 @@ a_frame_with_a_poll = (
 )
 
 -- its elements are the request region, the poll, an idle and the Null
-pub the_words_of_a_frame_with_a_poll : map word_of poll_map.wire.elements ≡ 0xfffc4000 ∷ 0x00244004 ∷ 0x00018006 ∷ 0x0001c028 ∷ []
+pub the_words_of_a_frame_with_a_poll : map word_of poll_map.wire.elements
+    ≡ 0xfffc4000 ∷ 0x00244004 ∷ 0x00018006 ∷ 0x0001c028 ∷ []
 the_words_of_a_frame_with_a_poll = refl

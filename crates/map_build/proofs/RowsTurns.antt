@@ -10,6 +10,7 @@ use Rattle.map_build.specs.Plan.{Allocation, DataGrant, Idle}
 use Rattle.map_build.specs.FrameMap.{IsLawfulMap}
 use Rattle.flow_book.proofs.Base.{base}
 use Rattle.flow_book.proofs.Unlimited.{MayGrant-unlimited, IsEligible-unlimited}
+use Rattle.map_build.proofs.FlowsAfter.{allocation}
 use Rattle.map_build.proofs.RowsMaps.{element, base_map}
 use Rattle.map_build.proofs.RowsContention.{filled_by}
 
@@ -34,18 +35,30 @@ the_other_is_next = record {
 
 -- it gets what fits
 amount_of_the_other : IsAmount base (higher []) 884 36 544
-amount_of_the_other = record { allowed = MayGrant-unlimited base (higher []) 884 36 544 refl (lit< tt) (lit≤ tt) (lit≤ tt) (lit≤ tt); greatest = λ more may. omega (arith, may.taken.fits) }
+amount_of_the_other = record {
+  allowed = MayGrant-unlimited base (higher []) 884 36 544 refl (lit< tt) (lit≤ tt) (lit≤ tt) (lit≤ tt);
+  greatest = λ more may. omega (arith, may.taken.fits);
+}
 
 -- the MAP of the other flow's turn
 abbrev pub second_turn : FrameMap
-second_turn = base_map 880 800 (element 0x3fff 1 0 ∷ element 21 6 4 ∷ element 0 7 40 ∷ element 20 6 40 ∷ element 21 6 40 ∷ []) (0 ∷ 544 ∷ 0 ∷ 0 ∷ 0 ∷ [])
+second_turn =
+    base_map 880 800 (element 0x3fff 1 0 ∷ element 21 6 4 ∷ element 0 7 40 ∷ element 20 6 40 ∷ element 21 6 40 ∷ [])
+    (0 ∷ 544 ∷ 0 ∷ 0 ∷ 0 ∷ [])
 
 -- it is lawful
 pub the_flow_without_a_grant_is_served : IsLawfulMap base (lower (grant_at 844) ∷ higher [] ∷ []) [] 880 800 second_turn
 the_flow_without_a_grant_is_served = (
   filled_by 21,
   record {
-    each = (record { some_slots = lit< tt; follows = refl; purpose = (lit< tt, higher [], refl, the_other_is_next, amount_of_the_other, refl) }, tt);
+    each = (
+      record {
+        some_slots = lit< tt;
+        follows = refl;
+        purpose = (lit< tt, higher [], refl, the_other_is_next, amount_of_the_other, refl);
+      },
+      tt,
+    );
     whole = refl;
     due = tt;
   },
@@ -53,7 +66,8 @@ the_flow_without_a_grant_is_served = (
 )
 
 -- its elements are the request region, the grant, the Null and two pending grants
-pub the_words_of_the_second_turn : map word_of second_turn.wire.elements ≡ 0xfffc4000 ∷ 0x00558004 ∷ 0x0001c028 ∷ 0x00518028 ∷ 0x00558028 ∷ []
+pub the_words_of_the_second_turn : map word_of second_turn.wire.elements
+    ≡ 0xfffc4000 ∷ 0x00558004 ∷ 0x0001c028 ∷ 0x00518028 ∷ 0x00558028 ∷ []
 the_words_of_the_second_turn = refl
 
 -- then the flow whose last grant is the earlier is next
@@ -66,24 +80,44 @@ the_earlier_is_next = record {
 
 -- it gets the 456 bytes that are left of its request
 amount_of_the_earlier : IsAmount base (lower (grant_at 844)) 924 36 456
-amount_of_the_earlier = record { allowed = MayGrant-unlimited base (lower (grant_at 844)) 924 36 456 refl (lit< tt) (lit≤ tt) (lit≤ tt) (lit≤ tt); greatest = λ more may. may.asked }
+amount_of_the_earlier = record {
+  allowed = MayGrant-unlimited base (lower (grant_at 844)) 924 36 456 refl (lit< tt) (lit≤ tt) (lit≤ tt) (lit≤ tt);
+  greatest = λ more may. may.asked;
+}
 
 -- the frame with that grant, and five minislots idle
 abbrev rest_granted : List Allocation
-rest_granted = record { offset = 4; slots = 31; purpose = DataGrant 20 456 } ∷ record { offset = 35; slots = 5; purpose = Idle } ∷ []
+rest_granted = allocation 4 31 (DataGrant 20 456) ∷ allocation 35 5 Idle ∷ []
 
 -- its MAP
 abbrev pub third_turn : FrameMap
-third_turn = base_map 920 800 (element 0x3fff 1 0 ∷ element 20 6 4 ∷ element 0 6 35 ∷ element 0 7 40 ∷ element 21 6 40 ∷ []) (0 ∷ 456 ∷ 0 ∷ 0 ∷ 0 ∷ [])
+third_turn =
+    base_map 920 800 (element 0x3fff 1 0 ∷ element 20 6 4 ∷ element 0 6 35 ∷ element 0 7 40 ∷ element 21 6 40 ∷ [])
+    (0 ∷ 456 ∷ 0 ∷ 0 ∷ 0 ∷ [])
 
 -- it is lawful: one flow has all it asked, and the quantum of the other does not fit
-pub the_flow_with_the_earlier_grant_is_served : IsLawfulMap base (lower (grant_at 844) ∷ higher (grant_at 884) ∷ []) [] 920 800 third_turn
+pub the_flow_with_the_earlier_grant_is_served : IsLawfulMap base (lower (grant_at 844) ∷ higher (grant_at 884) ∷ [])
+    [] 920 800 third_turn
 the_flow_with_the_earlier_grant_is_served = (
   rest_granted,
   record {
     each = (
-      record { some_slots = lit< tt; follows = refl; purpose = (lit< tt, lower (grant_at 844), refl, the_earlier_is_next, amount_of_the_earlier, refl) },
-      (record { some_slots = lit< tt; follows = refl; purpose = (refl, inr ((λ e. absurd (omega (arith, e.waits))), ((λ e. absurd (omega (arith, e.takes.fits))), tt))) }, tt),
+      record {
+        some_slots = lit< tt;
+        follows = refl;
+        purpose = (lit< tt, lower (grant_at 844), refl, the_earlier_is_next, amount_of_the_earlier, refl);
+      },
+      (
+        record {
+          some_slots = lit< tt;
+          follows = refl;
+          purpose = (
+            refl,
+            inr ((λ e. absurd (omega (arith, e.waits))), ((λ e. absurd (omega (arith, e.takes.fits))), tt)),
+          );
+        },
+        tt,
+      ),
     );
     whole = refl;
     due = tt;
@@ -92,5 +126,6 @@ the_flow_with_the_earlier_grant_is_served = (
 )
 
 -- its elements are the request region, the grant, an idle, the Null and one pending grant
-pub the_words_of_the_third_turn : map word_of third_turn.wire.elements ≡ 0xfffc4000 ∷ 0x00518004 ∷ 0x00018023 ∷ 0x0001c028 ∷ 0x00558028 ∷ []
+pub the_words_of_the_third_turn : map word_of third_turn.wire.elements
+    ≡ 0xfffc4000 ∷ 0x00518004 ∷ 0x00018023 ∷ 0x0001c028 ∷ 0x00558028 ∷ []
 the_words_of_the_third_turn = refl

@@ -1,5 +1,5 @@
 -- A worked example of a lawful MAP with unsolicited grants.
-use Rattle.std.proofs.Common.{◌≡◌, false, List, [], ◌∷◌, map, refl, inr, lit<, arith}
+use Rattle.std.proofs.Common.{◌≡◌, ℕ, List, [], ◌∷◌, map, refl, inr, lit<, arith}
 use Rattle.map_codec.specs.Element.{word_of}
 use Rattle.flow_book.specs.Flows.{LiveFlow}
 use Rattle.periodic.specs.declared.placement.Spot.{Spot}
@@ -7,24 +7,31 @@ use Rattle.map_build.specs.declared.frame_map.FrameMap.{FrameMap}
 use Rattle.map_build.specs.Plan.{Allocation, UnsolicitedGrant, Idle}
 use Rattle.map_build.specs.FrameMap.{IsLawfulMap}
 use Rattle.flow_book.proofs.Base.{base}
-use Rattle.periodic.proofs.RowsPlacement.{voice}
+use Rattle.periodic.proofs.RowsPlacement.{voice, voice_at}
+use Rattle.map_build.proofs.FlowsAfter.{allocation}
 use Rattle.map_build.proofs.RowsMaps.{element, base_map}
+
+-- an unsolicited flow
+abbrev voice_flow : ℕ → LiveFlow
+voice_flow sid = record { sid = sid; spec = voice; asked = 0; grants = [] }
 
 -- the unsolicited flows 5 and 6
 abbrev pub voices : List LiveFlow
-voices = record { sid = 5; spec = voice; asked = 0; grants = [] } ∷ record { sid = 6; spec = voice; asked = 0; grants = [] } ∷ []
+voices = voice_flow 5 ∷ voice_flow 6 ∷ []
 
 -- what they take of the frame: 15 minislots each
 abbrev pub their_spots : List Spot
-their_spots = record { sid = 5; poll = false; offset = 4; slots = 15 } ∷ record { sid = 6; poll = false; offset = 19; slots = 15 } ∷ []
+their_spots = voice_at 5 4 ∷ voice_at 6 19 ∷ []
 
 -- the frame with both grants, and the rest idle
 abbrev two_grants : List Allocation
-two_grants = record { offset = 4; slots = 15; purpose = UnsolicitedGrant 5 } ∷ record { offset = 19; slots = 15; purpose = UnsolicitedGrant 6 } ∷ record { offset = 34; slots = 6; purpose = Idle } ∷ []
+two_grants = allocation 4 15 (UnsolicitedGrant 5) ∷ allocation 19 15 (UnsolicitedGrant 6) ∷ allocation 34 6 Idle ∷ []
 
 -- the MAP of the frame
 abbrev pub unsolicited_map : FrameMap
-unsolicited_map = base_map 800 800 (element 0x3fff 1 0 ∷ element 5 6 4 ∷ element 6 6 19 ∷ element 0 6 34 ∷ element 0 7 40 ∷ []) (0 ∷ 0 ∷ 0 ∷ 0 ∷ 0 ∷ [])
+unsolicited_map =
+    base_map 800 800 (element 0x3fff 1 0 ∷ element 5 6 4 ∷ element 6 6 19 ∷ element 0 6 34 ∷ element 0 7 40 ∷ [])
+    (0 ∷ 0 ∷ 0 ∷ 0 ∷ 0 ∷ [])
 
 -- it is lawful
 pub a_frame_with_unsolicited_grants : IsLawfulMap base voices their_spots 800 800 unsolicited_map
@@ -35,7 +42,17 @@ a_frame_with_unsolicited_grants = (
       record { some_slots = lit< tt; follows = refl; purpose = (0, lit< tt, refl) },
       (
         record { some_slots = lit< tt; follows = refl; purpose = (1, lit< tt, refl) },
-        (record { some_slots = lit< tt; follows = refl; purpose = (refl, inr ((λ e. absurd (omega (arith, e.waits))), ((λ e. absurd (omega (arith, e.waits))), tt))) }, tt),
+        (
+          record {
+            some_slots = lit< tt;
+            follows = refl;
+            purpose = (
+              refl,
+              inr ((λ e. absurd (omega (arith, e.waits))), ((λ e. absurd (omega (arith, e.waits))), tt)),
+            );
+          },
+          tt,
+        ),
       ),
     );
     whole = refl;
@@ -45,5 +62,6 @@ a_frame_with_unsolicited_grants = (
 )
 
 -- its elements are the request region, the two grants, an idle and the Null
-pub the_words_of_a_frame_with_unsolicited_grants : map word_of unsolicited_map.wire.elements ≡ 0xfffc4000 ∷ 0x00158004 ∷ 0x00198013 ∷ 0x00018022 ∷ 0x0001c028 ∷ []
+pub the_words_of_a_frame_with_unsolicited_grants : map word_of unsolicited_map.wire.elements
+    ≡ 0xfffc4000 ∷ 0x00158004 ∷ 0x00198013 ∷ 0x00018022 ∷ 0x0001c028 ∷ []
 the_words_of_a_frame_with_unsolicited_grants = refl

@@ -1,5 +1,6 @@
 -- A lawful MAP is lawful for the same spots in any order.
-use Rattle.std.proofs.Common.{◌≡◌, ℕ, zero, suc, ◌+◌, ◌*◌, Result, ◌≤◌, List, [], ◌∷◌, ◌++◌, length, Contains, inl, inr, refl, subst, ◌∙◌, arith}
+use Rattle.std.proofs.Common.{◌≡◌, ℕ, zero, suc, ◌+◌, ◌*◌, Result, ◌≤◌, List, [], ◌∷◌, ◌++◌, length, Contains, inl}
+use Rattle.std.proofs.Common.{inr, refl, subst, ◌∙◌, arith}
 use Rattle.std.specs.List.{AllByRecursion}
 use Rattle.std.specs.List.Sorted.{IsPermutation}
 use Rattle.std.specs.Result.{IfOk}
@@ -13,7 +14,8 @@ use Rattle.periodic.specs.Placement.{Placed, spots_in}
 use Rattle.periodic.specs.Table.{FollowInTurn, IsWithinFrame}
 use Rattle.map_build.specs.declared.frame_map.FrameMap.{FrameMap}
 use Rattle.map_build.specs.EachAfter.{EachAfter}
-use Rattle.map_build.specs.Plan.{Purpose, Poll, UnsolicitedGrant, DataGrant, Idle, Allocation, next_stop, room_at, flows_after, Stands, StandsFor, allocation_of}
+use Rattle.map_build.specs.Plan.{Purpose, Poll, UnsolicitedGrant, DataGrant, Idle, Allocation, next_stop, room_at}
+use Rattle.map_build.specs.Plan.{flows_after, Stands, StandsByItsRule, allocation_of}
 use Rattle.map_build.specs.FrameMap.{IsLawfulMap}
 use Rattle.map_build.specs.Spots.{IsInFrame, AreInFrame, HaveFlowSids}
 use Rattle.map_build.proofs.Standings.{member-at}
@@ -42,11 +44,12 @@ next_stop-among c spots others offset among = elim (next_stop-is c spots offset)
 module _ (c : Config) (flows : List LiveFlow) (start : ℕ) (spots others : List Spot) (there : AreAmong spots others)
     (back : AreAmong others spots) where
   same-room : (offset : ℕ) → room_at c spots offset ≡ room_at c others offset
-  same-room offset = omega (arith, next_stop-among c spots others offset there, next_stop-among c others spots offset back)
+  same-room offset =
+      omega (arith, next_stop-among c spots others offset there, next_stop-among c others spots offset back)
 
   same-purpose : (before : List Allocation) (offset slots : ℕ) (purpose : Purpose) →
-      StandsFor c flows spots start before offset slots purpose →
-      StandsFor c flows others start before offset slots purpose
+      StandsByItsRule c flows spots start before offset slots purpose →
+      StandsByItsRule c flows others start before offset slots purpose
   same-purpose before offset slots (Poll sid) stands = there _ stands
   same-purpose before offset slots (UnsolicitedGrant sid) stands = there _ stands
   same-purpose before offset slots (DataGrant sid bytes) stands = (
@@ -61,7 +64,8 @@ module _ (c : Config) (flows : List LiveFlow) (start : ℕ) (spots others : List
     stands.0 ∙ same-room offset,
     elim stands.1 [
       | inl full ↦ inl full
-      | inr none ↦ inr (subst (λ r. NoneEligible c (flows_after start before flows) (start + offset) r) (same-room offset) none)
+      | inr none ↦ inr (subst (λ r. NoneEligible c (flows_after start before flows) (start + offset) r)
+          (same-room offset) none)
     ],
   )
 
@@ -78,7 +82,8 @@ module _ (c : Config) (flows : List LiveFlow) (start : ℕ) (spots others : List
   )
 
   -- a MAP that is lawful for the ones is lawful for the others
-  lawful-among : (ack : ℕ) (m : FrameMap) → IsLawfulMap c flows spots start ack m → IsLawfulMap c flows others start ack m
+  lawful-among : (ack : ℕ) (m : FrameMap) → IsLawfulMap c flows spots start ack m →
+      IsLawfulMap c flows others start ack m
   lawful-among ack m (plan, is, made) = (
     plan,
     record {
@@ -107,7 +112,8 @@ lawful-in_order c flows spots others start ack m moved lawful =
     lawful-among c flows start spots others (λ s is. Contains-permutation spots others s moved is)
     (λ s is. Contains-permutation others spots s (IsPermutation-sym spots others moved) is) ack m lawful
 
-each-in_frame : (c : Config) (spots : List Spot) → AllByRecursion (IsWithinFrame c) spots → AllByRecursion (IsInFrame c) spots
+each-in_frame : (c : Config) (spots : List Spot) → AllByRecursion (IsWithinFrame c) spots →
+    AllByRecursion (IsInFrame c) spots
 each-in_frame c [] within = tt
 each-in_frame c (s ∷ spots) within = (
   record { some_slots = within.0.not_empty; after_requests = within.0.after_requests; within = within.0.within_frame },
@@ -122,12 +128,14 @@ written-in_frame c spots few turn within = record { few = few; each = each-in_fr
 -- of flows
 pub written-sids : (c : Config) (spots : List Spot) → AllByRecursion (IsWithinFrame c) spots → HaveFlowSids spots
 written-sids c [] within = tt
-written-sids c (s ∷ spots) within = ((omega (arith, within.0.sid_positive), within.0.sid_most), written-sids c spots within.1)
+written-sids c (s ∷ spots) within =
+    ((omega (arith, within.0.sid_positive), within.0.sid_most), written-sids c spots within.1)
 
 -- what is lawful for the spots that a table tells of frame k is lawful for those of its placements
 pub lawful-told : {E : Type 0} (c d : Config) (flows : List LiveFlow) (k n ack : ℕ) (placed : List Placed)
     (spots : List Spot) (r : Result FrameMap E) →
-    d ≡ c → IsPermutation (spots_in d k placed) spots → n ≡ c.frame → IfOk r (λ m. IsLawfulMap c flows spots (k * n) ack m) →
+    d ≡ c → IsPermutation (spots_in d k placed) spots → n ≡ c.frame →
+    IfOk r (λ m. IsLawfulMap c flows spots (k * n) ack m) →
     IfOk r (λ m. IsLawfulMap c flows (spots_in c k placed) (k * c.frame) ack m)
 lawful-told c d flows k n ack placed spots r same moved slots lawful =
     IfOk-weaker r _ _

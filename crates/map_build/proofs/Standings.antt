@@ -1,5 +1,6 @@
 -- What may stand at the offset that a draft has reached.
-use Rattle.std.proofs.Common.{◌≡◌, ℕ, zero, suc, ◌+◌, ◌<◌, ◌≤◌, Bool, true, false, ◌==◌, List, [], ◌∷◌, find, Contains, Option, None, Some, cond, inl, inr, refl, sym, ap, ◌∙◌, subst, arith}
+use Rattle.std.proofs.Common.{◌≡◌, ℕ, zero, suc, ◌+◌, ◌<◌, ◌≤◌, Bool, true, false, ◌==◌, List, [], ◌∷◌, find}
+use Rattle.std.proofs.Common.{Contains, Option, None, Some, cond, inl, inr, refl, sym, ap, ◌∙◌, subst, arith}
 use Rattle.std.specs.Option.{IsSomeAnd}
 use Rattle.std.specs.List.{AllByRecursion}
 use Rattle.std.proofs.lemmas.Bool.{cases_lt}
@@ -11,13 +12,15 @@ use Rattle.flow_book.specs.Flows.{LiveFlow, flow_of}
 use Rattle.flow_book.specs.Choice.{IsNext, IsAmount, NoneEligible}
 use Rattle.periodic.specs.declared.placement.Spot.{Spot}
 use Rattle.map_build.specs.declared.draft.Draft.{Draft}
-use Rattle.map_build.specs.Plan.{Allocation, DataGrant, next_stop, room_at, end_of, most_grants, Stands, StandsFor, allocation_of}
+use Rattle.map_build.specs.Plan.{Allocation, DataGrant, next_stop, room_at, end_of, most_grants, Stands}
+use Rattle.map_build.specs.Plan.{StandsByItsRule, allocation_of}
 use Rattle.periodic.specs.Table.{FollowInTurn}
 use Rattle.map_build.specs.Spots.{IsInFrame, AreInFrame}
 use Rattle.map_build.specs.Walk.{IsAfter, IsServed, IsNextAmount, idle_to, grant_here}
 use Rattle.map_build.proofs.Stops.{next_stop-is}
 
-found-cond : {X : Type 0} (p : X → Bool) (b : Bool) (y x : X) (xs : List X) → p y ≡ b → cond b (Some y) (find p xs) ≡ Some x →
+found-cond : {X : Type 0} (p : X → Bool) (b : Bool) (y x : X) (xs : List X) → p y ≡ b → cond b (Some y) (find p xs)
+    ≡ Some x →
     (find p xs ≡ Some x → Contains xs x × (p x ≡ true)) → Contains (y ∷ xs) x × (p x ≡ true)
 found-cond p true y x xs is found rest =
     let same : y ≡ x = cc in
@@ -39,7 +42,8 @@ missed-cond false y o none = (refl, none)
 pub missed-in : {X : Type 0} (p : X → Bool) (xs : List X) (x : X) → find p xs ≡ None → Contains xs x → p x ≡ false
 missed-in p [] x none (k, lt, at) = absurd (omega arith)
 missed-in p (y ∷ xs) x none (zero, lt, at) = subst (λ z. p z ≡ false) at (missed-cond (p y) y (find p xs) none).0
-missed-in p (y ∷ xs) x none (suc k, lt, at) = missed-in p xs x (missed-cond (p y) y (find p xs) none).1 (k, omega arith, at)
+missed-in p (y ∷ xs) x none (suc k, lt, at) =
+    missed-in p xs x (missed-cond (p y) y (find p xs) none).1 (k, omega arith, at)
 
 equal : (m n : ℕ) → (m == n) ≡ true → m ≡ n
 equal m n e = grind (arith, nat_tests)
@@ -78,7 +82,8 @@ in_turn-apart c (x ∷ spots) each turn s t (suc i, lt, at) (suc j, lt', at') fr
     in_turn-apart c spots each.1 turn.1 s t (i, omega arith, at) (j, omega arith, at') from to
 
 -- a spot of a frame that begins among the minislots of another is that one
-pub spots-apart : (c : Config) (spots : List Spot) → AreInFrame c spots → (s t : Spot) → Contains spots s → Contains spots t →
+pub spots-apart : (c : Config) (spots : List Spot) → AreInFrame c spots → (s t : Spot) → Contains spots s →
+    Contains spots t →
     s.offset ≤ t.offset → t.offset < s.offset + s.slots → s ≡ t
 spots-apart c spots are = in_turn-apart c spots are.each are.in_turn
 
@@ -97,7 +102,7 @@ stop-behind c spots offset inside none = elim (cases_lt offset (next_stop c spot
 purpose-spot : (c : Config) (flows : List LiveFlow) (spots : List Spot) (start : ℕ) (before : List Allocation)
     (poll : Bool) (sid offset slots : ℕ) →
     Contains spots (record { sid = sid; poll = poll; offset = offset; slots = slots }) →
-    StandsFor c flows spots start before offset slots
+    StandsByItsRule c flows spots start before offset slots
     (allocation_of (record { sid = sid; poll = poll; offset = offset; slots = slots })).purpose
 purpose-spot c flows spots start before true sid offset slots is = is
 purpose-spot c flows spots start before false sid offset slots is = is
@@ -112,18 +117,21 @@ spot-stands c flows spots start plan s are is here = record {
   purpose = purpose-spot c flows spots start plan s.poll s.sid s.offset s.slots is;
 }
 
-module _ (flows : List LiveFlow) (spots : List Spot) (plan : List Allocation) (d : Draft) (after : IsAfter flows plan d) where
+module _ (flows : List LiveFlow) (spots : List Spot) (plan : List Allocation) (d : Draft)
+    (after : IsAfter flows plan d) where
   grant-purpose : (sid bytes : ℕ) (o : Option LiveFlow) → d.grants < most_grants →
       ((f : LiveFlow) → o ≡ Some f → f.sid ≡ sid) →
       IsSomeAnd o (λ f. IsNext d.book.config d.book.flows (d.start + d.offset) (room_at d.book.config spots d.offset) f
       × IsAmount d.book.config f (d.start + d.offset) (room_at d.book.config spots d.offset) bytes) →
-      StandsFor d.book.config flows spots d.start plan d.offset (slots_for d.book.config bytes) (DataGrant sid bytes)
+      StandsByItsRule d.book.config flows spots d.start plan d.offset (slots_for d.book.config bytes)
+      (DataGrant sid bytes)
   grant-purpose sid bytes None few named is = absurd is
   grant-purpose sid bytes (Some f) few named is = (
     omega (arith, few, after.grants),
     f,
     named f refl,
-    subst (λ fs. IsNext d.book.config fs (d.start + d.offset) (room_at d.book.config spots d.offset) f) after.flows_now is.0,
+    subst (λ fs. IsNext d.book.config fs (d.start + d.offset) (room_at d.book.config spots d.offset) f)
+        after.flows_now is.0,
     is.1,
     refl,
   )
@@ -141,7 +149,8 @@ module _ (flows : List LiveFlow) (spots : List Spot) (plan : List Allocation) (d
 
   -- an idle up to the next stop, where no flow gets a grant
   pub idle-stands : (stop : ℕ) → stop ≡ next_stop d.book.config spots d.offset → d.offset < stop →
-      IsServed d (room_at d.book.config spots d.offset) None → Stands d.book.config flows spots d.start plan (idle_to d stop)
+      IsServed d (room_at d.book.config spots d.offset) None →
+      Stands d.book.config flows spots d.start plan (idle_to d stop)
   idle-stands stop is behind served = record {
     some_slots = omega arith;
     follows = after.ends;

@@ -1,5 +1,6 @@
 -- The first minislot from some offset on at which a spot begins, or the end of the frame.
-use Rattle.std.proofs.Common.{◌≡◌, ℕ, zero, suc, ◌≤◌, min, nat_le, List, [], ◌∷◌, Contains, ◌⊎◌, inl, inr, refl, sym, ap, arith}
+use Rattle.std.proofs.Common.{◌≡◌, ℕ, zero, suc, ◌≤◌, min, nat_le, List, [], ◌∷◌, Contains, ◌⊎◌, inl, inr, refl, sym}
+use Rattle.std.proofs.Common.{ap, arith}
 use Rattle.std.proofs.lemmas.Bool.{le-leb, cond_both, cases_lt}
 use Rattle.std.proofs.lemmas.Bool.Decides.{nat_tests}
 use Rattle.minislots.specs.declared.config.Config.{Config}
@@ -10,15 +11,18 @@ use Rattle.map_build.specs.Plan.{next_stop}
 pub next_stop-most : (c : Config) (spots : List Spot) (offset : ℕ) → next_stop c spots offset ≤ c.frame
 next_stop-most c [] offset = omega arith
 next_stop-most c (s ∷ spots) offset =
-    cond_both (nat_le offset s.offset) (min s.offset (next_stop c spots offset)) (next_stop c spots offset) (λ x. x ≤ c.frame)
+    cond_both (nat_le offset s.offset) (min s.offset (next_stop c spots offset)) (next_stop c spots offset)
+    (λ x. x ≤ c.frame)
     (λ t. omega (arith, next_stop-most c spots offset)) (λ t. next_stop-most c spots offset)
 
 -- it is not before the offset
-pub next_stop-least : (c : Config) (spots : List Spot) (offset : ℕ) → offset ≤ c.frame → offset ≤ next_stop c spots offset
+pub next_stop-least : (c : Config) (spots : List Spot) (offset : ℕ) → offset ≤ c.frame →
+    offset ≤ next_stop c spots offset
 next_stop-least c [] offset inside = inside
 next_stop-least c (s ∷ spots) offset inside =
     let rest : offset ≤ next_stop c spots offset = next_stop-least c spots offset inside in
-    cond_both (nat_le offset s.offset) (min s.offset (next_stop c spots offset)) (next_stop c spots offset) (λ x. offset ≤ x)
+    cond_both (nat_le offset s.offset) (min s.offset (next_stop c spots offset)) (next_stop c spots offset)
+    (λ x. offset ≤ x)
     (λ t. let le : offset ≤ s.offset = grind (arith, nat_tests) in omega arith) (λ t. rest)
 
 -- no spot begins between the offset and it
@@ -37,7 +41,8 @@ next_stop-spot c (t ∷ spots) offset s (suc k, lt, at) le =
 abbrev pub IsStop : Config → List Spot → ℕ → ℕ → Type 0
 IsStop c spots offset n = (n ≡ c.frame) ⊎ ((s : Spot) × Contains spots s × (offset ≤ s.offset) × (s.offset ≡ n))
 
-later : (c : Config) (t : Spot) (spots : List Spot) (offset n : ℕ) → IsStop c spots offset n → IsStop c (t ∷ spots) offset n
+later : (c : Config) (t : Spot) (spots : List Spot) (offset n : ℕ) → IsStop c spots offset n →
+    IsStop c (t ∷ spots) offset n
 later c t spots offset n (inl end) = inl end
 later c t spots offset n (inr (s, (k, lt, at), from, here)) = inr (s, (suc k, omega arith, at), from, here)
 
@@ -61,7 +66,8 @@ next_stop-is c (s ∷ spots) offset =
     let rest : IsStop c spots offset (next_stop c spots offset) = next_stop-is c spots offset in
     cond_both (nat_le offset s.offset) (min s.offset (next_stop c spots offset)) (next_stop c spots offset)
     (IsStop c (s ∷ spots) offset)
-    (λ t. let le : offset ≤ s.offset = grind (arith, nat_tests) in min-stop c s spots offset (next_stop c spots offset) le rest)
+    (λ t. let le : offset ≤ s.offset = grind (arith, nat_tests) in
+    min-stop c s spots offset (next_stop c spots offset) le rest)
     (λ t. later c s spots offset (next_stop c spots offset) rest)
 
 -- at it is no room

@@ -14,7 +14,8 @@ module _ (sid iuc slots : ℕ) (old new : Draft) (puts : Puts sid iuc slots 0 ol
   -- an allocation that grants no bytes
   Takes-other : (a : Allocation) →
       element_of old.book.config a ≡ record { sid = sid; iuc = iuc; offset = old.offset } → a.slots ≡ slots →
-      bytes_for a.purpose ≡ 0 → grants_in (a ∷ []) ≡ 0 → ((other : ℕ) → grants_to old.start other (a ∷ []) ≡ []) → Takes a old new
+      bytes_for a.purpose ≡ 0 → grants_in (a ∷ []) ≡ 0 → ((other : ℕ) → grants_to old.start other (a ∷ []) ≡ []) →
+      Takes a old new
   Takes-other a element long bytes grants none = record {
     elements = puts.elements ∙ ap (λ e. old.elements.items ++ e ∷ []) (sym element);
     bytes_of = puts.bytes_of ∙ ap (λ n. old.bytes.items ++ n ∷ []) (sym bytes);

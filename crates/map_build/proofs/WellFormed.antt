@@ -1,5 +1,6 @@
 -- The MAP of a plan is well formed: its elements are in range, ascend, and have one Null.
-use Rattle.std.proofs.Common.{◌≡◌, ℕ, zero, suc, ◌^◌, ◌<◌, ◌≤◌, Bool, true, false, nat_lt, List, [], ◌∷◌, ◌++◌, map, filter, length, nat_le, if◌then◌else◌, ◌==◌, refl, ◌∙◌, arith, append_assoc}
+use Rattle.std.proofs.Common.{◌≡◌, ℕ, zero, suc, ◌^◌, ◌<◌, ◌≤◌, Bool, true, false, nat_lt, List, [], ◌∷◌, ◌++◌, map}
+use Rattle.std.proofs.Common.{filter, length, nat_le, if◌then◌else◌, ◌==◌, refl, ◌∙◌, arith, append_assoc}
 use Rattle.std.proofs.lemmas.Bool.Decides.{nat_tests}
 use Rattle.map_codec.specs.declared.element.iuc.TheConstants.{SHORT_DATA_GRANT, LONG_DATA_GRANT}
 use Rattle.std.specs.List.{AllByRecursion, Contains}
@@ -10,9 +11,11 @@ use Rattle.minislots.specs.declared.config.Config.{Config}
 use Rattle.map_codec.specs.declared.element.Element.{Element}
 use Rattle.map_codec.specs.Element.{IsInRange, is_null, nulls, element_at, Ascends}
 use Rattle.flow_book.specs.Flows.{LiveFlow, outstanding}
+use Rattle.flow_book.proofs.Removal.{all-filter}
 use Rattle.periodic.specs.declared.placement.Spot.{Spot}
 use Rattle.map_build.specs.EachAfter.{EachAfter}
-use Rattle.map_build.specs.Plan.{Purpose, Poll, UnsolicitedGrant, DataGrant, Idle, Allocation, end_of, flows_after, Stands, StandsFor}
+use Rattle.map_build.specs.Plan.{Purpose, Poll, UnsolicitedGrant, DataGrant, Idle, Allocation, end_of, flows_after}
+use Rattle.map_build.specs.Plan.{Stands, StandsByItsRule}
 use Rattle.map_build.specs.FrameMap.{element_for, element_of, data_iuc, request_region, null_element, elements_of}
 
 -- the offsets do not descend, from this one on
@@ -29,7 +32,8 @@ Climbs-at low (e ∷ next ∷ es) climbs zero within = climbs.1.0
 Climbs-at low (e ∷ next ∷ es) climbs (suc i) within = Climbs-at e.offset (next ∷ es) climbs.1 i (omega arith)
 
 -- an allocation's element begins where the allocation does
-element_for-offset : (c : Config) (offset slots : ℕ) (purpose : Purpose) → (element_for c offset slots purpose).offset ≡ offset
+element_for-offset : (c : Config) (offset slots : ℕ) (purpose : Purpose) → (element_for c offset slots purpose).offset
+    ≡ offset
 element_for-offset c offset slots (Poll sid) = refl
 element_for-offset c offset slots (UnsolicitedGrant sid) = refl
 element_for-offset c offset slots (DataGrant sid bytes) = refl
@@ -44,7 +48,8 @@ either false x y low high a b c d = (c, d)
 -- the usage code of a data grant is that of a short or a long one
 data_iuc-cases : (c : Config) (slots : ℕ) → (5 ≤ data_iuc c slots) × (data_iuc c slots ≤ 6)
 data_iuc-cases c slots =
-    either (nat_le slots c.short_max) SHORT_DATA_GRANT LONG_DATA_GRANT 5 6 (omega arith) (omega arith) (omega arith) (omega arith)
+    either (nat_le slots c.short_max) SHORT_DATA_GRANT LONG_DATA_GRANT 5 6 (omega arith) (omega arith) (omega arith)
+    (omega arith)
 
 -- which is below that of a Null, as those of all allocations are
 element_for-iuc : (c : Config) (offset slots : ℕ) (purpose : Purpose) → (element_for c offset slots purpose).iuc < 7
@@ -57,20 +62,23 @@ not_null : (iuc : ℕ) → iuc < 7 → (iuc == 7) ≡ false
 not_null iuc h = grind (arith, nat_tests)
 
 -- no allocation's element is a Null
-nulls-plan : (c : Config) (plan : List Allocation) (rest : List Element) → nulls (map (element_of c) plan ++ rest) ≡ nulls rest
+nulls-plan : (c : Config) (plan : List Allocation) (rest : List Element) → nulls (map (element_of c) plan ++ rest)
+    ≡ nulls rest
 nulls-plan c [] rest = refl
 nulls-plan c (a ∷ plan) rest =
     sum_by-cons _ (element_of c a) (map (element_of c) plan ++ rest)
-    ∙ (rw (not_null (element_of c a).iuc (element_for-iuc c a.offset a.slots a.purpose)) (omega (arith, nulls-plan c plan rest)))
+    ∙ (rw (not_null (element_of c a).iuc (element_for-iuc c a.offset a.slots a.purpose))
+    (omega (arith, nulls-plan c plan rest)))
 
 -- where the offsets of what comes behind the plan do not descend, those of the whole do not
-climbs-plan : (c : Config) (flows : List LiveFlow) (spots : List Spot) (start : ℕ) (before plan : List Allocation) (rest : List Element)
-    (low : ℕ) → EachAfter (Stands c flows spots start) before plan → low ≤ end_of c before →
+climbs-plan : (c : Config) (flows : List LiveFlow) (spots : List Spot) (start : ℕ) (before plan : List Allocation)
+    (rest : List Element) (low : ℕ) → EachAfter (Stands c flows spots start) before plan → low ≤ end_of c before →
     ((n : ℕ) → n ≤ end_of c (before ++ plan) → Climbs n rest) →
     Climbs low (map (element_of c) plan ++ rest)
 climbs-plan c flows spots start before [] rest low each below climbs = climbs low (rw append-nil below)
 climbs-plan c flows spots start before (a ∷ plan) rest low each below climbs =
-    let at : (element_of c a).offset ≡ end_of c before = element_for-offset c a.offset a.slots a.purpose ∙ each.0.follows in (
+    let at : (element_of c a).offset ≡ end_of c before = element_for-offset c a.offset a.slots a.purpose
+    ∙ each.0.follows in (
       omega (arith, at),
       climbs-plan c flows spots start (before ++ a ∷ []) plan rest (element_of c a).offset each.1
           (omega (arith, at, sum_by_push (λ (a : Allocation). a.slots) before a)) (rw append_assoc climbs),
@@ -90,7 +98,8 @@ sid_of_live flows f sids live =
     All-contains (λ (g : LiveFlow). g.sid < 2 ^ 14) flows f (All-from_recursion _ flows sids) live
 
 -- the flows after some grants have the same SIDs
-sids_after : (start : ℕ) (plan : List Allocation) (flows : List LiveFlow) → HaveSids flows → HaveSids (flows_after start plan flows)
+sids_after : (start : ℕ) (plan : List Allocation) (flows : List LiveFlow) → HaveSids flows →
+    HaveSids (flows_after start plan flows)
 sids_after start plan [] sids = tt
 sids_after start plan (f ∷ flows) sids = (sids.0, sids_after start plan flows sids.1)
 
@@ -98,13 +107,15 @@ module _ (c : Config) (flows : List LiveFlow) (spots : List Spot) (start : ℕ)
     (sids : HaveSids flows) (places : HaveSpotSids spots) where
   -- the SID of an allocation's element is in range
   element_for-sid : (before : List Allocation) (offset slots : ℕ) (purpose : Purpose) →
-      StandsFor c flows spots start before offset slots purpose → (element_for c offset slots purpose).sid < 2 ^ 14
+      StandsByItsRule c flows spots start before offset slots purpose →
+      (element_for c offset slots purpose).sid < 2 ^ 14
   element_for-sid before offset slots (Poll sid) stands =
       All-contains (λ (s : Spot). s.sid < 2 ^ 14) spots _ (All-from_recursion _ spots places) stands
   element_for-sid before offset slots (UnsolicitedGrant sid) stands =
       All-contains (λ (s : Spot). s.sid < 2 ^ 14) spots _ (All-from_recursion _ spots places) stands
   element_for-sid before offset slots (DataGrant sid bytes) stands =
-      rw (← stands.2) (sid_of_live (flows_after start before flows) stands.1 (sids_after start before flows sids) stands.3.live)
+      rw (← stands.2)
+      (sid_of_live (flows_after start before flows) stands.1 (sids_after start before flows sids) stands.3.live)
   element_for-sid before offset slots Idle stands = omega arith
 
   -- the elements of a plan within the frame are in range
@@ -138,7 +149,8 @@ climbs-pending c (f ∷ flows) low below = (below, climbs-pending c flows c.fram
 -- none is a Null
 nulls-pending : (c : Config) (flows : List LiveFlow) → nulls (map (pending_of c) flows) ≡ 0
 nulls-pending c [] = refl
-nulls-pending c (f ∷ flows) = sum_by-cons _ (pending_of c f) (map (pending_of c) flows) ∙ omega (arith, nulls-pending c flows)
+nulls-pending c (f ∷ flows) = sum_by-cons _ (pending_of c f) (map (pending_of c) flows)
+    ∙ omega (arith, nulls-pending c flows)
 
 -- each is in range
 in_range-pending : (c : Config) (flows : List LiveFlow) → c.frame < 2 ^ 14 → HaveSids flows →
@@ -147,16 +159,6 @@ in_range-pending c [] below sids = tt
 in_range-pending c (f ∷ flows) below sids =
     (record { sid = sids.0; iuc = omega arith; offset = below }, in_range-pending c flows below sids.1)
 
-kept_if : {X : Type 0} (P : X → Type 0) (b : Bool) (x : X) (xs : List X) → P x → AllByRecursion P xs →
-    AllByRecursion P (if b then x ∷ xs else xs)
-kept_if P true x xs here all = (here, all)
-kept_if P false x xs here all = all
-
--- what holds of each member of a list holds of each that a filter keeps
-kept : {X : Type 0} (P : X → Type 0) (test : X → Bool) (xs : List X) → AllByRecursion P xs → AllByRecursion P (filter test xs)
-kept P test [] all = tt
-kept P test (x ∷ xs) all = kept_if P (test x) x (filter test xs) all.0 (kept P test xs all.1)
-
 -- the elements of a MAP with a plan: in range, in order, with one Null
 pub record AreEncodable (es : List Element) : Type 0 where
   pub in_range : AllByRecursion IsInRange es
@@ -164,18 +166,19 @@ pub record AreEncodable (es : List Element) : Type 0 where
   pub ascends : Ascends es
 
 -- the elements of the MAP with a plan are
-pub elements_of-encodable : (c : Config) (flows : List LiveFlow) (spots : List Spot) (start : ℕ) (plan : List Allocation) →
-    c.frame < 2 ^ 14 →
-    HaveSids flows → HaveSpotSids spots →
-    EachAfter (Stands c flows spots start) [] plan → end_of c plan ≡ c.frame → AreEncodable (elements_of c flows start plan)
+pub elements_of-encodable : (c : Config) (flows : List LiveFlow) (spots : List Spot) (start : ℕ)
+    (plan : List Allocation) → c.frame < 2 ^ 14 → HaveSids flows → HaveSpotSids spots →
+    EachAfter (Stands c flows spots start) [] plan → end_of c plan ≡ c.frame →
+    AreEncodable (elements_of c flows start plan)
 elements_of-encodable c flows spots start plan below sids places each whole =
     let waiting : List LiveFlow = filter (λ (f : LiveFlow). nat_lt 0 (outstanding f)) (flows_after start plan flows) in
     let sids_waiting : HaveSids waiting =
-    kept (λ (g : LiveFlow). g.sid < 2 ^ 14) (λ (f : LiveFlow). nat_lt 0 (outstanding f)) (flows_after start plan flows)
-    (sids_after start plan flows sids) in
+    all-filter (λ (g : LiveFlow). g.sid < 2 ^ 14) (λ (f : LiveFlow). nat_lt 0 (outstanding f))
+    (flows_after start plan flows) (sids_after start plan flows sids) in
     let tail : List Element = null_element c ∷ map (pending_of c) waiting in
     let null_in_range : IsInRange (null_element c) = record { sid = omega arith; iuc = omega arith; offset = below } in
-    let region_in_range : IsInRange request_region = record { sid = omega arith; iuc = omega arith; offset = omega arith } in
+    let region_in_range : IsInRange request_region =
+    record { sid = omega arith; iuc = omega arith; offset = omega arith } in
     let climbs : Climbs 0 (map (element_of c) plan ++ tail) =
     climbs-plan c flows spots start [] plan tail 0 each (omega arith)
     (λ n low. (omega (arith, low, whole), climbs-pending c waiting c.frame (omega arith))) in
@@ -192,5 +195,6 @@ elements_of-encodable c flows spots start plan below sids places each whole =
             sum_by-cons (λ (e : Element). if is_null e then 1 else 0) (null_element c) (map (pending_of c) waiting),
             nulls-pending c waiting,
           );
-      ascends = λ i within _. Climbs-at 0 (request_region ∷ (map (element_of c) plan ++ tail)) (omega arith, climbs) i within;
+      ascends = λ i within _. Climbs-at 0 (request_region ∷ (map (element_of c) plan ++ tail))
+          (omega arith, climbs) i within;
     }

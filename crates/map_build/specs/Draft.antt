@@ -1,11 +1,7 @@
 -- The MAP of one frame while it is made: its elements and byte counts.
 use Rattle.std.specs.Prelude.{◌≡◌, ℕ, ◌+◌, List, [], ◌∷◌, ◌++◌, map}
-use Rattle.minislots.specs.declared.config.Config.{Config}
-use Rattle.minislots.specs.Units.{wire_of}
-use Rattle.map_codec.specs.declared.element.Element.{Element}
 use Rattle.flow_book.specs.Flows.{LiveFlow}
 use Rattle.map_build.specs.declared.draft.Draft.{Draft}
-use Rattle.map_build.specs.declared.frame_map.FrameMap.{FrameMap}
 use Rattle.map_build.specs.FrameMap.{null_element, pending}
 
 -- a draft with an element more at its offset, of so many minislots and bytes
@@ -28,29 +24,10 @@ pub record PutsPending (flows : List LiveFlow) (old new : Draft) : Type 0 where
 
 -- a draft with the Null and the pending grants
 pub record Ends (old new : Draft) : Type 0 where
-  pub elements : new.elements.items ≡ old.elements.items ++ null_element old.book.config ∷ pending old.book.config old.book.flows
+  pub elements : new.elements.items
+      ≡ old.elements.items ++ null_element old.book.config ∷ pending old.book.config old.book.flows
   pub bytes_of : new.bytes.items ≡ old.bytes.items ++ 0 ∷ map (λ e. 0) (pending old.book.config old.book.flows)
   pub offset : new.offset ≡ old.offset
   pub book : new.book ≡ old.book
   pub start : new.start ≡ old.start
   pub grants : new.grants ≡ old.grants
-
--- the MAP of a frame with these elements and byte counts
-abbrev pub map_with : Config → ℕ → ℕ → List Element → List ℕ → FrameMap
-map_with c start ack elements bytes = record {
-  start = start;
-  ack = ack;
-  wire = record {
-    channel = c.channel;
-    ucd_count = c.ucd_count;
-    reserved = 0;
-    alloc_start = wire_of start;
-    ack = wire_of ack;
-    ranging_start = c.ranging_start;
-    ranging_end = c.ranging_end;
-    data_start = c.data_start;
-    data_end = c.data_end;
-    elements = elements;
-  };
-  bytes = bytes;
-}

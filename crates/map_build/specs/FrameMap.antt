@@ -44,19 +44,23 @@ null_element c = record { sid = 0; iuc = NULL; offset = c.frame }
 
 -- a pending grant for each flow with bytes outstanding
 abbrev pub pending : Config → List LiveFlow → List Element
-pending c flows = map (λ f. record { sid = f.sid; iuc = LONG_DATA_GRANT; offset = c.frame }) (filter (λ f. nat_lt 0 (outstanding f)) flows)
+pending c flows =
+    map (λ f. record { sid = f.sid; iuc = LONG_DATA_GRANT; offset = c.frame })
+    (filter (λ f. nat_lt 0 (outstanding f)) flows)
 
 -- the elements of the MAP with this plan
 abbrev pub elements_of : Config → List LiveFlow → ℕ → List Allocation → List Element
-elements_of c flows start plan = request_region ∷ (map (element_of c) plan ++ null_element c ∷ pending c (flows_after start plan flows))
+elements_of c flows start plan =
+    request_region ∷ (map (element_of c) plan ++ null_element c ∷ pending c (flows_after start plan flows))
 
 -- the byte counts of the MAP with this plan
 abbrev pub bytes_of_plan : Config → List LiveFlow → ℕ → List Allocation → List ℕ
-bytes_of_plan c flows start plan = 0 ∷ (map (λ a. bytes_for a.purpose) plan ++ 0 ∷ map (λ e. 0) (pending c (flows_after start plan flows)))
+bytes_of_plan c flows start plan =
+    0 ∷ (map (λ a. bytes_for a.purpose) plan ++ 0 ∷ map (λ e. 0) (pending c (flows_after start plan flows)))
 
--- the MAP with this plan, for a frame that starts there
-abbrev pub map_of : Config → List LiveFlow → ℕ → ℕ → List Allocation → FrameMap
-map_of c flows start ack plan = record {
+-- the MAP of a frame with these elements and byte counts
+abbrev pub map_with : Config → ℕ → ℕ → List Element → List ℕ → FrameMap
+map_with c start ack elements bytes = record {
   start = start;
   ack = ack;
   wire = record {
@@ -69,11 +73,16 @@ map_of c flows start ack plan = record {
     ranging_end = c.ranging_end;
     data_start = c.data_start;
     data_end = c.data_end;
-    elements = elements_of c flows start plan;
+    elements = elements;
   };
-  bytes = bytes_of_plan c flows start plan;
+  bytes = bytes;
 }
+
+-- the MAP with this plan, for a frame that starts there
+abbrev pub map_of : Config → List LiveFlow → ℕ → ℕ → List Allocation → FrameMap
+map_of c flows start ack plan = map_with c start ack (elements_of c flows start plan) (bytes_of_plan c flows start plan)
 
 -- The MAP is lawful for a frame that starts there, with these live flows, spots and acknowledge time
 abbrev pub IsLawfulMap : Config → List LiveFlow → List Spot → ℕ → ℕ → FrameMap → Type 0
-IsLawfulMap c flows spots start ack m = (plan : List Allocation) × IsPlan c flows spots start plan × (m ≡ map_of c flows start ack plan)
+IsLawfulMap c flows spots start ack m =
+    (plan : List Allocation) × IsPlan c flows spots start plan × (m ≡ map_of c flows start ack plan)

@@ -2,15 +2,13 @@
 use Rattle.std.specs.Prelude.{◌≡◌, ℕ, ◌+◌, ◌<◌, ◌≤◌, List, length, map, filter}
 use Rattle.std.specs.List.{AllByRecursion}
 use Rattle.minislots.specs.declared.config.Config.{Config}
+use Rattle.flow_book.specs.declared.TheConstants.{MAX_FLOWS}
 use Rattle.flow_book.specs.FlowSpec.{is_periodic}
 use Rattle.flow_book.specs.Flows.{LiveFlow}
+use Rattle.periodic.specs.declared.TheConstants.{MAX_PERIODIC_FLOWS}
 use Rattle.periodic.specs.declared.placement.Spot.{Spot}
 use Rattle.periodic.specs.Placement.{Placed}
 use Rattle.periodic.specs.Table.{FollowInTurn}
-
--- the most periodic flows, and so the most spots of one frame
-abbrev pub most_spots : ℕ
-most_spots = 40
 
 -- the spot has some minislots of the frame, behind the request region
 pub record IsInFrame (c : Config) (s : Spot) : Type 0 where
@@ -20,7 +18,7 @@ pub record IsInFrame (c : Config) (s : Spot) : Type 0 where
 
 -- The spots are those that one frame may have, in the order of their offsets
 pub record AreInFrame (c : Config) (spots : List Spot) : Type 0 where
-  pub few : length spots ≤ most_spots
+  pub few : length spots ≤ MAX_PERIODIC_FLOWS
   pub each : AllByRecursion (IsInFrame c) spots
   pub in_turn : FollowInTurn spots
 
@@ -34,7 +32,7 @@ HaveFlowSids spots = AllByRecursion (λ s. IsFlowSid s.sid) spots
 
 -- The flows are those that one channel may have
 pub record AreOfChannel (flows : List LiveFlow) : Type 0 where
-  pub few : length flows ≤ 64
+  pub few : length flows ≤ MAX_FLOWS
   pub sids : AllByRecursion (λ f. IsFlowSid f.sid) flows
 
 -- The placed flows are the periodic ones among these, in their order

@@ -1,5 +1,6 @@
 -- The walk along a frame: the draft has a plan up to where it is, and what stands next is one more of it.
-use Rattle.std.specs.Prelude.{◌≡◌, ℕ, ◌+◌, ◌-◌, ◌<◌, ◌≤◌, ◌^◌, ◌⊎◌, List, [], ◌∷◌, ◌++◌, map, Contains, Option, None, Some, IsSomeAnd}
+use Rattle.std.specs.Prelude.{◌≡◌, ℕ, ◌+◌, ◌-◌, ◌<◌, ◌≤◌, ◌^◌, ◌⊎◌, List, [], ◌∷◌, ◌++◌, map, Contains, Option, None}
+use Rattle.std.specs.Prelude.{Some, IsSomeAnd}
 use Rattle.std.specs.List.{AllByRecursion}
 use Rattle.minislots.specs.declared.config.Config.{Config}
 use Rattle.minislots.specs.Config.{IsLawful}
@@ -10,11 +11,12 @@ use Rattle.flow_book.specs.Choice.{IsNext, IsNextSid, IsAmount, NoneEligible, Ha
 use Rattle.periodic.specs.declared.placement.Spot.{Spot}
 use Rattle.map_build.specs.declared.draft.Draft.{Draft}
 use Rattle.map_build.specs.EachAfter.{EachAfter}
-use Rattle.map_build.specs.Plan.{Allocation, DataGrant, Idle, most_grants, grants_in, end_of, flows_after, Stands, allocation_of}
+use Rattle.map_build.specs.Plan.{Allocation, DataGrant, Idle, most_grants, grants_in, end_of, flows_after, Stands}
+use Rattle.map_build.specs.Plan.{allocation_of}
 use Rattle.map_build.specs.FrameMap.{element_of, bytes_for, request_region}
 
 -- the draft has room for all grants of its MAP, and none starts later than where it is
-pub record IsReady (d : Draft) : Type 0 where
+pub record IsWellBegun (d : Draft) : Type 0 where
   pub lawful : IsLawful d.book.config
   pub near : d.start ≤ 2 ^ 61
   pub inside : d.offset ≤ d.book.config.frame
@@ -39,7 +41,11 @@ idle_to d stop = record { offset = d.offset; slots = stop - d.offset; purpose = 
 
 -- a data grant here
 abbrev pub grant_here : Draft → ℕ → ℕ → Allocation
-grant_here d sid bytes = record { offset = d.offset; slots = slots_for d.book.config bytes; purpose = DataGrant sid bytes }
+grant_here d sid bytes = record {
+  offset = d.offset;
+  slots = slots_for d.book.config bytes;
+  purpose = DataGrant sid bytes;
+}
 
 -- the flow with this SID is next here, in so many minislots
 abbrev pub IsNextHere : Draft → ℕ → ℕ → Type 0
@@ -48,7 +54,8 @@ IsNextHere d room sid = IsNextSid d.book.config (d.start + d.offset) room d.book
 -- it is next here, and these are the bytes that it gets
 abbrev pub IsNextAmount : Draft → ℕ → ℕ → ℕ → Type 0
 IsNextAmount d room sid bytes = IsSomeAnd (flow_of sid d.book.flows)
-    (λ f. IsNext d.book.config d.book.flows (d.start + d.offset) room f × IsAmount d.book.config f (d.start + d.offset) room bytes)
+    (λ f. IsNext d.book.config d.book.flows (d.start + d.offset) room f
+    × IsAmount d.book.config f (d.start + d.offset) room bytes)
 
 -- a draft with its amount granted to the flow that is next
 abbrev pub Grants : ℕ → ℕ → Draft → Draft → Type 0
@@ -68,17 +75,19 @@ pub record IsAfter (flows : List LiveFlow) (plan : List Allocation) (d : Draft) 
 -- a draft with an allocation more that may stand there
 abbrev pub TakesNext : List Spot → Draft → Draft → Type 0
 TakesNext spots old new = (a : Allocation) × Takes a old new
-    × ((flows : List LiveFlow) (plan : List Allocation) → IsAfter flows plan old → Stands old.book.config flows spots old.start plan a)
+    × ((flows : List LiveFlow) (plan : List Allocation) → IsAfter flows plan old →
+    Stands old.book.config flows spots old.start plan a)
 
 -- the spots before this minislot are in the plan
 abbrev pub AreTaken : List Spot → List Allocation → ℕ → Type 0
 AreTaken spots plan offset = AllByRecursion (λ s. s.offset < offset → Contains plan (allocation_of s)) spots
 
 -- The draft has the request region and this plan, lawful up to where the draft is
-pub record HasPlan (c : Config) (flows : List LiveFlow) (spots : List Spot) (start : ℕ) (plan : List Allocation) (d : Draft) : Type 0 where
+pub record HasPlan (c : Config) (flows : List LiveFlow) (spots : List Spot) (start : ℕ) (plan : List Allocation)
+    (d : Draft) : Type 0 where
   pub config : d.book.config ≡ c
   pub starts : d.start ≡ start
-  pub ready : IsReady d
+  pub ready : IsWellBegun d
   pub after : IsAfter flows plan d
   pub elements : d.elements.items ≡ request_region ∷ map (element_of c) plan
   pub bytes_of : d.bytes.items ≡ 0 ∷ map (λ a. bytes_for a.purpose) plan

@@ -8,19 +8,17 @@ ghost use Rattle.flow_book.specs.Book.{IsLive, room_of};
 ghost use Rattle.flow_book.specs.Choice.{HasStartedBy};
 ghost use Rattle.periodic.specs.declared.placement.Spot.{Spot};
 ghost use Rattle.map_build.specs.Plan.{most_grants};
-ghost use Rattle.map_build.specs.FrameMap.{data_iuc};
+ghost use Rattle.map_build.specs.FrameMap.{data_iuc, map_with};
 ghost use Rattle.map_build.specs.Spots.{AreInFrame};
-ghost use Rattle.map_build.specs.Draft.{Puts, PutsPending, Ends, map_with};
+ghost use Rattle.map_build.specs.Draft.{Puts, PutsPending, Ends};
 ghost use Rattle.map_build.specs.Walk.{HasPlan};
 
+use crate::MAX_DATA_GRANTS;
 use crate::frame_map::{ByteCounts, FrameMap};
 use flow_book::Book;
 use map_codec::{Element, Elements, WireMap, iuc};
 use minislots::{Checked, wire};
 use std::alloc::{AllocError, Global};
-
-/// The most data grants of one MAP.
-pub(crate) const MOST_GRANTS: usize = 93;
 
 // The SID of all modems.
 const BROADCAST: u16 = 0x3fff;
@@ -52,7 +50,7 @@ fn copy_with_room(book: &Book) -> Result<Book, AllocError>
         most_grants ≤ room_of sid copy.rooms) }
 {
     let mut copy = book.copy()?;
-    copy.reserve(MOST_GRANTS)?;
+    copy.reserve(MAX_DATA_GRANTS)?;
     Ok(copy)
 }
 

@@ -9,17 +9,11 @@ ghost use Rattle.map_build.specs.declared.frame_map.FrameMap.{FrameMap};
 ghost use Rattle.map_build.specs.FrameMap.{IsLawfulMap};
 ghost use Rattle.map_build.specs.Spots.{AreInFrame, AreOfChannel, HaveFlowSids, ArePeriodicOf};
 
-#[cfg(test)]
-mod tests;
-
 use crate::draft::Draft;
 use crate::frame_map::FrameMap;
 use flow_book::Book;
-use periodic::{Spot, Table};
+use periodic::{MAX_PERIODIC_FLOWS, Spot, Table};
 use std::alloc::{AllocError, Global};
-
-// The most spots of one frame.
-const MOST_SPOTS: usize = 40;
 
 // What stands in an array of spots before one is written.
 const NO_SPOT: Spot = Spot {
@@ -77,7 +71,7 @@ pub fn plan_frame(
     ensures encodable { AreOfChannel book.now.flows → IfOk result (λ m. IsWellFormed m.wire) }
 {
     let start = frame * u64::from(book.config().frame());
-    let mut spots = [NO_SPOT; MOST_SPOTS];
+    let mut spots = [NO_SPOT; MAX_PERIODIC_FLOWS];
     let count = table.in_frame(frame, &mut spots);
     plan_around(alloc, book, &spots[..count], start, ack)
 }

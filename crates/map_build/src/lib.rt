@@ -8,3 +8,6 @@ mod walk;
 
 pub use frame::plan_frame;
 pub use frame_map::{ByteCounts, FrameMap};
+
+/// The most data grants of one MAP.
+pub const MAX_DATA_GRANTS: usize = 93;

@@ -3,9 +3,11 @@
 ghost use Rattle.std.specs.Prelude.{◌≡◌, ◌<◌, ◌≤◌, ◌+◌, ◌^◌, ◌==◌, OnOk, find, option_copied};
 ghost use Rattle.map_build.specs.Plan.{most_grants, next_stop, allocation_of};
 ghost use Rattle.map_build.specs.Spots.{AreInFrame};
-ghost use Rattle.map_build.specs.Walk.{IsReady, IsUnfilled, IsFilled, Takes, TakesNext, Grants, IsServed, IsNextHere, IsNextAmount, idle_to};
+ghost use Rattle.map_build.specs.Walk.{IsWellBegun, IsUnfilled, IsFilled, Takes, TakesNext, Grants, IsServed};
+ghost use Rattle.map_build.specs.Walk.{IsNextHere, IsNextAmount, idle_to};
 
-use crate::draft::{Draft, MOST_GRANTS, NOBODY, data_iuc};
+use crate::MAX_DATA_GRANTS;
+use crate::draft::{Draft, NOBODY, data_iuc};
 use map_codec::iuc;
 use minislots::Checked;
 use periodic::Spot;
@@ -29,7 +31,7 @@ impl Draft {
     // flow that is next, else an idle.
     fn put_next(&mut self, spots: &[Spot]) -> Result<(), AllocError>
         requires placed { AreInFrame self.old.book.config spots.now }
-        requires ready { IsReady self.old }
+        requires ready { IsWellBegun self.old }
         requires inside { self.old.offset < self.old.book.config.frame }
         ensures { OnOk result (TakesNext spots.now self.old self.new) }
     {
@@ -78,10 +80,10 @@ impl Draft {
 
     // The flow that the next data grant goes to.
     fn next_flow(&self, room: u32) -> Option<u16>
-        requires { IsReady self.now }
+        requires { IsWellBegun self.now }
         ensures { IsServed self.now room result }
     {
-        if self.grants < MOST_GRANTS {
+        if self.grants < MAX_DATA_GRANTS {
             self.book.eligible(self.minislot(), room)
         } else {
             None
@@ -89,9 +91,8 @@ impl Draft {
     }
 
     // The bytes of the next data grant to the flow that is next.
-    #[tactic(auto, using(crate::proofs::NextGrants::next_amount))]
     fn next_bytes(&self, sid: u16, room: u32) -> u32
-        requires ready { IsReady self.now }
+        requires ready { IsWellBegun self.now }
         requires next { IsNextHere self.now room sid }
         ensures { IsNextAmount self.now room sid result }
     {
@@ -100,7 +101,7 @@ impl Draft {
 
     // A data grant to the flow that is next.
     fn grant(&mut self, sid: u16, room: u32) -> Result<(), AllocError>
-        requires ready { IsReady self.old }
+        requires ready { IsWellBegun self.old }
         requires inside { self.old.offset + room ≤ self.old.book.config.frame }
         requires few { self.old.grants < most_grants }
         requires next { IsNextHere self.old room sid }

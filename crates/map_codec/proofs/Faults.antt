@@ -1,34 +1,45 @@
 -- Which fault a list of elements has.
-use Rattle.std.proofs.Common.{◌≡◌, ℕ, ◌<◌, ◌≤◌, true, false, eqb, List, length, take, Some, None, refl, ap, inl, inr, arith}
-use Rattle.std.specs.Option.{option_map, option_or}
-use Rattle.std.proofs.lemmas.Bool.{cases_order, and_from, eqb-false, eq-eqb, ne_eqb, lt-ltb, le-ltb, and_right}
+use Rattle.std.proofs.Common.{◌≡◌, ℕ, ◌<◌, ◌≤◌, true, false, eqb, List, ◌∷◌, length}
+use Rattle.std.proofs.Common.{take, Some, None, refl, ap, inl, inr, arith}
+use Rattle.std.specs.Option.{option_map}
+use Rattle.std.proofs.lemmas.Bool.{cases_order, and_from, eqb-false, eq-eqb}
+use Rattle.std.proofs.lemmas.Bool.{ne_eqb, lt-ltb, le-ltb, and_right}
 use Rattle.map_codec.specs.declared.element.Element.{Element}
 use Rattle.map_codec.specs.declared.fault.DecodeFault.TheVariants.{Expansion, Descending, NoNull, SecondNull}
 use Rattle.map_codec.specs.Element.{is_null, nulls, element_at}
-use Rattle.map_codec.specs.DecodeFault.{first_of, expands_at, offset_before, descends_at, repeats_null_at, least, expansion_fault, descending_fault, null_faults, elements_fault, when}
-use Rattle.map_codec.proofs.Least.{least_none, least_is, none_from_least, none_of_both, none_of_map, none_if}
+use Rattle.map_codec.specs.DecodeFault.{first_of, expands_at, offset_before, descends_at}
+use Rattle.map_codec.specs.DecodeFault.{repeats_null_at, expansion_fault}
+use Rattle.map_codec.specs.DecodeFault.{descending_fault, null_faults, elements_fault}
+use Rattle.map_codec.proofs.Least.{least_none, least_is, all_none, none_if, none_at}
 use Rattle.map_codec.proofs.Nulls.{nulls-take-le, descends_at-past}
 
 -- the least expansion is the fault
-pub expansion_found : (es : List Element) (i : ℕ) → i < length es → expands_at es i ≡ true → ((k : ℕ) → k < i → expands_at es k ≡ false) → expansion_fault es ≡ Some (Expansion i)
-expansion_found es i lt here below = ap (option_map Expansion) (least_is (expands_at es) (length es) i lt here below)
+pub expansion_found : (es : List Element) (i : ℕ) → i < length es → expands_at es i ≡ true
+    → ((k : ℕ) → k < i → expands_at es k ≡ false) → expansion_fault es ≡ Some (Expansion i)
+expansion_found es i lt here below =
+    ap (option_map Expansion) (least_is (expands_at es) (length es) i lt here below)
 
 -- no expansion is no fault
-pub expansion_none : (es : List Element) → ((k : ℕ) → k < length es → expands_at es k ≡ false) → expansion_fault es ≡ None
+pub expansion_none : (es : List Element) → ((k : ℕ) → k < length es → expands_at es k ≡ false)
+    → expansion_fault es ≡ None
 expansion_none es none = ap (option_map Expansion) (least_none (expands_at es) (length es) none)
 
 -- the least element that begins before the one before it is the fault
-pub descending_found : (es : List Element) (i : ℕ) → i < length es → nulls (take i es) ≡ 0 → (element_at es i).offset < offset_before es i
-    → ((k : ℕ) → k < i → descends_at es k ≡ false) → descending_fault es ≡ Some (Descending i)
+pub descending_found : (es : List Element) (i : ℕ) → i < length es → nulls (take i es) ≡ 0
+    → (element_at es i).offset < offset_before es i → ((k : ℕ) → k < i → descends_at es k ≡ false)
+    → descending_fault es ≡ Some (Descending i)
 descending_found es i lt no_null less below =
-    ap (option_map Descending) (least_is (descends_at es) (length es) i lt (and_from _ _ (eq-eqb _ _ no_null) (lt-ltb _ _ less)) below)
+    let here = and_from _ _ (eq-eqb _ _ no_null) (lt-ltb _ _ less) in
+    ap (option_map Descending) (least_is (descends_at es) (length es) i lt here below)
 
 -- no such element is no fault
-pub descending_none : (es : List Element) → ((k : ℕ) → k < length es → descends_at es k ≡ false) → descending_fault es ≡ None
+pub descending_none : (es : List Element) → ((k : ℕ) → k < length es → descends_at es k ≡ false)
+    → descending_fault es ≡ None
 descending_none es none = ap (option_map Descending) (least_none (descends_at es) (length es) none)
 
-none_past : (es : List Element) (i : ℕ) → i < length es → is_null (element_at es i) ≡ true → offset_before es i ≤ (element_at es i).offset
-    → ((k : ℕ) → k < i → descends_at es k ≡ false) → (k : ℕ) → k < length es → descends_at es k ≡ false
+none_past : (es : List Element) (i : ℕ) → i < length es → is_null (element_at es i) ≡ true
+    → offset_before es i ≤ (element_at es i).offset → ((k : ℕ) → k < i → descends_at es k ≡ false)
+    → (k : ℕ) → k < length es → descends_at es k ≡ false
 none_past es i lt null le below k _ =
     elim (cases_order k i) [
       | inl same ↦ rw same (and_right (eqb (nulls (take i es)) 0) _ (le-ltb _ _ le))
@@ -37,16 +48,19 @@ none_past es i lt null le below k _ =
     ]
 
 -- nor is there one past a Null
-pub descending_none_past : (es : List Element) (i : ℕ) → i < length es → is_null (element_at es i) ≡ true → offset_before es i ≤ (element_at es i).offset
-    → ((k : ℕ) → k < i → descends_at es k ≡ false) → descending_fault es ≡ None
+pub descending_none_past : (es : List Element) (i : ℕ) → i < length es → is_null (element_at es i) ≡ true
+    → offset_before es i ≤ (element_at es i).offset → ((k : ℕ) → k < i → descends_at es k ≡ false)
+    → descending_fault es ≡ None
 descending_none_past es i lt null le below = descending_none es (none_past es i lt null le below)
 
 -- a Null with one before it, the least, is the fault
-pub null_repeated : (es : List Element) (i : ℕ) → i < length es → is_null (element_at es i) ≡ true → 0 < nulls (take i es)
-    → ((k : ℕ) → k < i → repeats_null_at es k ≡ false) → first_of (null_faults es) ≡ Some (SecondNull i)
+pub null_repeated : (es : List Element) (i : ℕ) → i < length es → is_null (element_at es i) ≡ true
+    → 0 < nulls (take i es) → ((k : ℕ) → k < i → repeats_null_at es k ≡ false)
+    → first_of (null_faults es) ≡ Some (SecondNull i)
 null_repeated es i lt null seen below =
     let some : eqb (nulls es) 0 ≡ false = ne_eqb _ _ (λ e. absurd (omega (arith, nulls-take-le es i))) in
-    let at : least (repeats_null_at es) (length es) ≡ Some i = least_is (repeats_null_at es) (length es) i lt (and_from _ _ null (lt-ltb _ _ seen)) below in
+    let here = and_from _ _ null (lt-ltb _ _ seen) in
+    let at = least_is (repeats_null_at es) (length es) i lt here below in
     rw (some, at) refl
 
 -- no Null is the fault
@@ -54,7 +68,8 @@ pub null_missing : (es : List Element) → nulls es ≡ 0 → first_of (null_fau
 null_missing es none = rw (eq-eqb _ _ none) refl
 
 -- a Null that none repeats is no fault
-pub null_fine : (es : List Element) → (nulls es ≡ 0 → ⊥) → ((k : ℕ) → k < length es → repeats_null_at es k ≡ false) → first_of (null_faults es) ≡ None
+pub null_fine : (es : List Element) → (nulls es ≡ 0 → ⊥)
+    → ((k : ℕ) → k < length es → repeats_null_at es k ≡ false) → first_of (null_faults es) ≡ None
 null_fine es some none = rw (ne_eqb _ _ some, least_none (repeats_null_at es) (length es) none) refl
 
 -- elements with no fault
@@ -68,18 +83,20 @@ pub record AreFine (es : List Element) : Type 0 where
 pub fine_from_none : (es : List Element) → elements_fault es ≡ None → AreFine es
 unfolding elements_fault
 fine_from_none es e =
-    let expansions = none_of_both (expansion_fault es) (option_or (descending_fault es) (first_of (null_faults es))) e in
-    let descents = none_of_both (descending_fault es) (first_of (null_faults es)) expansions.1 in
-    let none = none_of_both (when (eqb (nulls es) 0) NoNull) (option_or (option_map SecondNull (least (repeats_null_at es) (length es))) None) descents.1 in
-    let others = none_of_both (option_map SecondNull (least (repeats_null_at es) (length es))) None none.1 in
+    let faults = expansion_fault es ∷ descending_fault es ∷ null_faults es in
+    let (expansions, (descents, (missing, (second, end)))) = all_none faults e in
     record {
-      no_expansion = none_from_least (expands_at es) (length es) (none_of_map Expansion (least (expands_at es) (length es)) expansions.0);
-      no_descent = none_from_least (descends_at es) (length es) (none_of_map Descending (least (descends_at es) (length es)) descents.0);
-      some_null = eqb-false (nulls es) 0 (none_if (eqb (nulls es) 0) NoNull none.0);
-      no_other = none_from_least (repeats_null_at es) (length es) (none_of_map SecondNull (least (repeats_null_at es) (length es)) others.0);
+      no_expansion = none_at Expansion (expands_at es) (length es) expansions;
+      no_descent = none_at Descending (descends_at es) (length es) descents;
+      some_null = eqb-false (nulls es) 0 (none_if (eqb (nulls es) 0) NoNull missing);
+      no_other = none_at SecondNull (repeats_null_at es) (length es) second;
     }
 
 -- and in elements that are fine none is found
 pub elements_fault-fine : (es : List Element) → AreFine es → elements_fault es ≡ None
 unfolding elements_fault
-elements_fault-fine es fine = rw (expansion_none es fine.no_expansion, descending_none es fine.no_descent, null_fine es fine.some_null fine.no_other) refl
+elements_fault-fine es fine =
+    let expansions = expansion_none es fine.no_expansion in
+    let descents = descending_none es fine.no_descent in
+    let nulls = null_fine es fine.some_null fine.no_other in
+    rw (expansions, descents, nulls) refl

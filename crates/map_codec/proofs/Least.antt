@@ -1,8 +1,11 @@
 -- The least number at which a test holds.
-use Rattle.std.proofs.Common.{◌≡◌, ℕ, zero, suc, ◌<◌, Bool, true, false, cond, Option, Some, None, refl, inl, inr, arith}
+use Rattle.std.proofs.Common.{◌≡◌, ℕ, zero, suc, ◌<◌, Bool, true, false, cond, List, [], ◌∷◌}
+use Rattle.std.proofs.Common.{Option, Some, None, refl, inl, inr, arith}
+use Rattle.std.specs.List.{AllByRecursion}
 use Rattle.std.specs.Option.{option_map, option_or}
 use Rattle.std.proofs.lemmas.Bool.{cases_lt}
-use Rattle.map_codec.specs.DecodeFault.{least}
+use Rattle.map_codec.specs.declared.fault.DecodeFault.{DecodeFault}
+use Rattle.map_codec.specs.DecodeFault.{least, first_of}
 
 -- where the test holds nowhere, there is none
 pub least_none : (test : ℕ → Bool) (n : ℕ) → ((i : ℕ) → i < n → test i ≡ false) → least test n ≡ None
@@ -22,13 +25,18 @@ pub none_if : {X : Type 0} (b : Bool) (x : X) → cond b (Some x) None ≡ None 
 none_if true x e = absurd cc
 none_if false x e = refl
 
+-- alternatives of which the first that stands is nothing are all nothing
+pub all_none : (os : List (Option DecodeFault)) → first_of os ≡ None → AllByRecursion (λ o. o ≡ None) os
+all_none [] e = tt
+all_none (o ∷ os) e = let both = none_of_both o (first_of os) e in (both.0, all_none os both.1)
+
 -- nothing comes of nothing
-pub none_of_map : {X Y : Type 0} (f : X → Y) (o : Option X) → option_map f o ≡ None → o ≡ None
+none_of_map : {X Y : Type 0} (f : X → Y) (o : Option X) → option_map f o ≡ None → o ≡ None
 none_of_map f None e = refl
 none_of_map f (Some x) e = absurd cc
 
 -- where there is none, the test holds nowhere
-pub none_from_least : (test : ℕ → Bool) (n : ℕ) → least test n ≡ None → (i : ℕ) → i < n → test i ≡ false
+none_from_least : (test : ℕ → Bool) (n : ℕ) → least test n ≡ None → (i : ℕ) → i < n → test i ≡ false
 unfolding least
 none_from_least test zero e i lt = absurd (omega arith)
 none_from_least test (suc n) e i lt =
@@ -38,8 +46,14 @@ none_from_least test (suc n) e i lt =
       | inr le ↦ let same : i ≡ n = omega arith in rw same (none_if (test n) n parts.1)
     ]
 
+-- nor does it where no fault is named after it
+pub none_at : (fault : ℕ → DecodeFault) (test : ℕ → Bool) (n : ℕ) → option_map fault (least test n) ≡ None
+    → (i : ℕ) → i < n → test i ≡ false
+none_at fault test n e = none_from_least test n (none_of_map fault (least test n) e)
+
 -- a number at which the test holds, and below which it does not
-pub least_is : (test : ℕ → Bool) (n i : ℕ) → i < n → test i ≡ true → ((k : ℕ) → k < i → test k ≡ false) → least test n ≡ Some i
+pub least_is : (test : ℕ → Bool) (n i : ℕ) → i < n → test i ≡ true
+    → ((k : ℕ) → k < i → test k ≡ false) → least test n ≡ Some i
 unfolding least
 least_is test zero i lt here below = absurd (omega arith)
 least_is test (suc n) i lt here below =

@@ -1,24 +1,26 @@
 -- What is read in bytes with no fault is well formed and spelled so, and what is spelled is read again.
-use Rattle.std.proofs.Common.{◌≡◌, ℕ, ◌+◌, ◌*◌, ◌≤◌, false, not, ltb, eqb, List, [], ◌∷◌, ◌++◌, length, get_or, drop, Some, None, Err, refl, sym, ap, ◌∙◌, arith}
-use Rattle.std.specs.Option.{option_or}
-use Rattle.std.specs.List.{flat_map, AllByRecursion}
+use Rattle.std.proofs.Common.{◌≡◌, ℕ, ◌+◌, ◌*◌, ◌%◌, ◌≤◌, false, ltb, List, [], ◌∷◌, ◌++◌}
+use Rattle.std.proofs.Common.{length, get_or, drop, Some, None, Err, refl, sym, ap, ◌∙◌, arith}
+use Rattle.std.specs.List.{flat_map}
 use Rattle.std.specs.Int.{w32, to_be_bytes}
 use Rattle.std.proofs.lemmas.Bool.{eqb-true, eq-eqb, ne_eqb, ltb-false, le-ltb, not-false}
 use Rattle.std.proofs.lemmas.List.{drop-drop, get_or-drop, length-drop}
 use Rattle.std.proofs.lemmas.Nat.{be_bytes_4, from_be_bytes-to_be_bytes_4}
 use Rattle.map_codec.specs.declared.wire_map.WireMap.{WireMap}
-use Rattle.map_codec.specs.declared.wire_map.TheConstants.{MAX_ELEMENTS}
-use Rattle.map_codec.specs.Element.{bytes_of, number_at, elements_in, no_element, IsInRange}
-use Rattle.map_codec.specs.WireMap.{header, spelling, map_in, FitsHeader, IsWellFormed, HasOneValue, IsReadBack}
+use Rattle.map_codec.specs.Element.{bytes_of, number_at, elements_in, no_element}
+use Rattle.map_codec.specs.WireMap.{header, spelling, map_in, IsWellFormed, IsPayload}
+use Rattle.map_codec.specs.WireMap.{HasOneValue, IsReadBack}
 use Rattle.map_codec.specs.declared.fault.DecodeFault.{DecodeFault}
-use Rattle.map_codec.specs.declared.fault.DecodeFault.TheVariants.{Short, TooMany, WrongLength}
-use Rattle.map_codec.specs.DecodeFault.{first_of, when, count_in, length_faults, elements_fault, fault_of, checked, IsExact}
+use Rattle.map_codec.specs.declared.fault.DecodeFault.TheVariants.{TooMany, WrongLength}
+use Rattle.map_codec.specs.DecodeFault.{first_of, count_in, length_faults}
+use Rattle.map_codec.specs.DecodeFault.{elements_fault, fault_of, checked, IsExact}
 use Rattle.map_codec.proofs.Checked.{fault_from_checked}
-use Rattle.map_codec.proofs.Least.{none_of_both, none_if}
+use Rattle.map_codec.proofs.Least.{all_none, none_of_both, none_if}
 use Rattle.map_codec.proofs.Nulls.{ascends_from_none, descends_at-none, nulls_one, repeats_null_at-none}
 use Rattle.map_codec.proofs.Faults.{AreFine, fine_from_none, elements_fault-fine}
 use Rattle.map_codec.proofs.Spelling.{length-spelling, in_range_at}
-use Rattle.map_codec.proofs.Words.{IsBytes, IsBytes-four, length-elements_in, flat_map-elements_in, in_range-elements_in, elements_in-flat_map}
+use Rattle.map_codec.proofs.Words.{IsBytes, IsBytes-four, length-elements_in, flat_map-elements_in}
+use Rattle.map_codec.proofs.Words.{in_range-elements_in, elements_in-flat_map}
 
 -- what is read in a spelling is what was spelled
 pub map_in-spelling : IsReadBack
@@ -33,7 +35,8 @@ map_in-spelling m fits =
 pub one_value : HasOneValue
 one_value m n m-fits n-fits same = sym (map_in-spelling m m-fits) ∙ ap map_in same ∙ map_in-spelling n n-fits
 
-four : (xs : List ℕ) → 4 ≤ length xs → get_or xs 0 0 ∷ get_or xs 1 0 ∷ get_or xs 2 0 ∷ get_or xs 3 0 ∷ drop 4 xs ≡ xs
+four : (xs : List ℕ) → 4 ≤ length xs
+    → get_or xs 0 0 ∷ get_or xs 1 0 ∷ get_or xs 2 0 ∷ get_or xs 3 0 ∷ drop 4 xs ≡ xs
 four [] le = absurd (omega arith)
 four (a ∷ []) le = absurd (omega arith)
 four (a ∷ b ∷ []) le = absurd (omega arith)
@@ -42,18 +45,27 @@ four (a ∷ b ∷ c ∷ d ∷ rest) le = refl
 
 -- four bytes from a place on, and what stands after them
 pub four_at : (bytes : List ℕ) (at : ℕ) → at + 4 ≤ length bytes
-    → get_or bytes at 0 ∷ get_or bytes (at + 1) 0 ∷ get_or bytes (at + 2) 0 ∷ get_or bytes (at + 3) 0 ∷ drop (at + 4) bytes ≡ drop at bytes
+    → get_or bytes at 0 ∷ get_or bytes (at + 1) 0 ∷ get_or bytes (at + 2) 0 ∷ get_or bytes (at + 3) 0
+    ∷ drop (at + 4) bytes
+    ≡ drop at bytes
 four_at bytes at le =
-    let here : get_or (drop at bytes) 0 0 ≡ get_or bytes at 0 = get_or-drop at bytes 0 0 ∙ ap (λ i. get_or bytes i 0) (omega arith) in
+    let here : get_or (drop at bytes) 0 0 ≡ get_or bytes at 0 =
+    get_or-drop at bytes 0 0 ∙ ap (λ i. get_or bytes i 0) (omega arith) in
+    let one = get_or-drop at bytes 1 0 in
+    let two = get_or-drop at bytes 2 0 in
+    let three = get_or-drop at bytes 3 0 in
     let whole = four (drop at bytes) (omega (arith, length-drop at bytes)) in
-    rw (here, get_or-drop at bytes 1 0, get_or-drop at bytes 2 0, get_or-drop at bytes 3 0, drop-drop 4 at bytes) at whole
+    rw (here, one, two, three, drop-drop 4 at bytes) at whole
 
 -- the number in four bytes from a place on has these bytes
-pub number_takes : (bytes : List ℕ) (at : ℕ) → IsBytes bytes → at + 4 ≤ length bytes → to_be_bytes w32 (number_at bytes at) ++ drop (at + 4) bytes ≡ drop at bytes
+pub number_takes : (bytes : List ℕ) (at : ℕ) → IsBytes bytes → at + 4 ≤ length bytes
+    → to_be_bytes w32 (number_at bytes at) ++ drop (at + 4) bytes ≡ drop at bytes
 number_takes bytes at fits le =
-    let text = get_or bytes at 0 ∷ get_or bytes (at + 1) 0 ∷ get_or bytes (at + 2) 0 ∷ get_or bytes (at + 3) 0 ∷ [] in
+    let text =
+    get_or bytes at 0 ∷ get_or bytes (at + 1) 0 ∷ get_or bytes (at + 2) 0 ∷ get_or bytes (at + 3) 0 ∷ [] in
+    let are_bytes = IsBytes-four _ _ _ _ (fits at) (fits (at + 1)) (fits (at + 2)) (fits (at + 3)) in
     let back : to_be_bytes w32 (number_at bytes at) ≡ text =
-    be_bytes_4 text (number_at bytes at) refl (IsBytes-four _ _ _ _ (fits at) (fits (at + 1)) (fits (at + 2)) (fits (at + 3))) refl in
+    be_bytes_4 text (number_at bytes at) refl are_bytes refl in
     ap (λ (xs : List ℕ). xs ++ drop (at + 4) bytes) back ∙ four_at bytes at le
 
 -- a length of 16 bytes and four for each element counted
@@ -64,12 +76,10 @@ pub record IsLong (bytes : List ℕ) : Type 0 where
 -- bytes in whose length no fault is found are as long as they say
 pub long_from_none : (bytes : List ℕ) → first_of (length_faults bytes) ≡ None → IsLong bytes
 long_from_none bytes e =
-    let short = none_of_both (when (ltb (length bytes) 16) Short) (option_or (when (ltb 240 (count_in bytes)) TooMany) (option_or (when (not (eqb (length bytes) (16 + 4 * count_in bytes))) WrongLength) None)) e in
-    let many = none_of_both (when (ltb 240 (count_in bytes)) TooMany) (option_or (when (not (eqb (length bytes) (16 + 4 * count_in bytes))) WrongLength) None) short.1 in
-    let wrong = none_of_both (when (not (eqb (length bytes) (16 + 4 * count_in bytes))) WrongLength) None many.1 in
+    let (short, (many, (wrong, end))) = all_none (length_faults bytes) e in
     record {
-      count = ltb-false _ _ (none_if _ TooMany many.0);
-      whole = eqb-true _ _ (not-false _ (none_if _ WrongLength wrong.0));
+      count = ltb-false _ _ (none_if _ TooMany many);
+      whole = eqb-true _ _ (not-false _ (none_if _ WrongLength wrong));
     }
 
 -- and in bytes as long as they say none is found
@@ -82,27 +92,37 @@ IsBytes-drop : (n : ℕ) (bytes : List ℕ) → IsBytes bytes → IsBytes (drop 
 IsBytes-drop n bytes fits i = rw get_or-drop (fits (n + i))
 
 -- as many elements are read as are counted
-pub length-elements_in-count : (bytes : List ℕ) → IsLong bytes → length (elements_in (drop 16 bytes)) ≡ count_in bytes
-length-elements_in-count bytes long = omega (arith, length-elements_in (drop 16 bytes), length-drop 16 bytes, long.whole)
+pub length-elements_in-count : (bytes : List ℕ) → IsLong bytes
+    → length (elements_in (drop 16 bytes)) ≡ count_in bytes
+length-elements_in-count bytes long =
+    omega (arith, length-elements_in (drop 16 bytes), length-drop 16 bytes, long.whole)
 
 -- bytes as long as they say are the spelling of what is read in them
 pub spelling-map_in : (bytes : List ℕ) → IsBytes bytes → IsLong bytes → spelling (map_in bytes) ≡ bytes
 unfolding spelling header map_in
 spelling-map_in bytes fits long =
     let rest = flat_map bytes_of (elements_in (drop 16 bytes)) in
-    let last : rest ≡ drop 16 bytes = flat_map-elements_in (drop 16 bytes) (IsBytes-drop 16 bytes fits) (omega (arith, length-drop 16 bytes, long.whole)) in
-    let backoffs = λ (xs : List ℕ). get_or bytes 12 0 ∷ get_or bytes 13 0 ∷ get_or bytes 14 0 ∷ get_or bytes 15 0 ∷ xs in
+    let fours : length (drop 16 bytes) % 4 ≡ 0 = omega (arith, length-drop 16 bytes, long.whole) in
+    let last : rest ≡ drop 16 bytes =
+    flat_map-elements_in (drop 16 bytes) (IsBytes-drop 16 bytes fits) fours in
+    let front = λ (k : ℕ) (xs : List ℕ). get_or bytes 0 0 ∷ get_or bytes 1 0 ∷ k ∷ get_or bytes 3 0 ∷ xs in
+    let backoffs = λ (xs : List ℕ).
+    get_or bytes 12 0 ∷ get_or bytes 13 0 ∷ get_or bytes 14 0 ∷ get_or bytes 15 0 ∷ xs in
     let ack = λ (xs : List ℕ). to_be_bytes w32 (number_at bytes 8) ++ xs in
     let start = λ (xs : List ℕ). to_be_bytes w32 (number_at bytes 4) ++ xs in
-    let from_12 : backoffs rest ≡ drop 12 bytes = ap backoffs last ∙ four_at bytes 12 (omega (arith, long.whole)) in
-    let from_8 : ack (backoffs rest) ≡ drop 8 bytes = ap ack from_12 ∙ number_takes bytes 8 fits (omega (arith, long.whole)) in
-    let from_4 : start (ack (backoffs rest)) ≡ drop 4 bytes = ap start from_8 ∙ number_takes bytes 4 fits (omega (arith, long.whole)) in
-    ap (λ (k : ℕ). get_or bytes 0 0 ∷ get_or bytes 1 0 ∷ k ∷ get_or bytes 3 0 ∷ start (ack (backoffs rest))) (length-elements_in-count bytes long)
-    ∙ ap (λ (xs : List ℕ). get_or bytes 0 0 ∷ get_or bytes 1 0 ∷ get_or bytes 2 0 ∷ get_or bytes 3 0 ∷ xs) from_4
+    let from_12 : backoffs rest ≡ drop 12 bytes =
+    ap backoffs last ∙ four_at bytes 12 (omega (arith, long.whole)) in
+    let from_8 : ack (backoffs rest) ≡ drop 8 bytes =
+    ap ack from_12 ∙ number_takes bytes 8 fits (omega (arith, long.whole)) in
+    let from_4 : start (ack (backoffs rest)) ≡ drop 4 bytes =
+    ap start from_8 ∙ number_takes bytes 4 fits (omega (arith, long.whole)) in
+    ap (λ (k : ℕ). front k (start (ack (backoffs rest)))) (length-elements_in-count bytes long)
+    ∙ ap (front (get_or bytes 2 0)) from_4
     ∙ four_at bytes 0 (omega (arith, long.whole))
 
 -- what is read in bytes with no fault is well formed
-pub map_in_is_well_formed : (bytes : List ℕ) → IsBytes bytes → IsLong bytes → AreFine (elements_in (drop 16 bytes)) → IsWellFormed (map_in bytes)
+pub map_in_is_well_formed : (bytes : List ℕ) → IsBytes bytes → IsLong bytes
+    → AreFine (elements_in (drop 16 bytes)) → IsWellFormed (map_in bytes)
 unfolding map_in
 map_in_is_well_formed bytes fits long fine =
     record {
@@ -127,7 +147,9 @@ map_in_is_well_formed bytes fits long fine =
 pub fine_from_well_formed : (m : WireMap) → IsWellFormed m → AreFine m.elements
 fine_from_well_formed m fits =
     record {
-      no_expansion = λ i lt. ne_eqb _ _ (λ e. absurd (omega (arith, e, (in_range_at m.elements i no_element fits.in_range lt).iuc)));
+      no_expansion = λ i lt.
+          let in_range = in_range_at m.elements i no_element fits.in_range lt in
+          ne_eqb _ _ (λ e. absurd (omega (arith, e, in_range.iuc)));
       no_descent = descends_at-none m.elements fits.ascends;
       some_null = λ e. absurd (omega (arith, e, fits.one_null));
       no_other = repeats_null_at-none m.elements fits.one_null;
@@ -139,37 +161,32 @@ unfolding fault_of spelling header
 fault_of-spelling m fits =
     let long : IsLong (spelling m) = record { count = fits.count; whole = length-spelling m } in
     let fine : elements_fault (elements_in (flat_map bytes_of m.elements)) ≡ None =
-    ap elements_fault (elements_in-flat_map m.elements fits.in_range) ∙ elements_fault-fine m.elements (fine_from_well_formed m fits) in
+    ap elements_fault (elements_in-flat_map m.elements fits.in_range)
+    ∙ elements_fault-fine m.elements (fine_from_well_formed m fits) in
     rw (length_faults-none (spelling m) long) fine
 
 -- what is read in bytes with no fault, and its spelling
-pub read_from_none : (bytes : List ℕ) → IsBytes bytes → fault_of bytes ≡ None → IsWellFormed (map_in bytes) × (bytes ≡ spelling (map_in bytes))
+pub read_from_none : (bytes : List ℕ) → IsBytes bytes → fault_of bytes ≡ None
+    → IsWellFormed (map_in bytes) × (bytes ≡ spelling (map_in bytes))
 unfolding fault_of
 read_from_none bytes fits e =
-    let parts = none_of_both (first_of (length_faults bytes)) (elements_fault (elements_in (drop 16 bytes))) e in
+    let es = elements_in (drop 16 bytes) in
+    let parts = none_of_both (first_of (length_faults bytes)) (elements_fault es) e in
     let long = long_from_none bytes parts.0 in
-    (map_in_is_well_formed bytes fits long (fine_from_none (elements_in (drop 16 bytes)) parts.1), sym (spelling-map_in bytes fits long))
+    let well = map_in_is_well_formed bytes fits long (fine_from_none es parts.1) in
+    (well, sym (spelling-map_in bytes fits long))
 
 -- bytes have no fault exactly where they are a payload
 pub exact : IsExact
 exact bytes fits =
-    (λ e. let read = read_from_none bytes fits e in (map_in bytes, read.0, read.1), λ (m, well, is). ap fault_of is ∙ fault_of-spelling m well)
+    let reads : fault_of bytes ≡ None → IsPayload bytes =
+    λ e. let read = read_from_none bytes fits e in (map_in bytes, read.0, read.1) in
+    (reads, λ (m, well, is). ap fault_of is ∙ fault_of-spelling m well)
 
 -- where the tests do not pass, the bytes are no spelling
-pub checked-spelling : (bytes : List ℕ) (fault : DecodeFault) → Err fault ≡ checked (fault_of bytes) → (m : WireMap) → IsWellFormed m → bytes ≡ spelling m → ⊥
+pub checked-spelling : (bytes : List ℕ) (fault : DecodeFault) → Err fault ≡ checked (fault_of bytes)
+    → (m : WireMap) → IsWellFormed m → bytes ≡ spelling m → ⊥
 checked-spelling bytes fault e m well is =
     let none : fault_of bytes ≡ None = ap fault_of is ∙ fault_of-spelling m well in
     let some : fault_of bytes ≡ Some fault = fault_from_checked (fault_of bytes) fault e in
     cc
-
--- a MAP whose elements have no fault is well formed
-pub well_formed_from_none : (m : WireMap) → FitsHeader m → length m.elements ≤ MAX_ELEMENTS → AllByRecursion IsInRange m.elements → elements_fault m.elements ≡ None → IsWellFormed m
-well_formed_from_none m fits count in_range none =
-    let fine = fine_from_none m.elements none in
-    record {
-      fits = fits;
-      count = count;
-      in_range = in_range;
-      one_null = nulls_one m.elements fine.no_other fine.some_null;
-      ascends = ascends_from_none m.elements fine.no_descent;
-    }

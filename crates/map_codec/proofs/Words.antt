@@ -1,11 +1,13 @@
 -- The elements that bytes hold, and the bytes that elements take.
-use Rattle.std.proofs.Common.{◌≡◌, ℕ, zero, suc, ◌+◌, ◌*◌, ◌/◌, ◌%◌, ◌^◌, ◌<◌, ◌≤◌, false, List, [], ◌∷◌, ◌++◌, length, get_or, refl, ap, ◌∙◌, arith, lit<}
+use Rattle.std.proofs.Common.{◌≡◌, ℕ, zero, suc, ◌+◌, ◌*◌, ◌/◌, ◌%◌, ◌^◌, ◌<◌, ◌≤◌, false}
+use Rattle.std.proofs.Common.{List, [], ◌∷◌, ◌++◌, length, get_or, refl, ap, ◌∙◌, arith, lit<}
 use Rattle.std.specs.List.{flat_map, AllByRecursion}
 use Rattle.std.specs.Int.{w32, to_be_bytes, from_be_bytes}
 use Rattle.std.proofs.lemmas.Bool.{eqb-false}
 use Rattle.std.proofs.lemmas.Nat.{be_bytes_4, from_be_bytes-to_be_bytes_4}
 use Rattle.map_codec.specs.declared.element.Element.{Element}
-use Rattle.map_codec.specs.Element.{word_of, bytes_of, number_at, element_of, elements_in, element_at, IsInRange}
+use Rattle.map_codec.specs.Element.{word_of, bytes_of, number_at, element_of}
+use Rattle.map_codec.specs.Element.{elements_in, element_at, IsInRange}
 use Rattle.map_codec.specs.DecodeFault.{expands_at}
 
 -- each of the numbers is a byte
@@ -54,13 +56,16 @@ element_of-word_of e fits =
     rw (sid, iuc, offset) refl
 
 -- elements in range are read in their bytes
-pub elements_in-flat_map : (es : List Element) → AllByRecursion IsInRange es → elements_in (flat_map bytes_of es) ≡ es
+pub elements_in-flat_map : (es : List Element) → AllByRecursion IsInRange es
+    → elements_in (flat_map bytes_of es) ≡ es
 unfolding elements_in
 elements_in-flat_map [] fits = refl
 elements_in-flat_map (e ∷ es) fits =
     let first : element_of (from_be_bytes w32 (to_be_bytes w32 (word_of e))) ≡ e =
-    ap element_of (from_be_bytes-to_be_bytes_4 (word_of e) (word_fits e fits.0)) ∙ element_of-word_of e fits.0 in
-    ap (λ (x : Element). x ∷ elements_in (flat_map bytes_of es)) first ∙ ap (λ (xs : List Element). e ∷ xs) (elements_in-flat_map es fits.1)
+    ap element_of (from_be_bytes-to_be_bytes_4 (word_of e) (word_fits e fits.0))
+    ∙ element_of-word_of e fits.0 in
+    ap (λ (x : Element). x ∷ elements_in (flat_map bytes_of es)) first
+    ∙ ap (λ (xs : List Element). e ∷ xs) (elements_in-flat_map es fits.1)
 
 IsBytes-rest : (a b c d : ℕ) (rest : List ℕ) → IsBytes (a ∷ b ∷ c ∷ d ∷ rest) → IsBytes rest
 IsBytes-rest a b c d rest fits i = fits (suc (suc (suc (suc i))))
@@ -74,7 +79,8 @@ IsBytes-four a b c d fa fb fc fd (suc (suc (suc zero))) = fd
 IsBytes-four a b c d fa fb fc fd (suc (suc (suc (suc i)))) = lit< tt
 
 -- bytes in whole fours are those of the elements read in them
-pub flat_map-elements_in : (bytes : List ℕ) → IsBytes bytes → length bytes % 4 ≡ 0 → flat_map bytes_of (elements_in bytes) ≡ bytes
+pub flat_map-elements_in : (bytes : List ℕ) → IsBytes bytes → length bytes % 4 ≡ 0
+    → flat_map bytes_of (elements_in bytes) ≡ bytes
 unfolding elements_in
 flat_map-elements_in [] fits whole = refl
 flat_map-elements_in (a ∷ []) fits whole = absurd (omega arith)
@@ -82,13 +88,17 @@ flat_map-elements_in (a ∷ b ∷ []) fits whole = absurd (omega arith)
 flat_map-elements_in (a ∷ b ∷ c ∷ []) fits whole = absurd (omega arith)
 flat_map-elements_in (a ∷ b ∷ c ∷ d ∷ rest) fits whole =
     let word = from_be_bytes w32 (a ∷ b ∷ c ∷ d ∷ []) in
+    let are_bytes = IsBytes-four a b c d (fits 0) (fits 1) (fits 2) (fits 3) in
     let first : bytes_of (element_of word) ≡ a ∷ b ∷ c ∷ d ∷ [] =
-    ap (to_be_bytes w32) (word_of-element_of word) ∙ be_bytes_4 (a ∷ b ∷ c ∷ d ∷ []) word refl (IsBytes-four a b c d (fits 0) (fits 1) (fits 2) (fits 3)) refl in
+    ap (to_be_bytes w32) (word_of-element_of word)
+    ∙ be_bytes_4 (a ∷ b ∷ c ∷ d ∷ []) word refl are_bytes refl in
+    let others = flat_map-elements_in rest (IsBytes-rest a b c d rest fits) (omega arith) in
     ap (λ (xs : List ℕ). xs ++ flat_map bytes_of (elements_in rest)) first
-    ∙ ap (λ (xs : List ℕ). a ∷ b ∷ c ∷ d ∷ xs) (flat_map-elements_in rest (IsBytes-rest a b c d rest fits) (omega arith))
+    ∙ ap (λ (xs : List ℕ). a ∷ b ∷ c ∷ d ∷ xs) others
 
 -- elements read in bytes are in range, but for expansions
-pub in_range-elements_in : (bytes : List ℕ) → IsBytes bytes → ((i : ℕ) → i < length (elements_in bytes) → expands_at (elements_in bytes) i ≡ false)
+pub in_range-elements_in : (bytes : List ℕ) → IsBytes bytes
+    → ((i : ℕ) → i < length (elements_in bytes) → expands_at (elements_in bytes) i ≡ false)
     → AllByRecursion IsInRange (elements_in bytes)
 unfolding elements_in
 in_range-elements_in [] fits none = tt

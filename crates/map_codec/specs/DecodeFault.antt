@@ -1,10 +1,13 @@
 -- Which fault a list of bytes has: tests of the whole list in their order, and the first that holds.
-use Rattle.std.specs.Prelude.{◌≡◌, ℕ, zero, suc, ◌+◌, ◌*◌, ◌^◌, ◌<◌, ◌↔◌, Bool, ◌==◌, ◌&&◌, not, nat_lt, if◌then◌else◌, List, [], ◌∷◌, length, take, drop, slice_index, Option, Some, None, Result, Ok, Err}
+use Rattle.std.specs.Prelude.{◌≡◌, ℕ, zero, suc, ◌+◌, ◌*◌, ◌^◌, ◌<◌, ◌↔◌, Bool, ◌==◌, ◌&&◌}
+use Rattle.std.specs.Prelude.{not, nat_lt, if◌then◌else◌, List, [], ◌∷◌, length, take}
+use Rattle.std.specs.Prelude.{drop, slice_index, Option, Some, None, Result, Ok, Err}
 use Rattle.std.specs.Option.{option_map, option_or}
 use Rattle.map_codec.specs.declared.element.Element.{Element}
 use Rattle.map_codec.specs.declared.element.iuc.TheConstants.{EXPANSION}
 use Rattle.map_codec.specs.declared.fault.DecodeFault.{DecodeFault}
-use Rattle.map_codec.specs.declared.fault.DecodeFault.TheVariants.{Short, TooMany, WrongLength, Expansion, Descending, NoNull, SecondNull, Memory}
+use Rattle.map_codec.specs.declared.fault.DecodeFault.TheVariants.{Short, TooMany, WrongLength, Expansion}
+use Rattle.map_codec.specs.declared.fault.DecodeFault.TheVariants.{Descending, NoNull, SecondNull, Memory}
 use Rattle.map_codec.specs.declared.wire_map.WireMap.{WireMap}
 use Rattle.map_codec.specs.declared.wire_map.TheConstants.{HEADER_BYTES, ELEMENT_BYTES, MAX_ELEMENTS}
 use Rattle.map_codec.specs.WireMap.{IsPayload}
@@ -61,7 +64,8 @@ descending_fault es = option_map Descending (least (descends_at es) (length es))
 
 -- no Null, or the least Null after another
 abbrev pub null_faults : List Element → List (Option DecodeFault)
-null_faults es = when (nulls es == 0) NoNull ∷ option_map SecondNull (least (repeats_null_at es) (length es)) ∷ []
+null_faults es =
+    when (nulls es == 0) NoNull ∷ option_map SecondNull (least (repeats_null_at es) (length es)) ∷ []
 
 -- the first fault of a list of elements
 unfoldable pub elements_fault : List Element → Option DecodeFault
@@ -69,7 +73,8 @@ elements_fault es = first_of (expansion_fault es ∷ descending_fault es ∷ nul
 
 -- the first fault of a list of bytes
 unfoldable pub fault_of : List ℕ → Option DecodeFault
-fault_of bytes = option_or (first_of (length_faults bytes)) (elements_fault (elements_in (drop HEADER_BYTES bytes)))
+fault_of bytes =
+    option_or (first_of (length_faults bytes)) (elements_fault (elements_in (drop HEADER_BYTES bytes)))
 
 -- nothing, or the fault
 abbrev pub checked : Option DecodeFault → Result (Unit {0}) DecodeFault
@@ -88,4 +93,6 @@ IsFaultOf bytes fault = fault_of bytes ≡ Some fault
 
 -- bytes have no fault exactly where they are a payload
 abbrev pub IsExact : Type 0
-IsExact = (bytes : List ℕ) → ((i : ℕ) → slice_index bytes i < 2 ^ 8) → ((fault_of bytes ≡ None) ↔ IsPayload bytes)
+IsExact =
+    (bytes : List ℕ) → ((i : ℕ) → slice_index bytes i < 2 ^ 8)
+    → ((fault_of bytes ≡ None) ↔ IsPayload bytes)

@@ -1,5 +1,6 @@
 -- What is said of an information element, and of a list of them.
-use Rattle.std.specs.Prelude.{◌≡◌, ℕ, suc, ◌+◌, ◌*◌, ◌/◌, ◌%◌, ◌^◌, ◌<◌, ◌≤◌, Bool, ◌==◌, List, [], ◌∷◌, length, take, slice_index, slice_index_or, count_by}
+use Rattle.std.specs.Prelude.{◌≡◌, ℕ, suc, ◌+◌, ◌*◌, ◌/◌, ◌%◌, ◌^◌, ◌<◌, ◌≤◌, Bool, ◌==◌, List}
+use Rattle.std.specs.Prelude.{[], ◌∷◌, length, take, slice_index, slice_index_or, count_by}
 use Rattle.std.specs.Int.{w32, to_be_bytes, from_be_bytes}
 use Rattle.map_codec.specs.declared.element.Element.{Element}
 use Rattle.map_codec.specs.declared.element.iuc.TheConstants.{NULL, EXPANSION}
@@ -14,7 +15,9 @@ bytes_of e = to_be_bytes w32 (word_of e)
 
 -- the number in the four bytes from a place on
 abbrev pub number_at : List ℕ → ℕ → ℕ
-number_at bytes i = from_be_bytes w32 (slice_index bytes i ∷ slice_index bytes (i + 1) ∷ slice_index bytes (i + 2) ∷ slice_index bytes (i + 3) ∷ [])
+number_at bytes i =
+    from_be_bytes w32
+    (slice_index bytes i ∷ slice_index bytes (i + 1) ∷ slice_index bytes (i + 2) ∷ slice_index bytes (i + 3) ∷ [])
 
 -- the element that 32 bits say
 abbrev pub element_of : ℕ → Element
@@ -53,4 +56,6 @@ element_at es i = slice_index_or es i no_element
 -- the offsets do not descend up to and including the first Null: each element that only other
 -- elements than Nulls stand before begins no sooner than the one before it
 abbrev pub Ascends : List Element → Type 0
-Ascends es = (i : ℕ) → suc i < length es → nulls (take (suc i) es) ≡ 0 → (element_at es i).offset ≤ (element_at es (suc i)).offset
+Ascends es =
+    (i : ℕ) → suc i < length es → nulls (take (suc i) es) ≡ 0
+    → (element_at es i).offset ≤ (element_at es (suc i)).offset

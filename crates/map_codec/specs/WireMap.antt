@@ -9,7 +9,9 @@ use Rattle.map_codec.specs.Element.{bytes_of, number_at, elements_in, IsInRange,
 -- the 16 fixed bytes; the third is the number of elements
 unfoldable pub header : WireMap → List ℕ
 header m =
-    (m.channel ∷ m.ucd_count ∷ length m.elements ∷ m.reserved ∷ []) ++ to_be_bytes w32 m.alloc_start ++ to_be_bytes w32 m.ack
+    (m.channel ∷ m.ucd_count ∷ length m.elements ∷ m.reserved ∷ [])
+    ++ to_be_bytes w32 m.alloc_start
+    ++ to_be_bytes w32 m.ack
     ++ (m.ranging_start ∷ m.ranging_end ∷ m.data_start ∷ m.data_end ∷ [])
 
 -- the one spelling of a MAP: the fixed bytes, and the four bytes of each element

@@ -4,7 +4,8 @@ ghost use Rattle.std.specs.Prelude.{◌≡◌, ◌+◌, ◌*◌, ◌<◌, ◌≤
 ghost use Rattle.map_codec.specs.declared.wire_map.WireMap.{WireMap};
 ghost use Rattle.map_codec.specs.Element.{element_at, elements_in};
 ghost use Rattle.map_codec.specs.WireMap.{map_in, spelling, IsWellFormed, HasOneValue, IsReadBack};
-ghost use Rattle.map_codec.specs.DecodeFault.{first_of, length_faults, expansion_fault, descending_fault, null_faults, fault_of, checked, Reads, IsFaultOf, IsExact};
+ghost use Rattle.map_codec.specs.DecodeFault.{first_of, length_faults, expansion_fault, descending_fault};
+ghost use Rattle.map_codec.specs.DecodeFault.{null_faults, fault_of, checked, Reads, IsFaultOf, IsExact};
 
 use crate::element::{Element, Elements, iuc};
 use crate::fault::DecodeFault;

@@ -16,6 +16,3 @@ pub use element::{Element, Elements, iuc};
 pub use encoding::encode;
 pub use fault::DecodeFault;
 pub use wire_map::{ELEMENT_BYTES, HEADER_BYTES, MAX_BYTES, MAX_ELEMENTS, WireMap};
-
-#[cfg(test)]
-mod tests;

@@ -1,25 +1,18 @@
 //! `mapsched`: the upstream scheduler of one TDMA channel, run on a script, and the table of a MAP.
 #![tactic(auto)]
 
-#[cfg(test)]
-mod fakes;
-mod run;
-mod storm;
-mod table;
-
 use clap::error::ErrorKind;
 use clap::{Arg, ArgAction, ArgMatches, Command, Error};
+use sched_commands::{RunFault, decode_text, run_script, run_storm};
 use sched_storm::Open;
-use sched_text::RunFault;
 use std::alloc::{AllocError, Global};
-use std::io::Write;
 use std::process::ExitCode;
 use std::rt::Env;
 use std::sync::Wait;
 use std::thread::Threads;
 use std::{env, io};
 
-/// The command that runs a script.
+// The command that runs a script.
 fn run_command<'a>(alloc: Global) -> Result<Command<'a>, AllocError> {
     let history = Arg::new(alloc, "history")
         .long("history")
@@ -30,7 +23,7 @@ fn run_command<'a>(alloc: Global) -> Result<Command<'a>, AllocError> {
         .arg(history)
 }
 
-/// The command that shows a payload.
+// The command that shows a payload.
 fn decode_command<'a>(alloc: Global) -> Result<Command<'a>, AllocError> {
     let payload = Arg::new(alloc, "HEX")
         .required(true)
@@ -40,14 +33,14 @@ fn decode_command<'a>(alloc: Global) -> Result<Command<'a>, AllocError> {
         .arg(payload)
 }
 
-/// The command that runs scripts at the same time.
+// The command that runs scripts at the same time.
 fn storm_command<'a>(alloc: Global) -> Command<'a> {
     Command::new(alloc, "storm").about(
         "Reads scripts from standard input, runs them in threads and prints what each recorded",
     )
 }
 
-/// The commands of the program.
+// The commands of the program.
 fn commands<'a>(alloc: Global) -> Result<Command<'a>, AllocError> {
     Command::new(alloc, "mapsched")
         .about("The upstream scheduler of one TDMA channel")
@@ -57,26 +50,22 @@ fn commands<'a>(alloc: Global) -> Result<Command<'a>, AllocError> {
         .subcommand(storm_command(alloc))
 }
 
-/// The words of the command line.
+// The words of the command line.
 fn words_of(rt: &(impl Env + AllocGlobal)) -> io::Result<Vec<String>> {
-    let mut words = Vec::new(rt.alloc());
-    for word in env::args(rt)? {
-        words.push(word)?;
-    }
-    Ok(words)
+    Ok(env::args(rt)?.collect(rt.alloc())?)
 }
 
 fn matches_of<'a>(alloc: Global, words: &'a [String]) -> Result<ArgMatches<'a>, Error> {
     commands(alloc)?.try_get_matches_from(words)
 }
 
-/// Prints a fault on standard error.
+// Prints a fault on standard error.
 fn fail(rt: &impl Eprint, fault: RunFault) -> ExitCode {
     let _ = rt.eprintln(fault);
     ExitCode::from(fault.status())
 }
 
-/// Prints a fault of the command line, or the help that was asked for.
+// Prints a fault of the command line, or the help that was asked for.
 fn explain(rt: &(impl Print + Eprint), error: Error) -> ExitCode {
     if error.kind() == ErrorKind::OutOfMemory {
         return fail(rt, RunFault::Memory);
@@ -85,30 +74,28 @@ fn explain(rt: &(impl Print + Eprint), error: Error) -> ExitCode {
     ExitCode::from(error.exit_code() as u8)
 }
 
-/// The command `run`: from standard input to standard output.
+// The command `run`: from standard input to standard output, which is written with no buffer, here and below, so that
+// nothing is left to flush.
 fn run_input(rt: &(impl Input + Print + AllocGlobal), as_history: bool) -> Result<bool, RunFault> {
-    let mut writer = io::writer(rt);
-    run::run_script(rt.alloc(), &mut rt.reader(), &mut writer, as_history)?;
-    writer.flush().map_err(|_| RunFault::Output)?;
+    run_script(
+        rt.alloc(),
+        &mut rt.reader(),
+        &mut io::writer(rt),
+        as_history,
+    )?;
     Ok(true)
 }
 
-/// The command `decode`: whether the text is a payload.
+// The command `decode`: whether the text is a payload.
 fn show_text(rt: &(impl Print + AllocGlobal), text: &str) -> Result<bool, RunFault> {
-    let mut writer = io::writer(rt);
-    let is_payload = table::decode_text(rt.alloc(), text, &mut writer)?;
-    writer.flush().map_err(|_| RunFault::Output)?;
-    Ok(is_payload)
+    decode_text(rt.alloc(), text, &mut io::writer(rt))
 }
 
-/// The command `storm`: whether no worker was held.
+// The command `storm`: whether no worker was held.
 fn storm_input<R: Input + Print + AllocGlobal + Threads + Wait + Sync>(
     rt: &R,
 ) -> Result<bool, RunFault> {
-    let mut writer = io::writer(rt);
-    let is_free = storm::run_storm(rt, rt.alloc(), &mut rt.reader(), &mut writer, &Open)?;
-    writer.flush().map_err(|_| RunFault::Output)?;
-    Ok(is_free)
+    run_storm(rt, rt.alloc(), &mut rt.reader(), &mut io::writer(rt), &Open)
 }
 
 fn main(rt: HostRuntime) -> ExitCode {

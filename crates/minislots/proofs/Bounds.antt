@@ -1,23 +1,27 @@
 -- What a lawful configuration keeps to.
-use Rattle.std.proofs.Common.{◌≡◌, refl, ℕ, ◌≤◌, Bool, true, false, not, cond, ◌&&◌, nat_le, ◌==◌, List, [], ◌∷◌, Option, Some, None, arith}
+use Rattle.std.proofs.Common.{◌≡◌, refl, ℕ, ◌≤◌, Bool, true, false, not, cond, ◌&&◌}
+use Rattle.std.proofs.Common.{nat_le, ◌==◌, List, [], ◌∷◌, Option, Some, None, arith}
 use Rattle.std.proofs.lemmas.Bool.Decides.{nat_tests}
 use Rattle.minislots.specs.declared.config.Config.{Config}
 use Rattle.minislots.specs.declared.config.ConfigFault.{ConfigFault}
-use Rattle.minislots.specs.Config.{is_lawful_field, fields, first_wrong_of, first_wrong, IsLawful, HasBounds, is_ticks, is_within}
+use Rattle.minislots.specs.Config.{is_lawful_field, fields, first_wrong_of, first_wrong}
+use Rattle.minislots.specs.Config.{IsLawful, HasBounds, is_ticks, is_within}
 
 -- a list of fields that are all lawful
 abbrev AreLawful : Config → List ConfigFault → Type 0
 AreLawful c [] = Unit {0}
 AreLawful c (field ∷ some) = (is_lawful_field c field ≡ true) × AreLawful c some
 
-not_found : {X : Type 0} (b : Bool) (x : X) (rest : Option X) → cond (not b) (Some x) rest ≡ None → (b ≡ true) × (rest ≡ None)
+not_found : {X : Type 0} (b : Bool) (x : X) (rest : Option X) → cond (not b) (Some x) rest ≡ None
+    → (b ≡ true) × (rest ≡ None)
 not_found true x rest h = (refl, h)
 not_found false x rest h = absurd (cc)
 
 are_lawful : (c : Config) (some : List ConfigFault) → first_wrong_of c some ≡ None → AreLawful c some
 are_lawful c [] h = tt
 are_lawful c (field ∷ some) h =
-    let both : (is_lawful_field c field ≡ true) × (first_wrong_of c some ≡ None) = not_found (is_lawful_field c field) field (first_wrong_of c some) h in
+    let both : (is_lawful_field c field ≡ true) × (first_wrong_of c some ≡ None) =
+    not_found (is_lawful_field c field) field (first_wrong_of c some) h in
     (both.0, are_lawful c some both.1)
 
 within : (low high n : ℕ) → is_within low high n ≡ true → (low ≤ n) × (n ≤ high)
@@ -43,7 +47,11 @@ equal m n h = grind (arith, nat_tests)
 -- a lawful configuration keeps to its bounds
 pub bounds_of : (c : Config) → IsLawful c → HasBounds c
 bounds_of c h =
-    let (ticks, (bytes, (overhead, (frame, (cycle, (requests, (polls, (lead, (short, (quantum, (cap, (receivers, (calls, (start, (ranging_start, (ranging_end, (data_start, (data_end, end)))))))))))))))))) = each_lawful c h in
+    let (ticks, (bytes, (overhead, of_frame))) = each_lawful c h in
+    let (frame, (cycle, (requests, (polls, (lead, (short, of_grants)))))) = of_frame in
+    let (quantum, (cap, of_history)) = of_grants in
+    let (receivers, (calls, (start, of_backoffs))) = of_history in
+    let (ranging_start, (ranging_end, (data_start, (data_end, end)))) = of_backoffs in
     record {
       ticks_positive = omega (arith, ticks_within c.ticks ticks);
       ticks_most = (ticks_within c.ticks ticks).1;

@@ -1,7 +1,8 @@
 -- Worked rows: one configuration and its units, and the first wrong field of others.
 use Rattle.std.proofs.Common.{◌≡◌, refl, Some, None}
 use Rattle.minislots.specs.declared.config.Config.{Config}
-use Rattle.minislots.specs.declared.config.ConfigFault.TheVariants.{Ticks, Frame, Lead, GrantCap, Start, DataEnd}
+use Rattle.minislots.specs.declared.config.ConfigFault.TheVariants.{Ticks, Frame, Lead}
+use Rattle.minislots.specs.declared.config.ConfigFault.TheVariants.{GrantCap, Start, DataEnd}
 use Rattle.minislots.specs.Config.{first_wrong, IsLawful}
 use Rattle.minislots.specs.Units.{slots_floor, slots_of_micros, slots_for, bytes_in, wire_of}
 

@@ -1,5 +1,5 @@
 -- Bursts in minislots and in bytes, where a minislot carries at least one byte.
-use Rattle.std.proofs.Common.{◌≡◌, ℕ, ◌+◌, ◌-◌, ◌*◌, ◌/◌, ◌<◌, ◌≤◌, arith}
+use Rattle.std.proofs.Common.{ℕ, ◌+◌, ◌-◌, ◌*◌, ◌/◌, ◌<◌, ◌≤◌, arith}
 use Rattle.minislots.specs.declared.config.Config.{Config}
 use Rattle.minislots.specs.Units.{slots_for, bytes_in}
 
@@ -16,10 +16,6 @@ module _ (c : Config) (carries : 0 < c.bytes_per_slot) where
   pub fits_bytes : (n k : ℕ) → slots_for c n ≤ k → n ≤ bytes_in c k
   fits_bytes n k h = grind (arith, rounded_up-enough n c.bytes_per_slot carries)
 
-  -- a burst of no bytes is its overhead
-  pub slots_for-zero : slots_for c 0 ≡ c.overhead
-  slots_for-zero = grind arith
-
   -- a burst of any bytes is longer than its overhead
   pub slots_for-positive : (n : ℕ) → 0 < n → c.overhead < slots_for c n
   slots_for-positive n some = grind arith
@@ -28,11 +24,3 @@ module _ (c : Config) (carries : 0 < c.bytes_per_slot) where
   pub fits_slots : (n k : ℕ) → 0 < n → n ≤ bytes_in c k → slots_for c n ≤ k
   fits_slots n k some h =
       omega (arith, slots_for-positive n some, rounded_up-least n c.bytes_per_slot (k - c.overhead) carries h)
-
-  -- more bytes are no shorter burst
-  pub slots_for-mono : (m n : ℕ) → m ≤ n → slots_for c m ≤ slots_for c n
-  slots_for-mono m n h = grind arith
-
--- more minislots carry no fewer bytes
-pub bytes_in-mono : (c : Config) (j k : ℕ) → j ≤ k → bytes_in c j ≤ bytes_in c k
-bytes_in-mono c j k h = grind arith

@@ -1,8 +1,13 @@
 -- Which configurations of a channel are lawful, and which field of another is the first that is wrong.
-use Rattle.std.specs.Prelude.{◌≡◌, ℕ, ◌<◌, ◌≤◌, ◌+◌, ◌*◌, ◌%◌, ◌^◌, Bool, not, ◌&&◌, ◌||◌, nat_le, ◌==◌, List, [], ◌∷◌, Option, None, find}
+use Rattle.std.specs.Prelude.{◌≡◌, ℕ, ◌<◌, ◌≤◌, ◌+◌, ◌*◌, ◌%◌, ◌^◌, Bool, not, ◌&&◌, ◌||◌, nat_le, ◌==◌}
+use Rattle.std.specs.Prelude.{List, [], ◌∷◌, Option, Some, None, Result, Ok, Err, find}
 use Rattle.minislots.specs.declared.config.Config.{Config}
 use Rattle.minislots.specs.declared.config.ConfigFault.{ConfigFault}
-use Rattle.minislots.specs.declared.config.ConfigFault.TheVariants.{Ticks, BytesPerSlot, Overhead, Frame, Cycle, ReqSlots, PollSlots, Lead, ShortMax, Quantum, GrantCap, Receivers, Calls, Start, RangingStart, RangingEnd, DataStart, DataEnd}
+use Rattle.minislots.specs.declared.config.ConfigFault.TheVariants.{Ticks, BytesPerSlot, Overhead, Frame}
+use Rattle.minislots.specs.declared.config.ConfigFault.TheVariants.{Cycle, ReqSlots, PollSlots, Lead}
+use Rattle.minislots.specs.declared.config.ConfigFault.TheVariants.{ShortMax, Quantum, GrantCap}
+use Rattle.minislots.specs.declared.config.ConfigFault.TheVariants.{Receivers, Calls, Start, RangingStart}
+use Rattle.minislots.specs.declared.config.ConfigFault.TheVariants.{RangingEnd, DataStart, DataEnd}
 use Rattle.minislots.specs.Units.{slots_for}
 
 -- the number is from low to high
@@ -24,7 +29,8 @@ is_lawful_field c ReqSlots = nat_le 1 c.req_slots && nat_le (c.req_slots + c.ove
 is_lawful_field c PollSlots = nat_le 1 c.poll_slots && nat_le (c.poll_slots + c.req_slots) c.frame
 is_lawful_field c Lead = nat_le (c.lead + 2 * c.frame) 4096
 is_lawful_field c ShortMax = nat_le c.short_max c.frame
-is_lawful_field c Quantum = is_within 64 1522 c.quantum && nat_le (slots_for c c.quantum + c.req_slots) c.frame
+is_lawful_field c Quantum =
+    is_within 64 1522 c.quantum && nat_le (slots_for c c.quantum + c.req_slots) c.frame
 is_lawful_field c GrantCap = is_within c.quantum 1048560 c.grant_cap
 is_lawful_field c Receivers = is_within 1 16 c.receivers
 is_lawful_field c Calls = is_within 1 16777216 c.calls
@@ -56,11 +62,18 @@ backoff_fields = RangingStart ∷ RangingEnd ∷ DataStart ∷ DataEnd ∷ []
 
 -- the fields that can be wrong, in their order
 abbrev pub fields : List ConfigFault
-fields = Ticks ∷ BytesPerSlot ∷ Overhead ∷ Frame ∷ Cycle ∷ ReqSlots ∷ PollSlots ∷ Lead ∷ ShortMax ∷ Quantum ∷ GrantCap ∷ Receivers ∷ Calls ∷ Start ∷ RangingStart ∷ RangingEnd ∷ DataStart ∷ DataEnd ∷ []
+fields =
+    Ticks ∷ BytesPerSlot ∷ Overhead ∷ Frame ∷ Cycle ∷ ReqSlots ∷ PollSlots ∷ Lead ∷ ShortMax ∷ Quantum
+    ∷ GrantCap ∷ Receivers ∷ Calls ∷ Start ∷ RangingStart ∷ RangingEnd ∷ DataStart ∷ DataEnd ∷ []
 
 -- the first of some fields that is wrong
 abbrev pub first_wrong_of : Config → List ConfigFault → Option ConfigFault
 first_wrong_of c some = find (λ field. not (is_lawful_field c field)) some
+
+-- a test of some fields passes where none is wrong, and else names the first that is
+abbrev pub NamesFirstWrong : Config → List ConfigFault → Result (Unit {0}) ConfigFault → Type 0
+NamesFirstWrong c some (Ok u) = first_wrong_of c some ≡ None
+NamesFirstWrong c some (Err fault) = first_wrong_of c some ≡ Some fault
 
 -- the first field that is wrong
 unfoldable pub first_wrong : Config → Option ConfigFault

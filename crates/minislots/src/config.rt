@@ -6,6 +6,7 @@ ghost use Rattle.minislots.specs.Config.{first_wrong, IsLawful};
 mod fields;
 mod readers;
 
+use std::fmt;
 use std::marker::Model;
 use thiserror::Error;
 
@@ -59,42 +60,30 @@ pub struct Config {
 /// The first field of a configuration that has no lawful value, in the order of the fields.
 #[derive(Clone, Copy, Debug, PartialEq, Eq, Error)]
 pub enum ConfigFault {
-    #[error("ticks")]
     Ticks,
-    #[error("bytes_per_slot")]
     BytesPerSlot,
-    #[error("overhead")]
     Overhead,
-    #[error("frame")]
     Frame,
-    #[error("cycle")]
     Cycle,
-    #[error("req_slots")]
     ReqSlots,
-    #[error("poll_slots")]
     PollSlots,
-    #[error("lead")]
     Lead,
-    #[error("short_max")]
     ShortMax,
-    #[error("quantum")]
     Quantum,
-    #[error("grant_cap")]
     GrantCap,
-    #[error("receivers")]
     Receivers,
-    #[error("calls")]
     Calls,
-    #[error("start")]
     Start,
-    #[error("ranging_start")]
     RangingStart,
-    #[error("ranging_end")]
     RangingEnd,
-    #[error("data_start")]
     DataStart,
-    #[error("data_end")]
     DataEnd,
+}
+
+impl fmt::Display for ConfigFault {
+    fn fmt<W: fmt::Write>(&self, f: &mut fmt::Formatter<W>) -> fmt::Result {
+        write!(f, "the configuration has no lawful {self:?}")
+    }
 }
 
 /// A configuration in which each field is lawful.
@@ -121,7 +110,6 @@ impl Model for Checked {
 impl Config {
     /// The configuration as it is, once each of its fields is known to be lawful. Otherwise the
     /// first field that is wrong, in the order of [`ConfigFault`].
-    #[tactic(auto, using(crate::proofs::Groups::first_wrong_by_groups))]
     pub fn check(self) -> Result<Checked, ConfigFault>
         // A lawful configuration is given back as it was handed in.
         ensures ok { IfOk result (λ checked. checked ≡ self) }
@@ -130,11 +118,7 @@ impl Config {
         // Of any other the first wrong field is named.
         ensures err { IfErr result (λ fault. first_wrong self ≡ Some fault) }
     {
-        self.check_burst()?;
-        self.check_frame()?;
-        self.check_grants()?;
-        self.check_history()?;
-        self.check_backoffs()?;
+        self.check_fields()?;
         Ok(Checked { config: self })
     }
 }

@@ -4,8 +4,6 @@
 
 mod config;
 mod stamp;
-#[cfg(test)]
-mod tests;
 mod units;
 
 pub use config::{Checked, Config, ConfigFault};

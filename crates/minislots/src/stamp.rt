@@ -1,4 +1,6 @@
-/// Who made a call: the seat of the lock, and the ticket that it held.
+//! Who made a call.
+
+/// The seat of the lock that made a call, and the ticket that it held.
 #[derive(Clone, Copy, Debug, PartialEq, Eq)]
 pub struct Stamp {
     /// The seat's number, from 0.

@@ -7,16 +7,19 @@ use Rattle.flow_book.specs.FlowSpec.{interval_frames, jitter_slots, periodic_slo
 use Rattle.periodic.specs.declared.placement.Placement.{Placement}
 use Rattle.periodic.specs.declared.search.Wanted.{Wanted}
 use Rattle.periodic.specs.declared.search.Found.{Found}
-use Rattle.periodic.specs.Placement.{Placed, phase_of, offset_of, nominal_places, spots_in, IsLawfulStart, EachPlace, IsPlacement, NoPlacement}
+use Rattle.periodic.specs.Placement.{Placed, phase_of, offset_of, nominal_places, spots_in, IsLawfulStart, EachPlace}
+use Rattle.periodic.specs.Placement.{IsPlacement, NoPlacement}
 use Rattle.periodic.specs.Choice.{IsChosen}
 use Rattle.periodic.specs.Search.{IsWantedOf, AreStarts, NoneBelow, IsFirstFound, IsReference, starts_of}
 
 -- lawful starts by what is looked for, one number after another
 abbrev AreStartsBy : Config → List Placed → List ℕ → ℕ → ℕ → ℕ → ℕ → ℕ → Type 0
 AreStartsBy c table starts jitter slots interval phase offset =
-    EachPlace (λ place start. IsLawfulStart c jitter slots offset (spots_in c place table) start) (nominal_places c interval phase) starts
+    EachPlace (λ place start. IsLawfulStart c jitter slots offset (spots_in c place table) start)
+    (nominal_places c interval phase) starts
 
-same-starts : (c : Config) (table : List Placed) (starts : List ℕ) (j j' s s' i i' p p' o o' : ℕ) → j ≡ j' → s ≡ s' → i ≡ i'
+same-starts : (c : Config) (table : List Placed) (starts : List ℕ) (j j' s s' i i' p p' o o' : ℕ) → j ≡ j' → s ≡ s'
+    → i ≡ i'
     → p ≡ p' → o ≡ o' → AreStartsBy c table starts j s i p o → AreStartsBy c table starts j' s' i' p' o'
 same-starts c table starts j j' s s' i i' p p' o o' ej es ei ep eo are =
     subst (λ n. AreStartsBy c table starts n s' i' p' o') ej
@@ -24,17 +27,20 @@ same-starts c table starts j j' s s' i i' p p' o o' ej es ei ep eo are =
     (subst (λ n. AreStartsBy c table starts j s n p' o') ei
     (subst (λ n. AreStartsBy c table starts j s i n o') ep (subst (λ n. AreStartsBy c table starts j s i p n) eo are))))
 
-module _ (c : Config) (table : List Placed) (spec : FlowSpec) (next : ℕ) (w : Wanted) (wanted : IsWantedOf c spec w) where
+module _ (c : Config) (table : List Placed) (spec : FlowSpec) (next : ℕ) (w : Wanted)
+    (wanted : IsWantedOf c spec w) where
   -- the starts of a lawful placement are lawful at its phase and offset
   pub starts-of-lawful : (p : Placement) (phase offset : ℕ) → phase_of c spec p ≡ phase → offset_of c p ≡ offset
       → IsPlacement c table spec next p → AreStarts c table w phase offset p.starts
   starts-of-lawful p phase offset at from is =
-      same-starts c table p.starts (jitter_slots c spec) w.jitter (periodic_slots c spec) w.slots (interval_frames c spec) w.interval
+      same-starts c table p.starts (jitter_slots c spec) w.jitter (periodic_slots c spec) w.slots
+      (interval_frames c spec) w.interval
       (phase_of c spec p) phase (offset_of c p) offset
       (sym wanted.jitter) (sym wanted.slots) (sym wanted.interval) at from is.starts
 
   -- where no phase has lawful starts no placement is lawful
-  pub none-lawful : 0 < w.interval → 0 < c.frame → ((phase : ℕ) → phase < w.interval → NoneBelow c table w phase c.frame)
+  pub none-lawful : 0 < w.interval → 0 < c.frame
+      → ((phase : ℕ) → phase < w.interval → NoneBelow c table w phase c.frame)
       → NoPlacement c table spec next
   none-lawful some frame none p is =
       none (phase_of c spec p) (omega (arith, wanted.interval)) (offset_of c p) is.after_requests (omega arith) p.starts
@@ -56,12 +62,14 @@ module _ (c : Config) (table : List Placed) (spec : FlowSpec) (next : ℕ) (w : 
               subst (λ n. reference < next + n * c.frame) wanted.interval is.first in first);
           after_requests = (let after = found.at_phase.after_requests in omega arith);
           starts =
-              same-starts c table (starts_of f.row) w.jitter (jitter_slots c spec) w.slots (periodic_slots c spec) w.interval
+              same-starts c table (starts_of f.row) w.jitter (jitter_slots c spec) w.slots
+              (periodic_slots c spec) w.interval
               (interval_frames c spec) f.phase (phase_of c spec p) f.offset (offset_of c p)
               wanted.jitter wanted.slots wanted.interval (sym phase) (sym offset) found.at_phase.starts.lawful;
         };
         least_phase = λ other lawful. elim (cases_lt (phase_of c spec other) f.phase) [
-          | inl lower ↦ absurd (found.before (phase_of c spec other) lower (offset_of c other) lawful.after_requests (omega arith)
+          | inl lower ↦ absurd (found.before (phase_of c spec other) lower (offset_of c other) lawful.after_requests
+              (omega arith)
               other.starts (starts-of-lawful other (phase_of c spec other) (offset_of c other) refl refl lawful))
           | inr higher ↦ omega arith
         ];

@@ -1,5 +1,6 @@
 -- The spots of a frame: within it, and apart from one another.
-use Rattle.std.proofs.Common.{◌≡◌, ◌≢◌, refl, sym, ap, ◌∙◌, ℕ, zero, suc, ◌+◌, ◌%◌, ◌<◌, ◌≤◌, ◌==◌, List, [], ◌∷◌, length, get_or, filter_map, Option, Some, None, option_map, subst, inl, inr, arith}
+use Rattle.std.proofs.Common.{◌≡◌, ◌≢◌, refl, sym, ap, ◌∙◌, ℕ, zero, suc, ◌+◌, ◌%◌, ◌<◌, ◌≤◌, ◌==◌, List, [], ◌∷◌}
+use Rattle.std.proofs.Common.{length, get_or, filter_map, Option, Some, None, option_map, subst, inl, inr, arith}
 use Rattle.std.specs.List.{AllByRecursion, cons_option, swap}
 use Rattle.std.specs.List.Sorted.{IsPermutation, IsNonDecreasingBy}
 use Rattle.std.proofs.lemmas.Bool.{cond_both, cases_eq, eqb-true}
@@ -10,9 +11,10 @@ use Rattle.std.proofs.lemmas.Option.{same_Some}
 use Rattle.std.proofs.Math.Nat.{mod-mod}
 use Rattle.minislots.specs.declared.config.Config.{Config}
 use Rattle.minislots.specs.Config.{IsLawful}
-use Rattle.flow_book.specs.FlowSpec.{is_polled, interval_frames, jitter_slots, periodic_slots}
+use Rattle.flow_book.specs.FlowSpec.{interval_frames, jitter_slots, periodic_slots}
 use Rattle.periodic.specs.declared.placement.Spot.{Spot}
-use Rattle.periodic.specs.Placement.{Placed, phase_of, offset_of, nominal_places, start_at, spot_in, spots_in, IsLawfulStart, EachPlace}
+use Rattle.periodic.specs.Placement.{Placed, phase_of, offset_of, nominal_places, start_at, spot_at, spot_in, spots_in}
+use Rattle.periodic.specs.Placement.{IsLawfulStart, EachPlace, HasLawfulStarts}
 use Rattle.periodic.specs.Table.{IsSoundPlaced, IsWithinFrame, IsApart, AreApart, FollowInTurn, AreSound}
 use Rattle.periodic.proofs.Parameters.{places_of}
 
@@ -26,25 +28,30 @@ each-at P place s (p ∷ places) (start ∷ starts) each found =
     (λ same here. subst (λ q. P q s) (eqb-true p place same) (subst (P p) (same_Some start s here) each.0))
     (λ differ there. each-at P place s places starts each.1 there) found
 
--- a spot stands at a start
-pub spot-found : (c : Config) (f : Placed) (o : Option ℕ) (s : Spot)
-    → option_map (λ start. record { sid = f.sid; poll = is_polled f.spec; offset = start; slots = periodic_slots c f.spec }) o ≡ Some s
-    → (start : ℕ) × (o ≡ Some start) ×
-    (s ≡ record { sid = f.sid; poll = is_polled f.spec; offset = start; slots = periodic_slots c f.spec })
+spot-found : (c : Config) (f : Placed) (o : Option ℕ) (s : Spot) → option_map (spot_at c f) o ≡ Some s
+    → (start : ℕ) × (o ≡ Some start) × (s ≡ spot_at c f start)
 spot-found c f None s found = absurd (cc)
 spot-found c f (Some start) s found = (start, refl, same_Some _ _ (sym found))
+
+-- the start is lawful in a frame with these spots
+abbrev pub IsStartIn : Config → Placed → List Spot → ℕ → Type 0
+IsStartIn c f spots start =
+    IsLawfulStart c (jitter_slots c f.spec) (periodic_slots c f.spec) (offset_of c f.placement) spots start
+
+-- the spot of a flow with lawful starts stands at one of them
+pub spot-lawful : (c : Config) (k : ℕ) (f : Placed) (spots : ℕ → List Spot) (s : Spot)
+    → HasLawfulStarts c f.spec f.placement spots → spot_in c k f ≡ Some s
+    → (start : ℕ) × (s ≡ spot_at c f start) × IsStartIn c f (spots (k % c.cycle)) start
+spot-lawful c k f spots s starts found =
+    let places = nominal_places c (interval_frames c f.spec) (phase_of c f.spec f.placement) in
+    let (start, at, is) = spot-found c f (start_at (k % c.cycle) places f.placement.starts) s found in
+    (start, is, each-at (λ place. IsStartIn c f (spots place)) (k % c.cycle) start places f.placement.starts starts at)
 
 -- a spot of a sound flow is within the frame
 pub spot-within : (c : Config) (k : ℕ) (f : Placed) (s : Spot) → IsLawful c → IsSoundPlaced c f → spot_in c k f ≡ Some s
     → IsWithinFrame c s
 spot-within c k f s lawful sound found =
-    let (start, at, is) =
-    spot-found c f (start_at (k % c.cycle) (nominal_places c (interval_frames c f.spec) (phase_of c f.spec f.placement))
-    f.placement.starts) s found in
-    let start-lawful =
-    each-at (λ place start. IsLawfulStart c (jitter_slots c f.spec) (periodic_slots c f.spec) (offset_of c f.placement) [] start)
-    (k % c.cycle) start
-    (nominal_places c (interval_frames c f.spec) (phase_of c f.spec f.placement)) f.placement.starts sound.starts at in
+    let (start, is, start-lawful) = spot-lawful c k f (λ place. []) s sound.starts found in
     let places = places_of c f.spec lawful sound.periodic sound.no_fault in
     rw is (record {
       sid_positive = sound.sid_positive;
@@ -66,21 +73,13 @@ spots-within c k [] lawful sound = tt
 spots-within c k (f ∷ placed) lawful sound =
     cons-within c k f (spot_in c k f) (spots_in c k placed) lawful sound.0 refl (spots-within c k placed lawful sound.1)
 
-cons-length : (o : Option Spot) (rest : List Spot) (n : ℕ) → length rest ≤ n → length (cons_option o rest) ≤ suc n
-cons-length None rest n le = omega arith
-cons-length (Some s) rest n le = omega arith
-
--- a flow has at most one spot in a frame
-pub length-spots : (c : Config) (k : ℕ) (placed : List Placed) → length (spots_in c k placed) ≤ length placed
-length-spots c k [] = omega arith
-length-spots c k (f ∷ placed) = cons-length (spot_in c k f) (spots_in c k placed) (length placed) (length-spots c k placed)
-
 -- what the placed flows take of the frames at this place of the cycle
 abbrev spots_at : Config → List Placed → ℕ → List Spot
-spots_at c placed place =
-    filter_map (λ flow. option_map
-    (λ start. record { sid = flow.sid; poll = is_polled flow.spec; offset = start; slots = periodic_slots c flow.spec })
-    (start_at place (nominal_places c (interval_frames c flow.spec) (phase_of c flow.spec flow.placement)) flow.placement.starts)) placed
+spots_at c placed place = filter_map
+    (λ f. option_map (spot_at c f)
+    (start_at place (nominal_places c (interval_frames c f.spec) (phase_of c f.spec f.placement))
+    f.placement.starts))
+    placed
 
 -- a frame has the spots of its place in the cycle
 pub spots_in-place : (c : Config) (k : ℕ) (placed : List Placed) → spots_in c (k % c.cycle) placed ≡ spots_in c k placed
@@ -126,7 +125,8 @@ swapped-apart n a b f g at bt swapped apart i j it jt differ = elim (cases_eq i 
 ]
 
 -- in another order they are apart too
-apart-permuted : (d : Spot) (xs ys : List Spot) → IsPermutation xs ys → AreApart xs → AreApartAt (length ys) (λ i. get_or ys i d)
+apart-permuted : (d : Spot) (xs ys : List Spot) → IsPermutation xs ys → AreApart xs
+    → AreApartAt (length ys) (λ i. get_or ys i d)
 apart-permuted d xs ys moved apart =
     IsPermutation-keeps xs (λ l. AreApartAt (length l) (λ i. get_or l i d)) (apart-at d xs apart)
     (λ l i j it jt before. rw (length-swap l i j)
@@ -139,13 +139,15 @@ in-turn : (spots : List Spot)
     → (get_or spots i d).offset + (get_or spots i d).slots ≤ (get_or spots j d).offset) → FollowInTurn spots
 in-turn [] ends = tt
 in-turn (s ∷ spots) ends = (
-  recursion_from_All (λ t. s.offset + s.slots ≤ t.offset) spots (λ k d lt. ends 0 (suc k) d (omega arith) (omega arith)),
+  recursion_from_All (λ t. s.offset + s.slots ≤ t.offset) spots
+      (λ k d lt. ends 0 (suc k) d (omega arith) (omega arith)),
   in-turn
       spots (λ i j d lt lt'. ends (suc i) (suc j) d (omega arith) (omega arith)),
 )
 
 -- spots apart from one another, none empty, by ascending offsets
-pub sorted-in-turn : (c : Config) (xs ys : List Spot) → IsPermutation xs ys → AreApart xs → AllByRecursion (IsWithinFrame c) ys
+pub sorted-in-turn : (c : Config) (xs ys : List Spot) → IsPermutation xs ys → AreApart xs
+    → AllByRecursion (IsWithinFrame c) ys
     → IsNonDecreasingBy (λ s. s.offset) ys → FollowInTurn ys
 sorted-in-turn c xs ys moved apart within up =
     in-turn ys (λ i j d lt lt'.
@@ -159,7 +161,8 @@ sorted-in-turn c xs ys moved apart within up =
 pub within-permuted : (c : Config) (xs ys : List Spot) → IsPermutation xs ys → AllByRecursion (IsWithinFrame c) xs
     → AllByRecursion (IsWithinFrame c) ys
 within-permuted c xs ys moved within =
-    recursion_from_All (IsWithinFrame c) ys (All-permutation (IsWithinFrame c) xs ys moved (All-from_recursion (IsWithinFrame c) xs within))
+    recursion_from_All (IsWithinFrame c) ys
+    (All-permutation (IsWithinFrame c) xs ys moved (All-from_recursion (IsWithinFrame c) xs within))
 
 -- The spots of frame k, one after the other
 pub record IsFrameOf (c : Config) (k : ℕ) (placed : List Placed) (spots : List Spot) : Type 0 where
@@ -169,7 +172,8 @@ pub record IsFrameOf (c : Config) (k : ℕ) (placed : List Placed) (spots : List
 
 -- what the frame's place in the cycle has, sorted, is the frame
 pub frame-sorted : (c : Config) (k : ℕ) (placed : List Placed) (xs ys : List Spot) → IsLawful c → AreSound c placed
-    → xs ≡ spots_in c (k % c.cycle) placed → IsPermutation xs ys → IsNonDecreasingBy (λ s. s.offset) ys → IsFrameOf c k placed ys
+    → xs ≡ spots_in c (k % c.cycle) placed → IsPermutation xs ys → IsNonDecreasingBy (λ s. s.offset) ys
+    → IsFrameOf c k placed ys
 frame-sorted c k placed xs ys lawful sound is moved up =
     let same : xs ≡ spots_in c k placed = is ∙ spots_in-place c k placed in
     let moved' : IsPermutation (spots_in c k placed) ys = rw (← same) moved in

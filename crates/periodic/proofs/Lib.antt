@@ -1,5 +1,6 @@
 pub mod RowsPlacement
 pub mod RowsNoPlace
+pub mod Profile
 pub mod Parameters
 pub mod Places
 pub mod Fields

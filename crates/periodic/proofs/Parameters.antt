@@ -1,5 +1,6 @@
 -- What parameters without a fault keep to.
-use Rattle.std.proofs.Common.{◌≡◌, refl, ℕ, ◌+◌, ◌-◌, ◌/◌, ◌%◌, ◌<◌, ◌≤◌, Bool, true, false, not, cond, ◌||◌, nat_lt, ◌==◌, List, [], ◌∷◌, Option, Some, None, inl, inr, arith}
+use Rattle.std.proofs.Common.{◌≡◌, refl, ℕ, ◌+◌, ◌-◌, ◌/◌, ◌%◌, ◌<◌, ◌≤◌, Bool, true, false, not, cond, ◌||◌, nat_lt}
+use Rattle.std.proofs.Common.{◌==◌, List, [], ◌∷◌, Option, Some, None, inl, inr, arith}
 use Rattle.std.proofs.lemmas.Bool.{or_parts, ltb-false, cases_lt}
 use Rattle.std.proofs.lemmas.Bool.Decides.{nat_tests}
 use Rattle.std.proofs.lemmas.Nat.{le-div}
@@ -11,7 +12,8 @@ use Rattle.minislots.proofs.Bounds.{bounds_of}
 use Rattle.flow_book.specs.declared.spec.FlowSpec.{FlowSpec}
 use Rattle.flow_book.specs.declared.spec.FlowSpec.TheVariants.{Unsolicited, Polled, BestEffort}
 use Rattle.flow_book.specs.declared.spec.FlowFault.{FlowFault}
-use Rattle.flow_book.specs.FlowSpec.{is_periodic, interval_frames, periodic_slots, has_fault, faults, first_fault, first_fault_of}
+use Rattle.flow_book.specs.FlowSpec.{is_periodic, interval_frames, periodic_slots, has_fault, faults, first_fault}
+use Rattle.flow_book.specs.FlowSpec.{first_fault_of}
 
 -- What is known of a periodic flow's parameters
 pub record HasPlaces (c : Config) (spec : FlowSpec) : Type 0 where
@@ -25,11 +27,13 @@ abbrev HaveNone : Config → FlowSpec → List FlowFault → Type 0
 HaveNone c spec [] = Unit {0}
 HaveNone c spec (fault ∷ some) = (has_fault c spec fault ≡ false) × HaveNone c spec some
 
-not_found : {X : Type 0} (b : Bool) (x : X) (rest : Option X) → cond b (Some x) rest ≡ None → (b ≡ false) × (rest ≡ None)
+not_found : {X : Type 0} (b : Bool) (x : X) (rest : Option X) → cond b (Some x) rest ≡ None
+    → (b ≡ false) × (rest ≡ None)
 not_found true x rest h = absurd (cc)
 not_found false x rest h = (refl, h)
 
-have-none : (c : Config) (spec : FlowSpec) (some : List FlowFault) → first_fault_of c spec some ≡ None → HaveNone c spec some
+have-none : (c : Config) (spec : FlowSpec) (some : List FlowFault) → first_fault_of c spec some ≡ None
+    → HaveNone c spec some
 have-none c spec [] h = tt
 have-none c spec (fault ∷ some) h =
     let both : (has_fault c spec fault ≡ false) × (first_fault_of c spec some ≡ None) =
@@ -66,7 +70,8 @@ fits-of frame requests slots size within h =
     omega (arith, ltb-false (frame - requests) slots parts.1)
 
 -- a periodic flow's parameters without a fault keep to these
-pub places_of : (c : Config) (spec : FlowSpec) → IsLawful c → is_periodic spec ≡ true → first_fault c spec ≡ None → HasPlaces c spec
+pub places_of : (c : Config) (spec : FlowSpec) → IsLawful c → is_periodic spec ≡ true → first_fault c spec ≡ None
+    → HasPlaces c spec
 places_of c (Unsolicited size interval jitter) lawful periodic none =
     let (fits, (whole, (frames, (cycle, rest)))) = each-none c (Unsolicited size interval jitter) none in
     let bounds = bounds_of c lawful in

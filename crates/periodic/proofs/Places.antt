@@ -1,5 +1,6 @@
 -- The nominal frames of a cycle, and the start at each.
-use Rattle.std.proofs.Common.{◌≡◌, ◌≢◌, refl, sym, ap, ◌∙◌, ℕ, zero, suc, ◌+◌, ◌-◌, ◌*◌, ◌/◌, ◌%◌, ◌<◌, ◌≤◌, Bool, ◌==◌, List, [], ◌∷◌, length, filter, None, Some, inl, inr, arith}
+use Rattle.std.proofs.Common.{◌≡◌, ◌≢◌, refl, sym, ap, ◌∙◌, ℕ, zero, suc, ◌+◌, ◌-◌, ◌*◌, ◌/◌, ◌%◌, ◌<◌, ◌≤◌, Bool}
+use Rattle.std.proofs.Common.{◌==◌, List, [], ◌∷◌, length, filter, None, Some, inl, inr, arith}
 use Rattle.std.specs.List.{slice_get}
 use Rattle.std.proofs.lemmas.Bool.{cond_both, cases_lt, eqb-true, eqb-false, ne_eqb}
 use Rattle.std.proofs.lemmas.Nat.{div-mul-add, div-add-mod', le-div, div_below}
@@ -31,7 +32,8 @@ pub below-more : (f phase a : ℕ) → phase < f → a % f ≡ phase → below f
 below-more f phase a lt is =
     let whole = div-add-mod' a f in
     let split : a + 1 + (f - 1 - phase) ≡ a / f * f + 0 + f = omega arith in
-    ap (λ n. n / f) split ∙ next-of f (a / f) 0 0 (omega arith) (omega arith) ∙ sym (ap (λ n. n + 1) (below-nominal f phase a lt is))
+    ap (λ n. n / f) split ∙ next-of f (a / f) 0 0 (omega arith) (omega arith)
+    ∙ sym (ap (λ n. n + 1) (below-nominal f phase a lt is))
 
 -- and none after any other
 pub below-same : (f phase a : ℕ) → phase < f → a % f ≢ phase → below f phase (a + 1) ≡ below f phase a
@@ -42,7 +44,8 @@ below-same f phase a lt differ =
       | inl early ↦ (
           let now : a + (f - 1 - phase) ≡ a / f * f + (a % f + (f - 1 - phase)) = omega arith in
           let then : a + 1 + (f - 1 - phase) ≡ a / f * f + (a % f + 1 + (f - 1 - phase)) = omega arith in
-          ap (λ n. n / f) then ∙ div-mul-add (a / f) f _ (omega arith) ∙ sym (ap (λ n. n / f) now ∙ div-mul-add (a / f) f _ (omega arith)))
+          ap (λ n. n / f) then ∙ div-mul-add (a / f) f _ (omega arith)
+          ∙ sym (ap (λ n. n / f) now ∙ div-mul-add (a / f) f _ (omega arith)))
       | inr late ↦ (
           let now : a + (f - 1 - phase) ≡ a / f * f + (a % f - phase - 1) + f = omega arith in
           let then : a + 1 + (f - 1 - phase) ≡ a / f * f + (a % f - phase) + f = omega arith in
@@ -74,7 +77,8 @@ none-head place a rest [] differ none = refl
 none-head place a rest (s ∷ starts) differ none = rw (ne_eqb a place differ) (none starts)
 
 -- the start at a nominal frame is found by the nominal frames below it
-pub start_at-nominal : (f phase n a place k : ℕ) (starts : List ℕ) → phase < f → place % f ≡ phase → a ≤ place → place < a + n
+pub start_at-nominal : (f phase n a place k : ℕ) (starts : List ℕ) → phase < f → place % f ≡ phase → a ≤ place
+    → place < a + n
     → k + below f phase a ≡ place / f
     → start_at place (filter (is_nominal f phase) (count_from a n)) starts ≡ slice_get starts k
 start_at-nominal f phase zero a place k starts lt is from to count = absurd (omega arith)
@@ -92,8 +96,12 @@ start_at-nominal f phase (suc n) a place k starts lt is from to count =
     (λ differ.
     let far = below-up f phase (a + 1) place (omega arith) (omega arith) in
     let top = below-nominal f phase place lt is in
-    let l : ℕ = k - 1 in
-    (l, omega arith, λ left. start_at-nominal f phase n (a + 1) place l left lt is (omega arith) (omega arith) (omega arith))))
+    let l : ℕ = k - 1 in (
+      l,
+      omega arith,
+      λ left. start_at-nominal f phase n (a + 1) place l left lt is (omega arith) (omega arith)
+          (omega arith),
+    )))
     (λ other.
     let there : a % f ≢ phase = eqb-false (a % f) phase other in
     let same = below-same f phase a lt there in
@@ -109,7 +117,8 @@ start_at-other f phase (suc n) a place starts differ =
     (filter (is_nominal f phase) (count_from (a + 1) n)) (λ places. start_at place places starts ≡ None)
     (λ nominal.
     let here : a % f ≡ phase = eqb-true (a % f) phase nominal in
-    none-head place a (filter (is_nominal f phase) (count_from (a + 1) n)) starts (λ same. differ (ap (λ m. m % f) (sym same) ∙ here))
+    none-head place a (filter (is_nominal f phase) (count_from (a + 1) n)) starts
+    (λ same. differ (ap (λ m. m % f) (sym same) ∙ here))
     (λ left. start_at-other f phase n (a + 1) place left differ))
     (λ other. start_at-other f phase n (a + 1) place starts differ)
 
@@ -121,19 +130,22 @@ length-nominal f phase (suc n) a lt =
     let far : a + suc n ≡ a + 1 + n = omega arith in
     let next = length-nominal f phase n (a + 1) lt in
     rw far (cond_both (is_nominal f phase a) (a ∷ filter (is_nominal f phase) (count_from (a + 1) n))
-    (filter (is_nominal f phase) (count_from (a + 1) n)) (λ places. length places + below f phase a ≡ below f phase (a + 1 + n))
+    (filter (is_nominal f phase) (count_from (a + 1) n)) (λ places. length places + below f phase a
+    ≡ below f phase (a + 1 + n))
     (λ nominal. let up = below-more f phase a lt (eqb-true (a % f) phase nominal) in omega arith)
     (λ other. let same = below-same f phase a lt (eqb-false (a % f) phase other) in omega arith))
 
 -- there are as many starts as places
-pub each-length : (P : ℕ → ℕ → Type 0) (places starts : List ℕ) → EachPlace P places starts → length places ≡ length starts
+pub each-length : (P : ℕ → ℕ → Type 0) (places starts : List ℕ) → EachPlace P places starts
+    → length places ≡ length starts
 each-length P [] [] each = refl
 each-length P [] (s ∷ starts) each = absurd each
 each-length P (p ∷ places) [] each = absurd each
 each-length P (p ∷ places) (s ∷ starts) each = ap suc (each-length P places starts each.1)
 
 -- a nominal frame of the cycle has a start
-pub nominal-within : (P : ℕ → ℕ → Type 0) (f phase cycle place : ℕ) (starts : List ℕ) → phase < f → cycle % f ≡ 0 → place < cycle
+pub nominal-within : (P : ℕ → ℕ → Type 0) (f phase cycle place : ℕ) (starts : List ℕ) → phase < f → cycle % f ≡ 0
+    → place < cycle
     → EachPlace P (filter (is_nominal f phase) (count_from 0 cycle)) starts → place / f < length starts
 nominal-within P f phase cycle place starts lt divides within each =
     let whole = div-add-mod' cycle f in

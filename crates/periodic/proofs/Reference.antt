@@ -23,7 +23,8 @@ wait-reaches f phase n lt =
       | inr under ↦ (
           let turn : phase + f - n % f ≡ phase - n % f + f = omega arith in
           let small : phase - n % f < f = omega arith in
-          let wait : wait_for f phase n ≡ phase - n % f = ap (λ m. m % f) turn ∙ add-mod_right (phase - n % f) f ∙ mod-eq_of_lt small in
+          let wait : wait_for f phase n ≡ phase - n % f = ap (λ m. m % f) turn ∙ add-mod_right (phase - n % f) f
+          ∙ mod-eq_of_lt small in
           let split : n + wait_for f phase n ≡ n / f * f + phase = omega arith in
           ap (λ m. m % f) split ∙ mod-mul-add (n / f) f phase lt)
     ]

@@ -1,24 +1,13 @@
 -- One of the placed flows is taken out.
-use Rattle.std.proofs.Common.{ℕ, suc, ◌<◌, ◌≤◌, Bool, List, [], ◌∷◌, filter, length, arith}
+use Rattle.std.proofs.Common.{ℕ, Bool, List, [], ◌∷◌, filter, arith}
 use Rattle.std.specs.List.{AllByRecursion}
 use Rattle.std.proofs.lemmas.Bool.{cond_both}
 use Rattle.minislots.specs.declared.config.Config.{Config}
-use Rattle.flow_book.proofs.Removal.{all-filter}
+use Rattle.flow_book.proofs.Removal.{all-filter, fewer-filter, ascends-filter}
 use Rattle.periodic.specs.declared.placement.Spot.{Spot}
 use Rattle.periodic.specs.Placement.{Placed, spot_in, spots_in}
-use Rattle.periodic.specs.Table.{Ascend, IsApart, AreApart, IsSoundPlaced, AreSound}
+use Rattle.periodic.specs.Table.{IsApart, AreApart, IsSoundPlaced, AreSound}
 use Rattle.periodic.proofs.Adding.{all-cons, all-first, all-rest, apart-cons, apart-first, apart-rest}
-
-ascend-filter : (p : Placed → Bool) (placed : List Placed) → Ascend placed → Ascend (filter p placed)
-ascend-filter p [] up = tt
-ascend-filter p (f ∷ placed) up = cond_both (p f) (f ∷ filter p placed) (filter p placed) Ascend
-    (λ kept. (all-filter (λ g. f.sid < g.sid) p placed up.0, ascend-filter p placed up.1)) (λ out. ascend-filter p placed up.1)
-
-fewer-filter : (p : Placed → Bool) (placed : List Placed) → length (filter p placed) ≤ length placed
-fewer-filter p [] = omega arith
-fewer-filter p (f ∷ placed) =
-    let fewer = fewer-filter p placed in cond_both (p f) (f ∷ filter p placed) (filter p placed) (λ fs. length fs ≤ suc (length placed))
-    (λ kept. omega arith) (λ out. omega arith)
 
 all-spots-filter : (c : Config) (k : ℕ) (P : Spot → Type 0) (p : Placed → Bool) (placed : List Placed)
     → AllByRecursion P (spots_in c k placed) → AllByRecursion P (spots_in c k (filter p placed))
@@ -36,13 +25,15 @@ apart-filter c k p (f ∷ placed) apart =
     let rest = apart-filter c k p placed (apart-rest (spot_in c k f) (spots_in c k placed) apart) in
     cond_both (p f) (f ∷ filter p placed) (filter p placed) (λ fs. AreApart (spots_in c k fs))
     (λ kept. apart-cons (spot_in c k f) (spots_in c k (filter p placed))
-    (λ s is. all-spots-filter c k (IsApart s) p placed (apart-first (spot_in c k f) (spots_in c k placed) s is apart)) rest)
+    (λ s is. all-spots-filter c k (IsApart s) p placed (apart-first (spot_in c k f) (spots_in c k placed) s is apart))
+    rest)
     (λ out. rest)
 
 -- the flows that are left are sound
-pub sound-filter : (c : Config) (p : Placed → Bool) (placed : List Placed) → AreSound c placed → AreSound c (filter p placed)
+pub sound-filter : (c : Config) (p : Placed → Bool) (placed : List Placed) → AreSound c placed
+    → AreSound c (filter p placed)
 sound-filter c p placed are = record {
-  ascending = ascend-filter p placed are.ascending;
+  ascending = ascends-filter (λ f. f.sid) p placed are.ascending;
   most = (let fewer = fewer-filter p placed in omega (arith, are.most));
   each = all-filter (IsSoundPlaced c) p placed are.each;
   apart = λ k. apart-filter c k p placed (are.apart k);

@@ -11,7 +11,14 @@ full = Unsolicited 544 1000 0
 
 -- a flow with these grants, placed
 abbrev pub full_placed : Placed
-full_placed = record { sid = 5; spec = full; placement = record { reference = 804; starts = 4 ∷ 4 ∷ 4 ∷ 4 ∷ 4 ∷ 4 ∷ 4 ∷ 4 ∷ 4 ∷ 4 ∷ 4 ∷ 4 ∷ 4 ∷ 4 ∷ 4 ∷ 4 ∷ 4 ∷ 4 ∷ 4 ∷ 4 ∷ [] } }
+full_placed = record {
+  sid = 5;
+  spec = full;
+  placement = record {
+    reference = 804;
+    starts = 4 ∷ 4 ∷ 4 ∷ 4 ∷ 4 ∷ 4 ∷ 4 ∷ 4 ∷ 4 ∷ 4 ∷ 4 ∷ 4 ∷ 4 ∷ 4 ∷ 4 ∷ 4 ∷ 4 ∷ 4 ∷ 4 ∷ 4 ∷ [];
+  };
+}
 
 -- grants of one minislot of bytes in each frame
 abbrev pub slight : FlowSpec
@@ -19,7 +26,9 @@ slight = Unsolicited 1 1000 1000
 
 -- starts at this offset and phase
 abbrev AreStarts : ℕ → List ℕ → ℕ → Type 0
-AreStarts offset starts phase = EachPlace (λ place start. IsLawfulStart base 40 3 offset (spots_in base place (full_placed ∷ [])) start) (nominal_places base 1 phase) starts
+AreStarts offset starts phase =
+    EachPlace (λ place start. IsLawfulStart base 40 3 offset (spots_in base place (full_placed ∷ [])) start)
+    (nominal_places base 1 phase) starts
 
 -- no start in the first frame is free
 no_start : (offset : ℕ) (starts : List ℕ) → 4 ≤ offset → AreStarts offset starts 0 → ⊥
@@ -32,4 +41,5 @@ no_start offset (start ∷ starts) behind each =
 pub beside_full_frames_there_is_no_place : NoPlacement base (full_placed ∷ []) slight 800
 beside_full_frames_there_is_no_place p placed =
     let phase : p.reference / 40 % 1 ≡ 0 = omega arith in
-    no_start (p.reference % 40) p.starts placed.after_requests (subst (AreStarts (p.reference % 40) p.starts) phase placed.starts)
+    no_start (p.reference % 40) p.starts placed.after_requests
+    (subst (AreStarts (p.reference % 40) p.starts) phase placed.starts)

@@ -4,6 +4,7 @@ use Rattle.flow_book.specs.declared.spec.FlowSpec.{FlowSpec}
 use Rattle.flow_book.specs.declared.spec.FlowSpec.TheVariants.{Unsolicited, Polled}
 use Rattle.flow_book.proofs.Base.{base}
 use Rattle.periodic.specs.declared.placement.Placement.{Placement}
+use Rattle.periodic.specs.declared.placement.Spot.{Spot}
 use Rattle.periodic.specs.Placement.{Placed, IsLawfulStart, IsPlacement, spots_in}
 
 -- grants of 200 bytes, 15 minislots, each ten frames, at most 32 minislots late
@@ -31,20 +32,31 @@ abbrev pub first_placed : Placed
 first_placed = record { sid = 5; spec = voice; placement = placement 804 (4 ∷ 4 ∷ []) }
 
 -- the second stands behind the first in the same frames
-pub the_second_flow_stands_behind_the_first : IsPlacement base (first_placed ∷ []) voice 800 (placement 804 (19 ∷ 19 ∷ []))
+pub the_second_flow_stands_behind_the_first : IsPlacement base (first_placed ∷ []) voice 800
+    (placement 804 (19 ∷ 19 ∷ []))
 the_second_flow_stands_behind_the_first = record {
   not_before = lit≤ tt;
   first = lit< tt;
   after_requests = lit≤ tt;
   starts = (
     record { after_nominal = lit≤ tt; within_jitter = lit≤ tt; within_frame = lit≤ tt; free = (inr (lit≤ tt), tt) },
-    (record { after_nominal = lit≤ tt; within_jitter = lit≤ tt; within_frame = lit≤ tt; free = (inr (lit≤ tt), tt) }, tt),
+    (
+      record {
+        after_nominal = lit≤ tt;
+        within_jitter = lit≤ tt;
+        within_frame = lit≤ tt;
+        free = (inr (lit≤ tt), tt);
+      },
+      tt,
+    ),
   );
 }
 
 -- at 5 it would overlap the first
-pub a_placement_that_overlaps_is_not_lawful : IsPlacement base (first_placed ∷ []) voice 800 (placement 804 (5 ∷ 5 ∷ [])) → ⊥
-a_placement_that_overlaps_is_not_lawful p = elim p.starts.0.free.0 [ inl before ↦ omega arith | inr after ↦ omega arith ]
+pub a_placement_that_overlaps_is_not_lawful : IsPlacement base (first_placed ∷ []) voice 800
+    (placement 804 (5 ∷ 5 ∷ [])) → ⊥
+a_placement_that_overlaps_is_not_lawful p =
+    elim p.starts.0.free.0 [ inl before ↦ omega arith | inr after ↦ omega arith ]
 
 -- one start for two frames is no placement
 pub a_placement_with_a_start_too_few_is_not_lawful : IsPlacement base [] voice 800 (placement 804 (4 ∷ [])) → ⊥
@@ -54,13 +66,17 @@ a_placement_with_a_start_too_few_is_not_lawful p = p.starts.1
 abbrev pub second_placed : Placed
 second_placed = record { sid = 6; spec = voice; placement = placement 804 (19 ∷ 19 ∷ []) }
 
+-- a grant of these flows in a frame
+abbrev pub voice_at : ℕ → ℕ → Spot
+voice_at sid offset = record { sid = sid; poll = false; offset = offset; slots = 15 }
+
 -- what the two take of the first frame
-pub the_spots_of_two_flows : spots_in base 20 (first_placed ∷ second_placed ∷ [])
-    ≡ record { sid = 5; poll = false; offset = 4; slots = 15 } ∷ record { sid = 6; poll = false; offset = 19; slots = 15 } ∷ []
+pub the_spots_of_two_flows : spots_in base 20 (first_placed ∷ second_placed ∷ []) ≡ voice_at 5 4 ∷ voice_at 6 19 ∷ []
 the_spots_of_two_flows = refl
 
 -- the third stands in the next frame
-pub the_third_flow_stands_a_frame_later : IsPlacement base (first_placed ∷ second_placed ∷ []) voice 800 (placement 844 (4 ∷ 4 ∷ []))
+pub the_third_flow_stands_a_frame_later : IsPlacement base (first_placed ∷ second_placed ∷ []) voice 800
+    (placement 844 (4 ∷ 4 ∷ []))
 the_third_flow_stands_a_frame_later = record {
   not_before = lit≤ tt;
   first = lit< tt;
@@ -91,5 +107,30 @@ abbrev pub polled_placed : Placed
 polled_placed = record { sid = 9; spec = polling; placement = placement 804 (4 ∷ 4 ∷ 4 ∷ 4 ∷ []) }
 
 -- it takes two minislots of the first frame, and nothing of the next
-pub the_spots_of_a_polled_flow : (spots_in base 20 (polled_placed ∷ []) ≡ record { sid = 9; poll = true; offset = 4; slots = 2 } ∷ []) × (spots_in base 21 (polled_placed ∷ []) ≡ [])
+pub the_spots_of_a_polled_flow : (spots_in base 20 (polled_placed ∷ [])
+    ≡ record { sid = 9; poll = true; offset = 4; slots = 2 } ∷ []) × (spots_in base 21 (polled_placed ∷ []) ≡ [])
 the_spots_of_a_polled_flow = (refl, refl)
+
+-- polls each five frames, at most 100 microseconds late: 4 minislots
+abbrev pub late_polling : FlowSpec
+late_polling = Polled 5000 100 0 0
+
+-- where the first flow's grant stands at its nominal time, a poll starts behind it, after that time by its jitter
+pub a_poll_starts_late_by_its_jitter : IsPlacement base (first_placed ∷ []) late_polling 800
+    (placement 815 (19 ∷ 15 ∷ 19 ∷ 15 ∷ []))
+a_poll_starts_late_by_its_jitter = record {
+  not_before = lit≤ tt;
+  first = lit< tt;
+  after_requests = lit≤ tt;
+  starts = (behind, (alone, (behind, (alone, tt))));
+} where
+  behind : IsLawfulStart base 4 2 15 (voice_at 5 4 ∷ []) 19
+  behind = record { after_nominal = lit≤ tt; within_jitter = lit≤ tt; within_frame = lit≤ tt; free = (inr (lit≤ tt), tt) }
+
+  alone : IsLawfulStart base 4 2 15 [] 15
+  alone = record { after_nominal = lit≤ tt; within_jitter = lit≤ tt; within_frame = lit≤ tt; free = tt }
+
+-- it does not start a minislot later than that
+pub a_poll_does_not_start_after_its_jitter : IsPlacement base (first_placed ∷ []) late_polling 800
+    (placement 814 (19 ∷ 14 ∷ 19 ∷ 14 ∷ [])) → ⊥
+a_poll_does_not_start_after_its_jitter p = absurd (omega (arith, p.starts.0.within_jitter))

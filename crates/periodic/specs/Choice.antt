@@ -24,5 +24,6 @@ pub record IsChosen (c : Config) (table : List Placed) (spec : FlowSpec) (next :
       → phase_of c spec p ≤ phase_of c spec other
   pub least_offset : (other : Placement) → IsPlacement c table spec next other → HasPhaseOf c spec p other
       → offset_of c p ≤ offset_of c other
-  pub least_starts : (other : Placement) → IsPlacement c table spec next other → HasPhaseOf c spec p other → HasOffsetOf c p other
+  pub least_starts : (other : Placement) → IsPlacement c table spec next other → HasPhaseOf c spec p other
+      → HasOffsetOf c p other
       → AreNoLater p.starts other.starts

@@ -2,6 +2,7 @@
 use Rattle.std.specs.Prelude.{ℕ, ◌≤◌, List, map, length}
 use Rattle.std.specs.List.{AllByRecursion}
 use Rattle.minislots.specs.declared.config.Config.{Config}
+use Rattle.periodic.specs.declared.TheConstants.{MAX_PERIODIC_FLOWS}
 use Rattle.periodic.specs.declared.placement.Placement.{Placement}
 use Rattle.periodic.specs.declared.spots.PlacedFlow.{PlacedFlow}
 use Rattle.periodic.specs.Placement.{Placed}
@@ -19,7 +20,7 @@ placed_of f = record { sid = f.sid; spec = f.spec; placement = f.placement }
 abbrev pub placed_in : List PlacedFlow → List Placed
 placed_in flows = map placed_of flows
 
--- Flows soundly placed, at most 40
+-- Flows soundly placed, as many as a table may have
 pub record AreSoundFlows (c : Config) (flows : List PlacedFlow) : Type 0 where
   pub each : AllByRecursion (IsSoundPlaced c) (placed_in flows)
-  pub most : length flows ≤ 40
+  pub most : length flows ≤ MAX_PERIODIC_FLOWS

@@ -1,6 +1,7 @@
 pub use Rattle.minislots.specs.Config
 pub use Rattle.minislots.specs.Units
 pub use Rattle.flow_book.specs.FlowSpec
+pub use Rattle.flow_book.specs.Sids
 pub mod Placement
 pub mod Table
 pub mod Choice

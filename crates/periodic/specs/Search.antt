@@ -45,7 +45,8 @@ pub record IsFirstStart (c : Config) (w : Wanted) (offset : ℕ) (spots : List S
 -- lawful starts at a phase and an offset, one for each nominal frame of the cycle
 abbrev pub AreStarts : Config → List Placed → Wanted → ℕ → ℕ → List ℕ → Type 0
 AreStarts c table w phase offset starts =
-    EachPlace (λ place start. IsStartOf c w offset (spots_in c place table) start) (nominal_places c w.interval phase) starts
+    EachPlace (λ place start. IsStartOf c w offset (spots_in c place table) start) (nominal_places c w.interval phase)
+    starts
 
 -- no starts are lawful at this phase and offset
 abbrev pub NoStarts : Config → List Placed → Wanted → ℕ → ℕ → Type 0
@@ -64,7 +65,8 @@ abbrev pub starts_of : Row → List ℕ
 starts_of row = take row.count row.starts
 
 -- The first lawful starts in all frames
-pub record AreFirstStarts (c : Config) (table : List Placed) (w : Wanted) (phase offset : ℕ) (starts : List ℕ) : Type 0 where
+pub record AreFirstStarts (c : Config) (table : List Placed) (w : Wanted) (phase offset : ℕ)
+    (starts : List ℕ) : Type 0 where
   pub lawful : AreStarts c table w phase offset starts
   pub least : (others : List ℕ) → AreStarts c table w phase offset others → AreNoLater starts others
 

@@ -1,12 +1,14 @@
 -- What contracts see of a table of placements, and what is true of each.
-use Rattle.std.specs.Prelude.{◌≡◌, ℕ, ◌+◌, ◌<◌, ◌≤◌, ◌⊎◌, not, true, nat_lt, ◌==◌, List, [], ◌∷◌, length, filter, find, None, IsSome, if◌then◌else◌}
+use Rattle.std.specs.Prelude.{◌≡◌, ℕ, ◌+◌, ◌<◌, ◌≤◌, ◌⊎◌, true, ◌==◌, List, [], ◌∷◌, length, find, None, IsSome}
 use Rattle.std.specs.List.{AllByRecursion}
 use Rattle.minislots.specs.declared.config.Config.{Config}
 use Rattle.flow_book.specs.declared.spec.FlowSpec.{FlowSpec}
+use Rattle.periodic.specs.declared.TheConstants.{MAX_PERIODIC_FLOWS}
 use Rattle.periodic.specs.declared.placement.Placement.{Placement}
-use Rattle.flow_book.specs.FlowSpec.{is_periodic, first_fault, interval_frames, jitter_slots, periodic_slots}
+use Rattle.flow_book.specs.FlowSpec.{is_periodic, first_fault}
+use Rattle.flow_book.specs.Sids.{AscendBy, put_in, taken_out}
 use Rattle.periodic.specs.declared.placement.Spot.{Spot}
-use Rattle.periodic.specs.Placement.{Placed, phase_of, offset_of, nominal_places, spots_in, IsLawfulStart, EachPlace, IsPlacement}
+use Rattle.periodic.specs.Placement.{Placed, offset_of, spots_in, HasLawfulStarts, IsPlacement}
 
 -- the channel's configuration, and the placed flows in order of SID
 pub record TableView : Type 0 where
@@ -31,17 +33,15 @@ IsNotPlaced sid placed = find (λ f. f.sid == sid) placed ≡ None
 
 -- the placed flows with one more, in order of SID
 abbrev pub with_placed : Placed → List Placed → List Placed
-with_placed f [] = f ∷ []
-with_placed f (g ∷ placed) = if nat_lt f.sid g.sid then f ∷ g ∷ placed else g ∷ with_placed f placed
+with_placed f placed = put_in (λ g. g.sid) f placed
 
 -- the placed flows but that of this SID
 abbrev pub without : ℕ → List Placed → List Placed
-without sid placed = filter (λ f. not (f.sid == sid)) placed
+without sid placed = taken_out (λ f. f.sid) sid placed
 
 -- SIDs ascend
 abbrev pub Ascend : List Placed → Type 0
-Ascend [] = Unit {0}
-Ascend (f ∷ placed) = AllByRecursion (λ g. f.sid < g.sid) placed × Ascend placed
+Ascend placed = AscendBy (λ f. f.sid) placed
 
 -- Two spots have no minislot in common
 abbrev pub IsApart : Spot → Spot → Type 0
@@ -72,13 +72,11 @@ pub record IsSoundPlaced (c : Config) (f : Placed) : Type 0 where
   pub periodic : is_periodic f.spec ≡ true
   pub no_fault : first_fault c f.spec ≡ None
   pub after_requests : c.req_slots ≤ offset_of c f.placement
-  pub starts : EachPlace
-      (λ place start. IsLawfulStart c (jitter_slots c f.spec) (periodic_slots c f.spec) (offset_of c f.placement) [] start)
-      (nominal_places c (interval_frames c f.spec) (phase_of c f.spec f.placement)) f.placement.starts
+  pub starts : HasLawfulStarts c f.spec f.placement (λ place. [])
 
 -- What is true of the placed flows of every table
 pub record AreSound (c : Config) (placed : List Placed) : Type 0 where
   pub ascending : Ascend placed
-  pub most : length placed ≤ 40
+  pub most : length placed ≤ MAX_PERIODIC_FLOWS
   pub each : AllByRecursion (IsSoundPlaced c) placed
   pub apart : (k : ℕ) → AreApart (spots_in c k placed)

@@ -5,8 +5,9 @@ mod placement;
 mod search;
 mod spots;
 mod table;
-#[cfg(test)]
-mod tests;
 
 pub use placement::{PlaceFault, Placement, Spot, Starts};
 pub use table::Table;
+
+/// The most periodic flows of one table, and so the most spots of one frame.
+pub const MAX_PERIODIC_FLOWS: usize = 40;

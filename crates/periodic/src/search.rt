@@ -1,15 +1,16 @@
 //! The search for a placement: the least phase, then the least offset, then the least start in each
 //! nominal frame.
 
-ghost use Rattle.std.specs.Prelude.{◌≡◌, ℕ, ◌<◌, ◌≤◌, ◌+◌, ◌^◌, ◌*◌, ◌%◌, map, take, length, true, None, Some, IfSome, IfNone, OnSome};
-ghost use Rattle.std.specs.List.{AllByRecursion};
+ghost use Rattle.std.specs.Prelude.{◌≡◌, ◌<◌, ◌≤◌, ◌+◌, ◌^◌, ◌%◌, true, None, IfSome, IfNone};
 ghost use Rattle.flow_book.specs.FlowSpec.{is_periodic, first_fault};
 ghost use Rattle.periodic.specs.Placement.{AreFree, spots_in, NoPlacement};
-ghost use Rattle.periodic.specs.Table.{IsSoundPlaced};
 ghost use Rattle.periodic.specs.Choice.{IsChosen};
-ghost use Rattle.periodic.specs.Fields.{placed_of, placed_in, AreSoundFlows};
-ghost use Rattle.periodic.specs.Search.{CanBeSought, EndsBlocker, HasNoStart, IsFirstStart, AreFirstStarts, NoStarts, NoneBelow, NonePhase, IsFirstAtPhase, IsFirstFound, IsReference, starts_of, chosen_placement};
+ghost use Rattle.periodic.specs.Fields.{placed_in, AreSoundFlows};
+ghost use Rattle.periodic.specs.Search.{CanBeSought, EndsBlocker, HasNoStart, IsFirstStart, AreFirstStarts, NoStarts};
+ghost use Rattle.periodic.specs.Search.{NoneBelow, NonePhase, IsFirstAtPhase, IsFirstFound, IsReference, starts_of};
+ghost use Rattle.periodic.specs.Search.{chosen_placement};
 
+use crate::MAX_PERIODIC_FLOWS;
 use crate::placement::Spot;
 use crate::spots::{NO_SPOT, PlacedFlow, fill, interval, jitter, slots};
 use flow_book::FlowSpec;
@@ -100,10 +101,12 @@ fn start_in(
     requires sought { CanBeSought config.now wanted }
     requires offset { offset < config.now.frame }
     requires place { place < config.now.cycle }
-    ensures found { IfSome result (IsFirstStart config.now wanted offset (spots_in config.now place (placed_in flows.now))) }
-    ensures absent { IfNone result (HasNoStart config.now wanted offset (spots_in config.now place (placed_in flows.now))) }
+    ensures found { IfSome result
+        (IsFirstStart config.now wanted offset (spots_in config.now place (placed_in flows.now))) }
+    ensures absent { IfNone result
+        (HasNoStart config.now wanted offset (spots_in config.now place (placed_in flows.now))) }
 {
-    let mut spots = [NO_SPOT; 40];
+    let mut spots = [NO_SPOT; MAX_PERIODIC_FLOWS];
     let count = fill(flows, config, place, &mut spots);
     first_start(&spots[..count], config, wanted, offset)
 }
@@ -119,7 +122,8 @@ fn starts_at(
     requires sound { AreSoundFlows config.now flows.now }
     requires sought { CanBeSought config.now wanted }
     requires offset { offset < config.now.frame }
-    ensures found { IfSome result (λ row. AreFirstStarts config.now (placed_in flows.now) wanted phase offset (starts_of row)) }
+    ensures found { IfSome result (λ row.
+        AreFirstStarts config.now (placed_in flows.now) wanted phase offset (starts_of row)) }
     ensures most { IfSome result (λ row. row.count ≤ 64) }
     ensures absent { IfNone result (NoStarts config.now (placed_in flows.now) wanted phase offset) }
 {
@@ -199,7 +203,8 @@ pub(crate) fn choose(
     requires no_fault { first_fault config.now spec.now ≡ None }
     requires aligned { next % config.now.frame ≡ 0 }
     requires most { next ≤ 2 ^ 61 }
-    ensures chosen { IfSome result (λ chosen. IsChosen config.now (placed_in flows.now) spec.now next (chosen_placement chosen)) }
+    ensures chosen { IfSome result (λ chosen.
+        IsChosen config.now (placed_in flows.now) spec.now next (chosen_placement chosen)) }
     ensures count { IfSome result (λ chosen. chosen.row.count ≤ 64) }
     ensures absent { IfNone result (NoPlacement config.now (placed_in flows.now) spec.now next) }
 {

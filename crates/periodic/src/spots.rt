@@ -1,14 +1,15 @@
 //! What the placed flows take of a frame.
 
-ghost use Rattle.std.specs.Prelude.{◌≡◌, ◌<◌, ◌≤◌, ◌+◌, ◌%◌, map, take, drop, length, true, None};
-ghost use Rattle.std.specs.List.{AllByRecursion};
+ghost use Rattle.std.specs.Prelude.{◌≡◌, ◌<◌, ◌≤◌, ◌+◌, ◌%◌, take, drop, length, true, None};
 ghost use Rattle.std.specs.List.Sorted.{IsPermutation, IsNonDecreasingBy};
 ghost use Rattle.minislots.specs.Config.{IsLawful};
-ghost use Rattle.flow_book.specs.FlowSpec.{is_periodic, is_polled, interval_frames, jitter_slots, periodic_slots, first_fault};
+ghost use Rattle.flow_book.specs.FlowSpec.{is_periodic, is_polled, interval_frames, jitter_slots, periodic_slots};
+ghost use Rattle.flow_book.specs.FlowSpec.{first_fault};
 ghost use Rattle.periodic.specs.Placement.{phase_of, spot_in, spots_in};
 ghost use Rattle.periodic.specs.Table.{IsSoundPlaced};
 ghost use Rattle.periodic.specs.Fields.{placed_of, placed_in, AreSoundFlows};
 
+use crate::MAX_PERIODIC_FLOWS;
 use crate::placement::{Placement, Spot};
 use flow_book::FlowSpec;
 use minislots::Checked;
@@ -120,7 +121,7 @@ pub(crate) fn fill(
     flows: &[PlacedFlow],
     config: &Checked,
     place: u64,
-    spots: &mut [Spot; 40],
+    spots: &mut [Spot; MAX_PERIODIC_FLOWS],
 ) -> usize
     requires sound { AreSoundFlows config.now flows.now }
     requires within { place < config.now.cycle }

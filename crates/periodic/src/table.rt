@@ -1,13 +1,17 @@
 //! The placements of a channel's periodic flows in the cycle of frames.
 
-ghost use Rattle.std.specs.Prelude.{◌≡◌, ℕ, ◌<◌, ◌==◌, nat_lt, position, ◌≤◌, ◌^◌, ◌%◌, ◌↔◌, [], length, take, drop, true, None, IfOk, OnErr, IsErrOf};
+ghost use Rattle.std.specs.Prelude.{◌≡◌, ℕ, ◌<◌, ◌==◌, nat_lt, position, ◌≤◌, ◌^◌, ◌%◌, ◌↔◌, [], length, take, drop};
+ghost use Rattle.std.specs.Prelude.{true, None, IfOk, OnErr, IsErrOf};
 ghost use Rattle.std.specs.List.{AllByRecursion};
 ghost use Rattle.std.specs.List.Sorted.{IsPermutation};
 ghost use Rattle.flow_book.specs.FlowSpec.{is_periodic, first_fault};
+ghost use Rattle.periodic.specs.declared.TheConstants.{MAX_PERIODIC_FLOWS};
 ghost use Rattle.periodic.specs.Placement.{spots_in, IsPlacement, NoPlacement};
 ghost use Rattle.periodic.specs.Fields.{placement_at};
-ghost use Rattle.periodic.specs.Table.{IsPlaced, IsNotPlaced, HasPlacement, placed_at, with_placed, without, AreSound, IsWithinFrame, FollowInTurn};
+ghost use Rattle.periodic.specs.Table.{IsPlaced, IsNotPlaced, HasPlacement, placed_at, with_placed, without};
+ghost use Rattle.periodic.specs.Table.{AreSound, IsWithinFrame, FollowInTurn};
 
+use crate::MAX_PERIODIC_FLOWS;
 use crate::placement::{PlaceFault, Placement, Spot, Starts};
 use crate::search::choose;
 use crate::spots::{PlacedFlow, fill, sort};
@@ -16,7 +20,7 @@ use minislots::Checked;
 use std::alloc::{AllocError, Global};
 use std::marker::Model;
 
-/// The placements of one channel's periodic flows, in order of SID, at most 40. No two of them take
+/// The placements of one channel's periodic flows, in order of SID, at most [`MAX_PERIODIC_FLOWS`]. No two of them take
 /// the same minislot of a frame.
 #[derive(Drop)]
 pub struct Table {
@@ -75,15 +79,15 @@ impl Table {
 
     /// Places a periodic flow, from `next` on: a lawful placement beside those that stand, and its
     /// first nominal time at or after `next`. The flow has a new SID from 1 to 8191 and parameters
-    /// without fault, fewer than 40 flows are placed, and `next` is the start of a frame, at most
-    /// 2^61. After a fault nothing has changed.
+    /// without fault, fewer than [`MAX_PERIODIC_FLOWS`] are placed, and `next` is the start of a
+    /// frame, at most 2^61. After a fault nothing has changed.
     pub fn place(&mut self, sid: u16, spec: &FlowSpec, next: u64) -> Result<Placement, PlaceFault>
         requires sid_positive { 0 < sid }
         requires sid_most { sid ≤ 8191 }
         requires is_new { IsNotPlaced sid self.old.placed }
         requires periodic { is_periodic spec.now ≡ true }
         requires no_fault { first_fault self.old.config spec.now ≡ None }
-        requires room { length self.old.placed < 40 }
+        requires room { length self.old.placed < MAX_PERIODIC_FLOWS }
         requires aligned { next % self.old.config.frame ≡ 0 }
         requires most { next ≤ 2 ^ 61 }
 
@@ -93,7 +97,8 @@ impl Table {
         ensures config { self.new.config ≡ self.old.config }
 
         // No place is answered exactly where there is none.
-        ensures no_place { IsErrOf result PlaceFault.NoPlace ↔ NoPlacement self.old.config self.old.placed spec.now next }
+        ensures no_place { IsErrOf result PlaceFault.NoPlace
+            ↔ NoPlacement self.old.config self.old.placed spec.now next }
         ensures memory { IsErrOf result PlaceFault.Memory → HasPlacement self.old.config self.old.placed spec.now next }
         ensures err { OnErr result (self.new ≡ self.old) }
     {
@@ -116,11 +121,11 @@ impl Table {
 
     /// Writes what the placed flows take of frame `k`, in the order of their offsets, and answers how
     /// many spots these are. The rest of the array stays.
-    pub fn in_frame(&self, k: u64, spots: &mut [Spot; 40]) -> usize
+    pub fn in_frame(&self, k: u64, spots: &mut [Spot; MAX_PERIODIC_FLOWS]) -> usize
         // Exactly the spots of the frame are written.
         ensures spots { IsPermutation (spots_in self.now.config k self.now.placed) (take result spots.new) }
         ensures rest { drop result spots.new ≡ drop result spots.old }
-        ensures most { result ≤ 40 }
+        ensures most { result ≤ MAX_PERIODIC_FLOWS }
 
         // They stand one after the other, behind the request region and within the frame.
         ensures ascending { FollowInTurn (take result spots.new) }
@@ -145,7 +150,7 @@ impl Table {
         requires is_new { IsNotPlaced sid self.old.placed }
         requires periodic { is_periodic spec ≡ true }
         requires no_fault { first_fault self.old.config spec ≡ None }
-        requires room { length self.old.placed < 40 }
+        requires room { length self.old.placed < MAX_PERIODIC_FLOWS }
         requires lawful { (next : ℕ)
             × IsPlacement self.old.config self.old.placed spec next (placement_at reference starts.now) }
         ensures placement { IfOk result (λ p. p ≡ placement_at reference starts.now) }

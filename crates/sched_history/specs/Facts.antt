@@ -1,5 +1,6 @@
 -- What follows for every legal history, as an operator of the plant would say it.
-use Rattle.std.specs.Prelude.{◌≡◌, ℕ, ◌+◌, ◌/◌, ◌%◌, ◌<◌, ◌≤◌, false, List, [], ◌∷◌, ◌++◌, length, take, zip, filter_map, Contains}
+use Rattle.std.specs.Prelude.{◌≡◌, ℕ, ◌+◌, ◌/◌, ◌%◌, ◌<◌, ◌≤◌, false, List, [], ◌∷◌}
+use Rattle.std.specs.Prelude.{◌++◌, length, take, zip, filter_map, Contains}
 use Rattle.std.specs.List.{AllByRecursion}
 use Rattle.minislots.specs.declared.config.Config.{Config}
 use Rattle.map_codec.specs.declared.element.Element.{Element}
@@ -39,7 +40,7 @@ OffsetsAscend [] = Unit {0}
 OffsetsAscend (e ∷ []) = Unit {0}
 OffsetsAscend (e ∷ next ∷ es) = (e.offset < next.offset) × OffsetsAscend (next ∷ es)
 
--- A front of disjoint ascending allocations, each up to the next: the request region first, the only Null at the frame's end
+-- A front of disjoint ascending allocations, each up to the next: the request region first, the only Null last
 pub record HasFront (c : Config) (es : List Element) : Type 0 where
   pub allocations : List Element
   pub behind : List Element
@@ -55,9 +56,10 @@ pub record IsOrderly (c : Config) (m : FrameMap) : Type 0 where
 
 -- each MAP starts at least a frame after every earlier one
 abbrev pub StartsAscend : Config → List FrameMap → Type 0
-StartsAscend c maps = EachAfter (λ before m. AllByRecursion (λ earlier. earlier.start + c.frame ≤ m.start) before) [] maps
+StartsAscend c maps =
+    EachAfter (λ before m. AllByRecursion (λ earlier. earlier.start + c.frame ≤ m.start) before) [] maps
 
--- the element is a poll or an unsolicited grant: it lies in the frame, addresses a flow, and grants no bytes that were asked
+-- the element is a poll or an unsolicited grant: in the frame, to a flow, and without bytes that were asked
 pub record IsPeriodic (c : Config) (e : Element) (bytes : ℕ) : Type 0 where
   pub in_frame : e.offset < c.frame
   pub to_flow : bad_sid e.sid ≡ false
@@ -67,7 +69,7 @@ pub record IsPeriodic (c : Config) (e : Element) (bytes : ℕ) : Type 0 where
 abbrev pub nominal_time : Config → ℕ → Placed → ℕ
 nominal_time c start flow = start + offset_of c flow.placement
 
--- The element of a MAP that starts there is this live flow's, and begins within the jitter after its nominal time in the frame
+-- The element of a MAP that starts there is this live flow's, and within the jitter after its nominal time
 pub record IsOnTime (c : Config) (table : List Placed) (start : ℕ) (e : Element) (flow : Placed) : Type 0 where
   pub live : Contains table flow
   pub own : flow.sid ≡ e.sid
@@ -79,7 +81,8 @@ pub record IsOnTime (c : Config) (table : List Placed) (start : ℕ) (e : Elemen
 -- every poll and unsolicited grant of a MAP that a reply builds is on time, with these live placements
 abbrev pub KeepsTimes : Config → List Placed → Reply → Type 0
 KeepsTimes c table (Built m) =
-    AllByRecursion (λ e. IsPeriodic c e.0 e.1 → (flow : Placed) × IsOnTime c table m.start e.0 flow) (zip m.wire.elements m.bytes)
+    AllByRecursion (λ e. IsPeriodic c e.0 e.1 → (flow : Placed) × IsOnTime c table m.start e.0 flow)
+    (zip m.wire.elements m.bytes)
 KeepsTimes c table reply = Unit {0}
 
 -- a request that was accepted was heard at or after the acknowledge time of each of these MAPs

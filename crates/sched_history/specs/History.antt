@@ -1,5 +1,6 @@
 -- Which reply may follow a history, and which histories are legal.
-use Rattle.std.specs.Prelude.{◌≡◌, ◌+◌, ◌/◌, ◌⊎◌, List, [], Option, None, Some, option_map, MatchOption, if◌then◌else◌}
+use Rattle.std.specs.Prelude.{◌≡◌, ℕ, ◌+◌, ◌/◌, ◌⊎◌, List, [], Option, None}
+use Rattle.std.specs.Prelude.{Some, option_map, MatchOption, if◌then◌else◌}
 use Rattle.minislots.specs.declared.config.Config.{Config}
 use Rattle.flow_book.specs.declared.spec.FlowSpec.{FlowSpec}
 use Rattle.flow_book.specs.declared.spec.FlowSpec.TheVariants.{Unsolicited, Polled, BestEffort}
@@ -18,27 +19,30 @@ use Rattle.sched_history.specs.declared.reply.Reply.TheVariants as replies
 use Rattle.sched_history.specs.declared.reply.Entry.{Entry}
 use Rattle.sched_history.specs.Latest.{latest}
 use Rattle.sched_history.specs.Life.{life_of, flow_in_life, flows_of, table_of}
-use Rattle.sched_history.specs.Time.{next_after, ack_after, frame_from}
+use Rattle.sched_history.specs.Time.{next_after, ack_after, IsFirstStart}
 use Rattle.sched_history.specs.Refusal.{refusal_of}
 
 -- a flow is admitted with a lawful placement, or refused where there is none
 abbrev pub PlacesOrRefuses : Config → List Entry → FlowSpec → Reply → Type 0
-PlacesOrRefuses c h spec reply = ((p : Placement) × IsPlacement c (table_of h) spec (next_after c h) p × (reply ≡ replies.Admitted (Some p)))
+PlacesOrRefuses c h spec reply =
+    ((p : Placement) × IsPlacement c (table_of h) spec (next_after c h) p × (reply ≡ replies.Admitted (Some p)))
     ⊎ (NoPlacement c (table_of h) spec (next_after c h) × (reply ≡ replies.Refused NoPlace))
 
 -- an admission's answer: a best effort flow has no place
 abbrev pub AnswersAdmit : Config → List Entry → FlowSpec → Reply → Type 0
 AnswersAdmit c h (Unsolicited size interval jitter) reply = PlacesOrRefuses c h (Unsolicited size interval jitter) reply
-AnswersAdmit c h (Polled interval jitter rate burst) reply = PlacesOrRefuses c h (Polled interval jitter rate burst) reply
+AnswersAdmit c h (Polled interval jitter rate burst) reply =
+    PlacesOrRefuses c h (Polled interval jitter rate burst) reply
 AnswersAdmit c h (BestEffort priority rate burst) reply = reply ≡ replies.Admitted None
 
 -- the bytes that a status answers for a live flow: zeros where it does not ask
-abbrev pub status_of : LiveFlow → Reply
-status_of f = if takes_requests f.spec then replies.Flow f.asked (granted f) (outstanding f) else replies.Flow 0 0 0
+abbrev pub flow_status : LiveFlow → Reply
+flow_status f = if takes_requests f.spec then replies.Flow f.asked (granted f) (outstanding f) else replies.Flow 0 0 0
 
 -- the MAP is the lawful one of the next frame
 abbrev pub IsNextMap : Config → List Entry → FrameMap → Type 0
-IsNextMap c h m = IsLawfulMap c (flows_of h) (spots_in c (next_after c h / c.frame) (table_of h)) (next_after c h) (ack_after c h) m
+IsNextMap c h m =
+    IsLawfulMap c (flows_of h) (spots_in c (next_after c h / c.frame) (table_of h)) (next_after c h) (ack_after c h) m
 
 -- the MAP that a reply builds
 abbrev pub map_by : Reply → Option FrameMap
@@ -56,13 +60,14 @@ Answers c h (Remove sid) reply = reply ≡ replies.Removed
 Answers c h (Ask receiver sid bytes heard) reply = reply ≡ replies.Taken
 Answers c h (Heard receiver upto) reply = reply ≡ replies.Noted
 Answers c h (Build now) reply = (m : FrameMap) × IsNextMap c h m × (reply ≡ replies.Built m)
-Answers c h (Skip now) reply = reply ≡ replies.Skipped (frame_from c (now + c.lead))
-Answers c h (Status sid) reply = MatchOption (life_of sid h) ⊥ (λ life. reply ≡ status_of (flow_in_life sid life))
+Answers c h (Skip now) reply = (start : ℕ) × IsFirstStart c (now + c.lead) start × (reply ≡ replies.Skipped start)
+Answers c h (Status sid) reply = MatchOption (life_of sid h) ⊥ (λ life. reply ≡ flow_status (flow_in_life sid life))
 Answers c h Newest reply = reply ≡ replies.Latest (newest_map h)
 
 -- the reply may follow the history: the first refusal, or where there is none the answer
 abbrev pub IsStep : Config → List Entry → Call → Reply → Type 0
-IsStep c h call reply = MatchOption (refusal_of c h call) (Answers c h call reply) (λ refusal. reply ≡ replies.Refused refusal)
+IsStep c h call reply =
+    MatchOption (refusal_of c h call) (Answers c h call reply) (λ refusal. reply ≡ replies.Refused refusal)
 
 -- each entry's reply may follow the entries before it
 abbrev pub IsLegal : Config → List Entry → Type 0

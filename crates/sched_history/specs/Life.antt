@@ -1,5 +1,6 @@
 -- The lives of flows in a history: admissions, removals, requests and grants.
-use Rattle.std.specs.Prelude.{ℕ, ◌+◌, ◌&&◌, nat_lt, ◌==◌, List, [], sum_by, filter_map, flat_map, zip, Option, None, Some, option_map, option_and_then, if◌then◌else◌}
+use Rattle.std.specs.Prelude.{ℕ, ◌+◌, ◌&&◌, nat_lt, ◌==◌, List, [], sum_by, filter_map, flat_map, zip}
+use Rattle.std.specs.Prelude.{Option, None, Some, option_map, option_and_then, if◌then◌else◌}
 use Rattle.map_codec.specs.declared.element.Element.{Element}
 use Rattle.flow_book.specs.declared.spec.FlowSpec.{FlowSpec}
 use Rattle.flow_book.specs.declared.flow.Grant.{Grant}
@@ -26,7 +27,8 @@ pub data Turn : Type 0 where
 
 -- the accepted admission or removal of this SID that an entry is
 abbrev pub turn_by : ℕ → Call → Reply → Option Turn
-turn_by sid (calls.Admit other spec) (replies.Admitted placement) = if other == sid then Some (Begins (record { spec = spec; placement = placement })) else None
+turn_by sid (calls.Admit other spec) (replies.Admitted placement) =
+    if other == sid then Some (Begins (record { spec = spec; placement = placement })) else None
 turn_by sid (calls.Remove other) replies.Removed = if other == sid then Some Ends else None
 turn_by sid call reply = None
 
@@ -58,7 +60,8 @@ asked_in sid entries = sum_by (λ e. asked_by sid e.call e.reply) entries
 
 -- the data grant that an element with this byte count is, where it is one to this SID, in a MAP that starts there
 abbrev pub grant_by : ℕ → ℕ → Element × ℕ → Option Grant
-grant_by sid start e = if e.0.sid == sid && nat_lt 0 e.1 then Some (record { start = start + e.0.offset; bytes = e.1 }) else None
+grant_by sid start e =
+    if e.0.sid == sid && nat_lt 0 e.1 then Some (record { start = start + e.0.offset; bytes = e.1 }) else None
 
 -- the data grants of a MAP to this SID, in order
 abbrev pub grants_of_map : ℕ → FrameMap → List Grant
@@ -75,11 +78,19 @@ grants_since sid entries = flat_map (λ e. grants_by sid e.reply) entries
 
 -- the live flow that a life is
 abbrev pub flow_in_life : ℕ → Life → LiveFlow
-flow_in_life sid life = record { sid = sid; spec = life.admission.spec; asked = asked_in sid life.since; grants = grants_since sid life.since }
+flow_in_life sid life =
+    record {
+      sid = sid;
+      spec = life.admission.spec;
+      asked = asked_in sid life.since;
+      grants =
+          grants_since sid life.since;
+    }
 
 -- the placed flow that a life is
 abbrev pub placed_in_life : ℕ → Life → Option Placed
-placed_in_life sid life = option_map (λ p. record { sid = sid; spec = life.admission.spec; placement = p }) life.admission.placement
+placed_in_life sid life =
+    option_map (λ p. record { sid = sid; spec = life.admission.spec; placement = p }) life.admission.placement
 
 -- the greatest SID of a flow
 abbrev pub last_sid : ℕ

@@ -36,11 +36,13 @@ IsEncodable (replies.Refused refusal) = Unit {0}
 
 -- a place for the flow exists, where it needs one
 abbrev pub IsPlaceable : Config → List Entry → FlowSpec → Type 0
-IsPlaceable c h (Unsolicited size interval jitter) = (p : Placement) × IsPlacement c (table_of h) (Unsolicited size interval jitter) (next_after c h) p
-IsPlaceable c h (Polled interval jitter rate burst) = (p : Placement) × IsPlacement c (table_of h) (Polled interval jitter rate burst) (next_after c h) p
+IsPlaceable c h (Unsolicited size interval jitter) =
+    (p : Placement) × IsPlacement c (table_of h) (Unsolicited size interval jitter) (next_after c h) p
+IsPlaceable c h (Polled interval jitter rate burst) =
+    (p : Placement) × IsPlacement c (table_of h) (Polled interval jitter rate burst) (next_after c h) p
 IsPlaceable c h (BestEffort priority rate burst) = Unit {0}
 
--- the call takes memory where no test refuses it: an admission with a place, a build, or a question for a MAP that there is
+-- the call takes memory where no test refuses it: an admission with a place, a build, a question for a MAP
 abbrev pub TakesMemory : Config → List Entry → Call → Type 0
 TakesMemory c h (Admit sid spec) = IsPlaceable c h spec
 TakesMemory c h (Remove sid) = ⊥

@@ -1,12 +1,18 @@
 -- The refusals of each call, in the order of their tests.
-use Rattle.std.specs.Prelude.{ℕ, ◌+◌, ◌^◌, Bool, false, not, ◌||◌, ◌&&◌, nat_lt, nat_le, ◌==◌, List, [], ◌∷◌, length, count_by, Option, None, Some, is_some, option_map, if◌then◌else◌}
+use Rattle.std.specs.Prelude.{ℕ, ◌+◌, ◌^◌, Bool, false, not, ◌||◌, ◌&&◌, nat_lt, nat_le, ◌==◌, List, [], ◌∷◌}
+use Rattle.std.specs.Prelude.{length, count_by, Option, None, Some, is_some, option_map, if◌then◌else◌}
 use Rattle.std.specs.Option.{option_or, option_map_or}
 use Rattle.minislots.specs.declared.config.Config.{Config}
+use Rattle.flow_book.specs.declared.TheConstants.{MAX_FLOWS}
 use Rattle.flow_book.specs.FlowSpec.{is_periodic, takes_requests, first_fault}
+use Rattle.periodic.specs.declared.TheConstants.{MAX_PERIODIC_FLOWS}
 use Rattle.sched_history.specs.declared.call.Call.{Call}
 use Rattle.sched_history.specs.declared.call.Call.TheVariants.{Admit, Remove, Ask, Heard, Build, Skip, Status, Newest}
 use Rattle.sched_history.specs.declared.reply.Refusal.{Refusal}
-use Rattle.sched_history.specs.declared.reply.Refusal.TheVariants.{BadSid, SidLive, BadFlow, FlowsFull, PeriodicFull, NoFlow, NotAsking, BadReceiver, BadBytes, Acked, Ahead, Backwards, BadClock, TooEarly, Late, NotLate}
+use Rattle.sched_history.specs.declared.reply.Refusal.TheVariants.{BadSid, SidLive, BadFlow, FlowsFull, PeriodicFull}
+use Rattle.sched_history.specs.declared.reply.Refusal.TheVariants.{NoFlow, NotAsking, BadReceiver, BadBytes, Acked}
+use Rattle.sched_history.specs.declared.reply.Refusal.TheVariants.{Ahead, Backwards, BadClock}
+use Rattle.sched_history.specs.declared.reply.Refusal.TheVariants.{TooEarly, Late, NotLate}
 use Rattle.sched_history.specs.declared.reply.Entry.{Entry}
 use Rattle.sched_history.specs.Life.{last_sid, life_of, flows_of}
 use Rattle.sched_history.specs.Time.{next_after, progress_of}
@@ -20,13 +26,7 @@ abbrev pub first_of : List (Option Refusal) → Option Refusal
 first_of [] = None
 first_of (test ∷ tests) = option_or test (first_of tests)
 
--- the most live flows, live periodic flows, bytes of a request, and minislots described ahead; the greatest clock
-abbrev pub most_flows : ℕ
-most_flows = 64
-
-abbrev pub most_periodic : ℕ
-most_periodic = 40
-
+-- the most bytes of a request, and minislots described ahead; the greatest clock
 abbrev pub most_bytes : ℕ
 most_bytes = 1048560
 
@@ -55,8 +55,8 @@ refusal_of c h (Admit sid spec) = first_of (
     refused_if (bad_sid sid) BadSid ∷
     refused_if (is_live sid h) SidLive ∷
     option_map BadFlow (first_fault c spec) ∷
-    refused_if (nat_le most_flows (length (flows_of h))) FlowsFull ∷
-    refused_if (is_periodic spec && nat_le most_periodic (periodic_count h)) PeriodicFull ∷ [])
+    refused_if (nat_le MAX_FLOWS (length (flows_of h))) FlowsFull ∷
+    refused_if (is_periodic spec && nat_le MAX_PERIODIC_FLOWS (periodic_count h)) PeriodicFull ∷ [])
 refusal_of c h (Remove sid) = first_of (refused_if (bad_sid sid) BadSid ∷ refused_if (not (is_live sid h)) NoFlow ∷ [])
 refusal_of c h (Ask receiver sid bytes heard) = first_of (
     refused_if (bad_sid sid) BadSid ∷

@@ -1,7 +1,8 @@
 -- Which replies own memory.
 use Rattle.std.specs.Prelude.{None, Some}
 use Rattle.sched_history.specs.declared.reply.Reply.{Reply}
-use Rattle.sched_history.specs.declared.reply.Reply.TheVariants.{Admitted, Removed, Taken, Noted, Built, Skipped, Flow, Latest, Refused}
+use Rattle.sched_history.specs.declared.reply.Reply.TheVariants.{Admitted, Removed, Taken, Noted, Built}
+use Rattle.sched_history.specs.declared.reply.Reply.TheVariants.{Skipped, Flow, Latest, Refused}
 
 -- the reply has lists: a placement's starts, or a MAP
 abbrev pub OwnsMemory : Reply → Type 0

@@ -1,5 +1,6 @@
 -- What a scheduler keeps of its history, and what is true of each scheduler.
-use Rattle.std.specs.Prelude.{◌≡◌, ℕ, ◌+◌, ◌*◌, ◌%◌, ◌<◌, ◌≤◌, ◌^◌, false, None, List, [], ◌∷◌, ◌++◌, filter_map, map, zip, length, slice_index, vec_capacity}
+use Rattle.std.specs.Prelude.{◌≡◌, ℕ, ◌+◌, ◌*◌, ◌%◌, ◌<◌, ◌≤◌, ◌^◌, false, None, List, [], ◌∷◌}
+use Rattle.std.specs.Prelude.{◌++◌, filter_map, map, zip, length, slice_index, vec_capacity}
 use Rattle.std.specs.List.{AllByRecursion}
 use Rattle.std.specs.Option.{IfSome, IsSomeAnd}
 use Rattle.minislots.specs.declared.config.Config.{Config}
@@ -7,6 +8,7 @@ use Rattle.minislots.specs.declared.stamp.Stamp.{Stamp}
 use Rattle.minislots.specs.Config.{IsLawful}
 use Rattle.minislots.specs.Units.{slots_for}
 use Rattle.map_codec.specs.declared.element.Element.{Element}
+use Rattle.flow_book.specs.declared.TheConstants.{MAX_FLOWS}
 use Rattle.flow_book.specs.Flows.{LiveFlow, flow_of}
 use Rattle.flow_book.specs.Choice.{HasStartedBy, MayGrant}
 use Rattle.flow_book.specs.Book.{BookView, IsLive, Ascend, room_of}
@@ -21,7 +23,7 @@ use Rattle.sched_history.specs.declared.reply.Reply.{Reply}
 use Rattle.sched_history.specs.declared.reply.Entry.{Entry}
 use Rattle.sched_history.specs.Life.{turn_by, asked_by, grant_by, grants_by, flows_of, table_of}
 use Rattle.sched_history.specs.Time.{skip_by, is_built, progress_by, next_after, progress_of}
-use Rattle.sched_history.specs.Refusal.{most_flows, most_bytes, most_ahead, last_clock}
+use Rattle.sched_history.specs.Refusal.{most_bytes, most_ahead, last_clock}
 use Rattle.sched_history.specs.History.{IsStep, IsLegal}
 use Rattle.sched_history.specs.Facts.{IsWithinAsked}
 use Rattle.sched_history.specs.Machine.{Machine, IsEncodable}
@@ -33,10 +35,10 @@ pub record IsBounded (c : Config) (flows : List LiveFlow) (next calls : ℕ) : T
   pub asked : AllByRecursion (λ f. f.asked ≤ most_bytes * calls) flows
   pub started : AllByRecursion (HasStartedBy next) flows
   pub within : AllByRecursion IsWithinAsked flows
-  pub few : length flows ≤ most_flows
+  pub few : length flows ≤ MAX_FLOWS
 
--- The fields stand for a history
-pub record StandsFor (s : State) (h : List Entry) : Type 0 where
+-- The fields are what the definitions read in a history
+pub record IsStateAfter (s : State) (h : List Entry) : Type 0 where
   pub lawful : IsLawful s.config
   pub book_config : s.book.config ≡ s.config
   pub table_config : s.table.config ≡ s.config
@@ -44,16 +46,16 @@ pub record StandsFor (s : State) (h : List Entry) : Type 0 where
   pub placed : s.table.placed ≡ table_of h
   pub next : s.next ≡ next_after s.config h
   pub places : length s.progress ≡ 16
-  pub progress : (receiver : ℕ) → receiver < s.config.receivers → slice_index s.progress receiver ≡ progress_of s.config receiver h
+  pub progress : (receiver : ℕ) → receiver < s.config.receivers
+      → slice_index s.progress receiver ≡ progress_of s.config receiver h
 
 -- what contracts see of a scheduler
 abbrev pub machine_of : Inside → Machine
 machine_of a = record { config = a.state.config; history = a.entries.items }
 
--- The fields stand for the history, which is legal and can be encoded; they keep to their bounds, and there is room for the
--- configured number of calls
+-- The fields are those after the history, which is legal and can be encoded; they keep to bounds and reserved room
 pub record IsSound (a : Inside) : Type 0 where
-  pub stands : StandsFor a.state a.entries.items
+  pub is_after : IsStateAfter a.state a.entries.items
   pub bounded : IsBounded a.state.config a.state.book.flows a.state.next (length a.entries.items)
   pub legal : IsLegal a.state.config a.entries.items
   pub encodable : AllByRecursion (λ e. IsEncodable e.reply) a.entries.items

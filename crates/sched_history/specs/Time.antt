@@ -1,5 +1,6 @@
 -- The time of a history: the frame that the next MAP describes, and how far requests were heard.
-use Rattle.std.specs.Prelude.{ℕ, ◌+◌, ◌*◌, ◌/◌, ◌-◌, min, Bool, true, false, ◌==◌, List, [], ◌∷◌, map, count_by, Option, None, Some, if◌then◌else◌}
+use Rattle.std.specs.Prelude.{◌≡◌, ℕ, ◌+◌, ◌*◌, ◌%◌, ◌≤◌, min, Bool, true, false, ◌==◌, List}
+use Rattle.std.specs.Prelude.{[], ◌∷◌, map, count_by, Option, None, Some, if◌then◌else◌}
 use Rattle.std.specs.Option.{option_map_or}
 use Rattle.minislots.specs.declared.config.Config.{Config}
 use Rattle.periodic.specs.Placement.{count_from}
@@ -24,9 +25,11 @@ is_built reply = false
 abbrev pub builds_in : List Entry → ℕ
 builds_in entries = count_by (λ e. is_built e.reply) entries
 
--- where the frame of the next MAP starts: at the latest skip's answer, or at the configured start, and a frame later for each MAP since
+-- where the next MAP's frame starts: at the latest skip's answer or the configured start, a frame later for each MAP
 abbrev pub next_after : Config → List Entry → ℕ
-next_after c h = option_map_or (λ found. found.said + c.frame * builds_in found.after) (latest (λ e. skip_by e.reply) h) (c.start + c.frame * builds_in h)
+next_after c h =
+    option_map_or (λ found. found.said + c.frame * builds_in found.after) (latest (λ e. skip_by e.reply) h)
+    (c.start + c.frame * builds_in h)
 
 -- the progress of this receiver that an accepted entry notes
 abbrev pub progress_by : ℕ → Call → Reply → Option ℕ
@@ -35,7 +38,8 @@ progress_by receiver call reply = None
 
 -- the minislot before which a receiver has handed in every request that it heard
 abbrev pub progress_of : Config → ℕ → List Entry → ℕ
-progress_of c receiver h = option_map_or (λ found. found.said) (latest (λ e. progress_by receiver e.call e.reply) h) c.start
+progress_of c receiver h =
+    option_map_or (λ found. found.said) (latest (λ e. progress_by receiver e.call e.reply) h) c.start
 
 -- the least of some numbers
 abbrev pub least : List ℕ → ℕ
@@ -47,6 +51,8 @@ least (x ∷ y ∷ xs) = min x (least (y ∷ xs))
 abbrev pub ack_after : Config → List Entry → ℕ
 ack_after c h = least (map (λ receiver. progress_of c receiver h) (count_from 0 c.receivers))
 
--- the first start of a frame at or after this minislot
-abbrev pub frame_from : Config → ℕ → ℕ
-frame_from c slot = (slot + c.frame - 1) / c.frame * c.frame
+-- The start is the least multiple of the frame's length at or after the minislot
+pub record IsFirstStart (c : Config) (slot start : ℕ) : Type 0 where
+  pub whole : start % c.frame ≡ 0
+  pub reached : slot ≤ start
+  pub least : (n : ℕ) → n % c.frame ≡ 0 → slot ≤ n → start ≤ n

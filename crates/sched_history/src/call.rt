@@ -2,6 +2,9 @@
 
 use flow_book::FlowSpec;
 
+/// The most scripts, lists of calls, that are run at the same time.
+pub const MAX_SCRIPTS: usize = 16;
+
 /// A call of the scheduler. Minislots are counted in 64 bits from the channel's timebase.
 #[derive(Clone, Copy, Debug, PartialEq, Eq)]
 pub enum Call {

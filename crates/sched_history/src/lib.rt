@@ -5,6 +5,6 @@ mod call;
 mod reply;
 mod scheduler;
 
-pub use call::Call;
+pub use call::{Call, MAX_SCRIPTS};
 pub use reply::{Entry, Refusal, Reply, Unrecorded};
 pub use scheduler::Scheduler;

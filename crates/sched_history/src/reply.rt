@@ -13,58 +13,41 @@ use thiserror::Error;
 
 /// Why a call is refused. The tests are made in this order, and the first that holds is answered. A
 /// refusal is recorded, and changes nothing else.
-#[derive(Clone, Copy, Debug, PartialEq, Eq, Error)]
+#[derive(Clone, Copy, Debug, PartialEq, Eq)]
 pub enum Refusal {
     /// The SID is 0 or above 8191.
-    #[error("no flow has this SID")]
     BadSid,
     /// The SID is live already.
-    #[error("the SID is live")]
     SidLive,
     /// The parameters of the flow are refused.
-    #[error("bad parameters: {0}")]
     BadFlow(FlowFault),
-    /// 64 flows are live.
-    #[error("64 flows are live")]
+    /// [`flow_book::MAX_FLOWS`] flows are live.
     FlowsFull,
-    /// 40 periodic flows are live.
-    #[error("40 periodic flows are live")]
+    /// [`periodic::MAX_PERIODIC_FLOWS`] periodic flows are live.
     PeriodicFull,
     /// No lawful placement exists.
-    #[error("no place")]
     NoPlace,
     /// The SID is not live.
-    #[error("no such flow")]
     NoFlow,
     /// The flow is unsolicited, so it asks for nothing.
-    #[error("the flow does not ask")]
     NotAsking,
     /// There is no such receiver.
-    #[error("no such receiver")]
     BadReceiver,
     /// The bytes are 0 or above 1048560.
-    #[error("bad bytes")]
     BadBytes,
     /// The request was heard before this progress of its receiver.
-    #[error("heard before {0}")]
     Acked(u64),
     /// The minislot is not described by a MAP yet: the next one starts here.
-    #[error("not before {0}")]
     Ahead(u64),
     /// The receiver's progress is here already.
-    #[error("progress is {0}")]
     Backwards(u64),
     /// The clock is above 2^60.
-    #[error("bad clock")]
     BadClock,
     /// The frame that starts here would end more than 4096 minislots ahead.
-    #[error("too early for {0}")]
     TooEarly(u64),
     /// The frame that starts here is less than the lead ahead.
-    #[error("too late for {0}")]
     Late(u64),
     /// The frame that starts here is not late.
-    #[error("not late for {0}")]
     NotLate(u64),
 }
 
@@ -127,8 +110,11 @@ impl Reply {
     }
 }
 
-/// The same placement again.
-fn copy_of_placement(alloc: Global, placement: &Placement) -> Result<Placement, AllocError>
+// The same placement again.
+pub(crate) fn copy_of_placement(
+    alloc: Global,
+    placement: &Placement,
+) -> Result<Placement, AllocError>
     ensures { IfOk result (λ p. p ≡ placement.now) }
 {
     Ok(Placement {
@@ -154,26 +140,4 @@ pub enum Unrecorded {
     /// Memory ran out.
     #[error("out of memory")]
     Memory,
-}
-
-#[cfg(test)]
-mod tests {
-    use super::*;
-    use std::test::Fail;
-
-    #[test]
-    fn a_copy_has_the_same_placement(rt: HostRuntime) -> Result<(), Fail> {
-        let starts = [4, 19];
-        let placement = Placement {
-            reference: 804,
-            starts: Starts::from_vec(Vec::from_slice(rt.alloc(), &starts)?),
-        };
-        let copy = Reply::Admitted(Some(placement)).copy(rt.alloc())?;
-        let Reply::Admitted(Some(copied)) = copy else {
-            return Err(Fail::from(AllocError));
-        };
-        assert_eq!(rt; copied.reference, 804);
-        assert_eq!(rt; copied.starts.as_slice(), &starts[..]);
-        Ok(())
-    }
 }

@@ -11,8 +11,6 @@ mod granting;
 mod newest;
 mod refusing;
 mod state;
-#[cfg(test)]
-mod tests;
 
 use crate::call::Call;
 use crate::reply::{Entry, Reply, Unrecorded};
@@ -87,7 +85,7 @@ impl Scheduler {
 
     /// The calls that were recorded, with their replies, in order. What follows for the plant from a legal
     /// history is told beside it, for every front of the list.
-    #[tactic(auto, using(crate::proofs::FactsOf::facts_of))]
+    #[tactic(auto, using(crate::proofs::facts::FactsOf::facts_of))]
     pub fn history(&self) -> &[Entry]
         ensures value { result.now ≡ self.now.history }
         ensures legal { IsLegal self.now.config self.now.history }
@@ -99,7 +97,7 @@ impl Scheduler {
     }
 
     /// The calls that were recorded, with their replies, in order.
-    #[tactic(auto, using(crate::proofs::FactsOf::facts_of))]
+    #[tactic(auto, using(crate::proofs::facts::FactsOf::facts_of))]
     pub fn into_history(self) -> Vec<Entry>
         ensures value { result.items ≡ self.history }
         ensures legal { IsLegal self.config self.history }

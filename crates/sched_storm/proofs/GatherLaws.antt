@@ -1,91 +1,168 @@
--- What the workers gave back, put together from the last to the first.
-use Rattle.std.proofs.Common.{◌≡◌, ◌<◌, ◌≤◌, ◌+◌, ◌*◌, ◌^◌, ℕ, Bool, true, false, cond, List, [], ◌∷◌, ◌++◌, map, length}
-use Rattle.std.proofs.Common.{reverse, Option, Some, None, refl, sym, ap, ◌∙◌, subst, append_assoc, append-nil, length-append, arith}
-use Rattle.std.proofs.lemmas.List.Sums.{sum_by-cons}
+-- What the workers gave back, put together one after the other.
+use Rattle.std.proofs.Common.{◌≡◌, ◌<◌, ◌≤◌, ◌+◌, ◌*◌, ◌^◌, ◌||◌, ℕ, false, List, [], ◌∷◌, ◌++◌, length, reverse}
+use Rattle.std.proofs.Common.{Option, None, refl, sym, ap, ◌∙◌, subst, append_assoc, append-nil, length-append, arith}
+use Rattle.std.specs.List.{AllZip}
+use Rattle.std.proofs.Math.Bool.{or-false, or_assoc}
+use Rattle.std.proofs.lemmas.List.{map-append, length-map}
+use Rattle.std.proofs.lemmas.List.Sums.{sum_by-append, sum_by-cons}
 use Rattle.minislots.specs.declared.config.Config.{Config}
+use Rattle.sched_history.specs.declared.call.Call.{Call}
 use Rattle.sched_history.specs.declared.reply.Entry.{Entry}
-use Rattle.ticket_lock.specs.Rule.{Every}
 use Rattle.ticket_lock.specs.Standing.{Standing}
+use Rattle.sched_storm.specs.declared.gather.Gathered.{Gathered}
+use Rattle.sched_storm.specs.declared.jobs.Job.{Job}
+use Rattle.sched_storm.specs.declared.jobs.Job.TheVariants.{Started, Refused}
 use Rattle.sched_storm.specs.declared.worker.Worked.{Worked}
-use Rattle.sched_storm.specs.Jobs.{unrecorded_by, first_held}
-use Rattle.sched_storm.proofs.JobLaws.{none_left, Every-front, Every-back, reverse-first}
+use Rattle.sched_storm.specs.Work.{HasWorked}
+use Rattle.sched_storm.specs.Jobs.{is_stopped, held_then, held_by, any_stopped, unrecorded_by, GathersAll, Gathers}
+use Rattle.sched_storm.specs.Jobs.{GivesBack, IsJob, EachOf, IsGathered}
+use Rattle.sched_storm.proofs.JobLaws.{none_left, reverse-last}
 
--- a worker's count, and those of the others
-pub unrecorded_by-first : (w : Worked) (ws : List Worked) → unrecorded_by (w ∷ ws) ≡ w.unrecorded + unrecorded_by ws
-unrecorded_by-first w ws = sum_by-cons (λ n. n) w.unrecorded (map (λ (x : Worked). x.unrecorded) ws)
+-- the first that was held, with one worker more
+held_by-append : (held : Option ℕ) (number : ℕ) (ws : List Worked) (w : Worked)
+    → held_by held number (ws ++ w ∷ []) ≡ held_then (held_by held number ws) (number + length ws) w.ended
+held_by-append held number [] w =
+    let same : number ≡ number + 0 = omega arith in ap (λ n. held_then held n w.ended) same
+held_by-append held number (x ∷ xs) w =
+    let next = held_then held number x.ended in
+    let same : number + 1 + length xs ≡ number + length (x ∷ xs) = omega arith in
+    held_by-append next (number + 1) xs w ∙ ap (λ n. held_then (held_by next (number + 1) xs) n w.ended) same
 
--- these workers are left, and the others count so many together
-pub record Gathering (all done : List Worked) (seats : List (Standing Config Entry)) (unrecorded : ℕ) (held : Option ℕ) : Type 0 where
-  pub gathered : List Worked
-  pub done_are : all ≡ done ++ gathered
-  pub seats_are : seats ≡ reverse (map (λ w. w.seat) gathered)
-  pub unrecorded_is : unrecorded ≡ unrecorded_by gathered
-  pub bound : unrecorded ≤ length gathered * 2 ^ 59
-  pub held_is : held ≡ first_held (length done) gathered
-  pub few : Every (λ w. w.unrecorded < 2 ^ 59) done
+-- whether any was stopped, with one worker more
+any_stopped-append : (ws : List Worked) (w : Worked)
+    → any_stopped (ws ++ w ∷ []) ≡ (any_stopped ws || is_stopped w.ended)
+any_stopped-append [] w = or-false (is_stopped w.ended)
+any_stopped-append (x ∷ xs) w =
+    ap (λ b. is_stopped x.ended || b) (any_stopped-append xs w)
+    ∙ sym (or_assoc (is_stopped x.ended) (any_stopped xs) (is_stopped w.ended))
 
--- a worker's count is small
-abbrev IsFew : Worked → Type 0
-IsFew w = w.unrecorded < 2 ^ 59
+-- how many calls of all were not recorded, with one worker more
+unrecorded_by-append : (ws : List Worked) (w : Worked) → unrecorded_by (ws ++ w ∷ []) ≡ unrecorded_by ws + w.unrecorded
+unrecorded_by-append ws w =
+    let count = λ (x : Worked). x.unrecorded in
+    let one = sum_by-cons (λ (x : Worked). x.unrecorded) w [] in
+    let both = sum_by-append (λ (x : Worked). x.unrecorded) ws (w ∷ []) in
+    omega (arith, one, both)
 
-module _ (all : List Worked) where
-  -- none yet
-  pub Gathering-none : Every (λ w. w.unrecorded < 2 ^ 59) all → (seats : List (Standing Config Entry)) → seats ≡ []
-      → Gathering all all seats 0 None
-  Gathering-none few seats empty = record {
-    gathered = [];
-    done_are = sym (append-nil all);
-    seats_are = empty;
-    unrecorded_is = refl;
-    bound = omega arith;
-    held_is = refl;
-    few = few;
-  }
-
-  module _ (done rest : List Worked) (seats : List (Standing Config Entry)) (unrecorded : ℕ) (held : Option ℕ) (w : Worked)
-      (is : done ≡ rest ++ w ∷ []) (so : Gathering all done seats unrecorded held) where
-    one_more : length done ≡ length rest + 1
-    one_more = ap length is ∙ length-append rest (w ∷ [])
-
-    -- the count of the last one is small
-    pub last_few : w.unrecorded < 2 ^ 59
-    last_few = (Every-back IsFew rest (w ∷ []) (subst (Every IsFew) is so.few)).0
-
-    -- so many were gathered
-    pub gathered_are : length so.gathered + length done ≡ length all
-    gathered_are =
-        let e : length all ≡ length done + length so.gathered = ap length so.done_are ∙ length-append done so.gathered in
-        omega (arith, e)
-
-    -- one worker more
-    pub Gathering-push : (seats_more : List (Standing Config Entry)) (more : ℕ) (held_more : Option ℕ)
-        → seats_more ≡ seats ++ w.seat ∷ [] → more ≡ unrecorded + w.unrecorded
-        → held_more ≡ cond w.held (Some (length rest)) held → Gathering all rest seats_more more held_more
-    Gathering-push seats_more more held_more seats_is more_is held_more_is = record {
-      gathered = w ∷ so.gathered;
-      done_are = so.done_are ∙ ap (λ l. l ++ so.gathered) is ∙ append_assoc rest (w ∷ []) so.gathered;
+-- what was put together, with one worker more
+pub GathersAll-add : (done : List Worked) (w : Worked) (g more : Gathered) → GathersAll done g
+    → more.seats.items ≡ g.seats.items ++ w.seat ∷ [] → more.unrecorded ≡ g.unrecorded + w.unrecorded
+    → more.held ≡ held_then g.held (length g.seats.items) w.ended → more.stopped ≡ (g.stopped || is_stopped w.ended)
+    → GathersAll (done ++ w ∷ []) more
+GathersAll-add done w g more all seats unrecorded held stopped =
+    let long : length g.seats.items ≡ length done =
+    ap length all.seats_are ∙ length-map done (λ (x : Worked). x.seat) in
+    let number : length g.seats.items ≡ 0 + length done = omega (arith, long) in
+    record {
       seats_are =
-          seats_is
-          ∙ ap (λ l. l ++ w.seat ∷ []) so.seats_are
-          ∙ sym (reverse-first w.seat (map (λ (x : Worked). x.seat) so.gathered));
+          seats
+          ∙ ap (λ l. l ++ w.seat ∷ []) all.seats_are
+          ∙ sym (map-append (λ (x : Worked). x.seat) done (w ∷ []));
       unrecorded_is =
-          let a = so.unrecorded_is in let b = unrecorded_by-first w so.gathered in omega (arith, more_is, a, b);
-      bound = let a = so.bound in let b = last_few in omega (arith, more_is, a, b);
-      held_is = held_more_is ∙ ap (λ h. cond w.held (Some (length rest)) h) (so.held_is ∙ ap (λ n. first_held n so.gathered) one_more);
-      few = Every-front IsFew rest (w ∷ []) (subst (Every IsFew) is so.few);
+          unrecorded ∙ ap (λ n. n + w.unrecorded) all.unrecorded_is ∙ sym (unrecorded_by-append done w);
+      held_is =
+          held
+          ∙ ap (λ o. held_then o (length g.seats.items) w.ended) all.held_is
+          ∙ ap (λ n. held_then (held_by None 0 done) n w.ended) number
+          ∙ sym (held_by-append None 0 done w);
+      stopped_is =
+          stopped ∙ ap (λ b. b || is_stopped w.ended) all.stopped_is ∙ sym (any_stopped-append done w);
     }
 
-  -- none is left
-  pub Gathering-all : (done : List Worked) (seats : List (Standing Config Entry)) (unrecorded : ℕ) (held : Option ℕ) → length done ≡ 0
-      → (so : Gathering all done seats unrecorded held) → so.gathered ≡ all
-  Gathering-all done seats unrecorded held none so = sym (so.done_are ∙ ap (λ l. l ++ so.gathered) (none_left done none))
+module _ {J : Type 0} (Gives : J → Worked → Type 0) where
+  -- one job more, and what it gave back
+  AllZip-more : (jobs : List J) (done : List Worked) (job : J) (w : Worked) → AllZip Gives jobs done → Gives job w
+      → AllZip Gives (jobs ++ job ∷ []) (done ++ w ∷ [])
+  AllZip-more [] [] job w gave last = (last, tt)
+  AllZip-more [] (x ∷ xs) job w gave last = absurd gave
+  AllZip-more (j ∷ js) [] job w gave last = absurd gave
+  AllZip-more (j ∷ js) (x ∷ xs) job w gave last = (gave.0, AllZip-more js xs job w gave.1 last)
 
--- a worker that was held is the first of those gathered
-pub held-then : (b : Bool) (before after : Option ℕ) (n m : ℕ) → b ≡ true → after ≡ Some n → n ≡ m → after ≡ cond b (Some m) before
-held-then true before after n m e is same = is ∙ ap Some same
-held-then false before after n m e is same = absurd (let contra : false ≡ true = e in cc)
+  module _ (all_jobs : List J) where
+    -- these jobs are left, and what the others gave back was put together
+    pub record Joining (jobs : List J) (g : Gathered) : Type 0 where
+      pub joined : List J
+      pub done : List Worked
+      pub jobs_are : reverse all_jobs ≡ joined ++ reverse jobs
+      pub gave : AllZip Gives joined done
+      pub all : GathersAll done g
+      pub bound : g.unrecorded ≤ length g.seats.items * 2 ^ 59
 
--- and one that was not changes nothing
-pub held-else : (b : Bool) (before after : Option ℕ) (m : ℕ) → b ≡ false → after ≡ before → after ≡ cond b (Some m) before
-held-else false before after m e is = is
-held-else true before after m e is = absurd (let contra : true ≡ false = e in cc)
+    -- no job has ended yet
+    pub Joining-none : (g : Gathered) → g.seats.items ≡ [] → g.unrecorded ≡ 0 → g.held ≡ None → g.stopped ≡ false
+        → Joining all_jobs g
+    Joining-none g empty unrecorded held stopped = record {
+      joined = [];
+      done = [];
+      jobs_are = refl;
+      gave = tt;
+      all = record { seats_are = empty; unrecorded_is = unrecorded; held_is = held; stopped_is = stopped };
+      bound = omega (arith, unrecorded);
+    }
+
+    -- one more has ended
+    pub Joining-push : (jobs rest : List J) (g more : Gathered) (job : J) (w : Worked) → jobs ≡ rest ++ job ∷ []
+        → Gives job w → w.unrecorded < 2 ^ 59 → Joining jobs g → more.seats.items ≡ g.seats.items ++ w.seat ∷ []
+        → more.unrecorded ≡ g.unrecorded + w.unrecorded → more.held ≡ held_then g.held (length g.seats.items) w.ended
+        → more.stopped ≡ (g.stopped || is_stopped w.ended) → Joining rest more
+    Joining-push jobs rest g more job w is gives few so seats unrecorded held stopped = record {
+      joined = so.joined ++ job ∷ [];
+      done = so.done ++ w ∷ [];
+      jobs_are =
+          so.jobs_are
+          ∙ ap (λ l. so.joined ++ reverse l) is
+          ∙ ap (λ l. so.joined ++ l) (reverse-last rest job)
+          ∙ sym (append_assoc so.joined (job ∷ []) (reverse rest));
+      gave = AllZip-more so.joined so.done job w so.gave gives;
+      all = GathersAll-add so.done w g more so.all seats unrecorded held stopped;
+      bound =
+          let long = ap length seats ∙ length-append g.seats.items (w.seat ∷ []) in
+          let bound = so.bound in
+          omega (arith, long, bound, unrecorded, few);
+    }
+
+    -- none is left
+    pub Joining-all : (jobs : List J) (g : Gathered) → length jobs ≡ 0 → (so : Joining jobs g)
+        → AllZip Gives (reverse all_jobs) so.done
+    Joining-all jobs g none so =
+        let all : reverse all_jobs ≡ so.joined =
+        so.jobs_are ∙ ap (λ l. so.joined ++ reverse l) (none_left jobs none) ∙ append-nil so.joined in
+        subst (λ js. AllZip Gives js so.done) (sym all) so.gave
+
+module _ {G : Type 0} (passes holds : G → ℕ → ℕ → Type 0) (c : Config) (gate : G) where
+  -- what a worker with this seat and this script makes
+  abbrev Work : Standing Config Entry → List Call → Worked → Type 0
+  Work s script w = HasWorked (passes gate) (holds gate) c s script w.seat w.unrecorded w.ended
+
+  -- what a job gives back is what its worker made
+  gives_kept : (s : Standing Config Entry) (script : List Call) (job : Job G) (w : Worked)
+      → IsJob passes holds c gate s script job → GivesBack passes holds job w → Work s script w
+  gives_kept s script (Started handle) w is gives =
+      subst (λ (x : Config × G × Standing Config Entry × List Call).
+      HasWorked (passes x.1) (holds x.1) x.0 x.2 x.3 w.seat w.unrecorded w.ended)
+      (λ i. (is.0 i, is.1 i, is.2 i, is.3 i)) gives
+  gives_kept s script (Refused worked) w is gives = subst (Work s script) (sym gives) is.0
+
+  -- what all jobs give back is what all workers made
+  gives_kept_each : (seats : List (Standing Config Entry)) (scripts : List (List Call)) (jobs : List (Job G))
+      (done : List Worked) → EachOf (IsJob passes holds c gate) seats scripts jobs
+      → AllZip (GivesBack passes holds) jobs done → EachOf Work seats scripts done
+  gives_kept_each [] [] [] [] are gave = tt
+  gives_kept_each [] [] [] (w ∷ ws) are gave = absurd gave
+  gives_kept_each [] [] (j ∷ js) done are gave = absurd are
+  gives_kept_each [] (script ∷ scripts) jobs done are gave = absurd are
+  gives_kept_each (s ∷ seats) [] jobs done are gave = absurd are
+  gives_kept_each (s ∷ seats) (script ∷ scripts) [] done are gave = absurd are
+  gives_kept_each (s ∷ seats) (script ∷ scripts) (j ∷ js) [] are gave = absurd gave
+  gives_kept_each (s ∷ seats) (script ∷ scripts) (j ∷ js) (w ∷ ws) are gave =
+      (gives_kept s script j w are.0 gave.0, gives_kept_each seats scripts js ws are.1 gave.1)
+
+  -- and so it is put together
+  pub gathered : (seats : List (Standing Config Entry)) (scripts : List (List Call)) (jobs : List (Job G))
+      (g : Gathered) → EachOf (IsJob passes holds c gate) seats scripts (reverse jobs) → Gathers passes holds jobs g
+      → IsGathered (passes gate) (holds gate) c seats scripts g
+  gathered seats scripts jobs g are gathers = record {
+    done = gathers.done;
+    each = gives_kept_each seats scripts (reverse jobs) gathers.done are gathers.gave;
+    all = gathers.all;
+  }

@@ -1,6 +1,9 @@
 pub mod MadeLaws
+pub mod MapLaws
+pub mod CallLaws
 pub mod Working
 pub mod JobLaws
 pub mod GatherLaws
 pub mod SeatLaws
 pub mod TallyLaws
+pub mod StormLaws

@@ -1,21 +1,18 @@
 -- Calls that were made one after the other, and the lists that they lead to.
-use Rattle.std.proofs.Common.{◌≡◌, ◌≤◌, ◌+◌, ℕ, Bool, true, false, not, cond, ◌==◌, length, List, [], ◌∷◌, ◌++◌, filter, take, get_or}
-use Rattle.std.proofs.Common.{◌<◌, Option, Some, None, refl, sym, ap, ◌∙◌, append_assoc, append-nil, eq-eqb, arith, length-append}
+use Rattle.std.proofs.Common.{◌≡◌, ◌≤◌, ◌+◌, ℕ, Bool, true, false, not, cond, ◌==◌, length, List, [], ◌∷◌, ◌++◌, filter}
+use Rattle.std.proofs.Common.{Option, Some, None, refl, sym, ap, ◌∙◌, append_assoc, append-nil, eq-eqb, arith}
+use Rattle.std.proofs.Common.{length-append}
 use Rattle.std.specs.Prelude.{IfSome}
-use Rattle.std.specs.List.{filter_map}
 use Rattle.std.specs.Option.{option_to_list}
-use Rattle.std.proofs.lemmas.List.{map-append, take_more}
-use Rattle.std.proofs.lemmas.List.Elements.{filter-append, filter_map-append}
+use Rattle.std.proofs.lemmas.List.{map-append}
+use Rattle.std.proofs.lemmas.List.Elements.{filter-append}
 use mathlib.Core.List.{IsPrefix}
 use Rattle.minislots.specs.declared.config.Config.{Config}
 use Rattle.sched_history.specs.declared.call.Call.{Call}
 use Rattle.sched_history.specs.declared.reply.Entry.{Entry}
-use Rattle.sched_history.specs.History.{map_by}
-use Rattle.sched_history.specs.Facts.{maps_of}
-use Rattle.map_build.specs.declared.frame_map.FrameMap.{FrameMap}
 use Rattle.shared_sched.specs.Closed.{entries_of}
-use Rattle.sched_storm.specs.Made.{MadeCall, is_recorded, list_left, calls_made, calls_recorded, calls_in, left_out_count}
-use Rattle.sched_storm.specs.Made.{GrowsByOthers, IsMadeAfter, Leads}
+use Rattle.sched_storm.specs.Made.{MadeCall, is_recorded, list_left, calls_made, calls_recorded, calls_in}
+use Rattle.sched_storm.specs.Made.{left_out_count, GrowsByOthers, IsMadeAfter, Leads}
 
 -- a front of a front
 pub IsPrefix-trans : {X : Type 0} (xs ys zs : List X) → IsPrefix xs ys → IsPrefix ys zs → IsPrefix xs zs
@@ -35,8 +32,9 @@ module _ (made more : List MadeCall) where
   -- and with how many were not
   pub left_out_count-append : left_out_count (made ++ more) ≡ left_out_count made + left_out_count more
   left_out_count-append =
+      let others = filter (λ (m : MadeCall). not (is_recorded m)) in
       ap length (filter-append (λ (m : MadeCall). not (is_recorded m)) made more)
-      ∙ length-append (filter (λ (m : MadeCall). not (is_recorded m)) made) (filter (λ (m : MadeCall). not (is_recorded m)) more)
+      ∙ length-append (others made) (others more)
 
 -- one call is one where it was not recorded
 pub left_out_count-one : (m : MadeCall) → cond (is_recorded m) 0 1 ≡ left_out_count (m ∷ [])
@@ -59,7 +57,8 @@ left_out_count-le (m ∷ ms) = by (is_recorded m) (left_out_count-le ms)
     by false few = omega (arith, few)
 
 -- the seat's entries of a list and then more
-pub entries_of-append : (number : ℕ) (h more : List Entry) → entries_of number (h ++ more) ≡ entries_of number h ++ entries_of number more
+pub entries_of-append : (number : ℕ) (h more : List Entry)
+    → entries_of number (h ++ more) ≡ entries_of number h ++ entries_of number more
 entries_of-append number h more = filter-append (λ (e : Entry). e.stamp.seat == number) h more
 
 module _ (number : ℕ) where
@@ -76,8 +75,10 @@ module _ (number : ℕ) where
   }
 
   -- the calls of what an entry of this seat adds
-  added_calls : (call : Call) (entered : List Entry) (added : Option Entry) → IfSome added (λ e. (e.stamp.seat ≡ number) × (e.call ≡ call))
-      → calls_in (entries_of number (option_to_list added)) ≡ calls_recorded (record { call = call; entered = entered; added = added } ∷ [])
+  added_calls : (call : Call) (entered : List Entry) (added : Option Entry)
+      → IfSome added (λ e. (e.stamp.seat ≡ number) × (e.call ≡ call))
+      → calls_in (entries_of number (option_to_list added))
+      ≡ calls_recorded (record { call = call; entered = entered; added = added } ∷ [])
   added_calls call entered None adds = refl
   added_calls call entered (Some e) adds =
       ap (λ b. calls_in (cond b (e ∷ []) [])) (eq-eqb e.stamp.seat number adds.0) ∙ ap (λ x. x ∷ []) adds.1
@@ -87,9 +88,10 @@ module _ (number : ℕ) where
     list_left-entries : (from : List Entry) (m : MadeCall) → IsMadeAfter c number from m
         → calls_in (entries_of number (list_left m)) ≡ calls_in (entries_of number from) ++ calls_recorded (m ∷ [])
     list_left-entries from m is =
-        ap calls_in (entries_of-append number m.entered (option_to_list m.added))
-        ∙ map-append (λ (e : Entry). e.call) (entries_of number m.entered) (entries_of number (option_to_list m.added))
-        ∙ ap (λ l. calls_in l ++ calls_in (entries_of number (option_to_list m.added))) is.enters.same_own
+        let added = option_to_list m.added in
+        ap calls_in (entries_of-append number m.entered added)
+        ∙ map-append (λ (e : Entry). e.call) (entries_of number m.entered) (entries_of number added)
+        ∙ ap (λ l. calls_in l ++ calls_in (entries_of number added)) is.enters.same_own
         ∙ ap (λ l. calls_in (entries_of number from) ++ l) (added_calls m.call m.entered m.added is.adds)
 
     -- the seat's entries in the last list are those in the first, and the calls that were recorded
@@ -103,10 +105,11 @@ module _ (number : ℕ) where
         ∙ ap (λ l. calls_in (entries_of number from) ++ l) (sym (calls_recorded-append (m ∷ []) ms))
 
     -- what leads to a list leads to what others make of it
-    pub Leads-longer : (from : List Entry) (made : List MadeCall) (h longer : List Entry) → GrowsByOthers number h longer
-        → Leads c number from made h → Leads c number from made longer
+    pub Leads-longer : (from : List Entry) (made : List MadeCall) (h longer : List Entry)
+        → GrowsByOthers number h longer → Leads c number from made h → Leads c number from made longer
     Leads-longer from [] h longer grows leads = GrowsByOthers-trans from h longer leads grows
-    Leads-longer from (m ∷ ms) h longer grows leads = (leads.0, Leads-longer (list_left m) ms h longer grows leads.1)
+    Leads-longer from (m ∷ ms) h longer grows leads =
+        (leads.0, Leads-longer (list_left m) ms h longer grows leads.1)
 
     -- what leads from what others made of a list leads from that list
     Leads-from : (start from : List Entry) (made : List MadeCall) (h : List Entry) → GrowsByOthers number start from
@@ -122,31 +125,8 @@ module _ (number : ℕ) where
     )
 
     -- some calls, and then more
-    pub Leads-append : (from : List Entry) (made more : List MadeCall) (mid h : List Entry) → Leads c number from made mid
-        → Leads c number mid more h → Leads c number from (made ++ more) h
+    pub Leads-append : (from : List Entry) (made more : List MadeCall) (mid h : List Entry)
+        → Leads c number from made mid → Leads c number mid more h → Leads c number from (made ++ more) h
     Leads-append from [] more mid h first then = Leads-from from mid more h first then
-    Leads-append from (m ∷ ms) more mid h first then = (first.0, Leads-append (list_left m) ms more mid h first.1 then)
-
--- one entry more
-pub count_maps-push : (h : List Entry) (i : ℕ) (d : Entry) → i < length h
-    → length (maps_of (take (i + 1) h)) ≡ length (maps_of (take i h)) + length (maps_of (get_or h i d ∷ []))
-count_maps-push h i d below =
-    ap (λ l. length (maps_of l)) (take_more h i d below)
-    ∙ ap length (filter_map-append (λ (e : Entry). map_by e.reply) (take i h) (get_or h i d ∷ []))
-    ∙ length-append (maps_of (take i h)) (maps_of (get_or h i d ∷ []))
-
--- an entry has one MAP at most
-pub one_map : (e : Entry) → length (maps_of (e ∷ [])) ≤ 1
-one_map e = by (map_by e.reply)
-  where
-    by : (found : Option FrameMap) → length (filter_map (λ (o : Option FrameMap). o) (found ∷ [])) ≤ 1
-    by (Some m) = omega arith
-    by None = omega arith
-
--- a history has no more MAPs than entries
-pub count_maps-le : (h : List Entry) → length (maps_of h) ≤ length h
-count_maps-le [] = omega arith
-count_maps-le (e ∷ es) =
-    let more : length (maps_of (e ∷ es)) ≡ length (maps_of (e ∷ [])) + length (maps_of es) =
-    ap length (filter_map-append (λ (x : Entry). map_by x.reply) (e ∷ []) es) ∙ length-append (maps_of (e ∷ [])) (maps_of es) in
-    omega (arith, more, one_map e, count_maps-le es)
+    Leads-append from (m ∷ ms) more mid h first then =
+        (first.0, Leads-append (list_left m) ms more mid h first.1 then)

@@ -1,31 +1,54 @@
 -- The workers of a storm, as threads, and what they give back.
-use Rattle.std.specs.Prelude.{◌≡◌, ◌<◌, ◌+◌, ◌^◌, ◌≤◌, ℕ, List, [], ◌∷◌, vec_len, vec_capacity, map, sum, Option, Some, None, if◌then◌else◌}
+use Rattle.std.specs.Prelude.{◌≡◌, ◌+◌, ◌≤◌, ◌||◌, ℕ, Bool, true, false, List, [], ◌∷◌, vec_len, vec_capacity, map}
+use Rattle.std.specs.Prelude.{sum_by, reverse, Option, Some, None}
 use Rattle.std.specs.Global.{Vec}
+use Rattle.std.specs.List.{AllZip}
 use Rattle.minislots.specs.declared.config.Config.{Config}
 use Rattle.sched_history.specs.declared.call.Call.{Call}
+use Rattle.sched_history.specs.declared.call.TheConstants.{MAX_SCRIPTS}
 use Rattle.sched_history.specs.declared.reply.Entry.{Entry}
 use Rattle.ticket_lock.specs.Rule.{Every}
 use Rattle.ticket_lock.specs.Standing.{Lock, Standing}
+use Rattle.sched_storm.specs.declared.worker.Ended.{Ended}
+use Rattle.sched_storm.specs.declared.worker.Ended.TheVariants.{Done, Held, Stopped}
 use Rattle.sched_storm.specs.declared.worker.Worked.{Worked}
 use Rattle.sched_storm.specs.declared.jobs.Job.{Job}
 use Rattle.sched_storm.specs.declared.jobs.Job.TheVariants.{Started, Refused}
+use Rattle.sched_storm.specs.declared.gather.Gathered.{Gathered}
 use Rattle.sched_storm.specs.Work.{HasWorked}
 
--- what a worker with this seat and this script may give back
-pub record IsResultOf (c : Config) (s : Standing Config Entry) (script : List Call) (w : Worked) : Type 0 where
-  pub worked : HasWorked c s script w.seat w.unrecorded w.held
-  pub few : w.unrecorded < 2 ^ 59
+-- whether a worker was stopped
+abbrev pub is_stopped : Ended → Bool
+is_stopped Done = false
+is_stopped Held = false
+is_stopped Stopped = true
 
--- a thread that promises the result of a worker with this seat and this script, or that result itself where no thread was started
-abbrev pub IsJob : Config → Standing Config Entry → List Call → Job → Type 0
-IsJob c s script (Started handle) =
-    (handle.promise.shared.value.config ≡ c) × (handle.promise.seat.value ≡ s) × (handle.promise.script.value.items ≡ script)
-IsJob c s script (Refused w) = IsResultOf c s script w
+-- the first that was held, with one worker more, which has this number
+abbrev pub held_then : Option ℕ → ℕ → Ended → Option ℕ
+held_then held number Done = held
+held_then None number Held = Some number
+held_then (Some first) number Held = Some first
+held_then held number Stopped = held
 
--- what a job gives back
-abbrev pub GivesBack : Job → Worked → Type 0
-GivesBack (Started handle) w = IsResultOf handle.promise.shared.value.config handle.promise.seat.value handle.promise.script.value.items w
-GivesBack (Refused worked) w = w ≡ worked
+module _ {G : Type 0} (passes holds : G → ℕ → ℕ → Type 0) where
+  -- what a job gives back: what its thread promised, or what it gave back itself
+  abbrev pub GivesBack : Job G → Worked → Type 0
+  GivesBack (Started handle) w =
+      let given = handle.promise in
+      HasWorked (passes given.gate.value) (holds given.gate.value) given.config.value given.seat.value
+      given.script.value.items w.seat w.unrecorded w.ended
+  GivesBack (Refused worked) w = w ≡ worked
+
+  module _ (c : Config) (gate : G) where
+    -- a thread that promises what a worker with this seat and this script makes, or, where no thread was started, what
+    -- the worker made until it was stopped
+    abbrev pub IsJob : Standing Config Entry → List Call → Job G → Type 0
+    IsJob s script (Started handle) =
+        let given = handle.promise in
+        (given.config.value ≡ c) × (given.gate.value ≡ gate) × (given.seat.value ≡ s)
+        × (given.script.value.items ≡ script)
+    IsJob s script (Refused w) =
+        HasWorked (passes gate) (holds gate) c s script w.seat w.unrecorded w.ended × (is_stopped w.ended ≡ true)
 
 -- the fact holds of the members at each place, and the three lists are equally long
 abbrev pub EachOf : {X : Type 0} → (Standing Config Entry → List Call → X → Type 0)
@@ -43,19 +66,47 @@ calls_each scripts = map (λ v. v.items) scripts
 
 -- how many calls of all workers were not recorded
 abbrev pub unrecorded_by : List Worked → ℕ
-unrecorded_by done = sum (map (λ w. w.unrecorded) done)
+unrecorded_by done = sum_by (λ w. w.unrecorded) done
 
--- the first that was held, of workers of which the first has this number
-abbrev pub first_held : ℕ → List Worked → Option ℕ
-first_held number [] = None
-first_held number (w ∷ ws) = if w.held then Some number else first_held (number + 1) ws
+-- the first that was held, of workers of which the first has this number, after one that was held, if any
+abbrev pub held_by : Option ℕ → ℕ → List Worked → Option ℕ
+held_by held number [] = held
+held_by held number (w ∷ ws) = held_by (held_then held number w.ended) (number + 1) ws
 
--- there is a script for each of these seats, which are of the lock, and room for as many threads and for what they give back
-pub record IsReady (lock : Lock Config Entry) (seats : Vec (Standing Config Entry)) (scripts : Vec (Vec Call)) (jobs : Vec Job)
-    (done : Vec Worked) : Type 0 where
+-- whether any was stopped
+abbrev pub any_stopped : List Worked → Bool
+any_stopped [] = false
+any_stopped (w ∷ ws) = is_stopped w.ended || any_stopped ws
+
+-- what these workers gave back, put together
+pub record GathersAll (done : List Worked) (g : Gathered) : Type 0 where
+  pub seats_are : g.seats.items ≡ map (λ w. w.seat) done
+  pub unrecorded_is : g.unrecorded ≡ unrecorded_by done
+  pub held_is : g.held ≡ held_by None 0 done
+  pub stopped_is : g.stopped ≡ any_stopped done
+
+-- what these jobs gave back, of which the first worker's is the last, put together
+pub record Gathers {G : Type 0} (passes holds : G → ℕ → ℕ → Type 0) (jobs : List (Job G)) (g : Gathered) : Type 0
+  where
+    pub done : List Worked
+    pub gave : AllZip (GivesBack passes holds) (reverse jobs) done
+    pub all : GathersAll done g
+
+-- a worker with each of these seats made calls of the script at the same place, put together
+pub record IsGathered (passes holds : ℕ → ℕ → Type 0) (c : Config) (seats : List (Standing Config Entry))
+    (scripts : List (List Call)) (g : Gathered) : Type 0 where
+  pub done : List Worked
+  pub each : EachOf (λ s script w. HasWorked passes holds c s script w.seat w.unrecorded w.ended) seats scripts done
+  pub all : GathersAll done g
+
+-- there is a script for each of these seats, which are of the lock and no more than a storm has, and room for as many
+-- threads and for the seats that come back
+pub record AreJobsReady {G : Type 0} (lock : Lock Config Entry) (seats : Vec (Standing Config Entry))
+    (scripts : Vec (Vec Call)) (jobs : Vec (Job G)) (row : Vec (Standing Config Entry)) : Type 0 where
   pub own : Every (λ s. s.lock ≡ lock) seats.items
   pub each : vec_len seats ≡ vec_len scripts
+  pub few : vec_len seats ≤ MAX_SCRIPTS
   pub jobs_empty : jobs.items ≡ []
   pub jobs_room : vec_len seats ≤ vec_capacity jobs
-  pub done_empty : done.items ≡ []
-  pub done_room : vec_len seats ≤ vec_capacity done
+  pub row_empty : row.items ≡ []
+  pub row_room : vec_len seats ≤ vec_capacity row

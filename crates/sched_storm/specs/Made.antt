@@ -1,5 +1,7 @@
--- The calls that a worker of a storm made, and the lists that its seat found when it entered the lock with them: the lists entered.
-use Rattle.std.specs.Prelude.{◌≡◌, ◌⊎◌, ◌≤◌, ◌++◌, ℕ, Bool, not, List, [], ◌∷◌, length, map, filter, Option, is_some, IfSome, IfNone}
+-- The calls that a worker of a storm made, and the lists that its seat found when it entered the lock with them: the
+-- lists entered.
+use Rattle.std.specs.Prelude.{◌≡◌, ◌⊎◌, ◌≤◌, ◌++◌, ℕ, Bool, not, List, [], ◌∷◌, length, map, filter, Option, is_some}
+use Rattle.std.specs.Prelude.{IfSome, IfNone}
 use Rattle.std.specs.Option.{option_to_list}
 use mathlib.Core.List.{IsPrefix}
 use Rattle.minislots.specs.declared.config.Config.{Config}
@@ -38,7 +40,8 @@ left_out_count made = length (filter (λ m. not (is_recorded m)) made)
 abbrev pub calls_in : List Entry → List Call
 calls_in h = map (λ e. e.call) h
 
--- why a call may be left out: the list entered is full, or no refusal meets the call after that list, and it takes memory
+-- why a call may be left out: the list entered is full, or no refusal meets the call after that list, and it takes
+-- memory
 abbrev pub MayBeLeftOut : Config → MadeCall → Type 0
 MayBeLeftOut c m = (c.calls ≤ length m.entered) ⊎ MayLackMemory c m.entered m.call
 
@@ -55,7 +58,8 @@ pub record IsMadeAfter (c : Config) (number : ℕ) (from : List Entry) (m : Made
   pub adds : IfSome m.added (λ e. (e.stamp.seat ≡ number) × (e.call ≡ m.call))
   pub leaves_out : IfNone m.added (MayBeLeftOut c m)
 
--- the seat with this number, which had seen the first list, made these calls one after the other, and no others up to the last list
+-- the seat with this number, which had seen the first list, made these calls one after the other, and no others that
+-- were recorded up to the last list
 abbrev pub Leads : Config → ℕ → List Entry → List MadeCall → List Entry → Type 0
 Leads c number from [] h = GrowsByOthers number from h
 Leads c number from (m ∷ ms) h = IsMadeAfter c number from m × Leads c number (list_left m) ms h

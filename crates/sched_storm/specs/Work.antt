@@ -1,16 +1,20 @@
 -- What one worker of a storm makes of its script with the seat that it is given.
-use Rattle.std.specs.Prelude.{◌≡◌, ℕ, Bool, List, [], ◌∷◌, length, nat_lt}
+use Rattle.std.specs.Prelude.{◌≡◌, ◌<◌, ◌+◌, ℕ, Bool, List, [], ◌∷◌, length}
 use mathlib.Core.List.{IsPrefix}
 use Rattle.minislots.specs.declared.config.Config.{Config}
 use Rattle.sched_history.specs.declared.call.Call.{Call}
 use Rattle.sched_history.specs.declared.reply.Entry.{Entry}
 use Rattle.ticket_lock.specs.Standing.{Standing, seen}
+use Rattle.sched_storm.specs.declared.worker.Ended.{Ended}
+use Rattle.sched_storm.specs.declared.worker.Ended.TheVariants.{Done, Held, Stopped}
 use Rattle.sched_storm.specs.Made.{MadeCall, is_recorded, calls_made, left_out_count, Leads}
 
--- by making these calls, and no others in between, a seat came from the first standing to the second
+-- by making these calls, and no others in between, a seat came from the first standing to the second: each call, also
+-- one that was not recorded, is a turn that it ended
 pub record Makes (c : Config) (s w : Standing Config Entry) (made : List MadeCall) : Type 0 where
   pub lock_is : w.lock ≡ s.lock
   pub number_is : w.number ≡ s.number
+  pub turns_is : w.turns ≡ s.turns + length made
   pub leads : Leads c s.number (seen s) made (seen w)
 
 -- by making this call, which was recorded or not, a seat came from the first standing to the second
@@ -20,11 +24,27 @@ pub record MakesOne (c : Config) (s w : Standing Config Entry) (call : Call) (re
   pub recorded_is : is_recorded made ≡ recorded
   pub makes : Makes c s w (made ∷ [])
 
--- a worker with this seat made calls of its script, so many of which were not recorded, and was held or made all of them
-pub record HasWorked (c : Config) (s : Standing Config Entry) (script : List Call) (w : Standing Config Entry) (unrecorded : ℕ)
-    (held : Bool) : Type 0 where
+-- what hinders a worker from its next call: its gate, which holds it, or a stop of the storm
+abbrev pub Hinders : Type 0 → Ended → Type 0
+Hinders held Done = ⊥
+Hinders held Held = held
+Hinders held Stopped = Unit {0}
+
+-- how a worker ended that made so many calls of a script of this length: it made all, or it was hindered
+abbrev pub EndsSo : Type 0 → ℕ → ℕ → Ended → Type 0
+EndsSo held made calls Done = made ≡ calls
+EndsSo held made calls Held = (made < calls) × held
+EndsSo held made calls Stopped = Unit {0}
+
+-- the worker with this seat made calls of its script under a gate of which this is so where it lets a worker pass to
+-- the call at a place, and this where it does not
+pub record HasWorked (passes holds : ℕ → ℕ → Type 0) (c : Config) (s : Standing Config Entry) (script : List Call)
+    (w : Standing Config Entry) (unrecorded : ℕ) (ended : Ended) : Type 0 where
   pub made : List MadeCall
   pub makes : Makes c s w made
   pub front : IsPrefix (calls_made made) script
+  -- so many of them were not recorded
   pub unrecorded_is : unrecorded ≡ left_out_count made
-  pub held_is : held ≡ nat_lt (length made) (length script)
+  -- the gate let it pass before each, and it ended so
+  pub passed : (place : ℕ) → place < length made → passes s.number place
+  pub ends : EndsSo (holds s.number (length made)) (length made) (length script) ended

@@ -1,44 +1,83 @@
 //! What the workers of a storm gave back, put together.
 
-ghost use Rattle.std.specs.Prelude.{◌≡◌, ◌≤◌, ◌<◌, ◌^◌, [], map, reverse, vec_len, vec_capacity};
-ghost use Rattle.ticket_lock.specs.Rule.{Every};
-ghost use Rattle.sched_storm.specs.Jobs.{unrecorded_by, first_held};
+ghost use Rattle.std.specs.Prelude.{◌≡◌, ◌≤◌, ◌<◌, ◌+◌, ◌^◌, ◌++◌, ◌∷◌, ◌||◌, [], length, vec_len, vec_capacity};
+ghost use Rattle.sched_history.specs.declared.call.TheConstants.{MAX_SCRIPTS};
+ghost use Rattle.sched_storm.specs.Jobs.{GivesBack, Gathers, is_stopped, held_then};
 
-use crate::worker::Worked;
+use crate::gate::Gate;
+use crate::jobs::Job;
+use crate::worker::{Ended, Worked};
 use shared_sched::Desk;
+use std::thread::Threads;
 use ticket_lock::Seat;
 
-/// The seats of all workers, and what they count together.
+/// The seats of all workers, in their order, and what they count together.
 pub struct Gathered {
     pub seats: Vec<Seat<Desk>>,
     pub unrecorded: u64,
+    /// The first worker that its gate held, if any.
     pub held: Option<usize>,
+    /// Whether a worker was stopped.
+    pub stopped: bool,
 }
 
-/// Puts together what the workers gave back. They are in the order of their numbers, and their seats come the
-/// last first.
-pub fn gather(done: Vec<Worked>, seats: Vec<Seat<Desk>>) -> Gathered
-    requires empty { seats.items ≡ [] }
-    requires room { vec_len done ≤ vec_capacity seats }
-    requires workers { vec_len done ≤ 16 }
-    requires few { Every (λ w. w.unrecorded < 2 ^ 59) done.items }
-    ensures seats { result.seats.items ≡ reverse (map (λ w. w.seat) done.items) }
-    ensures unrecorded { result.unrecorded ≡ unrecorded_by done.items }
-    ensures held { result.held ≡ first_held 0 done.items }
+// Puts what one more worker gave back to what those before it did.
+fn add(gathered: Gathered, worked: Worked) -> Gathered
+    requires room { vec_len gathered.seats < vec_capacity gathered.seats }
+    requires few { gathered.unrecorded + worked.unrecorded < 2 ^ 64 }
+    ensures seats { result.seats.items ≡ gathered.seats.items ++ worked.seat ∷ [] }
+    ensures len { vec_len result.seats ≡ vec_len gathered.seats + 1 }
+    ensures room { vec_capacity result.seats ≡ vec_capacity gathered.seats }
+    ensures unrecorded { result.unrecorded ≡ gathered.unrecorded + worked.unrecorded }
+    ensures held { result.held ≡ held_then gathered.held (length gathered.seats.items) worked.ended }
+    ensures stopped { result.stopped ≡ (gathered.stopped || is_stopped worked.ended) }
 {
-    let (mut done, mut seats) = (done, seats);
-    let mut unrecorded = 0;
-    let mut held = None;
-    while let Some(worked) = done.pop() {
-        if worked.held {
-            held = Some(done.len());
-        }
-        unrecorded += worked.unrecorded;
-        seats.push_reserved(worked.seat);
+    let Gathered {
+        mut seats,
+        unrecorded,
+        mut held,
+        mut stopped,
+    } = gathered;
+    match worked.ended {
+        Ended::Done => {}
+        Ended::Held => held = held.or(Some(seats.len())),
+        Ended::Stopped => stopped = true,
     }
+    seats.push_reserved(worked.seat);
     Gathered {
         seats,
-        unrecorded,
+        unrecorded: unrecorded + worked.unrecorded,
         held,
+        stopped,
     }
+}
+
+// Waits until a worker has ended.
+fn join<G: Gate>(rt: &impl Threads, job: Job<G>) -> Worked
+    ensures { GivesBack G.lets_pass G.holds_back job result }
+{
+    match job {
+        Job::Started(handle) => handle.join(rt),
+        Job::Refused(worked) => worked,
+    }
+}
+
+/// Waits until all workers have ended, the last of the jobs first, and puts together what they gave back.
+pub fn gather<G: Gate>(rt: &impl Threads, jobs: Vec<Job<G>>, row: Vec<Seat<Desk>>) -> Gathered
+    requires empty { row.items ≡ [] }
+    requires room { vec_len jobs ≤ vec_capacity row }
+    requires few { vec_len jobs ≤ MAX_SCRIPTS }
+    ensures gathers { Gathers G.lets_pass G.holds_back jobs.items result }
+{
+    let mut jobs = jobs;
+    let mut gathered = Gathered {
+        seats: row,
+        unrecorded: 0,
+        held: None,
+        stopped: false,
+    };
+    while let Some(job) = jobs.pop() {
+        gathered = add(gathered, join(rt, job));
+    }
+    gathered
 }

@@ -36,7 +36,7 @@ pub enum StormFault {
     Memory,
 }
 
-/// How many MAPs an entry has.
+// How many MAPs an entry has.
 fn count_map(entry: &Entry) -> u64
     ensures { result ≡ length (maps_of (entry.now ∷ [])) }
 {

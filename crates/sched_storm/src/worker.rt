@@ -1,7 +1,7 @@
 //! One worker of a storm: the calls that it makes by its seat.
 
-ghost use Rattle.std.specs.Prelude.{◌≡◌, ◌<◌, ◌^◌, length};
-ghost use Rattle.sched_storm.specs.Work.{MakesOne, HasWorked};
+ghost use Rattle.std.specs.Prelude.{◌≡◌, ◌<◌, ◌^◌, length, MatchOption};
+ghost use Rattle.sched_storm.specs.Work.{Hinders, MakesOne, HasWorked};
 
 use crate::gate::Gate;
 use sched_history::Call;
@@ -15,6 +15,17 @@ use ticket_lock::Seat;
 /// How often a worker asks its gate before a call, and yields, until it gives up.
 pub const MAX_TURNS: u32 = 1_000_000;
 
+/// How a worker ended.
+#[derive(Clone, Copy)]
+pub enum Ended {
+    /// It made all calls of its script.
+    Done,
+    /// Its gate held it.
+    Held,
+    /// The storm was stopped: a thread was not started.
+    Stopped,
+}
+
 /// What a worker gives back.
 #[derive(Drop)]
 pub struct Worked {
@@ -22,26 +33,28 @@ pub struct Worked {
     pub seat: Seat<Desk>,
     /// How many of its calls were not recorded.
     pub unrecorded: u64,
-    /// Whether it made fewer calls than its script has.
-    pub held: bool,
+    pub ended: Ended,
+    ghost few: { unrecorded < 2 ^ 59 },
 }
 
-/// Whether the worker may make its call at this place. The gate may hold it, and so does the stop of a
-/// storm in which a thread was not started.
-fn passes(gate: &impl Gate, stop: &AtomicBool, worker: usize, index: usize) -> bool {
-    for _ in 0..MAX_TURNS {
+// Why the worker may not make its call at this place, or none where its gate lets it pass.
+fn hindrance<G: Gate>(gate: &G, stop: &AtomicBool, worker: usize, index: usize) -> Option<Ended>
+    ensures { MatchOption result (G.lets_pass gate.now worker index)
+        (Hinders (G.holds_back gate.now worker index)) }
+{
+    for _asked in 0..MAX_TURNS {
         if stop.load(SeqCst) {
-            return false;
+            return Some(Ended::Stopped);
         }
         if gate.pass(worker, index) {
-            return true;
+            return None;
         }
         yield_now();
     }
-    false
+    Some(Ended::Held)
 }
 
-/// Makes a call by this seat, and tells whether it was recorded.
+// Makes a call by this seat, and tells whether it was recorded.
 fn make_call(rt: &impl Wait, shared: &Shared, seat: Seat<Desk>, call: Call) -> (Seat<Desk>, bool)
     requires own { seat.lock ≡ shared.now.lock }
     ensures makes { MakesOne shared.now.config seat result.0 call result.1 }
@@ -50,7 +63,7 @@ fn make_call(rt: &impl Wait, shared: &Shared, seat: Seat<Desk>, call: Call) -> (
     (seat, answer.is_ok())
 }
 
-/// How many calls a script has.
+// How many calls a script has.
 fn count_calls(script: &[Call]) -> usize
     ensures value { result ≡ length script.now }
     ensures few { result < 2 ^ 59 }
@@ -59,24 +72,31 @@ fn count_calls(script: &[Call]) -> usize
 }
 
 /// Makes the calls of a script in order, as far as the gate lets them pass.
-pub fn work(
+pub fn work<G: Gate>(
     rt: &impl Wait,
     shared: &Shared,
-    gate: &impl Gate,
+    gate: &G,
     stop: &AtomicBool,
     seat: Seat<Desk>,
     script: &[Call],
 ) -> Worked
     requires own { seat.lock ≡ shared.now.lock }
-    ensures worked { HasWorked shared.now.config seat script.now result.seat result.unrecorded result.held }
-    ensures few { result.unrecorded < 2 ^ 59 }
+    ensures worked { HasWorked (G.lets_pass gate.now) (G.holds_back gate.now) shared.now.config seat script.now
+        result.seat result.unrecorded result.ended }
 {
     let worker = seat.number() as usize;
     let calls = count_calls(script);
     let mut seat = seat;
     let mut made = 0;
     let mut unrecorded = 0;
-    while made < calls && passes(gate, stop, worker, made) {
+    while made < calls {
+        if let Some(ended) = hindrance(gate, stop, worker, made) {
+            return Worked {
+                seat,
+                unrecorded,
+                ended,
+            };
+        }
         let (next, is_recorded) = make_call(rt, shared, seat, script[made]);
         seat = next;
         if !is_recorded {
@@ -88,6 +108,6 @@ pub fn work(
     Worked {
         seat,
         unrecorded,
-        held: made < calls,
+        ended: Ended::Done,
     }
 }

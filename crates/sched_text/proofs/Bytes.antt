@@ -1,16 +1,18 @@
 -- Bytes that are read one piece after the other, and the value that they are the text of.
-use Rattle.std.proofs.Common.{◌≡◌, ℕ, Bool, true, false, cond, List, [], ◌++◌, Option, Some, None, Ok, Err, refl, sym, ap, ◌∙◌, append_assoc}
+use Rattle.std.proofs.Common.{◌≡◌, ℕ, Bool, true, false, cond, List, [], ◌++◌, Option, Some, None, Ok, Err, refl, sym}
+use Rattle.std.proofs.Common.{ap, ◌∙◌, append_assoc}
 use Rattle.std.specs.Prelude.{IsUtf8, ok_or}
 use Rattle.std.specs.Str.{is_utf8}
 use Rattle.std.proofs.lemmas.Str.{is_utf8-from_IsUtf8, IsUtf8-from_is_utf8}
 use Rattle.std.specs.Io.KnownBytes.{Consumes}
 use Rattle.serde_json.specs.Data.{Data}
 use Rattle.serde_json.specs.Read.{read}
-use Rattle.sched_text.specs.declared.fault.RunFault.TheVariants.{NotJson}
+use Rattle.sched_text.specs.declared.fault.TextFault.TheVariants.{NotJson}
 use Rattle.sched_text.specs.Input.{value_of}
 
 -- bytes are consumed, and then more bytes
-pub Consumes-append : (a b c : Option (List ℕ)) (xs ys : List ℕ) → Consumes a b xs → Consumes b c ys → Consumes a c (xs ++ ys)
+pub Consumes-append : (a b c : Option (List ℕ)) (xs ys : List ℕ) → Consumes a b xs → Consumes b c ys
+    → Consumes a c (xs ++ ys)
 Consumes-append None b c xs ys p q = tt
 Consumes-append (Some a) None c xs ys p q = absurd p
 Consumes-append (Some a) (Some b) None xs ys p q = absurd q
@@ -26,7 +28,8 @@ pub value_of-Ok : (bytes : List ℕ) (d : Data) → IsUtf8 bytes → read bytes 
 unfolding value_of
 value_of-Ok bytes d utf8 reads = rw (is_utf8-from_IsUtf8 bytes utf8) (rw reads refl)
 
-not_json : (utf8 : Bool) (read : Option Data) → (utf8 ≡ true → read ≡ None) → cond utf8 (ok_or read NotJson) (Err NotJson) ≡ Err NotJson
+not_json : (utf8 : Bool) (read : Option Data) → (utf8 ≡ true → read ≡ None)
+    → cond utf8 (ok_or read NotJson) (Err NotJson) ≡ Err NotJson
 not_json true read none = rw (none refl) refl
 not_json false read none = refl
 

@@ -11,10 +11,12 @@ use Rattle.map_build.specs.declared.frame_map.FrameMap.{FrameMap}
 use Rattle.sched_history.specs.declared.call.Call.{Call}
 use Rattle.sched_history.specs.declared.call.Call.TheVariants.{Admit, Remove, Ask, Heard, Build, Skip, Status, Newest}
 use Rattle.sched_history.specs.declared.reply.Reply.{Reply}
-use Rattle.sched_history.specs.declared.reply.Reply.TheVariants.{Admitted, Removed, Taken, Noted, Built, Skipped, Flow, Latest, Refused}
+use Rattle.sched_history.specs.declared.reply.Reply.TheVariants.{Admitted, Removed, Taken, Noted, Built, Skipped, Flow}
+use Rattle.sched_history.specs.declared.reply.Reply.TheVariants.{Latest, Refused}
 use Rattle.sched_history.specs.declared.reply.Entry.{Entry}
-use Rattle.sched_text.specs.Json.{count, counts, flow_data, call_data, plain_data, placed_data, map_data, refused_data, reply_data}
-use Rattle.sched_text.specs.HistoryText.{first_fields, second_fields, third_fields, last_fields, config_data, entry_data, entries_data, history_data}
+use Rattle.sched_text.specs.Json.{count, counts, flow_data, call_data, plain_data, placed_data, map_data, refused_data}
+use Rattle.sched_text.specs.Json.{reply_data}
+use Rattle.sched_text.specs.HistoryText.{config_data, entry_data, entries_data, history_data}
 use Rattle.sched_text.specs.Line.{refusal_number, refusal_value}
 
 -- two tests that fail
@@ -23,9 +25,11 @@ both_fail true b first second = absurd (true≢false first)
 both_fail false b first second = second
 
 -- items without a fraction
-items-whole : {X : Type 0} (f : X → Data) (xs : List X) → ((x : X) → has_float (f x) ≡ false) → items_have_float (items_of (map f xs)) ≡ false
+items-whole : {X : Type 0} (f : X → Data) (xs : List X) → ((x : X) → has_float (f x) ≡ false)
+    → items_have_float (items_of (map f xs)) ≡ false
 items-whole f [] each = refl
-items-whole f (x ∷ xs) each = both_fail (has_float (f x)) (items_have_float (items_of (map f xs))) (each x) (items-whole f xs each)
+items-whole f (x ∷ xs) each = both_fail (has_float (f x)) (items_have_float (items_of (map f xs))) (each x)
+    (items-whole f xs each)
 
 counts-whole : (ns : List ℕ) → has_float (counts ns) ≡ false
 unfolding counts
@@ -80,7 +84,7 @@ unfolding entry_data
 entry-whole e = rw (call-whole e.call, reply-whole e.reply) refl
 
 config-whole : (c : Config) → has_float (config_data c) ≡ false
-unfolding config_data first_fields second_fields third_fields last_fields
+unfolding config_data
 config-whole c = refl
 
 -- a history has no fraction

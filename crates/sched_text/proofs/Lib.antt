@@ -2,9 +2,12 @@ pub mod Bytes
 pub mod Calls
 pub mod Fields
 pub mod HistoryText
+pub mod Items
 pub mod Outcome
+pub mod RowsFaults
 pub mod RowsHistory
 pub mod RowsLines
+pub mod Told
 pub mod Written
 pub mod Profile
 pub mod StormCalls

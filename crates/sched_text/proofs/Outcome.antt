@@ -1,5 +1,6 @@
 -- Which faults a text can have, and what is known once all bytes of a reader were read.
-use Rattle.std.proofs.Common.{◌≡◌, ℕ, ◌+◌, ◌≤◌, Bool, true, false, cond, List, ◌∷◌, length, Option, Some, None, Result, Ok, Err, refl, subst, ◌∙◌}
+use Rattle.std.proofs.Common.{◌≡◌, ℕ, ◌+◌, ◌≤◌, Bool, true, false, cond, List, ◌∷◌, length, Option, Some, None, Result}
+use Rattle.std.proofs.Common.{Ok, Err, refl, subst, ◌∙◌}
 use Rattle.std.specs.Prelude.{◌≢◌, IfOk, IfErr, ok_or, option_and_then, codes}
 use Rattle.std.specs.Str.{is_utf8}
 use Rattle.std.proofs.lemmas.Bool.{le-ltb}
@@ -10,8 +11,9 @@ use Rattle.minislots.specs.declared.config.Config.{Config as Configuration}
 use Rattle.minislots.specs.declared.config.ConfigFault.{ConfigFault}
 use Rattle.minislots.specs.Config.{first_wrong}
 use Rattle.sched_text.specs.declared.input.TheConstants.{MAX_INPUT}
-use Rattle.sched_text.specs.declared.fault.RunFault.{RunFault}
-use Rattle.sched_text.specs.declared.fault.RunFault.TheVariants.{Input, TooLong, NotJson, Shape, Config, Memory, Output, Threads}
+use Rattle.sched_text.specs.declared.fault.TextFault.{TextFault}
+use Rattle.sched_text.specs.declared.fault.TextFault.TheVariants.{Input, TooLong, NotJson, Shape, Config, Memory}
+use Rattle.sched_text.specs.declared.fault.TextFault.TheVariants.{Output}
 use Rattle.sched_text.specs.Fields.{config_of}
 use Rattle.sched_text.specs.Calls.{call_of}
 use Rattle.sched_text.specs.Script.{◌>>=◌, Gives, Scenario, calls_of, script_of}
@@ -19,7 +21,7 @@ use Rattle.sched_text.specs.Input.{value_of, ReadsAll}
 use Rattle.sched_text.specs.Outcome.{unless_wrong, text_outcome, outcome_of, StandsFor, HasFault, StopsScript}
 
 -- a fault that stands in the text
-abbrev pub IsOfText : RunFault → Type 0
+abbrev pub IsOfText : TextFault → Type 0
 IsOfText Input = ⊥
 IsOfText TooLong = ⊥
 IsOfText NotJson = Unit {0}
@@ -27,23 +29,25 @@ IsOfText (Shape n) = Unit {0}
 IsOfText (Config field) = Unit {0}
 IsOfText Memory = ⊥
 IsOfText Output = ⊥
-IsOfText Threads = ⊥
 
-pub faults-bind : {A B : Type 0} (r : Result A RunFault) (f : A → Result B RunFault) → IfErr r IsOfText → ((x : A) → IfErr (f x) IsOfText) → IfErr (r >>= f) IsOfText
+pub faults-bind : {A B : Type 0} (r : Result A TextFault) (f : A → Result B TextFault) → IfErr r IsOfText
+    → ((x : A) → IfErr (f x) IsOfText) → IfErr (r >>= f) IsOfText
 faults-bind (Ok x) f first next = next x
 faults-bind (Err fault) f first next = first
 
-pub faults-ok_or : {A : Type 0} (o : Option A) (fault : RunFault) → IsOfText fault → IfErr (ok_or o fault) IsOfText
+pub faults-ok_or : {A : Type 0} (o : Option A) (fault : TextFault) → IsOfText fault → IfErr (ok_or o fault) IsOfText
 faults-ok_or (Some x) fault is = tt
 faults-ok_or None fault is = is
 
-pub faults-cond : {A : Type 0} (b : Bool) (r : Result A RunFault) (fault : RunFault) → IfErr r IsOfText → IsOfText fault → IfErr (cond b r (Err fault)) IsOfText
+pub faults-cond : {A : Type 0} (b : Bool) (r : Result A TextFault) (fault : TextFault) → IfErr r IsOfText
+    → IsOfText fault → IfErr (cond b r (Err fault)) IsOfText
 faults-cond true r fault first is = first
 faults-cond false r fault first is = is
 
 pub faults-value_of : (bytes : List ℕ) → IfErr (value_of bytes) IsOfText
 unfolding value_of
-faults-value_of bytes = faults-cond (is_utf8 bytes) (ok_or (read bytes) NotJson) NotJson (faults-ok_or (read bytes) NotJson tt) tt
+faults-value_of bytes = faults-cond (is_utf8 bytes) (ok_or (read bytes) NotJson) NotJson
+    (faults-ok_or (read bytes) NotJson tt) tt
 
 pub faults-calls_of : (n : ℕ) (ds : Items) → IfErr (calls_of n ds) IsOfText
 unfolding calls_of
@@ -53,21 +57,25 @@ faults-calls_of n (item d ds) =
     (faults-ok_or (call_of d) (Shape n) tt)
     (λ call. faults-bind (calls_of (n + 1) ds) (λ calls. Ok (call ∷ calls)) (faults-calls_of (n + 1) ds) (λ calls. tt))
 
-abbrev with_calls : Configuration → Items → Result Scenario RunFault
+abbrev with_calls : Configuration → Items → Result Scenario TextFault
 with_calls config items = calls_of 1 items >>= (λ calls. Ok (record { config = config; calls = calls }))
 
-abbrev with_config : Data → Configuration → Result Scenario RunFault
+abbrev with_config : Data → Configuration → Result Scenario TextFault
 with_config d config = ok_or (option_and_then as_array (get (codes "calls") d)) (Shape 0) >>= with_calls config
 
 faults-script_of : (d : Data) → IfErr (script_of d) IsOfText
 unfolding script_of
 faults-script_of d =
-    faults-bind (ok_or (option_and_then config_of (get (codes "config") d)) (Shape 0)) (with_config d) (faults-ok_or (option_and_then config_of (get (codes "config") d)) (Shape 0) tt) (λ config.
-    faults-bind (ok_or (option_and_then as_array (get (codes "calls") d)) (Shape 0)) (with_calls config) (faults-ok_or (option_and_then as_array (get (codes "calls") d)) (Shape 0) tt) (λ items.
-    faults-bind (calls_of 1 items) (λ calls. Ok (record { config = config; calls = calls })) (faults-calls_of 1 items) (λ calls. tt)))
+    faults-bind (ok_or (option_and_then config_of (get (codes "config") d)) (Shape 0)) (with_config d)
+    (faults-ok_or (option_and_then config_of (get (codes "config") d)) (Shape 0) tt) (λ config.
+    faults-bind (ok_or (option_and_then as_array (get (codes "calls") d)) (Shape 0)) (with_calls config)
+    (faults-ok_or (option_and_then as_array (get (codes "calls") d)) (Shape 0) tt) (λ items.
+    faults-bind (calls_of 1 items) (λ calls. Ok (record { config = config; calls = calls })) (faults-calls_of 1 items)
+    (λ calls. tt)))
 
 -- a wrong field of a configuration is a fault of the text
-pub faults-unless_wrong : {A : Type 0} (wrong : Option ConfigFault) (read : A) → IfErr (unless_wrong wrong read) IsOfText
+pub faults-unless_wrong : {A : Type 0} (wrong : Option ConfigFault) (read : A)
+    → IfErr (unless_wrong wrong read) IsOfText
 faults-unless_wrong None read = tt
 faults-unless_wrong (Some field) read = tt
 
@@ -75,8 +83,10 @@ faults-unless_wrong (Some field) read = tt
 pub faults-text_outcome : (bytes : List ℕ) → IfErr (text_outcome bytes) IsOfText
 unfolding text_outcome
 faults-text_outcome bytes =
-    faults-bind (value_of bytes) (λ d. script_of d >>= (λ scenario. unless_wrong (first_wrong scenario.config) scenario)) (faults-value_of bytes) (λ d.
-    faults-bind (script_of d) (λ scenario. unless_wrong (first_wrong scenario.config) scenario) (faults-script_of d) (λ scenario.
+    faults-bind (value_of bytes) (λ d. script_of d >>= (λ scenario. unless_wrong
+    (first_wrong scenario.config) scenario)) (faults-value_of bytes) (λ d.
+    faults-bind (script_of d) (λ scenario. unless_wrong (first_wrong scenario.config) scenario) (faults-script_of d)
+    (λ scenario.
     faults-unless_wrong (first_wrong scenario.config) scenario))
 
 -- of bytes that are not too many, what the text stands for decides
@@ -86,17 +96,19 @@ outcome_of-short bytes short = rw (le-ltb MAX_INPUT (length bytes) short) refl
 
 module _ {X : Type 0} (view : X → Scenario) (old new : Option (List ℕ)) (bytes : List ℕ) where
   -- what was made of all bytes is what they stand for
-  pub stands_for : (result : Result X RunFault) → ReadsAll old new bytes → Gives view result (text_outcome bytes) → IfOk result (λ x. StandsFor old new (view x))
+  pub stands_for : (result : Result X TextFault) → ReadsAll old new bytes → Gives view result (text_outcome bytes)
+      → IfOk result (λ x. StandsFor old new (view x))
   stands_for (Ok x) all exact = record { bytes = bytes; all = all; outcome = outcome_of-short bytes all.short ∙ exact }
   stands_for (Err fault) all exact = tt
 
-  of_text : (fault : RunFault) → text_outcome bytes ≡ Err fault → IsOfText fault
-  of_text fault e = subst (λ (r : Result Scenario RunFault). IfErr r IsOfText) e (faults-text_outcome bytes)
+  of_text : (fault : TextFault) → text_outcome bytes ≡ Err fault → IsOfText fault
+  of_text fault e = subst (λ (r : Result Scenario TextFault). IfErr r IsOfText) e (faults-text_outcome bytes)
 
-  has_fault : (fault : RunFault) → ReadsAll old new bytes → text_outcome bytes ≡ Err fault → HasFault old new fault
+  has_fault : (fault : TextFault) → ReadsAll old new bytes → text_outcome bytes ≡ Err fault → HasFault old new fault
   has_fault fault all e = record { bytes = bytes; all = all; outcome = outcome_of-short bytes all.short ∙ e }
 
-  stops : (fault : RunFault) → ReadsAll old new bytes → (fault ≢ Memory → text_outcome bytes ≡ Err fault) → StopsScript old new fault
+  stops : (fault : TextFault) → ReadsAll old new bytes → (fault ≢ Memory → text_outcome bytes ≡ Err fault)
+      → StopsScript old new fault
   stops Input all exact = tt
   stops TooLong all exact = absurd (of_text TooLong (exact (λ e. cc)))
   stops NotJson all exact = has_fault NotJson all (exact (λ e. cc))
@@ -104,9 +116,9 @@ module _ {X : Type 0} (view : X → Scenario) (old new : Option (List ℕ)) (byt
   stops (Config field) all exact = has_fault (Config field) all (exact (λ e. cc))
   stops Memory all exact = tt
   stops Output all exact = of_text Output (exact (λ e. cc))
-  stops Threads all exact = of_text Threads (exact (λ e. cc))
 
   -- a fault in all bytes is the one that they have
-  pub stops_script : (result : Result X RunFault) → ReadsAll old new bytes → Gives view result (text_outcome bytes) → IfErr result (StopsScript old new)
+  pub stops_script : (result : Result X TextFault) → ReadsAll old new bytes → Gives view result (text_outcome bytes)
+      → IfErr result (StopsScript old new)
   stops_script (Ok x) all exact = tt
   stops_script (Err fault) all exact = stops fault all exact

@@ -1,12 +1,7 @@
 -- The program's limit in figures, which the definitions name by the constant of the code.
 use Rattle.std.proofs.Common.{◌≡◌, ℕ, refl}
 use Rattle.sched_text.specs.declared.input.TheConstants.{MAX_INPUT}
-use Rattle.sched_text.specs.declared.script.storms.TheConstants.{MAX_SCRIPTS}
 
 -- the bytes of the longest input
 pub longest_input : ◌≡◌ {A = ℕ} MAX_INPUT 16777216
 longest_input = refl
-
--- the scripts of the largest storm
-pub most_scripts : MAX_SCRIPTS ≡ 16
-most_scripts = refl

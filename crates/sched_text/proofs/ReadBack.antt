@@ -1,5 +1,5 @@
--- A history is written as a script is read: what stands there of a configuration, a flow or a call stands for it again, and each
--- configuration with its calls has a script.
+-- A history is written as a script is read: what stands there of a configuration, a flow or a call stands for it again,
+-- and each configuration with its calls has a script.
 use Rattle.std.proofs.Common.{◌≡◌, ℕ, ◌+◌, ◌<◌, ◌^◌, List, [], ◌∷◌, map, Some, Ok, refl}
 use Rattle.std.specs.Prelude.{codes}
 use Rattle.std.specs.List.{AllByRecursion}
@@ -11,11 +11,13 @@ use Rattle.flow_book.specs.declared.spec.FlowSpec.{FlowSpec}
 use Rattle.flow_book.specs.declared.spec.FlowSpec.TheVariants.{Unsolicited, Polled, BestEffort}
 use Rattle.sched_history.specs.declared.call.Call.{Call}
 use Rattle.sched_history.specs.declared.call.Call.TheVariants.{Admit, Remove, Ask, Heard, Build, Skip, Status, Newest}
-use Rattle.sched_text.specs.Fields.{below, number_at, u8_at, u16_at, u32_at, u64_at, text_at, config_of}
-use Rattle.sched_text.specs.Calls.{unsolicited_of, polled_of, best_effort_of, flow_of, admit_of, remove_of, ask_of, heard_of, build_of, skip_of, status_of, call_of}
+use Rattle.sched_text.specs.Fields.{below, number_at, u8_at, u16_at, u32_at, u64_at, text_at, slots_of, sizes_of}
+use Rattle.sched_text.specs.Fields.{counts_of, windows_of, config_of}
+use Rattle.sched_text.specs.Calls.{unsolicited_of, polled_of, best_effort_of, flow_of, admit_call, remove_call}
+use Rattle.sched_text.specs.Calls.{ask_call, heard_call, build_call, skip_call, status_call, call_of}
 use Rattle.sched_text.specs.Script.{calls_of, script_of}
 use Rattle.sched_text.specs.Json.{flow_data, call_data}
-use Rattle.sched_text.specs.HistoryText.{first_fields, second_fields, third_fields, last_fields, config_data}
+use Rattle.sched_text.specs.HistoryText.{config_data}
 
 -- a number that fits
 below-fits : (limit n : ℕ) → n < limit → below limit n ≡ Some n
@@ -24,7 +26,8 @@ below-fits limit n fits = rw (lt-ltb n limit fits) refl
 -- the numbers of a flow fit their types
 abbrev pub FlowFits : FlowSpec → Type 0
 FlowFits (Unsolicited size interval jitter) = (size < 2 ^ 32) × (interval < 2 ^ 32) × (jitter < 2 ^ 32)
-FlowFits (Polled interval jitter rate burst) = (interval < 2 ^ 32) × (jitter < 2 ^ 32) × (rate < 2 ^ 32) × (burst < 2 ^ 32)
+FlowFits (Polled interval jitter rate burst) = (interval < 2 ^ 32) × (jitter < 2 ^ 32) × (rate < 2 ^ 32)
+    × (burst < 2 ^ 32)
 FlowFits (BestEffort priority rate burst) = (priority < 2 ^ 8) × (rate < 2 ^ 32) × (burst < 2 ^ 32)
 
 -- the numbers of a call fit their types; a script has no question for the newest MAP
@@ -46,20 +49,23 @@ flow_of-data (Unsolicited size interval jitter) fits =
     rw (below-fits (2 ^ 32) interval fits.1) (rw (below-fits (2 ^ 32) jitter fits.2) refl))
 flow_of-data (Polled interval jitter rate burst) fits =
     rw (below-fits (2 ^ 32) interval fits.0) (
-    rw (below-fits (2 ^ 32) jitter fits.1) (rw (below-fits (2 ^ 32) rate fits.2) (rw (below-fits (2 ^ 32) burst fits.3) refl)))
+    rw (below-fits (2 ^ 32) jitter fits.1) (rw (below-fits (2 ^ 32) rate fits.2)
+    (rw (below-fits (2 ^ 32) burst fits.3) refl)))
 flow_of-data (BestEffort priority rate burst) fits =
     rw (below-fits (2 ^ 8) priority fits.0) (
     rw (below-fits (2 ^ 32) rate fits.1) (rw (below-fits (2 ^ 32) burst fits.2) refl))
 
 -- a call is read back
 pub call_of-data : (call : Call) → CallFits call → call_of (call_data call) ≡ Some call
-unfolding call_of admit_of remove_of ask_of heard_of build_of skip_of status_of u8_at u16_at u32_at u64_at number_at text_at call_data
+unfolding call_of admit_call remove_call ask_call heard_call build_call skip_call status_call u8_at u16_at u32_at u64_at
+    number_at text_at call_data
 call_of-data (Admit sid spec) fits = rw (below-fits (2 ^ 16) sid fits.0) (
     rw (flow_of-data spec fits.1) refl)
 call_of-data (Remove sid) fits = rw (below-fits (2 ^ 16) sid fits) refl
 call_of-data (Ask receiver sid bytes heard) fits =
     rw (below-fits (2 ^ 8) receiver fits.0) (
-    rw (below-fits (2 ^ 16) sid fits.1) (rw (below-fits (2 ^ 32) bytes fits.2) (rw (below-fits (2 ^ 64) heard fits.3) refl)))
+    rw (below-fits (2 ^ 16) sid fits.1) (rw (below-fits (2 ^ 32) bytes fits.2)
+    (rw (below-fits (2 ^ 64) heard fits.3) refl)))
 call_of-data (Heard receiver upto) fits = rw (below-fits (2 ^ 8) receiver fits.0) (
     rw (below-fits (2 ^ 64) upto fits.1) refl)
 call_of-data (Build now) fits = rw (below-fits (2 ^ 64) now fits) refl
@@ -92,7 +98,7 @@ pub record ConfigFits (c : Config) : Type 0 where
 
 -- a configuration is read back
 pub config_of-data : (c : Config) → ConfigFits c → config_of (config_data c) ≡ Some c
-unfolding config_of u8_at u32_at u64_at number_at config_data first_fields second_fields third_fields last_fields
+unfolding config_of slots_of sizes_of counts_of windows_of u8_at u32_at u64_at number_at config_data
 config_of-data c fits =
     rw (below-fits (2 ^ 32) c.ticks fits.ticks) (
     rw (below-fits (2 ^ 32) c.bytes_per_slot fits.bytes_per_slot) (
@@ -117,17 +123,20 @@ config_of-data c fits =
     refl))))))))))))))))))))
 
 -- calls are read back, from any number on
-pub calls_of-data : (n : ℕ) (calls : List Call) → AllByRecursion CallFits calls → calls_of n (items_of (map call_data calls)) ≡ Ok calls
+pub calls_of-data : (n : ℕ) (calls : List Call) → AllByRecursion CallFits calls
+    → calls_of n (items_of (map call_data calls)) ≡ Ok calls
 unfolding calls_of
 calls_of-data n [] fits = refl
 calls_of-data n (call ∷ calls) fits = rw (call_of-data call fits.0) (rw (calls_of-data (n + 1) calls fits.1) refl)
 
 -- the script of a configuration and calls
 abbrev pub script_data : Config → List Call → Data
-script_data c calls = object (member (codes "calls") (array (items_of (map call_data calls))) (member (codes "config") (config_data c) no_members))
+script_data c calls = object (member (codes "calls") (array (items_of (map call_data calls)))
+    (member (codes "config") (config_data c) no_members))
 
 -- a script is read back: each configuration with its calls has one
 pub script_of-data : (c : Config) (calls : List Call) → ConfigFits c → AllByRecursion CallFits calls
     → script_of (script_data c calls) ≡ Ok (record { config = c; calls = calls })
 unfolding script_of
-script_of-data c calls config_fits calls_fit = rw (config_of-data c config_fits) (rw (calls_of-data 1 calls calls_fit) refl)
+script_of-data c calls config_fits calls_fit = rw (config_of-data c config_fits)
+    (rw (calls_of-data 1 calls calls_fit) refl)

@@ -15,12 +15,14 @@ the_line_of_an_admission : line_of (Ok (Admitted None)) ≡ codes "admitted\n"
 unfolding line_of
 the_line_of_an_admission = refl
 
-the_line_of_a_placement : line_of (Ok (Admitted (Some (record { reference = 804; starts = 4 ∷ 19 ∷ [] })))) ≡ codes "admitted 804 4 19\n"
+the_line_of_a_placement : line_of (Ok (Admitted (Some (record { reference = 804; starts = 4 ∷ 19 ∷ [] }))))
+    ≡ codes "admitted 804 4 19\n"
 unfolding line_of number_text digits
 the_line_of_a_placement = refl
 
 -- a MAP
-the_line_of_a_map : line_of (Ok (Built first_map)) ≡ codes "map 03010300000003200000032000000000fffc4000000180040001c028\n"
+the_line_of_a_map : line_of (Ok (Built first_map)) ≡ codes
+    "map 03010300000003200000032000000000fffc4000000180040001c028\n"
 unfolding line_of header spelling hex_on_literals
 the_line_of_a_map = refl
 

@@ -43,22 +43,22 @@ flow_of d = do
       else None))
 
 -- an admission
-unfoldable pub admit_of : Data → Option Call
-admit_of d = do
+unfoldable pub admit_call : Data → Option Call
+admit_call d = do
   sid ← u16_at (codes "sid") d
   found ← get (codes "flow") d
   flow ← flow_of found
   Some (Admit sid flow)
 
 -- a removal
-unfoldable pub remove_of : Data → Option Call
-remove_of d = do
+unfoldable pub remove_call : Data → Option Call
+remove_call d = do
   sid ← u16_at (codes "sid") d
   Some (Remove sid)
 
 -- a request
-unfoldable pub ask_of : Data → Option Call
-ask_of d = do
+unfoldable pub ask_call : Data → Option Call
+ask_call d = do
   receiver ← u8_at (codes "receiver") d
   sid ← u16_at (codes "sid") d
   bytes ← u32_at (codes "bytes") d
@@ -66,27 +66,27 @@ ask_of d = do
   Some (Ask receiver sid bytes heard)
 
 -- a receiver's progress
-unfoldable pub heard_of : Data → Option Call
-heard_of d = do
+unfoldable pub heard_call : Data → Option Call
+heard_call d = do
   receiver ← u8_at (codes "receiver") d
   upto ← u64_at (codes "upto") d
   Some (Heard receiver upto)
 
 -- a build
-unfoldable pub build_of : Data → Option Call
-build_of d = do
+unfoldable pub build_call : Data → Option Call
+build_call d = do
   now ← u64_at (codes "now") d
   Some (Build now)
 
 -- a skip
-unfoldable pub skip_of : Data → Option Call
-skip_of d = do
+unfoldable pub skip_call : Data → Option Call
+skip_call d = do
   now ← u64_at (codes "now") d
   Some (Skip now)
 
 -- a question for a flow's bytes
-unfoldable pub status_of : Data → Option Call
-status_of d = do
+unfoldable pub status_call : Data → Option Call
+status_call d = do
   sid ← u16_at (codes "sid") d
   Some (Status sid)
 
@@ -94,11 +94,11 @@ status_of d = do
 unfoldable pub call_of : Data → Option Call
 call_of d = do
   name ← text_at (codes "call") d
-  if bytes_eq name (codes "admit") then admit_of d
-      else (if bytes_eq name (codes "remove") then remove_of d
-      else (if bytes_eq name (codes "ask") then ask_of d
-      else (if bytes_eq name (codes "heard") then heard_of d
-      else (if bytes_eq name (codes "build") then build_of d
-      else (if bytes_eq name (codes "skip") then skip_of d
-      else (if bytes_eq name (codes "status") then status_of d
+  if bytes_eq name (codes "admit") then admit_call d
+      else (if bytes_eq name (codes "remove") then remove_call d
+      else (if bytes_eq name (codes "ask") then ask_call d
+      else (if bytes_eq name (codes "heard") then heard_call d
+      else (if bytes_eq name (codes "build") then build_call d
+      else (if bytes_eq name (codes "skip") then skip_call d
+      else (if bytes_eq name (codes "status") then status_call d
       else None))))))

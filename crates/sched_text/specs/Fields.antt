@@ -49,48 +49,71 @@ text_at key d = do
   found ← get key d
   as_str found
 
--- the configuration that an object stands for: it has every field
-unfoldable pub config_of : Data → Option Config
-config_of d = do
+-- the minislots, and the frames that they make
+unfoldable pub slots_of : Data → Option (ℕ × ℕ × ℕ × ℕ × ℕ)
+slots_of d = do
   ticks ← u32_at (codes "ticks") d
   bytes_per_slot ← u32_at (codes "bytes_per_slot") d
   overhead ← u32_at (codes "overhead") d
   frame ← u32_at (codes "frame") d
   cycle ← u32_at (codes "cycle") d
+  Some (ticks, bytes_per_slot, overhead, frame, cycle)
+
+-- the sizes of regions and grants, and the time ahead
+unfoldable pub sizes_of : Data → Option (ℕ × ℕ × ℕ × ℕ × ℕ × ℕ)
+sizes_of d = do
   req_slots ← u32_at (codes "req_slots") d
   poll_slots ← u32_at (codes "poll_slots") d
   lead ← u32_at (codes "lead") d
   short_max ← u32_at (codes "short_max") d
   quantum ← u32_at (codes "quantum") d
   grant_cap ← u32_at (codes "grant_cap") d
+  Some (req_slots, poll_slots, lead, short_max, quantum, grant_cap)
+
+-- the receivers, the calls, the first minislot, the channel and the UCD count
+unfoldable pub counts_of : Data → Option (ℕ × ℕ × ℕ × ℕ × ℕ)
+counts_of d = do
   receivers ← u8_at (codes "receivers") d
   calls ← u32_at (codes "calls") d
   start ← u64_at (codes "start") d
-  ranging_start ← u8_at (codes "ranging_start") d
-  ranging_end ← u8_at (codes "ranging_end") d
-  data_start ← u8_at (codes "data_start") d
-  data_end ← u8_at (codes "data_end") d
   channel ← u8_at (codes "channel") d
   ucd_count ← u8_at (codes "ucd_count") d
+  Some (receivers, calls, start, channel, ucd_count)
+
+-- the first and the last backoff window, under these keys
+unfoldable pub windows_of : List ℕ → List ℕ → Data → Option (ℕ × ℕ)
+windows_of first last d = do
+  start ← u8_at first d
+  end ← u8_at last d
+  Some (start, end)
+
+-- the configuration that an object stands for: it has every field
+unfoldable pub config_of : Data → Option Config
+config_of d = do
+  slots ← slots_of d
+  sizes ← sizes_of d
+  counts ← counts_of d
+  ranging ← windows_of (codes "ranging_start") (codes "ranging_end") d
+  backoff ← windows_of (codes "data_start") (codes "data_end") d
   Some (record {
-    ticks = ticks;
-    bytes_per_slot = bytes_per_slot;
-    overhead = overhead;
-    frame = frame;
-    cycle = cycle;
-    req_slots = req_slots;
-    poll_slots = poll_slots;
-    lead = lead;
-    short_max = short_max;
-    quantum = quantum;
-    grant_cap = grant_cap;
-    receivers = receivers;
-    calls = calls;
-    start = start;
-    ranging_start = ranging_start;
-    ranging_end = ranging_end;
-    data_start = data_start;
-    data_end = data_end;
-    channel = channel;
-    ucd_count = ucd_count;
+    ticks = slots.0;
+    bytes_per_slot = slots.1;
+    overhead = slots.2;
+    frame = slots.3;
+    cycle = slots.4;
+    req_slots = sizes.0;
+    poll_slots = sizes.1;
+    lead = sizes.2;
+    short_max = sizes.3;
+    quantum = sizes.4;
+    grant_cap = sizes.5;
+    receivers = counts.0;
+    calls = counts.1;
+    start = counts.2;
+    ranging_start = ranging.0;
+    ranging_end = ranging.1;
+    data_start = backoff.0;
+    data_end = backoff.1;
+    channel = counts.3;
+    ucd_count = counts.4;
   })

@@ -5,11 +5,12 @@ use Rattle.std.specs.Io.KnownBytes.{Consumes, IsAtEnd}
 use Rattle.serde_json.specs.Data.{Data}
 use Rattle.serde_json.specs.Read.{read}
 use Rattle.sched_text.specs.declared.input.TheConstants.{MAX_INPUT}
-use Rattle.sched_text.specs.declared.fault.RunFault.{RunFault}
-use Rattle.sched_text.specs.declared.fault.RunFault.TheVariants.{Input, TooLong, NotJson, Shape, Config, Memory, Output, Threads}
+use Rattle.sched_text.specs.declared.fault.TextFault.{TextFault}
+use Rattle.sched_text.specs.declared.fault.TextFault.TheVariants.{Input, TooLong, NotJson, Shape, Config, Memory}
+use Rattle.sched_text.specs.declared.fault.TextFault.TheVariants.{Output}
 
 -- the value that the bytes are the text of, in UTF-8
-unfoldable pub value_of : List ℕ → Result Data RunFault
+unfoldable pub value_of : List ℕ → Result Data TextFault
 value_of bytes = if is_utf8 bytes then ok_or (read bytes) NotJson else Err NotJson
 
 -- the reader had these bytes and no more, and they are not too many
@@ -25,7 +26,7 @@ pub record ReadsTooMany (old new : Option (List ℕ)) : Type 0 where
   pub long : MAX_INPUT < length bytes
 
 -- why the bytes of a reader are not had: nothing is said of what a read that failed leaves
-abbrev pub StopsReading : Option (List ℕ) → Option (List ℕ) → RunFault → Type 0
+abbrev pub StopsReading : Option (List ℕ) → Option (List ℕ) → TextFault → Type 0
 StopsReading old new Input = Unit {0}
 StopsReading old new TooLong = ReadsTooMany old new
 StopsReading old new NotJson = ⊥
@@ -33,4 +34,3 @@ StopsReading old new (Shape n) = ⊥
 StopsReading old new (Config field) = ⊥
 StopsReading old new Memory = Unit {0}
 StopsReading old new Output = ⊥
-StopsReading old new Threads = ⊥

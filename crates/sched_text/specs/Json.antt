@@ -1,7 +1,9 @@
--- The JSON values that a flow, a call and a reply stand for in the text of a history: members in ascending order of their keys.
-use Rattle.std.specs.Prelude.{ℕ, List, map, codes, Option, None, Some}
+-- The JSON values that a flow, a call and a reply stand for in the text of a history: members in ascending order of
+-- their keys.
+use Rattle.std.specs.Prelude.{ℕ, List, [], ◌∷◌, map, codes, Option, None, Some}
+use Rattle.std.specs.Borrow.{Bor}
 use Rattle.hex.specs.Hex.{encode_lower}
-use Rattle.serde_json.specs.Data.{Data, number, unsigned, string, array, object, no_members, member}
+use Rattle.serde_json.specs.Data.{Data, number, unsigned, string, array, object, Members, no_members, member, put}
 use Rattle.serde_json.specs.View.{items_of}
 use Rattle.map_codec.specs.WireMap.{spelling}
 use Rattle.flow_book.specs.declared.spec.FlowSpec.{FlowSpec}
@@ -11,12 +13,18 @@ use Rattle.map_build.specs.declared.frame_map.FrameMap.{FrameMap}
 use Rattle.sched_history.specs.declared.call.Call.{Call}
 use Rattle.sched_history.specs.declared.call.Call.TheVariants.{Admit, Remove, Ask, Heard, Build, Skip, Status, Newest}
 use Rattle.sched_history.specs.declared.reply.Reply.{Reply}
-use Rattle.sched_history.specs.declared.reply.Reply.TheVariants.{Admitted, Removed, Taken, Noted, Built, Skipped, Flow, Latest, Refused}
+use Rattle.sched_history.specs.declared.reply.Reply.TheVariants.{Admitted, Removed, Taken, Noted, Built, Skipped, Flow}
+use Rattle.sched_history.specs.declared.reply.Reply.TheVariants.{Latest, Refused}
 use Rattle.sched_text.specs.Line.{refusal_number, refusal_value}
 
 -- a whole number
 abbrev pub count : ℕ → Data
 count n = number (unsigned n)
+
+-- the members, with each of these whole numbers at its key
+abbrev pub with_counts : List (Bor (List ℕ) × ℕ) → Members → Members
+with_counts [] ms = ms
+with_counts (c ∷ cs) ms = with_counts cs (put c.0.now (count c.1) ms)
 
 -- an array of whole numbers
 unfoldable pub counts : List ℕ → Data
@@ -40,7 +48,8 @@ unfoldable pub call_data : Call → Data
 call_data (Admit sid spec) = object (
     member (codes "call") (string (codes "admit")) (member (codes "flow") (flow_data spec) (
     member (codes "sid") (count sid) no_members)))
-call_data (Remove sid) = object (member (codes "call") (string (codes "remove")) (member (codes "sid") (count sid) no_members))
+call_data (Remove sid) = object (member (codes "call") (string (codes "remove"))
+    (member (codes "sid") (count sid) no_members))
 call_data (Ask receiver sid bytes heard) = object (
     member (codes "bytes") (count bytes) (member (codes "call") (string (codes "ask")) (
     member (codes "heard") (count heard) (member (codes "receiver") (count receiver) (
@@ -48,9 +57,12 @@ call_data (Ask receiver sid bytes heard) = object (
 call_data (Heard receiver upto) = object (
     member (codes "call") (string (codes "heard")) (member (codes "receiver") (count receiver) (
     member (codes "upto") (count upto) no_members)))
-call_data (Build now) = object (member (codes "call") (string (codes "build")) (member (codes "now") (count now) no_members))
-call_data (Skip now) = object (member (codes "call") (string (codes "skip")) (member (codes "now") (count now) no_members))
-call_data (Status sid) = object (member (codes "call") (string (codes "status")) (member (codes "sid") (count sid) no_members))
+call_data (Build now) = object (member (codes "call") (string (codes "build"))
+    (member (codes "now") (count now) no_members))
+call_data (Skip now) = object (member (codes "call") (string (codes "skip"))
+    (member (codes "now") (count now) no_members))
+call_data (Status sid) = object (member (codes "call") (string (codes "status"))
+    (member (codes "sid") (count sid) no_members))
 call_data Newest = object (member (codes "call") (string (codes "newest")) no_members)
 
 -- a reply of this kind that says nothing more
@@ -72,7 +84,8 @@ map_data kind m = object (
 
 -- a refusal's number, and its value where it has one
 unfoldable pub refused_data : ℕ → Option ℕ → Data
-refused_data n None = object (member (codes "kind") (string (codes "refused")) (member (codes "number") (count n) no_members))
+refused_data n None = object (member (codes "kind") (string (codes "refused"))
+    (member (codes "number") (count n) no_members))
 refused_data n (Some value) = object (
     member (codes "kind") (string (codes "refused")) (member (codes "number") (count n) (
     member (codes "value") (count value) no_members)))

@@ -7,4 +7,4 @@ pub mod StormScript
 pub mod Line
 pub mod Json
 pub mod HistoryText
-pub mod Status
+pub mod Fault

@@ -3,11 +3,16 @@ use Rattle.std.specs.Prelude.{ℕ, List, [], ◌∷◌, ◌++◌, Option, None, 
 use Rattle.hex.specs.Hex.{encode_lower}
 use Rattle.map_codec.specs.WireMap.{spelling}
 use Rattle.flow_book.specs.declared.spec.FlowFault.{FlowFault}
-use Rattle.flow_book.specs.declared.spec.FlowFault.TheVariants.{Size, IntervalNotWhole, IntervalNotFrames, IntervalNotInCycle, Priority, Burst}
+use Rattle.flow_book.specs.declared.spec.FlowFault.TheVariants.{Size, IntervalNotWhole, IntervalNotFrames}
+use Rattle.flow_book.specs.declared.spec.FlowFault.TheVariants.{IntervalNotInCycle, Priority, Burst}
 use Rattle.sched_history.specs.declared.reply.Refusal.{Refusal}
-use Rattle.sched_history.specs.declared.reply.Refusal.TheVariants.{BadSid, SidLive, BadFlow, FlowsFull, PeriodicFull, NoPlace, NoFlow, NotAsking, BadReceiver, BadBytes, Acked, Ahead, Backwards, BadClock, TooEarly, Late, NotLate}
+use Rattle.sched_history.specs.declared.reply.Refusal.TheVariants.{BadSid, SidLive, BadFlow, FlowsFull, PeriodicFull}
+use Rattle.sched_history.specs.declared.reply.Refusal.TheVariants.{NoPlace, NoFlow, NotAsking, BadReceiver, BadBytes}
+use Rattle.sched_history.specs.declared.reply.Refusal.TheVariants.{Acked, Ahead, Backwards, BadClock, TooEarly, Late}
+use Rattle.sched_history.specs.declared.reply.Refusal.TheVariants.{NotLate}
 use Rattle.sched_history.specs.declared.reply.Reply.{Reply}
-use Rattle.sched_history.specs.declared.reply.Reply.TheVariants.{Admitted, Removed, Taken, Noted, Built, Skipped, Flow, Latest, Refused}
+use Rattle.sched_history.specs.declared.reply.Reply.TheVariants.{Admitted, Removed, Taken, Noted, Built, Skipped, Flow}
+use Rattle.sched_history.specs.declared.reply.Reply.TheVariants.{Latest, Refused}
 use Rattle.sched_history.specs.declared.reply.Unrecorded.TheVariants.{HistoryFull, Memory}
 use Rattle.sched_history.specs.Machine.{IsEncodable}
 use Rattle.sched_history.specs.declared.reply.Unrecorded.{Unrecorded}
@@ -89,8 +94,10 @@ reply_text (Built m) = codes "map " ++ encode_lower (spelling m.wire)
 reply_text (Skipped next) = codes "skipped" ++ number_text next
 reply_text (Latest None) = codes "latest"
 reply_text (Latest (Some m)) = codes "latest " ++ encode_lower (spelling m.wire)
-reply_text (Flow asked granted outstanding) = codes "flow" ++ (number_text asked ++ (number_text granted ++ number_text outstanding))
-reply_text (Refused refusal) = codes "refused" ++ (number_text (refusal_number refusal) ++ value_text (refusal_value refusal))
+reply_text (Flow asked granted outstanding) = codes "flow"
+    ++ (number_text asked ++ (number_text granted ++ number_text outstanding))
+reply_text (Refused refusal) = codes "refused" ++ (number_text (refusal_number refusal)
+    ++ value_text (refusal_value refusal))
 
 -- the text of an answer: a reply, or why the call was not recorded
 abbrev pub answer_text : Answer → List ℕ

@@ -3,25 +3,26 @@ use Rattle.std.specs.Prelude.{◌≡◌, ℕ, nat_lt, if◌then◌else◌, List,
 use Rattle.minislots.specs.declared.config.ConfigFault.{ConfigFault}
 use Rattle.minislots.specs.Config.{first_wrong}
 use Rattle.sched_text.specs.declared.input.TheConstants.{MAX_INPUT}
-use Rattle.sched_text.specs.declared.fault.RunFault.{RunFault}
-use Rattle.sched_text.specs.declared.fault.RunFault.TheVariants.{Input, TooLong, NotJson, Shape, Config, Memory, Output, Threads}
+use Rattle.sched_text.specs.declared.fault.TextFault.{TextFault}
+use Rattle.sched_text.specs.declared.fault.TextFault.TheVariants.{Input, TooLong, NotJson, Shape, Config, Memory}
+use Rattle.sched_text.specs.declared.fault.TextFault.TheVariants.{Output}
 use Rattle.sched_text.specs.Input.{value_of, ReadsAll, ReadsTooMany}
 use Rattle.sched_text.specs.Script.{◌>>=◌, Scenario, script_of}
 
 -- what was read, unless this field of its configuration is wrong
-abbrev pub unless_wrong : {A : Type 0} → Option ConfigFault → A → Result A RunFault
+abbrev pub unless_wrong : {A : Type 0} → Option ConfigFault → A → Result A TextFault
 unless_wrong None read = Ok read
 unless_wrong (Some field) read = Err (Config field)
 
 -- what a text of any length stands for: each fault of shape comes before a wrong configuration
-unfoldable pub text_outcome : List ℕ → Result Scenario RunFault
+unfoldable pub text_outcome : List ℕ → Result Scenario TextFault
 text_outcome bytes = do
   value ← value_of bytes
   scenario ← script_of value
   unless_wrong (first_wrong scenario.config) scenario
 
 -- what the bytes of an input stand for
-unfoldable pub outcome_of : List ℕ → Result Scenario RunFault
+unfoldable pub outcome_of : List ℕ → Result Scenario TextFault
 outcome_of bytes = if nat_lt MAX_INPUT (length bytes) then Err TooLong else text_outcome bytes
 
 -- the bytes of a reader, all of them, stand for this scenario
@@ -31,13 +32,13 @@ pub record StandsFor (old new : Option (List ℕ)) (scenario : Scenario) : Type 
   pub outcome : outcome_of bytes ≡ Ok scenario
 
 -- the bytes of a reader, all of them, have this fault
-pub record HasFault (old new : Option (List ℕ)) (fault : RunFault) : Type 0 where
+pub record HasFault (old new : Option (List ℕ)) (fault : TextFault) : Type 0 where
   pub bytes : List ℕ
   pub all : ReadsAll old new bytes
   pub outcome : outcome_of bytes ≡ Err fault
 
 -- why there is no scenario
-abbrev pub StopsScript : Option (List ℕ) → Option (List ℕ) → RunFault → Type 0
+abbrev pub StopsScript : Option (List ℕ) → Option (List ℕ) → TextFault → Type 0
 StopsScript old new Input = Unit {0}
 StopsScript old new TooLong = ReadsTooMany old new
 StopsScript old new NotJson = HasFault old new NotJson
@@ -45,4 +46,3 @@ StopsScript old new (Shape n) = HasFault old new (Shape n)
 StopsScript old new (Config field) = HasFault old new (Config field)
 StopsScript old new Memory = Unit {0}
 StopsScript old new Output = ⊥
-StopsScript old new Threads = ⊥

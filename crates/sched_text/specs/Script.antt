@@ -4,14 +4,14 @@ use Rattle.serde_json.specs.Data.{Data, Items, no_items, item}
 use Rattle.serde_json.specs.Find.{get, as_array}
 use Rattle.minislots.specs.declared.config.Config.{Config}
 use Rattle.sched_history.specs.declared.call.Call.{Call}
-use Rattle.sched_text.specs.declared.fault.RunFault.{RunFault}
-use Rattle.sched_text.specs.declared.fault.RunFault.TheVariants.{Shape, Memory}
+use Rattle.sched_text.specs.declared.fault.TextFault.{TextFault}
+use Rattle.sched_text.specs.declared.fault.TextFault.TheVariants.{Shape, Memory}
 use Rattle.sched_text.specs.declared.script.Script.{Script}
 use Rattle.sched_text.specs.Fields.{config_of}
 use Rattle.sched_text.specs.Calls.{call_of}
 
 infixl 10 ◌>>=◌
-abbrev pub ◌>>=◌ : {A B : Type 0} → Result A RunFault → (A → Result B RunFault) → Result B RunFault
+abbrev pub ◌>>=◌ : {A B : Type 0} → Result A TextFault → (A → Result B TextFault) → Result B TextFault
 (Ok x) >>= f = f x
 (Err e) >>= f = Err e
 
@@ -25,12 +25,12 @@ abbrev pub scenario_of : Script → Scenario
 scenario_of script = record { config = script.config; calls = script.calls.items }
 
 -- what was made, seen by view, is what stands there, or the fault is, unless memory ran out
-abbrev pub Gives : {X Y : Type 0} → (X → Y) → Result X RunFault → Result Y RunFault → Type 0
+abbrev pub Gives : {X Y : Type 0} → (X → Y) → Result X TextFault → Result Y TextFault → Type 0
 Gives view (Ok x) there = there ≡ Ok (view x)
 Gives view (Err e) there = e ≢ Memory → there ≡ Err e
 
 -- the calls of an array, the first of which has this number: the first that is none is the fault
-unfoldable pub calls_of : ℕ → Items → Result (List Call) RunFault
+unfoldable pub calls_of : ℕ → Items → Result (List Call) TextFault
 calls_of n no_items = Ok []
 calls_of n (item d ds) = do
   call ← ok_or (call_of d) (Shape n)
@@ -38,7 +38,7 @@ calls_of n (item d ds) = do
   Ok (call ∷ calls)
 
 -- the script that a document stands for: a fault in the document or its configuration comes first
-unfoldable pub script_of : Data → Result Scenario RunFault
+unfoldable pub script_of : Data → Result Scenario TextFault
 script_of d = do
   config ← ok_or (option_and_then config_of (get (codes "config") d)) (Shape 0)
   items ← ok_or (option_and_then as_array (get (codes "calls") d)) (Shape 0)

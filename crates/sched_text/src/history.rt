@@ -12,14 +12,15 @@ mod config;
 mod count;
 mod reply;
 
-use crate::fault::RunFault;
+use crate::fault::TextFault;
 use crate::output::put;
-use call::call_value;
-use config::config_value;
+use call::call_members;
+use config::config_members;
+use count::put_counts;
 use minislots::Config;
-use reply::reply_value;
+use reply::reply_members;
 use sched_history::Entry;
-use serde_json::{Value, json};
+use serde_json::{Map, Value};
 use std::alloc::{AllocError, Global};
 use std::io::Write;
 
@@ -29,9 +30,20 @@ fn entry_value(alloc: Global, entry: &Entry) -> Result<Value, AllocError>
     requires { IsEncodable entry.now.reply }
     ensures { IfOk result (λ v. view v ≡ entry_data entry.now) }
 {
-    let call = call_value(alloc, entry.call)?;
-    let reply = reply_value(alloc, &entry.reply)?;
-    json!(in alloc; {"call": call, "reply": reply, "seat": entry.stamp.seat, "ticket": entry.stamp.ticket})
+    let mut map = Map::new(alloc);
+    let call = Value::Object(call_members(alloc, entry.call)?);
+    serde_json::put(&mut map, alloc, "call", call)?;
+    let reply = Value::Object(reply_members(alloc, &entry.reply)?);
+    serde_json::put(&mut map, alloc, "reply", reply)?;
+    put_counts(
+        &mut map,
+        alloc,
+        &[
+            ("seat", u64::from(entry.stamp.seat)),
+            ("ticket", entry.stamp.ticket),
+        ],
+    )?;
+    Ok(Value::Object(map))
 }
 
 #[tactic(auto, unfolding(crate::specs::HistoryText::entries_data))]
@@ -52,9 +64,12 @@ fn history_value(alloc: Global, config: &Config, entries: &[Entry]) -> Result<Va
     requires { AllByRecursion (λ e. IsEncodable e.reply) entries.now }
     ensures { IfOk result (λ v. view v ≡ history_data config.now entries.now) }
 {
-    let config = config_value(alloc, config)?;
+    let mut map = Map::new(alloc);
+    let config = Value::Object(config_members(alloc, config)?);
+    serde_json::put(&mut map, alloc, "config", config)?;
     let entries = entries_value(alloc, entries)?;
-    json!(in alloc; {"config": config, "entries": entries})
+    serde_json::put(&mut map, alloc, "entries", entries)?;
+    Ok(Value::Object(map))
 }
 
 /// The text of a history: JSON without spaces, keys in ascending order, and one newline.
@@ -74,11 +89,12 @@ pub fn put_history<W: Write>(
     writer: &mut W,
     config: &Config,
     entries: &[Entry],
-) -> Result<(), RunFault>
+) -> Result<(), TextFault>
     requires { AllByRecursion (λ e. IsEncodable e.reply) entries.now }
-    ensures ok { OnOk result (Appends (W.contents writer.old) (W.contents writer.new) (history_text config.now entries.now)) }
-    ensures quiet { IfErr result (λ e. e ≢ RunFault.Output → writer.new ≡ writer.old) }
-    ensures err { IfErr result (λ e. (e ≡ RunFault.Memory) ⊎ (e ≡ RunFault.Output)) }
+    ensures ok { OnOk result (Appends (W.contents writer.old) (W.contents writer.new)
+        (history_text config.now entries.now)) }
+    ensures quiet { IfErr result (λ e. e ≢ TextFault.Output → writer.new ≡ writer.old) }
+    ensures err { IfErr result (λ e. (e ≡ TextFault.Memory) ⊎ (e ≡ TextFault.Output)) }
 {
     let text = history_text(alloc, config, entries)?;
     put(writer, text.as_bytes())

@@ -5,7 +5,7 @@ ghost use Rattle.serde_json.specs.View.{view};
 ghost use Rattle.sched_text.specs.Script.{Gives};
 ghost use Rattle.sched_text.specs.Input.{value_of, ReadsAll, StopsReading};
 
-use crate::fault::RunFault;
+use crate::fault::TextFault;
 use serde_json::Value;
 use std::alloc::Global;
 use std::io::Read;
@@ -18,7 +18,7 @@ const PIECE: usize = 4096;
 
 /// All bytes that the reader has. A read that fails ends it, one that was interrupted among them,
 /// and so does the first byte too many, after which nothing more is read.
-pub fn read_all<R: Read>(alloc: Global, reader: &mut R) -> Result<Vec<u8>, RunFault>
+pub fn read_all<R: Read>(alloc: Global, reader: &mut R) -> Result<Vec<u8>, TextFault>
     ensures ok { IfOk result (λ bytes.
         ReadsAll (R.remaining reader.old) (R.remaining reader.new) bytes.items) }
     ensures stops { IfErr result
@@ -28,13 +28,13 @@ pub fn read_all<R: Read>(alloc: Global, reader: &mut R) -> Result<Vec<u8>, RunFa
     let mut piece = [0; PIECE];
     loop {
         let Ok(len) = reader.read(&mut piece) else {
-            return Err(RunFault::Input);
+            return Err(TextFault::Input);
         };
         if len == 0 {
             return Ok(bytes);
         }
         if len > MAX_INPUT - bytes.len() {
-            return Err(RunFault::TooLong);
+            return Err(TextFault::TooLong);
         }
         bytes.extend_from_slice(&piece[..len])?;
     }
@@ -42,12 +42,12 @@ pub fn read_all<R: Read>(alloc: Global, reader: &mut R) -> Result<Vec<u8>, RunFa
 
 /// The JSON value that the bytes are the text of, in UTF-8.
 #[tactic(auto, unfolding(crate::specs::Input::value_of))]
-pub fn parse(alloc: Global, bytes: &[u8]) -> Result<Value, RunFault>
+pub fn parse(alloc: Global, bytes: &[u8]) -> Result<Value, TextFault>
     ensures { Gives (λ v. view v) result (value_of bytes.now) }
 {
     match Value::from_slice(alloc, bytes) {
         Ok(value) => Ok(value),
-        Err(e) if e.is_memory() => Err(RunFault::Memory),
-        Err(_) => Err(RunFault::NotJson),
+        Err(e) if e.is_memory() => Err(TextFault::Memory),
+        Err(_) => Err(TextFault::NotJson),
     }
 }

@@ -1,18 +1,14 @@
 //! The texts of the scheduler: the scripts that it reads, the lines and the histories that it writes.
 #![tactic(auto)]
 
-#[cfg(test)]
-mod fakes;
 mod fault;
 mod history;
 mod input;
 mod line;
 mod output;
 mod script;
-#[cfg(test)]
-mod tests;
 
-pub use fault::RunFault;
+pub use fault::TextFault;
 pub use history::put_history;
 pub use line::{put_line, put_number};
 pub use output::put;

@@ -1,17 +1,18 @@
 //! The lines of a run: one for the answer to each call.
 
-ghost use Rattle.std.specs.Prelude.{◌≡◌, ◌*◌, ◌≤◌, ◌++◌, [], ◌∷◌, length, take, OnOk, IfErr, codes, decimal, Option, Some};
+ghost use Rattle.std.specs.Prelude.{◌≡◌, ◌*◌, ◌≤◌, ◌++◌, [], ◌∷◌, length, take, OnOk, IfErr, codes, decimal, Option};
+ghost use Rattle.std.specs.Prelude.{Some};
 ghost use Rattle.std.specs.Io.KnownBytes.{Appends};
 ghost use Rattle.map_codec.specs.WireMap.{IsWellFormed, spelling};
 ghost use Rattle.hex.specs.Hex.{encode_lower};
-ghost use Rattle.sched_text.specs.Line.{number_text, numbers_text, fault_number, refusal_number, refusal_value, value_text, reply_text, answer_text, line_of, HasLine};
+ghost use Rattle.sched_text.specs.Line.{number_text, numbers_text, fault_number, refusal_number, refusal_value};
+ghost use Rattle.sched_text.specs.Line.{value_text, reply_text, line_of, HasLine};
 ghost use Rattle.sched_history.specs.Machine.{IsEncodable};
 
-use crate::fault::RunFault;
+use crate::fault::TextFault;
 use crate::output::put;
 use flow_book::FlowFault;
 use itoa::Buffer;
-use map_build::FrameMap;
 use map_codec::{MAX_BYTES, WireMap, encode};
 use periodic::Placement;
 use sched_history::{Refusal, Reply, Unrecorded};
@@ -19,22 +20,35 @@ use std::io::Write;
 
 /// A space, and a number in decimal.
 #[tactic(auto, unfolding(crate::specs::Line::number_text))]
-pub fn put_number<W: Write>(writer: &mut W, number: u64) -> Result<(), RunFault>
+pub fn put_number<W: Write>(writer: &mut W, number: u64) -> Result<(), TextFault>
     ensures ok { OnOk result (Appends (W.contents writer.old) (W.contents writer.new) (number_text number)) }
-    ensures err { IfErr result (λ e. e ≡ RunFault.Output) }
+    ensures err { IfErr result (λ e. e ≡ TextFault.Output) }
 {
     let mut buffer = Buffer::new();
     put(writer, b" ")?;
     put(writer, buffer.format(number).as_bytes())
 }
 
-/// Numbers, each after a space.
-fn put_numbers<W: Write>(writer: &mut W, numbers: &[u16]) -> Result<(), RunFault>
+// Numbers, each after a space.
+fn put_numbers<W: Write>(writer: &mut W, numbers: &[u16]) -> Result<(), TextFault>
     ensures ok { OnOk result (Appends (W.contents writer.old) (W.contents writer.new) (numbers_text numbers.now)) }
-    ensures err { IfErr result (λ e. e ≡ RunFault.Output) }
+    ensures err { IfErr result (λ e. e ≡ TextFault.Output) }
 {
     for number in numbers {
         put_number(writer, u64::from(*number))?;
+    }
+    Ok(())
+}
+
+// A word, and numbers behind it.
+fn put_words<W: Write>(writer: &mut W, word: &[u8], numbers: &[u64]) -> Result<(), TextFault>
+    ensures ok { OnOk result (Appends (W.contents writer.old) (W.contents writer.new)
+        (word.now ++ numbers_text numbers.now)) }
+    ensures err { IfErr result (λ e. e ≡ TextFault.Output) }
+{
+    put(writer, word)?;
+    for number in numbers {
+        put_number(writer, *number)?;
     }
     Ok(())
 }
@@ -93,35 +107,32 @@ pub fn refusal_value(refusal: Refusal) -> Option<u64>
     }
 }
 
-fn put_refusal<W: Write>(writer: &mut W, refusal: Refusal) -> Result<(), RunFault>
-    ensures ok { OnOk result (Appends (W.contents writer.old) (W.contents writer.new) (reply_text (Reply.Refused refusal))) }
-    ensures err { IfErr result (λ e. e ≡ RunFault.Output) }
+fn put_refusal<W: Write>(writer: &mut W, refusal: Refusal) -> Result<(), TextFault>
+    ensures ok { OnOk result (Appends (W.contents writer.old) (W.contents writer.new)
+        (reply_text (Reply.Refused refusal))) }
+    ensures err { IfErr result (λ e. e ≡ TextFault.Output) }
 {
-    put(writer, b"refused")?;
-    put_number(writer, refusal_number(refusal))?;
-    if let Some(value) = refusal_value(refusal) {
-        put_number(writer, value)?;
+    let number = refusal_number(refusal);
+    match refusal_value(refusal) {
+        None => put_words(writer, b"refused", &[number]),
+        Some(value) => put_words(writer, b"refused", &[number, value]),
     }
-    Ok(())
 }
 
-fn put_admitted<W: Write>(writer: &mut W, placement: &Option<Placement>) -> Result<(), RunFault>
-    ensures ok { OnOk result (Appends (W.contents writer.old) (W.contents writer.new) (reply_text (Reply.Admitted placement.now))) }
-    ensures err { IfErr result (λ e. e ≡ RunFault.Output) }
+fn put_placement<W: Write>(writer: &mut W, placement: &Placement) -> Result<(), TextFault>
+    ensures ok { OnOk result (Appends (W.contents writer.old) (W.contents writer.new)
+        (reply_text (Reply.Admitted (Some placement.now)))) }
+    ensures err { IfErr result (λ e. e ≡ TextFault.Output) }
 {
-    put(writer, b"admitted")?;
-    if let Some(placement) = placement {
-        put_number(writer, placement.reference)?;
-        put_numbers(writer, placement.starts.as_slice())?;
-    }
-    Ok(())
+    put_words(writer, b"admitted", &[placement.reference])?;
+    put_numbers(writer, placement.starts.as_slice())
 }
 
-/// The lower-case hexadecimal of these bytes.
-fn put_hex<W: Write>(writer: &mut W, bytes: &[u8]) -> Result<(), RunFault>
+// The lower-case hexadecimal of these bytes.
+fn put_hex<W: Write>(writer: &mut W, bytes: &[u8]) -> Result<(), TextFault>
     requires { length bytes.now ≤ 976 }
     ensures ok { OnOk result (Appends (W.contents writer.old) (W.contents writer.new) (encode_lower bytes.now)) }
-    ensures err { IfErr result (λ e. e ≡ RunFault.Output) }
+    ensures err { IfErr result (λ e. e ≡ TextFault.Output) }
 {
     let mut text = [0u8; 2 * MAX_BYTES];
     let text = &mut text[..2 * bytes.len()];
@@ -129,86 +140,41 @@ fn put_hex<W: Write>(writer: &mut W, bytes: &[u8]) -> Result<(), RunFault>
     put(writer, text)
 }
 
-/// The payload of a MAP in lower-case hexadecimal.
-fn put_payload<W: Write>(writer: &mut W, map: &WireMap) -> Result<(), RunFault>
+// A word, and the payload of a MAP in lower-case hexadecimal.
+fn put_payload<W: Write>(writer: &mut W, word: &[u8], map: &WireMap) -> Result<(), TextFault>
     requires { IsWellFormed map.now }
-    ensures ok { OnOk result (Appends (W.contents writer.old) (W.contents writer.new) (encode_lower (spelling map.now))) }
-    ensures err { IfErr result (λ e. e ≡ RunFault.Output) }
+    ensures ok { OnOk result (Appends (W.contents writer.old) (W.contents writer.new)
+        (word.now ++ encode_lower (spelling map.now))) }
+    ensures err { IfErr result (λ e. e ≡ TextFault.Output) }
 {
     let mut payload = [0u8; MAX_BYTES];
     let len = encode(map, &mut payload);
+    put(writer, word)?;
     put_hex(writer, &payload[..len])
 }
 
-fn put_map<W: Write>(writer: &mut W, map: &FrameMap) -> Result<(), RunFault>
-    requires { IsWellFormed map.now.wire }
-    ensures ok { OnOk result (Appends (W.contents writer.old) (W.contents writer.new) (reply_text (Reply.Built map.now))) }
-    ensures err { IfErr result (λ e. e ≡ RunFault.Output) }
-{
-    put(writer, b"map ")?;
-    put_payload(writer, &map.wire)
-}
-
-// No call of a script asks for the newest MAP: its line is like that of a MAP that is built.
-fn put_newest<W: Write>(writer: &mut W, map: &FrameMap) -> Result<(), RunFault>
-    requires { IsWellFormed map.now.wire }
-    ensures ok { OnOk result (Appends (W.contents writer.old) (W.contents writer.new) (reply_text (Reply.Latest (Some map.now)))) }
-    ensures err { IfErr result (λ e. e ≡ RunFault.Output) }
-{
-    put(writer, b"latest ")?;
-    put_payload(writer, &map.wire)
-}
-
-fn put_flow<W: Write>(
-    writer: &mut W,
-    asked: u64,
-    granted: u64,
-    outstanding: u64,
-) -> Result<(), RunFault>
-    ensures ok { OnOk result (Appends (W.contents writer.old) (W.contents writer.new) (reply_text (Reply.Flow asked granted outstanding))) }
-    ensures err { IfErr result (λ e. e ≡ RunFault.Output) }
-{
-    put(writer, b"flow")?;
-    put_number(writer, asked)?;
-    put_number(writer, granted)?;
-    put_number(writer, outstanding)
-}
-
-fn put_reply<W: Write>(writer: &mut W, reply: &Reply) -> Result<(), RunFault>
+fn put_reply<W: Write>(writer: &mut W, reply: &Reply) -> Result<(), TextFault>
     requires { IsEncodable reply.now }
     ensures ok { OnOk result (Appends (W.contents writer.old) (W.contents writer.new) (reply_text reply.now)) }
-    ensures err { IfErr result (λ e. e ≡ RunFault.Output) }
+    ensures err { IfErr result (λ e. e ≡ TextFault.Output) }
 {
     match reply {
-        Reply::Admitted(placement) => put_admitted(writer, placement),
+        Reply::Admitted(None) => put(writer, b"admitted"),
+        Reply::Admitted(Some(placement)) => put_placement(writer, placement),
         Reply::Removed => put(writer, b"removed"),
         Reply::Taken => put(writer, b"taken"),
         Reply::Noted => put(writer, b"noted"),
-        Reply::Built(map) => put_map(writer, map),
-        Reply::Skipped(next) => {
-            put(writer, b"skipped")?;
-            put_number(writer, *next)
-        }
+        Reply::Built(map) => put_payload(writer, b"map ", &map.wire),
+        Reply::Skipped(next) => put_words(writer, b"skipped", &[*next]),
         Reply::Flow {
             asked,
             granted,
             outstanding,
-        } => put_flow(writer, *asked, *granted, *outstanding),
+        } => put_words(writer, b"flow", &[*asked, *granted, *outstanding]),
+        // No call of a script asks for the newest MAP.
         Reply::Latest(None) => put(writer, b"latest"),
-        Reply::Latest(Some(map)) => put_newest(writer, map),
+        Reply::Latest(Some(map)) => put_payload(writer, b"latest ", &map.wire),
         Reply::Refused(refusal) => put_refusal(writer, *refusal),
-    }
-}
-
-fn put_answer<W: Write>(writer: &mut W, answer: &Result<Reply, Unrecorded>) -> Result<(), RunFault>
-    requires { HasLine answer.now }
-    ensures ok { OnOk result (Appends (W.contents writer.old) (W.contents writer.new) (answer_text answer.now)) }
-    ensures err { IfErr result (λ e. e ≡ RunFault.Output) }
-{
-    match answer {
-        Ok(reply) => put_reply(writer, reply),
-        Err(Unrecorded::HistoryFull) => put(writer, b"history full"),
-        Err(Unrecorded::Memory) => put(writer, b"out of memory"),
     }
 }
 
@@ -217,11 +183,17 @@ fn put_answer<W: Write>(writer: &mut W, answer: &Result<Reply, Unrecorded>) -> R
 pub fn put_line<W: Write>(
     writer: &mut W,
     answer: &Result<Reply, Unrecorded>,
-) -> Result<(), RunFault>
+) -> Result<(), TextFault>
     requires { HasLine answer.now }
     ensures ok { OnOk result (Appends (W.contents writer.old) (W.contents writer.new) (line_of answer.now)) }
-    ensures err { IfErr result (λ e. e ≡ RunFault.Output) }
+    ensures err { IfErr result (λ e. e ≡ TextFault.Output) }
 {
-    put_answer(writer, answer)?;
-    put(writer, b"\n")
+    match answer {
+        Ok(reply) => {
+            put_reply(writer, reply)?;
+            put(writer, b"\n")
+        }
+        Err(Unrecorded::HistoryFull) => put(writer, b"history full\n"),
+        Err(Unrecorded::Memory) => put(writer, b"out of memory\n"),
+    }
 }

@@ -10,10 +10,8 @@ mod field;
 mod flow;
 mod reading;
 mod storms;
-#[cfg(test)]
-mod tests;
 
-use crate::fault::RunFault;
+use crate::fault::TextFault;
 use call::call_of;
 use config::config_of;
 use field::member;
@@ -22,10 +20,10 @@ pub use reading::read_script;
 use sched_history::Call;
 use serde_json::Value;
 use std::alloc::Global;
-pub use storms::{MAX_SCRIPTS, read_storm};
+pub use storms::read_storm;
 
 /// A script as it was read: its configuration may have a wrong field.
-#[derive(Debug, Drop)]
+#[derive(Drop)]
 pub struct Script {
     /// The configuration, of which the shape alone was tested.
     pub config: Config,
@@ -34,14 +32,14 @@ pub struct Script {
 }
 
 // The calls of an array, with so many calls before it. The first that is none is the fault, counted from 1.
-fn calls_after(alloc: Global, before: u64, values: &[Value]) -> Result<Vec<Call>, RunFault>
+fn calls_after(alloc: Global, before: u64, values: &[Value]) -> Result<Vec<Call>, TextFault>
     requires { before < 2 ^ 63 }
     ensures { Gives (λ calls. calls.items) result (calls_of (before + 1) (items_view values.now)) }
 {
     let mut calls = Vec::with_capacity(alloc, values.len())?;
     for (index, value) in values.iter().enumerate() {
         let Some(call) = call_of(value) else {
-            return Err(RunFault::Shape(before + index as u64 + 1));
+            return Err(TextFault::Shape(before + index as u64 + 1));
         };
         calls.push_reserved(call);
     }
@@ -53,14 +51,14 @@ fn calls_after(alloc: Global, before: u64, values: &[Value]) -> Result<Vec<Call>
 /// ignored. A fault in the document or its configuration is that of shape with 0, and comes first.
 /// Otherwise the first call that is none, counted from 1, is the fault.
 #[tactic(auto, unfolding(crate::specs::Script::script_of))]
-pub fn script_of(alloc: Global, value: &Value) -> Result<Script, RunFault>
+pub fn script_of(alloc: Global, value: &Value) -> Result<Script, TextFault>
     ensures { Gives scenario_of result (script_of (view value.now)) }
 {
     let Some(config) = member(value, "config").and_then(config_of) else {
-        return Err(RunFault::Shape(0));
+        return Err(TextFault::Shape(0));
     };
     let Some(values) = member(value, "calls").and_then(Value::as_array) else {
-        return Err(RunFault::Shape(0));
+        return Err(TextFault::Shape(0));
     };
     let calls = calls_after(alloc, 0, values)?;
     Ok(Script { config, calls })

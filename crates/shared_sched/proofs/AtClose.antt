@@ -1,5 +1,6 @@
 -- The history at the close, from what the lock gives.
-use Rattle.std.proofs.Common.{◌≡◌, ◌<◌, ◌≤◌, ℕ, List, [], ◌∷◌, ◌++◌, map, get_or, cond, length, ◌==◌, sum, Bool, true, false, refl, sym, ap, ◌∙◌, subst, arith}
+use Rattle.std.proofs.Common.{◌≡◌, ◌<◌, ◌≤◌, ℕ, List, [], ◌∷◌, ◌++◌, map, get_or, cond, length, ◌==◌, sum, Bool, true}
+use Rattle.std.proofs.Common.{false, refl, sym, ap, ◌∙◌, subst, arith, ◌+◌, sum_by}
 use Rattle.std.specs.List.{All, Any, AllByRecursion}
 use Rattle.std.proofs.lemmas.List.{append_assoc, map-append}
 use Rattle.std.proofs.lemmas.List.Elements.{All-from_recursion}
@@ -13,7 +14,7 @@ use Rattle.sched_history.specs.Machine.{Machine, IsEncodable}
 use Rattle.ticket_core.specs.declared.TheConstants.{MAX_SEATS}
 use Rattle.ticket_lock.specs.declared.board.Logged.{Logged}
 use Rattle.ticket_lock.specs.Rule.{Every, Extends, IsStamped, IsOrdered, entry_of}
-use Rattle.ticket_lock.specs.Standing.{Lock, Standing, opening_of, seats_of, seen, own, made_by}
+use Rattle.ticket_lock.specs.Standing.{Lock, Standing, opening_of, seats_of, turns_of, seen, own, made_by}
 use Rattle.ticket_lock.specs.Calls.{Closes}
 use Rattle.shared_sched.specs.Desk.{config_of, history_of, maker_of, IsDeskLock}
 use Rattle.shared_sched.specs.Closed.{entries_of, CountsEach, ClosesTo}
@@ -29,13 +30,15 @@ entries_of-log number (x ∷ xs) =
     ap (λ l. cond ((maker_of x.entry).seat == number) (x.entry ∷ l) l) (entries_of-log number xs)
     ∙ by ((maker_of x.entry).seat == number)
   where
-    by : (b : Bool) → cond b (x.entry ∷ map entry_of (made_by maker_of number xs)) (map entry_of (made_by maker_of number xs))
+    by : (b : Bool) → cond b (x.entry ∷ map entry_of (made_by maker_of number xs))
+        (map entry_of (made_by maker_of number xs))
         ≡ map entry_of (cond b (x ∷ made_by maker_of number xs) (made_by maker_of number xs))
     by true = refl
     by false = refl
 
 -- a fact of each entry of a log is one of each entry
-AllByRecursion-log : (P : Entry → Type 0) (log : List (Logged Entry)) → Every (λ x. P x.entry) log → AllByRecursion P (map entry_of log)
+AllByRecursion-log : (P : Entry → Type 0) (log : List (Logged Entry)) → Every (λ x. P x.entry) log
+    → AllByRecursion P (map entry_of log)
 AllByRecursion-log P [] every = tt
 AllByRecursion-log P (x ∷ xs) every = (every.0, AllByRecursion-log P xs every.1)
 
@@ -45,7 +48,8 @@ seats_are : (seats : ℕ) (log : List (Logged Entry)) → Every (IsStamped maker
 seats_are seats [] every = tt
 seats_are seats (x ∷ xs) every = (every.0.1, seats_are seats xs every.1)
 
-module _ (c : Config) (lock : Lock Config Entry) (desk : IsDeskLock c lock) (seats : List (Standing Config Entry)) (x : Machine)
+module _ (c : Config) (lock : Lock Config Entry) (desk : IsDeskLock c lock) (seats : List (Standing Config Entry))
+    (x : Machine)
     (closes : Closes maker_of config_of history_of lock seats x) where
   -- the history is the log
   history_is : x.history ≡ map entry_of closes.log
@@ -56,17 +60,20 @@ module _ (c : Config) (lock : Lock Config Entry) (desk : IsDeskLock c lock) (sea
   config_is = same_Some x.config c (closes.head_is ∙ desk.head_is)
 
   -- it begins with what a seat has seen
-  begins_with : (s : Standing Config Entry) → s.lock ≡ lock → Extends maker_of s.number s.log closes.log → IsPrefix (seen s) x.history
+  begins_with : (s : Standing Config Entry) → s.lock ≡ lock → Extends maker_of s.number s.log closes.log
+      → IsPrefix (seen s) x.history
   begins_with s of_lock extends = (
     map entry_of extends.0,
     append_assoc (opening_of s.lock) (map entry_of s.log) (map entry_of extends.0)
-        ∙ ap (λ (l : List Entry). opening_of s.lock ++ l) (sym (map-append entry_of s.log extends.0) ∙ ap (map entry_of) (sym extends.1))
+        ∙ ap (λ (l : List Entry). opening_of s.lock ++ l)
+        (sym (map-append entry_of s.log extends.0) ∙ ap (map entry_of) (sym extends.1))
         ∙ ap (λ (k : Lock Config Entry). opening_of k ++ map entry_of closes.log) of_lock
         ∙ sym closes.entries_are,
   )
 
   -- the entries of a seat in it are its own
-  own_in : (s : Standing Config Entry) → Extends maker_of s.number s.log closes.log → entries_of s.number x.history ≡ own maker_of s
+  own_in : (s : Standing Config Entry) → Extends maker_of s.number s.log closes.log
+      → entries_of s.number x.history ≡ own maker_of s
   own_in s extends =
       ap (entries_of s.number) history_is
       ∙ entries_of-log s.number closes.log
@@ -79,7 +86,8 @@ module _ (c : Config) (lock : Lock Config Entry) (desk : IsDeskLock c lock) (sea
   all_begin [] of_lock each = tt
   all_begin (s ∷ ss) of_lock each = (begins_with s of_lock.0 each.0, all_begin ss of_lock.1 each.1)
 
-  all_own : (some_seats : List (Standing Config Entry)) → Every (λ s. Extends maker_of s.number s.log closes.log) some_seats
+  all_own : (some_seats : List (Standing Config Entry))
+      → Every (λ s. Extends maker_of s.number s.log closes.log) some_seats
       → Every (λ s. entries_of s.number x.history ≡ own maker_of s) some_seats
   all_own [] each = tt
   all_own (s ∷ ss) each = (own_in s each.0, all_own ss each.1)
@@ -116,11 +124,13 @@ module _ (c : Config) (lock : Lock Config Entry) (desk : IsDeskLock c lock) (sea
   -- all of it
   pub closes_to : Every (λ s. s.lock ≡ lock) seats → IsLegal x.config x.history → length x.history ≤ x.config.calls
       → AllByRecursion (λ e. IsEncodable e.reply) x.history → FollowsAlways x.config x.history
-      → (counts : List ℕ) → CountsEach counts x.history → sum counts ≡ length x.history → ClosesTo c lock seats x.history counts
+      → (counts : List ℕ) → CountsEach counts x.history → sum counts ≡ length x.history
+      → ClosesTo c lock seats x.history counts
   closes_to of_lock legal within encodable facts counts each total =
       let lawful : IsLegal c x.history = subst (λ k. IsLegal k x.history) config_is legal in
       record {
-        closes = subst (λ k. Closes maker_of config_of history_of lock seats (record { config = k; history = x.history })) config_is closes;
+        closes = subst (λ k. Closes maker_of config_of history_of lock seats
+            (record { config = k; history = x.history })) config_is closes;
         legal = lawful;
         maps = HasLawfulMaps-legal c x.history lawful;
         within = subst (λ (k : Config). length x.history ≤ k.calls) config_is within;
@@ -130,7 +140,11 @@ module _ (c : Config) (lock : Lock Config Entry) (desk : IsDeskLock c lock) (sea
         whole = whole of_lock;
         log = closes.log;
         below = closes.below;
-        in_order = (history_is, subst (λ n. IsOrdered maker_of n (seats_of lock) closes.log closes.below) desk.first_is closes.ordered);
+        in_order = (
+          history_is,
+          subst (λ n. IsOrdered maker_of n (seats_of lock) closes.log closes.below) desk.first_is closes.ordered,
+        );
+        turns = closes.turns ∙ ap (λ n. n + sum_by turns_of seats) desk.first_is ∙ omega arith;
         own_are = all_own seats closes.each;
         no_other = of_one;
         counts_are = each;

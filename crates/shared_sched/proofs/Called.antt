@@ -1,5 +1,5 @@
 -- A whole call, from its draw, its entry and the holder's call.
-use Rattle.std.proofs.Common.{◌≡◌, ◌++◌, map, Result, sym, ap, ◌∙◌, subst}
+use Rattle.std.proofs.Common.{◌≡◌, ◌+◌, ◌++◌, map, Result, sym, ap, ◌∙◌, subst}
 use Rattle.minislots.specs.declared.config.Config.{Config}
 use Rattle.sched_history.specs.declared.call.Call.{Call}
 use Rattle.sched_history.specs.declared.reply.Entry.{Entry}
@@ -14,12 +14,15 @@ use Rattle.shared_sched.specs.Calls.{added_by, AnswersHeld, AnswersCall}
 use Rattle.shared_sched.proofs.Own.{own-others}
 
 -- a seat that drew, entered and was answered as a holder was answered
-pub calls : (c : Config) (s t h w : Standing Config Entry) (x : Machine) (call : Call) (answer : Result Reply Unrecorded)
-    → Draws maker_of s t → Enters maker_of config_of history_of t h x → AnswersHeld c h call w answer → AnswersCall c s call w answer
+pub calls : (c : Config) (s t h w : Standing Config Entry) (x : Machine) (call : Call)
+    (answer : Result Reply Unrecorded)
+    → Draws maker_of s t → Enters maker_of config_of history_of t h x → AnswersHeld c h call w answer
+    → AnswersCall c s call w answer
 calls c s t h w x call answer drawn entered answered =
     let more = entered.more in
     let whole : h ≡ record s { log = s.log ++ more; ticket = t.ticket; looks = h.looks } =
-    entered.entered ∙ ap (λ (u : Standing Config Entry). record u { log = u.log ++ more; looks = h.looks }) drawn.drawn in
+    entered.entered
+    ∙ ap (λ (u : Standing Config Entry). record u { log = u.log ++ more; looks = h.looks }) drawn.drawn in
     let ticket : t.ticket ≡ h.ticket = sym (ap (λ (u : Standing Config Entry). u.ticket) whole) in
     let number : t.number ≡ s.number = ap (λ (u : Standing Config Entry). u.number) drawn.drawn in
     let others : IsOfOthers maker_of s.number more = subst (λ n. IsOfOthers maker_of n more) number entered.others in
@@ -29,6 +32,9 @@ calls c s t h w x call answer drawn entered answered =
       holder = h;
       entered = whole ∙ ap (λ n. record s { log = s.log ++ more; ticket = n; looks = h.looks }) ticket;
       answered = answered;
+      turns = ap (λ (u : Standing Config Entry). u.turns) answered.left
+          ∙ ap (λ (u : Standing Config Entry). u.turns + 1) whole;
       own_is = answered.own_is
-          ∙ ap (λ l. l ++ map entry_of (added_by h call answer)) (ap (own maker_of) whole ∙ own-others maker_of s.number s.log more others);
+          ∙ ap (λ l. l ++ map entry_of (added_by h call answer))
+          (ap (own maker_of) whole ∙ own-others maker_of s.number s.log more others);
     }

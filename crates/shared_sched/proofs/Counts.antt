@@ -1,5 +1,6 @@
 -- The counts of the seats' entries, with one entry more.
-use Rattle.std.proofs.Common.{◌≡◌, ◌≢◌, ◌<◌, ◌+◌, ℕ, List, [], ◌∷◌, ◌++◌, length, get_or, set, take, sum, cond, ◌==◌, true, false, ⊎_elim, sym, ap, ◌∙◌, arith, length-append, eq-eqb, ne_eqb}
+use Rattle.std.proofs.Common.{◌≡◌, ◌≢◌, ◌<◌, ◌+◌, ℕ, List, [], ◌∷◌, ◌++◌, length, get_or, set, take, sum, cond, ◌==◌}
+use Rattle.std.proofs.Common.{true, false, ⊎_elim, sym, ap, ◌∙◌, arith, length-append, eq-eqb, ne_eqb}
 use Rattle.std.proofs.lemmas.Bool.Decides.{eqb_tells}
 use Rattle.std.proofs.lemmas.List.{append-nil, get_or-set_same, get_or-set_other}
 use Rattle.std.proofs.lemmas.List.Elements.{filter_more}
@@ -12,7 +13,8 @@ use Rattle.shared_sched.specs.Closed.{entries_of, CountsEach}
 module _ (h : List Entry) (i : ℕ) (e : Entry) (here : i < length h) (is : e ≡ get_or h i e) where
   -- the entries of a seat, with this entry more
   entries-more : (number : ℕ)
-      → entries_of number (take (i + 1) h) ≡ entries_of number (take i h) ++ cond ((maker_of e).seat == number) (e ∷ []) []
+      → entries_of number (take (i + 1) h)
+      ≡ entries_of number (take i h) ++ cond ((maker_of e).seat == number) (e ∷ []) []
   entries-more number =
       filter_more (λ (x : Entry). (maker_of x).seat == number) h i e here
       ∙ ap (λ (x : Entry). entries_of number (take i h) ++ cond ((maker_of x).seat == number) (x ∷ []) []) (sym is)
@@ -21,14 +23,16 @@ module _ (h : List Entry) (i : ℕ) (e : Entry) (here : i < length h) (is : e �
   of_seat : (number : ℕ) → (maker_of e).seat ≡ number
       → length (entries_of number (take (i + 1) h)) ≡ length (entries_of number (take i h)) + 1
   of_seat number same =
-      ap length (entries-more number ∙ ap (λ b. entries_of number (take i h) ++ cond b (e ∷ []) []) (eq-eqb (maker_of e).seat number same))
+      ap length (entries-more number ∙ ap (λ b. entries_of number (take i h) ++ cond b (e ∷ []) [])
+      (eq-eqb (maker_of e).seat number same))
       ∙ length-append (entries_of number (take i h)) (e ∷ [])
 
   -- and as many as before for another
   of_another : (number : ℕ) → (maker_of e).seat ≢ number
       → length (entries_of number (take (i + 1) h)) ≡ length (entries_of number (take i h))
   of_another number apart =
-      ap length (entries-more number ∙ ap (λ b. entries_of number (take i h) ++ cond b (e ∷ []) []) (ne_eqb (maker_of e).seat number apart)
+      ap length (entries-more number ∙ ap (λ b. entries_of number (take i h) ++ cond b (e ∷ []) [])
+      (ne_eqb (maker_of e).seat number apart)
       ∙ append-nil (entries_of number (take i h)))
 
   module _ (counts : List ℕ) (size : length counts ≡ MAX_SEATS) (small : (maker_of e).seat < MAX_SEATS) where
@@ -48,7 +52,8 @@ module _ (h : List Entry) (i : ℕ) (e : Entry) (here : i < length h) (is : e �
         ∙ ap (λ n. n + 1) (each number below)
         ∙ sym (of_seat number same.1))
         (λ (apart : ((maker_of e).seat == number ≡ false) × ((maker_of e).seat ≢ number)).
-        get_or-set_other counts (maker_of e).seat number (get_or counts (maker_of e).seat 0 + 1) 0 (λ same. apart.1 (sym same))
+        get_or-set_other counts (maker_of e).seat number (get_or counts (maker_of e).seat 0 + 1) 0
+        (λ same. apart.1 (sym same))
         ∙ each number below
         ∙ sym (of_another number apart.1))
         (eqb_tells (maker_of e).seat number)
@@ -57,4 +62,7 @@ module _ (h : List Entry) (i : ℕ) (e : Entry) (here : i < length h) (is : e �
     pub sum-more : sum counted ≡ sum counts + 1
     sum-more =
         let within : (maker_of e).seat < length counts = omega arith in
-        omega (arith, sum_by-set (λ (n : ℕ). n) counts (maker_of e).seat (get_or counts (maker_of e).seat 0 + 1) 0 within)
+        omega (
+          arith,
+          sum_by-set (λ (n : ℕ). n) counts (maker_of e).seat (get_or counts (maker_of e).seat 0 + 1) 0 within,
+        )

@@ -1,5 +1,6 @@
 -- What a holder's call added, from what the scheduler recorded and what the lock tells at the leave.
-use Rattle.std.proofs.Common.{◌≡◌, ◌≤◌, ◌↔◌, ◌+◌, ◌%◌, ◌^◌, ℕ, List, [], ◌∷◌, ◌++◌, map, length, Result, Ok, Err, IfOk, OnErr, IsErrOf, sym, ap, ◌∙◌, subst, ⊎_elim}
+use Rattle.std.proofs.Common.{◌≡◌, ◌≤◌, ◌↔◌, ◌+◌, ◌%◌, ◌^◌, ℕ, List, [], ◌∷◌, ◌++◌, map, length, Result, Ok, Err, IfOk}
+use Rattle.std.proofs.Common.{OnErr, IsErrOf, sym, ap, ◌∙◌, subst, ⊎_elim}
 use Rattle.std.proofs.lemmas.List.{append-nil, append_assoc, map-append, append_cancel_left}
 use mathlib.Core.List.{cons≢nil}
 use Rattle.minislots.specs.declared.config.Config.{Config}
@@ -28,7 +29,8 @@ IsOneAdded {E} stamp number ticket more = (e : E) × (more ≡ record { entry = 
 module _ {E : Type 0} (stamp : E → Stamp) (number ticket : ℕ) (opening : List E) (log more : List (Logged E))
     (added : IsAdded stamp number ticket more) where
   -- the entries added are what the list has more
-  entries_added : (new : List E) → (opening ++ map entry_of log) ++ new ≡ opening ++ map entry_of (log ++ more) → map entry_of more ≡ new
+  entries_added : (new : List E) → (opening ++ map entry_of log) ++ new ≡ opening ++ map entry_of (log ++ more)
+      → map entry_of more ≡ new
   entries_added new is = append_cancel_left (opening ++ map entry_of log) (map entry_of more) new
       (append_assoc opening (map entry_of log) (map entry_of more)
       ∙ ap (λ (l : List E). opening ++ l) (sym (map-append entry_of log more))
@@ -39,7 +41,8 @@ module _ {E : Type 0} (stamp : E → Stamp) (number ticket : ℕ) (opening : Lis
   added_nothing is = ⊎_elim
       (λ (none_more : more ≡ []). none_more)
       (λ (one : IsOneAdded stamp number ticket more).
-      absurd (cons≢nil (ap (map entry_of) (sym one.1) ∙ entries_added [] (append-nil (opening ++ map entry_of log) ∙ is))))
+      absurd (cons≢nil
+      (ap (map entry_of) (sym one.1) ∙ entries_added [] (append-nil (opening ++ map entry_of log) ∙ is))))
       added
 
   -- and one entry where it has one more, with the holder's whole ticket
@@ -54,8 +57,10 @@ module _ {E : Type 0} (stamp : E → Stamp) (number ticket : ℕ) (opening : Lis
       added
 
 -- what the scheduler tells of a call
-pub record HasCalled (d : Machine) (stamp : Stamp) (call : Call) (x : Machine) (answer : Result Reply Unrecorded) : Type 0 where
-  pub recorded : IfOk answer (λ reply. x ≡ record d { history = d.history ++ record { stamp = stamp; call = call; reply = reply } ∷ [] })
+pub record HasCalled (d : Machine) (stamp : Stamp) (call : Call) (x : Machine)
+    (answer : Result Reply Unrecorded) : Type 0 where
+  pub recorded : IfOk answer
+      (λ reply. x ≡ record d { history = d.history ++ record { stamp = stamp; call = call; reply = reply } ∷ [] })
   pub same : OnErr answer (x ≡ d)
   pub step : IfOk answer (λ reply. IsStep d.config d.history call reply)
   pub encodable : IfOk answer IsEncodable
@@ -63,7 +68,8 @@ pub record HasCalled (d : Machine) (stamp : Stamp) (call : Call) (x : Machine) (
   pub memory : IsErrOf answer Memory → MayLackMemory d.config d.history call
   pub legal : IsLegal x.config x.history
 
-module _ (c : Config) (s : Standing Config Entry) (call : Call) (x : Machine) (w : Standing Config Entry) (desk : IsDeskLock c s.lock)
+module _ (c : Config) (s : Standing Config Entry) (call : Call) (x : Machine) (w : Standing Config Entry)
+    (desk : IsDeskLock c s.lock)
     (left : Leaves maker_of config_of history_of s x w) where
   -- the desk that the holder entered
   abbrev pub entered : Machine
@@ -74,10 +80,12 @@ module _ (c : Config) (s : Standing Config Entry) (call : Call) (x : Machine) (w
   seen_by = left.entries_are ∙ ap seen left.left
 
   -- what was added is what the answer says
-  added_is : (answer : Result Reply Unrecorded) → HasCalled entered (stamp_of s) call x answer → left.more ≡ added_by s call answer
+  added_is : (answer : Result Reply Unrecorded) → HasCalled entered (stamp_of s) call x answer
+      → left.more ≡ added_by s call answer
   added_is (Ok reply) told = added_one maker_of s.number s.ticket (opening_of s.lock) s.log left.more left.added
       (record { stamp = stamp_of s; call = call; reply = reply }) (sym (ap history_of told.recorded) ∙ seen_by)
-  added_is (Err unrecorded) told = added_nothing maker_of s.number s.ticket (opening_of s.lock) s.log left.more left.added
+  added_is (Err unrecorded) told =
+      added_nothing maker_of s.number s.ticket (opening_of s.lock) s.log left.more left.added
       (sym (ap history_of told.same) ∙ seen_by)
 
   -- the configuration stays
@@ -86,7 +94,8 @@ module _ (c : Config) (s : Standing Config Entry) (call : Call) (x : Machine) (w
   config_stays (Err unrecorded) told = ap config_of told.same
 
   -- what the seat has seen afterwards
-  sees : (answer : Result Reply Unrecorded) → HasCalled entered (stamp_of s) call x answer → SeesLegal c w (s.ticket + 1)
+  sees : (answer : Result Reply Unrecorded) → HasCalled entered (stamp_of s) call x answer
+      → SeesLegal c w (s.ticket + 1)
   sees answer told =
       let lock : w.lock ≡ s.lock = ap (λ (z : Standing Config Entry). z.lock) left.left in record {
         in_order = (
@@ -94,14 +103,17 @@ module _ (c : Config) (s : Standing Config Entry) (call : Call) (x : Machine) (w
           subst (λ (y : ℕ × ℕ). IsOrdered maker_of y.0 y.1 w.log (s.ticket + 1))
               (λ i. (desk.first_is i, seats_of (sym lock i))) left.ordered,
         );
-        legal = subst (λ (y : Config × List Entry). IsLegal y.0 y.1) (λ i. (config_stays answer told i, left.entries_are i)) told.legal;
+        legal = subst (λ (y : Config × List Entry). IsLegal y.0 y.1)
+            (λ i. (config_stays answer told i, left.entries_are i)) told.legal;
       }
 
   -- the holder's call was answered
-  pub answers : (answer : Result Reply Unrecorded) → HasCalled entered (stamp_of s) call x answer → AnswersHeld c s call w answer
+  pub answers : (answer : Result Reply Unrecorded) → HasCalled entered (stamp_of s) call x answer
+      → AnswersHeld c s call w answer
   answers answer told =
       let more = added_is answer told in record {
-        left = left.left ∙ ap (λ (l : List (Logged Entry)). record s { log = s.log ++ l; ticket = 0 }) more;
+        left = left.left
+            ∙ ap (λ (l : List (Logged Entry)). record s { log = s.log ++ l; ticket = 0; turns = s.turns + 1 }) more;
         own_is = ap (own maker_of) left.left
             ∙ ap (λ (l : List (Logged Entry)). map entry_of (made_by maker_of s.number (s.log ++ l))) more
             ∙ own-append maker_of s.number s.log (added_by s call answer)

@@ -1,5 +1,6 @@
 -- A seat's own entries, as the log grows.
-use Rattle.std.proofs.Common.{◌≡◌, ℕ, List, [], ◌∷◌, ◌++◌, map, cond, ◌==◌, Ok, Err, Result, refl, ap, ◌∙◌, eq-eqb, ne_eqb}
+use Rattle.std.proofs.Common.{◌≡◌, ℕ, List, [], ◌∷◌, ◌++◌, map, cond, ◌==◌, Ok, Err, Result, refl, ap, ◌∙◌, eq-eqb}
+use Rattle.std.proofs.Common.{ne_eqb}
 use Rattle.std.proofs.lemmas.List.{append-nil, map-append}
 use Rattle.std.proofs.lemmas.List.Elements.{filter-append}
 use Rattle.minislots.specs.declared.config.Config.{Config}
@@ -19,7 +20,8 @@ module _ {E : Type 0} (stamp : E → Stamp) (number : ℕ) where
   pub made_by-others : (log : List (Logged E)) → IsOfOthers stamp number log → made_by stamp number log ≡ []
   made_by-others [] others = refl
   made_by-others (x ∷ xs) others =
-      ap (λ b. cond b (x ∷ made_by stamp number xs) (made_by stamp number xs)) (ne_eqb (stamp x.entry).seat number others.0)
+      ap (λ b. cond b (x ∷ made_by stamp number xs) (made_by stamp number xs))
+      (ne_eqb (stamp x.entry).seat number others.0)
       ∙ made_by-others xs others.1
 
   -- a longer log has the seat's entries of both parts
@@ -35,7 +37,8 @@ module _ {E : Type 0} (stamp : E → Stamp) (number : ℕ) where
       → map entry_of (made_by stamp number (log ++ more)) ≡ map entry_of (made_by stamp number log)
   own-others log more others =
       own-append log more
-      ∙ ap (λ (l : List (Logged E)). map entry_of (made_by stamp number log) ++ map entry_of l) (made_by-others more others)
+      ∙ ap (λ (l : List (Logged E)). map entry_of (made_by stamp number log) ++ map entry_of l)
+      (made_by-others more others)
       ∙ append-nil (map entry_of (made_by stamp number log))
 
 -- what a holder adds is its own

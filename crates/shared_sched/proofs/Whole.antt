@@ -1,5 +1,6 @@
 -- At the close some seat has seen the whole history, and every entry is of one of the seats.
-use Rattle.std.proofs.Common.{◌≡◌, ◌≢◌, ◌<◌, ◌≤◌, ◌+◌, ℕ, suc, true, false, cond, ◌==◌, List, [], ◌∷◌, ◌++◌, Any, refl, sym, ap, ◌∙◌, subst, ⊎_elim, arith}
+use Rattle.std.proofs.Common.{◌≡◌, ◌≢◌, ◌<◌, ◌≤◌, ◌+◌, ℕ, suc, true, false, cond, ◌==◌, List, [], ◌∷◌, ◌++◌, Any, refl}
+use Rattle.std.proofs.Common.{sym, ap, ◌∙◌, subst, ⊎_elim, arith}
 use Rattle.std.proofs.lemmas.Bool.Decides.{eqb_tells, nat_tests}
 use Rattle.std.proofs.lemmas.List.{append-nil}
 use mathlib.Core.List.{cons≢nil}
@@ -49,14 +50,16 @@ module _ {X : Type 0} where
 module _ {E : Type 0} where
   -- what a seat has seen is all, where the last entry is its own
   seen_all : (stamp : E → Stamp) (x : Logged E) (xs seen more : List (Logged E)) (number : ℕ)
-      → x ∷ xs ≡ seen ++ more → IsOfOthers stamp number more → number ≡ (stamp (last_of x xs).entry).seat → x ∷ xs ≡ seen
+      → x ∷ xs ≡ seen ++ more → IsOfOthers stamp number more → number ≡ (stamp (last_of x xs).entry).seat
+      → x ∷ xs ≡ seen
   seen_all stamp x xs seen [] number is others own = is ∙ append-nil seen
   seen_all stamp x xs seen (y ∷ ys) number is others own =
       absurd (Every-last_of (λ z. (stamp z.entry).seat ≢ number) y ys others
       (ap (λ (z : Logged E). (stamp z.entry).seat) (sym (same_last x xs seen y ys is)) ∙ sym own))
 
   -- nothing was seen of an empty log
-  seen_nothing : (seen more : List (Logged E)) → ◌≡◌ {A = List (Logged E)} [] (seen ++ more) → ◌≡◌ {A = List (Logged E)} [] seen
+  seen_nothing : (seen more : List (Logged E)) → ◌≡◌ {A = List (Logged E)} [] (seen ++ more)
+      → ◌≡◌ {A = List (Logged E)} [] seen
   seen_nothing [] more is = refl
   seen_nothing (x ∷ seen) more is = absurd (cons≢nil (sym is))
 
@@ -80,7 +83,8 @@ module _ {H E : Type 0} (stamp : E → Stamp) where
         seat_with Q k seats every (omega (arith, numbers k, once))
 
     -- some seat has seen the whole log
-    pub one_saw_all : (R : Standing H E → Type 0) → 1 ≤ count → (log : List (Logged E)) → Every (IsStamped stamp count) log
+    pub one_saw_all : (R : Standing H E → Type 0) → 1 ≤ count → (log : List (Logged E))
+        → Every (IsStamped stamp count) log
         → Every (λ s. R s × Extends stamp s.number s.log log) seats → Any (λ s. R s × (log ≡ s.log)) seats
     one_saw_all R some [] stamped each =
         Any-weaker (λ s. (s.number ≡ 0) × (R s × Extends stamp s.number s.log [])) (λ s. R s × ([] ≡ s.log))
@@ -90,14 +94,16 @@ module _ {H E : Type 0} (stamp : E → Stamp) where
         let k : ℕ = (stamp (last_of x xs).entry).seat in
         Any-weaker (λ s. (s.number ≡ k) × (R s × Extends stamp s.number s.log (x ∷ xs))) (λ s. R s × (x ∷ xs ≡ s.log))
         (λ s here. (here.1.0, seen_all stamp x xs s.log here.1.1.0 s.number here.1.1.1 here.1.1.2 here.0)) seats
-        (seat_at (λ s. R s × Extends stamp s.number s.log (x ∷ xs)) each k (Every-last_of (IsStamped stamp count) x xs stamped).1)
+        (seat_at (λ s. R s × Extends stamp s.number s.log (x ∷ xs)) each k
+        (Every-last_of (IsStamped stamp count) x xs stamped).1)
 
     -- the maker of each entry is one of the seats
     pub makers_are : (log : List (Logged E)) → Every (IsStamped stamp count) log
         → Every (λ x. Any (λ s. s.number ≡ (stamp x.entry).seat) seats) log
     makers_are [] stamped = tt
     makers_are (x ∷ xs) stamped = (
-      Any-weaker (λ s. (s.number ≡ (stamp x.entry).seat) × Unit {0}) (λ s. s.number ≡ (stamp x.entry).seat) (λ s here. here.0) seats
+      Any-weaker (λ s. (s.number ≡ (stamp x.entry).seat) × Unit {0}) (λ s. s.number ≡ (stamp x.entry).seat)
+          (λ s here. here.0) seats
           (seat_at (λ s. Unit {0}) (all_are seats) (stamp x.entry).seat stamped.0.1),
       makers_are xs stamped.1,
     )

@@ -1,5 +1,6 @@
 -- What a call under the lock answers, and what its seat has seen afterwards.
-use Rattle.std.specs.Prelude.{◌≡◌, ◌≤◌, ◌↔◌, ◌+◌, List, [], ◌∷◌, ◌++◌, map, length, Some, Result, Ok, Err, IfOk, IsErrOf}
+use Rattle.std.specs.Prelude.{◌≡◌, ◌≤◌, ◌↔◌, ◌+◌, List, [], ◌∷◌, ◌++◌, map, length, Some, Result, Ok, Err, IfOk}
+use Rattle.std.specs.Prelude.{IsErrOf}
 use Rattle.minislots.specs.declared.config.Config.{Config}
 use Rattle.sched_history.specs.declared.call.Call.{Call}
 use Rattle.sched_history.specs.declared.reply.Entry.{Entry}
@@ -18,16 +19,21 @@ pub record IsEntered (s : Standing Config Entry) (d : Machine) : Type 0 where
   pub head_is : Some d.config ≡ head_of s.lock
   pub entries_are : d.history ≡ seen s
 
--- what a holder's call adds: if it was recorded, one entry with the holder's number and ticket, the call and the reply answered
+-- what a holder's call adds: if it was recorded, one entry with the holder's number and ticket, the call and
+-- the reply answered
 abbrev pub added_by : Standing Config Entry → Call → Result Reply Unrecorded → List (Logged Entry)
-added_by s call (Ok reply) = record { entry = record { stamp = stamp_of s; call = call; reply = reply }; ticket = s.ticket } ∷ []
+added_by s call (Ok reply) = record {
+  entry = record { stamp = stamp_of s; call = call; reply = reply };
+  ticket = s.ticket;
+} ∷ []
 added_by s call (Err unrecorded) = []
 
 module _ (c : Config) (s : Standing Config Entry) (call : Call) where
   -- a holder's call was answered, and its seat has left
   pub record AnswersHeld (w : Standing Config Entry) (answer : Result Reply Unrecorded) : Type 0 where
-    -- it has seen the list entered and what it added, and nothing else of it changed
-    pub left : w ≡ record s { log = s.log ++ added_by s call answer; ticket = 0 }
+    -- it has seen the list entered and what it added, has ended one turn more, recorded or not, and nothing else of it
+    -- changed
+    pub left : w ≡ record s { log = s.log ++ added_by s call answer; ticket = 0; turns = s.turns + 1 }
     pub own_is : own maker_of w ≡ own maker_of s ++ map entry_of (added_by s call answer)
     pub sees : SeesLegal c w (s.ticket + 1)
     -- the reply may follow the list entered
@@ -45,4 +51,6 @@ module _ (c : Config) (s : Standing Config Entry) (call : Call) where
     pub holder : Standing Config Entry
     pub entered : holder ≡ record s { log = s.log ++ others; ticket = holder.ticket; looks = holder.looks }
     pub answered : AnswersHeld c holder call w answer
+    -- it has ended one turn more, whether the call was recorded or not
+    pub turns : w.turns ≡ s.turns + 1
     pub own_is : own maker_of w ≡ own maker_of s ++ map entry_of (added_by holder call answer)

@@ -1,5 +1,5 @@
 -- What a scheduler under the lock is at its close.
-use Rattle.std.specs.Prelude.{◌≡◌, ◌<◌, ◌≤◌, ℕ, List, [], length, slice_index, sum, ◌==◌}
+use Rattle.std.specs.Prelude.{◌≡◌, ◌<◌, ◌≤◌, ℕ, List, [], length, slice_index, sum, sum_by, ◌==◌}
 use Rattle.std.specs.List.{filter, AllByRecursion, Any}
 use mathlib.Core.List.{IsPrefix}
 use Rattle.minislots.specs.declared.config.Config.{Config}
@@ -13,7 +13,7 @@ use Rattle.sched_history.specs.Machine.{IsEncodable}
 use Rattle.ticket_core.specs.declared.TheConstants.{MAX_SEATS}
 use Rattle.ticket_lock.specs.declared.board.Logged.{Logged}
 use Rattle.ticket_lock.specs.Rule.{Every}
-use Rattle.ticket_lock.specs.Standing.{Lock, Standing, seats_of, seen, own}
+use Rattle.ticket_lock.specs.Standing.{Lock, Standing, seats_of, turns_of, seen, own}
 use Rattle.ticket_lock.specs.Calls.{Closes}
 use Rattle.shared_sched.specs.Desk.{config_of, history_of, maker_of, IsInTicketOrder}
 
@@ -47,6 +47,8 @@ module _ (c : Config) (lock : Lock Config Entry) (seats : List (Standing Config 
     pub log : List (Logged Entry)
     pub below : ℕ
     pub in_order : IsInTicketOrder (seats_of lock) log below h
+    -- as many tickets were served as the seats have ended turns; each call ends one, recorded or not
+    pub turns : below ≡ sum_by turns_of seats
     -- each seat's entries in it are its own, and every entry is of one of the seats
     pub own_are : Every (λ s. entries_of s.number h ≡ own maker_of s) seats
     pub no_other : AllByRecursion (λ e. Any (λ s. s.number ≡ (maker_of e).seat) seats) h

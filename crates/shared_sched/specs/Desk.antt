@@ -39,8 +39,8 @@ pub record IsDeskLock (c : Config) (l : Lock Config Entry) : Type 0 where
   pub some : 1 ≤ seats_of l
   pub few : seats_of l ≤ MAX_SEATS
 
--- the history has the entries of this log in its order, each with its whole ticket; the tickets ascend strictly from 0 to below
--- this one, the stamps have them modulo 2^64, and the seats are below this number
+-- the history has the entries of this log in its order, each with its whole ticket; the tickets ascend strictly
+-- from 0 to below this one, the stamps have them modulo 2^64, and the seats are below this number
 abbrev pub IsInTicketOrder : ℕ → List (Logged Entry) → ℕ → List Entry → Type 0
 IsInTicketOrder seats log below h = (h ≡ map entry_of log) × IsOrdered maker_of 0 seats log below
 

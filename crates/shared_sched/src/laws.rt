@@ -6,21 +6,26 @@ ghost use Rattle.sched_history.specs.declared.reply.Entry.{Entry};
 ghost use Rattle.sched_history.specs.Machine.{Machine};
 ghost use Rattle.ticket_core.specs.LockWorld.{LockWorld};
 ghost use Rattle.ticket_lock.specs.declared.board.About.{About};
+ghost use Rattle.ticket_lock.specs.declared.board.Key.{Key};
 ghost use Rattle.ticket_lock.specs.declared.board.Logged.{Logged};
 ghost use Rattle.ticket_lock.specs.declared.board.View.{View};
-ghost use Rattle.ticket_lock.specs.Rule.{Stands};
-ghost use Rattle.ticket_lock.specs.Laws.{HasOneHolder};
+ghost use Rattle.ticket_lock.specs.Rule.{Stands, Ruled, about_of};
+ghost use Rattle.ticket_lock.specs.Laws.{HasOneHolder, RunsWithOneHolder};
 ghost use Rattle.shared_sched.specs.Desk.{config_of, history_of, maker_of};
 
 use crate::desk::Desk;
 
-/// In every state of the lock round a desk at most one seat holds it, and the desk is with that seat
-/// exactly while there is one.
+/// At most one seat holds the lock round a desk, and the desk is out of the lock exactly while one does: in
+/// every world that a table under the rule stands for, and in every state that the rule of a running lock
+/// allows.
 pub fn one_holder()
     ensures holder { (a : About Config Entry) (w : LockWorld) (log : List (Logged Entry))
         (s : State (Option Machine) (View Config Entry))
         → Stands config_of history_of maker_of a w log s
         → HasOneHolder config_of history_of maker_of a w log s }
+    ensures running { (key : Key Machine) (s : State (Option Machine) (View Config Entry))
+        → Ruled config_of history_of maker_of (about_of config_of history_of key) s
+        → RunsWithOneHolder config_of history_of maker_of (about_of config_of history_of key) s }
 {
     ticket_lock::one_holder::<Desk>()
 }

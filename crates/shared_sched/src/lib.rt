@@ -8,8 +8,6 @@ mod fault;
 mod laws;
 mod opening;
 mod shared;
-#[cfg(test)]
-mod tests;
 
 pub use closing::Closed;
 pub use desk::Desk;

@@ -1,5 +1,7 @@
 -- What the fields of a `World` make of its words, when it is opened and by each step.
-use Rattle.std.proofs.Common.{◌≡◌, ℕ, zero, suc, ◌+◌, ◌%◌, ◌^◌, ◌<◌, ◌≤◌, true, cond, List, ◌∷◌, Some, None, map, length, get_or, set, take, replicate, ltb, eqb, refl, sym, ◌∙◌, ap, subst, arith, length-take}
+use Rattle.std.proofs.Common.{◌≡◌, ℕ, zero, suc, ◌+◌, ◌%◌, ◌^◌, ◌<◌, ◌≤◌, true, cond, List}
+use Rattle.std.proofs.Common.{◌∷◌, Some, None, map, length, get_or, set, take, replicate}
+use Rattle.std.proofs.Common.{ltb, eqb, refl, sym, ◌∙◌, ap, subst, arith, length-take}
 use Rattle.std.proofs.Math.Seq.{take-set-lt}
 use Rattle.std.proofs.lemmas.Bool.Decides.{nat_tests}
 use Rattle.std.proofs.lemmas.List.{get_or-take, take-replicate}
@@ -42,7 +44,8 @@ module _ (old : Words) (serving next seats : ℕ) (states : List SeatState)
       → words_after old seat step ≡ words_from (words_with serving next seats states) seat state step
   read state is =
       let test : ltb seat (length (take seats states)) ≡ true = grind (arith, nat_tests, length_shown) in
-      let shown : get_or (take seats states) seat Idle ≡ state = get_or-take seats states seat Idle exists ∙ is in
+      let shown : get_or (take seats states) seat Idle ≡ state =
+      get_or-take seats states seat Idle exists ∙ is in
       ap (λ (v : Words). words_after v seat step) (sym view_is) ∙ rw (test, shown)
 
   -- where the step writes these words and this state, it is taken
@@ -52,8 +55,8 @@ module _ (old : Words) (serving next seats : ℕ) (states : List SeatState)
       → Moves old (words_with serving' next' seats (set states seat state)) seat step
   moved serving' next' state told =
       let written = sym (take-set-lt seats states seat state exists) in
-      let shown = ap (λ (s : List SeatState). Some (record { serving = serving'; next = next'; shown = s })) written in
-      Moves-from old _ seat step few (subst StandForLawful view_is invariant.1) (told ∙ shown)
+      let words = λ (s : List SeatState). Some (record { serving = serving'; next = next'; shown = s }) in
+      Moves-from old _ seat step few (subst StandForLawful view_is invariant.1) (told ∙ ap words written)
 
   -- an idle seat draws
   pub drawn : get_or states seat Idle ≡ Idle → step ≡ Draw

@@ -1,5 +1,7 @@
 -- A lock just opened is lawful, and each step of a seat keeps it so.
-use Rattle.std.proofs.Common.{◌≡◌, ◌≢◌, ℕ, zero, suc, ◌+◌, ◌<◌, ◌≤◌, Bool, true, false, cond, Option, Some, None, length, get_or, set, replicate, ltb, eqb, refl, sym, ◌∙◌, ap, subst, ⊎_elim, arith}
+use Rattle.std.proofs.Common.{◌≡◌, ◌≢◌, ℕ, zero, suc, ◌+◌, ◌<◌, ◌≤◌, Bool, true, false}
+use Rattle.std.proofs.Common.{cond, Option, Some, None, length, get_or, set, replicate}
+use Rattle.std.proofs.Common.{ltb, eqb, refl, sym, ◌∙◌, ap, subst, ⊎_elim, arith}
 use Rattle.std.proofs.lemmas.Bool.{cases_eq}
 use Rattle.std.proofs.lemmas.Bool.Decides.{nat_tests, Decides-eqb}
 use Rattle.std.proofs.lemmas.List.Folds.{sum_by-replicate}
@@ -8,8 +10,10 @@ use Rattle.ticket_core.specs.declared.SeatState.{SeatState}
 use Rattle.ticket_core.specs.declared.SeatState.TheVariants.{Idle, Waiting, Holding}
 use Rattle.ticket_core.specs.declared.Step.{Step}
 use Rattle.ticket_core.specs.declared.Step.TheVariants.{Draw, Look, Enter, Leave}
-use Rattle.ticket_core.specs.LockWorld.{LockWorld, opened_world, state_of, world_from, world_after, ticket_of, has_ticket, HasTicket, Holds, IsLawful}
-use Rattle.ticket_core.proofs.Seats.{one_if, Has, Has-at, Has-one, get_or-set_cases, Has-set, Has-set_same, Has-set_other, count_by-set}
+use Rattle.ticket_core.specs.LockWorld.{LockWorld, opened_world, state_of, world_from, world_after}
+use Rattle.ticket_core.specs.LockWorld.{ticket_of, has_ticket, HasTicket, Holds, IsLawful}
+use Rattle.ticket_core.proofs.Seats.{one_if, Has, Has-at, Has-one, get_or-set_cases}
+use Rattle.ticket_core.proofs.Seats.{Has-set, Has-set_same, Has-set_other, count_by-set}
 
 -- a holder's ticket is in flight
 pub HasTicket-holder : (w : LockWorld) (seat ticket : ℕ) → Holds w seat ticket → HasTicket w seat ticket
@@ -109,7 +113,8 @@ module _ (w : LockWorld) (seat : ℕ) (lawful : IsLawful w) (exists : seat < len
             let e : own ≡ ticket = cc in sym e ∙ is_served)
             (λ h. lawful.served_holds other ticket (sym h.1 ∙ holds))
             (get_or-set_cases w.seats seat new exists other);
-        apart = λ a b ticket has_a has_b. lawful.apart a b ticket (before a ticket has_a) (before b ticket has_b);
+        apart = λ a b ticket has_a has_b.
+            lawful.apart a b ticket (before a ticket has_a) (before b ticket has_b);
         complete = λ ticket from below.
             let found = lawful.complete ticket from below in (found.0, after found.0 ticket found.1);
       }
@@ -165,7 +170,8 @@ module _ (w : LockWorld) (seat : ℕ) (lawful : IsLawful w) (exists : seat < len
   IsLawful-world_from (Waiting own) Look after is taken =
       subst IsLawful (cond_some (ltb w.served own) w after taken).1 lawful
   IsLawful-world_from (Waiting own) Enter after is taken =
-      let t = cond_some (eqb own w.served) (record w { seats = set w.seats seat (Holding own) }) after taken in
+      let inside : LockWorld = record w { seats = set w.seats seat (Holding own) } in
+      let t = cond_some (eqb own w.served) inside after taken in
       subst IsLawful t.1 (IsLawful-enter own is ((Decides-eqb own w.served).0 t.0))
   IsLawful-world_from (Waiting own) Leave after is taken = absurd (none-some after taken)
   IsLawful-world_from (Holding own) Draw after is taken = absurd (none-some after taken)
@@ -175,7 +181,8 @@ module _ (w : LockWorld) (seat : ℕ) (lawful : IsLawful w) (exists : seat < len
       subst IsLawful (same_Some _ after taken) (IsLawful-leave own is)
 
 -- a choice that gives something gives it by its test
-cond_taken : {A : Type 0} (b : Bool) (o : Option A) (x : A) → cond b o None ≡ Some x → (b ≡ true) × (o ≡ Some x)
+cond_taken : {A : Type 0} (b : Bool) (o : Option A) (x : A) → cond b o None ≡ Some x
+    → (b ≡ true) × (o ≡ Some x)
 cond_taken true o x e = (refl, e)
 cond_taken false o x e = absurd (none-some x e)
 

@@ -1,5 +1,6 @@
 -- Who has which ticket, before and after what one seat does has changed.
-use Rattle.std.proofs.Common.{◌≡◌, ◌≢◌, ℕ, ◌+◌, ◌<◌, ◌⊎◌, Bool, cond, List, Some, count_by, length, get_or, set, sym, ◌∙◌, ap, inl, inr, ⊎_elim}
+use Rattle.std.proofs.Common.{◌≡◌, ◌≢◌, ℕ, ◌+◌, ◌<◌, ◌⊎◌, Bool, cond, List, Some, count_by}
+use Rattle.std.proofs.Common.{length, get_or, set, sym, ◌∙◌, ap, inl, inr, ⊎_elim}
 use Rattle.std.proofs.lemmas.Bool.{cases_eq}
 use Rattle.std.proofs.lemmas.List.{get_or-set_same, get_or-set_other}
 use Rattle.std.proofs.lemmas.List.Sums.{sum_by-set}

@@ -1,13 +1,11 @@
--- The four steps, each where it can be taken, and what a step leaves.
-use Rattle.std.proofs.Common.{◌≡◌, ℕ, ◌+◌, ◌<◌, true, Some, length, set, ltb, eqb, sym, ◌∙◌, ap, arith, length-set}
+-- The four steps, each where it can be taken.
+use Rattle.std.proofs.Common.{◌≡◌, ℕ, ◌+◌, ◌<◌, true, Some, length, set, ltb, eqb, ◌∙◌, arith}
 use Rattle.std.proofs.lemmas.Bool.Decides.{nat_tests}
-use Rattle.std.proofs.lemmas.Option.{same_Some, none-some, cond_some}
 use Rattle.ticket_core.specs.declared.SeatState.{SeatState}
 use Rattle.ticket_core.specs.declared.SeatState.TheVariants.{Idle, Waiting, Holding}
 use Rattle.ticket_core.specs.declared.Step.{Step}
 use Rattle.ticket_core.specs.declared.Step.TheVariants.{Draw, Look, Enter, Leave}
 use Rattle.ticket_core.specs.LockWorld.{LockWorld, state_of, world_from, world_after}
-use Rattle.ticket_core.proofs.Lawful.{world_after-taken}
 
 module _ (w : LockWorld) (seat : ℕ) (exists : seat < length w.seats) where
   -- a step of a seat that exists is one from its state
@@ -19,7 +17,8 @@ module _ (w : LockWorld) (seat : ℕ) (exists : seat < length w.seats) where
 
   -- an idle seat draws the next ticket
   pub world_after-draw : state_of w seat ≡ Idle
-      → world_after w seat Draw ≡ Some (record w { next = w.next + 1; seats = set w.seats seat (Waiting w.next) })
+      → world_after w seat Draw
+      ≡ Some (record w { next = w.next + 1; seats = set w.seats seat (Waiting w.next) })
   world_after-draw is = step_from Idle Draw is
 
   -- a seat that waits with a later ticket looks, and nothing changes
@@ -40,31 +39,3 @@ module _ (w : LockWorld) (seat : ℕ) (exists : seat < length w.seats) where
   pub world_after-leave : (ticket : ℕ) → state_of w seat ≡ Holding ticket
       → world_after w seat Leave ≡ Some (record w { served = w.served + 1; seats = set w.seats seat Idle })
   world_after-leave ticket is = step_from (Holding ticket) Leave is
-
--- a step from a state makes no seat and removes none
-length-world_from : (w after : LockWorld) (seat : ℕ) (state : SeatState) (step : Step)
-    → world_from w seat state step ≡ Some after → length after.seats ≡ length w.seats
-length-world_from w after seat Idle Draw taken =
-    ap (λ (v : LockWorld). length v.seats) (sym (same_Some _ after taken)) ∙ length-set w.seats seat (Waiting w.next)
-length-world_from w after seat Idle Look taken = absurd (none-some after taken)
-length-world_from w after seat Idle Enter taken = absurd (none-some after taken)
-length-world_from w after seat Idle Leave taken = absurd (none-some after taken)
-length-world_from w after seat (Waiting ticket) Draw taken = absurd (none-some after taken)
-length-world_from w after seat (Waiting ticket) Look taken =
-    ap (λ (v : LockWorld). length v.seats) (sym (cond_some (ltb w.served ticket) w after taken).1)
-length-world_from w after seat (Waiting ticket) Enter taken =
-    let inside : LockWorld = record w { seats = set w.seats seat (Holding ticket) } in
-    let same = sym (cond_some (eqb ticket w.served) inside after taken).1 in
-    ap (λ (v : LockWorld). length v.seats) same ∙ length-set w.seats seat (Holding ticket)
-length-world_from w after seat (Waiting ticket) Leave taken = absurd (none-some after taken)
-length-world_from w after seat (Holding ticket) Draw taken = absurd (none-some after taken)
-length-world_from w after seat (Holding ticket) Look taken = absurd (none-some after taken)
-length-world_from w after seat (Holding ticket) Enter taken = absurd (none-some after taken)
-length-world_from w after seat (Holding ticket) Leave taken =
-    ap (λ (v : LockWorld). length v.seats) (sym (same_Some _ after taken)) ∙ length-set w.seats seat Idle
-
--- a step makes no seat and removes none
-pub length-world_after : (w after : LockWorld) (seat : ℕ) (step : Step)
-    → world_after w seat step ≡ Some after → length after.seats ≡ length w.seats
-length-world_after w after seat step taken =
-    length-world_from w after seat (state_of w seat) step (world_after-taken w after seat step taken).1

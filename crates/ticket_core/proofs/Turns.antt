@@ -1,5 +1,7 @@
 -- Whatever the schedule, seats enter by turns, one at a time.
-use Rattle.std.proofs.Common.{◌≡◌, ℕ, zero, suc, ◌+◌, ◌<◌, ◌≤◌, List, [], ◌∷◌, ◌++◌, Option, Some, None, length, get_or, set, ltb, eqb, refl, sym, ◌∙◌, ap, subst, ⊎_elim, arith, length-append}
+use Rattle.std.proofs.Common.{◌≡◌, ℕ, zero, suc, ◌+◌, ◌<◌, ◌≤◌, List, [], ◌∷◌, ◌++◌}
+use Rattle.std.proofs.Common.{Option, Some, None, length, get_or, set, ltb, eqb, refl}
+use Rattle.std.proofs.Common.{sym, ◌∙◌, ap, subst, ⊎_elim, arith, length-append}
 use Rattle.std.specs.List.{range_with_len}
 use Rattle.std.proofs.lemmas.Bool.Decides.{Decides-eqb}
 use Rattle.std.proofs.lemmas.List.{get_or-set_same}
@@ -8,10 +10,13 @@ use Rattle.ticket_core.specs.declared.SeatState.{SeatState}
 use Rattle.ticket_core.specs.declared.SeatState.TheVariants.{Idle, Waiting, Holding}
 use Rattle.ticket_core.specs.declared.Step.{Step}
 use Rattle.ticket_core.specs.declared.Step.TheVariants.{Draw, Look, Enter, Leave}
-use Rattle.ticket_core.specs.LockWorld.{LockWorld, state_of, world_from, world_after, ticket_of, HasTicket, Holds, IsLawful}
-use Rattle.ticket_core.specs.Schedule.{Move, Run, opened_run, entry_of, run_into, run_after, run_all, KeepsTurns}
+use Rattle.ticket_core.specs.LockWorld.{LockWorld, state_of, world_from, world_after}
+use Rattle.ticket_core.specs.LockWorld.{ticket_of, HasTicket, Holds, IsLawful}
+use Rattle.ticket_core.specs.Schedule.{Move, Run, opened_run, entry_of}
+use Rattle.ticket_core.specs.Schedule.{run_into, run_after, run_all, KeepsTurns}
 use Rattle.ticket_core.proofs.Seats.{get_or-set_cases}
-use Rattle.ticket_core.proofs.Lawful.{HasTicket-holder, IsLawful-world_from, IsLawful-opened_world, state_of-opened_world, world_after-taken}
+use Rattle.ticket_core.proofs.Lawful.{HasTicket-holder, IsLawful-world_from, IsLawful-opened_world}
+use Rattle.ticket_core.proofs.Lawful.{state_of-opened_world, world_after-taken}
 
 -- nothing at the end leaves a list as it is
 append-nil : (xs : List ℕ) → xs ++ [] ≡ xs
@@ -41,8 +46,8 @@ holder_is_least w lawful a b s t holds has =
     omega arith
 
 -- in a lawful world nobody holds while a seat waits with the served ticket
-pub none_holds : (w : LockWorld) → IsLawful w → (seat own : ℕ) → state_of w seat ≡ Waiting own → own ≡ w.served
-    → (other ticket : ℕ) → Holds w other ticket → ⊥
+pub none_holds : (w : LockWorld) → IsLawful w → (seat own : ℕ)
+    → state_of w seat ≡ Waiting own → own ≡ w.served → (other ticket : ℕ) → Holds w other ticket → ⊥
 none_holds w lawful seat own waits is_served other ticket holds =
     let t : ticket ≡ own = lawful.served_holds other ticket holds ∙ sym is_served in
     let has : HasTicket w other own = HasTicket-holder w other ticket holds ∙ ap Some t in
@@ -59,7 +64,8 @@ record CountsEntries (first : ℕ) (run : Run) : Type 0 where
       → first + length run.entered ≡ run.world.served + 1
 
 -- the rest of the law follows from a lawful world
-KeepsTurns-from : (first : ℕ) (run : Run) → IsLawful run.world → CountsEntries first run → KeepsTurns first run
+KeepsTurns-from : (first : ℕ) (run : Run) → IsLawful run.world → CountsEntries first run
+    → KeepsTurns first run
 KeepsTurns-from first run lawful counts = record {
   lawful = lawful;
   one_holder = one_holder run.world lawful;
@@ -69,7 +75,8 @@ KeepsTurns-from first run lawful counts = record {
   all_but_holder = counts.all_but_holder;
 }
 
-module _ (first : ℕ) (run : Run) (turns : KeepsTurns first run) (seat : ℕ) (exists : seat < length run.world.seats) where
+module _ (first : ℕ) (run : Run) (turns : KeepsTurns first run) (seat : ℕ)
+    (exists : seat < length run.world.seats) where
   -- what one seat does changes no holder where it neither held nor holds
   CountsEntries-same : (old new : SeatState) (after : LockWorld) → state_of run.world seat ≡ old
       → ((ticket : ℕ) → old ≡ Holding ticket → ⊥) → ((ticket : ℕ) → new ≡ Holding ticket → ⊥)
@@ -105,7 +112,8 @@ module _ (first : ℕ) (run : Run) (turns : KeepsTurns first run) (seat : ℕ) (
       })
   CountsEntries-enter own waits is_served =
       let so_far = turns.all_left (none_holds run.world turns.lawful seat own waits is_served) in
-      let more : length (run.entered ++ own ∷ []) ≡ length run.entered + 1 = length-append run.entered (own ∷ []) in
+      let more : length (run.entered ++ own ∷ []) ≡ length run.entered + 1 =
+      length-append run.entered (own ∷ []) in
       let last : own ≡ first + length run.entered = is_served ∙ sym so_far in
       let holds = get_or-set_same run.world.seats seat (Holding own) Idle exists in
       record {
@@ -132,14 +140,24 @@ module _ (first : ℕ) (run : Run) (turns : KeepsTurns first run) (seat : ℕ) (
         (get_or-set_cases run.world.seats seat Idle exists other);
   }
 
+  -- the counts go with the world, where it is another one's
+  CountsEntries-at : (entered : List ℕ) (w after : LockWorld) → w ≡ after
+      → CountsEntries first (record { world = w; entered = entered })
+      → CountsEntries first (record { world = after; entered = entered })
+  CountsEntries-at entered w after same counts =
+      subst (λ (v : LockWorld). CountsEntries first (record { world = v; entered = entered })) same counts
+
   -- a step from the seat's state counts its entry
-  CountsEntries-world_from : (state : SeatState) (step : Step) (after : LockWorld) → state_of run.world seat ≡ state
-      → world_from run.world seat state step ≡ Some after
+  CountsEntries-world_from : (state : SeatState) (step : Step) (after : LockWorld)
+      → state_of run.world seat ≡ state → world_from run.world seat state step ≡ Some after
       → CountsEntries first (record { world = after; entered = run.entered ++ entry_of state step })
   CountsEntries-world_from Idle Draw after is taken =
       let e = sym (same_Some _ after taken) in
-      rw append-nil (CountsEntries-same Idle (Waiting run.world.next) after is (λ ticket holds. cc) (λ ticket holds. cc)
-      (ap (λ (w : LockWorld). w.served) e) (ap (λ (w : LockWorld). w.seats) e))
+      let served = ap (λ (w : LockWorld). w.served) e in
+      let seats = ap (λ (w : LockWorld). w.seats) e in
+      let waits : SeatState = Waiting run.world.next in
+      let same = CountsEntries-same Idle waits after is (λ ticket holds. cc) (λ ticket holds. cc) served seats in
+      rw append-nil same
   CountsEntries-world_from Idle Look after is taken = absurd (none-some after taken)
   CountsEntries-world_from Idle Enter after is taken = absurd (none-some after taken)
   CountsEntries-world_from Idle Leave after is taken = absurd (none-some after taken)
@@ -151,12 +169,12 @@ module _ (first : ℕ) (run : Run) (turns : KeepsTurns first run) (seat : ℕ) (
         all_left = turns.all_left;
         all_but_holder = turns.all_but_holder;
       } in
-      rw append-nil (subst (λ (w : LockWorld). CountsEntries first (record { world = w; entered = run.entered })) e same)
+      rw append-nil (CountsEntries-at run.entered _ after e same)
   CountsEntries-world_from (Waiting own) Enter after is taken =
       let inside : LockWorld = record run.world { seats = set run.world.seats seat (Holding own) } in
       let t = cond_some (eqb own run.world.served) inside after taken in
       let counts = CountsEntries-enter own is ((Decides-eqb own run.world.served).0 t.0) in
-      subst (λ (w : LockWorld). CountsEntries first (record { world = w; entered = run.entered ++ own ∷ [] })) t.1 counts
+      CountsEntries-at (run.entered ++ own ∷ []) inside after t.1 counts
   CountsEntries-world_from (Waiting own) Leave after is taken = absurd (none-some after taken)
   CountsEntries-world_from (Holding own) Draw after is taken = absurd (none-some after taken)
   CountsEntries-world_from (Holding own) Look after is taken = absurd (none-some after taken)
@@ -164,11 +182,12 @@ module _ (first : ℕ) (run : Run) (turns : KeepsTurns first run) (seat : ℕ) (
   CountsEntries-world_from (Holding own) Leave after is taken =
       let e = same_Some _ after taken in
       let counts = CountsEntries-leave own is in
-      rw append-nil (subst (λ (w : LockWorld). CountsEntries first (record { world = w; entered = run.entered })) e counts)
+      rw append-nil (CountsEntries-at run.entered _ after e counts)
 
 -- a move, taken or passed over, keeps the law
 KeepsTurns-run_into : (first : ℕ) (run : Run) (move : Move) (o : Option LockWorld)
-    → world_after run.world move.seat move.step ≡ o → KeepsTurns first run → KeepsTurns first (run_into run move o)
+    → world_after run.world move.seat move.step ≡ o → KeepsTurns first run
+    → KeepsTurns first (run_into run move o)
 KeepsTurns-run_into first run move None passed turns = turns
 KeepsTurns-run_into first run move (Some after) taken turns =
     let t = world_after-taken run.world after move.seat move.step taken in
@@ -184,7 +203,8 @@ KeepsTurns-opened_run seats first =
       entered_in_turn = refl;
       all_left = λ nobody. omega arith;
       all_but_holder = λ seat ticket holds.
-          let same : Idle ≡ Holding ticket = sym (state_of-opened_world seats first seat) ∙ holds in absurd (cc);
+          let same : Idle ≡ Holding ticket = sym (state_of-opened_world seats first seat) ∙ holds in
+          absurd (cc);
     })
 
 -- a whole schedule keeps the law

@@ -1,5 +1,7 @@
 -- The words follow the world that they stand for: a step does to the words what it does to the world.
-use Rattle.std.proofs.Common.{◌≡◌, ℕ, ◌+◌, ◌%◌, ◌^◌, ◌<◌, ◌≤◌, Bool, true, false, not, cond, IsTrue, Option, Some, None, option_map, map, length, get_or, set, ltb, eqb, refl, sym, ◌∙◌, ap, arith}
+use Rattle.std.proofs.Common.{◌≡◌, ℕ, ◌+◌, ◌%◌, ◌^◌, ◌<◌, ◌≤◌, Bool, true, false, not}
+use Rattle.std.proofs.Common.{cond, IsTrue, Option, Some, None, option_map, map}
+use Rattle.std.proofs.Common.{length, get_or, set, ltb, eqb, refl, sym, ◌∙◌, ap, arith}
 use Rattle.std.proofs.Math.Nat.{mod-add-mod}
 use Rattle.std.proofs.Math.ListN.{get_or-map}
 use Rattle.std.proofs.lemmas.Bool.Decides.{nat_tests}
@@ -10,7 +12,8 @@ use Rattle.ticket_core.specs.declared.SeatState.{SeatState}
 use Rattle.ticket_core.specs.declared.SeatState.TheVariants.{Idle, Waiting, Holding}
 use Rattle.ticket_core.specs.declared.Step.{Step}
 use Rattle.ticket_core.specs.declared.Step.TheVariants.{Draw, Look, Enter, Leave}
-use Rattle.ticket_core.specs.LockWorld.{LockWorld, state_of, world_from, world_after, ticket_of, has_ticket, HasTicket, IsLawful}
+use Rattle.ticket_core.specs.LockWorld.{LockWorld, state_of, world_from, world_after}
+use Rattle.ticket_core.specs.LockWorld.{ticket_of, has_ticket, HasTicket, IsLawful}
 use Rattle.ticket_core.specs.World.{Words, shown_state, words_of, StandForLawful}
 use Rattle.ticket_core.proofs.Lawful.{IsLawful-world_after}
 
@@ -20,7 +23,8 @@ one_turn a b from below same = omega arith
 
 -- what a step of a seat that shows this state does to the words
 abbrev pub words_from : Words → ℕ → SeatState → Step → Option Words
-words_from v seat Idle Draw = Some (record v { next = (v.next + 1) % 2 ^ 64; shown = set v.shown seat (Waiting v.next) })
+words_from v seat Idle Draw =
+    Some (record v { next = (v.next + 1) % 2 ^ 64; shown = set v.shown seat (Waiting v.next) })
 words_from v seat Idle Look = None
 words_from v seat Idle Enter = None
 words_from v seat Idle Leave = None
@@ -47,7 +51,8 @@ module _ (w : LockWorld) (seat : ℕ) (lawful : IsLawful w) (few : length w.seat
   served_by_residue ticket has same =
       let from = lawful.from_served seat ticket has in
       let below = lawful.below_next seat ticket has in
-      one_turn w.served ticket from (omega (arith, lawful.counted, count_by-le-length has_ticket w.seats)) same
+      let near = count_by-le-length has_ticket w.seats in
+      one_turn w.served ticket from (omega (arith, lawful.counted, near)) same
 
   -- the word served tells whether a ticket in flight is served
   same_test : (ticket : ℕ) → HasTicket w seat ticket
@@ -60,7 +65,8 @@ module _ (w : LockWorld) (seat : ℕ) (lawful : IsLawful w) (few : length w.seat
 
   -- from each state, a step does to the words what it does to the world
   words_from-words_of : (state : SeatState) (step : Step) → state_of w seat ≡ state
-      → words_from (words_of w) seat (shown_state state) step ≡ option_map words_of (world_from w seat state step)
+      → words_from (words_of w) seat (shown_state state) step
+      ≡ option_map words_of (world_from w seat state step)
   words_from-words_of Idle Draw is =
       let next = mod-add-mod w.next (2 ^ 64) 1 in
       let shown = map-set shown_state w.seats seat (Waiting w.next) in
@@ -71,14 +77,18 @@ module _ (w : LockWorld) (seat : ℕ) (lawful : IsLawful w) (few : length w.seat
   words_from-words_of (Waiting ticket) Draw is = refl
   words_from-words_of (Waiting ticket) Look is =
       let has : HasTicket w seat ticket = ap ticket_of is in
-      let told : Bool → Type 0 = λ b. cond b None (Some (words_of w)) ≡ option_map words_of (cond (not b) (Some w) None) in
-      rw (same_test ticket has, later_test ticket has) (elim (eqb ticket w.served) as told [ true ↦ refl | false ↦ refl ])
+      let told : Bool → Type 0 =
+      λ b. cond b None (Some (words_of w)) ≡ option_map words_of (cond (not b) (Some w) None) in
+      let each = elim (eqb ticket w.served) as told [ true ↦ refl | false ↦ refl ] in
+      rw (same_test ticket has, later_test ticket has) each
   words_from-words_of (Waiting ticket) Enter is =
       let has : HasTicket w seat ticket = ap ticket_of is in
       let inside : LockWorld = record w { seats = set w.seats seat (Holding ticket) } in
-      let shown : Words = record (words_of w) { shown = set (map shown_state w.seats) seat (Holding (ticket % 2 ^ 64)) } in
+      let held = set (map shown_state w.seats) seat (Holding (ticket % 2 ^ 64)) in
+      let shown : Words = record (words_of w) { shown = held } in
       let same : shown ≡ words_of inside = let e = map-set shown_state w.seats seat (Holding ticket) in cc in
-      let told : Bool → Type 0 = λ b. cond b (Some shown) None ≡ option_map words_of (cond b (Some inside) None) in
+      let told : Bool → Type 0 =
+      λ b. cond b (Some shown) None ≡ option_map words_of (cond b (Some inside) None) in
       rw (same_test ticket has) (elim (eqb ticket w.served) as told [ true ↦ ap Some same | false ↦ refl ])
   words_from-words_of (Waiting ticket) Leave is = refl
   words_from-words_of (Holding ticket) Draw is = refl
@@ -97,8 +107,8 @@ module _ (w : LockWorld) (seat : ℕ) (lawful : IsLawful w) (few : length w.seat
       let shown : get_or (map shown_state w.seats) seat Idle ≡ shown_state (state_of w seat) =
       get_or-map shown_state w.seats seat Idle in
       let inside = words_from (words_of w) seat (shown_state (state_of w seat)) step in
-      let told : Bool → Type 0 =
-      λ b. cond b inside None ≡ option_map words_of (cond b (world_from w seat (state_of w seat) step) None) in
+      let after = world_from w seat (state_of w seat) step in
+      let told : Bool → Type 0 = λ b. cond b inside None ≡ option_map words_of (cond b after None) in
       let each = words_from-words_of (state_of w seat) step refl in
       rw (count, shown) (elim (ltb seat (length w.seats)) as told [ true ↦ each | false ↦ refl ])
 
@@ -109,13 +119,15 @@ module _ (old : Words) (seat : ℕ) (step : Step) (few : length old.shown ≤ 64
   words_after-stands w lawful stands =
       let count : length (map shown_state w.seats) ≡ length w.seats = simp length-map in
       let same : length old.shown ≡ length w.seats = ap (λ (v : Words). length v.shown) stands ∙ count in
-      ap (λ (v : Words). words_after v seat step) stands ∙ words_after-words_of w seat lawful (omega arith) step
+      ap (λ (v : Words). words_after v seat step) stands
+      ∙ words_after-words_of w seat lawful (omega arith) step
 
   -- where both take the step, the words after it stand for the world after it
   stands_after : (new : Words) (w after : LockWorld) → IsLawful w → old ≡ words_of w
       → words_after old seat step ≡ Some new → world_after w seat step ≡ Some after → new ≡ words_of after
   stands_after new w after lawful stands moved taken =
-      same_Some new (words_of after) (sym moved ∙ words_after-stands w lawful stands ∙ ap (option_map words_of) taken)
+      same_Some new (words_of after)
+      (sym moved ∙ words_after-stands w lawful stands ∙ ap (option_map words_of) taken)
 
   -- where the words take the step, so does the world
   only_taken : (new : Words) (w : LockWorld) → IsLawful w → old ≡ words_of w
@@ -127,7 +139,8 @@ module _ (old : Words) (seat : ℕ) (step : Step) (few : length old.shown ≤ 64
   only_passed : (w after : LockWorld) → IsLawful w → old ≡ words_of w
       → words_after old seat step ≡ None → world_after w seat step ≡ Some after → ⊥
   only_passed w after lawful stands stayed taken =
-      none-some (words_of after) (sym stayed ∙ words_after-stands w lawful stands ∙ ap (option_map words_of) taken)
+      none-some (words_of after)
+      (sym stayed ∙ words_after-stands w lawful stands ∙ ap (option_map words_of) taken)
 
 -- the words after a step that is taken: they stand for the world after it, and there is one
 pub record Moves (old new : Words) (seat : ℕ) (step : Step) : Type 0 where
@@ -150,7 +163,8 @@ Moves-from old new seat step few before moved =
       stands = stands_after old seat step few new stood after before.lawful before.stands moved taken;
     } in
     record {
-      taken = λ w after lawful stands taken. (refl, stands_after old seat step few new w after lawful stands moved taken);
+      taken = λ w after lawful stands taken.
+          (refl, stands_after old seat step few new w after lawful stands moved taken);
       never_passed = never;
       lawful = (elim (world_after stood seat step) as told [
         | None ↦ λ p. absurd (never stood before.lawful before.stands p)
@@ -169,10 +183,12 @@ pub record Looks (old : Words) (is_served : Bool) (seat : ℕ) (step : Step) : T
 pub Looks-from : (old : Words) (is_served : Bool) (seat : ℕ) (step : Step) → length old.shown ≤ 64
     → words_after old seat step ≡ cond is_served None (Some old) → Looks old is_served seat step
 Looks-from old true seat step few told = record {
-  taken = λ w after lawful stands taken. absurd (only_passed old seat step few w after lawful stands told taken);
+  taken = λ w after lawful stands taken.
+      absurd (only_passed old seat step few w after lawful stands told taken);
   passed = λ w lawful stands passed. (refl, refl);
 }
 Looks-from old false seat step few told = record {
-  taken = λ w after lawful stands taken. (refl, stands_after old seat step few old w after lawful stands told taken);
+  taken = λ w after lawful stands taken.
+      (refl, stands_after old seat step few old w after lawful stands told taken);
   passed = λ w lawful stands passed. absurd (only_taken old seat step few old w lawful stands told passed);
 }

@@ -1,6 +1,7 @@
--- The ticket lock in whole numbers: its worlds, the step of one seat, and what makes a world lawful. The tickets in the
--- seats' states are whole numbers here, which have no greatest one.
-use Rattle.std.specs.Prelude.{◌≡◌, ℕ, ◌+◌, ◌<◌, ◌≤◌, Bool, true, false, List, Option, Some, None, length, count_by, replicate, slice_index_or, slice_set, ◌==◌, nat_lt, if◌then◌else◌}
+-- The ticket lock in whole numbers: its worlds, the step of one seat, and what makes a world lawful. The
+-- tickets in the seats' states are whole numbers here, which have no greatest one.
+use Rattle.std.specs.Prelude.{◌≡◌, ℕ, ◌+◌, ◌<◌, ◌≤◌, Bool, true, false, List, Option, Some, None, length}
+use Rattle.std.specs.Prelude.{count_by, replicate, slice_index_or, slice_set, ◌==◌, nat_lt, if◌then◌else◌}
 use Rattle.ticket_core.specs.declared.SeatState.{SeatState}
 use Rattle.ticket_core.specs.declared.SeatState.TheVariants.{Idle, Waiting, Holding}
 use Rattle.ticket_core.specs.declared.Step.{Step}
@@ -23,7 +24,8 @@ state_of w seat = slice_index_or w.seats seat Idle
 -- the world after a step of a seat in this state; None where the seat cannot take it
 abbrev pub world_from : LockWorld → ℕ → SeatState → Step → Option LockWorld
 -- an idle seat draws the next ticket, and waits with it
-world_from w seat Idle Draw = Some (record w { next = w.next + 1; seats = slice_set w.seats seat (Waiting w.next) })
+world_from w seat Idle Draw =
+    Some (record w { next = w.next + 1; seats = slice_set w.seats seat (Waiting w.next) })
 world_from w seat Idle Look = None
 world_from w seat Idle Enter = None
 world_from w seat Idle Leave = None
@@ -37,11 +39,13 @@ world_from w seat (Waiting ticket) Leave = None
 world_from w seat (Holding ticket) Draw = None
 world_from w seat (Holding ticket) Look = None
 world_from w seat (Holding ticket) Enter = None
-world_from w seat (Holding ticket) Leave = Some (record w { served = w.served + 1; seats = slice_set w.seats seat Idle })
+world_from w seat (Holding ticket) Leave =
+    Some (record w { served = w.served + 1; seats = slice_set w.seats seat Idle })
 
 -- the world after a seat's step; None where there is no such seat, or it cannot take the step
 abbrev pub world_after : LockWorld → ℕ → Step → Option LockWorld
-world_after w seat step = if nat_lt seat (length w.seats) then world_from w seat (state_of w seat) step else None
+world_after w seat step =
+    if nat_lt seat (length w.seats) then world_from w seat (state_of w seat) step else None
 
 -- the ticket that a seat in this state has in flight
 abbrev pub ticket_of : SeatState → Option ℕ
@@ -63,7 +67,8 @@ HasTicket w seat ticket = ticket_of (state_of w seat) ≡ Some ticket
 abbrev pub Holds : LockWorld → ℕ → ℕ → Type 0
 Holds w seat ticket = state_of w seat ≡ Holding ticket
 
--- the tickets in flight are those from the served one to below the next, each of one seat, and only the served one holds
+-- the tickets in flight are those from the served one to below the next, each of one seat, and only the
+-- served one holds
 pub record IsLawful (w : LockWorld) : Type 0 where
   pub counted : w.next ≡ w.served + count_by has_ticket w.seats
   pub from_served : (seat ticket : ℕ) → HasTicket w seat ticket → w.served ≤ ticket

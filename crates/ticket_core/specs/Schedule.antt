@@ -5,7 +5,8 @@ use Rattle.ticket_core.specs.declared.SeatState.{SeatState}
 use Rattle.ticket_core.specs.declared.SeatState.TheVariants.{Idle, Waiting, Holding}
 use Rattle.ticket_core.specs.declared.Step.{Step}
 use Rattle.ticket_core.specs.declared.Step.TheVariants.{Draw, Look, Enter, Leave}
-use Rattle.ticket_core.specs.LockWorld.{LockWorld, opened_world, state_of, world_after, HasTicket, Holds, IsLawful}
+use Rattle.ticket_core.specs.LockWorld.{LockWorld, opened_world, state_of}
+use Rattle.ticket_core.specs.LockWorld.{world_after, HasTicket, Holds, IsLawful}
 
 -- a step that a seat tries
 pub record Move : Type 0 where
@@ -39,7 +40,8 @@ entry_of (Holding ticket) Leave = []
 -- the run in the world after a move; a move that cannot be taken is passed over
 abbrev pub run_into : Run → Move → Option LockWorld → Run
 run_into run move None = run
-run_into run move (Some w) = record { world = w; entered = run.entered ++ entry_of (state_of run.world move.seat) move.step }
+run_into run move (Some w) =
+    record { world = w; entered = run.entered ++ entry_of (state_of run.world move.seat) move.step }
 
 -- the run after one move
 abbrev pub run_after : Run → Move → Run
@@ -50,8 +52,9 @@ abbrev pub run_all : Run → List Move → Run
 run_all run [] = run
 run_all run (move ∷ moves) = run_all (run_after run move) moves
 
--- what every schedule of a lock opened with this first ticket keeps: one holder at most, who has the least ticket in
--- flight, and entries with the first ticket, the one after it and so on, up to the ticket served or the holder's
+-- what every schedule of a lock opened with this first ticket keeps: one holder at most, who has the least
+-- ticket in flight, and entries with the first ticket, the one after it and so on, up to the ticket served
+-- or the holder's
 pub record KeepsTurns (first : ℕ) (run : Run) : Type 0 where
   pub lawful : IsLawful run.world
   pub one_holder : (a b s t : ℕ) → Holds run.world a s → Holds run.world b t → a ≡ b

@@ -9,9 +9,6 @@ ghost use Rattle.ticket_core.specs.World.{words_of, shown_state, StandForLawful}
 
 use std::marker::Model;
 
-#[cfg(test)]
-mod tests;
-
 /// The most seats that a lock has. So at most this many tickets are in flight, and a word of 64 bits
 /// names one of them.
 pub const MAX_SEATS: usize = 64;

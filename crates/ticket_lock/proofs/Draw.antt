@@ -1,5 +1,6 @@
 -- A draw keeps the rule, and is the core's.
-use Rattle.std.proofs.Common.{◌≡◌, ◌≢◌, ℕ, ◌+◌, ◌%◌, ◌^◌, ◌<◌, List, [], ◌∷◌, get_or, set, Option, Some, refl, sym, ap, ◌∙◌, subst}
+use Rattle.std.proofs.Common.{◌≡◌, ◌≢◌, ℕ, ◌+◌, ◌%◌, ◌^◌, ◌<◌, List, [], ◌∷◌, get_or, set, Option, Some, refl, sym, ap}
+use Rattle.std.proofs.Common.{◌∙◌, subst}
 use Rattle.std.proofs.Common.{⊎_elim, arith, length-set}
 use Rattle.std.specs.Prelude.{slice_index}
 use Rattle.std.proofs.Math.Nat.{mod-add-mod}
@@ -29,7 +30,8 @@ drawn_world w number = record w { next = w.next + 1; seats = set w.seats number 
 
 module _ {T H E : Type 0} (head : T → H) (entries : T → List E) (stamp : E → Stamp) (a : About H E)
     (w : LockWorld) (log : List (Logged E)) (s : State (Option T) (View H E)) (r : Stands head entries stamp a w log s)
-    (id : ℕ) (v : View H E) (at : get_elem? s.views id ≡ some v) (p : Part E) (only : v.parts ≡ p ∷ []) (idle : v.state ≡ Idle) where
+    (id : ℕ) (v : View H E) (at : get_elem? s.views id ≡ some v) (p : Part E) (only : v.parts ≡ p ∷ [])
+    (idle : v.state ≡ Idle) where
   part : PartStands head entries stamp a w log v.state p
   part = (own_part head entries stamp a w log s r id v at p only).1
 
@@ -41,7 +43,8 @@ module _ {T H E : Type 0} (head : T → H) (entries : T → List E) (stamp : E �
   held_before j t h = ⊎_elim
       (λ (c : (j ≡ p.number) × (get_or (set w.seats p.number (Waiting w.next)) j Idle ≡ Waiting w.next)).
       let e : Waiting w.next ≡ Holding t = sym c.1 ∙ h in absurd (cc))
-      (λ (c : (j ≢ p.number) × (get_or (set w.seats p.number (Waiting w.next)) j Idle ≡ get_or w.seats j Idle)). sym c.1 ∙ h)
+      (λ (c : (j ≢ p.number) × (get_or (set w.seats p.number (Waiting w.next)) j Idle ≡ get_or w.seats j Idle)).
+      sym c.1 ∙ h)
       (get_or-set_cases w.seats p.number (Waiting w.next) part.exists j)
 
   -- and who held holds
@@ -49,7 +52,8 @@ module _ {T H E : Type 0} (head : T → H) (entries : T → List E) (stamp : E �
   held_after j t h = ⊎_elim
       (λ (c : (j ≡ p.number) × (get_or (set w.seats p.number (Waiting w.next)) j Idle ≡ Waiting w.next)).
       let e : Idle ≡ Holding t = sym is_idle ∙ ap (state_of w) (sym c.0) ∙ h in absurd (cc))
-      (λ (c : (j ≢ p.number) × (get_or (set w.seats p.number (Waiting w.next)) j Idle ≡ get_or w.seats j Idle)). c.1 ∙ h)
+      (λ (c : (j ≢ p.number) × (get_or (set w.seats p.number (Waiting w.next)) j Idle ≡ get_or w.seats j Idle)).
+      c.1 ∙ h)
       (get_or-set_cases w.seats p.number (Waiting w.next) part.exists j)
 
   -- the part of the seat that drew
@@ -71,7 +75,8 @@ module _ {T H E : Type 0} (head : T → H) (entries : T → List E) (stamp : E �
       }
   draw_is_the_cores = (
     world_after-draw w p.number part.exists is_idle,
-    stands_after head entries stamp a w log s r id v at p only (drawn_world w p.number) log _ s.homes (drawn_view v w.next)
+    stands_after head entries stamp a w log s r id v at p only (drawn_world w p.number) log _ s.homes
+        (drawn_view v w.next)
         (IsLawful-draw w p.number r.lawful part.exists is_idle)
         (length-set w.seats p.number (Waiting w.next))
         (ap (λ (ws : List ℕ). set ws 0 ((slice_index ws 0 + 1) % 2 ^ 64)) r.words
@@ -90,7 +95,8 @@ module _ {T H E : Type 0} (head : T → H) (entries : T → List E) (stamp : E �
 -- what the table asks of a draw
 pub draws : {T H E : Type 0} (head : T → H) (entries : T → List E) (stamp : E → Stamp) (a : About H E)
     (slots id : ℕ) (v : View H E) (c : List (ℕ × Option T)) (p : Part E) → v.parts ≡ p ∷ [] → v.state ≡ Idle
-    → Allows (Ruled head entries stamp a) slots id (v, c) 0 (λ n. (n + 1) % 2 ^ 64) (Drawn stamp (step 0 0 0 0 none) (v, c))
+    → Allows (Ruled head entries stamp a) slots id (v, c) 0 (λ n. (n + 1) % 2 ^ 64)
+    (Drawn stamp (step 0 0 0 0 none) (v, c))
 draws head entries stamp a slots id v c p only idle s (w, log, r) deep at fits = (
   drawn_view v w.next,
   keeps,

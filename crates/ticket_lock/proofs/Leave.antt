@@ -1,5 +1,6 @@
 -- A leave keeps the rule, and is the core's.
-use Rattle.std.proofs.Common.{◌≡◌, ◌≢◌, ℕ, ◌+◌, ◌%◌, ◌^◌, ◌<◌, List, [], ◌∷◌, ◌++◌, map, length, get_or, set, Option, Some, None, refl}
+use Rattle.std.proofs.Common.{◌≡◌, ◌≢◌, ℕ, ◌+◌, ◌%◌, ◌^◌, ◌<◌, List, [], ◌∷◌, ◌++◌, map, length, get_or, set, Option}
+use Rattle.std.proofs.Common.{Some, None, refl}
 use Rattle.std.proofs.Common.{sym, ap, ◌∙◌, subst, ⊎_elim, arith, length-set}
 use Rattle.std.specs.Prelude.{slice_index}
 use Rattle.std.proofs.Math.Nat.{mod-add-mod}
@@ -20,9 +21,10 @@ use Rattle.ticket_lock.specs.declared.board.About.{About}
 use Rattle.ticket_lock.specs.declared.board.Logged.{Logged}
 use Rattle.ticket_lock.specs.declared.board.Part.{Part}
 use Rattle.ticket_lock.specs.declared.board.View.{View}
-use Rattle.ticket_lock.specs.Rule.{head_in, owns_of, entry_of, Extends, IsOfOthers, IsOrdered, IsJournal, PartStands, Stands, Ruled}
+use Rattle.ticket_lock.specs.Rule.{head_in, owns_of, ended_by, entry_of, Extends, IsOfOthers, IsOrdered, IsJournal}
+use Rattle.ticket_lock.specs.Rule.{PartStands, Stands, Ruled}
 use Rattle.ticket_lock.specs.Standing.{opening_in}
-use Rattle.ticket_lock.specs.Plays.{part_with, left_view, IsAdded, MayPut, Left}
+use Rattle.ticket_lock.specs.Plays.{part_left, left_view, IsAdded, MayPut, Left}
 use Rattle.ticket_lock.proofs.Logs.{Extends-self, Extends-more, IsOrdered-wider, IsOrdered-push}
 use Rattle.ticket_lock.proofs.OneSeat.{own_part, stands_after}
 
@@ -40,19 +42,22 @@ module _ {E : Type 0} (stamp : E → Stamp) (number t : ℕ) where
   IsAdded-others : (j : ℕ) (more : List (Logged E)) → j ≢ number → IsAdded stamp number t more → IsOfOthers stamp j more
   IsAdded-others j more n added = ⊎_elim
       (λ (e : more ≡ []). subst (IsOfOthers stamp j) (sym e) tt)
-      (λ (d : (e : E) × (more ≡ record { entry = e; ticket = t } ∷ []) × (stamp e ≡ record { seat = number; ticket = t % 2 ^ 64 })).
+      (λ (d : (e : E) × (more ≡ record { entry = e; ticket = t } ∷ [])
+      × (stamp e ≡ record { seat = number; ticket = t % 2 ^ 64 })).
       subst (IsOfOthers stamp j) (sym d.1) ((λ same. n (sym same ∙ ap (λ (z : Stamp). z.seat) d.2)), tt))
       added
 
   -- it is in order behind a log that is in order
-  pub IsOrdered-added : (first seats : ℕ) (log more : List (Logged E)) → number < seats → IsOrdered stamp first seats log t
+  pub IsOrdered-added : (first seats : ℕ) (log more : List (Logged E)) → number < seats
+      → IsOrdered stamp first seats log t
       → IsAdded stamp number t more
       → IsOrdered stamp first seats (log ++ more) (t + 1)
   IsOrdered-added first seats log more exists o added = ⊎_elim
       (λ (e : more ≡ []). subst (λ (l : List (Logged E)). IsOrdered stamp first seats l (t + 1))
       (sym (append-nil log) ∙ ap (λ (l : List (Logged E)). log ++ l) (sym e))
       (IsOrdered-wider stamp first seats log t (t + 1) (omega arith) o))
-      (λ (d : (e : E) × (more ≡ record { entry = e; ticket = t } ∷ []) × (stamp e ≡ record { seat = number; ticket = t % 2 ^ 64 })).
+      (λ (d : (e : E) × (more ≡ record { entry = e; ticket = t } ∷ [])
+      × (stamp e ≡ record { seat = number; ticket = t % 2 ^ 64 })).
       subst (λ (l : List (Logged E)). IsOrdered stamp first seats (log ++ l) (t + 1)) (sym d.1)
       (IsOrdered-push stamp first seats log (record { entry = d.0; ticket = t }) o
       (ap (λ (z : Stamp). z.ticket) d.2, subst (λ (n : ℕ). n < seats) (sym (ap (λ (z : Stamp). z.seat) d.2)) exists)))
@@ -88,14 +93,17 @@ module _ {T H E : Type 0} (head : T → H) (entries : T → List E) (stamp : E �
   -- nobody holds afterwards
   none_after : (j u : ℕ) → Holds (left_world w p.number) j u → ⊥
   none_after j u h = ⊎_elim
-      (λ (c : (j ≡ p.number) × (get_or (set w.seats p.number Idle) j Idle ≡ Idle)). let e : Idle ≡ Holding u = sym c.1 ∙ h in absurd (cc))
-      (λ (c : (j ≢ p.number) × (get_or (set w.seats p.number Idle) j Idle ≡ get_or w.seats j Idle)). alone j u c.0 (sym c.1 ∙ h))
+      (λ (c : (j ≡ p.number) × (get_or (set w.seats p.number Idle) j Idle ≡ Idle)).
+      let e : Idle ≡ Holding u = sym c.1 ∙ h in absurd (cc))
+      (λ (c : (j ≢ p.number) × (get_or (set w.seats p.number Idle) j Idle ≡ get_or w.seats j Idle)).
+      alone j u c.0 (sym c.1 ∙ h))
       (get_or-set_cases w.seats p.number Idle mine.1.exists j)
 
   -- the grown log is in order
   pub ordered_after : IsOrdered stamp a.first a.seats (log ++ added) (w.served + 1)
   ordered_after = subst (λ (n : ℕ). IsOrdered stamp a.first a.seats (log ++ added) (n + 1)) is_served
-      (IsOrdered-added stamp p.number t a.first a.seats log added (subst (λ (n : ℕ). p.number < n) r.sized mine.1.exists)
+      (IsOrdered-added stamp p.number t a.first a.seats log added
+      (subst (λ (n : ℕ). p.number < n) r.sized mine.1.exists)
       (subst (IsOrdered stamp a.first a.seats log) (sym is_served) r.ordered) may.1.2)
 
   -- the value has the grown log
@@ -107,8 +115,8 @@ module _ {T H E : Type 0} (head : T → H) (entries : T → List E) (stamp : E �
   )
 
   -- the part of the seat that left
-  part_left : PartStands head entries stamp a (left_world w p.number) (log ++ added) Idle (part_with p added)
-  part_left = record {
+  part_stands_left : PartStands head entries stamp a (left_world w p.number) (log ++ added) Idle (part_left p added)
+  part_stands_left = record {
     exists = subst (λ (n : ℕ). p.number < n) (sym (length-set w.seats p.number Idle)) mine.1.exists;
     state_is = get_or-set_same w.seats p.number Idle Idle mine.1.exists;
     seen = subst (λ (l : List (Logged E)). Extends stamp p.number (l ++ added) (log ++ added)) (sym all_seen)
@@ -134,14 +142,14 @@ module _ {T H E : Type 0} (head : T → H) (entries : T → List E) (stamp : E �
             (length-set w.seats p.number Idle)
             (ap (λ (ws : List ℕ). set ws 1 ((slice_index ws 1 + 1) % 2 ^ 64)) r.words
             ∙ ap (λ (n : ℕ). w.next % 2 ^ 64 ∷ n ∷ []) (mod-add-mod w.served (2 ^ 64) 1))
-            refl (omega arith)
+            refl (omega (arith, ap (λ (ps : List (Part E)). ended_by ps) only))
             (λ k. sym (ap (owns_of k) only))
             (sym (ap (λ (ps : List (Part E)). length ps) only))
             ordered_after
             (λ j n. get_or-set_other w.seats p.number j Idle Idle n)
             (λ j seen n e. Extends-more stamp j seen log added e (IsAdded-others stamp p.number t j added n may.1.2))
             (λ j u n h. absurd (alone j u n h))
-            ((mine.0, part_left), tt)
+            ((mine.0, part_stands_left), tt)
             (λ nobody. (x, filled, put_back_is))
             (λ k u h. absurd (none_after k u h)),
       )
@@ -158,7 +166,11 @@ module _ {T H E : Type 0} (head : T → H) (entries : T → List E) (stamp : E �
         left_view v p more,
         gives,
         tt,
-        (left_world w p.number, log ++ more, (leave_is_the_cores head entries stamp a w log s r id v at p only t holding x may).1),
+        (
+          left_world w p.number,
+          log ++ more,
+          (leave_is_the_cores head entries stamp a w log s r id v at p only t holding x may).1,
+        ),
         λ q u y only_q holding_q carried.
             let same_p : p ≡ q = cc in
             let same_t : t ≡ u = cc in
@@ -185,6 +197,8 @@ module _ {T H E : Type 0} (head : T → H) (entries : T → List E) (stamp : E �
 
   -- what the table asks of a leave
   pub leaves : (c : List (ℕ × Option T)) → c ≡ (0, Some x) ∷ []
-      → Allows (Ruled head entries stamp a) slots id (v, c) 1 (λ n. (n + 1) % 2 ^ 64) (Left stamp head entries (step 0 0 0 0 none) (v, c))
-  leaves c e = subst (λ (d : List (ℕ × Option T)). Allows (Ruled head entries stamp a) slots id (v, d) 1 (λ n. (n + 1) % 2 ^ 64)
+      → Allows (Ruled head entries stamp a) slots id (v, c) 1 (λ n. (n + 1) % 2 ^ 64)
+      (Left stamp head entries (step 0 0 0 0 none) (v, c))
+  leaves c e =
+      subst (λ (d : List (ℕ × Option T)). Allows (Ruled head entries stamp a) slots id (v, d) 1 (λ n. (n + 1) % 2 ^ 64)
       (Left stamp head entries (step 0 0 0 0 none) (v, d))) (sym e) leaves_with

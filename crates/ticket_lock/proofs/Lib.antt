@@ -11,3 +11,5 @@ pub mod Opened
 pub mod Numbers
 pub mod Tokens
 pub mod Gathered
+pub mod Moved
+pub mod Running

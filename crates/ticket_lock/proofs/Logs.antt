@@ -25,7 +25,8 @@ module _ {E : Type 0} where
       let here : from ≤ x.ticket = a.0 in omega arith
 
   -- tickets below a number are below a greater one
-  pub Ascends-wider : (from : ℕ) (xs : List (Logged E)) (below wide : ℕ) → below ≤ wide → Ascends from xs below → Ascends from xs wide
+  pub Ascends-wider : (from : ℕ) (xs : List (Logged E)) (below wide : ℕ) → below ≤ wide → Ascends from xs below
+      → Ascends from xs wide
   Ascends-wider from [] below wide h a = let here : from ≤ below = a in omega arith
   Ascends-wider from (x ∷ xs) below wide h a = (a.0, Ascends-wider (x.ticket + 1) xs below wide h a.1)
 
@@ -36,7 +37,8 @@ module _ {E : Type 0} where
   Ascends-push from (y ∷ xs) x a = (a.0, Ascends-push (y.ticket + 1) xs x a.1)
 
   -- the first of ascending tickets ascend
-  pub Ascends-front : (from : ℕ) (xs ys : List (Logged E)) (below : ℕ) → Ascends from (xs ++ ys) below → Ascends from xs below
+  pub Ascends-front : (from : ℕ) (xs ys : List (Logged E)) (below : ℕ) → Ascends from (xs ++ ys) below
+      → Ascends from xs below
   Ascends-front from [] ys below a = Ascends-bounds from ys below a
   Ascends-front from (x ∷ xs) ys below a = (a.0, Ascends-front (x.ticket + 1) xs ys below a.1)
 
@@ -52,9 +54,11 @@ module _ {E : Type 0} (stamp : E → Stamp) (first seats : ℕ) where
   IsOrdered-wider xs below wide h o = (Ascends-wider first xs below wide h o.0, o.1)
 
   -- a log with an entry of the bound behind it is ordered
-  pub IsOrdered-push : (xs : List (Logged E)) (x : Logged E) → IsOrdered stamp first seats xs x.ticket → IsStamped stamp seats x
+  pub IsOrdered-push : (xs : List (Logged E)) (x : Logged E) → IsOrdered stamp first seats xs x.ticket
+      → IsStamped stamp seats x
       → IsOrdered stamp first seats (xs ++ x ∷ []) (x.ticket + 1)
-  IsOrdered-push xs x o is = (Ascends-push first xs x o.0, Every-append (IsStamped stamp seats) xs (x ∷ []) o.1 (is, tt))
+  IsOrdered-push xs x o is =
+      (Ascends-push first xs x o.0, Every-append (IsStamped stamp seats) xs (x ∷ []) o.1 (is, tt))
 
   -- what was seen of an ordered log is ordered
   pub IsOrdered-seen : (number : ℕ) (seen log : List (Logged E)) (below : ℕ) → Extends stamp number seen log

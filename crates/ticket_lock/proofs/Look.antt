@@ -1,6 +1,6 @@
 -- A load of the word served keeps the rule: it is the core's entry or the core's look.
-use Rattle.std.proofs.Common.{◌≡◌, ◌≢◌, ℕ, ◌%◌, ◌^◌, ◌<◌, ◌≤◌, List, [], ◌∷◌, ◌++◌, length, set, Option, Some, refl, sym, ap, ◌∙◌}
-use Rattle.std.proofs.Common.{subst, ⊎_elim, arith, length-set}
+use Rattle.std.proofs.Common.{◌≡◌, ◌≢◌, ℕ, ◌%◌, ◌^◌, ◌<◌, ◌≤◌, List, [], ◌∷◌, ◌++◌, length, set, Option, Some, refl}
+use Rattle.std.proofs.Common.{sym, ap, ◌∙◌, ◌+◌, subst, ⊎_elim, arith, length-set}
 use Rattle.std.specs.Prelude.{slice_index}
 use Rattle.std.proofs.lemmas.List.{get_or-set_same, get_or-set_other, set-get_or}
 use Rattle.std.proofs.lemmas.Bool.{cases_eq}
@@ -19,7 +19,8 @@ use Rattle.ticket_lock.specs.declared.board.About.{About}
 use Rattle.ticket_lock.specs.declared.board.Logged.{Logged}
 use Rattle.ticket_lock.specs.declared.board.Part.{Part}
 use Rattle.ticket_lock.specs.declared.board.View.{View}
-use Rattle.ticket_lock.specs.Rule.{Every, owns_of, Extends, IsOrdered, IsJournal, PartStands, ViewStands, Stands, Ruled}
+use Rattle.ticket_lock.specs.Rule.{Every, owns_of, ended_by, Extends, IsOrdered, IsJournal, PartStands, ViewStands}
+use Rattle.ticket_lock.specs.Rule.{Stands, Ruled}
 use Rattle.ticket_lock.specs.Plays.{part_with, looked_view, entered_view, Looked}
 use Rattle.ticket_lock.proofs.Logs.{Extends-self}
 use Rattle.ticket_lock.proofs.OneSeat.{own_part, stands_after}
@@ -47,10 +48,11 @@ module _ {T H E : Type 0} (head : T → H) (entries : T → List E) (stamp : E �
 
   -- the ticket in flight with the residue found is the served one
   pub is_served : slice_index s.words 1 ≡ t % 2 ^ 64 → t ≡ w.served
-  is_served same = served_by_residue w p.number r.lawful (omega (arith, r.sized, r.few)) t (ap ticket_of is_waiting) (sym same ∙ found_is)
+  is_served same = served_by_residue w p.number r.lawful (omega (arith, r.sized, r.few)) t (ap ticket_of is_waiting)
+      (sym same ∙ found_is)
 
   -- with another residue found, an earlier ticket is served
-  is_later : ¬ (slice_index s.words 1 ≡ t % 2 ^ 64) → w.served < t
+  pub is_later : ¬ (slice_index s.words 1 ≡ t % 2 ^ 64) → w.served < t
   is_later other =
       let from : w.served ≤ t = r.lawful.from_served p.number t (ap ticket_of is_waiting) in
       ⊎_elim
@@ -100,11 +102,12 @@ module _ {T H E : Type 0} (head : T → H) (entries : T → List E) (stamp : E �
     entry_is_the_cores more is =
         let emptied : set s.homes 0 none ≡ none ∷ [] = ap (λ hs. set hs 0 none) at_home.1 in (
           world_after-enter w p.number mine.1.exists t is_waiting served,
-          stands_after head entries stamp a w log s r id v at p only (entered_world w p.number t) log _ (set s.homes 0 none)
+          stands_after head entries stamp a w log s r id v at p only (entered_world w p.number t) log _
+              (set s.homes 0 none)
               (entered_view v p t more)
               (IsLawful-enter w p.number r.lawful mine.1.exists t is_waiting served)
               (length-set w.seats p.number (Holding t))
-              (same_words 1) refl refl
+              (same_words 1) refl (ap (λ (ps : List (Part E)). w.served + ended_by ps) only)
               (λ k. sym (ap (owns_of k) only))
               (sym (ap (λ (ps : List (Part E)). length ps) only))
               r.ordered
@@ -116,10 +119,25 @@ module _ {T H E : Type 0} (head : T → H) (entries : T → List E) (stamp : E �
               (λ k u h. emptied),
         )
 
+-- after an entry the slot is with the seat
+pub has_entered : {T H E : Type 0} (head : T → H) (entries : T → List E) (stamp : E → Stamp)
+    (before after : Me (Option T) (View H E)) (p : Part E) (t found : ℕ) → before.0.parts ≡ p ∷ []
+    → before.0.state ≡ Waiting t → before.1 ≡ [] → found ≡ t % 2 ^ 64
+    → Looked stamp head entries (step 0 0 0 0 none) before found after
+    → (o : Option T) × (after.1 ≡ (0, o) ∷ [])
+has_entered head entries stamp before after p t found only waits none_held same told =
+    let did = (told p t only waits).0 same in (
+      Some did.3,
+      ap (λ (m : Me (Option _) (View _ _)). m.1) did.4
+          ∙ ap (λ (c : List (ℕ × Option _)). (0, Some did.3) ∷ c) none_held,
+    )
+
 -- what the table asks of a load by a waiting seat
 pub looks : {T H E : Type 0} (head : T → H) (entries : T → List E) (stamp : E → Stamp) (a : About H E)
-    (slots id : ℕ) (v : View H E) (c : List (ℕ × Option T)) (p : Part E) (t : ℕ) → v.parts ≡ p ∷ [] → v.state ≡ Waiting t
-    → Allows (Ruled head entries stamp a) slots id (v, c) 1 (λ n. n) (Looked stamp head entries (step 0 0 0 0 none) (v, c))
+    (slots id : ℕ) (v : View H E) (c : List (ℕ × Option T)) (p : Part E) (t : ℕ) → v.parts ≡ p ∷ []
+    → v.state ≡ Waiting t
+    → Allows (Ruled head entries stamp a) slots id (v, c) 1 (λ n. n)
+    (Looked stamp head entries (step 0 0 0 0 none) (v, c))
 looks {T} {H} {E} head entries stamp a slots id v c p t only waits s (w, log, r) deep at fits = ⊎_elim
     (λ (found : slice_index s.words 1 ≡ t % 2 ^ 64).
     let served = is_served head entries stamp a w log s r id v at p only t waits found in
@@ -129,7 +147,11 @@ looks {T} {H} {E} head entries stamp a slots id v c p t only waits s (w, log, r)
       entered_view v p t seen.0,
       takes 0 (Some home.0),
       ap (λ hs. get_elem? hs 0) home.1,
-      (entered_world w p.number t, log, (entry_is_the_cores head entries stamp a w log s r id v at p only t waits served seen.0 seen.1).1),
+      (
+        entered_world w p.number t,
+        log,
+        (entry_is_the_cores head entries stamp a w log s r id v at p only t waits served seen.0 seen.1).1,
+      ),
       λ q u only_q waits_q.
           let same_p : p ≡ q = cc in
           let same_t : t ≡ u = cc in (
@@ -138,10 +160,12 @@ looks {T} {H} {E} head entries stamp a slots id v c p t only waits s (w, log, r)
               mine.0,
               seen.0,
               home.0,
-              subst (λ (y : Part E × ℕ). ◌≡◌ {A = Me (Option T) (View H E)} (entered_view v p t seen.0, (0, Some home.0) ∷ c)
+              subst (λ (y : Part E × ℕ). ◌≡◌ {A = Me (Option T) (View H E)}
+                  (entered_view v p t seen.0, (0, Some home.0) ∷ c)
                   (entered_view v y.0 y.1 seen.0, (0, Some home.0) ∷ c)) (λ i. (same_p i, same_t i)) refl,
               subst (λ (y : Part E). Rattle.ticket_lock.specs.Rule.IsOfOthers stamp y.number seen.0) same_p seen.2,
-              subst (λ (l : List (Logged E)). IsJournal head entries a l home.0) (seen.1 ∙ ap (λ (y : Part E). y.log ++ seen.0) same_p)
+              subst (λ (l : List (Logged E)). IsJournal head entries a l home.0)
+                  (seen.1 ∙ ap (λ (y : Part E). y.log ++ seen.0) same_p)
                   home.2,
               subst (λ (y : List (Logged E) × ℕ). IsOrdered stamp a.first a.seats y.0 y.1)
                   (λ i. ((seen.1 ∙ ap (λ (y : Part E). y.log ++ seen.0) same_p) i, (sym served ∙ same_t) i)) r.ordered,

@@ -1,5 +1,6 @@
 -- The table after a step of one seat: what each step owes, and what the others keep.
-use Rattle.std.proofs.Common.{◌≡◌, ◌≢◌, ℕ, ◌+◌, ◌%◌, ◌^◌, ◌≤◌, List, [], ◌∷◌, length, set, Option, Some, ap, ◌∙◌, subst, arith}
+use Rattle.std.proofs.Common.{◌≡◌, ◌≢◌, ℕ, ◌+◌, ◌%◌, ◌^◌, ◌≤◌, List, [], ◌∷◌, length, set, Option, Some, ap, ◌∙◌, subst}
+use Rattle.std.proofs.Common.{arith}
 use Rattle.std.specs.List.{sum_by}
 use Rattle.std.proofs.lemmas.Bool.Decides.{nat_tests}
 use mathlib.Core.Option.{some, none}
@@ -12,13 +13,13 @@ use Rattle.ticket_lock.specs.declared.board.About.{About}
 use Rattle.ticket_lock.specs.declared.board.Logged.{Logged}
 use Rattle.ticket_lock.specs.declared.board.Part.{Part}
 use Rattle.ticket_lock.specs.declared.board.View.{View}
-use Rattle.ticket_lock.specs.Rule.{Every, owns_of, owns, width, draws_of, leaves_of, once_below, Extends, IsOrdered, IsJournal}
-use Rattle.ticket_lock.specs.Rule.{PartStands, ViewStands, Stands}
+use Rattle.ticket_lock.specs.Rule.{Every, owns_of, owns, width, draws_of, leaves_of, once_below, Extends, IsOrdered}
+use Rattle.ticket_lock.specs.Rule.{IsJournal, PartStands, ViewStands, Stands}
 use Rattle.ticket_lock.proofs.Sums.{sum_by-replaced}
 use Rattle.ticket_lock.proofs.Views.{views_stay}
 
 -- a number stands once or not at all below a bound
-once_below-most : (k n : ℕ) → once_below k n ≤ 1
+pub once_below-most : (k n : ℕ) → once_below k n ≤ 1
 once_below-most k n = grind (arith, nat_tests)
 
 module _ {T H E : Type 0} (head : T → H) (entries : T → List E) (stamp : E → Stamp) (a : About H E)
@@ -26,19 +27,20 @@ module _ {T H E : Type 0} (head : T → H) (entries : T → List E) (stamp : E �
     (id : ℕ) (v : View H E) (at : get_elem? s.views id ≡ some v) (p : Part E) (only : v.parts ≡ p ∷ []) where
   -- the view of a seat with one number is about this lock, and its part stands
   pub own_part : (v.about ≡ Some a) × PartStands head entries stamp a w log v.state p
-  own_part = (subst (λ (ps : List (Part E)). Every (λ q. (v.about ≡ Some a) × PartStands head entries stamp a w log v.state q) ps) only
-      (r.views id v at)).0
+  own_part = (subst
+      (λ (ps : List (Part E)). Every (λ q. (v.about ≡ Some a) × PartStands head entries stamp a w log v.state q) ps)
+      only (r.views id v at)).0
 
   -- the seat's number is that view's once
-  own_once : owns p.number v ≡ 1
+  pub own_once : owns p.number v ≡ 1
   own_once = ap (owns_of p.number) only ∙ grind (arith, nat_tests)
 
   -- the table stands for the world after a step of this seat
-  pub stands_after : (after : LockWorld) (grown : List (Logged E)) (words : List ℕ) (homes : List (maybe.Option (Option T)))
-      (now : View H E)
+  pub stands_after : (after : LockWorld) (grown : List (Logged E)) (words : List ℕ)
+      (homes : List (maybe.Option (Option T))) (now : View H E)
       → IsLawful after → length after.seats ≡ length w.seats
       → words ≡ after.next % 2 ^ 64 ∷ after.served % 2 ^ 64 ∷ []
-      → after.next + v.draws ≡ w.next + now.draws → after.served + v.leaves ≡ w.served + now.leaves
+      → after.next + v.draws ≡ w.next + now.draws → after.served + leaves_of v ≡ w.served + leaves_of now
       → ((k : ℕ) → owns k now ≡ owns k v) → width now ≡ width v
       → IsOrdered stamp a.first a.seats grown after.served
       → ((j : ℕ) → j ≢ p.number → state_of after j ≡ state_of w j)
@@ -48,8 +50,8 @@ module _ {T H E : Type 0} (head : T → H) (entries : T → List E) (stamp : E �
       → (((k t : ℕ) → Holds after k t → ⊥) → (x : T) × (homes ≡ some (Some x) ∷ []) × IsJournal head entries a grown x)
       → ((k t : ℕ) → Holds after k t → homes ≡ none ∷ [])
       → Stands head entries stamp a after grown record { words = words; homes = homes; views = set s.views id now }
-  stands_after after grown words homes now lawful sized words_are draws leaves same_owns same_width ordered states seen_more held mine
-      home out = record {
+  stands_after after grown words homes now lawful sized words_are draws leaves same_owns same_width ordered states
+      seen_more held mine home out = record {
         lawful = lawful;
         sized = sized ∙ r.sized;
         few = r.few;
@@ -62,8 +64,8 @@ module _ {T H E : Type 0} (head : T → H) (entries : T → List E) (stamp : E �
             moved ∙ r.owned k;
         counted = omega (arith, r.counted, same_width, sum_by-replaced width s.views id v now at);
         ordered = ordered;
-        views = views_stay head entries stamp a w after log grown p.number sized states seen_more held s.views id v now at own_once
-            (omega (arith, r.owned p.number, once_below-most p.number a.seats)) r.views mine;
+        views = views_stay head entries stamp a w after log grown p.number sized states seen_more held s.views id v now
+            at own_once (omega (arith, r.owned p.number, once_below-most p.number a.seats)) r.views mine;
         home = home;
         out = out;
       }

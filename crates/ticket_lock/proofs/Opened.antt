@@ -1,5 +1,6 @@
 -- The opened table is under the rule.
-use Rattle.std.proofs.Common.{◌≡◌, ℕ, zero, suc, ◌+◌, ◌%◌, ◌^◌, ◌<◌, ◌≤◌, List, [], ◌∷◌, Option, Some, refl, sym, ap, ◌∙◌, subst}
+use Rattle.std.proofs.Common.{◌≡◌, ℕ, zero, suc, ◌+◌, ◌%◌, ◌^◌, ◌<◌, ◌≤◌, List, [], ◌∷◌, Option, Some, refl, sym, ap}
+use Rattle.std.proofs.Common.{◌∙◌, subst}
 use Rattle.std.proofs.Common.{arith}
 use Rattle.std.proofs.lemmas.List.{append-nil, length-replicate}
 use mathlib.Core.Option.{some, some-injective, some-ne-none}
@@ -11,14 +12,16 @@ use Rattle.ticket_core.specs.LockWorld.{opened_world}
 use Rattle.ticket_core.proofs.Lawful.{IsLawful-opened_world, state_of-opened_world}
 use Rattle.ticket_lock.specs.declared.board.About.{About}
 use Rattle.ticket_lock.specs.declared.board.View.{View}
-use Rattle.ticket_lock.specs.Rule.{head_in, about_of, Every, owns_of, once_below, new_parts, first_view, PartStands, ViewStands, Ruled}
+use Rattle.ticket_lock.specs.Rule.{head_in, about_of, Every, owns_of, once_below, new_parts, first_view, PartStands}
+use Rattle.ticket_lock.specs.Rule.{ViewStands, Ruled}
 use Rattle.ticket_lock.specs.declared.board.Key.{Key}
-use Rattle.ticket_lock.proofs.Parts.{new_parts-owned, length-new_parts}
+use Rattle.ticket_lock.proofs.Parts.{new_parts-owned, ended_by-new_parts, length-new_parts}
 
 module _ {T H E : Type 0} (head : T → H) (entries : T → List E) (stamp : E → Stamp) (a : About H E) where
   -- each new part stands in a lock just opened
   new_parts_stand : (i n : ℕ) → i + n ≤ a.seats
-      → Every (λ q. (Some a ≡ Some a) × PartStands head entries stamp a (opened_world a.seats a.first) [] Idle q) (new_parts i n)
+      → Every (λ q. (Some a ≡ Some a) × PartStands head entries stamp a (opened_world a.seats a.first) [] Idle q)
+      (new_parts i n)
   new_parts_stand i zero h = tt
   new_parts_stand i (suc n) h = (
     (
@@ -45,9 +48,10 @@ module _ {T H E : Type 0} (head : T → H) (entries : T → List E) (stamp : E �
       few = few;
       words = let same : a.first ≡ a.first % 2 ^ 64 = omega arith in ap (λ (n : ℕ). n ∷ n ∷ []) same;
       drawn = omega arith;
-      left = omega arith;
+      left = omega (arith, ended_by-new_parts E 0 a.seats);
       owned = λ k. let count : 0 + a.seats ≡ a.seats = omega arith in
-          let all : owns_of {E = E} k (new_parts 0 a.seats) ≡ once_below k a.seats = new_parts-owned E k 0 a.seats (omega arith)
+          let all : owns_of {E = E} k (new_parts 0 a.seats) ≡ once_below k a.seats =
+          new_parts-owned E k 0 a.seats (omega arith)
           ∙ ap (once_below k) count in
           omega (arith, all);
       counted = let all = length-new_parts E 0 a.seats in omega arith;
@@ -60,16 +64,19 @@ module _ {T H E : Type 0} (head : T → H) (entries : T → List E) (stamp : E �
     where
       one_view : (i : ℕ) (v : View H E) → get_elem? (first_view a ∷ []) i ≡ some v
           → ViewStands head entries stamp a (opened_world a.seats a.first) [] v
-      one_view zero v e = subst (ViewStands head entries stamp a (opened_world a.seats a.first) []) (some-injective (first_view a) v e)
+      one_view zero v e = subst (ViewStands head entries stamp a (opened_world a.seats a.first) [])
+          (some-injective (first_view a) v e)
           (new_parts_stand 0 a.seats (omega arith))
       one_view (suc i) v e = absurd (some-ne-none v (sym e))
 
 -- the table of a lock with this key and this value stands for the opened world
-pub opens_with : {T H E : Type 0} (head : T → H) (entries : T → List E) (stamp : E → Stamp) (key : Key T) (x : T) (slots : List (Option T))
+pub opens_with : {T H E : Type 0} (head : T → H) (entries : T → List E) (stamp : E → Stamp) (key : Key T) (x : T)
+    (slots : List (Option T))
     → key.value.value ≡ x → key.seats ≤ 64 → key.first < 2 ^ 64 → slots ≡ Some x ∷ []
     → Ruled head entries stamp (about_of head entries key)
     (opening (key.first ∷ key.first ∷ []) slots (first_view (about_of head entries key)))
 opens_with head entries stamp key x slots is few fits there =
     let a = about_of head entries key in
-    subst (λ (xs : List (Option _)). Ruled head entries stamp a (opening (key.first ∷ key.first ∷ []) xs (first_view a))) (sym there)
+    subst (λ (xs : List (Option _)). Ruled head entries stamp a
+    (opening (key.first ∷ key.first ∷ []) xs (first_view a))) (sym there)
     (opens head entries stamp a x few fits (ap (λ y. Some (head y)) is) (ap entries (sym is)))

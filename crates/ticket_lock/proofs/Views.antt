@@ -1,5 +1,6 @@
 -- What the views of other seats keep where one seat takes a step.
-use Rattle.std.proofs.Common.{◌≡◌, ◌≢◌, ℕ, ◌<◌, ◌≤◌, List, [], ◌∷◌, length, set, Option, Some, sym, ◌∙◌, subst, ⊎_elim, arith}
+use Rattle.std.proofs.Common.{◌≡◌, ◌≢◌, ℕ, ◌<◌, ◌≤◌, List, [], ◌∷◌, length, set, Option, Some, sym, ◌∙◌, subst, ⊎_elim}
+use Rattle.std.proofs.Common.{arith}
 use Rattle.std.specs.List.{sum_by}
 use Rattle.std.proofs.lemmas.Bool.{cases_eq}
 use Rattle.std.proofs.lemmas.Bool.Decides.{nat_tests}
@@ -17,7 +18,8 @@ use Rattle.ticket_lock.specs.Rule.{Every, owns_of, owns, Extends, PartStands, Vi
 use Rattle.ticket_lock.proofs.Sums.{sum_by-pair}
 
 -- a part that has another number is none of those with this one
-owns_of-cons : {E : Type 0} (k : ℕ) (p : Part E) (ps : List (Part E)) → owns_of k (p ∷ ps) ≡ 0 → (p.number ≢ k) × (owns_of k ps ≡ 0)
+owns_of-cons : {E : Type 0} (k : ℕ) (p : Part E) (ps : List (Part E)) → owns_of k (p ∷ ps) ≡ 0
+    → (p.number ≢ k) × (owns_of k ps ≡ 0)
 owns_of-cons k p ps none = ⊎_elim
     (λ (e : p.number ≡ k). absurd (grind (arith, nat_tests)))
     (λ (n : p.number ≢ k). (n, grind (arith, nat_tests)))

@@ -1,10 +1,11 @@
 -- What each call of a lock does, in the words of a standing.
-use Rattle.std.specs.Prelude.{◌≡◌, ◌⊎◌, ℕ, ◌+◌, List, [], ◌∷◌, ◌++◌, map, Some, ◌==◌, if◌then◌else◌}
+use Rattle.std.specs.Prelude.{◌≡◌, ◌⊎◌, ℕ, ◌+◌, List, [], ◌∷◌, ◌++◌, map, sum_by, Some, ◌==◌, if◌then◌else◌}
 use Rattle.std.specs.List.{range_with_len}
 use Rattle.minislots.specs.declared.stamp.Stamp.{Stamp}
 use Rattle.ticket_lock.specs.declared.board.Logged.{Logged}
 use Rattle.ticket_lock.specs.Rule.{entry_of, IsOfOthers, Extends, IsOrdered, Every, once_below}
-use Rattle.ticket_lock.specs.Standing.{Lock, Standing, head_of, opening_of, seats_of, first_of, seen, stamp_of}
+use Rattle.ticket_lock.specs.Standing.{Lock, Standing, head_of, opening_of, seats_of, first_of, turns_of, seen}
+use Rattle.ticket_lock.specs.Standing.{stamp_of}
 use Rattle.ticket_lock.specs.Plays.{IsAdded}
 
 -- how many of these seats have this number
@@ -32,22 +33,23 @@ module _ {H E : Type 0} (stamp : E → Stamp) where
       pub entries_are : entries x ≡ seen w
       pub ordered : IsInOrder s.lock w.log w.ticket
 
-    -- the holder may give this value back: it has the head, and its list is the one entered, or that and one entry with the
-    -- holder's stamp
+    -- the holder may give this value back: it has the head, and its list is the one entered, or that and one entry
+    -- with the holder's stamp
     pub record MayLeave (s : Standing H E) (x : T) : Type 0 where
       pub head_is : Some (head x) ≡ head_of s.lock
       pub entries_are : (entries x ≡ seen s) ⊎ ((e : E) × (entries x ≡ seen s ++ e ∷ []) × (stamp e ≡ stamp_of s))
 
-    -- the holder has left, and has seen what it added: nothing, or one entry with its stamp
+    -- the holder has left, and has ended one turn more; it has seen what it added: nothing, or one entry with its stamp
     pub record Leaves (s : Standing H E) (x : T) (w : Standing H E) : Type 0 where
       pub more : List (Logged E)
-      pub left : w ≡ record s { log = s.log ++ more; ticket = 0 }
+      pub left : w ≡ record s { log = s.log ++ more; ticket = 0; turns = s.turns + 1 }
       pub added : IsAdded stamp s.number s.ticket more
       pub entries_are : entries x ≡ seen w
       pub ordered : IsInOrder s.lock w.log (s.ticket + 1)
 
-    -- the value at the close: its list begins with what each seat has seen, and past the opening list each seat's entries are
-    -- those that it has seen, and there are no others, since each number of a seat is that of one of these
+    -- the value at the close: its list begins with what each seat has seen, and past the opening list each seat's
+    -- entries are those that it has seen, and there are no others, since each number of a seat is that of one of
+    -- these
     pub record Closes (lock : Lock H E) (seats : List (Standing H E)) (x : T) : Type 0 where
       pub log : List (Logged E)
       pub head_is : Some (head x) ≡ head_of lock
@@ -56,10 +58,12 @@ module _ {H E : Type 0} (stamp : E → Stamp) where
       pub ordered : IsInOrder lock log below
       pub each : Every (λ s. Extends stamp s.number s.log log) seats
       pub once : (k : ℕ) → bearers k seats ≡ once_below k (seats_of lock)
+      -- as many tickets were served as these seats have ended turns
+      pub turns : below ≡ first_of lock + sum_by turns_of seats
 
--- a seat as it is made
+-- a seat as it is made, which has ended no turn
 abbrev pub new_standing : {H E : Type 0} → Lock H E → ℕ → Standing H E
-new_standing lock number = record { lock = lock; number = number; log = []; ticket = 0; looks = 0 }
+new_standing lock number = record { lock = lock; number = number; log = []; ticket = 0; looks = 0; turns = 0 }
 
 -- a lock about this value, with this many seats, numbered by their places
 pub record Opens {T H E : Type 0} (head : T → H) (entries : T → List E) (x : T) (count first : ℕ) (lock : Lock H E)

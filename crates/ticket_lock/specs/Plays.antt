@@ -24,10 +24,15 @@ parts_ahead (p ∷ ps) = p ∷ []
 abbrev pub part_with : {E : Type 0} → Part E → List (Logged E) → Part E
 part_with p more = record p { log = p.log ++ more }
 
+-- the part of a seat that has left: it has seen more, and has ended one turn more
+abbrev pub part_left : {E : Type 0} → Part E → List (Logged E) → Part E
+part_left p more = record p { log = p.log ++ more; turns = p.turns + 1 }
+
 -- what was added while a seat held the lock: nothing, or one entry with its number and its ticket
 abbrev pub IsAdded : {E : Type 0} → (E → Stamp) → ℕ → ℕ → List (Logged E) → Type 0
 IsAdded {E} stamp number ticket more = (more ≡ [])
-    ⊎ ((e : E) × (more ≡ record { entry = e; ticket = ticket } ∷ []) × (stamp e ≡ record { seat = number; ticket = ticket % 2 ^ 64 }))
+    ⊎ ((e : E) × (more ≡ record { entry = e; ticket = ticket } ∷ [])
+    × (stamp e ≡ record { seat = number; ticket = ticket % 2 ^ 64 }))
 
 module _ {H E : Type 0} where
   -- a seat that has drawn a ticket waits with it
@@ -42,13 +47,13 @@ module _ {H E : Type 0} where
   abbrev pub entered_view : View H E → Part E → ℕ → List (Logged E) → View H E
   entered_view v p t more = record v { parts = part_with p more ∷ []; state = Holding t }
 
-  -- a seat that has left is idle, and has seen what it added
+  -- a seat that has left is idle, has seen what it added, and has ended one turn more
   abbrev pub left_view : View H E → Part E → List (Logged E) → View H E
-  left_view v p more = record v { parts = part_with p more ∷ []; state = Idle; leaves = v.leaves + 1 }
+  left_view v p more = record v { parts = part_left p more ∷ []; state = Idle }
 
   -- the view of a seat that was joined to another
   abbrev pub spent_view : View H E
-  spent_view = record { about = None; parts = []; state = Idle; draws = 0; looks = 0; leaves = 0 }
+  spent_view = record { about = None; parts = []; state = Idle; draws = 0; looks = 0 }
 
   -- a view without its first part
   abbrev pub rest_view : View H E → View H E
@@ -56,7 +61,13 @@ module _ {H E : Type 0} where
 
   -- the view of a new seat that has the first part of a view
   abbrev pub first_part_view : View H E → View H E
-  first_part_view v = record { about = v.about; parts = parts_ahead v.parts; state = v.state; draws = 0; looks = 0; leaves = 0 }
+  first_part_view v = record {
+    about = v.about;
+    parts = parts_ahead v.parts;
+    state = v.state;
+    draws = 0;
+    looks = 0;
+  }
 
   -- a view with the parts and the counts of another
   abbrev pub joined_view : View H E → View H E → View H E
@@ -64,7 +75,6 @@ module _ {H E : Type 0} where
     parts = u.parts ++ v.parts;
     draws = v.draws + u.draws;
     looks = v.looks + u.looks;
-    leaves = v.leaves + u.leaves;
   }
 
 module _ {T H E : Type 0} (stamp : E → Stamp) where
@@ -87,11 +97,13 @@ module _ {T H E : Type 0} (stamp : E → Stamp) where
     -- the value has the head at the opening, and its list is the one entered, or that and one entry of this holder
     abbrev pub MayPut : Option (About H E) → Part E → ℕ → T → Type 0
     MayPut about p t x = (head_in about ≡ Some (head x))
-        × ((more : List (Logged E)) × (entries x ≡ opening_in about ++ map entry_of (p.log ++ more)) × IsAdded stamp p.number t more)
+        × ((more : List (Logged E)) × (entries x ≡ opening_in about ++ map entry_of (p.log ++ more))
+        × IsAdded stamp p.number t more)
 
-    -- the holder leaves, and has seen what it added to the value that it gave back
+    -- the holder leaves, has seen what it added to the value that it gave back, and has ended one turn more
     abbrev pub Left : Step (Option T) → Me (Option T) (View H E) → ℕ → Me (Option T) (View H E) → Type 0
-    Left st m found m' = (p : Part E) (t : ℕ) (x : T) → m.0.parts ≡ p ∷ [] → m.0.state ≡ Holding t → m.1 ≡ (0, Some x) ∷ []
+    Left st m found m' = (p : Part E) (t : ℕ) (x : T) → m.0.parts ≡ p ∷ [] → m.0.state ≡ Holding t
+        → m.1 ≡ (0, Some x) ∷ []
         → (a : About H E) × (m.0.about ≡ Some a) × (more : List (Logged E)) × (m' ≡ (left_view m.0 p more, []))
         × (entries x ≡ a.opening ++ map entry_of (p.log ++ more)) × IsAdded stamp p.number t more
         × IsOrdered stamp a.first a.seats (p.log ++ more) (t + 1)

@@ -1,5 +1,6 @@
 -- The rule of the lock's table: which world of whole tickets its words, its slot and its seats' views stand for.
-use Rattle.std.specs.Prelude.{◌≡◌, ◌≢◌, ℕ, zero, suc, ◌+◌, ◌%◌, ◌^◌, ◌<◌, ◌≤◌, List, [], ◌∷◌, ◌++◌, map, length, sum_by, Option, Some}
+use Rattle.std.specs.Prelude.{◌≡◌, ◌≢◌, ℕ, zero, suc, ◌+◌, ◌%◌, ◌^◌, ◌<◌, ◌≤◌, List, [], ◌∷◌, ◌++◌, map, length, sum_by}
+use Rattle.std.specs.Prelude.{Option, Some}
 use Rattle.std.specs.Prelude.{None, ◌==◌, nat_lt, if◌then◌else◌}
 use mathlib.Core.Option.{some, none}
 use lib.ListN.{get_elem?}
@@ -47,10 +48,15 @@ abbrev pub owns_of : {E : Type 0} → ℕ → List (Part E) → ℕ
 owns_of k [] = 0
 owns_of k (p ∷ ps) = (if p.number == k then 1 else 0) + owns_of k ps
 
--- parts with nothing seen, numbered from the first on
+-- how many turns these parts have ended
+abbrev pub ended_by : {E : Type 0} → List (Part E) → ℕ
+ended_by [] = 0
+ended_by (p ∷ ps) = p.turns + ended_by ps
+
+-- parts with nothing seen and no turn ended, numbered from the first on
 abbrev pub new_parts : {E : Type 0} → ℕ → ℕ → List (Part E)
 new_parts number zero = []
-new_parts number (suc n) = record { number = number; log = [] } ∷ new_parts (number + 1) n
+new_parts number (suc n) = record { number = number; log = []; turns = 0 } ∷ new_parts (number + 1) n
 
 module _ {H E : Type 0} where
   -- how many parts of a view have this number
@@ -65,13 +71,13 @@ module _ {H E : Type 0} where
   abbrev pub draws_of : View H E → ℕ
   draws_of v = v.draws
 
-  -- how many times a seat has left
+  -- how many times a seat has left: once for each turn that its parts have ended
   abbrev pub leaves_of : View H E → ℕ
-  leaves_of v = v.leaves
+  leaves_of v = ended_by v.parts
 
   -- the view of an idle seat with these parts that has made no step
   abbrev pub idle_view : Option (About H E) → List (Part E) → View H E
-  idle_view about parts = record { about = about; parts = parts; state = Idle; draws = 0; looks = 0; leaves = 0 }
+  idle_view about parts = record { about = about; parts = parts; state = Idle; draws = 0; looks = 0 }
 
   -- the view of the opening seat, which has every number
   abbrev pub first_view : About H E → View H E
@@ -96,7 +102,12 @@ IsOrdered stamp first seats log below = Ascends first log below × Every (IsStam
 module _ {T H E : Type 0} (head : T → H) (entries : T → List E) where
   -- what a lock with this key is about
   abbrev pub about_of : Key T → About H E
-  about_of key = record { head = head key.value.value ∷ []; opening = entries key.value.value; seats = key.seats; first = key.first }
+  about_of key = record {
+    head = head key.value.value ∷ [];
+    opening = entries key.value.value;
+    seats = key.seats;
+    first = key.first;
+  }
 
   -- the value has the head of the opening, and the opening list with this log behind it
   abbrev pub IsJournal : About H E → List (Logged E) → T → Type 0

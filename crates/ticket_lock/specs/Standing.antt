@@ -15,14 +15,15 @@ pub record Lock (H E : Type 0) : Type 0 where
   pub table : TableId
   pub about : Option (About H E)
 
--- where a seat of a lock stands: its number, the log past the opening list that it has seen, its whole ticket (0 where it
--- has none), and how often it has looked
+-- where a seat of a lock stands: its number, the log past the opening list that it has seen, its whole ticket (0
+-- where it has none), how often it has looked, and how many turns it has ended
 pub record Standing (H E : Type 0) : Type 0 where
   pub lock : Lock H E
   pub number : ℕ
   pub log : List (Logged E)
   pub ticket : ℕ
   pub looks : ℕ
+  pub turns : ℕ
 
 module _ {H E : Type 0} where
   -- the opening list in it
@@ -56,6 +57,10 @@ module _ {H E : Type 0} where
   abbrev pub first_of : Lock H E → ℕ
   first_of l = first_in l.about
 
+  -- how many turns a seat has ended
+  abbrev pub turns_of : Standing H E → ℕ
+  turns_of s = s.turns
+
   -- all the entries that a seat has seen
   abbrev pub seen : Standing H E → List E
   seen s = opening_of s.lock ++ map entry_of s.log
@@ -88,6 +93,11 @@ abbrev pub log_in : {E : Type 0} → List (Part E) → List (Logged E)
 log_in [] = []
 log_in (p ∷ ps) = p.log
 
+-- how many turns the first of these parts has ended
+abbrev pub turns_in : {E : Type 0} → List (Part E) → ℕ
+turns_in [] = 0
+turns_in (p ∷ ps) = p.turns
+
 -- where a seat with this view stands
 abbrev pub standing_of : {H E : Type 0} → TableId → View H E → Standing H E
 standing_of table v = record {
@@ -96,4 +106,5 @@ standing_of table v = record {
   log = log_in v.parts;
   ticket = ticket_in v.state;
   looks = v.looks;
+  turns = turns_in v.parts;
 }

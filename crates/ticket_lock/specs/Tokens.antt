@@ -25,7 +25,7 @@ module _ {H E : Type 0} where
 
 -- the part of a seat that stands so
 abbrev pub part_of : {H E : Type 0} → Standing H E → Part E
-part_of s = record { number = s.number; log = s.log }
+part_of s = record { number = s.number; log = s.log; turns = s.turns }
 
 -- the view of an idle seat that has the parts of these, in their order
 abbrev pub IsGathered : {H E : Type 0} → Option (About H E) → List (Standing H E) → View H E → Type 0

@@ -26,10 +26,12 @@ pub struct Logged<E> {
     pub ticket: u64,
 }
 
-/// A seat's number, with the entries past the opening list that it has seen. No value of it is made.
+/// A seat's number, with the entries past the opening list that it has seen, and how many turns it has ended. No
+/// value of it is made.
 pub struct Part<E> {
     pub number: u64,
     pub log: LinkedList<Logged<E>>,
+    pub turns: u64,
 }
 
 /// What a seat at the table knows. No value of it is made.
@@ -42,7 +44,6 @@ pub struct View<H, E> {
     pub state: SeatState,
     pub draws: u64,
     pub looks: u64,
-    pub leaves: u64,
 }
 
 /// What the table is told once.

@@ -11,7 +11,7 @@ use crate::lock::TicketLock;
 use crate::plays::AllNumbers;
 use crate::seat::Seat;
 
-/// Joins all seats to the last of them, the last first, so that their order is kept.
+// Joins all seats to the last of them, the last first, so that their order is kept.
 fn gather<T: Journal>(steps: &Steps<T>, seats: Vec<Seat<T>>) -> Place<T>
     requires words { 0 < steps.now.table_id.words }
     requires some { 0 < length seats.items }
@@ -54,5 +54,14 @@ impl<T: Journal> TicketLock<T> {
         closed.free();
         let Some(value) = found else { unreachable!() };
         value
+    }
+}
+
+impl<T: Journal + Drop> TicketLock<T> {
+    /// Lets the lock go, and its value with it, where it cannot be closed any more: a seat of it was
+    /// dropped. It takes no memory and waits for nobody.
+    pub fn discard(self) {
+        let TicketLock { table } = self;
+        drop(table);
     }
 }

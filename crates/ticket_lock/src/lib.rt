@@ -10,8 +10,6 @@ mod lock;
 mod opening;
 mod plays;
 mod seat;
-#[cfg(test)]
-mod tests;
 
 pub use fault::LockFault;
 pub use journal::Journal;

@@ -32,10 +32,10 @@ impl<T: Journal> Model for TicketLock<T> {
         × (l.table.shared.table_id.slots ≡ 1) × (1 ≤ l.table.shared.key.seats) };
 }
 
-/// How often a waiting seat looks before it lets other threads run.
+// How often a waiting seat looks before it lets other threads run.
 const LOOKS: u32 = 100;
 
-/// What passes between two looks, after so many since other threads last ran; and how many there are then.
+// What passes between two looks, after so many since other threads last ran; and how many there are then.
 fn pause(looks: u32) -> u32 {
     if looks < LOOKS {
         hint::spin_loop();
@@ -46,7 +46,7 @@ fn pause(looks: u32) -> u32 {
     }
 }
 
-/// Puts a value into the slot that the seat holds, and gives the one that was there.
+// Puts a value into the slot that the seat holds, and gives the one that was there.
 fn exchange<T: Journal>(steps: &Steps<T>, place: &mut Place<T>, value: Option<T>) -> Option<T>
     requires table { place.old.table_id ≡ steps.now.table_id }
     requires held { (old : Option T) × (place.old.me.1 ≡ (0, old) ∷ []) }

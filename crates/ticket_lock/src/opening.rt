@@ -18,7 +18,7 @@ use std::alloc::Global;
 use std::snapshot::Snapshot;
 use ticket_core::MAX_SEATS;
 
-/// Makes the table with the value in its slot. The value comes back where there is no memory.
+// Makes the table with the value in its slot. The value comes back where there is no memory.
 fn lay<T: Journal>(
     alloc: Global,
     value: T,
@@ -54,7 +54,7 @@ fn lay<T: Journal>(
     }
 }
 
-/// Cuts the seat of the opening into one for each number.
+// Cuts the seat of the opening into one for each number.
 fn deal<T: Journal>(
     steps: &Steps<T>,
     place: Place<T>,

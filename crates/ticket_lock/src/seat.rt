@@ -7,7 +7,7 @@ use crate::journal::Journal;
 use minislots::Stamp;
 use std::marker::Model;
 
-/// An idle seat of a lock. If it is dropped, the lock cannot be closed any more.
+/// An idle seat of a lock. If it is dropped, the lock cannot be closed any more, but discarded.
 #[derive(Drop)]
 pub struct Seat<T: Journal> {
     pub(crate) number: u32,

@@ -1,12 +1,14 @@
 //! The tests of a configuration's fields, in groups that follow one another.
 
-ghost use Rattle.std.specs.Prelude.{◌≡◌, ◌<◌, IfOk, IfErr, IsTrue, MatchResult, false};
-ghost use Rattle.minislots.specs.Config.{is_within, is_ticks, is_lawful_field, first_wrong_of, burst_fields, frame_fields, grant_fields, history_fields, backoff_fields};
+ghost use Rattle.std.specs.Prelude.{◌≡◌, ◌<◌, IsTrue, MatchResult, Some, false};
+ghost use Rattle.minislots.specs.Config.{is_within, is_ticks, is_lawful_field, first_wrong, IsLawful};
+ghost use Rattle.minislots.specs.Config.{burst_fields, frame_fields, grant_fields, history_fields};
+ghost use Rattle.minislots.specs.Config.{backoff_fields, NamesFirstWrong};
 
 use super::{Config, ConfigFault};
 use crate::units::carriers;
 
-/// The fault where its field isn't lawful.
+// The fault where its field isn't lawful.
 fn require(is_lawful: bool, fault: ConfigFault) -> Result<(), ConfigFault>
     ensures { MatchResult result (λ _. IsTrue is_lawful) (λ e. (is_lawful ≡ false) × (e ≡ fault)) }
 {
@@ -26,10 +28,20 @@ fn is_within(low: u32, high: u32, n: u32) -> bool
 }
 
 impl Config {
-    /// The fields of a burst.
-    pub(super) fn check_burst(&self) -> Result<(), ConfigFault>
-        ensures ok { IfOk result (λ _. first_wrong_of self.now burst_fields ≡ None) }
-        ensures err { IfErr result (λ e. first_wrong_of self.now burst_fields ≡ Some e) }
+    // All fields, group by group.
+    pub(super) fn check_fields(&self) -> Result<(), ConfigFault>
+        ensures { MatchResult result (λ _. IsLawful self.now) (λ e. first_wrong self.now ≡ Some e) }
+    {
+        self.check_burst()?;
+        self.check_frame()?;
+        self.check_grants()?;
+        self.check_history()?;
+        self.check_backoffs()
+    }
+
+    // The fields of a burst.
+    fn check_burst(&self) -> Result<(), ConfigFault>
+        ensures { NamesFirstWrong self.now burst_fields result }
     {
         require(is_ticks(self.ticks), ConfigFault::Ticks)?;
         require(
@@ -39,10 +51,9 @@ impl Config {
         require(is_within(1, 64, self.overhead), ConfigFault::Overhead)
     }
 
-    /// The fields that lay out a frame.
-    pub(super) fn check_frame(&self) -> Result<(), ConfigFault>
-        ensures ok { IfOk result (λ _. first_wrong_of self.now frame_fields ≡ None) }
-        ensures err { IfErr result (λ e. first_wrong_of self.now frame_fields ≡ Some e) }
+    // The fields that lay out a frame.
+    fn check_frame(&self) -> Result<(), ConfigFault>
+        ensures { NamesFirstWrong self.now frame_fields result }
     {
         require(is_within(16, 1024, self.frame), ConfigFault::Frame)?;
         require(is_within(1, 64, self.cycle), ConfigFault::Cycle)?;
@@ -52,11 +63,10 @@ impl Config {
         require(self.short_max <= self.frame, ConfigFault::ShortMax)
     }
 
-    /// The fields of a data grant.
-    pub(super) fn check_grants(&self) -> Result<(), ConfigFault>
+    // The fields of a data grant.
+    fn check_grants(&self) -> Result<(), ConfigFault>
         requires { 0 < self.now.bytes_per_slot }
-        ensures ok { IfOk result (λ _. first_wrong_of self.now grant_fields ≡ None) }
-        ensures err { IfErr result (λ e. first_wrong_of self.now grant_fields ≡ Some e) }
+        ensures { NamesFirstWrong self.now grant_fields result }
     {
         require(self.has_room_for_quantum(), ConfigFault::Quantum)?;
         require(
@@ -65,11 +75,10 @@ impl Config {
         )
     }
 
-    /// The fields of what is recorded, and from where on.
-    pub(super) fn check_history(&self) -> Result<(), ConfigFault>
+    // The fields of what is recorded, and from where on.
+    fn check_history(&self) -> Result<(), ConfigFault>
         requires { 0 < self.now.frame }
-        ensures ok { IfOk result (λ _. first_wrong_of self.now history_fields ≡ None) }
-        ensures err { IfErr result (λ e. first_wrong_of self.now history_fields ≡ Some e) }
+        ensures { NamesFirstWrong self.now history_fields result }
     {
         require(
             is_within(1, 16, self.receivers.into()),
@@ -79,10 +88,9 @@ impl Config {
         require(self.has_lawful_start(), ConfigFault::Start)
     }
 
-    /// The fields of the backoff windows.
-    pub(super) fn check_backoffs(&self) -> Result<(), ConfigFault>
-        ensures ok { IfOk result (λ _. first_wrong_of self.now backoff_fields ≡ None) }
-        ensures err { IfErr result (λ e. first_wrong_of self.now backoff_fields ≡ Some e) }
+    // The fields of the backoff windows.
+    fn check_backoffs(&self) -> Result<(), ConfigFault>
+        ensures { NamesFirstWrong self.now backoff_fields result }
     {
         require(self.ranging_start <= 15, ConfigFault::RangingStart)?;
         require(self.ranging_end <= 15, ConfigFault::RangingEnd)?;

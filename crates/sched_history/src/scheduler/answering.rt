@@ -1,6 +1,6 @@
 //! What each call does that no test refuses, and how it is recorded.
 
-ghost use Rattle.std.specs.Prelude.{◌≡◌, ◌<◌, None, true, false, length, IfOk, OnErr};
+ghost use Rattle.std.specs.Prelude.{◌≡◌, ◌<◌, ◌++◌, ◌∷◌, [], None, true, false, length, IfOk, OnErr, vec_capacity};
 ghost use Rattle.flow_book.specs.FlowSpec.{is_periodic};
 ghost use Rattle.sched_history.specs.Refusal.{refusal_of};
 ghost use Rattle.sched_history.specs.History.{IsStep};
@@ -16,6 +16,16 @@ use minislots::Stamp;
 use periodic::PlaceFault;
 use std::alloc::AllocError;
 
+// Enters a call with its reply, where there is room reserved.
+fn enter(entries: &mut Vec<Entry>, stamp: Stamp, call: Call, reply: Reply)
+    requires { length entries.old.items < vec_capacity entries.old }
+    ensures items { entries.new.items
+        ≡ entries.old.items ++ record { stamp = stamp; call = call; reply = reply } ∷ [] }
+    ensures capacity { vec_capacity entries.new ≡ vec_capacity entries.old }
+{
+    entries.push_reserved(Entry { stamp, call, reply });
+}
+
 impl Scheduler {
     // Records a reply on which nothing depends but the history.
     pub(super) fn note(&mut self, stamp: Stamp, call: Call, reply: Reply)
@@ -25,7 +35,7 @@ impl Scheduler {
         requires quiet { IsQuiet call reply }
         ensures { IsRecorded self.old self.new stamp call reply }
     {
-        self.entries.push_reserved(Entry { stamp, call, reply });
+        enter(&mut self.entries, stamp, call, reply);
     }
 
     // Refuses a call.
@@ -80,11 +90,12 @@ impl Scheduler {
         ensures err { OnErr result (self.new ≡ self.old) }
     {
         self.state.book.admit(sid, spec)?;
-        self.entries.push_reserved(Entry {
+        enter(
+            &mut self.entries,
             stamp,
-            call: Call::Admit(sid, spec),
-            reply: Reply::Admitted(None),
-        });
+            Call::Admit(sid, spec),
+            Reply::Admitted(None),
+        );
         Ok(Reply::Admitted(None))
     }
 
@@ -107,11 +118,12 @@ impl Scheduler {
         let alloc = *self.entries.allocator();
         match self.state.admit_periodic(alloc, sid, spec) {
             Ok((placement, kept)) => {
-                self.entries.push_reserved(Entry {
+                enter(
+                    &mut self.entries,
                     stamp,
-                    call: Call::Admit(sid, spec),
-                    reply: Reply::Admitted(Some(kept)),
-                });
+                    Call::Admit(sid, spec),
+                    Reply::Admitted(Some(kept)),
+                );
                 Ok(Reply::Admitted(Some(placement)))
             }
             Err(PlaceFault::NoPlace) => {
@@ -128,11 +140,7 @@ impl Scheduler {
         ensures { IsRecorded self.old self.new stamp (Call.Remove sid) result }
     {
         self.state.remove(sid);
-        self.entries.push_reserved(Entry {
-            stamp,
-            call: Call::Remove(sid),
-            reply: Reply::Removed,
-        });
+        enter(&mut self.entries, stamp, Call::Remove(sid), Reply::Removed);
         Reply::Removed
     }
 
@@ -144,16 +152,17 @@ impl Scheduler {
         ensures { IsRecorded self.old self.new stamp (Call.Ask receiver sid bytes heard) result }
     {
         self.state.book.ask(sid, bytes);
-        self.entries.push_reserved(Entry {
+        enter(
+            &mut self.entries,
             stamp,
-            call: Call::Ask {
+            Call::Ask {
                 receiver,
                 sid,
                 bytes,
                 heard,
             },
-            reply: Reply::Taken,
-        });
+            Reply::Taken,
+        );
         Reply::Taken
     }
 
@@ -165,11 +174,12 @@ impl Scheduler {
         ensures { IsRecorded self.old self.new stamp (Call.Heard receiver upto) result }
     {
         self.state.progress[usize::from(receiver)] = upto;
-        self.entries.push_reserved(Entry {
+        enter(
+            &mut self.entries,
             stamp,
-            call: Call::Heard { receiver, upto },
-            reply: Reply::Noted,
-        });
+            Call::Heard { receiver, upto },
+            Reply::Noted,
+        );
         Reply::Noted
     }
 
@@ -184,11 +194,12 @@ impl Scheduler {
         let map = self.state.plan(alloc)?;
         let kept = map.copy(alloc)?;
         self.state.commit(&map)?;
-        self.entries.push_reserved(Entry {
+        enter(
+            &mut self.entries,
             stamp,
-            call: Call::Build { now },
-            reply: Reply::Built(kept),
-        });
+            Call::Build { now },
+            Reply::Built(kept),
+        );
         Ok(Reply::Built(map))
     }
 
@@ -199,13 +210,14 @@ impl Scheduler {
         ensures { IsRecorded self.old self.new stamp (Call.Skip now) result }
     {
         let lead = u64::from(self.state.config.lead());
-        let next = self.state.frame_from(now + lead);
+        let next = self.state.first_start(now + lead);
         self.state.next = next;
-        self.entries.push_reserved(Entry {
+        enter(
+            &mut self.entries,
             stamp,
-            call: Call::Skip { now },
-            reply: Reply::Skipped(next),
-        });
+            Call::Skip { now },
+            Reply::Skipped(next),
+        );
         Reply::Skipped(next)
     }
 

@@ -1,22 +1,21 @@
 //! Which calls are refused: the tests in their order, of which the first that holds is answered.
 
-ghost use Rattle.std.specs.Prelude.{◌≡◌, ◌+◌, ◌^◌, ℕ, List, ◌∷◌, [], false, not, nat_lt, nat_le, ◌==◌, ◌||◌, ◌&&◌, length, option_map, is_some};
-ghost use Rattle.flow_book.specs.FlowSpec.{is_periodic, takes_requests, first_fault};
-ghost use Rattle.sched_history.specs.Life.{life_of, flows_of};
+ghost use Rattle.std.specs.Prelude.{◌≡◌, ◌∷◌, [], false, not, nat_lt, nat_le, ◌==◌, ◌||◌, ◌&&◌, option_map};
+ghost use Rattle.flow_book.specs.FlowSpec.{is_periodic, takes_requests};
+ghost use Rattle.periodic.specs.declared.TheConstants.{MAX_PERIODIC_FLOWS};
+ghost use Rattle.sched_history.specs.Life.{life_of};
 ghost use Rattle.sched_history.specs.Time.{next_after, progress_of};
-ghost use Rattle.sched_history.specs.Refusal.{bad_sid, is_live, is_silent, periodic_count, refused_if, first_of, refusal_of, most_bytes, most_flows, most_periodic};
+ghost use Rattle.sched_history.specs.Refusal.{bad_sid, is_live, is_silent, periodic_count, refused_if};
+ghost use Rattle.sched_history.specs.Refusal.{first_of, refusal_of, most_bytes};
 
 use super::Scheduler;
 use crate::call::Call;
 use crate::reply::Refusal;
-use flow_book::FlowSpec;
+use flow_book::{FlowSpec, MAX_FLOWS};
+use periodic::MAX_PERIODIC_FLOWS;
 
 // The greatest SID of a flow.
 const LAST_SID: u16 = 8191;
-// The most live flows.
-const MOST_FLOWS: usize = 64;
-// The most live periodic flows.
-const MOST_PERIODIC: usize = 40;
 // The most bytes of one request.
 const MOST_BYTES: u32 = 1_048_560;
 // The most minislots that are described ahead.
@@ -94,7 +93,7 @@ impl Scheduler {
             Some(Refusal::SidLive)
         } else if let Err(fault) = spec.check(&self.state.config) {
             Some(Refusal::BadFlow(fault))
-        } else if self.state.book.len() >= MOST_FLOWS {
+        } else if self.state.book.len() >= MAX_FLOWS {
             Some(Refusal::FlowsFull)
         } else {
             self.refuse_periodic(spec)
@@ -104,9 +103,9 @@ impl Scheduler {
     // The refusal of an admission where too many flows are placed.
     fn refuse_periodic(&self, spec: FlowSpec) -> Option<Refusal>
         ensures { result ≡ refused_if
-            (is_periodic spec && nat_le most_periodic (periodic_count self.now.history)) Refusal.PeriodicFull }
+            (is_periodic spec && nat_le MAX_PERIODIC_FLOWS (periodic_count self.now.history)) Refusal.PeriodicFull }
     {
-        if is_periodic(spec) && self.periodic_count() >= MOST_PERIODIC {
+        if is_periodic(spec) && self.periodic_count() >= MAX_PERIODIC_FLOWS {
             Some(Refusal::PeriodicFull)
         } else {
             None

@@ -1,33 +1,33 @@
 //! What the scheduler keeps of the present, so that no call but one for the newest MAP reads the
 //! history again.
 
-ghost use Rattle.std.specs.Prelude.{◌≡◌, ◌≢◌, ℕ, ◌+◌, ◌*◌, ◌/◌, ◌%◌, ◌<◌, ◌≤◌, ◌^◌, ◌==◌, ◌↔◌, [], true, None, length, take, find, IfOk, OnErr, OnOk, IfSome, IsErrOf};
+ghost use Rattle.std.specs.Prelude.{◌≡◌, ◌≢◌, ◌+◌, ◌/◌, ◌%◌, ◌<◌, ◌≤◌, ◌^◌, ◌==◌, [], true, None};
+ghost use Rattle.std.specs.Prelude.{length, take, find, IfOk, OnErr, OnOk, IfSome, IsErrOf};
 ghost use Rattle.std.specs.List.{AllByRecursion};
 ghost use Rattle.map_codec.specs.WireMap.{IsWellFormed};
 ghost use Rattle.flow_book.specs.FlowSpec.{is_periodic, first_fault};
 ghost use Rattle.flow_book.specs.Flows.{flow_of};
 ghost use Rattle.flow_book.specs.Choice.{HasStartedBy};
 ghost use Rattle.flow_book.specs.Book.{IsLive, with_flow, new_flow, without};
+ghost use Rattle.periodic.specs.declared.TheConstants.{MAX_PERIODIC_FLOWS};
 ghost use Rattle.periodic.specs.Placement.{IsPlacement, NoPlacement, spots_in};
 ghost use Rattle.periodic.specs.Table.{IsPlaced, with_placed, without as without_placed};
 ghost use Rattle.map_build.specs.FrameMap.{IsLawfulMap};
 ghost use Rattle.sched_history.specs.declared.reply.Reply.TheVariants.{Flow};
-ghost use Rattle.sched_history.specs.Time.{least, frame_from};
-ghost use Rattle.sched_history.specs.History.{status_of};
+ghost use Rattle.sched_history.specs.Time.{least, IsFirstStart};
+ghost use Rattle.sched_history.specs.History.{flow_status};
 ghost use Rattle.map_build.specs.Spots.{AreOfChannel, ArePeriodicOf};
-ghost use Rattle.sched_history.specs.State.{StandsFor, IsCommittable, flows_with};
+ghost use Rattle.sched_history.specs.State.{IsStateAfter, IsCommittable, flows_with};
 ghost use Rattle.sched_history.specs.Facts.{IsWithinAsked};
 
 use super::granting::enter_grants;
 use super::refusing::{is_periodic, takes_requests};
+use crate::reply::copy_of_placement;
 use flow_book::{Book, FlowSpec};
-use map_build::{FrameMap, plan_frame};
+use map_build::{FrameMap, MAX_DATA_GRANTS, plan_frame};
 use minislots::Checked;
-use periodic::{PlaceFault, Placement, Starts, Table};
+use periodic::{PlaceFault, Placement, Table};
 use std::alloc::{AllocError, Global};
-
-// The most data grants of one MAP.
-const MOST_GRANTS: usize = 93;
 
 // The live flows, their placements, and the time.
 #[derive(Drop)]
@@ -42,7 +42,7 @@ pub(super) struct State {
 }
 
 // The least of some numbers, 0 where there are none.
-#[tactic(auto, using(crate::proofs::Leasts::least_more, crate::proofs::Leasts::least_twice))]
+#[tactic(auto, using(crate::proofs::lists::Leasts::least_more, crate::proofs::lists::Leasts::least_twice))]
 fn least_of(numbers: &[u64]) -> u64
     ensures { result ≡ least numbers.now }
 {
@@ -62,7 +62,7 @@ impl State {
     // The state before any call.
     pub(super) fn open(alloc: Global, config: Checked) -> Result<State, AllocError>
         ensures config { IfOk result (λ state. state.config ≡ config) }
-        ensures stands { IfOk result (λ state. StandsFor state []) }
+        ensures is_after { IfOk result (λ state. IsStateAfter state []) }
     {
         let start = config.start();
         Ok(State {
@@ -75,9 +75,9 @@ impl State {
     }
 
     // The first start of a frame at or after this minislot.
-    pub(super) fn frame_from(&self, slot: u64) -> u64
+    pub(super) fn first_start(&self, slot: u64) -> u64
         requires { slot ≤ 2 ^ 61 }
-        ensures { result ≡ frame_from self.now.config slot }
+        ensures { IsFirstStart self.now.config slot result }
     {
         let frame = u64::from(self.config.frame());
         (slot + frame - 1) / frame * frame
@@ -89,7 +89,7 @@ impl State {
         requires live { IsLive sid self.now.book.flows }
         requires within { AllByRecursion IsWithinAsked self.now.book.flows }
         ensures { IfSome (flow_of sid self.now.book.flows) (λ f.
-            status_of f ≡ Flow result.0 result.1 result.2) }
+            flow_status f ≡ Flow result.0 result.1 result.2) }
     {
         match self.book.flow(sid) {
             Some(spec) if takes_requests(spec) => {
@@ -135,7 +135,7 @@ impl State {
         requires unplaced { find (λ p. p.sid == sid) self.old.table.placed ≡ None }
         requires periodic { is_periodic spec ≡ true }
         requires no_fault { first_fault self.old.table.config spec ≡ None }
-        requires room { length self.old.table.placed < 40 }
+        requires room { length self.old.table.placed < MAX_PERIODIC_FLOWS }
         requires aligned { self.old.next % self.old.table.config.frame ≡ 0 }
         requires most { self.old.next ≤ 2 ^ 61 }
 
@@ -183,12 +183,9 @@ impl State {
         ensures same { self.new ≡ record self.old { book = self.new.book } }
         ensures err { OnErr result (self.new ≡ self.old) }
     {
-        let starts = Vec::from_slice(alloc, placement.starts.as_slice())?;
+        let kept = copy_of_placement(alloc, placement)?;
         self.book.admit(sid, spec)?;
-        Ok(Placement {
-            reference: placement.reference,
-            starts: Starts::from_vec(starts),
-        })
+        Ok(kept)
     }
 
     // The acknowledge time: the least progress of the receivers.
@@ -227,7 +224,7 @@ impl State {
         ensures err_flows { OnErr result (self.new.book.flows ≡ self.old.book.flows) }
         ensures err_next { OnErr result (self.new.next ≡ self.old.next) }
     {
-        self.book.reserve(MOST_GRANTS)?;
+        self.book.reserve(MAX_DATA_GRANTS)?;
         let elements = map.wire.elements.as_slice();
         enter_grants(&mut self.book, map.start, elements, map.bytes.as_slice());
         self.next += u64::from(self.config.frame());

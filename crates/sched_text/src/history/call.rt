@@ -1,18 +1,20 @@
 //! Calls as JSON.
 
 ghost use Rattle.std.specs.Prelude.{◌≡◌, IfOk};
-ghost use Rattle.serde_json.specs.View.{view};
+ghost use Rattle.serde_json.specs.Data.{object};
+ghost use Rattle.serde_json.specs.View.{members_view};
 ghost use Rattle.sched_text.specs.Json.{flow_data, call_data};
 
+use super::count::{named, named_with};
 use flow_book::FlowSpec;
 use sched_history::Call;
-use serde_json::{Value, json};
+use serde_json::{Map, Value};
 use std::alloc::{AllocError, Global};
 
-/// The parameters of a flow, by its kind.
+// The parameters of a flow, by its kind.
 #[tactic(auto, unfolding(crate::specs::Json::flow_data))]
-fn flow_value(alloc: Global, flow: FlowSpec) -> Result<Value, AllocError>
-    ensures { IfOk result (λ v. view v ≡ flow_data flow) }
+fn flow_members(alloc: Global, flow: FlowSpec) -> Result<Map<String, Value>, AllocError>
+    ensures { IfOk result (λ m. object (members_view m.entries) ≡ flow_data flow) }
 {
     match flow {
         FlowSpec::Unsolicited {
@@ -20,7 +22,12 @@ fn flow_value(alloc: Global, flow: FlowSpec) -> Result<Value, AllocError>
             interval_us,
             jitter_us,
         } => {
-            json!(in alloc; {"interval_us": interval_us, "jitter_us": jitter_us, "kind": "unsolicited", "size": size})
+            let counts = [
+                ("interval_us", u64::from(interval_us)),
+                ("jitter_us", u64::from(jitter_us)),
+                ("size", u64::from(size)),
+            ];
+            named(alloc, "kind", "unsolicited", &counts)
         }
         FlowSpec::Polled {
             interval_us,
@@ -28,59 +35,67 @@ fn flow_value(alloc: Global, flow: FlowSpec) -> Result<Value, AllocError>
             rate,
             burst,
         } => {
-            json!(in alloc; {"burst": burst, "interval_us": interval_us, "jitter_us": jitter_us, "kind": "polled", "rate": rate})
+            let counts = [
+                ("burst", u64::from(burst)),
+                ("interval_us", u64::from(interval_us)),
+                ("jitter_us", u64::from(jitter_us)),
+                ("rate", u64::from(rate)),
+            ];
+            named(alloc, "kind", "polled", &counts)
         }
         FlowSpec::BestEffort {
             priority,
             rate,
             burst,
         } => {
-            json!(in alloc; {"burst": burst, "kind": "best_effort", "priority": priority, "rate": rate})
+            let counts = [
+                ("burst", u64::from(burst)),
+                ("priority", u64::from(priority)),
+                ("rate", u64::from(rate)),
+            ];
+            named(alloc, "kind", "best_effort", &counts)
         }
     }
 }
 
 #[tactic(auto, unfolding(crate::specs::Json::call_data))]
-fn admit_value(alloc: Global, sid: u16, flow: FlowSpec) -> Result<Value, AllocError>
-    ensures { IfOk result (λ v. view v ≡ call_data (Call.Admit sid flow)) }
+fn admit_members(alloc: Global, sid: u16, flow: FlowSpec) -> Result<Map<String, Value>, AllocError>
+    ensures { IfOk result (λ m. object (members_view m.entries) ≡ call_data (Call.Admit sid flow)) }
 {
-    let flow = flow_value(alloc, flow)?;
-    json!(in alloc; {"call": "admit", "flow": flow, "sid": sid})
+    let flow = Value::Object(flow_members(alloc, flow)?);
+    let counts = [("sid", u64::from(sid))];
+    named_with(alloc, "call", "admit", &counts, "flow", flow)
 }
 
+/// The members of a call, by its name.
 #[tactic(auto, unfolding(crate::specs::Json::call_data))]
-fn ask_value(
-    alloc: Global,
-    receiver: u8,
-    sid: u16,
-    bytes: u32,
-    heard: u64,
-) -> Result<Value, AllocError>
-    ensures { IfOk result (λ v. view v ≡ call_data (Call.Ask receiver sid bytes heard)) }
-{
-    json!(in alloc; {"bytes": bytes, "call": "ask", "heard": heard, "receiver": receiver, "sid": sid})
-}
-
-/// A call, by its name.
-#[tactic(auto, unfolding(crate::specs::Json::call_data))]
-pub fn call_value(alloc: Global, call: Call) -> Result<Value, AllocError>
-    ensures { IfOk result (λ v. view v ≡ call_data call) }
+pub fn call_members(alloc: Global, call: Call) -> Result<Map<String, Value>, AllocError>
+    ensures { IfOk result (λ m. object (members_view m.entries) ≡ call_data call) }
 {
     match call {
-        Call::Admit(sid, flow) => admit_value(alloc, sid, flow),
-        Call::Remove(sid) => json!(in alloc; {"call": "remove", "sid": sid}),
+        Call::Admit(sid, flow) => admit_members(alloc, sid, flow),
+        Call::Remove(sid) => named(alloc, "call", "remove", &[("sid", u64::from(sid))]),
         Call::Ask {
             receiver,
             sid,
             bytes,
             heard,
-        } => ask_value(alloc, receiver, sid, bytes, heard),
-        Call::Heard { receiver, upto } => {
-            json!(in alloc; {"call": "heard", "receiver": receiver, "upto": upto})
+        } => {
+            let counts = [
+                ("bytes", u64::from(bytes)),
+                ("heard", heard),
+                ("receiver", u64::from(receiver)),
+                ("sid", u64::from(sid)),
+            ];
+            named(alloc, "call", "ask", &counts)
         }
-        Call::Build { now } => json!(in alloc; {"call": "build", "now": now}),
-        Call::Skip { now } => json!(in alloc; {"call": "skip", "now": now}),
-        Call::Status(sid) => json!(in alloc; {"call": "status", "sid": sid}),
-        Call::Newest => json!(in alloc; {"call": "newest"}),
+        Call::Heard { receiver, upto } => {
+            let counts = [("receiver", u64::from(receiver)), ("upto", upto)];
+            named(alloc, "call", "heard", &counts)
+        }
+        Call::Build { now } => named(alloc, "call", "build", &[("now", now)]),
+        Call::Skip { now } => named(alloc, "call", "skip", &[("now", now)]),
+        Call::Status(sid) => named(alloc, "call", "status", &[("sid", u64::from(sid))]),
+        Call::Newest => named(alloc, "call", "newest", &[]),
     }
 }

@@ -2,37 +2,109 @@
 
 ghost use Rattle.std.specs.Prelude.{◌≡◌};
 ghost use Rattle.serde_json.specs.View.{view};
-ghost use Rattle.sched_text.specs.Fields.{config_of};
+ghost use Rattle.sched_text.specs.Fields.{slots_of, sizes_of, counts_of, windows_of, config_of};
 
 use super::field::{number_u8, number_u32, number_u64};
 use minislots::Config;
 use serde_json::Value;
+
+// The minislots, and the frames that they make.
+#[tactic(auto, unfolding(crate::specs::Fields::slots_of))]
+fn slots_of(value: &Value) -> Option<(u32, u32, u32, u32, u32)>
+    ensures { result ≡ slots_of (view value.now) }
+{
+    let (Some(ticks), Some(bytes_per_slot), Some(overhead), Some(frame), Some(cycle)) = (
+        number_u32(value, "ticks"),
+        number_u32(value, "bytes_per_slot"),
+        number_u32(value, "overhead"),
+        number_u32(value, "frame"),
+        number_u32(value, "cycle"),
+    ) else {
+        return None;
+    };
+    Some((ticks, bytes_per_slot, overhead, frame, cycle))
+}
+
+// The sizes of regions and grants, and the time ahead.
+#[tactic(auto, unfolding(crate::specs::Fields::sizes_of))]
+fn sizes_of(value: &Value) -> Option<(u32, u32, u32, u32, u32, u32)>
+    ensures { result ≡ sizes_of (view value.now) }
+{
+    let (
+        Some(req_slots),
+        Some(poll_slots),
+        Some(lead),
+        Some(short_max),
+        Some(quantum),
+        Some(grant_cap),
+    ) = (
+        number_u32(value, "req_slots"),
+        number_u32(value, "poll_slots"),
+        number_u32(value, "lead"),
+        number_u32(value, "short_max"),
+        number_u32(value, "quantum"),
+        number_u32(value, "grant_cap"),
+    ) else {
+        return None;
+    };
+    Some((req_slots, poll_slots, lead, short_max, quantum, grant_cap))
+}
+
+// The receivers, the calls, the first minislot, the channel and the UCD count.
+#[tactic(auto, unfolding(crate::specs::Fields::counts_of))]
+fn counts_of(value: &Value) -> Option<(u8, u32, u64, u8, u8)>
+    ensures { result ≡ counts_of (view value.now) }
+{
+    let (Some(receivers), Some(calls), Some(start), Some(channel), Some(ucd_count)) = (
+        number_u8(value, "receivers"),
+        number_u32(value, "calls"),
+        number_u64(value, "start"),
+        number_u8(value, "channel"),
+        number_u8(value, "ucd_count"),
+    ) else {
+        return None;
+    };
+    Some((receivers, calls, start, channel, ucd_count))
+}
+
+// The first and the last backoff window, under these keys.
+#[tactic(auto, unfolding(crate::specs::Fields::windows_of))]
+fn windows_of(value: &Value, first: &str, last: &str) -> Option<(u8, u8)>
+    ensures { result ≡ windows_of first.now last.now (view value.now) }
+{
+    Some((number_u8(value, first)?, number_u8(value, last)?))
+}
 
 /// The configuration that an object stands for: each field is there, and fits its type.
 #[tactic(auto, unfolding(crate::specs::Fields::config_of))]
 pub fn config_of(value: &Value) -> Option<Config>
     ensures { result ≡ config_of (view value.now) }
 {
+    let (ticks, bytes_per_slot, overhead, frame, cycle) = slots_of(value)?;
+    let (req_slots, poll_slots, lead, short_max, quantum, grant_cap) = sizes_of(value)?;
+    let (receivers, calls, start, channel, ucd_count) = counts_of(value)?;
+    let (ranging_start, ranging_end) = windows_of(value, "ranging_start", "ranging_end")?;
+    let (data_start, data_end) = windows_of(value, "data_start", "data_end")?;
     Some(Config {
-        ticks: number_u32(value, "ticks")?,
-        bytes_per_slot: number_u32(value, "bytes_per_slot")?,
-        overhead: number_u32(value, "overhead")?,
-        frame: number_u32(value, "frame")?,
-        cycle: number_u32(value, "cycle")?,
-        req_slots: number_u32(value, "req_slots")?,
-        poll_slots: number_u32(value, "poll_slots")?,
-        lead: number_u32(value, "lead")?,
-        short_max: number_u32(value, "short_max")?,
-        quantum: number_u32(value, "quantum")?,
-        grant_cap: number_u32(value, "grant_cap")?,
-        receivers: number_u8(value, "receivers")?,
-        calls: number_u32(value, "calls")?,
-        start: number_u64(value, "start")?,
-        ranging_start: number_u8(value, "ranging_start")?,
-        ranging_end: number_u8(value, "ranging_end")?,
-        data_start: number_u8(value, "data_start")?,
-        data_end: number_u8(value, "data_end")?,
-        channel: number_u8(value, "channel")?,
-        ucd_count: number_u8(value, "ucd_count")?,
+        ticks,
+        bytes_per_slot,
+        overhead,
+        frame,
+        cycle,
+        req_slots,
+        poll_slots,
+        lead,
+        short_max,
+        quantum,
+        grant_cap,
+        receivers,
+        calls,
+        start,
+        ranging_start,
+        ranging_end,
+        data_start,
+        data_end,
+        channel,
+        ucd_count,
     })
 }

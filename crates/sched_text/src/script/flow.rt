@@ -12,10 +12,17 @@ use serde_json::Value;
 fn unsolicited_of(value: &Value) -> Option<FlowSpec>
     ensures { result ≡ unsolicited_of (view value.now) }
 {
+    let (Some(size), Some(interval_us), Some(jitter_us)) = (
+        number_u32(value, "size"),
+        number_u32(value, "interval_us"),
+        number_u32(value, "jitter_us"),
+    ) else {
+        return None;
+    };
     Some(FlowSpec::Unsolicited {
-        size: number_u32(value, "size")?,
-        interval_us: number_u32(value, "interval_us")?,
-        jitter_us: number_u32(value, "jitter_us")?,
+        size,
+        interval_us,
+        jitter_us,
     })
 }
 
@@ -23,11 +30,19 @@ fn unsolicited_of(value: &Value) -> Option<FlowSpec>
 fn polled_of(value: &Value) -> Option<FlowSpec>
     ensures { result ≡ polled_of (view value.now) }
 {
+    let (Some(interval_us), Some(jitter_us), Some(rate), Some(burst)) = (
+        number_u32(value, "interval_us"),
+        number_u32(value, "jitter_us"),
+        number_u32(value, "rate"),
+        number_u32(value, "burst"),
+    ) else {
+        return None;
+    };
     Some(FlowSpec::Polled {
-        interval_us: number_u32(value, "interval_us")?,
-        jitter_us: number_u32(value, "jitter_us")?,
-        rate: number_u32(value, "rate")?,
-        burst: number_u32(value, "burst")?,
+        interval_us,
+        jitter_us,
+        rate,
+        burst,
     })
 }
 
@@ -35,10 +50,17 @@ fn polled_of(value: &Value) -> Option<FlowSpec>
 fn best_effort_of(value: &Value) -> Option<FlowSpec>
     ensures { result ≡ best_effort_of (view value.now) }
 {
+    let (Some(priority), Some(rate), Some(burst)) = (
+        number_u8(value, "priority"),
+        number_u32(value, "rate"),
+        number_u32(value, "burst"),
+    ) else {
+        return None;
+    };
     Some(FlowSpec::BestEffort {
-        priority: number_u8(value, "priority")?,
-        rate: number_u32(value, "rate")?,
-        burst: number_u32(value, "burst")?,
+        priority,
+        rate,
+        burst,
     })
 }
 

@@ -5,7 +5,7 @@ ghost use Rattle.sched_text.specs.Script.{Gives};
 ghost use Rattle.sched_text.specs.Outcome.{text_outcome, StandsFor, StopsScript};
 
 use super::{Script, script_of};
-use crate::fault::RunFault;
+use crate::fault::TextFault;
 use crate::input::{parse, read_all};
 use minislots::Checked;
 use sched_history::Call;
@@ -14,7 +14,7 @@ use std::io::Read;
 
 // The script that a text stands for, where its configuration is lawful.
 #[tactic(auto, unfolding(crate::specs::Outcome::text_outcome))]
-fn script_in(alloc: Global, bytes: &[u8]) -> Result<(Checked, Vec<Call>), RunFault>
+fn script_in(alloc: Global, bytes: &[u8]) -> Result<(Checked, Vec<Call>), TextFault>
     ensures { Gives (λ r. record { config = r.0; calls = r.1.items }) result
         (text_outcome bytes.now) }
 {
@@ -25,9 +25,12 @@ fn script_in(alloc: Global, bytes: &[u8]) -> Result<(Checked, Vec<Call>), RunFau
 }
 
 /// The configuration and the calls of the script in a reader, of which all bytes are read. The
-/// faults come in the order of [`RunFault`]: a fault of shape at any call comes before a wrong
+/// faults come in the order of [`TextFault`]: a fault of shape at any call comes before a wrong
 /// configuration.
-pub fn read_script<R: Read>(alloc: Global, reader: &mut R) -> Result<(Checked, Vec<Call>), RunFault>
+pub fn read_script<R: Read>(
+    alloc: Global,
+    reader: &mut R,
+) -> Result<(Checked, Vec<Call>), TextFault>
     ensures ok { IfOk result (λ r. StandsFor (R.remaining reader.old) (R.remaining reader.new)
         (record { config = r.0; calls = r.1.items })) }
     ensures stops { IfErr result

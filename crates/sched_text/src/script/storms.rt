@@ -1,27 +1,22 @@
 //! The script of a storm: a configuration, and the calls of each worker.
 
 ghost use Rattle.std.specs.Prelude.{◌≡◌, ◌≤◌, ◌<◌, ◌+◌, ◌^◌, length, vec_len, Ok, IfOk, IfErr, IsTrue};
-ghost use Rattle.sched_text.specs.declared.script.storms.TheConstants.{MAX_SCRIPTS};
+ghost use Rattle.sched_history.specs.declared.call.TheConstants.{MAX_SCRIPTS};
 ghost use Rattle.serde_json.specs.View.{view, items_view};
 ghost use Rattle.sched_text.specs.Script.{Gives};
-ghost use Rattle.sched_text.specs.StormScript.{calls_each, are_arrays, are_scripts, scripts_of, storm_of, storm_text, GivesStorm, StopsStormScript};
-
-#[cfg(test)]
-mod tests;
+ghost use Rattle.sched_text.specs.StormScript.{calls_each, are_arrays, are_scripts, scripts_of, storm_of, storm_text};
+ghost use Rattle.sched_text.specs.StormScript.{GivesStorm, StopsStormScript};
 
 use super::calls_after;
 use super::config::config_of;
 use super::field::member;
-use crate::fault::RunFault;
+use crate::fault::TextFault;
 use crate::input::{parse, read_all};
 use minislots::{Checked, Config};
-use sched_history::Call;
+use sched_history::{Call, MAX_SCRIPTS};
 use serde_json::Value;
 use std::alloc::Global;
 use std::io::Read;
-
-/// The most scripts of a storm.
-pub const MAX_SCRIPTS: usize = 16;
 
 /// The script of a storm as it was read: its configuration may have a wrong field.
 #[derive(Drop)]
@@ -69,7 +64,7 @@ fn count_calls(script: &[Call]) -> u64
 }
 
 // The scripts of these arrays. Calls are counted through all of them.
-fn scripts_of(alloc: Global, arrays: &[Value]) -> Result<Vec<Vec<Call>>, RunFault>
+fn scripts_of(alloc: Global, arrays: &[Value]) -> Result<Vec<Vec<Call>>, TextFault>
     requires { length arrays.now ≤ 16 }
     ensures are { Gives (λ scripts. calls_each scripts.items) result (scripts_of 0 (items_view arrays.now)) }
     ensures count { IfOk result (λ scripts. vec_len scripts ≡ length arrays.now) }
@@ -78,7 +73,7 @@ fn scripts_of(alloc: Global, arrays: &[Value]) -> Result<Vec<Vec<Call>>, RunFaul
     let mut before = 0;
     for array in arrays {
         let Some(values) = array.as_array() else {
-            return Err(RunFault::Shape(0));
+            return Err(TextFault::Shape(0));
         };
         let calls = calls_after(alloc, before, values)?;
         before += count_calls(&calls);
@@ -92,19 +87,20 @@ fn scripts_of(alloc: Global, arrays: &[Value]) -> Result<Vec<Vec<Call>>, RunFaul
 /// the number of scripts is that of shape with 0, and comes first. Otherwise the first call that is none,
 /// counted from 1 through all scripts in order, is the fault.
 #[tactic(auto, unfolding(crate::specs::StormScript::storm_of))]
-pub fn storm_of(alloc: Global, value: &Value) -> Result<StormScript, RunFault>
-    ensures is { Gives (λ s. record { config = s.config; scripts = calls_each s.scripts.items }) result (storm_of (view value.now)) }
+pub fn storm_of(alloc: Global, value: &Value) -> Result<StormScript, TextFault>
+    ensures is { Gives (λ s. record { config = s.config; scripts = calls_each s.scripts.items }) result
+        (storm_of (view value.now)) }
     ensures some { IfOk result (λ s. 1 ≤ vec_len s.scripts) }
     ensures few { IfOk result (λ s. vec_len s.scripts ≤ MAX_SCRIPTS) }
 {
     let Some(config) = member(value, "config").and_then(config_of) else {
-        return Err(RunFault::Shape(0));
+        return Err(TextFault::Shape(0));
     };
     let Some(arrays) = member(value, "scripts").and_then(Value::as_array) else {
-        return Err(RunFault::Shape(0));
+        return Err(TextFault::Shape(0));
     };
     if !are_scripts(arrays) {
-        return Err(RunFault::Shape(0));
+        return Err(TextFault::Shape(0));
     }
     let scripts = scripts_of(alloc, arrays)?;
     Ok(StormScript { config, scripts })
@@ -112,7 +108,7 @@ pub fn storm_of(alloc: Global, value: &Value) -> Result<StormScript, RunFault>
 
 // The storm that a text stands for, where its configuration is lawful.
 #[tactic(auto, unfolding(crate::specs::StormScript::storm_text))]
-fn storm_in(alloc: Global, bytes: &[u8]) -> Result<(Checked, Vec<Vec<Call>>), RunFault>
+fn storm_in(alloc: Global, bytes: &[u8]) -> Result<(Checked, Vec<Vec<Call>>), TextFault>
     ensures is { Gives (λ r. record { config = r.0; scripts = calls_each r.1.items }) result
         (storm_text bytes.now) }
     ensures some { IfOk result (λ r. 1 ≤ vec_len r.1) }
@@ -125,11 +121,11 @@ fn storm_in(alloc: Global, bytes: &[u8]) -> Result<(Checked, Vec<Vec<Call>>), Ru
 }
 
 /// The configuration and the scripts of the storm in a reader, of which all bytes are read. The faults come in
-/// the order of [`RunFault`]: a fault of shape at any call comes before a wrong configuration.
+/// the order of [`TextFault`]: a fault of shape at any call comes before a wrong configuration.
 pub fn read_storm<R: Read>(
     alloc: Global,
     reader: &mut R,
-) -> Result<(Checked, Vec<Vec<Call>>), RunFault>
+) -> Result<(Checked, Vec<Vec<Call>>), TextFault>
     ensures ok { IfOk result (λ r. GivesStorm (R.remaining reader.old) (R.remaining reader.new)
         (Ok (record { config = r.0; scripts = calls_each r.1.items }))) }
     ensures some { IfOk result (λ r. 1 ≤ vec_len r.1) }

@@ -1,14 +1,17 @@
 -- Each flow is compared with the next of those before it.
-use Rattle.std.proofs.Common.{◌≡◌, ◌++◌, [], ◌∷◌, map, take, true, false}
-use Rattle.flow_book.specs.Entry.{live}
-use Rattle.flow_book.specs.Choice.{IsNextOf}
+use Rattle.std.proofs.Common.{◌≡◌, map, take, true, false}
+use Rattle.flow_book.specs.Entry.{live, IsSoundFlow}
 use Rattle.flow_book.proofs.Order.{next-passes}
-use Rattle.flow_book.proofs.Steps.{taken-item, lower-item, sound-item, step-changes, step-stays}
+use Rattle.flow_book.proofs.Steps.{taken-item, all-item, lower-item, step-changes, step-stays}
 use Rattle.flow_book.proofs.flow.first_eligible.Goals as goal
-use Rattle.flow_book.proofs.flow.first_eligible.Goals.{then-is_eligible+then-comes_before, else-is_eligible, else-is_eligible-via-then-is_eligible+else-comes_before, else-is_eligible-via-else-is_eligible}
+use Rattle.flow_book.proofs.flow.first_eligible.Goals.{then-is_eligible+then-comes_before, else-is_eligible}
+use Rattle.flow_book.proofs.flow.first_eligible.Goals.{else-is_eligible-via-then-is_eligible+else-comes_before}
+use Rattle.flow_book.proofs.flow.first_eligible.Goals.{else-is_eligible-via-else-is_eligible}
 
 pub is_eligible-requires : goal.is_eligible-requires
-is_eligible-requires c = sound-item c.args.config.now c.args.flows.now c.loop-flow.flow-index c.flow-item.result c.loop-flow-test.true c.flow-item.is c.requires.each
+is_eligible-requires c =
+    all-item live c.args.flows.now c.loop-flow.flow-index c.flow-item.result c.loop-flow-test.true c.flow-item.is
+    (IsSoundFlow c.args.config.now) c.requires.each
 
 pub loop-flow-preserved : goal.loop-flow-preserved
 loop-flow-preserved c =
@@ -16,14 +19,20 @@ loop-flow-preserved c =
     let i = c.loop-flow.flow-index in
     let f = c.flow-item.result in
     let flows = map live (take i items) in
-    let taken = taken-item items i f c.loop-flow-test.true c.flow-item.is in
+    let taken = taken-item live items i f c.loop-flow-test.true c.flow-item.is in
     elim c.if-is_eligible.branch [
       | then-is_eligible+then-comes_before w ↦ rw (taken, w.next-is)
-          (step-changes c.args.config.now c.args.start c.args.room flows f c.loop-flow.next w.comes_before.result c.loop-flow.invariant (c.is_eligible.ensures.0 w.if-is_eligible.true) w.comes_before.ensures w.if-comes_before.true)
+          (step-changes c.args.config.now c.args.start c.args.room flows f c.loop-flow.next w.comes_before.result
+          c.loop-flow.invariant (c.is_eligible.ensures.0 w.if-is_eligible.true) w.comes_before.ensures
+          w.if-comes_before.true)
       | else-is_eligible w ↦ elim w.else-is_eligible.branch [
         | else-is_eligible-via-then-is_eligible+else-comes_before v ↦ rw (taken, w.next-is)
-            (step-stays c.args.config.now c.args.start c.args.room flows f c.loop-flow.next v.comes_before.result c.loop-flow.invariant (lower-item items i f c.loop-flow-test.true c.flow-item.is c.requires.ascending) v.comes_before.ensures v.if-comes_before.false)
+            (step-stays c.args.config.now c.args.start c.args.room flows f c.loop-flow.next v.comes_before.result
+            c.loop-flow.invariant (lower-item items i f c.loop-flow-test.true c.flow-item.is c.requires.ascending)
+            v.comes_before.ensures v.if-comes_before.false)
         | else-is_eligible-via-else-is_eligible v ↦ rw (taken, w.next-is)
-            (next-passes c.args.config.now c.args.start c.args.room flows _ (live f) c.loop-flow.invariant (λ may. let t : c.is_eligible.result ≡ true = c.is_eligible.ensures.1 may in let e : c.is_eligible.result ≡ false = v.if-is_eligible.false in cc))
+            (next-passes c.args.config.now c.args.start c.args.room flows _ (live f) c.loop-flow.invariant
+            (λ may. let t : c.is_eligible.result ≡ true = c.is_eligible.ensures.1 may in
+            let e : c.is_eligible.result ≡ false = v.if-is_eligible.false in cc))
       ]
     ]

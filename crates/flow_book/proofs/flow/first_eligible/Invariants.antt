@@ -5,4 +5,5 @@ use Rattle.flow_book.specs.Entry.{live}
 use Rattle.flow_book.proofs.flow.first_eligible.Given as goal
 
 abbrev pub invariant-loop-flow : goal.invariant-loop-flow
-invariant-loop-flow l = IsNextOf l.config l.start l.room (map live (take l.flow-index l.flows)) (option_map live (option_copied l.next))
+invariant-loop-flow l =
+    IsNextOf l.config l.start l.room (map live (take l.flow-index l.flows)) (option_map live (option_copied l.next))

@@ -30,7 +30,8 @@ returns-clause-only c = λ n lawful.
     let has = c.in_ok-draft.ensures c.args.spots.now c.requires.placed in
     one_map config c.args.book.now.flows c.args.spots.now c.args.start
     (bounds_of config (rw has.config at has.ready.lawful)).overhead_positive
-    (apart-in-frame config c.args.spots.now c.requires.placed) c.args.ack n c.into_map.result lawful (returns-clause-lawful c)
+    (apart-in-frame config c.args.spots.now c.requires.placed) c.args.ack n c.into_map.result lawful
+    (returns-clause-lawful c)
 
 pub returns-clause-encodable : goal.returns-clause-encodable
 returns-clause-encodable c = λ channel places.

@@ -15,15 +15,18 @@ plan_around-requires-clause-placed c =
 
 pub returns-clause-lawful : goal.returns-clause-lawful
 returns-clause-lawful c =
-    lawful-told c.args.book.now.config c.args.table.now.config c.args.book.now.flows c.args.frame c.from.result c.args.ack
-    c.args.table.now.placed (take c.in_frame-count.result c.in_frame-count.new.spots) c.plan_around.result c.requires.config
+    lawful-told c.args.book.now.config c.args.table.now.config c.args.book.now.flows c.args.frame c.from.result
+    c.args.ack
+    c.args.table.now.placed (take c.in_frame-count.result c.in_frame-count.new.spots) c.plan_around.result
+    c.requires.config
     c.in_frame-count.ensures.spots (c.from.ensures ∙ c.frame.ensures.value ∙ ap (λ k. k.frame) c.config.ensures.value)
     c.plan_around.ensures.lawful
 
 pub returns-clause-only : goal.returns-clause-only
 returns-clause-only c =
     only-told c.args.book.now.config c.args.table.now.config c.args.book.now.flows c.args.frame c.from.result c.args.ack
-    c.args.table.now.placed (take c.in_frame-count.result c.in_frame-count.new.spots) c.plan_around.result c.requires.config
+    c.args.table.now.placed (take c.in_frame-count.result c.in_frame-count.new.spots) c.plan_around.result
+    c.requires.config
     c.in_frame-count.ensures.spots (c.from.ensures ∙ c.frame.ensures.value ∙ ap (λ k. k.frame) c.config.ensures.value)
     c.plan_around.ensures.only
 

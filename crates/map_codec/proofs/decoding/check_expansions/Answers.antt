@@ -11,10 +11,12 @@ pub returns-then-read_element-eq-EXPANSION : goal.returns-then-read_element-eq-E
 returns-then-read_element-eq-EXPANSION c =
     let es = elements_in c.args.words.now in
     let lt : c.loop-i.i < length es = omega (arith, length-elements_in c.args.words.now) in
-    let here = ap (λ (e : Element). e.iuc) (sym c.read_element.ensures) ∙ c.if-read_element-eq-EXPANSION.true in
+    let read = ap (λ (e : Element). e.iuc) (sym c.read_element.ensures) in
+    let here = read ∙ c.if-read_element-eq-EXPANSION.true in
     sym (ap checked (expansion_found es c.loop-i.i lt (eq-eqb _ _ here) c.loop-i.invariant))
 
 pub returns : goal.returns
 returns c =
     let es = elements_in c.args.words.now in
-    sym (ap checked (expansion_none es (λ k lt. c.loop-i.invariant k (omega (arith, length-elements_in c.args.words.now, lt)))))
+    let count = length-elements_in c.args.words.now in
+    sym (ap checked (expansion_none es (λ k lt. c.loop-i.invariant k (omega (arith, count, lt)))))

@@ -1,5 +1,5 @@
 -- The second Null that is met is the least; at the end there is one Null or none.
-use Rattle.std.proofs.Common.{◌<◌, ◌≤◌, length, sym, ap, ◌∙◌, eq-eqb, arith}
+use Rattle.std.proofs.Common.{◌≡◌, ◌<◌, ◌≤◌, length, sym, ap, ◌∙◌, eq-eqb, arith}
 use Rattle.std.proofs.lemmas.Bool.{ltb-true, ltb-false}
 use Rattle.std.proofs.lemmas.List.{take_all}
 use Rattle.map_codec.specs.declared.element.Element.{Element}
@@ -23,7 +23,8 @@ returns-then-is_met-2 c =
     let past : length es ≤ c.loop-i.i = omega (arith, length-elements_in c.args.words.now) in
     let all = ap nulls (take_all c.loop-i.i es past) in
     let seen = ltb-true _ _ (sym c.loop-i.invariant.is_met ∙ c.if-is_met-2.true) in
-    sym (ap checked (null_fine es (λ e. absurd (omega (arith, all, seen, e))) (λ k lt. c.loop-i.invariant.none k (omega (arith, past, lt)))))
+    let some : nulls es ≡ 0 → ⊥ = λ e. absurd (omega (arith, all, seen, e)) in
+    sym (ap checked (null_fine es some (λ k lt. c.loop-i.invariant.none k (omega (arith, past, lt)))))
 
 pub returns-else-is_met-2 : goal.returns-else-is_met-2
 returns-else-is_met-2 c =

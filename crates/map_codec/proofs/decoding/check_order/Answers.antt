@@ -1,5 +1,6 @@
 -- The descent that is met is the least; past a Null, or past the last element, there is none.
-use Rattle.std.proofs.Common.{◌≡◌, ◌<◌, ◌≤◌, false, length, sym, ap, ◌∙◌, below_more, add-one, eq-eqb, ne_eqb, arith}
+use Rattle.std.proofs.Common.{◌≡◌, ◌<◌, ◌≤◌, false, length, sym, ap, ◌∙◌}
+use Rattle.std.proofs.Common.{below_more, add-one, eq-eqb, ne_eqb, arith}
 use Rattle.std.proofs.lemmas.Bool.{and_right, le-ltb}
 use Rattle.map_codec.specs.declared.element.Element.{Element}
 use Rattle.map_codec.specs.Element.{element_at, elements_in, is_null}
@@ -14,7 +15,8 @@ returns-then-e-latest c =
     let es = elements_in c.args.words.now in
     let lt : c.loop-i.i < length es = omega (arith, length-elements_in c.args.words.now) in
     let offset = ap (λ (e : Element). e.offset) c.read_element-e.ensures in
-    sym (ap checked (descending_found es c.loop-i.i lt c.loop-i.invariant.no_null (omega (arith, offset)) c.loop-i.invariant.none))
+    let l = c.loop-i.invariant in
+    sym (ap checked (descending_found es c.loop-i.i lt l.no_null (omega (arith, offset)) l.none))
 
 pub returns-then-e-eq-NULL : goal.returns-then-e-eq-NULL
 returns-then-e-eq-NULL c =
@@ -22,7 +24,8 @@ returns-then-e-eq-NULL c =
     let lt : c.loop-i.i < length es = omega (arith, length-elements_in c.args.words.now) in
     let offset = ap (λ (e : Element). e.offset) c.read_element-e.ensures in
     let null = ap (λ (e : Element). e.iuc) (sym c.read_element-e.ensures) ∙ c.if-e-eq-NULL.true in
-    sym (ap checked (descending_none_past es c.loop-i.i lt (eq-eqb _ _ null) (omega (arith, offset)) c.loop-i.invariant.none))
+    let below = c.loop-i.invariant.none in
+    sym (ap checked (descending_none_past es c.loop-i.i lt (eq-eqb _ _ null) (omega (arith, offset)) below))
 
 pub loop-i-preserved : goal.loop-i-preserved
 loop-i-preserved c =
@@ -30,7 +33,8 @@ loop-i-preserved c =
     let lt : c.loop-i.i < length es = omega (arith, length-elements_in c.args.words.now) in
     let offset = ap (λ (e : Element). e.offset) c.read_element-e.ensures in
     let iuc = ap (λ (e : Element). e.iuc) c.read_element-e.ensures in
-    let other : is_null (element_at es c.loop-i.i) ≡ false = ne_eqb _ _ (λ e. c.if-e-eq-NULL.false (iuc ∙ e)) in
+    let other : is_null (element_at es c.loop-i.i) ≡ false =
+    ne_eqb _ _ (λ e. c.if-e-eq-NULL.false (iuc ∙ e)) in
     let kept : offset_before es c.loop-i.i ≤ (element_at es c.loop-i.i).offset = omega (arith, offset) in
     record {
       none = below_more _ _ c.loop-i.invariant.none (and_right _ _ (le-ltb _ _ kept));
@@ -41,4 +45,5 @@ loop-i-preserved c =
 pub returns : goal.returns
 returns c =
     let es = elements_in c.args.words.now in
-    sym (ap checked (descending_none es (λ k lt. c.loop-i.invariant.none k (omega (arith, length-elements_in c.args.words.now, lt)))))
+    let count = length-elements_in c.args.words.now in
+    sym (ap checked (descending_none es (λ k lt. c.loop-i.invariant.none k (omega (arith, count, lt)))))

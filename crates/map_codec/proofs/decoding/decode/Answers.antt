@@ -7,7 +7,8 @@ use Rattle.map_codec.proofs.Payload.{read_from_none, map_in-spelling, checked-sp
 use Rattle.map_codec.proofs.decoding.decode.Goals as goal
 
 pub returns-in_err-check-clause-only : goal.returns-in_err-check-clause-only
-returns-in_err-check-clause-only c = λ m well is. absurd (checked-spelling c.args.bytes.now _ c.in_err-check.ensures.exact m well is)
+returns-in_err-check-clause-only c = λ m well is.
+    absurd (checked-spelling c.args.bytes.now _ c.in_err-check.ensures.exact m well is)
 
 pub returns-in_err-check-clause-exact : goal.returns-in_err-check-clause-exact
 returns-in_err-check-clause-exact c =
@@ -16,7 +17,9 @@ returns-in_err-check-clause-exact c =
 
 pub returns-clause-found : goal.returns-clause-found
 returns-clause-found c =
-    rw c.read_fields.ensures (read_from_none c.args.bytes.now (λ i. omega (arith, c.type_inv.bytes i)) (none_from_checked _ _ c.in_ok-check.ensures.exact))
+    let none = none_from_checked _ _ c.in_ok-check.ensures.exact in
+    rw c.read_fields.ensures
+    (read_from_none c.args.bytes.now (λ i. omega (arith, c.type_inv.bytes i)) none)
 
 pub returns-clause-only : goal.returns-clause-only
 returns-clause-only c = λ m well is. c.read_fields.ensures ∙ ap map_in is ∙ map_in-spelling m well

@@ -10,7 +10,8 @@ loop-i-preserved c =
     let es = elements_in c.args.words.now in
     let lt : c.loop-i.i < length es = omega (arith, length-elements_in c.args.words.now) in
     record {
-      items = rw (c.push_reserved.ensures.items, c.loop-i.invariant.items, c.read_element.ensures) (sym (take_more es c.loop-i.i no_element lt));
+      items = rw (c.push_reserved.ensures.items, c.loop-i.invariant.items, c.read_element.ensures)
+          (sym (take_more es c.loop-i.i no_element lt));
       len = omega (arith, c.push_reserved.ensures.len, c.loop-i.invariant.len);
       room = c.push_reserved.ensures.capacity ∙ c.loop-i.invariant.room;
     }

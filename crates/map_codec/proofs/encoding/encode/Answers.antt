@@ -8,9 +8,11 @@ use Rattle.map_codec.proofs.encoding.encode.Goals as goal
 
 pub loop-i-preserved : goal.loop-i-preserved
 loop-i-preserved c =
-    let same : length c.as_slice-e-items.result.now ≡ length c.args.map.now.elements = ap length c.as_slice-e-items.ensures in
-    let piece : c.to_be_bytes.result ≡ bytes_of (get_or c.args.map.now.elements c.loop-i.i no_element) =
-    c.to_be_bytes.ensures ∙ ap (to_be_bytes w32) (c.word.ensures ∙ ap (λ (es : List Element). word_of (get_or es c.loop-i.i no_element)) c.as_slice-e-items.ensures) in
+    let es = c.args.map.now.elements in
+    let same : length c.as_slice-e-items.result.now ≡ length es = ap length c.as_slice-e-items.ensures in
+    let word_at = λ (items : List Element). word_of (get_or items c.loop-i.i no_element) in
+    let piece : c.to_be_bytes.result ≡ bytes_of (get_or es c.loop-i.i no_element) =
+    c.to_be_bytes.ensures ∙ ap (to_be_bytes w32) (c.word.ensures ∙ ap word_at c.as_slice-e-items.ensures) in
     let wrote = rw piece at c.put-in-loop-i.ensures in
     written_elements_more c.args.map.now _ _ _ c.loop-i.i no_element (omega arith) c.loop-i.invariant wrote
 
@@ -19,5 +21,6 @@ returns-clause-len c = omega (arith, length-spelling c.args.map.now)
 
 pub returns-clause-bytes : goal.returns-clause-bytes
 returns-clause-bytes c =
-    let same : length c.as_slice-e-items.result.now ≡ length c.args.map.now.elements = ap length c.as_slice-e-items.ensures in
+    let es = c.args.map.now.elements in
+    let same : length c.as_slice-e-items.result.now ≡ length es = ap length c.as_slice-e-items.ensures in
     written_all c.args.map.now c.args.out.now c.loop-i.out c.loop-i.i (omega arith) c.loop-i.invariant

@@ -6,4 +6,5 @@ use Rattle.map_codec.specs.WireMap.{header}
 use Rattle.map_codec.proofs.encoding.encode.Given as goal
 
 abbrev pub invariant-loop-i : goal.invariant-loop-i
-invariant-loop-i l = l.out ≡ (header l.map ++ flat_map bytes_of (take l.i l.map.elements)) ++ drop (16 + 4 * l.i) l.fn.out
+invariant-loop-i l =
+    l.out ≡ (header l.map ++ flat_map bytes_of (take l.i l.map.elements)) ++ drop (16 + 4 * l.i) l.fn.out

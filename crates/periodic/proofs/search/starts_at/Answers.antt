@@ -31,13 +31,19 @@ loop-place-preserved c =
     elim c.if-place-wanted.branch [
       | then-place-wanted+in-Some w ↦ (
           let within : row.count < length row.starts =
-          omega (arith, c.loop-place.invariant.long, c.loop-place.invariant.most, (bounds_of _ c.cycle.ensures.lawful).cycle_most)
+          omega (
+            arith,
+            c.loop-place.invariant.long,
+            c.loop-place.invariant.most,
+            (bounds_of _ c.cycle.ensures.lawful).cycle_most,
+          )
           in
           let starts = take_more_set row.starts row.count w.in-Some.start within in
           rw (w.row-is, filter-passes nominal place (eq-eqb _ _ w.if-place-wanted.true), starts) (record {
             long = length-set row.starts row.count w.in-Some.start ∙ c.loop-place.invariant.long;
             most = omega (arith, c.loop-place.invariant.most);
-            each = each-push P (filter nominal (count_from 0 place)) (starts_of row) place w.in-Some.start c.loop-place.invariant.each
+            each = each-push P (filter nominal (count_from 0 place)) (starts_of row) place w.in-Some.start
+                c.loop-place.invariant.each
                 w.in-Some.ensures.found;
           }))
       | else-place-wanted w ↦ rw (w.row-is, filter-fails nominal place (ne_eqb _ _ w.if-place-wanted.false)) (record {
@@ -56,7 +62,8 @@ returns-clause-found c =
     let all : c.loop-place.place ≡ config.cycle = omega arith in
     let places = filter (is_nominal c.args.wanted.interval c.args.phase) (count_from 0 config.cycle) in
     let each : EachPlace First places (starts_of c.loop-place.row) =
-    subst (λ n. EachPlace First (filter (is_nominal c.args.wanted.interval c.args.phase) (count_from 0 n)) (starts_of c.loop-place.row))
+    subst (λ n. EachPlace First (filter (is_nominal c.args.wanted.interval c.args.phase) (count_from 0 n))
+    (starts_of c.loop-place.row))
     all c.loop-place.invariant.each in
     record {
       lawful = each-weaker First Lawful (λ place start first. first.lawful) places (starts_of c.loop-place.row) each;

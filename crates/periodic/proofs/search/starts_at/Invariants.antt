@@ -10,6 +10,7 @@ abbrev pub invariant-loop-place : goal.invariant-loop-place
 invariant-loop-place l = record {
   long : length l.row.starts ≡ 64;
   most : l.row.count ≤ l.place;
-  each : EachPlace (λ place start. IsFirstStart l.config l.wanted l.offset (spots_in l.config place (map placed_of l.flows)) start)
+  each : EachPlace
+      (λ place start. IsFirstStart l.config l.wanted l.offset (spots_in l.config place (map placed_of l.flows)) start)
       (filter (is_nominal l.wanted.interval l.phase) (count_from 0 l.place)) (starts_of l.row);
 }

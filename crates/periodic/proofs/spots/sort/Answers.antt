@@ -6,4 +6,5 @@ use Rattle.periodic.proofs.spots.sort.Goals as goal
 
 pub returns-clause-sorted : goal.returns-clause-sorted
 returns-clause-sorted c =
-    IsNonDecreasingBy-from_sort_by_key (λ (s : Spot). s.offset) _ c.sort_unstable_by_key.ensures.sorted (λ a r q k. search rules)
+    IsNonDecreasingBy-from_sort_by_key (λ (s : Spot). s.offset) _ c.sort_unstable_by_key.ensures.sorted
+    (λ a r q k. search rules)

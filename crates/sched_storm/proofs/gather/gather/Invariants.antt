@@ -1,13 +1,16 @@
--- The workers that are left, and what the others count.
+-- The jobs that are left, and what the others gave back.
 use Rattle.std.proofs.Common.{◌≤◌, ◌+◌, vec_len, vec_capacity}
-use Rattle.sched_storm.proofs.GatherLaws.{Gathering}
+use Rattle.sched_history.specs.declared.call.TheConstants.{MAX_SCRIPTS}
+use Rattle.sched_storm.specs.Jobs.{GivesBack}
+use Rattle.sched_storm.proofs.GatherLaws.{Joining}
 use Rattle.sched_storm.proofs.gather.gather.Given as goal
 
-abbrev pub invariant-loop-worked : goal.invariant-loop-worked
-invariant-loop-worked l = record {
-  so_far : Gathering l.initial.done.items l.done.items l.seats.items l.unrecorded l.held;
-  room : vec_len l.done + vec_len l.seats ≤ vec_capacity l.seats;
+abbrev pub invariant-loop-job : goal.invariant-loop-job
+invariant-loop-job g l = record {
+  so_far : Joining (GivesBack g.G.Gate.lets_pass g.G.Gate.holds_back) l.initial.jobs.items l.jobs.items l.gathered;
+  room : vec_len l.jobs + vec_len l.gathered.seats ≤ vec_capacity l.gathered.seats;
+  few : vec_len l.jobs + vec_len l.gathered.seats ≤ MAX_SCRIPTS;
 }
 
-abbrev pub decreases-loop-worked : goal.decreases-loop-worked
-decreases-loop-worked l = vec_len l.done
+abbrev pub decreases-loop-job : goal.decreases-loop-job
+decreases-loop-job g l = vec_len l.jobs

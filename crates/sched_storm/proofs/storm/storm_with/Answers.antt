@@ -1,54 +1,55 @@
--- The workers have a seat each of the lock that was opened.
-use Rattle.std.proofs.Common.{◌≡◌, length, ap, sym, subst, arith}
-use Rattle.std.proofs.lemmas.List.{length-map}
-use Rattle.sched_storm.specs.Jobs.{calls_each}
-use Rattle.sched_storm.specs.Storm.{AreResultsOf}
-use Rattle.sched_storm.proofs.TallyLaws.{opened_own, opened_length, are_results, each_length}
+-- The workers have a seat each of the lock that was opened, and there is a tally of what they gave back.
+use Rattle.std.proofs.Common.{arith}
+use Rattle.sched_storm.proofs.StormLaws.{opened_own, opened_length, gathered_own, gathered_all}
+use Rattle.sched_storm.proofs.StormLaws.{is_gated_tally, is_tally}
 use Rattle.sched_storm.proofs.storm.storm_with.Goals as goal
 
-pub run_workers-done-requires-clause-ready : goal.run_workers-done-requires-clause-ready
-run_workers-done-requires-clause-ready g c κs within =
+pub run_workers-gathered-requires-clause-ready : goal.run_workers-gathered-requires-clause-ready
+run_workers-gathered-requires-clause-ready g c κs within =
     let new = c.in-Ok-open in
-    let opened = new.ensures.opened in
     let room = c.in-Ok.ensures in
     let workers = c.len-workers.ensures in
-    let seats : length new.seats.items ≡ c.len-workers.result =
-    opened_length c.args.checked c.len-workers.result new.shared.lock new.seats.items opened in
+    let seats = opened_length c.args.checked c.len-workers.result new.shared.lock new.seats.items new.ensures.opened in
     let len = new.seats.ok.0 in
     let jobs = room.jobs.1 in
-    let done = room.done.1 in
+    let row = room.row.1 in
+    let most = c.if-workers-gt-MAX_SCRIPTS.false in
     record {
-      own = opened_own c.args.checked c.len-workers.result new.shared.lock new.seats.items opened;
+      own = opened_own c.args.checked c.len-workers.result new.shared.lock new.seats.items new.ensures.opened;
       each = omega (arith, seats, len, workers);
+      few = omega (arith, seats, len, most);
       jobs_empty = room.jobs.0;
       jobs_room = omega (arith, seats, len, jobs);
-      done_empty = room.done.0;
-      done_room = omega (arith, seats, len, done);
+      row_empty = room.row.0;
+      row_room = omega (arith, seats, len, row);
     }
 
-pub close-tally-requires-clause-results : goal.close-tally-requires-clause-results
-close-tally-requires-clause-results g c =
+pub close-requires-clause-own : goal.close-requires-clause-own
+close-requires-clause-own g c =
     let new = c.in-Ok-open in
-    let done = c.run_workers-done in
-    let scripts = calls_each c.args.scripts.items in
-    let same = length-map c.args.scripts.items (λ v. v.items) in
-    let len = c.args.scripts.ok.0 in
-    let workers = c.len-workers.ensures in
-    let long : length scripts ≡ c.len-workers.result = omega (arith, same, len, workers) in
-    subst (λ l. AreResultsOf new.shared.config new.shared.lock (calls_each l) done.result.items)
-    (sym (ap (λ v. v.items) c.of-given.ensures))
-    (are_results c.args.checked c.len-workers.result new.shared.lock new.seats.items new.ensures.opened new.shared.config scripts
-    done.result.items long c.if-workers-gt-MAX_WORKERS.false done.ensures.worked)
+    gathered_own c.args.checked c.len-workers.result new.shared.lock new.seats.items new.ensures.opened
+    (g.G.Gate.lets_pass c.args.gate.now) (g.G.Gate.holds_back c.args.gate.now) c.args.scripts c.len-workers.ensures
+    c.run_workers-gathered.result c.run_workers-gathered.ensures.worked
 
-pub close-tally-requires-clause-room : goal.close-tally-requires-clause-room
-close-tally-requires-clause-room g c =
+pub close-requires-clause-all : goal.close-requires-clause-all
+close-requires-clause-all g c =
     let new = c.in-Ok-open in
-    let scripts = calls_each c.args.scripts.items in
-    let all = each_length new.shared.config new.shared.lock new.seats.items scripts c.run_workers-done.result.items
-    c.run_workers-done.ensures.worked in
-    let same = length-map c.args.scripts.items (λ v. v.items) in
-    let len = c.args.scripts.ok.0 in
-    let done = c.run_workers-done.result.ok.0 in
-    let workers = c.len-workers.ensures in
-    let room = c.in-Ok.ensures.row.1 in
-    omega (arith, all, same, len, done, workers, room)
+    gathered_all c.args.checked c.len-workers.result new.shared.lock new.seats.items new.ensures.opened
+    (g.G.Gate.lets_pass c.args.gate.now) (g.G.Gate.holds_back c.args.gate.now) c.args.scripts c.len-workers.ensures
+    c.run_workers-gathered.result c.run_workers-gathered.ensures.worked
+
+pub returns-clause-tally : goal.returns-clause-tally
+returns-clause-tally g c =
+    let new = c.in-Ok-open in
+    is_tally c.args.checked c.len-workers.result new.shared.lock new.seats.items new.ensures.opened
+    (g.G.Gate.lets_pass c.args.gate.now) (g.G.Gate.holds_back c.args.gate.now) c.args.scripts c.len-workers.ensures
+    c.run_workers-gathered.result c.run_workers-gathered.ensures.worked new.shared.config new.ensures.config
+    c.close.result c.close.ensures.told c.close.ensures.ok
+
+pub returns-clause-gated : goal.returns-clause-gated
+returns-clause-gated g c =
+    let new = c.in-Ok-open in
+    is_gated_tally c.args.checked c.len-workers.result new.shared.lock new.seats.items new.ensures.opened
+    (g.G.Gate.lets_pass c.args.gate.now) (g.G.Gate.holds_back c.args.gate.now) c.args.scripts c.len-workers.ensures
+    c.run_workers-gathered.result c.run_workers-gathered.ensures.worked new.shared.config new.ensures.config
+    c.close.result c.close.ensures.told c.close.ensures.ok

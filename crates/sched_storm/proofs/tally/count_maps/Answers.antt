@@ -2,14 +2,15 @@
 use Rattle.std.proofs.Common.{◌≡◌, length, get_or, [], ◌∷◌, take, arith, ap}
 use Rattle.std.proofs.lemmas.List.{length-take-le}
 use Rattle.sched_history.specs.Facts.{maps_of}
-use Rattle.sched_storm.proofs.MadeLaws.{count_maps-push, count_maps-le, one_map}
+use Rattle.sched_storm.proofs.MapLaws.{count_maps-push, count_maps-le, one_map}
 use Rattle.sched_storm.proofs.tally.count_maps.Goals as goal
 
 pub overflow_add-maps : goal.overflow_add-maps
 overflow_add-maps c =
     let few = count_maps-le (take c.loop-entry.entry-index c.args.history.now) in
     let long = length-take-le c.loop-entry.entry-index c.args.history.now c.loop-entry.auto.entry-index-end in
-    let so_far : c.loop-entry.maps ≡ length (maps_of (take c.loop-entry.entry-index c.args.history.now)) = c.loop-entry.invariant in
+    let so_far : c.loop-entry.maps ≡ length (maps_of (take c.loop-entry.entry-index c.args.history.now)) =
+    c.loop-entry.invariant in
     let one = one_map c.entry-item.result in
     let more : c.count_map-maps.result ≡ length (maps_of (c.entry-item.result ∷ [])) = c.count_map-maps.ensures in
     let below = c.loop-entry-test.true in
@@ -21,7 +22,8 @@ loop-entry-preserved c =
     let i = c.loop-entry.entry-index in
     let so_far : c.loop-entry.maps ≡ length (maps_of (take i h)) = c.loop-entry.invariant in
     let more : c.count_map-maps.result ≡ length (maps_of (c.entry-item.result ∷ [])) = c.count_map-maps.ensures in
-    let item : length (maps_of (c.entry-item.result ∷ [])) ≡ length (maps_of (get_or h i c.entry-item.result ∷ [])) =
+    let item : length (maps_of (c.entry-item.result ∷ []))
+    ≡ length (maps_of (get_or h i c.entry-item.result ∷ [])) =
     ap (λ e. length (maps_of (e ∷ []))) c.entry-item.is in
     let push = count_maps-push h i c.entry-item.result c.loop-entry-test.true in
     omega (arith, so_far, more, item, push)

@@ -1,45 +1,61 @@
 -- The calls so far, and one more.
-use Rattle.std.proofs.Common.{◌<◌, length, sym, subst, arith}
-use Rattle.std.specs.Prelude.{nat_lt}
-use Rattle.sched_storm.specs.Work.{HasWorked}
-use Rattle.sched_storm.proofs.Working.{few_so_far, HasMadeSoFar-push, has_worked, counted-more, counted-same}
+use Rattle.std.proofs.Common.{◌≡◌, ◌<◌, ◌≤◌, ◌+◌, length, subst, arith}
+use Rattle.sched_storm.specs.declared.worker.Ended.TheVariants.{Done}
+use Rattle.sched_storm.specs.Work.{Hinders}
+use Rattle.sched_storm.proofs.Working.{IsCountedTo, few_so_far, HasMadeSoFar-push, has_worked, hindered}
+use Rattle.sched_storm.proofs.Working.{counted-more, counted-same}
 use Rattle.sched_storm.proofs.worker.work.Goals as goal
 use Rattle.sched_storm.proofs.worker.work.Goals.{then-not-is_recorded, else-not-is_recorded}
-
-pub overflow_add-unrecorded : goal.overflow_add-unrecorded
-overflow_add-unrecorded g c =
-    let few = few_so_far _ _ c.args.script.now c.loop-made.made _ _ c.loop-made.invariant.so_far c.loop-made.invariant.within in
-    let short = c.count_calls-calls.ensures.few in
-    let long = c.count_calls-calls.ensures.value in
-    omega (arith, few, short, long)
 
 pub loop-made-preserved : goal.loop-made-preserved
 loop-made-preserved g c =
     let so = c.loop-made in
     let one = c.make_call-next in
-    let below : so.made < length c.args.script.now =
+    let script = c.args.script.now in
+    let below : so.made < length script =
     (let test = c.loop-made-test.true in let long = c.count_calls-calls.ensures.value in omega (arith, test, long)) in
+    let passes = g.G.Gate.lets_pass c.args.gate.now in
+    let more = c.if-not-is_recorded.unrecorded in
+    let within : so.made + 1 ≤ length script = omega (arith, below) in
+    let counted : IsCountedTo so.unrecorded one.result.1 more =
+    elim c.if-not-is_recorded.branch [
+      | then-not-is_recorded w ↦ counted-more so.unrecorded _ _ w.if-not-is_recorded.true w.unrecorded-is
+      | else-not-is_recorded w ↦ counted-same so.unrecorded _ _ w.if-not-is_recorded.false w.unrecorded-is
+    ] in
+    let so_far =
+    HasMadeSoFar-push passes c.args.shared.now.config c.args.seat script so.made so.seat so.unrecorded
+    so.invariant.so_far _ one.result.0 one.result.1 more below one.ensures.makes counted
+    (subst (λ n. passes n so.made) c.number-worker.ensures.number c.in_default.ensures) in
     record {
-      within = omega (arith, below);
-      so_far = HasMadeSoFar-push c.args.shared.now.config c.args.seat c.args.script.now so.made so.seat so.unrecorded
-          so.invariant.so_far _ one.result.0 one.result.1 c.if-not-is_recorded.unrecorded below one.ensures.makes
-          (elim c.if-not-is_recorded.branch [
-            | then-not-is_recorded w ↦ counted-more so.unrecorded _ _ w.if-not-is_recorded.true w.unrecorded-is
-            | else-not-is_recorded w ↦ counted-same so.unrecorded _ _ w.if-not-is_recorded.false w.unrecorded-is
-          ]);
+      within = within;
+      few = few_so_far passes c.args.shared.now.config c.args.seat script (so.made + 1) one.result.0 more so_far within;
+      so_far = so_far;
     }
 
-pub returns-clause-worked : goal.returns-clause-worked
-returns-clause-worked g c =
-    let last = c.loop-made in
+pub returns-in-Some : goal.returns-in-Some
+returns-in-Some g c =
+    let so = c.loop-made in
+    let gate = c.args.gate.now in
+    let holds = g.G.Gate.holds_back gate in
     let script = c.args.script.now in
-    subst (λ n. HasWorked c.args.shared.now.config c.args.seat script last.seat last.unrecorded (nat_lt last.made n))
-    (sym c.count_calls-calls.ensures.value)
-    (has_worked c.args.shared.now.config c.args.seat script last.made last.seat last.unrecorded last.invariant.so_far last.invariant.within)
+    let below : so.made < length script =
+    (let test = c.loop-made-test.true in let long = c.count_calls-calls.ensures.value in omega (arith, test, long)) in
+    let why = subst (λ n. Hinders (holds n so.made) c.in-Some.ended) c.number-worker.ensures.number c.in-Some.ensures in
+    record {
+      worked = has_worked (g.G.Gate.lets_pass gate) c.args.shared.now.config c.args.seat script so.made so.seat
+          so.unrecorded so.invariant.so_far holds c.in-Some.ended so.invariant.within
+          (hindered (holds c.args.seat.number so.made) so.made (length script) c.in-Some.ended below why);
+    }
 
-pub returns-clause-few : goal.returns-clause-few
-returns-clause-few g c =
-    let few = few_so_far _ _ c.args.script.now c.loop-made.made _ _ c.loop-made.invariant.so_far c.loop-made.invariant.within in
-    let short = c.count_calls-calls.ensures.few in
-    let long = c.count_calls-calls.ensures.value in
-    omega (arith, few, short, long)
+pub returns : goal.returns
+returns g c =
+    let so = c.loop-made in
+    let gate = c.args.gate.now in
+    let script = c.args.script.now in
+    let all : so.made ≡ length script =
+    (let test = c.loop-made-test.false in let long = c.count_calls-calls.ensures.value in
+    let within = so.invariant.within in omega (arith, test, long, within)) in
+    record {
+      worked = has_worked (g.G.Gate.lets_pass gate) c.args.shared.now.config c.args.seat script so.made so.seat
+          so.unrecorded so.invariant.so_far (g.G.Gate.holds_back gate) Done so.invariant.within all;
+    }

@@ -9,5 +9,6 @@ use Rattle.sched_text.proofs.history.history_text.Goals as goal
 pub returns : goal.returns
 unfolding history_text
 returns c =
-    let whole : has_float (view c.in_ok-history_value.field-0) ≡ false = rw c.in_ok-history_value.ensures (history-whole c.args.config.now c.args.entries.now) in
+    let whole : has_float (view c.in_ok-history_value.field-0) ≡ false =
+    rw c.in_ok-history_value.ensures (history-whole c.args.config.now c.args.entries.now) in
     c.in_ok-push_str.ensures.bytes ∙ rw (c.in_ok-text.ensures.text whole, c.in_ok-history_value.ensures) refl

@@ -8,4 +8,5 @@ pub returns-in-Ok : goal.returns-in-Ok
 returns-in-Ok c = let found = c.in-Ok.ensures.ok in value_of-Ok c.args.bytes.now (view c.in-Ok.value) found.0 found.1
 
 pub returns-in-Err-2 : goal.returns-in-Err-2
-returns-in-Err-2 c = λ _. value_of-Err c.args.bytes.now (c.in-Err.ensures.err (λ memory. let said : c.is_memory.result ≡ true = c.is_memory.ensures.1 memory in cc))
+returns-in-Err-2 c = λ _. value_of-Err c.args.bytes.now (c.in-Err.ensures.err
+    (λ memory. let said : c.is_memory.result ≡ true = c.is_memory.ensures.1 memory in cc))

@@ -9,6 +9,13 @@ returns-then-len-clause-stops g c =
     let more = take c.in-Ok.len c.read.new.buf in
     record {
       bytes = c.loop-len.bytes.items ++ more;
-      consumed = Consumes-append (g.R.Read.remaining c.args.reader.now) (g.R.Read.remaining c.loop-len.reader) (g.R.Read.remaining c.read.new.self) c.loop-len.bytes.items more c.loop-len.invariant.0 c.in-Ok.ensures.bytes.0;
-      long = omega (arith, length-append c.loop-len.bytes.items more, length-take c.in-Ok.len c.read.new.buf, c.in-Ok.ensures.bound);
+      consumed = Consumes-append (g.R.Read.remaining c.args.reader.now) (g.R.Read.remaining c.loop-len.reader)
+          (g.R.Read.remaining c.read.new.self) c.loop-len.bytes.items more c.loop-len.invariant.0
+          c.in-Ok.ensures.bytes.0;
+      long = omega (
+        arith,
+        length-append c.loop-len.bytes.items more,
+        length-take c.in-Ok.len c.read.new.buf,
+        c.in-Ok.ensures.bound,
+      );
     }

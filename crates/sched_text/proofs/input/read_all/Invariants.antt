@@ -5,7 +5,8 @@ use Rattle.sched_text.specs.declared.input.TheConstants.{MAX_INPUT}
 use Rattle.sched_text.proofs.input.read_all.Given as goal
 
 abbrev pub invariant-loop-len : goal.invariant-loop-len
-invariant-loop-len g l = Consumes (g.R.Read.remaining l.initial.reader) (g.R.Read.remaining l.reader) l.bytes.items × (vec_len l.bytes ≤ MAX_INPUT)
+invariant-loop-len g l = Consumes (g.R.Read.remaining l.initial.reader) (g.R.Read.remaining l.reader) l.bytes.items
+    × (vec_len l.bytes ≤ MAX_INPUT)
 
 abbrev pub decreases-loop-len : goal.decreases-loop-len
 decreases-loop-len g l = MAX_INPUT - vec_len l.bytes

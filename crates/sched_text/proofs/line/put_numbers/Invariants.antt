@@ -6,4 +6,5 @@ use Rattle.sched_text.proofs.line.put_numbers.Given as goal
 
 -- the numbers so far are written
 abbrev pub invariant-loop-number : goal.invariant-loop-number
-invariant-loop-number g l = Appends (g.W.Write.contents l.initial.writer) (g.W.Write.contents l.writer) (numbers_text (take l.number-index l.numbers))
+invariant-loop-number g l = Appends (g.W.Write.contents l.initial.writer) (g.W.Write.contents l.writer)
+    (numbers_text (take l.number-index l.numbers))

@@ -1,8 +1,9 @@
 -- Each cut keeps the rule of the table, and gives the seat with the next number.
-use Rattle.std.proofs.Common.{rules, ◌++◌, ◌∷◌, [], Some, ap, ◌∙◌, sym, arith, length, ◌+◌, length-append}
+use Rattle.std.proofs.Common.{rules, Some, ◌∙◌, arith}
 use Rattle.ticket_lock.specs.Rule.{about_of}
+use Rattle.ticket_lock.specs.Standing.{standing_of}
 use Rattle.ticket_lock.proofs.Numbers.{splits}
-use Rattle.ticket_lock.proofs.Dealt.{rest_view-next, new_standings-push, new_seat, dealt_standing}
+use Rattle.ticket_lock.proofs.Dealt.{left_has, count_grown, row_grown, new_seat, dealt_standing}
 use Rattle.ticket_lock.proofs.opening.deal.Goals as goal
 
 pub split_seat-part-requires : goal.split_seat-part-requires
@@ -28,13 +29,16 @@ loop-number-preserved g c =
     let pushed = c.push_reserved.ensures in
     record {
       same = cut.0 ∙ i.same;
-      view = ap (λ m. m.0) cut.2 ∙ rest_view-next about c.loop-number.number c.args.seats c.loop-number-test.true
-          c.loop-number.place.me.0 i.view;
-      made = pushed.items
-          ∙ (λ j. i.made j ++ dealt_standing about c.loop-number.number c.args.seats c.loop-number-test.true c.loop-number.place.me.0
-          i.view
-          c.split_seat-part.result.me cut.4 c.split_seat-part.result.table_id c.args.steps.now.table_id (cut.3 ∙ i.same) j ∷ [])
-          ∙ sym (new_standings-push (record { table = c.args.steps.now.table_id; about = about }) c.loop-number.number);
-      counted = ap length pushed.items ∙ length-append c.loop-number.row.items _ ∙ ap (λ n. n + 1) i.counted;
+      view = left_has about c.loop-number.number c.args.seats c.loop-number-test.true c.loop-number.place.me.0 i.view
+          c.split_seat-part.new.seat.me c.loop-number.place.me.1 cut.2;
+      made = row_grown (record { table = c.args.steps.now.table_id; about = about }) c.loop-number.number
+          c.loop-number.row.items c.push_reserved.new.self.items
+          (standing_of c.split_seat-part.result.table_id c.split_seat-part.result.me.0) pushed.items i.made
+          (dealt_standing about c.loop-number.number c.args.seats c.loop-number-test.true c.loop-number.place.me.0
+          i.view c.split_seat-part.result.me cut.4 c.split_seat-part.result.table_id c.args.steps.now.table_id
+          (cut.3 ∙ i.same));
+      counted = count_grown c.loop-number.row.items c.push_reserved.new.self.items
+          (standing_of c.split_seat-part.result.table_id c.split_seat-part.result.me.0) c.loop-number.number
+          pushed.items i.counted;
       room = search rules;
     }

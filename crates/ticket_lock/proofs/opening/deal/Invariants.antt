@@ -10,7 +10,8 @@ invariant-loop-number g l =
     let about = Some (about_of g.T.Journal.head g.T.Journal.entries l.steps.key) in record {
       same : l.place.table_id ≡ l.steps.table_id;
       view : l.place.me.0 ≡ idle_view about (new_parts l.number (l.seats - l.number));
-      made : l.row.items ≡ map (new_standing (record { table = l.steps.table_id; about = about })) (range_with_len 0 l.number);
+      made : l.row.items ≡ map (new_standing (record { table = l.steps.table_id; about = about }))
+          (range_with_len 0 l.number);
       counted : length l.row.items ≡ l.number;
       room : l.seats ≤ vec_capacity l.row;
     }

@@ -1,35 +1,45 @@
 -- The flow in its place asks for more.
-use Rattle.std.proofs.Common.{◌≡◌, ◌+◌, ◌<◌, ◌^◌, ◌∙◌, ap, sym, refl, map, Some, ◌==◌, position, arith}
+use Rattle.std.proofs.Common.{◌+◌, ap, refl, arith}
 use Rattle.std.proofs.Math.Seq.{map-set_same}
 use Rattle.flow_book.specs.declared.flow.Flow.{Flow}
-use Rattle.flow_book.specs.Flows.{LiveFlow, flow_of}
 use Rattle.flow_book.specs.Entry.{live, room_in}
-use Rattle.flow_book.specs.Book.{with_asked, changed}
-use Rattle.flow_book.proofs.Places.{IsPlaced, placed}
+use Rattle.flow_book.specs.Book.{with_asked}
+use Rattle.flow_book.proofs.Places.{StandsAt, placed}
 use Rattle.flow_book.proofs.Changes.{placed-changed, placed-sound, placed-is_sound, asked-sound, same-view}
 use Rattle.flow_book.proofs.book.Book.ask.Goals as goal
 
 pub overflow_add-index_mut : goal.overflow_add-index_mut
 overflow_add-index_mut c =
+    let items = c.self.inside.flows.items in
     let stands = rw (← c.self.view_is) at c.place-place.ensures in
-    let is = placed c.args.sid c.self.inside.flows.items c.place-place.result c.index_mut.result.now stands c.index_mut.ensures.value in
+    let is = placed c.args.sid items c.place-place.result c.index_mut.result.now stands c.index_mut.ensures.value in
     let fits = rw (← c.self.view_is, is.found) at c.requires.fits in
     omega arith
 
+-- the flow stands at its place
+stands : (c : goal.After-self-1)
+    → StandsAt c.args.sid c.self.inside.flows.items c.place-place.result c.index_mut.result.now
+stands c =
+    placed c.args.sid c.self.inside.flows.items c.place-place.result c.index_mut.result.now
+    (rw (← c.self.view_is) at c.place-place.ensures) c.index_mut.ensures.value
+
 pub invariant_of-self : goal.invariant_of-self
 invariant_of-self c =
-    let stands = rw (← c.self.view_is) at c.place-place.ensures in
-    let is = placed c.args.sid c.self.inside.flows.items c.place-place.result c.index_mut.result.now stands c.index_mut.ensures.value in
+    let config = c.self.inside.config in
+    let items = c.self.inside.flows.items in
     let f = c.index_mut.result.now in
-    placed-sound c.self.inside.config c.args.sid c.self.inside.flows.items c.place-place.result _ f c.self.invariant is refl
-    (asked-sound c.self.inside.config c.from.result (live f) (placed-is_sound c.self.inside.config c.args.sid c.self.inside.flows.items c.place-place.result f c.self.invariant is))
+    let is = stands c in
+    let sound = placed-is_sound config c.args.sid items c.place-place.result f c.self.invariant is in
+    placed-sound config c.args.sid items c.place-place.result _ f c.self.invariant is refl
+    (asked-sound config c.from.result (live f) sound)
 
 pub returns : goal.returns
 returns c =
-    let stands = rw (← c.self.view_is) at c.place-place.ensures in
-    let is = placed c.args.sid c.self.inside.flows.items c.place-place.result c.index_mut.result.now stands c.index_mut.ensures.value in
+    let items = c.self.inside.flows.items in
     let f = c.index_mut.result.now in
-    let e : Flow = record { sid = f.sid; spec = f.spec; asked = f.asked + c.from.result; grants = f.grants } in
-    rw (← c.self.view_is) (same-view c.self.inside.config _ _ _ _
-    (placed-changed c.args.sid (with_asked c.args.bytes) c.self.inside.flows.items c.place-place.result e f c.self.invariant.ascending is (ap (λ n. with_asked n (live f)) c.from.ensures))
-    (map-set_same room_in c.self.inside.flows.items c.place-place.result e f (ap room_in c.index_mut.ensures.value)))
+    let e : Flow = record f { asked = f.asked + c.from.result } in
+    rw (← c.self.view_is)
+    (same-view c.self.inside.config _ _ _ _
+    (placed-changed c.args.sid (with_asked c.args.bytes) items c.place-place.result e f c.self.invariant.ascending
+    (stands c) (ap (λ n. with_asked n (live f)) c.from.ensures))
+    (map-set_same room_in items c.place-place.result e f (ap room_in c.index_mut.ensures.value)))

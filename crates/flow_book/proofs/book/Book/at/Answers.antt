@@ -1,21 +1,19 @@
--- The fields that are found are those of the live flow, which is sound.
-use Rattle.std.proofs.Common.{◌≡◌, ◌∙◌, ap, sym, map, find, Some, None, ◌==◌, option_map}
-use Rattle.flow_book.specs.Flows.{LiveFlow, flow_of}
-use Rattle.flow_book.specs.Entry.{live, IsSoundFlow}
-use Rattle.flow_book.proofs.Places.{flow_of-live, absent-live, all-found}
+-- The flow at the place of the SID is the live flow, which is sound.
+use Rattle.flow_book.proofs.Places.{StandsAt, placed}
+use Rattle.flow_book.proofs.Changes.{placed-is_sound}
 use Rattle.flow_book.proofs.book.Book.at.Goals as goal
 
-pub unreachable-requires : goal.unreachable-requires
-unreachable-requires c =
-    let none : None ≡ find (λ f. f.sid == c.args.sid) c.self.inside.flows.items = rw c.deref.ensures.value at c.in-None.ensures in
-    absent-live c.args.sid c.self.inside.flows.items (rw (← c.self.view_is) at c.requires) (sym none)
+-- it stands at its place
+stands : (c : goal.After-index) → StandsAt c.args.sid c.self.inside.flows.items c.place.result c.index.result.now
+stands c =
+    placed c.args.sid c.self.inside.flows.items c.place.result c.index.result.now
+    (rw (← c.self.view_is) at c.place.ensures) c.index.ensures
 
 pub returns-clause-found : goal.returns-clause-found
-returns-clause-found c =
-    let is : Some c.in-Some.flow.now ≡ find (λ f. f.sid == c.args.sid) c.self.inside.flows.items = rw c.deref.ensures.value at c.in-Some.ensures in
-    rw (← c.self.view_is) (flow_of-live c.args.sid c.self.inside.flows.items ∙ ap (option_map live) (sym is))
+returns-clause-found c = rw (← c.self.view_is) (stands c).found
 
 pub returns-clause-sound : goal.returns-clause-sound
 returns-clause-sound c =
-    let found = rw (← c.self.view_is) at (returns-clause-found c) in
-    rw (← c.self.view_is) (all-found (IsSoundFlow c.self.inside.config) (λ f. f.sid == c.args.sid) (map live c.self.inside.flows.items) (live c.in-Some.flow.now) c.self.invariant.each found)
+    rw (← c.self.view_is)
+    (placed-is_sound c.self.inside.config c.args.sid c.self.inside.flows.items c.place.result c.index.result.now
+    c.self.invariant (stands c))

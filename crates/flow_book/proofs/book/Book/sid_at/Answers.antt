@@ -1,6 +1,5 @@
 -- In a list by SID each flow is the one of its SID.
-use Rattle.std.proofs.Common.{◌≡◌, ◌<◌, ◌∙◌, ap, sym, map, length, get_or, arith}
-use Rattle.std.proofs.lemmas.List.{length-map}
+use Rattle.std.proofs.Common.{◌≡◌, ◌<◌, ◌∙◌, ap, sym, map, length, get_or}
 use Rattle.std.proofs.Math.ListN.{get_or-map}
 use Rattle.flow_book.specs.Flows.{LiveFlow, flow_of}
 use Rattle.flow_book.specs.Entry.{live}
@@ -12,5 +11,7 @@ returns-clause-found c =
     let items = c.self.inside.flows.items in
     let flow = c.index.result.now in
     let within : c.args.index < length (map live items) = rw (← c.self.view_is) at c.requires in
-    let at : live flow ≡ get_or (map live items) c.args.index (live flow) = ap live c.index.ensures ∙ sym (get_or-map live items c.args.index flow) in
-    rw (← c.self.view_is) (ap (λ (f : LiveFlow). flow_of f.sid (map live items)) at ∙ flow_of-at (map live items) c.args.index (live flow) c.self.invariant.ascending within)
+    let at : live flow ≡ get_or (map live items) c.args.index (live flow) =
+    ap live c.index.ensures ∙ sym (get_or-map live items c.args.index flow) in
+    rw (← c.self.view_is) (ap (λ (f : LiveFlow). flow_of f.sid (map live items)) at
+    ∙ flow_of-at (map live items) c.args.index (live flow) c.self.invariant.ascending within)

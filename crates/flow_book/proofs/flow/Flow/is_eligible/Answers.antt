@@ -1,7 +1,6 @@
 -- The limit is the quantum, or what is outstanding where that is less.
-use Rattle.std.proofs.Common.{◌≡◌, ◌<◌, ◌≤◌, sym, min, true, arith}
+use Rattle.std.proofs.Common.{◌≡◌, ◌<◌, ◌≤◌, sym, min, arith}
 use Rattle.minislots.specs.Units.{slots_for}
-use Rattle.flow_book.specs.FlowSpec.{takes_requests}
 use Rattle.flow_book.specs.Flows.{outstanding}
 use Rattle.flow_book.specs.Entry.{live}
 use Rattle.flow_book.proofs.Amounts.{eligible-is}
@@ -13,5 +12,10 @@ returns c =
     let limits : c.min-wanted.result ≡ min (outstanding f) c.args.config.now.quantum = omega arith in
     let some : 0 < c.min-wanted.result = omega arith in
     let fits : slots_for c.args.config.now c.min-wanted.result ≤ c.args.room = omega arith in
-    eligible-is c.args.config.now f c.args.start c.args.room c.min-wanted.result c.within_ceiling.result (sym c.if-not-takes_requests.ensures) limits some fits
-    (record { within = c.within_ceiling.ensures.within; keeps = c.within_ceiling.ensures.keeps; greatest = c.within_ceiling.ensures.most })
+    eligible-is c.args.config.now f c.args.start c.args.room c.min-wanted.result c.within_ceiling.result
+    (sym c.if-not-takes_requests.ensures) limits some fits
+    (record {
+      within = c.within_ceiling.ensures.within;
+      keeps = c.within_ceiling.ensures.keeps;
+      greatest = c.within_ceiling.ensures.most;
+    })

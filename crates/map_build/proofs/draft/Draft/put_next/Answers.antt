@@ -7,7 +7,8 @@ use Rattle.map_build.proofs.Standings.{spot-here, spot-within, stop-behind, spot
 use Rattle.map_build.proofs.draft.Draft.put_next.Goals as goal
 
 pub put_spot-requires-clause-here : goal.put_spot-requires-clause-here
-put_spot-requires-clause-here c = (spot-here c.args.spots.now c.args.self.now.offset c.in-Some.spot.now (sym c.in-Some.ensures)).1
+put_spot-requires-clause-here c =
+    (spot-here c.args.spots.now c.args.self.now.offset c.in-Some.spot.now (sym c.in-Some.ensures)).1
 
 pub put_spot-requires-clause-inside : goal.put_spot-requires-clause-inside
 put_spot-requires-clause-inside c =
@@ -61,5 +62,6 @@ returns-in-None c =
       _,
       takes,
       λ flows plan after.
-          idle-stands flows c.args.spots.now plan d after c.next_stop-stop.result stop behind (rw room at c.in-None.ensures),
+          idle-stands flows c.args.spots.now plan d after c.next_stop-stop.result stop behind
+          (rw room at c.in-None.ensures),
     )) c.put_idle.ensures

@@ -2,24 +2,35 @@
 use Rattle.std.proofs.Common.{◌≡◌, ◌∙◌, ap, ◌%◌, ◌≤◌, List, ◌++◌, length, take, map, arith}
 use Rattle.std.proofs.lemmas.List.{take_at, length-take-le, length-map}
 use Rattle.periodic.specs.declared.placement.Spot.{Spot}
+use Rattle.periodic.specs.declared.TheConstants.{MAX_PERIODIC_FLOWS}
 use Rattle.periodic.specs.Fields.{placed_of}
+use Rattle.periodic.proofs.Fields.{sound-flows}
 use Rattle.periodic.proofs.Frames.{IsFrameOf, frame-sorted}
 use Rattle.periodic.proofs.table.Table.in_frame.Goals as goal
 
+pub fill-count-requires-clause-sound : goal.fill-count-requires-clause-sound
+fill-count-requires-clause-sound c =
+    rw c.deref.ensures.value (sound-flows c.self.inside.config c.self.inside.flows.items c.self.invariant)
+
 -- the front of the array is the frame
 in-order : (c : goal.After-sort) (rest : List Spot)
-    → IsFrameOf c.args.self.now.config c.args.k c.args.self.now.placed (take c.fill-count.result (c.sort.new.spots ++ rest))
+    → IsFrameOf c.args.self.now.config c.args.k c.args.self.now.placed
+    (take c.fill-count.result (c.sort.new.spots ++ rest))
 in-order c rest =
     let config = c.self.inside.config in
-    let few : length c.self.inside.flows.items ≤ 40 = rw (length-map c.self.inside.flows.items placed_of) at c.self.invariant.most in
+    let few : length c.self.inside.flows.items ≤ MAX_PERIODIC_FLOWS =
+    rw (length-map c.self.inside.flows.items placed_of) at c.self.invariant.most in
     let long : length c.sort.new.spots ≡ c.fill-count.result = c.sort.auto.spots
     ∙ length-take-le c.fill-count.result c.fill-count.new.spots (omega arith) in
-    let place : c.args.k % c.from.result ≡ c.args.k % config.cycle = ap (λ n. c.args.k % n) (c.from.ensures ∙ c.cycle.ensures.value) in
+    let place : c.args.k % c.from.result ≡ c.args.k % config.cycle =
+    ap (λ n. c.args.k % n) (c.from.ensures ∙ c.cycle.ensures.value) in
     let written = c.fill-count.ensures.spots in
     rw (← c.self.view_is, take_at c.sort.new.spots rest c.fill-count.result long)
-    (frame-sorted config c.args.k (map placed_of c.self.inside.flows.items) (take c.fill-count.result c.fill-count.new.spots)
+    (frame-sorted config c.args.k (map placed_of c.self.inside.flows.items)
+    (take c.fill-count.result c.fill-count.new.spots)
     c.sort.new.spots
-    c.cycle.ensures.lawful c.self.invariant (rw (place, c.deref.ensures.value) at written) c.sort.ensures.permutation c.sort.ensures.sorted)
+    c.cycle.ensures.lawful c.self.invariant (rw (place, c.deref.ensures.value) at written) c.sort.ensures.permutation
+    c.sort.ensures.sorted)
 
 pub returns-clause-spots : goal.returns-clause-spots
 returns-clause-spots c = (in-order c _).permuted

@@ -1,10 +1,15 @@
--- Where a placement was chosen there is a place.
+-- Where a placement was chosen there is a place, and the flows of the table are sound.
 use Rattle.std.proofs.Common.{◌≡◌, Result, Err}
 use Rattle.periodic.specs.declared.placement.Placement.{Placement}
 use Rattle.periodic.specs.declared.placement.PlaceFault.{PlaceFault}
 use Rattle.periodic.specs.declared.placement.PlaceFault.TheVariants.{NoPlace, Memory}
 use Rattle.periodic.specs.Search.{chosen_placement}
+use Rattle.periodic.proofs.Fields.{sound-flows}
 use Rattle.periodic.proofs.table.Table.place.Goals as goal
+
+pub choose-requires-clause-sound : goal.choose-requires-clause-sound
+choose-requires-clause-sound c =
+    rw c.deref.ensures.value (sound-flows c.self.inside.config c.self.inside.flows.items c.self.invariant)
 
 differ : ◌≡◌ {A = Result Placement PlaceFault} (Err Memory) (Err NoPlace) → ⊥
 differ same = cc

@@ -9,7 +9,8 @@ use Rattle.periodic.specs.Fields.{placed_of}
 use Rattle.periodic.proofs.Removing.{sound-filter}
 use Rattle.periodic.proofs.table.Table.remove.Goals as goal
 
-left : (c : goal.After-retain) → map placed_of c.retain.new.self.items ≡ without c.args.sid (map placed_of c.self.inside.flows.items)
+left : (c : goal.After-retain) → map placed_of c.retain.new.self.items
+    ≡ without c.args.sid (map placed_of c.self.inside.flows.items)
 left c =
     let items = c.self.inside.flows.items in
     let kept : c.retain.new.self.items ≡ filter (λ (f : PlacedFlow). not (f.sid == c.args.sid)) items =
@@ -18,7 +19,8 @@ left c =
 
 pub invariant_of-self : goal.invariant_of-self
 invariant_of-self c = rw (left c)
-    (sound-filter c.self.inside.config (λ f. not (f.sid == c.args.sid)) (map placed_of c.self.inside.flows.items) c.self.invariant)
+    (sound-filter c.self.inside.config (λ f. not (f.sid == c.args.sid)) (map placed_of c.self.inside.flows.items)
+    c.self.invariant)
 
 pub returns : goal.returns
 returns c = rw (← c.self.view_is, left c) refl

@@ -1,4 +1,4 @@
-use Rattle.sched_history.proofs.Recording.{IsLegal-recorded}
+use Rattle.sched_history.proofs.state.Recording.{IsLegal-recorded}
 use Rattle.sched_history.proofs.scheduler.Scheduler.call.Goals as goal
 
 pub returns-in-Some-clause-legal : goal.returns-in-Some-clause-legal

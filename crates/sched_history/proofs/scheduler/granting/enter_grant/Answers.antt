@@ -1,5 +1,5 @@
 use Rattle.std.proofs.Common.{◌≡◌, sym, arith}
-use Rattle.sched_history.proofs.CountedElements.{with_grants-none}
+use Rattle.sched_history.proofs.state.CountedElements.{with_grants-none}
 use Rattle.sched_history.proofs.scheduler.granting.enter_grant.Goals as goal
 
 pub returns-else-bytes-gt0-clause-flows : goal.returns-else-bytes-gt0-clause-flows

@@ -3,16 +3,24 @@ use Rattle.std.specs.List.{zip}
 use Rattle.std.proofs.lemmas.List.{take_all}
 use Rattle.std.proofs.lemmas.Slice.Zip.{length-zip}
 use Rattle.sched_history.specs.State.{with_grants}
-use Rattle.sched_history.proofs.CountedElements.{no_element, counted-more, with_grants-push, with_grants-start, granting-push}
-use Rattle.sched_history.proofs.Entering.{enters-at, counts-length}
+use Rattle.sched_history.proofs.state.CountedElements.{no_element, counted-more, with_grants-push}
+use Rattle.sched_history.proofs.state.CountedElements.{with_grants-start, granting-push}
+use Rattle.sched_history.proofs.state.Entering.{enters-at, counts-length}
 use Rattle.sched_history.proofs.scheduler.granting.enter_grants.Goals as goal
 
 pub loop-i-init : goal.loop-i-init
-loop-i-init c = record { flows = sym (with_grants-start c.args.start c.args.book.now.flows); config = refl; rooms = λ sid. omega arith }
+loop-i-init c =
+    record {
+      flows = sym (with_grants-start c.args.start c.args.book.now.flows);
+      config = refl;
+      rooms =
+          λ sid. omega arith;
+    }
 
 pub enter_grant-requires : goal.enter_grant-requires
 enter_grant-requires c =
-    enters-at c.args.book.now c.args.start c.args.elements.now c.args.counts.now c.requires c.loop-i.book c.loop-i.i c.loop-i-test.true
+    enters-at c.args.book.now c.args.start c.args.elements.now c.args.counts.now c.requires c.loop-i.book c.loop-i.i
+    c.loop-i-test.true
     c.loop-i.invariant.config c.loop-i.invariant.flows c.loop-i.invariant.rooms
 
 pub loop-i-preserved : goal.loop-i-preserved

@@ -6,6 +6,6 @@ use Rattle.sched_text.proofs.script.flow.polled_of.Goals as goal
 
 pub returns : goal.returns
 unfolding polled_of
-returns c = sym (
-    then _ c.in_ok-number_u32.ensures (then _ c.in_ok-number_u32-2.ensures (then _ c.in_ok-number_u32-3.ensures (then _ c.in_ok-number_u32-4.ensures
-    refl))))
+returns c =
+    let read = c.in-Some-Some-Some-Some in
+    sym (then _ read.ensures (then _ read.ensures' (then _ read.ensures'' (then _ read.ensures''' refl))))

@@ -10,4 +10,5 @@ pub returns-then-count-gt-MAX_SCRIPTS-clause-are : goal.returns-then-count-gt-MA
 returns-then-count-gt-MAX_SCRIPTS-clause-are c = sym (are_scripts-many c.args.values.now c.if-count-gt-MAX_SCRIPTS.true)
 
 pub returns-clause-are : goal.returns-clause-are
-returns-clause-are c = c.are_arrays.ensures ∙ are_scripts-few c.args.values.now (let none = c.if-count-eq0.false in omega (arith, none)) c.if-count-gt-MAX_SCRIPTS.false
+returns-clause-are c = c.are_arrays.ensures ∙ are_scripts-few c.args.values.now (let none = c.if-count-eq0.false in
+    omega (arith, none)) c.if-count-gt-MAX_SCRIPTS.false

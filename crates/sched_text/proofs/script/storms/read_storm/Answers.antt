@@ -9,11 +9,13 @@ returns-clause-ok g c =
     let old = g.R.Read.remaining c.args.reader.now in
     let new = g.R.Read.remaining c.read_all.new.reader in
     let all : ReadsAll old new c.deref.result.now = rw c.deref.ensures.value c.in_ok-bytes.ensures.ok in
-    gives_storm (λ r. record { config = r.0; scripts = calls_each r.1.items }) old new c.deref.result.now c.storm_in.result all c.storm_in.ensures.is
+    gives_storm (λ r. record { config = r.0; scripts = calls_each r.1.items }) old new c.deref.result.now
+    c.storm_in.result all c.storm_in.ensures.is
 
 pub returns-clause-stops : goal.returns-clause-stops
 returns-clause-stops g c =
     let old = g.R.Read.remaining c.args.reader.now in
     let new = g.R.Read.remaining c.read_all.new.reader in
     let all : ReadsAll old new c.deref.result.now = rw c.deref.ensures.value c.in_ok-bytes.ensures.ok in
-    stops_storm (λ r. record { config = r.0; scripts = calls_each r.1.items }) old new c.deref.result.now c.storm_in.result all c.storm_in.ensures.is
+    stops_storm (λ r. record { config = r.0; scripts = calls_each r.1.items }) old new c.deref.result.now
+    c.storm_in.result all c.storm_in.ensures.is

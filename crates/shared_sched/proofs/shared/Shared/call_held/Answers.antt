@@ -13,7 +13,8 @@ returns g c =
     let config = c.args.self.now.config in
     let desk : IsDeskLock config c.args.held.lock = subst (IsDeskLock config) (sym c.requires.own)
     (subst (λ (m : SharedDesk). IsDeskLock m.config m.lock) c.self.view_is c.self.invariant) in
-    let told : HasCalled c.deref_mut.result.now c.stamp.result c.args.call c.call-answer.new.self c.call-answer.result = record {
+    let told : HasCalled c.deref_mut.result.now c.stamp.result c.args.call c.call-answer.new.self c.call-answer.result =
+    record {
       recorded = c.call-answer.ensures.recorded;
       same = c.call-answer.ensures.err;
       step = c.call-answer.ensures.step;
@@ -24,10 +25,11 @@ returns g c =
     } in
     let same = same_Some c.args.desk.config config (c.requires.entered.head_is ∙ desk.head_is) in
     let entered : c.deref_mut.result.now ≡ record { config = config; history = seen c.args.held } =
-    c.deref_mut.ensures.value ∙ c.desk.view_is ∙ (λ i. record { config = same i; history = c.requires.entered.entries_are i }) in
+    c.deref_mut.ensures.value ∙ c.desk.view_is
+    ∙ (λ i. record { config = same i; history = c.requires.entered.entries_are i }) in
     record {
-      answered = answers config c.args.held c.args.call c.call-answer.new.self c.leave-seat.result desk c.leave-seat.ensures.left
-          c.call-answer.result
+      answered = answers config c.args.held c.args.call c.call-answer.new.self c.leave-seat.result desk
+          c.leave-seat.ensures.left c.call-answer.result
           (subst (λ (y : Machine × Stamp). HasCalled y.0 y.1 c.args.call c.call-answer.new.self c.call-answer.result)
           (λ i. (entered i, c.stamp.ensures.stamp i)) told);
     }

@@ -17,8 +17,10 @@ use Rattle.shared_sched.proofs.shared.Shared.close.Goals as goal
 pub count_each-counts-requires : goal.count_each-counts-requires
 count_each-counts-requires c = record {
   seats = subst (All (λ (e : Entry). (maker_of e).seat < MAX_SEATS))
-      (sym (c.deref.ensures.value ∙ c.into_history-history.ensures.value ∙ ap history_of (c.into_inner-scheduler.ensures ∙ c.scheduler.view_is)))
-      (seats_few c.self.inside.config c.self.inside.lock c.self.invariant c.args.seats.items c.close.result c.close.ensures.closed);
+      (sym (c.deref.ensures.value ∙ c.into_history-history.ensures.value
+      ∙ ap history_of (c.into_inner-scheduler.ensures ∙ c.scheduler.view_is)))
+      (seats_few c.self.inside.config c.self.inside.lock c.self.invariant c.args.seats.items c.close.result
+      c.close.ensures.closed);
 }
 
 pub returns : goal.returns
@@ -33,7 +35,8 @@ returns c =
     let within : length x.history ≤ x.config.calls =
     subst (λ (m : Machine). length m.history ≤ m.config.calls) inside c.into_history-history.ensures.within in
     let encodable : AllByRecursion (λ (e : Entry). IsEncodable e.reply) x.history =
-    subst (λ (m : Machine). AllByRecursion (λ (e : Entry). IsEncodable e.reply) m.history) inside c.into_history-history.ensures.encodable in
+    subst (λ (m : Machine). AllByRecursion (λ (e : Entry). IsEncodable e.reply) m.history) inside
+    c.into_history-history.ensures.encodable in
     let facts : FollowsAlways x.config x.history =
     subst (λ (m : Machine). FollowsAlways m.config m.history) inside c.into_history-history.ensures.facts in
     let counts = c.count_each-counts.result in

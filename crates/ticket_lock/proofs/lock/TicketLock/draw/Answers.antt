@@ -5,5 +5,8 @@ use Rattle.ticket_lock.proofs.lock.TicketLock.draw.Goals as goal
 
 pub fetch_add-ticket-requires : goal.fetch_add-ticket-requires
 fetch_add-ticket-requires g c =
-    let i = c.seat.invariant in
-    (search rules, search rules, draws g.T.Journal.head g.T.Journal.entries g.T.Journal.stamp _ _ _ _ _ i.0.0.0 i.0.0.1 i.0.1)
+    let i = c.seat.invariant in (
+      search rules,
+      search rules,
+      draws g.T.Journal.head g.T.Journal.entries g.T.Journal.stamp _ _ _ _ _ i.0.0.0 i.0.0.1 i.0.1,
+    )

@@ -11,24 +11,26 @@ fetch_add-requires g c =
     let e = c.exchange-before.ensures in (
       search rules,
       search rules,
-      leaves_as g.T.Journal.head g.T.Journal.entries g.T.Journal.stamp c.held.inside.place.table_id c.held.inside.place.me.0
-          c.held.inside.number c.held.inside.ticket c.held.invariant.0 c.args.held c.held.view_is c.args.value c.requires.kept
-          c.exchange-before.new.place.me e.view e.put _ _ _,
+      leaves_as g.T.Journal.head g.T.Journal.entries g.T.Journal.stamp c.held.inside.place.table_id
+          c.held.inside.place.me.0 c.held.inside.number c.held.inside.ticket c.held.invariant.0 c.args.held
+          c.held.view_is c.args.value c.requires.kept c.exchange-before.new.place.me e.view e.put _ _ _,
     )
 
 pub invariant_of-result : goal.invariant_of-result
 invariant_of-result g c =
     let e = c.exchange-before.ensures in
-    left_idle g.T.Journal.head g.T.Journal.entries g.T.Journal.stamp c.held.inside.place.table_id c.held.inside.place.me.0
-    c.held.inside.number c.held.inside.ticket c.held.invariant.0 c.args.held c.held.view_is c.args.value c.requires.kept
-    c.exchange-before.new.place.me e.view e.put c.fetch_add.result c.fetch_add.new.seat.me c.fetch_add.ensures.2
+    left_idle g.T.Journal.head g.T.Journal.entries g.T.Journal.stamp c.held.inside.place.table_id
+    c.held.inside.place.me.0 c.held.inside.number c.held.inside.ticket c.held.invariant.0 c.args.held c.held.view_is
+    c.args.value c.requires.kept c.exchange-before.new.place.me e.view e.put
+    c.fetch_add.result c.fetch_add.new.seat.me c.fetch_add.ensures.2
 
 pub returns : goal.returns
 returns g c =
     let e = c.exchange-before.ensures in
     record {
-      left = left_as g.T.Journal.head g.T.Journal.entries g.T.Journal.stamp c.held.inside.place.table_id c.held.inside.place.me.0
-          c.held.inside.number c.held.inside.ticket c.held.invariant.0 c.args.held c.held.view_is c.args.value c.requires.kept
-          c.exchange-before.new.place.me e.view e.put c.fetch_add.result c.fetch_add.new.seat.me c.fetch_add.ensures.2
+      left = left_as g.T.Journal.head g.T.Journal.entries g.T.Journal.stamp c.held.inside.place.table_id
+          c.held.inside.place.me.0 c.held.inside.number c.held.inside.ticket c.held.invariant.0 c.args.held
+          c.held.view_is c.args.value c.requires.kept c.exchange-before.new.place.me e.view e.put
+          c.fetch_add.result c.fetch_add.new.seat.me c.fetch_add.ensures.2
           c.fetch_add.new.seat.table_id (c.fetch_add.ensures.0 ∙ e.same);
     }

@@ -2,7 +2,7 @@ use Rattle.std.proofs.Common.{ap}
 use Rattle.periodic.specs.Placement.{Placed}
 use Rattle.periodic.specs.Table.{TableView}
 use Rattle.sched_history.specs.declared.scheduler.state.State.{State}
-use Rattle.sched_history.proofs.Tables.{find-with_placed, table-undone}
+use Rattle.sched_history.proofs.placements.Tables.{find-with_placed, table-undone}
 use Rattle.sched_history.proofs.scheduler.state.State.admit_periodic.Goals as goal
 
 pub remove-requires : goal.remove-requires
@@ -17,4 +17,5 @@ returns-in-Err-clause-err c =
     let put : TableView = c.place.new.self in
     rw (c.remove.ensures, c.in-Err.ensures.err)
     (ap (λ (t : TableView). record old { table = t })
-    (table-undone old.table put p c.requires.unplaced c.in_ok-placement.ensures.config c.in_ok-placement.ensures.placed))
+    (table-undone old.table put p c.requires.unplaced c.in_ok-placement.ensures.config
+    c.in_ok-placement.ensures.placed))

@@ -1,7 +1,0 @@
--- The calls so far, and their answers.
-use Rattle.std.proofs.Common.{take}
-use Rattle.mapsched.proofs.Running.{Runs}
-use Rattle.mapsched.proofs.run.run_calls.Given as goal
-
-abbrev pub invariant-loop-place : goal.invariant-loop-place
-invariant-loop-place g l = Runs l.initial.scheduler l.scheduler (take l.place l.calls) (g.W.Write.contents l.initial.writer) (g.W.Write.contents l.writer)

@@ -1,5 +1,0 @@
-pub mod Answer
-pub mod Run
-pub mod Table
-pub mod StormLines
-pub mod StormRun

@@ -1,0 +1,19 @@
+-- The first group with a wrong field has the first wrong field.
+use Rattle.std.proofs.Common.{arith}
+use Rattle.minislots.proofs.Groups.{first_wrong_by_groups}
+use Rattle.minislots.proofs.config.Config.check_fields.Goals as goal
+
+pub returns-in_err-check_burst : goal.returns-in_err-check_burst
+returns-in_err-check_burst c = grind (arith, first_wrong_by_groups c.args.self.now)
+
+pub returns-in_err-check_frame : goal.returns-in_err-check_frame
+returns-in_err-check_frame c = grind (arith, first_wrong_by_groups c.args.self.now)
+
+pub returns-in_err-check_grants : goal.returns-in_err-check_grants
+returns-in_err-check_grants c = grind (arith, first_wrong_by_groups c.args.self.now)
+
+pub returns-in_err-check_history : goal.returns-in_err-check_history
+returns-in_err-check_history c = grind (arith, first_wrong_by_groups c.args.self.now)
+
+pub returns : goal.returns
+returns c = grind (arith, first_wrong_by_groups c.args.self.now)

@@ -1,0 +1,4 @@
+pub mod Answered
+pub mod Running
+pub mod Held
+pub mod RowsStops

@@ -1,0 +1,13 @@
+-- Each call leads the run one step on.
+use Rattle.sched_commands.proofs.Running.{Runs-push, Runs-whole}
+use Rattle.sched_commands.proofs.run.run_calls.Goals as goal
+
+pub loop-place-preserved : goal.loop-place-preserved
+loop-place-preserved g c =
+    let at = c.loop-place in
+    Runs-push _ _ _ c.args.calls.now at.place _ c.make_call-answer.result _ _ _ c.loop-place-test.true at.invariant
+    c.make_call-answer.ensures.made c.in_ok-put_line.ensures.ok
+
+pub returns-clause-ok : goal.returns-clause-ok
+returns-clause-ok g c =
+    let at = c.loop-place in Runs-whole _ _ c.args.calls.now at.place _ _ c.loop-place-test.false at.invariant

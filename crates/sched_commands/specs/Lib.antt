@@ -1,0 +1,6 @@
+pub mod Fault
+pub mod Answer
+pub mod Run
+pub mod Table
+pub mod StormLines
+pub mod StormRun

@@ -1,0 +1,28 @@
+-- The lines of a tally.
+use Rattle.std.specs.Prelude.{ℕ, zero, suc, List, [], ◌∷◌, ◌++◌, Option, None, Some, codes, slice_index}
+use Rattle.sched_storm.specs.declared.tally.Tally.{Tally}
+use Rattle.sched_text.specs.Line.{number_text}
+
+-- the line of a number under this name
+unfoldable pub number_line : List ℕ → ℕ → List ℕ
+number_line name n = name ++ (number_text n ++ 10 ∷ [])
+
+-- the line of a seat: its number and its count
+unfoldable pub seat_line : ℕ → ℕ → List ℕ
+seat_line number count = codes "seat" ++ (number_text number ++ (number_text count ++ 10 ∷ []))
+
+-- the lines of the first so many seats
+abbrev pub seat_lines : List ℕ → ℕ → List ℕ
+seat_lines counts zero = []
+seat_lines counts (suc n) = seat_lines counts n ++ seat_line n (slice_index counts n)
+
+-- the line of a worker that was held, if any
+abbrev pub held_line : Option ℕ → List ℕ
+held_line None = []
+held_line (Some worker) = number_line (codes "held") worker
+
+-- the lines of a tally of so many workers
+unfoldable pub tally_text : ℕ → Tally → List ℕ
+tally_text workers t =
+    seat_lines t.counts workers
+    ++ (number_line (codes "unrecorded") t.unrecorded ++ (number_line (codes "maps") t.maps ++ held_line t.held))

@@ -1,0 +1,32 @@
+-- What a storm reads and writes.
+use Rattle.std.specs.Prelude.{◌≡◌, ◌↔◌, ℕ, Bool, true, List, length, Option, None, Ok}
+use Rattle.std.specs.Io.KnownBytes.{Appends}
+use Rattle.sched_text.specs.declared.fault.TextFault.TheVariants as texts
+use Rattle.sched_commands.specs.declared.fault.RunFault.{RunFault}
+use Rattle.sched_commands.specs.declared.fault.RunFault.TheVariants.{Input, TooLong, NotJson, Shape, Config, Memory}
+use Rattle.sched_commands.specs.declared.fault.RunFault.TheVariants.{Output, Threads}
+use Rattle.sched_storm.specs.declared.tally.Tally.{Tally}
+use Rattle.sched_text.specs.StormScript.{Storm, GivesStorm, StopsStormScript}
+use Rattle.sched_storm.specs.Storm.{IsTally}
+use Rattle.sched_commands.specs.StormLines.{tally_text}
+
+-- the reader's bytes are a script of a storm, and the lines of a tally of it were written, and nothing else; the
+-- answer is whether no worker was held
+pub record Stormed (unread left written_before written_after : Option (List ℕ)) (free : Bool) : Type 0 where
+  pub storm : Storm
+  pub read : GivesStorm unread left (Ok storm)
+  pub tally : Tally
+  pub tally_is : IsTally storm.config storm.scripts tally
+  pub written : Appends written_before written_after (tally_text (length storm.scripts) tally)
+  pub free_is : free ≡ true ↔ (tally.held ≡ None)
+
+-- why a storm ends: there is no script, or a thread or a write was tried after a whole one was read
+abbrev pub StopsStorm : Option (List ℕ) → Option (List ℕ) → RunFault → Type 0
+StopsStorm unread left Input = StopsStormScript unread left texts.Input
+StopsStorm unread left TooLong = StopsStormScript unread left texts.TooLong
+StopsStorm unread left NotJson = StopsStormScript unread left texts.NotJson
+StopsStorm unread left (Shape n) = StopsStormScript unread left (texts.Shape n)
+StopsStorm unread left (Config field) = StopsStormScript unread left (texts.Config field)
+StopsStorm unread left Memory = StopsStormScript unread left texts.Memory
+StopsStorm unread left Output = (storm : Storm) × GivesStorm unread left (Ok storm)
+StopsStorm unread left Threads = (storm : Storm) × GivesStorm unread left (Ok storm)

@@ -1,0 +1,12 @@
+//! The commands of the program, as a library: a script is run, a payload is shown, a storm is run.
+#![tactic(auto)]
+
+mod fault;
+mod run;
+mod storm;
+mod table;
+
+pub use fault::RunFault;
+pub use run::run_script;
+pub use storm::run_storm;
+pub use table::decode_text;

@@ -1,0 +1,126 @@
+//! A run of a script.
+
+ghost use Rattle.std.specs.Prelude.{◌≡◌, ◌≢◌, ◌⊎◌, [], true, false, List, OnOk, IfErr};
+ghost use Rattle.sched_text.specs.Line.{Answer, HasLine};
+ghost use Rattle.sched_commands.specs.Answer.{MakesCall, MakesCalls};
+ghost use Rattle.sched_commands.specs.Run.{AnswersEach, Ran, Stops};
+
+use crate::fault::RunFault;
+use minislots::{Checked, Stamp};
+use sched_history::{Call, Reply, Scheduler, Unrecorded};
+use sched_text::{TextFault, put_history, put_line, read_script};
+use std::alloc::Global;
+use std::io::{Read, Write};
+
+// Makes the call at this place of a script. The one seat of a run has the number 0.
+fn make_call(scheduler: &mut Scheduler, place: usize, call: Call) -> Result<Reply, Unrecorded>
+    ensures made { MakesCall scheduler.old scheduler.new place call result }
+    ensures line { HasLine result }
+{
+    let stamp = Stamp {
+        seat: 0,
+        ticket: place as u64,
+    };
+    scheduler.call(stamp, call)
+}
+
+// Makes the calls of a script one after the other, and writes the line of each answer.
+fn run_calls<W: Write>(
+    scheduler: &mut Scheduler,
+    calls: &[Call],
+    writer: &mut W,
+) -> Result<(), TextFault>
+    requires { scheduler.old.history ≡ [] }
+
+    ensures ok { OnOk result (AnswersEach false scheduler.old.config calls.now
+        (W.contents writer.old) (W.contents writer.new)) }
+    ensures err { IfErr result (λ e. e ≡ TextFault.Output) }
+{
+    for (place, call) in calls.iter().enumerate() {
+        let answer = make_call(scheduler, place, *call);
+        put_line(writer, &answer)?;
+    }
+    Ok(())
+}
+
+// Makes the calls of a script one after the other.
+fn make_calls(scheduler: &mut Scheduler, calls: &[Call])
+    requires { scheduler.old.history ≡ [] }
+    ensures { (answers : List Answer) × MakesCalls scheduler.old scheduler.new calls.now answers }
+{
+    for (place, call) in calls.iter().enumerate() {
+        let _ = make_call(scheduler, place, *call);
+    }
+}
+
+// Makes the calls of a script one after the other, and writes the text of their history. Nothing is
+// written before memory runs out.
+fn run_history<W: Write>(
+    alloc: Global,
+    scheduler: &mut Scheduler,
+    config: &Checked,
+    calls: &[Call],
+    writer: &mut W,
+) -> Result<(), TextFault>
+    requires empty { scheduler.old.history ≡ [] }
+    requires same { config.now ≡ scheduler.old.config }
+
+    ensures ok { OnOk result (AnswersEach true scheduler.old.config calls.now
+        (W.contents writer.old) (W.contents writer.new)) }
+    ensures err { IfErr result (λ e. (e ≡ TextFault.Memory) ⊎ (e ≡ TextFault.Output)) }
+    ensures quiet { IfErr result (λ e. e ≢ TextFault.Output → writer.new ≡ writer.old) }
+{
+    make_calls(scheduler, calls);
+    put_history(alloc, writer, &config.config(), scheduler.history())
+}
+
+// Makes the calls of a script one after the other, and writes the lines of their answers or the text of their history.
+// Nothing is written before memory runs out.
+fn answer_calls<W: Write>(
+    alloc: Global,
+    scheduler: &mut Scheduler,
+    config: &Checked,
+    calls: &[Call],
+    writer: &mut W,
+    as_history: bool,
+) -> Result<(), TextFault>
+    requires empty { scheduler.old.history ≡ [] }
+    requires same { config.now ≡ scheduler.old.config }
+
+    ensures ok { OnOk result (AnswersEach as_history scheduler.old.config calls.now
+        (W.contents writer.old) (W.contents writer.new)) }
+    ensures err { IfErr result (λ e. (e ≡ TextFault.Memory) ⊎ (e ≡ TextFault.Output)) }
+    ensures quiet { IfErr result (λ e. e ≢ TextFault.Output → writer.new ≡ writer.old) }
+{
+    if as_history {
+        run_history(alloc, scheduler, config, calls, writer)
+    } else {
+        run_calls(scheduler, calls, writer)
+    }
+}
+
+/// Reads a script, a configuration and calls in JSON, to the reader's end, and makes its calls one after
+/// the other on a new scheduler. The call at place i, from 0, has the stamp of seat 0 and ticket i.
+/// Writes one line for the answer to each call, and then only a fault of output comes after a line was
+/// written; or with `as_history` the history of the recorded calls in JSON, in one line.
+pub fn run_script<R: Read, W: Write>(
+    alloc: Global,
+    reader: &mut R,
+    writer: &mut W,
+    as_history: bool,
+) -> Result<(), RunFault>
+    // What was written is the lines of the answers, or the text of their history, and nothing else.
+    ensures ok { OnOk result (Ran as_history (R.remaining reader.old) (R.remaining reader.new)
+        (W.contents writer.old) (W.contents writer.new)) }
+
+    // Each fault comes under its own condition, the first one in their order.
+    ensures stops { IfErr result (Stops (R.remaining reader.old) (R.remaining reader.new)) }
+    ensures quiet { IfErr result (λ e. e ≢ RunFault.Output → writer.new ≡ writer.old) }
+{
+    let (config, calls) = read_script(alloc, reader)?;
+    let Ok(mut scheduler) = Scheduler::open(alloc, config) else {
+        return Err(RunFault::Memory);
+    };
+    answer_calls(alloc, &mut scheduler, &config, &calls, writer, as_history)?;
+    Ok(())
+}

@@ -1,0 +1,47 @@
+//! A storm from its script to the lines of its tally.
+
+ghost use Rattle.std.specs.Prelude.{◌≡◌, ◌≢◌, IfOk, IfErr};
+ghost use Rattle.sched_commands.specs.StormRun.{Stormed, StopsStorm};
+
+mod line;
+
+use crate::fault::RunFault;
+use line::put_tally;
+use sched_storm::{Gate, StormFault, storm_with};
+use sched_text::read_storm;
+use std::alloc::Global;
+use std::io::{Read, Write};
+use std::sync::Wait;
+use std::thread::Threads;
+
+/// Reads a script of a storm, a configuration and 1 to 16 scripts in JSON, to the reader's end, runs the scripts
+/// at the same time, and writes the lines of their tally: one for each seat with its number and its count, then
+/// the number of calls that were not recorded, that of the MAPs, and the least of the workers that the gate held,
+/// if any. Answers whether no worker was held. Nothing is written before another fault than one of output.
+pub fn run_storm<R: Threads + Wait + Sync, I: Read, W: Write, G: Gate>(
+    rt: &R,
+    alloc: Global,
+    reader: &mut I,
+    writer: &mut W,
+    gate: &G,
+) -> Result<bool, RunFault>
+    // What was written is the lines of a tally of the scripts that were read, and nothing else.
+    ensures ok { IfOk result (Stormed (I.remaining reader.old) (I.remaining reader.new)
+        (W.contents writer.old) (W.contents writer.new)) }
+
+    // Each fault comes under its own condition, the first one in their order.
+    ensures stops { IfErr result (StopsStorm (I.remaining reader.old) (I.remaining reader.new)) }
+    ensures quiet { IfErr result (λ e. e ≢ RunFault.Output → writer.new ≡ writer.old) }
+{
+    let (config, scripts) = read_storm(alloc, reader)?;
+    let workers = scripts.len();
+    let tally = match storm_with(rt, alloc, config, scripts, gate) {
+        Ok(tally) => tally,
+        Err(StormFault::Threads) => return Err(RunFault::Threads),
+        Err(StormFault::Memory) => return Err(RunFault::Memory),
+        // The number of scripts was tested as they were read.
+        Err(StormFault::ScriptCount) => unreachable!(),
+    };
+    put_tally(writer, workers, &tally)?;
+    Ok(tally.held.is_none())
+}

@@ -1,0 +1,73 @@
+//! The lines of a tally.
+
+ghost use Rattle.std.specs.Prelude.{◌≡◌, ◌≤◌, OnOk, IfErr};
+ghost use Rattle.std.specs.Io.KnownBytes.{Appends};
+ghost use Rattle.sched_commands.specs.StormLines.{number_line, seat_line, seat_lines, held_line, tally_text};
+
+use sched_storm::Tally;
+use sched_text::{TextFault, put, put_number};
+use std::io::Write;
+use ticket_core::MAX_SEATS;
+
+// The line of a number under this name.
+#[tactic(auto, unfolding(crate::specs::StormLines::number_line))]
+fn put_named<W: Write>(writer: &mut W, name: &[u8], number: u64) -> Result<(), TextFault>
+    ensures ok { OnOk result (Appends (W.contents writer.old) (W.contents writer.new) (number_line name.now number)) }
+    ensures err { IfErr result (λ e. e ≡ TextFault.Output) }
+{
+    put(writer, name)?;
+    put_number(writer, number)?;
+    put(writer, b"\n")
+}
+
+// The line of a seat: its number and its count.
+#[tactic(auto, unfolding(crate::specs::StormLines::seat_line))]
+fn put_seat<W: Write>(writer: &mut W, number: u64, count: u64) -> Result<(), TextFault>
+    ensures ok { OnOk result (Appends (W.contents writer.old) (W.contents writer.new) (seat_line number count)) }
+    ensures err { IfErr result (λ e. e ≡ TextFault.Output) }
+{
+    put(writer, b"seat")?;
+    put_number(writer, number)?;
+    put_number(writer, count)?;
+    put(writer, b"\n")
+}
+
+// The lines of the first so many seats.
+fn put_seats<W: Write>(
+    writer: &mut W,
+    counts: &[u64; MAX_SEATS],
+    workers: usize,
+) -> Result<(), TextFault>
+    requires { workers ≤ 64 }
+    ensures ok { OnOk result (Appends (W.contents writer.old) (W.contents writer.new) (seat_lines counts.now workers)) }
+    ensures err { IfErr result (λ e. e ≡ TextFault.Output) }
+{
+    for number in 0..workers {
+        put_seat(writer, number as u64, counts[number])?;
+    }
+    Ok(())
+}
+
+// The line of the worker that was held, if any.
+fn put_held<W: Write>(writer: &mut W, held: Option<usize>) -> Result<(), TextFault>
+    ensures ok { OnOk result (Appends (W.contents writer.old) (W.contents writer.new) (held_line held)) }
+    ensures err { IfErr result (λ e. e ≡ TextFault.Output) }
+{
+    match held {
+        Some(worker) => put_named(writer, b"held", worker as u64),
+        None => Ok(()),
+    }
+}
+
+/// The lines of a tally of so many workers.
+#[tactic(auto, unfolding(crate::specs::StormLines::tally_text))]
+pub fn put_tally<W: Write>(writer: &mut W, workers: usize, tally: &Tally) -> Result<(), TextFault>
+    requires { workers ≤ 64 }
+    ensures ok { OnOk result (Appends (W.contents writer.old) (W.contents writer.new) (tally_text workers tally.now)) }
+    ensures err { IfErr result (λ e. e ≡ TextFault.Output) }
+{
+    put_seats(writer, &tally.counts, workers)?;
+    put_named(writer, b"unrecorded", tally.unrecorded)?;
+    put_named(writer, b"maps", tally.maps)?;
+    put_held(writer, tally.held)
+}

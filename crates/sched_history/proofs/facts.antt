@@ -1,0 +1,5 @@
+-- What follows for every legal history.
+pub mod SoundLives
+pub mod OnTime
+pub mod Orderly
+pub mod FactsOf

@@ -1,0 +1,30 @@
+-- What follows for every legal history, after each of its entries.
+use Rattle.std.proofs.Common.{List, [], take}
+use Rattle.minislots.specs.declared.config.Config.{Config}
+use Rattle.minislots.specs.Config.{IsLawful}
+use Rattle.sched_history.specs.declared.reply.Entry.{Entry}
+use Rattle.sched_history.specs.History.{IsStep, IsLegal}
+use Rattle.sched_history.specs.Facts.{HoldsAfter, FollowsAlways}
+use Rattle.sched_history.proofs.steps.LegalHistories.{EachAfter-take}
+use Rattle.sched_history.proofs.time.NextFrames.{starts_ascend}
+use Rattle.sched_history.proofs.time.AckTimes.{heard_after}
+use Rattle.sched_history.proofs.facts.SoundLives.{within_asked, within_rate}
+use Rattle.sched_history.proofs.facts.OnTime.{on_time}
+use Rattle.sched_history.proofs.facts.Orderly.{orderly}
+
+-- what holds after the entries of a legal history
+pub holds_after : (c : Config) (h : List Entry) → IsLawful c → IsLegal c h → HoldsAfter c h
+holds_after c h lawful legal = record {
+  within_asked = within_asked c h legal;
+  within_rate = within_rate c h legal;
+  orderly = orderly c lawful h legal;
+  starts_ascend = starts_ascend c h legal;
+  on_time = on_time c lawful h legal;
+  heard_after = heard_after c h legal;
+}
+
+-- so too after each front of them
+pub facts_of : (c : Config) (h : List Entry) → IsLawful c → IsLegal c h → FollowsAlways c h
+unfolding FollowsAlways
+facts_of c h lawful legal n =
+    holds_after c (take n h) lawful (EachAfter-take (λ before e. IsStep c before e.call e.reply) [] h n legal)

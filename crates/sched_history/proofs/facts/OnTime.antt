@@ -1,0 +1,149 @@
+-- Every poll and unsolicited grant of a legal history is on time.
+use Rattle.std.proofs.Common.{◌≡◌, ℕ, ◌/◌, ◌%◌, true, false, ◌==◌, nat_lt, map, filter, List}
+use Rattle.std.proofs.Common.{[], ◌∷◌, ◌++◌, Some, refl, sym, ◌∙◌, subst, Contains, arith}
+use Rattle.std.specs.List.{AllByRecursion, zip}
+use Rattle.std.proofs.lemmas.Bool.{eqb-true}
+use Rattle.minislots.specs.declared.config.Config.{Config}
+use Rattle.minislots.specs.Config.{IsLawful}
+use Rattle.minislots.proofs.Bounds.{bounds_of}
+use Rattle.map_codec.specs.declared.element.Element.{Element}
+use Rattle.map_codec.specs.declared.element.iuc.TheConstants.{LONG_DATA_GRANT}
+use Rattle.flow_book.specs.FlowSpec.{interval_frames, jitter_slots, periodic_slots}
+use Rattle.flow_book.specs.Flows.{LiveFlow, outstanding}
+use Rattle.periodic.specs.declared.placement.Spot.{Spot}
+use Rattle.periodic.specs.Placement.{Placed, count_from, phase_of, offset_of, nominal_places}
+use Rattle.periodic.specs.Placement.{start_at, spot_in, spots_in, IsLawfulStart}
+use Rattle.map_build.specs.EachAfter.{EachAfter}
+use Rattle.map_build.specs.Plan.{Purpose, Poll, UnsolicitedGrant, DataGrant, Idle}
+use Rattle.map_build.specs.Plan.{Allocation, flows_after, Stands, StandsByItsRule}
+use Rattle.map_build.specs.FrameMap.{broadcast, request_region, element_for, element_of}
+use Rattle.map_build.specs.FrameMap.{bytes_for, null_element, pending, map_of}
+use Rattle.sched_history.specs.declared.call.Call.{Call}
+use Rattle.sched_history.specs.declared.reply.Reply.{Reply}
+use Rattle.sched_history.specs.declared.reply.Reply.TheVariants as replies
+use Rattle.sched_history.specs.declared.reply.Entry.{Entry}
+use Rattle.sched_history.specs.Life.{flows_of, table_of}
+use Rattle.sched_history.specs.Time.{next_after, ack_after}
+use Rattle.sched_history.specs.Refusal.{bad_sid}
+use Rattle.sched_history.specs.History.{IsNextMap, IsStep, IsLegal}
+use Rattle.sched_history.specs.Facts.{IsPeriodic, IsOnTime, KeepsTimes}
+use Rattle.sched_history.proofs.steps.LegalHistories.{IsNextMap-from_step, EachAfter-from_legal}
+use Rattle.sched_history.proofs.steps.LegalBounds.{next_after-aligned}
+use Rattle.sched_history.proofs.lists.Members.{IsImage, Contains-filter_map}
+use Rattle.sched_history.proofs.placements.NominalTimes.{Spots, spot_says, reference_past, start_at-place}
+use Rattle.sched_history.proofs.placements.NominalTimes.{kept-pass, interval_divides, place_rest}
+use Rattle.sched_history.proofs.placements.PlacedLives.{WasPlaced, table_placed}
+
+-- a spot of a placed flow, in a frame that starts there, is on time
+module _ (c : Config) (conf : IsLawful c) (table : List Placed) (start : ℕ) (aligned : start % c.frame ≡ 0)
+    (each : (flow : Placed) → Contains table flow → WasPlaced c start flow.spec flow.placement) where
+  spot_on_time : (s : Spot) (e : Element) → Contains (spots_in c (start / c.frame) table) s → e.sid ≡ s.sid
+      → e.offset ≡ s.offset
+      → (flow : Placed) × IsOnTime c table start e flow
+  spot_on_time s e member sid offset =
+      let image : IsImage (spot_in c (start / c.frame)) table (Some s) =
+      Contains-filter_map (spot_in c (start / c.frame)) table s member in
+      let flow : Placed = image.origin in
+      let was : WasPlaced c start flow.spec flow.placement = each flow image.member in
+      let interval : ℕ = interval_frames c flow.spec in
+      let phase : ℕ = phase_of c flow.spec flow.placement in
+      let places : List ℕ = nominal_places c interval phase in
+      let says : Spots flow (start_at (start / c.frame % c.cycle) places flow.placement.starts) s =
+      spot_says c flow (start_at (start / c.frame % c.cycle) places flow.placement.starts) s image.same in
+      let here = start_at-place
+      (λ place at. IsLawfulStart c (jitter_slots c flow.spec) (periodic_slots c flow.spec) (offset_of c flow.placement)
+      (spots_in c place was.table) at)
+      (λ place. place % interval == phase ≡ true)
+      (start / c.frame % c.cycle) places flow.placement.starts says.start was.lawful.starts
+      (kept-pass (λ place. place % interval == phase) (count_from 0 c.cycle)) says.found in
+      let nominal : start / c.frame % interval ≡ phase =
+      sym (place_rest (start / c.frame) c.cycle interval (interval_divides c flow.spec was.faultless was.periodic))
+      ∙ eqb-true (start / c.frame % c.cycle % interval) phase here.1 in (
+        flow,
+        record {
+          live = image.member;
+          own = sym says.sid ∙ sym sid;
+          nominal = nominal;
+          from_reference = reference_past c.frame interval flow.placement.reference was.since start
+              (omega (arith, (bounds_of c conf).frame_least)) aligned was.past was.lawful.not_before was.lawful.first
+              nominal;
+          not_early = omega (arith, here.0.after_nominal, says.offset, offset);
+          within_jitter = omega (arith, here.0.within_jitter, says.offset, offset);
+        },
+      )
+
+-- what is said of an element with its bytes in a MAP that starts there
+abbrev IsTimely : Config → List Placed → ℕ → Element × ℕ → Type 0
+IsTimely c table start e = IsPeriodic c e.0 e.1 → (flow : Placed) × IsOnTime c table start e.0 flow
+
+unaddressed : bad_sid 0 ≡ false → ⊥
+unaddressed good = cc
+
+-- pending grants are none, since they lie behind the frame
+timely-pending : (c : Config) (table : List Placed) (start : ℕ) (flows : List LiveFlow) (bs : List ℕ)
+    → AllByRecursion (IsTimely c table start)
+    (zip (map (λ f. record { sid = f.sid; iuc = LONG_DATA_GRANT; offset = c.frame }) flows) bs)
+timely-pending c table start [] bs = tt
+timely-pending c table start (f ∷ flows) [] = tt
+timely-pending c table start (f ∷ flows) (b ∷ bs) =
+    ((λ periodic. absurd (omega (arith, periodic.in_frame))), timely-pending c table start flows bs)
+
+module _ (c : Config) (flows : List LiveFlow) (table : List Placed) (start : ℕ)
+    (spots_timely : (s : Spot) (e : Element) → Contains (spots_in c (start / c.frame) table) s → e.sid ≡ s.sid
+    → e.offset ≡ s.offset
+    → (flow : Placed) × IsOnTime c table start e flow) where
+  -- an allocation's element
+  timely-element : (before : List Allocation) (offset slots : ℕ) (purpose : Purpose)
+      → StandsByItsRule c flows (spots_in c (start / c.frame) table) start before offset slots purpose
+      → IsTimely c table start (element_for c offset slots purpose, bytes_for purpose)
+  timely-element before offset slots (Poll sid) stands periodic =
+      spots_timely (record { sid = sid; poll = true; offset = offset; slots = slots })
+      (element_for c offset slots (Poll sid)) stands refl refl
+  timely-element before offset slots (UnsolicitedGrant sid) stands periodic =
+      spots_timely (record { sid = sid; poll = false; offset = offset; slots = slots })
+      (element_for c offset slots (UnsolicitedGrant sid)) stands refl refl
+  timely-element before offset slots (DataGrant sid bytes) stands periodic =
+      absurd (omega (arith, stands.4.allowed.positive, periodic.unasked))
+  timely-element before offset slots Idle stands periodic = absurd (unaddressed periodic.to_flow)
+
+  -- the elements of a plan, with timely ones behind
+  timely-plan : (before plan : List Allocation) (es : List Element) (bs : List ℕ)
+      → EachAfter (Stands c flows (spots_in c (start / c.frame) table) start) before plan
+      → AllByRecursion (IsTimely c table start) (zip es bs) → AllByRecursion (IsTimely c table start)
+      (zip (map (element_of c) plan ++ es) (map (λ a. bytes_for a.purpose) plan ++ bs))
+  timely-plan before [] es bs each timely = timely
+  timely-plan before (a ∷ plan) es bs each timely = (
+    timely-element before a.offset a.slots a.purpose each.0.purpose,
+    timely-plan (before ++ a ∷ []) plan es bs each.1 timely,
+  )
+
+  -- the elements of the MAP of a plan
+  timely-map : (ack : ℕ) (plan : List Allocation)
+      → EachAfter (Stands c flows (spots_in c (start / c.frame) table) start) [] plan
+      → KeepsTimes c table (replies.Built (map_of c flows start ack plan))
+  timely-map ack plan each =
+      let tail : List Element = pending c (flows_after start plan flows) in
+      let waiting : List LiveFlow =
+      filter (λ (f : LiveFlow). nat_lt 0 (outstanding f)) (flows_after start plan flows) in (
+        (λ (periodic : IsPeriodic c request_region 0). absurd
+            (let bad : bad_sid broadcast ≡ false = periodic.to_flow in cc)),
+        timely-plan [] plan (null_element c ∷ tail) (0 ∷ map (λ e. 0) tail) each (
+          (λ periodic. absurd (unaddressed periodic.to_flow)),
+          timely-pending c table start waiting (map (λ e. 0) tail),
+        ),
+      )
+
+module _ (c : Config) (conf : IsLawful c) where
+  timely_by : (h : List Entry) (call : Call) (reply : Reply) → IsLegal c h → IsStep c h call reply
+      → KeepsTimes c (table_of h) reply
+  timely_by h call (replies.Built m) legal step =
+      let next : IsNextMap c h m = IsNextMap-from_step c h call m step in
+      subst (λ m. KeepsTimes c (table_of h) (replies.Built m)) (sym next.2)
+      (timely-map c (flows_of h) (table_of h) (next_after c h) (spot_on_time c conf (table_of h) (next_after c h)
+      (next_after-aligned c conf h legal) (table_placed c h legal)) (ack_after c h) next.0 next.1.each)
+  timely_by h call reply legal step = tt
+
+  -- every poll and unsolicited grant is on time
+  pub on_time : (h : List Entry) → IsLegal c h → EachAfter (λ before e. KeepsTimes c (table_of before) e.reply) [] h
+  on_time = EachAfter-from_legal c (λ before e. KeepsTimes c (table_of before) e.reply)
+      (λ h e legal step. timely_by h e.call e.reply legal step)

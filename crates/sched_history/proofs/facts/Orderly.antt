@@ -1,0 +1,126 @@
+-- Every MAP of a legal history is orderly: at most 240 elements, and a front of disjoint ascending allocations.
+use Rattle.std.proofs.Common.{ℕ, ◌/◌, ◌%◌, ◌<◌, ◌≤◌, ◌^◌, nat_lt, filter, map, length, List}
+use Rattle.std.proofs.Common.{[], ◌∷◌, ◌++◌, Some, sym, ap, subst, length-append, arith}
+use Rattle.std.specs.List.{AllByRecursion}
+use Rattle.std.proofs.lemmas.List.{length-map}
+use Rattle.std.proofs.lemmas.List.Elements.{All-contains, All-from_recursion}
+use Rattle.std.proofs.lemmas.List.Sums.{length-filter, count_by-le-length}
+use Rattle.minislots.specs.declared.config.Config.{Config}
+use Rattle.minislots.specs.Config.{IsLawful, HasBounds}
+use Rattle.minislots.proofs.Bounds.{bounds_of}
+use Rattle.map_codec.specs.declared.element.Element.{Element}
+use Rattle.map_codec.specs.declared.element.iuc.TheConstants.{LONG_DATA_GRANT}
+use Rattle.flow_book.specs.declared.TheConstants.{MAX_FLOWS}
+use Rattle.flow_book.specs.FlowSpec.{interval_frames}
+use Rattle.flow_book.specs.Flows.{LiveFlow, outstanding}
+use Rattle.flow_book.proofs.Order.{all-push}
+use Rattle.periodic.specs.declared.TheConstants.{MAX_PERIODIC_FLOWS}
+use Rattle.periodic.specs.declared.placement.Spot.{Spot}
+use Rattle.periodic.specs.Placement.{Placed, phase_of, nominal_places, start_at, spot_in, spots_in}
+use Rattle.map_build.specs.declared.frame_map.FrameMap.{FrameMap}
+use Rattle.map_build.specs.Plan.{Allocation, flow_after, flows_after, IsPlan}
+use Rattle.map_build.specs.FrameMap.{element_of, null_element, pending, elements_of}
+use Rattle.map_build.proofs.WellFormed.{HaveSids, HaveSpotSids}
+use Rattle.sched_history.specs.declared.reply.Entry.{Entry}
+use Rattle.sched_history.specs.Life.{flows_of, table_of}
+use Rattle.sched_history.specs.Time.{next_after}
+use Rattle.sched_history.specs.History.{IsNextMap, map_by, IsStep, IsLegal}
+use Rattle.sched_history.specs.Facts.{maps_of, IsOrderly}
+use Rattle.sched_history.proofs.steps.LegalHistories.{Builds, Skips, Stays, change_by_step, legal_induction}
+use Rattle.sched_history.proofs.time.NextFrames.{maps_of-built, maps_of-unbuilt}
+use Rattle.sched_history.proofs.lists.Numbered.{filter_map-below}
+use Rattle.sched_history.proofs.lives.Finding.{sids-range, flow_at, flow_at-sid, placed_at, placed_at-sid}
+use Rattle.sched_history.proofs.lists.Members.{IsImage, Contains-filter_map, all-members, length-filter_map}
+use Rattle.sched_history.proofs.placements.NominalTimes.{spot_says}
+use Rattle.sched_history.proofs.plans.Fronts.{HasFront-plan}
+use Rattle.sched_history.proofs.plans.PlanCounts.{length-plan, length-bytes_of_plan}
+use Rattle.sched_history.proofs.placements.PlacedFew.{table_few}
+use Rattle.sched_history.proofs.steps.LegalBounds.{flows_of-few}
+
+-- the SIDs of the live flows fit an element
+pub flows_of-in_range : (h : List Entry) → HaveSids (flows_of h)
+flows_of-in_range h =
+    rw sids-range.2 (filter_map-below (λ (f : LiveFlow). f.sid) (flow_at h) (flow_at-sid h) (2 ^ 14) 1 sids-range.0
+    (omega (arith, sids-range.1)))
+
+table_of-in_range : (h : List Entry) → AllByRecursion (λ p. p.sid < 2 ^ 14) (table_of h)
+table_of-in_range h =
+    rw sids-range.2 (filter_map-below (λ (p : Placed). p.sid) (placed_at h) (placed_at-sid h) (2 ^ 14) 1 sids-range.0
+    (omega (arith, sids-range.1)))
+
+-- and those of their spots
+pub spots_in-in_range : (c : Config) (k : ℕ) (h : List Entry) → HaveSpotSids (spots_in c k (table_of h))
+spots_in-in_range c k h = all-members (λ (s : Spot). s.sid < 2 ^ 14) (spots_in c k (table_of h)) (λ s member.
+    let image : IsImage (spot_in c k) (table_of h) (Some s) = Contains-filter_map (spot_in c k) (table_of h) s member in
+    let flow : Placed = image.origin in
+    let says = spot_says c flow (start_at (k % c.cycle) (nominal_places c (interval_frames c flow.spec)
+    (phase_of c flow.spec flow.placement)) flow.placement.starts) s image.same in
+    omega (
+      arith,
+      says.sid,
+      All-contains (λ (p : Placed). p.sid < 2 ^ 14) (table_of h) flow
+          (All-from_recursion (λ (p : Placed). p.sid < 2 ^ 14) (table_of h) (table_of-in_range h)) image.member,
+    ))
+
+-- the pending grant of a flow
+abbrev pending_of : Config → LiveFlow → Element
+pending_of c f = record { sid = f.sid; iuc = LONG_DATA_GRANT; offset = c.frame }
+
+-- the elements of a plan's MAP: the request region, the allocations, the Null and the pending grants
+length-elements : (c : Config) (flows : List LiveFlow) (spots : List Spot) (start : ℕ) (plan : List Allocation)
+    → IsPlan c flows spots start plan → length flows ≤ MAX_FLOWS → length spots ≤ MAX_PERIODIC_FLOWS
+    → length (elements_of c flows start plan) ≤ 240
+length-elements c flows spots start plan is few few_spots =
+    let after : List LiveFlow = flows_after start plan flows in
+    let waiting : List LiveFlow = filter (λ (f : LiveFlow). nat_lt 0 (outstanding f)) after in
+    let kept : length waiting ≤ length after =
+    omega (
+      arith,
+      length-filter (λ (f : LiveFlow). nat_lt 0 (outstanding f)) after,
+      count_by-le-length (λ (f : LiveFlow). nat_lt 0 (outstanding f)) after,
+    ) in
+    omega (
+      arith,
+      few,
+      few_spots,
+      kept,
+      length-plan c flows spots start plan is,
+      length-map flows (flow_after start plan),
+      length-append (map (element_of c) plan) (null_element c ∷ pending c after),
+      length-map plan (element_of c),
+      length-map waiting (pending_of c),
+    )
+
+module _ (c : Config) (conf : IsLawful c) where
+  -- the next MAP is orderly
+  pub next_orderly : (h : List Entry) (m : FrameMap) → IsLegal c h → IsNextMap c h m → IsOrderly c m
+  next_orderly h m legal next =
+      let spots : List Spot = spots_in c (next_after c h / c.frame) (table_of h) in
+      let bounds : HasBounds c = bounds_of c conf in
+      subst (IsOrderly c) (sym next.2) (record {
+        within = length-elements c (flows_of h) spots (next_after c h) next.0 next.1 (flows_of-few c conf h legal)
+            (omega (
+              arith,
+              length-filter_map (spot_in c (next_after c h / c.frame)) (table_of h),
+              table_few c conf h legal,
+            ));
+        counted = length-bytes_of_plan c (flows_of h) (next_after c h) next.0;
+        front = HasFront-plan c (flows_of h) spots (next_after c h) next.0
+            (omega (arith, bounds.frame_most)) bounds.requests_positive
+            (flows_of-in_range h)
+            (spots_in-in_range c (next_after c h / c.frame) h) next.1;
+      })
+
+  orderly_more : (h : List Entry) (e : Entry) → IsLegal c h → IsStep c h e.call e.reply
+      → AllByRecursion (IsOrderly c) (maps_of h)
+      → AllByRecursion (IsOrderly c) (maps_of (h ++ e ∷ []))
+  orderly_more h e legal step all = elim (change_by_step c h e.call e.reply step) [
+    | Builds m next same ↦ rw (maps_of-built h e m same)
+        (all-push (IsOrderly c) (maps_of h) m all (next_orderly h m legal next))
+    | Skips now start is first same ↦ rw (maps_of-unbuilt h e (ap map_by same)) all
+    | Stays still ↦ rw (maps_of-unbuilt h e still.0) all
+  ]
+
+  -- every MAP is
+  pub orderly : (h : List Entry) → IsLegal c h → AllByRecursion (IsOrderly c) (maps_of h)
+  orderly = legal_induction c (λ h. AllByRecursion (IsOrderly c) (maps_of h)) orderly_more tt

@@ -1,0 +1,150 @@
+-- The live flows of a legal history: each was granted at most what it asked, within its rate ceiling.
+use Rattle.std.proofs.Common.{◌≡◌, ℕ, ◌+◌, ◌/◌, List, [], ◌∷◌, ◌++◌, Option, None}
+use Rattle.std.proofs.Common.{Some, refl, sym, ap, ◌∙◌, subst, Contains, arith}
+use Rattle.std.specs.List.{AllByRecursion}
+use Rattle.std.specs.Option.{option_map}
+use Rattle.std.proofs.lemmas.List.{append-nil}
+use Rattle.minislots.specs.declared.config.Config.{Config}
+use Rattle.flow_book.specs.Flows.{LiveFlow}
+use Rattle.flow_book.specs.Entry.{IsSoundFlow}
+use Rattle.periodic.specs.Placement.{spots_in}
+use Rattle.map_build.specs.declared.frame_map.FrameMap.{FrameMap}
+use Rattle.map_build.specs.Plan.{Allocation, grants_to}
+use Rattle.sched_history.specs.declared.reply.Reply.{Reply}
+use Rattle.sched_history.specs.declared.reply.Reply.TheVariants as replies
+use Rattle.sched_history.specs.declared.reply.Entry.{Entry}
+use Rattle.sched_history.specs.Life.{Turn, Begins, Ends, turn_by, asked_by, grants_by, grants_of_map}
+use Rattle.sched_history.specs.Life.{Life, life_of, flow_in_life, sids, flows_of, table_of}
+use Rattle.sched_history.specs.Time.{next_after, ack_after}
+use Rattle.sched_history.specs.History.{IsNextMap, map_by, IsStep, IsLegal}
+use Rattle.sched_history.specs.Facts.{IsWithinAsked, IsWithinRate}
+use Rattle.sched_history.proofs.steps.LegalHistories as legal
+use Rattle.sched_history.proofs.steps.LegalHistories.{IsStill, Change, change_by_step, legal_induction}
+use Rattle.sched_history.proofs.lives.LivesAfter.{with_since, life_of-stays, life_of-begins, life_of-ends}
+use Rattle.sched_history.proofs.lives.FlowsAfter.{grown_by, asked_in-push, grants_since-push}
+use Rattle.sched_history.proofs.lists.Members.{IsImage, Contains-filter_map, all-chosen}
+use Rattle.sched_history.proofs.plans.SoundPlans.{sound_plan}
+use Rattle.sched_history.proofs.flows.MapGrants.{plan-HasBytes, grants_of_map-plan}
+
+-- the life of every SID is sound
+abbrev HasSoundLives : Config → List Entry → Type 0
+HasSoundLives c h = (sid : ℕ) (life : Life) → life_of sid h ≡ Some life → IsSoundFlow c (flow_in_life sid life)
+
+-- a flow in a live SID's life
+flow_said : (sid : ℕ) (o : Option Life) (f : LiveFlow) → option_map (flow_in_life sid) o ≡ Some f
+    → (life : Life) × (o ≡ Some life)
+    × (flow_in_life sid life ≡ f)
+flow_said sid None f is = absurd (cc)
+flow_said sid (Some life) f is = (life, refl, cc)
+
+-- the live flow of a SID is the one of its life
+pub flows_of-alone : (h : List Entry) (sid : ℕ) (life : Life) → life_of sid h ≡ Some life → (g : LiveFlow)
+    → Contains (flows_of h) g
+    → g.sid ≡ sid → g ≡ flow_in_life sid life
+flows_of-alone h sid life lives g member same =
+    let image : IsImage (λ sid. option_map (flow_in_life sid) (life_of sid h)) sids (Some g) =
+    Contains-filter_map (λ sid. option_map (flow_in_life sid) (life_of sid h)) sids g member in
+    let said : (life : Life) × (life_of image.origin h ≡ Some life) × (flow_in_life image.origin life ≡ g) =
+    flow_said image.origin (life_of image.origin h) g image.same in
+    let number : image.origin ≡ sid = ap (λ (g : LiveFlow). g.sid) said.2 ∙ same in
+    let lives' : life_of sid h ≡ Some said.0 = subst (λ s. life_of s h ≡ Some said.0) number said.1 in
+    let them : said.0 ≡ life = cc in
+    sym said.2
+    ∙ (subst (λ s. flow_in_life image.origin said.0 ≡ flow_in_life s life) number
+    (ap (flow_in_life image.origin) them))
+
+-- a flow is sound with more asked
+sound_asked : (c : Config) (f : LiveFlow) (more : ℕ) → IsSoundFlow c f
+    → IsSoundFlow c (record f { asked = f.asked + more })
+sound_asked c f more sound = record { within = omega (arith, sound.within); kept = sound.kept }
+
+-- a flow without grants is sound
+sound_new : (c : Config) (sid : ℕ) (life : Life) → life.since ≡ [] → IsSoundFlow c (flow_in_life sid life)
+sound_new c sid life new = rw new (record { within = omega arith; kept = λ some i j le within. absurd (omega arith) })
+
+ungranted : (sid : ℕ) (reply : Reply) → map_by reply ≡ None → grants_by sid reply ≡ []
+ungranted sid (replies.Built m) none = absurd (cc)
+ungranted sid reply none = refl
+
+module _ (c : Config) (h : List Entry) (sid : ℕ) (life : Life) (lives : life_of sid h ≡ Some life)
+    (sound : IsSoundFlow c (flow_in_life sid life)) where
+  -- the grants of the next MAP keep a live flow sound
+  sound_map : (m : FrameMap) → IsNextMap c h m → IsSoundFlow c
+      (record (flow_in_life sid life) { grants = (flow_in_life sid life).grants ++ grants_of_map sid m })
+  sound_map m next =
+      let plan : List Allocation = next.0 in
+      let grants : grants_of_map sid m ≡ grants_to (next_after c h) sid plan =
+      ap (grants_of_map sid) next.2 ∙ grants_of_map-plan sid (next_after c h) c (flows_of h) (ack_after c h) plan
+      (plan-HasBytes c (flows_of h) (spots_in c (next_after c h / c.frame) (table_of h))
+      (next_after c h) plan next.1) in
+      rw grants
+      (sound_plan c (flows_of h) (spots_in c (next_after c h / c.frame) (table_of h)) (next_after c h)
+      (flow_in_life sid life)
+      (flows_of-alone h sid life lives) [] plan next.1.each (rw append-nil sound))
+
+  -- the flow with the grants of an entry
+  abbrev granted_also : Entry → LiveFlow
+  granted_also e = record (flow_in_life sid life) { grants = (flow_in_life sid life).grants ++ grants_by sid e.reply }
+
+  sound_still : (e : Entry) → map_by e.reply ≡ None → IsSoundFlow c (grown_by e (flow_in_life sid life))
+  sound_still e none =
+      sound_asked c (granted_also e) (asked_by sid e.call e.reply) (rw (ungranted sid e.reply none, append-nil) sound)
+
+  -- so does each legal entry
+  sound_grown : (e : Entry) → IsStep c h e.call e.reply → IsSoundFlow c (grown_by e (flow_in_life sid life))
+  sound_grown e step = elim (change_by_step c h e.call e.reply step) [
+    | legal.Builds m next same ↦ sound_asked c (granted_also e) (asked_by sid e.call e.reply)
+        (rw (ap (grants_by sid) same) (sound_map m next))
+    | legal.Skips now start is first same ↦ sound_still e (ap map_by same)
+    | legal.Stays still ↦ sound_still e still.0
+  ]
+
+module _ (c : Config) where
+  -- a life that goes on
+  goes_on : (h : List Entry) (e : Entry) (sid : ℕ) (old : Option Life) (life : Life) → life_of sid h ≡ old
+      → option_map (with_since e) old ≡ Some life
+      → IsStep c h e.call e.reply → HasSoundLives c h → IsSoundFlow c (flow_in_life sid life)
+  goes_on h e sid None life was is step sound = absurd (cc)
+  goes_on h e sid (Some old) life was is step sound =
+      let them : with_since e old ≡ life = cc in
+      subst (λ l. IsSoundFlow c (flow_in_life sid l)) them
+      (rw (asked_in-push sid old.since e, grants_since-push sid old.since e)
+      (sound_grown c h sid old was (sound sid old was) e step))
+
+  turned : (h : List Entry) (e : Entry) (sid : ℕ) (turn : Option Turn) (life : Life) → turn_by sid e.call e.reply ≡ turn
+      → life_of sid (h ++ e ∷ []) ≡ Some life
+      → IsStep c h e.call e.reply → HasSoundLives c h → IsSoundFlow c (flow_in_life sid life)
+  turned h e sid None life is lives step sound = goes_on h e sid (life_of sid h) life refl
+      (sym (life_of-stays sid h e is) ∙ lives) step sound
+  turned h e sid (Some (Begins admission)) life is lives step sound =
+      let begun : Some (record { admission = admission; since = [] }) ≡ Some life =
+      sym (life_of-begins sid h e admission is) ∙ lives in
+      sound_new c sid life
+      (ap (λ (l : Life). l.since) (let same : life ≡ record { admission = admission; since = [] } = cc in same))
+  turned h e sid (Some Ends) life is lives step sound =
+      absurd (let none : None ≡ Some life = sym (life_of-ends sid h e is) ∙ lives in cc)
+
+  -- every life of a legal history is sound
+  lives_sound : (h : List Entry) → IsLegal c h → HasSoundLives c h
+  lives_sound = legal_induction c (HasSoundLives c)
+      (λ h e legal step sound sid life lives. turned h e sid (turn_by sid e.call e.reply) life refl lives step sound)
+      (λ sid life none. absurd (cc))
+
+  -- and so every live flow
+  flow_sound : (h : List Entry) (sid : ℕ) (f : LiveFlow) → IsLegal c h
+      → option_map (flow_in_life sid) (life_of sid h) ≡ Some f
+      → IsSoundFlow c f
+  flow_sound h sid f legal is =
+      let said : (life : Life) × (life_of sid h ≡ Some life) × (flow_in_life sid life ≡ f) =
+      flow_said sid (life_of sid h) f is in
+      subst (IsSoundFlow c) said.2 (lives_sound h legal sid said.0 said.1)
+
+  -- no live flow was granted more than it asked
+  pub within_asked : (h : List Entry) → IsLegal c h → AllByRecursion IsWithinAsked (flows_of h)
+  within_asked h legal = all-chosen IsWithinAsked (λ sid. option_map (flow_in_life sid) (life_of sid h)) sids
+      (λ sid f is. (flow_sound h sid f legal is).within)
+
+  -- the grants of each keep its rate ceiling
+  pub within_rate : (h : List Entry) → IsLegal c h → AllByRecursion (IsWithinRate c) (flows_of h)
+  within_rate h legal = all-chosen (IsWithinRate c) (λ sid. option_map (flow_in_life sid) (life_of sid h)) sids
+      (λ sid f is. (flow_sound h sid f legal is).kept)

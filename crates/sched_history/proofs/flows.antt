@@ -1,0 +1,6 @@
+-- The live flows and placements after one call more, by its kind.
+pub mod Refused
+pub mod FlowCalls
+pub mod Admissions
+pub mod MapGrants
+pub mod BuildCall

@@ -1,0 +1,50 @@
+-- The live flows after a MAP.
+use Rattle.std.proofs.Common.{◌≡◌, ℕ, ◌+◌, List, [], ◌∷◌, ◌++◌, refl, ap, ◌∙◌, arith}
+use Rattle.std.specs.List.{AllByRecursion}
+use Rattle.minislots.specs.declared.config.Config.{Config}
+use Rattle.minislots.specs.declared.stamp.Stamp.{Stamp}
+use Rattle.flow_book.specs.Flows.{LiveFlow}
+use Rattle.flow_book.specs.declared.flow.Grant.{Grant}
+use Rattle.map_build.specs.declared.frame_map.FrameMap.{FrameMap}
+use Rattle.map_build.specs.Plan.{Allocation, grants_to, flow_after, flows_after}
+use Rattle.map_build.specs.FrameMap.{map_of}
+use Rattle.sched_history.specs.declared.call.Call.TheVariants as calls
+use Rattle.sched_history.specs.declared.reply.Reply.TheVariants as replies
+use Rattle.sched_history.specs.declared.reply.Entry.{Entry}
+use Rattle.sched_history.specs.Life.{grants_of_map, flows_of}
+use Rattle.sched_history.specs.Time.{next_after}
+use Rattle.sched_history.specs.History.{IsNextMap}
+use Rattle.sched_history.proofs.lives.FlowsAfter.{grown_by, flows_of-grown}
+use Rattle.sched_history.proofs.flows.FlowCalls.{map-each}
+use Rattle.sched_history.proofs.flows.MapGrants.{HasBytes, plan-HasBytes, grants_of_map-plan}
+
+granted_flow : (f : LiveFlow) (grants more : List Grant) → grants ≡ more
+    → record f { asked = f.asked + 0; grants = f.grants ++ grants } ≡ record f { grants = f.grants ++ more }
+granted_flow f grants more same = let none : f.asked + 0 ≡ f.asked = omega arith in rw (none, same) refl
+
+module _ (stamp : Stamp) (h : List Entry) (now : ℕ) (m : FrameMap) where
+  -- each live flow has the data grants that the MAP has for it
+  pub flows_of-build : (start : ℕ) (plan : List Allocation)
+      → ((sid : ℕ) → grants_of_map sid m ≡ grants_to start sid plan)
+      → flows_of (h ++ record { stamp = stamp; call = calls.Build now; reply = replies.Built m } ∷ [])
+      ≡ flows_after start plan (flows_of h)
+  flows_of-build start plan reads =
+      let e : Entry = record { stamp = stamp; call = calls.Build now; reply = replies.Built m } in
+      flows_of-grown h e (λ sid. refl) ∙ map-each (grown_by e) (flow_after start plan) (flows_of h)
+      (λ f. granted_flow f (grants_of_map f.sid m) (grants_to start f.sid plan) (reads f.sid))
+
+  -- so too for the MAP of a plan in which each data grant has some bytes
+  pub flows_of-build_plan : (c : Config) (flows : List LiveFlow) (start ack : ℕ) (plan : List Allocation)
+      → AllByRecursion (λ a. HasBytes a.purpose) plan → m ≡ map_of c flows start ack plan
+      → flows_of (h ++ record { stamp = stamp; call = calls.Build now; reply = replies.Built m } ∷ [])
+      ≡ flows_after start plan (flows_of h)
+  flows_of-build_plan c flows start ack plan has is =
+      flows_of-build start plan (λ sid. ap (grants_of_map sid) is ∙ grants_of_map-plan sid start c flows ack plan has)
+
+  -- so too for the MAP of the next frame
+  pub flows_of-build_next : (c : Config) (next : IsNextMap c h m)
+      → flows_of (h ++ record { stamp = stamp; call = calls.Build now; reply = replies.Built m } ∷ [])
+      ≡ flows_after (next_after c h) next.0 (flows_of h)
+  flows_of-build_next c next =
+      flows_of-build_plan c (flows_of h) (next_after c h) _ next.0
+      (plan-HasBytes c (flows_of h) _ (next_after c h) next.0 next.1) next.2

@@ -1,0 +1,37 @@
+-- A refused call changes no live flow.
+use Rattle.std.proofs.Common.{◌≡◌, ℕ, List, [], ◌∷◌, ◌++◌, None, refl}
+use Rattle.minislots.specs.declared.stamp.Stamp.{Stamp}
+use Rattle.sched_history.specs.declared.call.Call.{Call}
+use Rattle.sched_history.specs.declared.call.Call.TheVariants as calls
+use Rattle.sched_history.specs.declared.reply.Refusal.{Refusal}
+use Rattle.sched_history.specs.declared.reply.Reply.TheVariants as replies
+use Rattle.sched_history.specs.declared.reply.Entry.{Entry}
+use Rattle.sched_history.specs.Life.{turn_by, asked_by, flows_of}
+use Rattle.sched_history.proofs.lives.FlowsAfter.{flows_of-quiet}
+
+turn_by-refused : (call : Call) (refusal : Refusal) (sid : ℕ) → turn_by sid call (replies.Refused refusal) ≡ None
+turn_by-refused (calls.Admit other spec) refusal sid = refl
+turn_by-refused (calls.Remove other) refusal sid = refl
+turn_by-refused (calls.Ask receiver other bytes heard) refusal sid = refl
+turn_by-refused (calls.Heard receiver upto) refusal sid = refl
+turn_by-refused (calls.Build now) refusal sid = refl
+turn_by-refused (calls.Skip now) refusal sid = refl
+turn_by-refused (calls.Status other) refusal sid = refl
+turn_by-refused calls.Newest refusal sid = refl
+
+asked_by-refused : (call : Call) (refusal : Refusal) (sid : ℕ) → asked_by sid call (replies.Refused refusal) ≡ 0
+asked_by-refused (calls.Admit other spec) refusal sid = refl
+asked_by-refused (calls.Remove other) refusal sid = refl
+asked_by-refused (calls.Ask receiver other bytes heard) refusal sid = refl
+asked_by-refused (calls.Heard receiver upto) refusal sid = refl
+asked_by-refused (calls.Build now) refusal sid = refl
+asked_by-refused (calls.Skip now) refusal sid = refl
+asked_by-refused (calls.Status other) refusal sid = refl
+asked_by-refused calls.Newest refusal sid = refl
+
+-- the live flows stay as they are
+pub flows_of-refused : (stamp : Stamp) (h : List Entry) (call : Call) (refusal : Refusal)
+    → flows_of (h ++ record { stamp = stamp; call = call; reply = replies.Refused refusal } ∷ []) ≡ flows_of h
+flows_of-refused stamp h call refusal =
+    flows_of-quiet h (record { stamp = stamp; call = call; reply = replies.Refused refusal })
+    (turn_by-refused call refusal) (asked_by-refused call refusal) (λ sid. refl)

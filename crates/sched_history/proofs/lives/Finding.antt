@@ -1,0 +1,99 @@
+-- The live flows and placements are found by their SIDs, and ascend.
+use Rattle.std.proofs.Common.{◌≡◌, ℕ, ◌≤◌, ◌<◌, false, ◌==◌, List, [], ◌∷◌, find}
+use Rattle.std.proofs.Common.{Option, None, Some, refl, sym, ap, arith}
+use Rattle.std.specs.Prelude.{is_some}
+use Rattle.std.specs.List.{AllByRecursion, filter_map}
+use Rattle.std.specs.Option.{option_map, option_and_then}
+use Rattle.std.proofs.lemmas.Bool.Decides.{nat_tests}
+use Rattle.flow_book.specs.declared.spec.FlowSpec.{FlowSpec}
+use Rattle.flow_book.specs.Flows.{LiveFlow, flow_of}
+use Rattle.flow_book.specs.Book.{Ascend}
+use Rattle.periodic.specs.declared.placement.Placement.{Placement}
+use Rattle.periodic.specs.Placement.{count_from, Placed}
+use Rattle.sched_history.specs.declared.reply.Entry.{Entry}
+use Rattle.sched_history.specs.Life.{Life, life_of, flow_in_life, placed_in_life, sids, flows_of, table_of}
+use Rattle.sched_history.specs.Refusal.{bad_sid, is_live}
+use Rattle.sched_history.proofs.lists.Numbered.{Ascends, HasNumber, filter_map-above, filter_map-below}
+use Rattle.sched_history.proofs.lists.Numbered.{filter_map-ascends, find-inside}
+
+-- how many SIDs there are, from 1 on
+pub sids-range : (n : ℕ) × (n ≡ 8191) × (sids ≡ count_from 1 n)
+unfolding sids
+sids-range = (8191, refl, refl)
+
+-- the live flow that a SID is after a history
+abbrev pub flow_at : List Entry → ℕ → Option LiveFlow
+flow_at h sid = option_map (flow_in_life sid) (life_of sid h)
+
+-- the placed flow that a SID is after a history
+abbrev pub placed_at : List Entry → ℕ → Option Placed
+placed_at h sid = option_and_then (placed_in_life sid) (life_of sid h)
+
+flow-number : (sid : ℕ) (o : Option Life) (f : LiveFlow) → option_map (flow_in_life sid) o ≡ Some f → f.sid ≡ sid
+flow-number sid None f is = absurd cc
+flow-number sid (Some life) f is = let same : flow_in_life sid life ≡ f = cc in sym (ap (λ g. g.sid) same)
+
+-- a live flow has its SID
+pub flow_at-sid : (h : List Entry) → HasNumber (λ f. f.sid) (flow_at h)
+flow_at-sid h sid f is = flow-number sid (life_of sid h) f is
+
+placement-number : (sid : ℕ) (spec : FlowSpec) (placement : Option Placement) (p : Placed)
+    → option_map (λ placement. record { sid = sid; spec = spec; placement = placement }) placement ≡ Some p
+    → p.sid ≡ sid
+placement-number sid spec None p is = absurd cc
+placement-number sid spec (Some placement) p is =
+    let same : record { sid = sid; spec = spec; placement = placement } ≡ p = cc in sym (ap (λ q. q.sid) same)
+
+placed-number : (sid : ℕ) (o : Option Life) (p : Placed) → option_and_then (placed_in_life sid) o ≡ Some p → p.sid ≡ sid
+placed-number sid None p is = absurd cc
+placed-number sid (Some life) p is = placement-number sid life.admission.spec life.admission.placement p is
+
+-- a placed flow has its SID
+pub placed_at-sid : (h : List Entry) → HasNumber (λ p. p.sid) (placed_at h)
+placed_at-sid h sid p is = placed-number sid (life_of sid h) p is
+
+-- the live flow with a SID is the one of its life
+pub flow_of-flows_of : (sid : ℕ) (h : List Entry) → 1 ≤ sid → sid ≤ 8191
+    → flow_of sid (flows_of h) ≡ option_map (flow_in_life sid) (life_of sid h)
+flow_of-flows_of sid h low high =
+    rw sids-range.2
+    (find-inside (λ f. f.sid) (flow_at h) (flow_at-sid h) 1 sids-range.0 sid low (omega (arith, sids-range.1)))
+
+-- the placed flow with a SID is the one of its life
+pub find-table_of : (sid : ℕ) (h : List Entry) → 1 ≤ sid → sid ≤ 8191
+    → find (λ p. p.sid == sid) (table_of h) ≡ option_and_then (placed_in_life sid) (life_of sid h)
+find-table_of sid h low high =
+    rw sids-range.2
+    (find-inside (λ p. p.sid) (placed_at h) (placed_at-sid h) 1 sids-range.0 sid low (omega (arith, sids-range.1)))
+
+-- every live flow has a SID that a flow may have
+pub flows_of-sids : (h : List Entry) → AllByRecursion (λ f. 1 ≤ f.sid) (flows_of h)
+    × AllByRecursion (λ f. f.sid < 8192) (flows_of h)
+flows_of-sids h = rw sids-range.2 (
+  filter_map-above (λ f. f.sid) (flow_at h) (flow_at-sid h) 0 1 sids-range.0 (omega arith),
+  filter_map-below (λ f. f.sid)
+      (flow_at h) (flow_at-sid h) 8192 1 sids-range.0 (omega (arith, sids-range.1)),
+)
+
+ascend-from : (flows : List LiveFlow) → Ascends (λ f. f.sid) flows → Ascend flows
+ascend-from [] up = tt
+ascend-from (f ∷ flows) up = (up.0, ascend-from flows up.1)
+
+-- the SIDs of the live flows ascend
+pub flows_of-ascend : (h : List Entry) → Ascend (flows_of h)
+flows_of-ascend h =
+    rw sids-range.2
+    (ascend-from (filter_map (flow_at h) (count_from 1 sids-range.0))
+    (filter_map-ascends (λ f. f.sid) (flow_at h) (flow_at-sid h) 1 sids-range.0))
+
+-- the SIDs of flows are those that are not refused
+pub good_sid : (sid : ℕ) → bad_sid sid ≡ false → (1 ≤ sid) × (sid ≤ 8191)
+good_sid sid good = (grind (arith, nat_tests), grind (arith, nat_tests))
+
+no_life : (o : Option Life) → is_some o ≡ false → o ≡ None
+no_life None dead = refl
+no_life (Some life) dead = absurd cc
+
+-- a SID that is not live has no life
+pub life_of-dead : (sid : ℕ) (h : List Entry) → is_live sid h ≡ false → life_of sid h ≡ None
+life_of-dead sid h dead = no_life (life_of sid h) dead

@@ -1,0 +1,61 @@
+-- In a legal history the placed flows are the live periodic ones, in their order.
+use Rattle.std.proofs.Common.{◌≡◌, ℕ, Bool, cond, List, [], ◌∷◌, map, Option, None, Some, refl}
+use Rattle.std.specs.Prelude.{is_some}
+use Rattle.std.specs.List.{filter, filter_map, cons_option}
+use Rattle.std.specs.Option.{option_map, option_and_then}
+use Rattle.minislots.specs.declared.config.Config.{Config}
+use Rattle.flow_book.specs.FlowSpec.{is_periodic}
+use Rattle.flow_book.specs.Flows.{LiveFlow}
+use Rattle.periodic.specs.declared.placement.Placement.{Placement}
+use Rattle.periodic.specs.Placement.{Placed}
+use Rattle.map_build.specs.Spots.{ArePeriodicOf}
+use Rattle.sched_history.specs.declared.reply.Entry.{Entry}
+use Rattle.sched_history.specs.Life.{Life, life_of, flow_in_life, placed_in_life, sids, flows_of, table_of}
+use Rattle.sched_history.specs.History.{IsLegal}
+use Rattle.sched_history.proofs.placements.Counts.{IsPaired, life_of-pairs}
+use Rattle.sched_history.proofs.lives.Finding.{flow_at, placed_at}
+
+-- a life adds its key to both lists, or to neither
+keyed : {K : Type 0} (kp : Placed → K) (kf : LiveFlow → K)
+    → ((sid : ℕ) (life : Life) (p : Placement) → kp (record { sid = sid; spec = life.admission.spec; placement = p })
+    ≡ kf
+    (flow_in_life sid life))
+    → (sid : ℕ) (life : Life) (placement : Option Placement) (periodic : Bool) → is_some placement ≡ periodic
+    → (ps : List Placed) (fs : List LiveFlow) → map kp ps ≡ map kf fs
+    → map kp (cons_option
+    (option_map (λ p. record { sid = sid; spec = life.admission.spec; placement = p }) placement) ps) ≡ map kf
+    (cond periodic (flow_in_life sid life ∷ fs) fs)
+keyed kp kf same sid life None periodic paired ps fs rest = rw (← paired) rest
+keyed kp kf same sid life (Some p) periodic paired ps fs rest = rw (← paired, same sid life p, rest) refl
+
+keyed-life : {K : Type 0} (kp : Placed → K) (kf : LiveFlow → K)
+    → ((sid : ℕ) (life : Life) (p : Placement) → kp (record { sid = sid; spec = life.admission.spec; placement = p })
+    ≡ kf
+    (flow_in_life sid life))
+    → (sid : ℕ) (o : Option Life) → ((life : Life) → o ≡ Some life → IsPaired life.admission)
+    → (ps : List Placed) (fs : List LiveFlow)
+    → map kp ps ≡ map kf (filter (λ f. is_periodic f.spec) fs)
+    → map kp (cons_option (option_and_then (placed_in_life sid) o) ps) ≡ map kf
+    (filter (λ f. is_periodic f.spec) (cons_option (option_map (flow_in_life sid) o) fs))
+keyed-life kp kf same sid None paired ps fs rest = rest
+keyed-life kp kf same sid (Some life) paired ps fs rest =
+    keyed kp kf same sid life life.admission.placement (is_periodic life.admission.spec) (paired life refl) ps
+    (filter (λ f. is_periodic f.spec) fs) rest
+
+keyed_all : {K : Type 0} (kp : Placed → K) (kf : LiveFlow → K)
+    → ((sid : ℕ) (life : Life) (p : Placement) → kp (record { sid = sid; spec = life.admission.spec; placement = p })
+    ≡ kf
+    (flow_in_life sid life))
+    → (h : List Entry) (xs : List ℕ) → ((sid : ℕ) (life : Life) → life_of sid h ≡ Some life → IsPaired life.admission)
+    → map kp (filter_map (placed_at h) xs) ≡ map kf (filter (λ f. is_periodic f.spec) (filter_map (flow_at h) xs))
+keyed_all kp kf same h [] paired = refl
+keyed_all kp kf same h (x ∷ xs) paired = keyed-life kp kf same x (life_of x h) (paired x) (filter_map (placed_at h) xs)
+    (filter_map (flow_at h) xs) (keyed_all kp kf same h xs paired)
+
+-- the placed flows are the live periodic ones, in their order
+pub ArePeriodicOf-legal : (c : Config) (h : List Entry) → IsLegal c h → ArePeriodicOf (flows_of h) (table_of h)
+ArePeriodicOf-legal c h legal = record {
+  sids = keyed_all (λ p. p.sid) (λ f. f.sid) (λ sid life p. refl) h sids (λ sid life. life_of-pairs c h sid life legal);
+  specs = keyed_all (λ p. p.spec) (λ f. f.spec) (λ sid life p. refl) h sids
+      (λ sid life. life_of-pairs c h sid life legal);
+}

@@ -1,0 +1,100 @@
+-- A plan's data grants keep each flow within what it asked and within its rate ceiling.
+use Rattle.std.proofs.Common.{◌≡◌, ℕ, ◌+◌, Bool, true, false, ◌==◌, List, [], ◌∷◌, ◌++◌, None}
+use Rattle.std.proofs.Common.{Some, refl, sym, ap, ◌∙◌, subst, Contains, append_assoc, arith}
+use Rattle.std.proofs.lemmas.Bool.{eqb-true}
+use Rattle.std.proofs.lemmas.List.{append-nil}
+use Rattle.std.proofs.lemmas.List.Elements.{filter_map-append}
+use Rattle.std.proofs.lemmas.List.Sums.{sum_by_push}
+use Rattle.minislots.specs.declared.config.Config.{Config}
+use Rattle.flow_book.specs.declared.flow.Grant.{Grant}
+use Rattle.flow_book.specs.Flows.{LiveFlow, with_grant}
+use Rattle.flow_book.specs.Choice.{IsAmount}
+use Rattle.flow_book.specs.Entry.{IsSoundFlow}
+use Rattle.periodic.specs.declared.placement.Spot.{Spot}
+use Rattle.map_build.specs.EachAfter.{EachAfter}
+use Rattle.map_build.specs.Plan.{Purpose, Poll, UnsolicitedGrant, DataGrant, Idle, Allocation, grant_to}
+use Rattle.map_build.specs.Plan.{flow_after, flows_after, room_at, Stands, StandsByItsRule}
+use Rattle.sched_history.proofs.lists.Members.{IsImage, Contains-map}
+
+-- a flow is sound with a grant more of the amount
+sound_with : (c : Config) (f : LiveFlow) (start room bytes : ℕ) → IsSoundFlow c f → IsAmount c f start room bytes
+    → IsSoundFlow c (with_grant (record { start = start; bytes = bytes }) f)
+sound_with c f start room bytes sound amount = record {
+  within = omega (
+    arith,
+    sum_by_push (λ (g : Grant). g.bytes) f.grants (record { start = start; bytes = bytes }),
+    sound.within,
+    amount.allowed.asked,
+  );
+  kept = amount.allowed.taken.ceiling;
+}
+
+-- a flow after one allocation more, that grants it nothing, or a grant
+after_other : (start : ℕ) (before : List Allocation) (a : Allocation) (f : LiveFlow)
+    → grant_to start f.sid a.purpose a.offset ≡ None
+    → flow_after start (before ++ a ∷ []) f ≡ flow_after start before f
+after_other start before a f none =
+    rw (
+      filter_map-append (λ (a : Allocation). grant_to start f.sid a.purpose a.offset) before (a ∷ []),
+      none,
+      append-nil,
+    ) refl
+
+after_grant : (start : ℕ) (before : List Allocation) (a : Allocation) (f : LiveFlow) (g : Grant)
+    → grant_to start f.sid a.purpose a.offset ≡ Some g
+    → flow_after start (before ++ a ∷ []) f ≡ with_grant g (flow_after start before f)
+after_grant start before a f g some =
+    rw (
+      filter_map-append (λ (a : Allocation). grant_to start f.sid a.purpose a.offset) before (a ∷ []),
+      some,
+      append_assoc,
+    ) refl
+
+module _ (c : Config) (flows : List LiveFlow) (spots : List Spot) (start : ℕ) (f : LiveFlow)
+    (alone : (g : LiveFlow) → Contains flows g → g.sid ≡ f.sid → g ≡ f) where
+  -- the flow after these is the only one of its SID
+  only_after : (before : List Allocation) (g : LiveFlow) → Contains (flows_after start before flows) g → g.sid ≡ f.sid
+      → flow_after start before f ≡ g
+  only_after before g live same =
+      let image : IsImage (flow_after start before) flows g = Contains-map (flow_after start before) flows g live in
+      ap (flow_after start before)
+      (sym (alone image.origin image.member (ap (λ (g : LiveFlow). g.sid) image.same ∙ same))) ∙ image.same
+
+  sound_grant : (before : List Allocation) (a : Allocation) (other bytes : ℕ) (same : Bool) → other == f.sid ≡ same
+      → a.purpose ≡ DataGrant other bytes
+      → StandsByItsRule c flows spots start before a.offset a.slots (DataGrant other bytes)
+      → IsSoundFlow c (flow_after start before f)
+      → IsSoundFlow c (flow_after start (before ++ a ∷ []) f)
+  sound_grant before a other bytes false test is stands sound =
+      let none : grant_to start f.sid (DataGrant other bytes) a.offset ≡ None = rw test refl in
+      rw (after_other start before a f (ap (λ p. grant_to start f.sid p a.offset) is ∙ none)) sound
+  sound_grant before a other bytes true test is stands sound =
+      let g : LiveFlow = stands.1 in
+      let some : grant_to start f.sid (DataGrant other bytes) a.offset
+      ≡ Some (record { start = start + a.offset; bytes = bytes }) =
+      rw test refl in
+      let them : flow_after start before f ≡ g =
+      only_after before g stands.3.live (stands.2 ∙ eqb-true other f.sid test) in
+      rw (after_grant start before a f (record { start = start + a.offset; bytes = bytes })
+      (ap (λ p. grant_to start f.sid p a.offset) is ∙ some))
+      (sound_with c (flow_after start before f) (start + a.offset) (room_at c spots a.offset) bytes sound
+      (subst (λ g. IsAmount c g (start + a.offset) (room_at c spots a.offset) bytes) (sym them) stands.4))
+
+  sound_more : (before : List Allocation) (a : Allocation) (purpose : Purpose) → a.purpose ≡ purpose
+      → StandsByItsRule c flows spots start before a.offset a.slots purpose → IsSoundFlow c (flow_after start before f)
+      → IsSoundFlow c (flow_after start (before ++ a ∷ []) f)
+  sound_more before a (Poll sid) is stands sound =
+      rw (after_other start before a f (ap (λ p. grant_to start f.sid p a.offset) is)) sound
+  sound_more before a (UnsolicitedGrant sid) is stands sound =
+      rw (after_other start before a f (ap (λ p. grant_to start f.sid p a.offset) is)) sound
+  sound_more before a (DataGrant sid bytes) is stands sound =
+      sound_grant before a sid bytes (sid == f.sid) refl is stands sound
+  sound_more before a Idle is stands sound =
+      rw (after_other start before a f (ap (λ p. grant_to start f.sid p a.offset) is)) sound
+
+  -- a flow that is sound before some allocations is sound after them
+  pub sound_plan : (before plan : List Allocation) → EachAfter (Stands c flows spots start) before plan
+      → IsSoundFlow c (flow_after start before f) → IsSoundFlow c (flow_after start (before ++ plan) f)
+  sound_plan before [] each sound = rw append-nil sound
+  sound_plan before (a ∷ plan) each sound = rw append_assoc at
+      (sound_plan (before ++ a ∷ []) plan each.1 (sound_more before a a.purpose refl each.0.purpose sound))

@@ -1,0 +1,114 @@
+-- A worked history of one flow under a rate ceiling: two grants by the room, one by the ceiling, and a frame without.
+use Rattle.std.proofs.Common.{◌≡◌, ◌≢◌, ℕ, List, [], ◌∷◌, ◌++◌, None, refl, sym, lit≤}
+use Rattle.std.proofs.lemmas.Bool.{ne_eqb}
+use Rattle.flow_book.specs.declared.spec.FlowSpec.{FlowSpec}
+use Rattle.flow_book.specs.declared.spec.FlowSpec.TheVariants.{BestEffort}
+use Rattle.flow_book.specs.FlowSpec.{first_fault}
+use Rattle.flow_book.proofs.Base.{base}
+use Rattle.flow_book.proofs.RowsCeiling.{under_ceiling, grant, limited, exhausted}
+use Rattle.map_build.proofs.RowsFirstGrant.{first_grant, a_first_grant_fills_the_room}
+use Rattle.map_build.proofs.RowsCeiling.{second_grant, a_second_grant_fills_the_room, ceiling_map}
+use Rattle.map_build.proofs.RowsCeiling.{a_frame_with_a_grant_at_the_ceiling, waiting_map}
+use Rattle.map_build.proofs.RowsCeiling.{a_frame_that_idles_at_the_ceiling}
+use Rattle.sched_history.specs.declared.call.Call.TheVariants.{Admit, Ask, Build, Status}
+use Rattle.sched_history.specs.declared.reply.Reply.TheVariants.{Admitted, Taken, Built, Flow}
+use Rattle.sched_history.specs.declared.reply.Entry.{Entry}
+use Rattle.sched_history.specs.Life.{Life, life_of}
+use Rattle.sched_history.specs.History.{IsStep, IsLegal}
+use Rattle.sched_history.proofs.lives.LiveFlows.{flows_of-none, flows_of-one, table_of-unplaced_one}
+use Rattle.sched_history.proofs.rows.NextMap.{IsNextMap-from_lawful}
+use Rattle.sched_history.proofs.rows.TwoMaps.{entry, built, the_first_map_may_follow_nothing}
+
+-- 64000 bits in a second, and bursts of 1600 bytes
+abbrev spec : FlowSpec
+spec = BestEffort 3 64000 1600
+
+-- its request
+abbrev request : Entry
+request = entry 2 (Ask 0 17 3000 801) Taken
+
+-- the history up to the request, and then these entries
+abbrev asked : List Entry → List Entry
+asked rest = built ∷ entry 1 (Admit 17 spec) (Admitted None) ∷ request ∷ rest
+
+-- the MAPs of its grants
+abbrev one : List Entry
+one = entry 3 (Build 800) (Built first_grant) ∷ []
+
+abbrev two : List Entry
+two = one ++ entry 4 (Build 840) (Built second_grant) ∷ []
+
+abbrev three : List Entry
+three = two ++ entry 5 (Build 880) (Built ceiling_map) ∷ []
+
+abbrev four : List Entry
+four = three ++ entry 6 (Build 920) (Built waiting_map) ∷ []
+
+-- its life
+abbrev life : List Entry → Life
+life rest = record { admission = record { spec = spec; placement = None }; since = request ∷ rest }
+
+-- no other SID has a life at any time
+others : (sid : ℕ) → sid ≢ 17 → (life_of sid (asked []) ≡ None) × (life_of sid (asked one) ≡ None)
+    × (life_of sid (asked two) ≡ None) × (life_of sid (asked three) ≡ None)
+others sid other = rw (ne_eqb 17 sid (λ e. other (sym e))) (refl, refl, refl, refl)
+
+-- the flow is admitted
+admits : IsStep base (built ∷ []) (Admit 17 spec) (Admitted None)
+unfolding first_fault
+admits = rw (flows_of-none (built ∷ []) (λ sid. refl)) refl
+
+-- 544 bytes fill the first frame
+grants_first : IsStep base (asked []) (Build 800) (Built first_grant)
+grants_first = (
+  first_grant,
+  IsNextMap-from_lawful base (asked []) (under_ceiling [] ∷ []) [] first_grant
+      (flows_of-one (asked []) 17 (life []) (lit≤ tt) (lit≤ tt) refl (λ sid other. (others sid other).0))
+      (table_of-unplaced_one (asked []) 17 (life []) refl refl (λ sid other. (others sid other).0))
+      (a_first_grant_fills_the_room 1600 (lit≤ tt)),
+  refl,
+)
+
+-- and the second
+grants_second : IsStep base (asked one) (Build 840) (Built second_grant)
+grants_second = (
+  second_grant,
+  IsNextMap-from_lawful base (asked one) (under_ceiling (grant 844 544 ∷ []) ∷ []) [] second_grant
+      (flows_of-one (asked one) 17 (life one) (lit≤ tt) (lit≤ tt) refl (λ sid other. (others sid other).1))
+      (table_of-unplaced_one (asked one) 17 (life one) refl refl (λ sid other. (others sid other).1))
+      a_second_grant_fills_the_room,
+  refl,
+)
+
+-- in the third the ceiling leaves 528
+grants_third : IsStep base (asked two) (Build 880) (Built ceiling_map)
+grants_third = (
+  ceiling_map,
+  IsNextMap-from_lawful base (asked two) (limited ∷ []) [] ceiling_map
+      (flows_of-one (asked two) 17 (life two) (lit≤ tt) (lit≤ tt) refl (λ sid other. (others sid other).2))
+      (table_of-unplaced_one (asked two) 17 (life two) refl refl (λ sid other. (others sid other).2))
+      a_frame_with_a_grant_at_the_ceiling,
+  refl,
+)
+
+-- in the fourth less than the quantum
+grants_nothing : IsStep base (asked three) (Build 920) (Built waiting_map)
+grants_nothing = (
+  waiting_map,
+  IsNextMap-from_lawful base (asked three) (exhausted ∷ []) [] waiting_map
+      (flows_of-one (asked three) 17 (life three) (lit≤ tt) (lit≤ tt) refl (λ sid other. (others sid other).3))
+      (table_of-unplaced_one (asked three) 17 (life three) refl refl (λ sid other. (others sid other).3))
+      a_frame_that_idles_at_the_ceiling,
+  refl,
+)
+
+-- a status sums the requests and the data grants of all MAPs since the admission
+pub a_status_sums_requests_and_grants : IsStep base (asked four) (Status 17) (Flow 3000 1616 1384)
+a_status_sums_requests_and_grants = refl
+
+-- the history is legal
+pub four_maps_under_a_ceiling : IsLegal base (asked (four ++ entry 7 (Status 17) (Flow 3000 1616 1384) ∷ []))
+four_maps_under_a_ceiling = (
+  the_first_map_may_follow_nothing,
+  (admits, (refl, (grants_first, (grants_second, (grants_third, (grants_nothing, (refl, tt))))))),
+)

@@ -1,0 +1,11 @@
+-- What a scheduler keeps of its history, before any call and after each kind of call.
+pub mod Opening
+pub mod Present
+pub mod Sums
+pub mod Moves
+pub mod Inside
+pub mod Recording
+pub mod Building
+pub mod CountedElements
+pub mod Entering
+pub mod Newest

@@ -1,0 +1,211 @@
+-- The fields that stand for a history with one call more.
+use Rattle.std.proofs.Common.{◌≡◌, ◌≢◌, ℕ, ◌+◌, ◌≤◌, ◌<◌, List, [], ◌∷◌, ◌++◌, length}
+use Rattle.std.proofs.Common.{set, None, Some, refl, sym, ap, ◌∙◌, arith, inl, inr}
+use Rattle.std.specs.Prelude.{◌==◌, if◌then◌else◌}
+use Rattle.std.specs.List.{zip}
+use Rattle.std.proofs.lemmas.Bool.{cases_eq}
+use Rattle.std.proofs.lemmas.Bool.Decides.{nat_tests}
+use Rattle.std.proofs.lemmas.List.{length-set, get_or-set_same, get_or-set_other}
+use Rattle.minislots.specs.declared.stamp.Stamp.{Stamp}
+use Rattle.flow_book.specs.declared.spec.FlowSpec.{FlowSpec}
+use Rattle.flow_book.specs.Flows.{LiveFlow}
+use Rattle.flow_book.specs.Book.{BookView, with_flow, new_flow, without, changed, with_asked}
+use Rattle.periodic.specs.declared.placement.Placement.{Placement}
+use Rattle.periodic.specs.Table.{with_placed, without as without_placed}
+use Rattle.map_build.specs.declared.frame_map.FrameMap.{FrameMap}
+use Rattle.sched_history.specs.declared.scheduler.state.State.{State}
+use Rattle.sched_history.specs.declared.call.Call.{Call}
+use Rattle.sched_history.specs.declared.call.Call.TheVariants as calls
+use Rattle.sched_history.specs.declared.reply.Reply.{Reply}
+use Rattle.sched_history.specs.declared.reply.Reply.TheVariants as replies
+use Rattle.sched_history.specs.declared.reply.Entry.{Entry}
+use Rattle.sched_history.specs.Life.{life_of, flows_of}
+use Rattle.sched_history.specs.State.{IsStateAfter, IsQuiet, with_grants, flows_with}
+use Rattle.sched_history.proofs.lives.FlowsAfter.{grown_by, flows_of-quiet, flows_of-grown, table_of-stays}
+use Rattle.sched_history.proofs.flows.FlowCalls.{map-each, flows_of-ask, table_of-ask, flows_of-remove, table_of-remove}
+use Rattle.sched_history.proofs.flows.Admissions.{flows_of-admit, table_of-admit_placed, table_of-admit_unplaced}
+use Rattle.sched_history.proofs.time.TimeAfter.{next_after-same, next_after-built, next_after-skipped}
+use Rattle.sched_history.proofs.time.TimeAfter.{progress_of-same, progress_of-noted}
+
+-- a note is of its receiver alone
+noted : (receiver upto : ℕ) → (if receiver == receiver then Some upto else None) ≡ Some upto
+noted receiver upto = grind (arith, nat_tests)
+
+not_noted : (receiver other upto : ℕ) → receiver ≢ other → (if receiver == other then Some upto else None) ≡ None
+not_noted receiver other upto differ = grind (arith, nat_tests)
+
+module _ (s : State) (h : List Entry) (is_after : IsStateAfter s h) (stamp : Stamp) where
+  -- the call and its reply, with the stamp
+  abbrev entry : Call → Reply → Entry
+  entry call reply = record { stamp = stamp; call = call; reply = reply }
+
+  -- after a call on which nothing depends
+  pub IsStateAfter-quiet : (call : Call) (reply : Reply) → IsQuiet call reply
+      → IsStateAfter s (h ++ record { stamp = stamp; call = call; reply = reply } ∷ [])
+  IsStateAfter-quiet call reply quiet =
+      let e : Entry = entry call reply in
+      record {
+        lawful = is_after.lawful;
+        book_config = is_after.book_config;
+        table_config = is_after.table_config;
+        flows = is_after.flows ∙ sym (flows_of-quiet h e quiet.turns quiet.asks quiet.grants);
+        placed = is_after.placed ∙ sym (table_of-stays h e quiet.turns);
+        next = is_after.next ∙ sym (next_after-same s.config h e quiet.skips quiet.builds);
+        places = is_after.places;
+        progress =
+            λ receiver below. is_after.progress receiver below
+            ∙ sym (progress_of-same s.config receiver h e (quiet.notes receiver));
+      }
+
+  -- after a request
+  pub IsStateAfter-asked : (receiver sid bytes heard : ℕ) (book : BookView)
+      → book ≡ record s.book { flows = changed sid (with_asked bytes) s.book.flows }
+      → IsStateAfter (record s { book = book })
+      (h ++ record { stamp = stamp; call = calls.Ask receiver sid bytes heard; reply = replies.Taken } ∷ [])
+  IsStateAfter-asked receiver sid bytes heard book asked =
+      let e : Entry = entry (calls.Ask receiver sid bytes heard) replies.Taken in
+      record {
+        lawful = is_after.lawful;
+        book_config = ap (λ b. b.config) asked ∙ is_after.book_config;
+        table_config = is_after.table_config;
+        flows = ap (λ b. b.flows) asked ∙ ap (changed sid (with_asked bytes)) is_after.flows
+            ∙ sym (flows_of-ask stamp h receiver sid bytes heard);
+        placed = is_after.placed ∙ sym (table_of-ask stamp h receiver sid bytes heard);
+        next = is_after.next ∙ sym (next_after-same s.config h e refl refl);
+        places = is_after.places;
+        progress = λ other below. is_after.progress other below ∙ sym (progress_of-same s.config other h e refl);
+      }
+
+  -- after a removal
+  pub IsStateAfter-removed : (sid : ℕ) (s' : State) → s' ≡ record s { book = s'.book; table = s'.table }
+      → s'.book.config ≡ s.book.config
+      → s'.book.flows ≡ without sid s.book.flows
+      → s'.table.config ≡ s.table.config → s'.table.placed ≡ without_placed sid s.table.placed
+      → IsStateAfter s' (h ++ record { stamp = stamp; call = calls.Remove sid; reply = replies.Removed } ∷ [])
+  IsStateAfter-removed sid s' same book_config flows table_config placed =
+      let e : Entry = entry (calls.Remove sid) replies.Removed in
+      let t : State = record s { book = s'.book; table = s'.table } in
+      let after : IsStateAfter t (h ++ e ∷ []) = record {
+        lawful = is_after.lawful;
+        book_config = book_config ∙ is_after.book_config;
+        table_config = table_config ∙ is_after.table_config;
+        flows = flows ∙ ap (without sid) is_after.flows ∙ sym (flows_of-remove stamp h sid);
+        placed = placed ∙ ap (without_placed sid) is_after.placed ∙ sym (table_of-remove stamp h sid);
+        next = is_after.next ∙ sym (next_after-same s.config h e refl refl);
+        places = is_after.places;
+        progress = λ other below. is_after.progress other below ∙ sym (progress_of-same s.config other h e refl);
+      } in
+      rw same after
+
+  -- after an admission without a place
+  pub IsStateAfter-admitted : (sid : ℕ) (spec : FlowSpec) (book : BookView) → life_of sid h ≡ None → 1 ≤ sid
+      → sid ≤ 8191
+      → book.config ≡ s.book.config → book.flows ≡ with_flow (new_flow sid spec) s.book.flows
+      → IsStateAfter (record s { book = book })
+      (h ++ record { stamp = stamp; call = calls.Admit sid spec; reply = replies.Admitted None } ∷ [])
+  IsStateAfter-admitted sid spec book fresh low high config flows =
+      let e : Entry = entry (calls.Admit sid spec) (replies.Admitted None) in
+      record {
+        lawful = is_after.lawful;
+        book_config = config ∙ is_after.book_config;
+        table_config = is_after.table_config;
+        flows = flows ∙ ap (with_flow (new_flow sid spec)) is_after.flows
+            ∙ sym (flows_of-admit stamp h sid spec None fresh low high);
+        placed = is_after.placed ∙ sym (table_of-admit_unplaced stamp h sid spec fresh);
+        next = is_after.next ∙ sym (next_after-same s.config h e refl refl);
+        places = is_after.places;
+        progress = λ other below. is_after.progress other below ∙ sym (progress_of-same s.config other h e refl);
+      }
+
+  -- after an admission with a place
+  pub IsStateAfter-placed : (sid : ℕ) (spec : FlowSpec) (p : Placement) (s' : State)
+      → s' ≡ record s { book = s'.book; table = s'.table }
+      → life_of sid h ≡ None → 1 ≤ sid → sid ≤ 8191
+      → s'.book.config ≡ s.book.config → s'.book.flows ≡ with_flow (new_flow sid spec) s.book.flows
+      → s'.table.config ≡ s.table.config → s'.table.placed
+      ≡ with_placed (record { sid = sid; spec = spec; placement = p }) s.table.placed
+      → IsStateAfter s'
+      (h ++ record { stamp = stamp; call = calls.Admit sid spec; reply = replies.Admitted (Some p) } ∷ [])
+  IsStateAfter-placed sid spec p s' same fresh low high book_config flows table_config placed =
+      let e : Entry = entry (calls.Admit sid spec) (replies.Admitted (Some p)) in
+      let t : State = record s { book = s'.book; table = s'.table } in
+      let after : IsStateAfter t (h ++ e ∷ []) = record {
+        lawful = is_after.lawful;
+        book_config = book_config ∙ is_after.book_config;
+        table_config = table_config ∙ is_after.table_config;
+        flows = flows ∙ ap (with_flow (new_flow sid spec)) is_after.flows
+            ∙ sym (flows_of-admit stamp h sid spec (Some p) fresh low high);
+        placed = placed ∙ ap (with_placed (record { sid = sid; spec = spec; placement = p })) is_after.placed
+            ∙ sym (table_of-admit_placed stamp h sid spec p fresh low high);
+        next = is_after.next ∙ sym (next_after-same s.config h e refl refl);
+        places = is_after.places;
+        progress = λ other below. is_after.progress other below ∙ sym (progress_of-same s.config other h e refl);
+      } in
+      rw same after
+
+  -- after a note of a receiver
+  pub IsStateAfter-heard : (receiver upto : ℕ) → receiver < length s.progress
+      → IsStateAfter (record s { progress = set s.progress receiver upto })
+      (h ++ record { stamp = stamp; call = calls.Heard receiver upto; reply = replies.Noted } ∷ [])
+  IsStateAfter-heard receiver upto within =
+      let e : Entry = entry (calls.Heard receiver upto) replies.Noted in
+      record {
+        lawful = is_after.lawful;
+        book_config = is_after.book_config;
+        table_config = is_after.table_config;
+        flows = is_after.flows ∙ sym (flows_of-quiet h e (λ sid. refl) (λ sid. refl) (λ sid. refl));
+        placed = is_after.placed ∙ sym (table_of-stays h e (λ sid. refl));
+        next = is_after.next ∙ sym (next_after-same s.config h e refl refl);
+        places = length-set s.progress receiver upto ∙ is_after.places;
+        progress = λ other below. elim (cases_eq receiver other) [
+          | inl same ↦ rw (← same) (get_or-set_same s.progress receiver upto 0 within
+              ∙ sym (progress_of-noted s.config receiver h e upto (noted receiver upto)))
+          | inr differ ↦ get_or-set_other s.progress receiver other upto 0 (λ same. differ (sym same))
+              ∙ is_after.progress other below
+              ∙ sym (progress_of-same s.config other h e (not_noted receiver other upto differ))
+        ];
+      }
+
+  -- after a skip
+  pub IsStateAfter-skipped : (now next : ℕ) → IsStateAfter (record s { next = next })
+      (h ++ record { stamp = stamp; call = calls.Skip now; reply = replies.Skipped next } ∷ [])
+  IsStateAfter-skipped now next =
+      let e : Entry = entry (calls.Skip now) (replies.Skipped next) in
+      record {
+        lawful = is_after.lawful;
+        book_config = is_after.book_config;
+        table_config = is_after.table_config;
+        flows = is_after.flows ∙ sym (flows_of-quiet h e (λ sid. refl) (λ sid. refl) (λ sid. refl));
+        placed = is_after.placed ∙ sym (table_of-stays h e (λ sid. refl));
+        next = sym (next_after-skipped s.config h e next refl);
+        places = is_after.places;
+        progress = λ other below. is_after.progress other below ∙ sym (progress_of-same s.config other h e refl);
+      }
+
+  grown-map : (now : ℕ) (m : FrameMap) (f : LiveFlow)
+      → grown_by (entry (calls.Build now) (replies.Built m)) f ≡ with_grants m.start
+      (zip m.wire.elements m.bytes) f
+  grown-map now m f = let none : f.asked + 0 ≡ f.asked = omega arith in rw none refl
+
+  -- after a MAP
+  pub IsStateAfter-built : (now : ℕ) (m : FrameMap) (s' : State) → s' ≡ record s { book = s'.book; next = s'.next }
+      → s'.book.config ≡ s.book.config → s'.book.flows ≡ flows_with m s.book.flows
+      → s'.next ≡ s.next + s.config.frame
+      → IsStateAfter s' (h ++ record { stamp = stamp; call = calls.Build now; reply = replies.Built m } ∷ [])
+  IsStateAfter-built now m s' same book_config flows next =
+      let e : Entry = entry (calls.Build now) (replies.Built m) in
+      let t : State = record s { book = s'.book; next = s'.next } in
+      let after : IsStateAfter t (h ++ e ∷ []) = record {
+        lawful = is_after.lawful;
+        book_config = book_config ∙ is_after.book_config;
+        table_config = is_after.table_config;
+        flows = flows ∙ ap (flows_with m) is_after.flows
+            ∙ sym (flows_of-grown h e (λ sid. refl) ∙ map-each (grown_by e)
+            (with_grants m.start (zip m.wire.elements m.bytes))
+            (flows_of h) (grown-map now m));
+        placed = is_after.placed ∙ sym (table_of-stays h e (λ sid. refl));
+        next = next ∙ ap (λ n. n + s.config.frame) is_after.next ∙ sym (next_after-built s.config h e m refl);
+        places = is_after.places;
+        progress = λ other below. is_after.progress other below ∙ sym (progress_of-same s.config other h e refl);
+      } in
+      rw same after

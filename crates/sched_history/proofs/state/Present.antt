@@ -1,0 +1,188 @@
+-- What the fields of a scheduler say of its history.
+use Rattle.std.proofs.Common.{◌≡◌, ◌≢◌, ℕ, ◌+◌, ◌*◌, ◌≤◌, ◌<◌, ◌^◌, Bool, true, false, ◌==◌, cond, List, []}
+use Rattle.std.proofs.Common.{◌∷◌, find, Option, None, Some, refl, sym, ap, ◌∙◌, subst, arith, length}
+use Rattle.std.specs.Prelude.{is_some, IsSome}
+use Rattle.std.specs.List.{AllByRecursion}
+use Rattle.std.specs.Option.{option_map, option_and_then, IfSome, MatchOption}
+use Rattle.minislots.specs.declared.config.Config.{Config}
+use Rattle.minislots.proofs.Bounds.{bounds_of}
+use Rattle.flow_book.specs.declared.spec.FlowSpec.{FlowSpec}
+use Rattle.flow_book.specs.declared.spec.FlowSpec.TheVariants.{Unsolicited, Polled, BestEffort}
+use Rattle.flow_book.specs.FlowSpec.{is_periodic}
+use Rattle.flow_book.specs.Flows.{flow_of}
+use Rattle.flow_book.specs.Book.{IsLive}
+use Rattle.periodic.specs.declared.placement.Placement.{Placement}
+use Rattle.periodic.specs.Placement.{Placed, IsPlacement}
+use Rattle.periodic.specs.Table.{IsPlaced, without as without_placed}
+use Rattle.sched_history.specs.declared.scheduler.state.State.{State}
+use Rattle.sched_history.specs.declared.reply.Reply.{Reply}
+use Rattle.sched_history.specs.declared.reply.Reply.TheVariants as replies
+use Rattle.sched_history.specs.declared.reply.Entry.{Entry}
+use Rattle.sched_history.specs.Life.{Life, life_of, flow_in_life, placed_in_life, table_of}
+use Rattle.sched_history.specs.Refusal.{bad_sid, is_live, most_bytes}
+use Rattle.sched_history.specs.Time.{next_after}
+use Rattle.sched_history.specs.History.{AnswersAdmit, PlacesOrRefuses, IsLegal, flow_status}
+use Rattle.sched_history.specs.Machine.{IsPlaceable}
+use Rattle.sched_history.specs.State.{IsStateAfter}
+use Rattle.sched_history.proofs.lives.Finding.{flow_of-flows_of, find-table_of, good_sid, life_of-dead}
+use Rattle.sched_history.proofs.placements.Counts.{IsPaired, life_of-pairs}
+use Rattle.sched_history.proofs.state.Sums.{find-all}
+use Rattle.sched_history.proofs.steps.Passed.{IsKnown}
+
+-- the parameters of a life
+abbrev pub spec_in : Life → FlowSpec
+spec_in life = life.admission.spec
+
+spec-map : (sid : ℕ) (o : Option Life) → option_map (λ f. f.spec) (option_map (flow_in_life sid) o)
+    ≡ option_map spec_in o
+spec-map sid None = refl
+spec-map sid (Some life) = refl
+
+live-from_test : (sid : ℕ) (o : Option Life) → is_some o ≡ true → IsSome (option_map (flow_in_life sid) o)
+live-from_test sid None e = absurd cc
+live-from_test sid (Some life) e = refl
+
+if_some-follows : {X : Type 0} (P Q : X → Type 0) (o : Option X) → ((x : X) → P x → Q x) → IfSome o P → IfSome o Q
+if_some-follows P Q None follows holds = tt
+if_some-follows P Q (Some x) follows holds = follows x holds
+
+told : (sid : ℕ) (o : Option Life) (reply : Reply) → is_some o ≡ true → IfSome (option_map (flow_in_life sid) o)
+    (λ f. flow_status f ≡ reply) → MatchOption o ⊥ (λ life. reply ≡ flow_status (flow_in_life sid life))
+told sid None reply live same = absurd cc
+told sid (Some life) reply live same = sym same
+
+placement-some : (sid : ℕ) (spec : FlowSpec) (placement : Option Placement) → is_some placement ≡ true
+    → IsSome {T = Placed} (option_map (λ p. record { sid = sid; spec = spec; placement = p }) placement)
+placement-some sid spec None e = absurd cc
+placement-some sid spec (Some p) e = refl
+
+placement-none : (sid : ℕ) (spec : FlowSpec) (placement : Option Placement) → is_some placement ≡ false
+    → ◌≡◌ {A = Option Placed} (option_map (λ p. record { sid = sid; spec = spec; placement = p }) placement) None
+placement-none sid spec None e = refl
+placement-none sid spec (Some p) e = absurd cc
+
+placed-when : (sid : ℕ) (o : Option Life) → ((life : Life) → o ≡ Some life → IsPaired life.admission)
+    → IfSome (option_map (flow_in_life sid) o) (λ f. is_periodic f.spec ≡ true
+    → IsSome (option_and_then (placed_in_life sid) o))
+placed-when sid None paired = tt
+placed-when sid (Some life) paired = λ periodic. placement-some sid life.admission.spec life.admission.placement
+    (paired life refl ∙ periodic)
+
+not_true : (b : Bool) → b ≢ true → b ≡ false
+not_true true h = absurd (h refl)
+not_true false h = refl
+
+unplaced-when : (sid : ℕ) (o : Option Life) → ((life : Life) → o ≡ Some life → IsPaired life.admission)
+    → IfSome (option_map (flow_in_life sid) o) (λ f. is_periodic f.spec ≢ true
+    → option_and_then (placed_in_life sid) o ≡ None)
+unplaced-when sid None paired = tt
+unplaced-when sid (Some life) paired = λ aperiodic. placement-none sid life.admission.spec life.admission.placement
+    (paired life refl ∙ not_true (is_periodic life.admission.spec) aperiodic)
+
+unplaced-life : (sid : ℕ) (o : Option Life) → o ≡ None → option_and_then (placed_in_life sid) o ≡ None
+unplaced-life sid o none = rw none refl
+
+-- a placed flow that a search passed over
+pub passed_over : (b : Bool) (p : Placed) (rest : Option Placed) → cond b (Some p) rest ≡ None
+    → (b ≡ false) × (rest ≡ None)
+passed_over true p rest e = absurd cc
+passed_over false p rest e = (refl, e)
+
+-- where no placed flow has the SID all others are all
+pub without_placed-none : (sid : ℕ) (placed : List Placed) → find (λ p. p.sid == sid) placed ≡ None
+    → without_placed sid placed ≡ placed
+without_placed-none sid [] none = refl
+without_placed-none sid (p ∷ placed) none =
+    let both = passed_over (p.sid == sid) p (find (λ q. q.sid == sid) placed) none in
+    rw (both.0) (ap (λ ps. p ∷ ps) (without_placed-none sid placed both.1))
+
+module _ (s : State) (h : List Entry) (sid : ℕ) (is_after : IsStateAfter s h) where
+  module _ (good : bad_sid sid ≡ false) where
+    -- the live flow of a SID that a flow may have
+    pub flow_of-after : flow_of sid s.book.flows ≡ option_map (flow_in_life sid) (life_of sid h)
+    flow_of-after = rw (is_after.flows) (flow_of-flows_of sid h (good_sid sid good).0 (good_sid sid good).1)
+
+    -- and its parameters
+    pub spec_of-after : option_map (λ f. f.spec) (flow_of sid s.book.flows) ≡ option_map spec_in (life_of sid h)
+    spec_of-after = rw (flow_of-after) (spec-map sid (life_of sid h))
+
+    -- its placement
+    pub find-after : find (λ p. p.sid == sid) s.table.placed ≡ option_and_then (placed_in_life sid) (life_of sid h)
+    find-after = rw (is_after.placed) (find-table_of sid h (good_sid sid good).0 (good_sid sid good).1)
+
+    module _ (fresh : is_live sid h ≡ false) where
+      -- a SID that is not live has no flow
+      pub flow_of-fresh : flow_of sid s.book.flows ≡ None
+      flow_of-fresh = flow_of-after ∙ ap (option_map (flow_in_life sid)) (life_of-dead sid h fresh)
+
+      -- and no placement
+      pub find-fresh : find (λ p. p.sid == sid) s.table.placed ≡ None
+      find-fresh = find-after ∙ unplaced-life sid (life_of sid h) (life_of-dead sid h fresh)
+
+  -- the bytes of one request more fit 64 bits
+  pub asked-fits : (bytes : ℕ) → bytes < 2 ^ 32 → length h ≤ s.config.calls
+      → AllByRecursion (λ f. f.asked ≤ most_bytes * length h) s.book.flows
+      → IfSome (flow_of sid s.book.flows) (λ f. f.asked + bytes < 2 ^ 64)
+  asked-fits bytes low room all =
+      let calls = (bounds_of s.config is_after.lawful).calls_most in
+      if_some-follows (λ f. f.asked ≤ most_bytes * length h) (λ f. f.asked + bytes < 2 ^ 64) (flow_of sid s.book.flows)
+      (λ f most. omega arith)
+      (find-all (λ f. f.asked ≤ most_bytes * length h) (λ f. f.sid == sid) s.book.flows all)
+
+  module _ (known : IsKnown h sid) where
+    -- a SID that is live has a flow
+    pub IsLive-after : IsLive sid s.book.flows
+    IsLive-after = rw (flow_of-after known.good) (live-from_test sid (life_of sid h) known.live)
+
+    -- the three sums are the answer to a question for its bytes
+    pub status-after : (reply : Reply) → IfSome (flow_of sid s.book.flows) (λ f. flow_status f ≡ reply)
+        → MatchOption (life_of sid h) ⊥ (λ life. reply ≡ flow_status (flow_in_life sid life))
+    status-after reply same = told sid (life_of sid h) reply known.live (rw (flow_of-after known.good) at same)
+
+    module _ (legal : IsLegal s.config h) where
+      -- where its flow is periodic it has a placement
+      pub IsPlaced-after : IfSome (flow_of sid s.book.flows)
+          (λ f. is_periodic f.spec ≡ true → IsPlaced sid s.table.placed)
+      IsPlaced-after = rw (flow_of-after known.good, find-after known.good)
+          (placed-when sid (life_of sid h) (λ life. life_of-pairs s.config h sid life legal))
+
+      -- else it has none
+      pub unplaced-after : IfSome (flow_of sid s.book.flows)
+          (λ f. is_periodic f.spec ≢ true → without_placed sid s.table.placed ≡ s.table.placed)
+      unplaced-after =
+          if_some-follows (λ f. is_periodic f.spec ≢ true → find (λ p. p.sid == sid) s.table.placed ≡ None)
+          (λ f. is_periodic f.spec ≢ true → without_placed sid s.table.placed ≡ s.table.placed)
+          (flow_of sid s.book.flows)
+          (λ f none aperiodic. without_placed-none sid s.table.placed (none aperiodic))
+          (rw (flow_of-after known.good, find-after known.good)
+          (unplaced-when sid (life_of sid h) (λ life. life_of-pairs s.config h sid life legal)))
+
+-- a flow without a place is admitted without one
+pub answers-best_effort : (c : Config) (h : List Entry) (spec : FlowSpec) → is_periodic spec ≡ false
+    → AnswersAdmit c h spec (replies.Admitted None)
+answers-best_effort c h (Unsolicited size interval jitter) aperiodic = absurd cc
+answers-best_effort c h (Polled interval jitter rate burst) aperiodic = absurd cc
+answers-best_effort c h (BestEffort priority rate burst) aperiodic = refl
+
+-- a periodic flow is admitted with its place
+pub answers-periodic : (c : Config) (h : List Entry) (spec : FlowSpec) (reply : Reply) → is_periodic spec ≡ true
+    → PlacesOrRefuses c h spec reply → AnswersAdmit c h spec reply
+answers-periodic c h (Unsolicited size interval jitter) reply periodic answers = answers
+answers-periodic c h (Polled interval jitter rate burst) reply periodic answers = answers
+answers-periodic c h (BestEffort priority rate burst) reply periodic answers = absurd cc
+
+-- a periodic flow takes memory where there is a place for it
+pub placeable-periodic : (c : Config) (h : List Entry) (spec : FlowSpec) (p : Placement) → is_periodic spec ≡ true
+    → IsPlacement c (table_of h) spec (next_after c h) p → IsPlaceable c h spec
+placeable-periodic c h (Unsolicited size interval jitter) p periodic lawful = (p, lawful)
+placeable-periodic c h (Polled interval jitter rate burst) p periodic lawful = (p, lawful)
+placeable-periodic c h (BestEffort priority rate burst) p periodic lawful = absurd cc
+
+-- a placement in the table is one after the history
+pub placement-after : (s : State) (h : List Entry) (spec : FlowSpec) (p : Placement) → IsStateAfter s h
+    → IsPlacement s.table.config s.table.placed spec s.next p
+    → IsPlacement s.config (table_of h) spec (next_after s.config h) p
+placement-after s h spec p is_after lawful =
+    subst (λ next. IsPlacement s.config (table_of h) spec next p) is_after.next
+    (subst (λ placed. IsPlacement s.config placed spec s.next p) is_after.placed
+    (subst (λ c. IsPlacement c s.table.placed spec s.next p) is_after.table_config lawful))

@@ -1,0 +1,95 @@
+-- What holds of each live flow, and how many there are, after one entry more.
+use Rattle.std.proofs.Common.{◌≡◌, ℕ, ◌+◌, ◌≤◌, Bool, true, false, not, nat_lt, ◌==◌, if◌then◌else◌}
+use Rattle.std.proofs.Common.{cond, List, [], ◌∷◌, map, filter, length, refl, ◌∙◌, arith}
+use Rattle.std.specs.List.{AllByRecursion}
+use Rattle.minislots.specs.declared.config.Config.{Config}
+use Rattle.flow_book.specs.declared.spec.FlowSpec.{FlowSpec}
+use Rattle.flow_book.specs.Flows.{LiveFlow}
+use Rattle.flow_book.specs.Book.{with_flow, new_flow, with_asked}
+use Rattle.flow_book.proofs.Removal.{all-filter}
+use Rattle.map_build.specs.declared.frame_map.FrameMap.{FrameMap}
+use Rattle.map_build.specs.Plan.{flow_after}
+use Rattle.sched_history.specs.declared.reply.Entry.{Entry}
+use Rattle.sched_history.specs.Life.{flows_of}
+use Rattle.sched_history.specs.Time.{next_after}
+use Rattle.sched_history.specs.Refusal.{most_bytes}
+use Rattle.sched_history.specs.History.{IsNextMap}
+use Rattle.sched_history.proofs.steps.EntryChanges.{EntryChange, Nothing, Asked, Began, Ended, Described, Skipped}
+
+-- what follows of each holds of the image of each
+pub all-image : {X : Type 0} (P Q : X → Type 0) (k : X → X) (xs : List X) → ((x : X) → P x → Q (k x))
+    → AllByRecursion P xs → AllByRecursion Q (map k xs)
+all-image P Q k [] step all = tt
+all-image P Q k (x ∷ xs) step all = (step x all.0, all-image P Q k xs step all.1)
+
+pub all-implied : {X : Type 0} (P Q : X → Type 0) (xs : List X) → ((x : X) → P x → Q x) → AllByRecursion P xs
+    → AllByRecursion Q xs
+all-implied P Q [] step all = tt
+all-implied P Q (x ∷ xs) step all = (step x all.0, all-implied P Q xs step all.1)
+
+all-inserted : (Q : LiveFlow → Type 0) (b : Bool) (f g : LiveFlow) (flows rest : List LiveFlow) → Q f → Q g
+    → AllByRecursion Q flows → AllByRecursion Q rest
+    → AllByRecursion Q (cond b (f ∷ g ∷ flows) (g ∷ rest))
+all-inserted Q true f g flows rest new here all more = (new, (here, all))
+all-inserted Q false f g flows rest new here all more = (here, more)
+
+-- what holds of each and of one more holds of each with it put in
+pub all-with_flow : (Q : LiveFlow → Type 0) (f : LiveFlow) (flows : List LiveFlow) → Q f → AllByRecursion Q flows
+    → AllByRecursion Q (with_flow f flows)
+all-with_flow Q f [] new all = (new, tt)
+all-with_flow Q f (g ∷ flows) new all =
+    all-inserted Q (nat_lt f.sid g.sid) f g flows (with_flow f flows) new all.0 all.1
+    (all-with_flow Q f flows new all.1)
+
+turned : (Q : LiveFlow → Type 0) (b : Bool) (f g : LiveFlow) → Q f → Q g → Q (cond b f g)
+turned Q true f g this other = this
+turned Q false f g this other = other
+
+-- What Q asks of a flow, where P held before: as it was, with a request or the grants of a MAP more, just admitted
+pub record Carries (c : Config) (h new : List Entry) (P Q : LiveFlow → Type 0) : Type 0 where
+  pub stays : (f : LiveFlow) → P f → Q f
+  pub asks : (bytes : ℕ) (f : LiveFlow) → bytes ≤ most_bytes → P f → Q (with_asked bytes f)
+  pub begins : (sid : ℕ) (spec : FlowSpec) → Q (new_flow sid spec)
+  pub grants : (m : FrameMap) (map : IsNextMap c h m) → next_after c new ≡ next_after c h + c.frame → (f : LiveFlow)
+      → P f → Q (flow_after (next_after c h) map.0 f)
+
+-- then it holds of each live flow after the entry
+pub each_after : (c : Config) (h new : List Entry) (P Q : LiveFlow → Type 0) → Carries c h new P Q
+    → EntryChange c h new → AllByRecursion P (flows_of h) → AllByRecursion Q (flows_of new)
+each_after c h new P Q carries change all = elim change [
+  | Nothing flows next ↦ rw flows (all-implied P Q (flows_of h) carries.stays all)
+  | Asked sid bytes few flows next ↦
+      rw flows (all-image P Q (λ f. if f.sid == sid then with_asked bytes f else f) (flows_of h)
+      (λ f holds. turned Q (f.sid == sid) (with_asked bytes f) f (carries.asks bytes f few holds)
+      (carries.stays f holds)) all)
+  | Began sid spec may flows next ↦
+      rw flows (all-with_flow Q (new_flow sid spec) (flows_of h) (carries.begins sid spec)
+      (all-implied P Q (flows_of h) carries.stays all))
+  | Ended sid flows next ↦
+      rw flows (all-filter Q (λ f. not (f.sid == sid)) (flows_of h) (all-implied P Q (flows_of h) carries.stays all))
+  | Described m map flows next most ↦
+      rw flows (all-image P Q (flow_after (next_after c h) map.0) (flows_of h) (carries.grants m map next) all)
+  | Skipped start flows next later aligned most ↦ rw flows (all-implied P Q (flows_of h) carries.stays all)
+]
+
+length-inserted : (b : Bool) (f g : LiveFlow) (flows rest : List LiveFlow) (n : ℕ) → length rest ≡ n + 1
+    → length flows ≡ n → length (cond b (f ∷ g ∷ flows) (g ∷ rest)) ≡ n + 2
+length-inserted true f g flows rest n more same = omega (arith)
+length-inserted false f g flows rest n more same = omega (arith)
+
+-- one flow more
+pub length-with_flow : (f : LiveFlow) (flows : List LiveFlow) → length (with_flow f flows) ≡ length flows + 1
+length-with_flow f [] = refl
+length-with_flow f (g ∷ flows) =
+    length-inserted (nat_lt f.sid g.sid) f g flows (with_flow f flows) (length flows) (length-with_flow f flows) refl
+    ∙ omega arith
+
+length-left : {X : Type 0} (b : Bool) (x : X) (xs : List X) (n : ℕ) → length xs ≤ n
+    → length (cond b (x ∷ xs) xs) ≤ n + 1
+length-left true x xs n few = omega arith
+length-left false x xs n few = omega arith
+
+-- no more are left than there were
+pub length-filter : {X : Type 0} (p : X → Bool) (xs : List X) → length (filter p xs) ≤ length xs
+length-filter p [] = omega arith
+length-filter p (x ∷ xs) = omega (arith, length-left (p x) x (filter p xs) (length xs) (length-filter p xs))

@@ -1,0 +1,157 @@
+-- Bounds of what is live and of the next frame, in every legal history.
+use Rattle.std.proofs.Common.{◌≡◌, ℕ, ◌+◌, ◌*◌, ◌%◌, ◌≤◌, ◌<◌, not, ◌==◌, List}
+use Rattle.std.proofs.Common.{[], ◌∷◌, ◌++◌, map, length, refl, ◌∙◌, arith}
+use Rattle.std.proofs.Math.Nat.{add-mod_right}
+use Rattle.std.specs.List.{AllByRecursion}
+use Rattle.std.proofs.lemmas.List.{length-map, length_push}
+use Rattle.minislots.specs.declared.config.Config.{Config}
+use Rattle.minislots.specs.Config.{IsLawful}
+use Rattle.minislots.proofs.Bounds.{bounds_of}
+use Rattle.flow_book.specs.declared.TheConstants.{MAX_FLOWS}
+use Rattle.flow_book.specs.declared.flow.Grant.{Grant}
+use Rattle.flow_book.specs.Flows.{LiveFlow}
+use Rattle.flow_book.specs.Choice.{HasStartedBy}
+use Rattle.flow_book.specs.Book.{new_flow}
+use Rattle.map_build.specs.Plan.{grants_to}
+use Rattle.sched_history.specs.declared.reply.Entry.{Entry}
+use Rattle.sched_history.specs.Life.{flows_of}
+use Rattle.sched_history.specs.Time.{next_after}
+use Rattle.sched_history.specs.Refusal.{most_bytes, most_ahead, last_clock}
+use Rattle.sched_history.specs.History.{IsLegal}
+use Rattle.sched_history.proofs.lives.LiveFlows.{flows_of-none}
+use Rattle.sched_history.proofs.steps.LegalHistories.{legal_induction}
+use Rattle.sched_history.proofs.steps.EntryChanges.{EntryChange, Nothing, Asked, Began, Ended}
+use Rattle.sched_history.proofs.steps.EntryChanges.{Described, Skipped, change_of}
+use Rattle.sched_history.proofs.steps.EachFlow.{Carries, each_after, all-implied, length-with_flow, length-filter}
+use Rattle.sched_history.proofs.plans.PlanOffsets.{plan-offsets, grants_to-before, all-append}
+
+-- the flow's data grants start before this minislot
+abbrev pub HasStartedBefore : ℕ → LiveFlow → Type 0
+HasStartedBefore slot f = AllByRecursion (λ g. g.start < slot) f.grants
+
+module _ (c : Config) (lawful : IsLawful c) where
+  aligned-after : (h new : List Entry) → EntryChange c h new → next_after c h % c.frame ≡ 0
+      → next_after c new % c.frame ≡ 0
+  aligned-after h new change aligned = elim change [
+    | Nothing flows next ↦ rw next aligned
+    | Asked sid bytes few flows next ↦ rw next aligned
+    | Began sid spec may flows next ↦ rw next aligned
+    | Ended sid flows next ↦ rw next aligned
+    | Described m map flows next most ↦ rw next (add-mod_right (next_after c h) c.frame ∙ aligned)
+    | Skipped start flows next later whole most ↦ rw next whole
+  ]
+
+  start-aligned : next_after c [] % c.frame ≡ 0
+  start-aligned = let first : c.start + c.frame * 0 ≡ c.start = omega arith in
+      rw first (bounds_of c lawful).start_aligned
+
+  -- the next frame starts at a multiple of the frame's length
+  pub next_after-aligned : (h : List Entry) → IsLegal c h → next_after c h % c.frame ≡ 0
+  next_after-aligned =
+      legal_induction c (λ h. next_after c h % c.frame ≡ 0)
+      (λ h e legal step aligned. aligned-after h (h ++ e ∷ []) (change_of c h e lawful step) aligned) start-aligned
+
+  most-after : (h new : List Entry) → EntryChange c h new → next_after c h ≤ last_clock + most_ahead
+      → next_after c new ≤ last_clock + most_ahead
+  most-after h new change within = elim change [
+    | Nothing flows next ↦ rw next within
+    | Asked sid bytes few flows next ↦ rw next within
+    | Began sid spec may flows next ↦ rw next within
+    | Ended sid flows next ↦ rw next within
+    | Described m map flows next most ↦ rw next most
+    | Skipped start flows next later whole most ↦ rw next most
+  ]
+
+  -- the next frame starts at most so many minislots after the greatest clock
+  pub next_after-most : (h : List Entry) → IsLegal c h → next_after c h ≤ last_clock + most_ahead
+  next_after-most =
+      legal_induction c (λ h. next_after c h ≤ last_clock + most_ahead)
+      (λ h e legal step within. most-after h (h ++ e ∷ []) (change_of c h e lawful step) within)
+      (omega (arith, (bounds_of c lawful).start_most))
+
+  later-after : (h new : List Entry) → EntryChange c h new → next_after c h ≤ next_after c new
+  later-after h new change = elim change [
+    | Nothing flows next ↦ omega arith
+    | Asked sid bytes few flows next ↦ omega arith
+    | Began sid spec may flows next ↦ omega arith
+    | Ended sid flows next ↦ omega arith
+    | Described m map flows next most ↦ omega arith
+    | Skipped start flows next later whole most ↦ omega arith
+  ]
+
+  -- where nothing was called no flow is live
+  none-live : flows_of [] ≡ []
+  none-live = flows_of-none [] (λ sid. refl)
+
+  asked-carries : (h : List Entry) (e : Entry) → Carries c h (h ++ e ∷ []) (λ f. f.asked ≤ most_bytes * length h)
+      (λ f. f.asked ≤ most_bytes * length (h ++ e ∷ []))
+  asked-carries h e =
+      let more : length (h ++ e ∷ []) ≡ length h + 1 = length_push h e in
+      record {
+        stays = λ f few. omega arith;
+        asks = λ bytes f some few. omega arith;
+        begins = λ sid spec. omega arith;
+        grants = λ m map next f few. omega arith;
+      }
+
+  -- each live flow asked for at most the most bytes of a request times the entries
+  pub flows_of-asked : (h : List Entry) → IsLegal c h
+      → AllByRecursion (λ f. f.asked ≤ most_bytes * length h) (flows_of h)
+  flows_of-asked = legal_induction c (λ h. AllByRecursion (λ f. f.asked ≤ most_bytes * length h) (flows_of h))
+      (λ h e legal step all. each_after c h (h ++ e ∷ []) (λ f. f.asked ≤ most_bytes * length h)
+      (λ f. f.asked ≤ most_bytes * length (h ++ e ∷ []))
+      (asked-carries h e) (change_of c h e lawful step) all) (rw none-live tt)
+
+  started-carries : (h : List Entry) (e : Entry) → next_after c h ≤ next_after c (h ++ e ∷ [])
+      → Carries c h (h ++ e ∷ []) (HasStartedBefore (next_after c h)) (HasStartedBefore (next_after c (h ++ e ∷ [])))
+  started-carries h e later =
+      let new : List Entry = h ++ e ∷ [] in
+      let older : (grants : List Grant) → AllByRecursion (λ g. g.start < next_after c h) grants
+      → AllByRecursion (λ g. g.start < next_after c new) grants =
+      λ grants. all-implied (λ (g : Grant). g.start < next_after c h)
+      (λ (g : Grant). g.start < next_after c new) grants (λ g before. omega arith) in
+      record {
+        stays = λ f started. older f.grants started;
+        asks = λ bytes f some started. older f.grants started;
+        begins = λ sid spec. tt;
+        grants = λ m map next f started. all-append (λ (g : Grant). g.start < next_after c new) f.grants
+            (grants_to (next_after c h) f.sid map.0) (older f.grants started)
+            (rw next (grants_to-before c.frame (next_after c h) f.sid map.0
+            (plan-offsets c (flows_of h) _ (next_after c h) map.0 map.1)));
+      }
+
+  -- each data grant of a live flow starts before the next frame
+  pub flows_of-started : (h : List Entry) → IsLegal c h
+      → AllByRecursion (HasStartedBefore (next_after c h)) (flows_of h)
+  flows_of-started = legal_induction c (λ h. AllByRecursion (HasStartedBefore (next_after c h)) (flows_of h))
+      (λ h e legal step all. let change : EntryChange c h (h ++ e ∷ []) = change_of c h e lawful step in
+      each_after c h (h ++ e ∷ []) (HasStartedBefore (next_after c h)) (HasStartedBefore (next_after c (h ++ e ∷ [])))
+      (started-carries h e (later-after h (h ++ e ∷ []) change)) change all) (rw none-live tt)
+
+  -- so each has started by then
+  pub flows_of-HasStartedBy : (h : List Entry) → IsLegal c h
+      → AllByRecursion (HasStartedBy (next_after c h)) (flows_of h)
+  flows_of-HasStartedBy h legal =
+      all-implied (HasStartedBefore (next_after c h)) (HasStartedBy (next_after c h)) (flows_of h)
+      (λ f started. all-implied (λ (g : Grant). g.start < next_after c h)
+      (λ (g : Grant). g.start ≤ next_after c h) f.grants (λ g before. omega arith) started)
+      (flows_of-started h legal)
+
+  few-after : (h new : List Entry) → EntryChange c h new → length (flows_of h) ≤ MAX_FLOWS
+      → length (flows_of new) ≤ MAX_FLOWS
+  few-after h new change within = elim change [
+    | Nothing flows next ↦ rw flows within
+    | Asked sid bytes few flows next ↦ rw (flows, length-map) within
+    | Began sid spec may flows next ↦
+        rw flows (omega (arith, length-with_flow (new_flow sid spec) (flows_of h), may.few))
+    | Ended sid flows next ↦ rw flows (omega (arith, length-filter (λ (f : LiveFlow). not (f.sid == sid)) (flows_of h)))
+    | Described m map flows next most ↦ rw (flows, length-map) within
+    | Skipped start flows next later whole most ↦ rw flows within
+  ]
+
+  -- at most so many flows are live
+  pub flows_of-few : (h : List Entry) → IsLegal c h → length (flows_of h) ≤ MAX_FLOWS
+  flows_of-few =
+      legal_induction c (λ h. length (flows_of h) ≤ MAX_FLOWS)
+      (λ h e legal step within. few-after h (h ++ e ∷ []) (change_of c h e lawful step) within)
+      (rw none-live (omega arith))

@@ -1,0 +1,175 @@
+-- What is known of a call that passed all tests.
+use Rattle.std.proofs.Common.{◌≡◌, ℕ, ◌+◌, ◌≤◌, ◌<◌, Bool, true, false, not, nat_lt, nat_le, ◌==◌}
+use Rattle.std.proofs.Common.{◌||◌, ◌&&◌, List, length, Option, None, Some, refl, arith}
+use Rattle.std.specs.Option.{option_or, option_map}
+use Rattle.std.proofs.lemmas.Bool.Decides.{nat_tests}
+use Rattle.minislots.specs.declared.config.Config.{Config}
+use Rattle.flow_book.specs.declared.TheConstants.{MAX_FLOWS}
+use Rattle.flow_book.specs.declared.spec.FlowSpec.{FlowSpec}
+use Rattle.flow_book.specs.declared.spec.FlowFault.{FlowFault}
+use Rattle.flow_book.specs.FlowSpec.{is_periodic, first_fault}
+use Rattle.periodic.specs.declared.TheConstants.{MAX_PERIODIC_FLOWS}
+use Rattle.sched_history.specs.declared.call.Call.TheVariants.{Admit, Remove, Ask, Heard, Build, Skip, Status}
+use Rattle.sched_history.specs.declared.reply.Refusal.{Refusal}
+use Rattle.sched_history.specs.declared.reply.Refusal.TheVariants.{BadSid, BadFlow, NoFlow, NotAsking, BadReceiver}
+use Rattle.sched_history.specs.declared.reply.Refusal.TheVariants.{BadBytes, Acked, Ahead, Backwards}
+use Rattle.sched_history.specs.declared.reply.Entry.{Entry}
+use Rattle.sched_history.specs.Life.{flows_of}
+use Rattle.sched_history.specs.Time.{next_after, progress_of}
+use Rattle.sched_history.specs.Refusal.{refused_if, most_bytes, most_ahead, last_clock, bad_sid}
+use Rattle.sched_history.specs.Refusal.{is_live, is_silent, periodic_count, refusal_of}
+
+-- where no test refuses the first does not, nor do the others
+passed : (b : Bool) (refusal : Refusal) (rest : Option Refusal) → option_or (refused_if b refusal) rest ≡ None
+    → (b ≡ false) × (rest ≡ None)
+passed true refusal rest e = absurd cc
+passed false refusal rest e = (refl, e)
+
+faultless : (fault : Option FlowFault) (rest : Option Refusal) → option_or (option_map BadFlow fault) rest ≡ None
+    → (fault ≡ None) × (rest ≡ None)
+faultless None rest e = (refl, e)
+faultless (Some fault) rest e = absurd cc
+
+above : (m n : ℕ) → nat_le m n ≡ false → n < m
+above m n e = grind (arith, nat_tests)
+
+within : (m n : ℕ) → nat_lt m n ≡ false → n ≤ m
+within m n e = grind (arith, nat_tests)
+
+kept : (b : Bool) → not b ≡ false → b ≡ true
+kept true e = refl
+kept false e = absurd cc
+
+either : (a b : Bool) → (a || b) ≡ false → b ≡ false
+either true b e = absurd cc
+either false b e = e
+
+both : (a b : Bool) → (a && b) ≡ false → a ≡ true → b ≡ false
+both true b e h = e
+both false b e h = absurd cc
+
+-- An admission passed, but that there is a place
+pub record AdmitsFlow (c : Config) (h : List Entry) (sid : ℕ) (spec : FlowSpec) : Type 0 where
+  pub good : bad_sid sid ≡ false
+  pub fresh : is_live sid h ≡ false
+  pub no_fault : first_fault c spec ≡ None
+  pub few : length (flows_of h) < MAX_FLOWS
+  pub few_periodic : is_periodic spec ≡ true → periodic_count h < MAX_PERIODIC_FLOWS
+
+-- an admission that no test refuses passed
+pub passed-admit : (c : Config) (h : List Entry) (sid : ℕ) (spec : FlowSpec) → refusal_of c h (Admit sid spec) ≡ None
+    → AdmitsFlow c h sid spec
+passed-admit c h sid spec e =
+    let good = passed _ _ _ e in
+    let fresh = passed _ _ _ good.1 in
+    let fault = faultless _ _ fresh.1 in
+    let few = passed _ _ _ fault.1 in
+    let periodic = passed _ _ _ few.1 in
+    record {
+      good = good.0;
+      fresh = fresh.0;
+      no_fault = fault.0;
+      few = above MAX_FLOWS (length (flows_of h)) few.0;
+      few_periodic = λ is. above MAX_PERIODIC_FLOWS (periodic_count h)
+          (both (is_periodic spec) (nat_le MAX_PERIODIC_FLOWS (periodic_count h)) periodic.0 is);
+    }
+
+-- A SID that may be a flow's is live
+pub record IsKnown (h : List Entry) (sid : ℕ) : Type 0 where
+  pub good : bad_sid sid ≡ false
+  pub live : is_live sid h ≡ true
+
+known : (h : List Entry) (sid : ℕ) (one two : Refusal) (rest : Option Refusal)
+    → option_or (refused_if (bad_sid sid) one)
+    (option_or (refused_if (not (is_live sid h)) two) rest) ≡ None → IsKnown h sid
+known h sid one two rest e =
+    let good = passed _ _ _ e in
+    let live = passed _ _ _ good.1 in
+    record { good = good.0; live = kept (is_live sid h) live.0 }
+
+-- of a removal
+pub passed-remove : (c : Config) (h : List Entry) (sid : ℕ) → refusal_of c h (Remove sid) ≡ None → IsKnown h sid
+passed-remove c h sid e = known h sid _ _ _ e
+
+-- of a question for a flow's bytes
+pub passed-status : (c : Config) (h : List Entry) (sid : ℕ) → refusal_of c h (Status sid) ≡ None → IsKnown h sid
+passed-status c h sid e = known h sid _ _ _ e
+
+-- A request passed
+pub record Asks (c : Config) (h : List Entry) (receiver sid bytes heard : ℕ) : Type 0 where
+  pub known : IsKnown h sid
+  pub received : receiver < c.receivers
+  pub most : bytes ≤ most_bytes
+  pub unacked : progress_of c receiver h ≤ heard
+
+-- a request that no test refuses passed
+pub passed-ask : (c : Config) (h : List Entry) (receiver sid bytes heard : ℕ)
+    → refusal_of c h (Ask receiver sid bytes heard) ≡ None → Asks c h receiver sid bytes heard
+passed-ask c h receiver sid bytes heard e =
+    let progress : ℕ = progress_of c receiver h in
+    let ahead : Option Refusal = option_or (refused_if (nat_le (next_after c h) heard) (Ahead (next_after c h))) None in
+    let timed : Option Refusal = option_or (refused_if (nat_lt heard progress) (Acked progress)) ahead in
+    let sized : Option Refusal = option_or (refused_if (bytes == 0 || nat_lt most_bytes bytes) BadBytes) timed in
+    let received : Option Refusal = option_or (refused_if (nat_le c.receivers receiver) BadReceiver) sized in
+    let asks : Option Refusal = option_or (refused_if (is_silent sid h) NotAsking) received in
+    let live : Option Refusal = option_or (refused_if (not (is_live sid h)) NoFlow) asks in
+    let past_sid = (passed (bad_sid sid) BadSid live e).1 in
+    let past_live = (passed (not (is_live sid h)) NoFlow asks past_sid).1 in
+    let past_silent = (passed (is_silent sid h) NotAsking received past_live).1 in
+    let past_receiver = passed (nat_le c.receivers receiver) BadReceiver sized past_silent in
+    let past_bytes = passed (bytes == 0 || nat_lt most_bytes bytes) BadBytes timed past_receiver.1 in
+    let past_progress = passed (nat_lt heard progress) (Acked progress) ahead past_bytes.1 in
+    record {
+      known = known h sid BadSid NoFlow asks e;
+      received = above c.receivers receiver past_receiver.0;
+      most = within most_bytes bytes (either (bytes == 0) (nat_lt most_bytes bytes) past_bytes.0);
+      unacked = within heard progress past_progress.0;
+    }
+
+-- A progress passed
+pub record Hears (c : Config) (h : List Entry) (receiver upto : ℕ) : Type 0 where
+  pub received : receiver < c.receivers
+  pub forwards : progress_of c receiver h ≤ upto
+
+-- a progress that no test refuses passed
+pub passed-heard : (c : Config) (h : List Entry) (receiver upto : ℕ) → refusal_of c h (Heard receiver upto) ≡ None
+    → Hears c h receiver upto
+passed-heard c h receiver upto e =
+    let progress : ℕ = progress_of c receiver h in
+    let behind : Option Refusal = option_or (refused_if (nat_lt upto progress) (Backwards progress)) None in
+    let ahead : Option Refusal =
+    option_or (refused_if (nat_lt (next_after c h) upto) (Ahead (next_after c h))) behind in
+    let past_receiver = passed (nat_le c.receivers receiver) BadReceiver ahead e in
+    let past_next = passed (nat_lt (next_after c h) upto) (Ahead (next_after c h)) behind past_receiver.1 in
+    record {
+      received = above c.receivers receiver past_receiver.0;
+      forwards = within upto progress (passed (nat_lt upto progress) (Backwards progress) None past_next.1).0;
+    }
+
+-- A build passed
+pub record Builds (c : Config) (h : List Entry) (now : ℕ) : Type 0 where
+  pub clock : now ≤ last_clock
+  pub early : next_after c h + c.frame ≤ now + most_ahead
+
+-- a build that no test refuses passed
+pub passed-build : (c : Config) (h : List Entry) (now : ℕ) → refusal_of c h (Build now) ≡ None → Builds c h now
+passed-build c h now e =
+    let clock = passed _ _ _ e in
+    let early = passed _ _ _ clock.1 in
+    record {
+      clock = within last_clock now clock.0;
+      early =
+          within (now + most_ahead) (next_after c h + c.frame) early.0;
+    }
+
+-- A skip passed
+pub record Skips (c : Config) (h : List Entry) (now : ℕ) : Type 0 where
+  pub clock : now ≤ last_clock
+  pub late : next_after c h < now + c.lead
+
+-- a skip that no test refuses passed
+pub passed-skip : (c : Config) (h : List Entry) (now : ℕ) → refusal_of c h (Skip now) ≡ None → Skips c h now
+passed-skip c h now e =
+    let clock = passed _ _ _ e in
+    let late = passed _ _ _ clock.1 in
+    record { clock = within last_clock now clock.0; late = above (now + c.lead) (next_after c h) late.0 }

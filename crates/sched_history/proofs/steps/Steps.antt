@@ -1,0 +1,23 @@
+-- A legal history with one more entry.
+use Rattle.std.proofs.Common.{◌≡◌, List, [], ◌∷◌, ◌++◌, None, sym, subst}
+use Rattle.std.specs.Option.{MatchOption}
+use Rattle.minislots.specs.declared.config.Config.{Config}
+use Rattle.map_build.proofs.EachAfterLaws.{EachAfter-push}
+use Rattle.sched_history.specs.declared.call.Call.{Call}
+use Rattle.sched_history.specs.declared.reply.Reply.{Reply}
+use Rattle.sched_history.specs.declared.reply.Reply.TheVariants as replies
+use Rattle.sched_history.specs.declared.reply.Entry.{Entry}
+use Rattle.sched_history.specs.Refusal.{refusal_of}
+use Rattle.sched_history.specs.History.{Answers, IsStep, IsLegal}
+
+-- a legal history with one step more is legal
+pub IsLegal-push : (c : Config) (h : List Entry) (e : Entry) → IsLegal c h → IsStep c h e.call e.reply
+    → IsLegal c (h ++ e ∷ [])
+IsLegal-push c h e legal step = EachAfter-push (λ before x. IsStep c before x.call x.reply) [] h e legal step
+
+module _ (c : Config) (h : List Entry) (call : Call) where
+  -- the answer to a call that nothing refuses is a step
+  pub IsStep-answered : (reply : Reply) → refusal_of c h call ≡ None → Answers c h call reply → IsStep c h call reply
+  IsStep-answered reply unrefused answers =
+      subst (λ refusal. MatchOption refusal (Answers c h call reply) (λ r. reply ≡ replies.Refused r))
+      (sym unrefused) answers

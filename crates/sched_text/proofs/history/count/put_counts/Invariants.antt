@@ -1,0 +1,10 @@
+-- The numbers that are left are put into the members so far.
+use Rattle.std.proofs.Common.{◌≡◌, drop}
+use Rattle.serde_json.specs.View.{members_view}
+use Rattle.sched_text.specs.Json.{with_counts}
+use Rattle.sched_text.proofs.history.count.put_counts.Given as goal
+
+abbrev pub invariant-loop-key : goal.invariant-loop-key
+invariant-loop-key l =
+    with_counts (drop l.key-index l.counts) (members_view l.map.entries)
+    ≡ with_counts l.counts (members_view l.initial.map.entries)

@@ -1,6 +1,0 @@
--- The seat stays one of the lock.
-use Rattle.std.proofs.Common.{◌≡◌}
-use Rattle.shared_sched.proofs.tests.ask_again.Given as goal
-
-abbrev pub invariant-loop : goal.invariant-loop
-invariant-loop g l = l.seat.lock ≡ l.shared.lock

@@ -1,0 +1,160 @@
+//! Worked rows of the parameters, the order of flows and their amounts.
+
+ghost use Rattle.std.specs.Prelude.{◌≡◌, IfOk, IfSome};
+ghost use Rattle.flow_book.specs.Flows.{flow_of, with_grant};
+ghost use Rattle.flow_book.specs.Book.{IsLive, changed};
+ghost use Rattle.flow_book.specs.Choice.{HasStartedBy};
+
+use crate::base::{BASE, Player, is_shown, play, short, shown, word};
+use flow_book::{Book, FlowSpec};
+use minislots::Checked;
+use std::alloc::{AllocError, AllocGlobal, Global};
+use std::process::Abort;
+use std::test::Fail;
+
+// The parameters in a row: the kind of the flow, and its numbers.
+fn spec_of(row: &str) -> Result<FlowSpec, Fail> {
+    match word(row, 0)? {
+        "unsolicited" => Ok(FlowSpec::Unsolicited {
+            size: short(row, 1)?,
+            interval_us: short(row, 2)?,
+            jitter_us: short(row, 3)?,
+        }),
+        "polled" => Ok(FlowSpec::Polled {
+            interval_us: short(row, 1)?,
+            jitter_us: short(row, 2)?,
+            rate: short(row, 3)?,
+            burst: short(row, 4)?,
+        }),
+        "best_effort" => Ok(FlowSpec::BestEffort {
+            priority: u8::try_from(short(row, 1)?)?,
+            rate: short(row, 2)?,
+            burst: short(row, 3)?,
+        }),
+        _ => Err(Fail::from("no such kind")),
+    }
+}
+
+const SPECS: &str = "unsolicited 200 10000 0 => Ok(())
+unsolicited 200 10010 0 => Err(IntervalNotWhole)
+unsolicited 200 1500 0 => Err(IntervalNotFrames)
+unsolicited 200 30000 0 => Err(IntervalNotInCycle)
+unsolicited 0 10010 0 => Err(Size)
+polled 10010 0 1 63 => Err(IntervalNotWhole)
+polled 5000 0 1 63 => Err(Burst)
+polled 5000 0 1 64 => Ok(())
+best_effort 8 0 0 => Err(Priority)
+best_effort 7 1 63 => Err(Burst)
+best_effort 7 1 64 => Ok(())";
+
+// Checks the parameters in each row.
+#[derive(Drop)]
+struct Specs {
+    config: Checked,
+}
+
+impl Player for Specs {
+    fn answer(&mut self, alloc: Global, row: &str) -> Result<String, Fail> {
+        Ok(shown(alloc, spec_of(row)?.check(&self.config))?)
+    }
+}
+
+#[test]
+fn the_first_reason_against_parameters(rt: HostRuntime) -> Result<(), Fail> {
+    let mut specs = Specs {
+        config: BASE.check()?,
+    };
+    play(&rt, rt.alloc(), &mut specs, SPECS)
+}
+
+const fn best_effort(rate: u32, burst: u32) -> FlowSpec {
+    FlowSpec::BestEffort {
+        priority: 3,
+        rate,
+        burst,
+    }
+}
+
+// Grants the most to a live flow in a frame's 36 minislots, and gives the bytes.
+fn grant_most(book: &mut Book, sid: u16, start: u64) -> Result<u32, AllocError>
+    requires live { IsLive sid book.old.flows }
+    requires started { IfSome (flow_of sid book.old.flows) (HasStartedBy start) }
+    ensures { IfOk result (λ bytes. book.new.flows ≡
+        changed sid (with_grant (record { start = start; bytes = bytes })) book.old.flows) }
+{
+    book.reserve(1)?;
+    let bytes = book.most(sid, start, 36);
+    if bytes == 0 {
+        return Err(AllocError);
+    }
+    book.grant(sid, start, bytes);
+    Ok(bytes)
+}
+
+#[test]
+fn a_rate_ceiling_holds_to_the_byte(rt: HostRuntime) -> Result<(), Fail> {
+    let mut book = Book::open(rt.alloc(), BASE.check()?)?;
+    book.admit(17, best_effort(64_000, 1_600))?;
+    book.ask(17, 3_000);
+    is_shown(&rt, grant_most(&mut book, 17, 844)?, "544");
+    is_shown(&rt, grant_most(&mut book, 17, 884)?, "544");
+    is_shown(&rt, grant_most(&mut book, 17, 924)?, "528");
+    is_shown(&rt, book.eligible(964, 36), "None");
+    is_shown(&rt, (book.asked(17), book.outstanding(17)), "(3000, 1384)");
+    Ok(())
+}
+
+#[test]
+fn a_removal_forgets_the_grants(rt: HostRuntime) -> Result<(), Fail> {
+    let mut book = Book::open(rt.alloc(), BASE.check()?)?;
+    book.admit(17, best_effort(64_000, 600))?;
+    book.ask(17, 3_000);
+    is_shown(&rt, grant_most(&mut book, 17, 844)?, "544");
+    book.remove(17);
+    is_shown(&rt, book.is_empty(), "true");
+    book.admit(17, best_effort(64_000, 600))?;
+    is_shown(&rt, book.asked(17), "0");
+    book.ask(17, 544);
+    is_shown(&rt, book.most(17, 884, 36), "544");
+    Ok(())
+}
+
+#[test]
+fn equal_flows_take_turns(rt: HostRuntime) -> Result<(), Fail> {
+    let mut book = Book::open(rt.alloc(), BASE.check()?)?;
+    book.admit(21, best_effort(0, 0))?;
+    book.admit(20, best_effort(0, 0))?;
+    is_shown(
+        &rt,
+        (book.len(), book.sid_at(0), book.sid_at(1)),
+        "(2, 20, 21)",
+    );
+    book.ask(20, 1_000);
+    book.ask(21, 1_000);
+    is_shown(&rt, book.eligible(844, 36), "Some(20)");
+    is_shown(&rt, grant_most(&mut book, 20, 844)?, "544");
+    is_shown(&rt, book.eligible(884, 36), "Some(21)");
+    Ok(())
+}
+
+#[test]
+fn a_copy_alone_is_granted_to(rt: HostRuntime) -> Result<(), Fail> {
+    let mut book = Book::open(rt.alloc(), BASE.check()?)?;
+    book.admit(20, best_effort(0, 0))?;
+    book.ask(20, 1_000);
+    let mut copy = book.copy()?;
+    is_shown(
+        &rt,
+        copy.flow(20),
+        "Some(BestEffort { priority: 3, rate: 0, burst: 0 })",
+    );
+    is_shown(&rt, grant_most(&mut copy, 20, 844)?, "544");
+    is_shown(&rt, copy.most(20, 924, 36), "456");
+    is_shown(&rt, copy.eligible(955, 5), "None");
+    is_shown(
+        &rt,
+        (copy.outstanding(20), book.outstanding(20)),
+        "(456, 1000)",
+    );
+    Ok(())
+}

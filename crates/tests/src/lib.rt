@@ -1,0 +1,29 @@
+//! The tests of all crates: worked rows of the profile, and what no clause says.
+#![tactic(auto)]
+
+#[cfg(test)]
+mod base;
+#[cfg(test)]
+mod flow_book_rows;
+#[cfg(test)]
+mod map_build_rows;
+#[cfg(test)]
+mod map_codec_rows;
+#[cfg(test)]
+mod minislots_rows;
+#[cfg(test)]
+mod periodic_rows;
+#[cfg(test)]
+mod sched_commands_rows;
+#[cfg(test)]
+mod sched_history_rows;
+#[cfg(test)]
+mod sched_storm_rows;
+#[cfg(test)]
+mod sched_text_rows;
+#[cfg(test)]
+mod shared_sched_rows;
+#[cfg(test)]
+mod ticket_core_rows;
+#[cfg(test)]
+mod ticket_lock_rows;

@@ -1,0 +1,78 @@
+//! Writes that fail.
+
+use super::tables::ONE_MAP;
+use crate::base::fakes::Narrow;
+use crate::base::texts::script_in;
+use sched_commands::{RunFault, decode_text, run_script};
+use std::alloc::Global;
+use std::io::ErrorKind;
+use std::process::Abort;
+use std::test::Fail;
+
+// Where a run has so much room, it ends so.
+fn run_ends(
+    rt: &impl Abort,
+    alloc: Global,
+    script: &str,
+    as_history: bool,
+    writer: Narrow,
+    expected: Result<(), RunFault>,
+) {
+    let mut writer = writer;
+    let found = run_script(alloc, &mut script.as_bytes(), &mut writer, as_history);
+    assert!(rt; found == expected, "with a history: {as_history}");
+}
+
+#[test]
+fn a_failed_write_ends_the_run(rt: HostRuntime) -> Result<(), Fail> {
+    let alloc = rt.alloc();
+    let script = script_in(alloc, "build 760 => map\nremove 0 => refused")?;
+    for (as_history, len) in [(false, 71), (true, 575)] {
+        for kind in [ErrorKind::Other, ErrorKind::Interrupted] {
+            for room in [0, 1, 4, 59, 60, 61, len - 1] {
+                let writer = Narrow { room, kind };
+                run_ends(
+                    &rt,
+                    alloc,
+                    &script,
+                    as_history,
+                    writer,
+                    Err(RunFault::Output),
+                );
+            }
+            run_ends(
+                &rt,
+                alloc,
+                &script,
+                as_history,
+                Narrow { room: len, kind },
+                Ok(()),
+            );
+        }
+    }
+    Ok(())
+}
+
+// Where a payload or a fault is shown in a line or a table of so many bytes, each write can fail.
+fn shows_until(rt: &impl Abort, alloc: Global, text: &str, len: usize, answer: bool) {
+    for kind in [ErrorKind::Interrupted, ErrorKind::BrokenPipe] {
+        for room in 0..len {
+            let outcome = decode_text(alloc, text, &mut Narrow { room, kind });
+            assert!(rt;
+                outcome == Err(RunFault::Output),
+                "{text} after {room} bytes"
+            );
+        }
+        let outcome = decode_text(alloc, text, &mut Narrow { room: len, kind });
+        assert!(rt; outcome == Ok(answer), "{text}");
+    }
+}
+
+#[test]
+fn a_failed_write_ends_what_is_shown(rt: HostRuntime) {
+    let alloc = rt.alloc();
+    let payload = "03010300000003200000032000000000fffc4000000180040001c028";
+    shows_until(&rt, alloc, payload, ONE_MAP.len(), true);
+    shows_until(&rt, alloc, "0g", 10, false);
+    shows_until(&rt, alloc, "", 8, false);
+}

@@ -1,0 +1,7 @@
+//! Scripts as they are read, with their faults, and histories as they are written.
+
+mod faults;
+mod histories;
+mod readers;
+pub mod scripts;
+mod storms;
