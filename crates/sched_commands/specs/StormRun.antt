@@ -7,16 +7,18 @@ use Rattle.sched_commands.specs.declared.fault.RunFault.TheVariants.{Input, TooL
 use Rattle.sched_commands.specs.declared.fault.RunFault.TheVariants.{Output, Threads}
 use Rattle.sched_storm.specs.declared.tally.Tally.{Tally}
 use Rattle.sched_text.specs.StormScript.{Storm, GivesStorm, StopsStormScript}
-use Rattle.sched_storm.specs.Storm.{IsTally}
+use Rattle.sched_storm.specs.Storm.{IsGatedTally}
 use Rattle.sched_commands.specs.StormLines.{tally_text}
 
--- the reader's bytes are a script of a storm, and the lines of a tally of it were written, and nothing else; the
--- answer is whether no worker was held
-pub record Stormed (unread left written_before written_after : Option (List ℕ)) (free : Bool) : Type 0 where
+-- the reader's bytes are a script of a storm, and the lines of a tally of it were written, and nothing else, one under
+-- a gate of which this is so where it lets a worker pass to the call at a place, and this where it does not; the answer
+-- is whether no worker was held
+pub record Stormed (passes holds : ℕ → ℕ → Type 0) (unread left written_before written_after : Option (List ℕ))
+    (free : Bool) : Type 0 where
   pub storm : Storm
   pub read : GivesStorm unread left (Ok storm)
   pub tally : Tally
-  pub tally_is : IsTally storm.config storm.scripts tally
+  pub tally_is : IsGatedTally passes holds storm.config storm.scripts tally
   pub written : Appends written_before written_after (tally_text (length storm.scripts) tally)
   pub free_is : free ≡ true ↔ (tally.held ≡ None)
 

@@ -25,9 +25,9 @@ pub fn run_storm<R: Threads + Wait + Sync, I: Read, W: Write, G: Gate>(
     writer: &mut W,
     gate: &G,
 ) -> Result<bool, RunFault>
-    // What was written is the lines of a tally of the scripts that were read, and nothing else.
-    ensures ok { IfOk result (Stormed (I.remaining reader.old) (I.remaining reader.new)
-        (W.contents writer.old) (W.contents writer.new)) }
+    // What was written is the lines of a tally of the scripts that were read, under this gate, and nothing else.
+    ensures ok { IfOk result (Stormed (G.lets_pass gate.now) (G.holds_back gate.now) (I.remaining reader.old)
+        (I.remaining reader.new) (W.contents writer.old) (W.contents writer.new)) }
 
     // Each fault comes under its own condition, the first one in their order.
     ensures stops { IfErr result (StopsStorm (I.remaining reader.old) (I.remaining reader.new)) }

@@ -12,6 +12,7 @@ use std::alloc::{AllocGlobal, Global};
 use std::process::Abort;
 use ticket_lock::{Held, Journal, LockFault, Seat, Ticket, TicketLock};
 
+mod letting_go;
 mod threads;
 
 // The journal of the tests: its entries are stamps, and its head says nothing.

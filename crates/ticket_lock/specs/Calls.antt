@@ -58,7 +58,7 @@ module _ {H E : Type 0} (stamp : E → Stamp) where
       pub ordered : IsInOrder lock log below
       pub each : Every (λ s. Extends stamp s.number s.log log) seats
       pub once : (k : ℕ) → bearers k seats ≡ once_below k (seats_of lock)
-      -- as many tickets were served as these seats have ended turns
+      -- the log's tickets are below the first one and as many more as these seats have ended turns
       pub turns : below ≡ first_of lock + sum_by turns_of seats
 
 -- a seat as it is made, which has ended no turn

@@ -206,3 +206,55 @@ impl Gate for Counting {
         }
     }
 }
+
+/// Holds each worker until the next one was told that its call was answered; the last of so many waits for nobody.
+#[derive(Drop)]
+pub struct FromTheLast {
+    workers: u64,
+    told: AtomicU64,
+}
+
+impl FromTheLast {
+    /// Nobody of so many workers, which have one call each, was told.
+    pub fn of(workers: u64) -> FromTheLast {
+        FromTheLast {
+            workers,
+            told: AtomicU64::new(0),
+        }
+    }
+}
+
+impl Gate for FromTheLast {
+    fn pass(&self, worker: usize, _index: usize) -> bool {
+        self.told.load(SeqCst).saturating_add(worker as u64).saturating_add(1) == self.workers
+    }
+
+    fn answered(&self, _worker: usize, _index: usize) {
+        self.told.fetch_add(1, SeqCst);
+    }
+}
+
+/// Lets the first calls pass at once, and each other one when it was asked so often.
+#[derive(Drop)]
+pub struct Slow {
+    turns: u64,
+    asked: AtomicU64,
+}
+
+impl Slow {
+    /// A gate that nobody has asked.
+    pub fn of(turns: u64) -> Slow {
+        Slow {
+            turns,
+            asked: AtomicU64::new(0),
+        }
+    }
+}
+
+impl Gate for Slow {
+    fn pass(&self, _worker: usize, index: usize) -> bool {
+        index == 0 || self.asked.fetch_add(1, SeqCst) >= self.turns
+    }
+
+    fn answered(&self, _worker: usize, _index: usize) {}
+}

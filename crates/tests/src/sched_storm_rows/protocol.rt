@@ -1,6 +1,6 @@
 //! What a worker asks its gate and tells it, and what goes on after a call that was not recorded.
 
-use super::gates::{Counting, Handover};
+use super::gates::{Counting, FromTheLast, Handover, Slow};
 use super::order::{PAIR, has_counts, has_order, tally_of};
 use sched_storm::Open;
 use std::alloc::AllocGlobal;
@@ -82,4 +82,29 @@ fn records_one<R: Threads + Wait + Abort + AllocGlobal + Sync>(
 fn a_storm_goes_on_after_a_call_that_was_not_recorded(rt: HostRuntime) -> Result<(), Fail> {
     records_one(&rt, FULL, 1)?;
     records_one(&rt, FULLER, 4)
+}
+
+// One call is recorded, and three workers have one each.
+const LAST: &str = r#""calls":1000 -> "calls":1
+build 760
+build 760
+build 760"#;
+
+#[test]
+fn a_gate_is_told_of_a_call_that_was_not_recorded(rt: HostRuntime) -> Result<(), Fail> {
+    let tally = tally_of(&rt, LAST, &FromTheLast::of(3))?;
+    has_counts(&rt, &tally, "(0, 0, 2, 1, None)");
+    has_order(&rt, &tally, &[2]);
+    Ok(())
+}
+
+// One call is recorded, and one worker has two.
+const SECOND: &str = r#""calls":1000 -> "calls":1
+build 760, status 17"#;
+
+#[test]
+fn a_worker_asks_again_after_a_call_that_was_not_recorded(rt: HostRuntime) -> Result<(), Fail> {
+    let tally = tally_of(&rt, SECOND, &Slow::of(1000))?;
+    has_counts(&rt, &tally, "(1, 0, 1, 1, None)");
+    Ok(())
 }

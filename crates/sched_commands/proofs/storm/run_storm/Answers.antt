@@ -17,7 +17,7 @@ returns-clause-ok g c =
       storm = record { config = c.in_ok-config.config; scripts = calls_each scripts.items };
       read = c.in_ok-config.ensures.ok;
       tally = c.in-Ok.tally;
-      tally_is = c.in-Ok.ensures.tally;
+      tally_is = c.in-Ok.ensures.gated;
       written = subst
           (λ n. Appends (contents c.args.writer.now) (contents c.put_tally.new.writer) (tally_text n c.in-Ok.tally))
           workers c.in_ok-put_tally.ensures.ok;
