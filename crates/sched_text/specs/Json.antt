@@ -21,10 +21,11 @@ use Rattle.sched_text.specs.Line.{refusal_number, refusal_value}
 abbrev pub count : ℕ → Data
 count n = number (unsigned n)
 
--- the members, with each of these whole numbers at its key
-abbrev pub with_counts : List (Bor (List ℕ) × ℕ) → Members → Members
-with_counts [] ms = ms
-with_counts (c ∷ cs) ms = with_counts cs (put c.0.now (count c.1) ms)
+-- the members, with each of these whole numbers at the key of its place
+abbrev pub with_counts : List (Bor (List ℕ)) → List ℕ → Members → Members
+with_counts [] ns ms = ms
+with_counts (k ∷ ks) [] ms = ms
+with_counts (k ∷ ks) (n ∷ ns) ms = with_counts ks ns (put k.now (count n) ms)
 
 -- an array of whole numbers
 unfoldable pub counts : List ℕ → Data

@@ -3,9 +3,11 @@
 ghost use Rattle.std.specs.Prelude.{◌≡◌, ◌≢◌, IfOk, OnOk, IfErr, string_bytes, ◌⊎◌};
 ghost use Rattle.std.specs.List.{AllByRecursion};
 ghost use Rattle.std.specs.Io.KnownBytes.{Appends};
-ghost use Rattle.serde_json.specs.View.{view};
+ghost use Rattle.serde_json.specs.Data.{object, no_members};
+ghost use Rattle.serde_json.specs.View.{view, members_view};
 ghost use Rattle.sched_history.specs.Machine.{IsEncodable};
-ghost use Rattle.sched_text.specs.HistoryText.{entry_data, entries_data, history_data, history_text};
+ghost use Rattle.sched_text.specs.Json.{call_data, reply_data};
+ghost use Rattle.sched_text.specs.HistoryText.{config_data, entry_data, entries_data, history_data, history_text};
 
 mod call;
 mod config;
@@ -14,35 +16,65 @@ mod reply;
 
 use crate::fault::TextFault;
 use crate::output::put;
-use call::call_members;
-use config::config_members;
+use call::put_call;
+use config::put_config;
 use count::put_counts;
 use minislots::Config;
-use reply::reply_members;
-use sched_history::Entry;
+use reply::put_reply;
+use sched_history::{Call, Entry, Reply};
 use serde_json::{Map, Value};
 use std::alloc::{AllocError, Global};
 use std::io::Write;
 
-/// An entry: its stamp, its call and its reply.
+// The keys of a stamp.
+static STAMP: [&str; 2] = ["seat", "ticket"];
+
+fn call_value(alloc: Global, call: Call) -> Result<Value, AllocError>
+    ensures { IfOk result (λ v. view v ≡ call_data call) }
+{
+    let mut map = Map::new(alloc);
+    put_call(&mut map, alloc, call)?;
+    Ok(Value::Object(map))
+}
+
+fn reply_value(alloc: Global, reply: &Reply) -> Result<Value, AllocError>
+    requires { IsEncodable reply.now }
+    ensures { IfOk result (λ v. view v ≡ reply_data reply.now) }
+{
+    let mut map = Map::new(alloc);
+    put_reply(&mut map, alloc, reply)?;
+    Ok(Value::Object(map))
+}
+
+fn config_value(alloc: Global, config: &Config) -> Result<Value, AllocError>
+    ensures { IfOk result (λ v. view v ≡ config_data config.now) }
+{
+    let mut map = Map::new(alloc);
+    put_config(&mut map, alloc, config)?;
+    Ok(Value::Object(map))
+}
+
+// Puts what an entry has: its stamp, its call and its reply.
 #[tactic(auto, unfolding(crate::specs::HistoryText::entry_data))]
+fn put_entry(map: &mut Map<String, Value>, alloc: Global, entry: &Entry) -> Result<(), AllocError>
+    requires encodable { IsEncodable entry.now.reply }
+    requires empty { members_view map.old.entries ≡ no_members }
+    ensures { OnOk result (object (members_view map.new.entries) ≡ entry_data entry.now) }
+{
+    let call = call_value(alloc, entry.call)?;
+    serde_json::put(map, alloc, "call", call)?;
+    let reply = reply_value(alloc, &entry.reply)?;
+    serde_json::put(map, alloc, "reply", reply)?;
+    let numbers = [entry.stamp.seat as u64, entry.stamp.ticket];
+    put_counts(map, alloc, &STAMP, &numbers)
+}
+
 fn entry_value(alloc: Global, entry: &Entry) -> Result<Value, AllocError>
     requires { IsEncodable entry.now.reply }
     ensures { IfOk result (λ v. view v ≡ entry_data entry.now) }
 {
     let mut map = Map::new(alloc);
-    let call = Value::Object(call_members(alloc, entry.call)?);
-    serde_json::put(&mut map, alloc, "call", call)?;
-    let reply = Value::Object(reply_members(alloc, &entry.reply)?);
-    serde_json::put(&mut map, alloc, "reply", reply)?;
-    put_counts(
-        &mut map,
-        alloc,
-        &[
-            ("seat", u64::from(entry.stamp.seat)),
-            ("ticket", entry.stamp.ticket),
-        ],
-    )?;
+    put_entry(&mut map, alloc, entry)?;
     Ok(Value::Object(map))
 }
 
@@ -58,17 +90,30 @@ fn entries_value(alloc: Global, entries: &[Entry]) -> Result<Value, AllocError>
     Ok(Value::Array(values))
 }
 
-/// A history under a configuration.
+// Puts a history under a configuration.
 #[tactic(auto, unfolding(crate::specs::HistoryText::history_data))]
+fn put_members(
+    map: &mut Map<String, Value>,
+    alloc: Global,
+    config: &Config,
+    entries: &[Entry],
+) -> Result<(), AllocError>
+    requires encodable { AllByRecursion (λ e. IsEncodable e.reply) entries.now }
+    requires empty { members_view map.old.entries ≡ no_members }
+    ensures { OnOk result (object (members_view map.new.entries) ≡ history_data config.now entries.now) }
+{
+    let config = config_value(alloc, config)?;
+    serde_json::put(map, alloc, "config", config)?;
+    let entries = entries_value(alloc, entries)?;
+    serde_json::put(map, alloc, "entries", entries)
+}
+
 fn history_value(alloc: Global, config: &Config, entries: &[Entry]) -> Result<Value, AllocError>
     requires { AllByRecursion (λ e. IsEncodable e.reply) entries.now }
     ensures { IfOk result (λ v. view v ≡ history_data config.now entries.now) }
 {
     let mut map = Map::new(alloc);
-    let config = Value::Object(config_members(alloc, config)?);
-    serde_json::put(&mut map, alloc, "config", config)?;
-    let entries = entries_value(alloc, entries)?;
-    serde_json::put(&mut map, alloc, "entries", entries)?;
+    put_members(&mut map, alloc, config, entries)?;
     Ok(Value::Object(map))
 }
 

@@ -1,20 +1,36 @@
 //! Calls as JSON.
 
-ghost use Rattle.std.specs.Prelude.{◌≡◌, IfOk};
-ghost use Rattle.serde_json.specs.Data.{object};
-ghost use Rattle.serde_json.specs.View.{members_view};
+ghost use Rattle.std.specs.Prelude.{◌≡◌, IfOk, OnOk};
+ghost use Rattle.serde_json.specs.Data.{object, no_members};
+ghost use Rattle.serde_json.specs.View.{view, members_view};
 ghost use Rattle.sched_text.specs.Json.{flow_data, call_data};
 
-use super::count::{named, named_with};
+use super::count::put_named;
 use flow_book::FlowSpec;
 use sched_history::Call;
 use serde_json::{Map, Value};
 use std::alloc::{AllocError, Global};
 
-// The parameters of a flow, by its kind.
+// The keys of what a flow or a call has beside its name.
+static UNSOLICITED: [&str; 3] = ["interval_us", "jitter_us", "size"];
+
+static POLLED: [&str; 4] = ["burst", "interval_us", "jitter_us", "rate"];
+
+static BEST_EFFORT: [&str; 3] = ["burst", "priority", "rate"];
+
+static SID: [&str; 1] = ["sid"];
+
+static ASK: [&str; 4] = ["bytes", "heard", "receiver", "sid"];
+
+static HEARD: [&str; 2] = ["receiver", "upto"];
+
+static NOW: [&str; 1] = ["now"];
+
+// Puts the parameters of a flow, by its kind.
 #[tactic(auto, unfolding(crate::specs::Json::flow_data))]
-fn flow_members(alloc: Global, flow: FlowSpec) -> Result<Map<String, Value>, AllocError>
-    ensures { IfOk result (λ m. object (members_view m.entries) ≡ flow_data flow) }
+fn put_flow(map: &mut Map<String, Value>, alloc: Global, flow: FlowSpec) -> Result<(), AllocError>
+    requires { members_view map.old.entries ≡ no_members }
+    ensures { OnOk result (object (members_view map.new.entries) ≡ flow_data flow) }
 {
     match flow {
         FlowSpec::Unsolicited {
@@ -22,12 +38,8 @@ fn flow_members(alloc: Global, flow: FlowSpec) -> Result<Map<String, Value>, All
             interval_us,
             jitter_us,
         } => {
-            let counts = [
-                ("interval_us", u64::from(interval_us)),
-                ("jitter_us", u64::from(jitter_us)),
-                ("size", u64::from(size)),
-            ];
-            named(alloc, "kind", "unsolicited", &counts)
+            let numbers = [interval_us as u64, jitter_us as u64, size as u64];
+            put_named(map, alloc, "kind", "unsolicited", &UNSOLICITED, &numbers)
         }
         FlowSpec::Polled {
             interval_us,
@@ -35,67 +47,79 @@ fn flow_members(alloc: Global, flow: FlowSpec) -> Result<Map<String, Value>, All
             rate,
             burst,
         } => {
-            let counts = [
-                ("burst", u64::from(burst)),
-                ("interval_us", u64::from(interval_us)),
-                ("jitter_us", u64::from(jitter_us)),
-                ("rate", u64::from(rate)),
+            let numbers = [
+                burst as u64,
+                interval_us as u64,
+                jitter_us as u64,
+                rate as u64,
             ];
-            named(alloc, "kind", "polled", &counts)
+            put_named(map, alloc, "kind", "polled", &POLLED, &numbers)
         }
         FlowSpec::BestEffort {
             priority,
             rate,
             burst,
         } => {
-            let counts = [
-                ("burst", u64::from(burst)),
-                ("priority", u64::from(priority)),
-                ("rate", u64::from(rate)),
-            ];
-            named(alloc, "kind", "best_effort", &counts)
+            let numbers = [burst as u64, priority as u64, rate as u64];
+            put_named(map, alloc, "kind", "best_effort", &BEST_EFFORT, &numbers)
         }
     }
 }
 
-#[tactic(auto, unfolding(crate::specs::Json::call_data))]
-fn admit_members(alloc: Global, sid: u16, flow: FlowSpec) -> Result<Map<String, Value>, AllocError>
-    ensures { IfOk result (λ m. object (members_view m.entries) ≡ call_data (Call.Admit sid flow)) }
+fn flow_value(alloc: Global, flow: FlowSpec) -> Result<Value, AllocError>
+    ensures { IfOk result (λ v. view v ≡ flow_data flow) }
 {
-    let flow = Value::Object(flow_members(alloc, flow)?);
-    let counts = [("sid", u64::from(sid))];
-    named_with(alloc, "call", "admit", &counts, "flow", flow)
+    let mut map = Map::new(alloc);
+    put_flow(&mut map, alloc, flow)?;
+    Ok(Value::Object(map))
 }
 
-/// The members of a call, by its name.
 #[tactic(auto, unfolding(crate::specs::Json::call_data))]
-pub fn call_members(alloc: Global, call: Call) -> Result<Map<String, Value>, AllocError>
-    ensures { IfOk result (λ m. object (members_view m.entries) ≡ call_data call) }
+fn put_admit(
+    map: &mut Map<String, Value>,
+    alloc: Global,
+    sid: u16,
+    flow: FlowSpec,
+) -> Result<(), AllocError>
+    requires { members_view map.old.entries ≡ no_members }
+    ensures { OnOk result (object (members_view map.new.entries) ≡ call_data (Call.Admit sid flow)) }
+{
+    let flow = flow_value(alloc, flow)?;
+    put_named(map, alloc, "call", "admit", &SID, &[sid as u64])?;
+    serde_json::put(map, alloc, "flow", flow)
+}
+
+/// Puts the members of a call, by its name.
+#[tactic(auto, unfolding(crate::specs::Json::call_data))]
+pub fn put_call(map: &mut Map<String, Value>, alloc: Global, call: Call) -> Result<(), AllocError>
+    requires { members_view map.old.entries ≡ no_members }
+    ensures { OnOk result (object (members_view map.new.entries) ≡ call_data call) }
 {
     match call {
-        Call::Admit(sid, flow) => admit_members(alloc, sid, flow),
-        Call::Remove(sid) => named(alloc, "call", "remove", &[("sid", u64::from(sid))]),
+        Call::Admit(sid, flow) => put_admit(map, alloc, sid, flow),
+        Call::Remove(sid) => put_named(map, alloc, "call", "remove", &SID, &[sid as u64]),
         Call::Ask {
             receiver,
             sid,
             bytes,
             heard,
         } => {
-            let counts = [
-                ("bytes", u64::from(bytes)),
-                ("heard", heard),
-                ("receiver", u64::from(receiver)),
-                ("sid", u64::from(sid)),
-            ];
-            named(alloc, "call", "ask", &counts)
+            let numbers = [bytes as u64, heard, receiver as u64, sid as u64];
+            put_named(map, alloc, "call", "ask", &ASK, &numbers)
         }
         Call::Heard { receiver, upto } => {
-            let counts = [("receiver", u64::from(receiver)), ("upto", upto)];
-            named(alloc, "call", "heard", &counts)
+            put_named(
+                map,
+                alloc,
+                "call",
+                "heard",
+                &HEARD,
+                &[receiver as u64, upto],
+            )
         }
-        Call::Build { now } => named(alloc, "call", "build", &[("now", now)]),
-        Call::Skip { now } => named(alloc, "call", "skip", &[("now", now)]),
-        Call::Status(sid) => named(alloc, "call", "status", &[("sid", u64::from(sid))]),
-        Call::Newest => named(alloc, "call", "newest", &[]),
+        Call::Build { now } => put_named(map, alloc, "call", "build", &NOW, &[now]),
+        Call::Skip { now } => put_named(map, alloc, "call", "skip", &NOW, &[now]),
+        Call::Status(sid) => put_named(map, alloc, "call", "status", &SID, &[sid as u64]),
+        Call::Newest => put_named(map, alloc, "call", "newest", &[], &[]),
     }
 }

@@ -1,7 +1,7 @@
 //! A configuration as JSON.
 
-ghost use Rattle.std.specs.Prelude.{◌≡◌, IfOk};
-ghost use Rattle.serde_json.specs.Data.{object};
+ghost use Rattle.std.specs.Prelude.{◌≡◌, OnOk};
+ghost use Rattle.serde_json.specs.Data.{object, no_members};
 ghost use Rattle.serde_json.specs.View.{members_view};
 ghost use Rattle.sched_text.specs.HistoryText.{config_data};
 
@@ -10,35 +10,61 @@ use minislots::Config;
 use serde_json::{Map, Value};
 use std::alloc::{AllocError, Global};
 
-/// The members of a configuration: one for each field.
+// The keys of the fields. The last key comes first: each key then goes before those that are there.
+static FIELDS: [&str; 20] = [
+    "ucd_count",
+    "ticks",
+    "start",
+    "short_max",
+    "req_slots",
+    "receivers",
+    "ranging_start",
+    "ranging_end",
+    "quantum",
+    "poll_slots",
+    "overhead",
+    "lead",
+    "grant_cap",
+    "frame",
+    "data_start",
+    "data_end",
+    "cycle",
+    "channel",
+    "calls",
+    "bytes_per_slot",
+];
+
+/// Puts the members of a configuration: one for each field.
 #[tactic(auto, unfolding(crate::specs::HistoryText::config_data))]
-pub fn config_members(alloc: Global, config: &Config) -> Result<Map<String, Value>, AllocError>
-    ensures { IfOk result (λ m. object (members_view m.entries) ≡ config_data config.now) }
+pub fn put_config(
+    map: &mut Map<String, Value>,
+    alloc: Global,
+    config: &Config,
+) -> Result<(), AllocError>
+    requires { members_view map.old.entries ≡ no_members }
+    ensures { OnOk result (object (members_view map.new.entries) ≡ config_data config.now) }
 {
-    // The last key first: each key then goes before those that are there.
-    let counts = [
-        ("ucd_count", u64::from(config.ucd_count)),
-        ("ticks", u64::from(config.ticks)),
-        ("start", config.start),
-        ("short_max", u64::from(config.short_max)),
-        ("req_slots", u64::from(config.req_slots)),
-        ("receivers", u64::from(config.receivers)),
-        ("ranging_start", u64::from(config.ranging_start)),
-        ("ranging_end", u64::from(config.ranging_end)),
-        ("quantum", u64::from(config.quantum)),
-        ("poll_slots", u64::from(config.poll_slots)),
-        ("overhead", u64::from(config.overhead)),
-        ("lead", u64::from(config.lead)),
-        ("grant_cap", u64::from(config.grant_cap)),
-        ("frame", u64::from(config.frame)),
-        ("data_start", u64::from(config.data_start)),
-        ("data_end", u64::from(config.data_end)),
-        ("cycle", u64::from(config.cycle)),
-        ("channel", u64::from(config.channel)),
-        ("calls", u64::from(config.calls)),
-        ("bytes_per_slot", u64::from(config.bytes_per_slot)),
+    let numbers = [
+        config.ucd_count as u64,
+        config.ticks as u64,
+        config.start,
+        config.short_max as u64,
+        config.req_slots as u64,
+        config.receivers as u64,
+        config.ranging_start as u64,
+        config.ranging_end as u64,
+        config.quantum as u64,
+        config.poll_slots as u64,
+        config.overhead as u64,
+        config.lead as u64,
+        config.grant_cap as u64,
+        config.frame as u64,
+        config.data_start as u64,
+        config.data_end as u64,
+        config.cycle as u64,
+        config.channel as u64,
+        config.calls as u64,
+        config.bytes_per_slot as u64,
     ];
-    let mut map = Map::new(alloc);
-    put_counts(&mut map, alloc, &counts)?;
-    Ok(map)
+    put_counts(map, alloc, &FIELDS, &numbers)
 }
