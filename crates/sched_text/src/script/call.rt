@@ -14,8 +14,12 @@ use serde_json::Value;
 fn admit_call(value: &Value) -> Option<Call>
     ensures { result ≡ admit_call (view value.now) }
 {
-    let sid = number_u16(value, "sid")?;
-    let flow = flow_of(member(value, "flow")?)?;
+    let (Some(sid), Some(flow)) = (
+        number_u16(value, "sid"),
+        member(value, "flow").and_then(flow_of),
+    ) else {
+        return None;
+    };
     Some(Call::Admit(sid, flow))
 }
 

@@ -1,8 +1,12 @@
--- The bytes so far and those of the last read are too many.
+-- The bytes so far are all, or with those of the last read too many.
 use Rattle.std.proofs.Common.{◌++◌, take, arith}
 use Rattle.std.proofs.lemmas.List.{length-append, length-take}
+use Rattle.std.proofs.lemmas.Grind.{common_steps}
 use Rattle.sched_text.proofs.Bytes.{Consumes-append}
 use Rattle.sched_text.proofs.input.read_all.Goals as goal
+
+pub returns-then-len-eq0-clause-ok : goal.returns-then-len-eq0-clause-ok
+returns-then-len-eq0-clause-ok g c = grind (arith, common_steps)
 
 pub returns-then-len-clause-stops : goal.returns-then-len-clause-stops
 returns-then-len-clause-stops g c =
