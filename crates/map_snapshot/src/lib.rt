@@ -1,0 +1,19 @@
+//! Versions of the newest map for readers that take no lock: one press publishes, and many readers read.
+#![tactic(auto)]
+
+mod ends;
+mod fault;
+mod list;
+mod opening;
+mod press;
+mod printed;
+mod reader;
+mod sheet;
+mod told;
+
+pub use fault::PressFault;
+pub use opening::{MAX_READERS, open_press};
+pub use press::Press;
+pub use printed::{MAX_BYTES, Printed};
+pub use reader::Reader;
+pub use told::Told;

@@ -1,0 +1,112 @@
+//! What readers take: one of the two copies.
+ghost use Rattle.std.specs.Prelude.{◌≡◌, true, [], None, IfSome};
+ghost use Rattle.std.specs.Arc.{arc_value};
+ghost use Rattle.map_snapshot.specs.Maps.{IsNewest};
+ghost use Rattle.map_snapshot.specs.Rules.{word_of};
+
+use crate::list::{Count, Seen, add};
+use crate::printed::Printed;
+use crate::told::Told;
+use left_right::Absorb;
+use std::alloc::{AllocError, Global};
+use std::marker::Model;
+use std::sync::Arc;
+
+/// The newest map, and the list that it stands last in, where it was added to the list.
+#[derive(Drop)]
+pub struct Sheet {
+    count: Arc<Count, Global>,
+    printed: Option<Printed>,
+    seen: Seen,
+    listed: bool,
+}
+
+impl Model for Sheet {
+    ghost use Rattle.std.specs.Prelude.{◌≡◌, true};
+    ghost use Rattle.std.specs.Arc.{arc_value};
+    ghost use Rattle.map_snapshot.specs.Maps.{Page, IsNewest};
+    ghost use Rattle.map_snapshot.specs.Rules.{word_of};
+
+    ghost Value = { Page };
+
+    ghost view = { λ s. record {
+      press = s.seen.book;
+      printed = s.printed;
+      list = s.seen.log;
+      listed = s.listed;
+    } };
+
+    ghost invariant = { λ s. (arc_value s.count ≡ word_of s.seen.book)
+        × (s.listed ≡ true → IsNewest s.printed s.seen.log) };
+}
+
+impl Sheet {
+    // What readers take before anything was published.
+    pub(crate) fn blank(count: Arc<Count, Global>, seen: Seen) -> Sheet
+        requires own { arc_value count ≡ word_of seen.book }
+        requires empty { seen.log ≡ [] }
+        ensures made { result ≡ record { press = seen.book; printed = None; list = []; listed = true } }
+    {
+        Sheet {
+            count,
+            printed: None,
+            seen,
+            listed: true,
+        }
+    }
+
+    // Whether the map was added to the list. It is, but for a copy that readers do not take.
+    pub(crate) fn is_listed(&self) -> bool
+        ensures listed { result ≡ self.now.listed }
+        ensures newest { result ≡ true → IsNewest self.now.printed self.now.list }
+    {
+        self.listed
+    }
+
+    // The list as it was seen.
+    pub(crate) fn seen(&self) -> &Seen
+        ensures seen { (result.now.book ≡ self.now.press) × (result.now.log ≡ self.now.list) }
+    {
+        &self.seen
+    }
+
+    // What this copy tells.
+    pub(crate) fn told(&self) -> Told
+        requires listed { self.now.listed ≡ true }
+        ensures told { result ≡ record { press = self.now.press; list = self.now.list } }
+    {
+        Told {
+            printed: self.printed,
+            seen: self.seen.again(),
+        }
+    }
+
+    // What this copy tells, where it is past this version.
+    pub(crate) fn past(&self, version: u64) -> Option<Told>
+        ensures told { IfSome result (λ t. t.press ≡ self.now.press) }
+    {
+        match &self.printed {
+            Some(printed) if self.listed && printed.version > version => Some(self.told()),
+            _ => None,
+        }
+    }
+}
+
+impl Absorb<Printed> for Sheet {
+    ghost use Rattle.std.specs.Prelude.{Some};
+    ghost use Rattle.map_snapshot.specs.Rules.{word_of};
+
+    type State = (Option<Printed>, Count);
+
+    ghost state = { λ s. (s.printed, word_of s.press) };
+
+    ghost applied = { λ s printed. (Some printed, s.1) };
+
+    ghost never_fails = { Unit {0} };
+
+    fn absorb_first(&mut self, operation: &Printed, _other: &Sheet) -> Result<(), AllocError> {
+        self.listed = add(&self.count, &mut self.seen, operation);
+        self.printed = Some(*operation);
+        Ok(())
+    }
+}
