@@ -44,7 +44,10 @@ impl Press {
         let mut end = self.writer.factory().reader()?;
         end.learn::<Takes>(self.writer.tell::<Same>());
         let known = self.tell();
-        Ok(Reader { end, known })
+        Ok(Reader {
+            end: Some(end),
+            known,
+        })
     }
 }
 

@@ -1,26 +1,24 @@
 //! A reader.
-ghost use Rattle.std.specs.Prelude.{◌≡◌, ◌⊎◌, IfSome, Some};
+ghost use Rattle.std.specs.Prelude.{◌≡◌, ◌⊎◌};
 ghost use mathlib.Core.List.{IsPrefix};
-ghost use Rattle.left_right.specs.Sides.{view};
 ghost use Rattle.map_snapshot.specs.Maps.{IsNewest};
-ghost use Rattle.map_snapshot.specs.Rules.{word_of};
 
 use crate::ends;
 use crate::ends::Finds;
 use crate::printed::Printed;
 use crate::told::Told;
-use core::mem::replace_with;
 use std::marker::Model;
 
 /// What reads the newest map, with no lock. It keeps the newest that it knows.
 #[derive(Drop)]
 pub struct Reader {
-    pub(crate) end: ends::Reader,
+    // It is there between two reads.
+    pub(crate) end: Option<ends::Reader>,
     pub(crate) known: Told,
 }
 
 impl Model for Reader {
-    ghost use Rattle.std.specs.Prelude.{◌≡◌, Some};
+    ghost use Rattle.std.specs.Prelude.{◌≡◌, Some, IfSome};
     ghost use Rattle.left_right.specs.Sides.{view as name_in};
     ghost use Rattle.map_snapshot.specs.Maps.{Known};
     ghost use Rattle.map_snapshot.specs.Rules.{word_of};
@@ -29,25 +27,28 @@ impl Model for Reader {
 
     ghost view = { λ r. r.known };
 
-    ghost invariant = { λ r. name_in r.end.place ≡ Some (word_of r.known.press) };
-}
-
-// Copies out what readers take, where it is past this version.
-fn read(end: ends::Reader, version: u64) -> (ends::Reader, Option<Told>)
-    requires known { (b : _) × (view end.place ≡ Some (word_of b)) }
-    ensures same { view result.0.place ≡ view end.place }
-    ensures own { (b : _) → view end.place ≡ Some (word_of b) → IfSome result.1 (λ t. t.press ≡ b) }
-{
-    match end.enter_as::<Finds>() {
-        Ok(reading) => {
-            let found = reading.get().past(version);
-            (reading.leave(), found)
-        }
-        Err(end) => (end, None),
-    }
+    ghost invariant = { λ r. IfSome r.end (λ e. name_in e.place ≡ Some (word_of r.known.press)) };
 }
 
 impl Reader {
+    // Takes in what readers take now, where it is newer than what the reader knows.
+    #[tactic(auto, using(crate::proofs::Beginnings::prefix_self))]
+    fn read(&mut self)
+        ensures press { self.new.press ≡ self.old.press }
+        ensures grows { IsPrefix self.old.list self.new.list }
+    {
+        let Some(end) = self.end.take() else {
+            return;
+        };
+        match end.enter_as::<Finds>() {
+            Ok(reading) => {
+                reading.get().tell_to(&mut self.known);
+                self.end = Some(reading.leave());
+            }
+            Err(end) => self.end = Some(end),
+        }
+    }
+
     /// The newest map, or none where nothing was published yet. It is never older than one read before, nor than
     /// one that the reader was told of. It takes no memory and no lock, and waits for nobody.
     pub fn newest(&mut self) -> Option<Printed>
@@ -55,10 +56,7 @@ impl Reader {
         ensures grows { IsPrefix self.old.list self.new.list }
         ensures newest { IsNewest result self.new.list }
     {
-        let version = self.known.version();
-        if let Some(found) = replace_with(&mut self.end, version, read) {
-            self.known.take_in(found);
-        }
+        self.read();
         self.known.newest()
     }
 
@@ -71,6 +69,6 @@ impl Reader {
         ensures told { IsPrefix told.list self.new.list }
         ensures one { (self.new.list ≡ self.old.list) ⊎ (self.new.list ≡ told.list) }
     {
-        self.known.take_in(told);
+        self.known.take_in(&told.printed, &told.seen);
     }
 }

@@ -1,5 +1,6 @@
 //! What readers take: one of the two copies.
-ghost use Rattle.std.specs.Prelude.{◌≡◌, true, [], None, IfSome};
+ghost use Rattle.std.specs.Prelude.{◌≡◌, true, [], None};
+ghost use mathlib.Core.List.{IsPrefix};
 ghost use Rattle.std.specs.Arc.{arc_value};
 ghost use Rattle.map_snapshot.specs.Maps.{IsNewest};
 ghost use Rattle.map_snapshot.specs.Rules.{word_of};
@@ -81,13 +82,14 @@ impl Sheet {
         }
     }
 
-    // What this copy tells, where it is past this version.
-    pub(crate) fn past(&self, version: u64) -> Option<Told>
-        ensures told { IfSome result (λ t. t.press ≡ self.now.press) }
+    // Tells a reader of the same press.
+    pub(crate) fn tell_to(&self, known: &mut Told)
+        requires own { self.now.press ≡ known.old.press }
+        ensures press { known.new.press ≡ known.old.press }
+        ensures kept { IsPrefix known.old.list known.new.list }
     {
-        match &self.printed {
-            Some(printed) if self.listed && printed.version > version => Some(self.told()),
-            _ => None,
+        if self.listed {
+            known.take_in(&self.printed, &self.seen);
         }
     }
 }

@@ -24,6 +24,16 @@ impl Model for Told {
     ghost invariant = { λ t. IsNewest t.printed t.seen.log };
 }
 
+// The version of the newest of a list of maps, or 0 where there is none.
+fn version_of(newest: &Option<Printed>) -> u64
+    ensures count { (list : _) → IsNewest newest.now list → result ≡ length list }
+{
+    match newest {
+        Some(printed) => printed.version,
+        None => 0,
+    }
+}
+
 impl Told {
     // The newest of the maps.
     pub(crate) fn newest(&self) -> Option<Printed>
@@ -32,28 +42,21 @@ impl Told {
         self.printed
     }
 
-    // How many maps there are.
-    pub(crate) fn version(&self) -> u64
-        ensures count { result ≡ length self.now.list }
-    {
-        match &self.printed {
-            Some(printed) => printed.version,
-            None => 0,
-        }
-    }
-
-    // Takes in what the same press told: of the two lists, each a beginning of what it has published, the longer.
-    pub(crate) fn take_in(&mut self, other: Told)
-        requires own { other.press ≡ self.old.press }
+    // Takes in another list of the same press, with its newest: of the two, each a beginning of what the press has
+    // published, it keeps the longer.
+    pub(crate) fn take_in(&mut self, printed: &Option<Printed>, seen: &Seen)
+        requires newest { IsNewest printed.now seen.now.log }
+        requires own { seen.now.book ≡ self.old.press }
         ensures press { self.new.press ≡ self.old.press }
         ensures kept { IsPrefix self.old.list self.new.list }
-        ensures told { IsPrefix other.list self.new.list }
-        ensures one { (self.new.list ≡ self.old.list) ⊎ (self.new.list ≡ other.list) }
+        ensures told { IsPrefix seen.now.log self.new.list }
+        ensures one { (self.new.list ≡ self.old.list) ⊎ (self.new.list ≡ seen.now.log) }
     {
-        let mut both = other.seen.again();
+        let mut both = seen.again();
         both.learn(&self.seen);
-        if other.version() > self.version() {
-            *self = other;
+        if version_of(printed) > version_of(&self.printed) {
+            self.printed = *printed;
+            self.seen = seen.again();
         }
     }
 }
