@@ -1,2 +1,3 @@
+pub mod Laws
 pub mod Maps
 pub mod Rules

@@ -3,6 +3,7 @@
 
 mod ends;
 mod fault;
+mod laws;
 mod list;
 mod opening;
 mod press;
@@ -12,6 +13,7 @@ mod sheet;
 mod told;
 
 pub use fault::PressFault;
+pub use laws::{never_goes_back, stands_at_its_version};
 pub use opening::{MAX_READERS, open_press};
 pub use press::Press;
 pub use printed::{MAX_BYTES, Printed};
