@@ -51,7 +51,9 @@ impl Press {
     }
 }
 
-/// Opens a press with this many readers, at most 16, none of which has read anything.
+/// Opens a press with this many readers, at most 16, none of which has read anything. More readers are
+/// `ReaderCount`, and want of memory is `Memory`; after either nothing is left open. It waits for nobody, since no
+/// one reads yet: it takes the handle because a press that is left is ended by a call that may wait.
 pub fn open_press<R: Wait>(
     rt: &R,
     alloc: Global,
