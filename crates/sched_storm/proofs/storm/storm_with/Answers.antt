@@ -1,5 +1,6 @@
 -- The workers have a seat each of the lock that was opened, and there is a tally of what they gave back.
-use Rattle.std.proofs.Common.{arith}
+use Rattle.std.proofs.Common.{◌≤◌, vec_len, arith, rules}
+use Rattle.sched_history.specs.declared.call.TheConstants.{MAX_SCRIPTS}
 use Rattle.sched_storm.proofs.StormLaws.{opened_own, opened_length, gathered_own, gathered_all}
 use Rattle.sched_storm.proofs.StormLaws.{is_gated_tally, is_tally}
 use Rattle.sched_storm.proofs.storm.storm_with.Goals as goal
@@ -53,3 +54,15 @@ returns-clause-gated g c =
     (g.G.Gate.lets_pass c.args.gate.now) (g.G.Gate.holds_back c.args.gate.now) c.args.scripts c.len-workers.ensures
     c.run_workers-gathered.result c.run_workers-gathered.ensures.worked new.shared.config new.ensures.config
     c.close.result c.close.ensures.told c.close.ensures.ok
+
+pub returns-in_default-clause-count : goal.returns-in_default-clause-count
+returns-in_default-clause-count g c =
+    let most : vec_len c.args.scripts ≤ MAX_SCRIPTS = omega arith in search rules
+
+pub returns-in_default-open-clause-count : goal.returns-in_default-open-clause-count
+returns-in_default-open-clause-count g c =
+    let most : vec_len c.args.scripts ≤ MAX_SCRIPTS = omega arith in search rules
+
+pub returns-clause-count : goal.returns-clause-count
+returns-clause-count g c =
+    let most : vec_len c.args.scripts ≤ MAX_SCRIPTS = omega arith in search rules

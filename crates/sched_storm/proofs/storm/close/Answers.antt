@@ -1,0 +1,9 @@
+-- There is a tally exactly where no worker was stopped.
+use Rattle.std.proofs.Common.{refl, rules}
+use Rattle.sched_storm.proofs.storm.close.Goals as goal
+
+pub returns-then-stopped-clause-err : goal.returns-then-stopped-clause-err
+returns-then-stopped-clause-err c = (refl, search rules)
+
+pub returns-clause-ok : goal.returns-clause-ok
+returns-clause-ok c = search rules
