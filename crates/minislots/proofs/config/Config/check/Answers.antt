@@ -1,6 +1,10 @@
--- A lawful configuration keeps to its bounds.
+-- A lawful configuration keeps to its bounds, and is given back as it is.
+use Rattle.std.proofs.Common.{refl}
 use Rattle.minislots.proofs.Bounds.{bounds_of}
 use Rattle.minislots.proofs.config.Config.check.Goals as goal
 
 pub invariant_of-result : goal.invariant_of-result
 invariant_of-result c = (c.in_ok-check_fields.ensures, bounds_of _ c.in_ok-check_fields.ensures)
+
+pub returns-clause-ok : goal.returns-clause-ok
+returns-clause-ok c = refl
