@@ -8,4 +8,3 @@ pub mod Recording
 pub mod Building
 pub mod CountedElements
 pub mod Entering
-pub mod Newest

@@ -1,6 +1,6 @@
 -- Which reply may follow a history, and which histories are legal.
 use Rattle.std.specs.Prelude.{◌≡◌, ℕ, ◌+◌, ◌/◌, ◌⊎◌, List, [], Option, None}
-use Rattle.std.specs.Prelude.{Some, option_map, MatchOption, if◌then◌else◌}
+use Rattle.std.specs.Prelude.{Some, MatchOption, if◌then◌else◌}
 use Rattle.minislots.specs.declared.config.Config.{Config}
 use Rattle.flow_book.specs.declared.spec.FlowSpec.{FlowSpec}
 use Rattle.flow_book.specs.declared.spec.FlowSpec.TheVariants.{Unsolicited, Polled, BestEffort}
@@ -12,12 +12,11 @@ use Rattle.map_build.specs.declared.frame_map.FrameMap.{FrameMap}
 use Rattle.map_build.specs.EachAfter.{EachAfter}
 use Rattle.map_build.specs.FrameMap.{IsLawfulMap}
 use Rattle.sched_history.specs.declared.call.Call.{Call}
-use Rattle.sched_history.specs.declared.call.Call.TheVariants.{Admit, Remove, Ask, Heard, Build, Skip, Status, Newest}
+use Rattle.sched_history.specs.declared.call.Call.TheVariants.{Admit, Remove, Ask, Heard, Build, Skip, Status}
 use Rattle.sched_history.specs.declared.reply.Refusal.TheVariants.{NoPlace}
 use Rattle.sched_history.specs.declared.reply.Reply.{Reply}
 use Rattle.sched_history.specs.declared.reply.Reply.TheVariants as replies
 use Rattle.sched_history.specs.declared.reply.Entry.{Entry}
-use Rattle.sched_history.specs.Latest.{latest}
 use Rattle.sched_history.specs.Life.{life_of, flow_in_life, flows_of, table_of}
 use Rattle.sched_history.specs.Time.{next_after, ack_after, IsFirstStart}
 use Rattle.sched_history.specs.Refusal.{refusal_of}
@@ -49,10 +48,6 @@ abbrev pub map_by : Reply → Option FrameMap
 map_by (replies.Built m) = Some m
 map_by reply = None
 
--- the newest MAP, where one was built
-abbrev pub newest_map : List Entry → Option FrameMap
-newest_map h = option_map (λ found. found.said) (latest (λ e. map_by e.reply) h)
-
 -- the reply to a call that no test refuses
 abbrev pub Answers : Config → List Entry → Call → Reply → Type 0
 Answers c h (Admit sid spec) reply = AnswersAdmit c h spec reply
@@ -62,7 +57,6 @@ Answers c h (Heard receiver upto) reply = reply ≡ replies.Noted
 Answers c h (Build now) reply = (m : FrameMap) × IsNextMap c h m × (reply ≡ replies.Built m)
 Answers c h (Skip now) reply = (start : ℕ) × IsFirstStart c (now + c.lead) start × (reply ≡ replies.Skipped start)
 Answers c h (Status sid) reply = MatchOption (life_of sid h) ⊥ (λ life. reply ≡ flow_status (flow_in_life sid life))
-Answers c h Newest reply = reply ≡ replies.Latest (newest_map h)
 
 -- the reply may follow the history: the first refusal, or where there is none the answer
 abbrev pub IsStep : Config → List Entry → Call → Reply → Type 0

@@ -1,5 +1,5 @@
 -- What callers see of a scheduler, and which of its calls may lack memory.
-use Rattle.std.specs.Prelude.{◌≡◌, List, None, Some, IsSome}
+use Rattle.std.specs.Prelude.{◌≡◌, List, None}
 use Rattle.minislots.specs.declared.config.Config.{Config}
 use Rattle.map_codec.specs.WireMap.{IsWellFormed}
 use Rattle.flow_book.specs.declared.spec.FlowSpec.{FlowSpec}
@@ -7,14 +7,13 @@ use Rattle.flow_book.specs.declared.spec.FlowSpec.TheVariants.{Unsolicited, Poll
 use Rattle.periodic.specs.declared.placement.Placement.{Placement}
 use Rattle.periodic.specs.Placement.{IsPlacement}
 use Rattle.sched_history.specs.declared.call.Call.{Call}
-use Rattle.sched_history.specs.declared.call.Call.TheVariants.{Admit, Remove, Ask, Heard, Build, Skip, Status, Newest}
+use Rattle.sched_history.specs.declared.call.Call.TheVariants.{Admit, Remove, Ask, Heard, Build, Skip, Status}
 use Rattle.sched_history.specs.declared.reply.Reply.{Reply}
 use Rattle.sched_history.specs.declared.reply.Reply.TheVariants as replies
 use Rattle.sched_history.specs.declared.reply.Entry.{Entry}
 use Rattle.sched_history.specs.Life.{table_of}
 use Rattle.sched_history.specs.Time.{next_after}
 use Rattle.sched_history.specs.Refusal.{refusal_of}
-use Rattle.sched_history.specs.History.{newest_map}
 
 -- a configuration, and the history under it
 pub record Machine : Type 0 where
@@ -30,8 +29,6 @@ IsEncodable replies.Noted = Unit {0}
 IsEncodable (replies.Built m) = IsWellFormed m.wire
 IsEncodable (replies.Skipped next) = Unit {0}
 IsEncodable (replies.Flow asked granted outstanding) = Unit {0}
-IsEncodable (replies.Latest None) = Unit {0}
-IsEncodable (replies.Latest (Some m)) = IsWellFormed m.wire
 IsEncodable (replies.Refused refusal) = Unit {0}
 
 -- a place for the flow exists, where it needs one
@@ -42,7 +39,7 @@ IsPlaceable c h (Polled interval jitter rate burst) =
     (p : Placement) × IsPlacement c (table_of h) (Polled interval jitter rate burst) (next_after c h) p
 IsPlaceable c h (BestEffort priority rate burst) = Unit {0}
 
--- the call takes memory where no test refuses it: an admission with a place, a build, a question for a MAP
+-- the call takes memory where no test refuses it: an admission with a place, or a build
 abbrev pub TakesMemory : Config → List Entry → Call → Type 0
 TakesMemory c h (Admit sid spec) = IsPlaceable c h spec
 TakesMemory c h (Remove sid) = ⊥
@@ -51,7 +48,6 @@ TakesMemory c h (Heard receiver upto) = ⊥
 TakesMemory c h (Build now) = Unit {0}
 TakesMemory c h (Skip now) = ⊥
 TakesMemory c h (Status sid) = ⊥
-TakesMemory c h Newest = IsSome (newest_map h)
 
 -- no refusal meets the call, and it takes memory
 pub record MayLackMemory (c : Config) (h : List Entry) (call : Call) : Type 0 where

@@ -2,7 +2,7 @@
 use Rattle.std.specs.Prelude.{None, Some}
 use Rattle.sched_history.specs.declared.reply.Reply.{Reply}
 use Rattle.sched_history.specs.declared.reply.Reply.TheVariants.{Admitted, Removed, Taken, Noted, Built}
-use Rattle.sched_history.specs.declared.reply.Reply.TheVariants.{Skipped, Flow, Latest, Refused}
+use Rattle.sched_history.specs.declared.reply.Reply.TheVariants.{Skipped, Flow, Refused}
 
 -- the reply has lists: a placement's starts, or a MAP
 abbrev pub OwnsMemory : Reply → Type 0
@@ -14,6 +14,4 @@ OwnsMemory Noted = ⊥
 OwnsMemory (Built m) = Unit {0}
 OwnsMemory (Skipped next) = ⊥
 OwnsMemory (Flow asked granted outstanding) = ⊥
-OwnsMemory (Latest None) = ⊥
-OwnsMemory (Latest (Some m)) = Unit {0}
 OwnsMemory (Refused refusal) = ⊥

@@ -34,6 +34,4 @@ pub enum Call {
     },
     /// Asks for a flow's bytes.
     Status(u16),
-    /// Asks for the newest MAP.
-    Newest,
 }

@@ -72,8 +72,6 @@ pub enum Reply {
         granted: u64,
         outstanding: u64,
     },
-    /// The newest MAP, where one was built.
-    Latest(Option<FrameMap>),
     /// The call changes nothing.
     Refused(Refusal),
 }
@@ -103,8 +101,6 @@ impl Reply {
                 granted: *granted,
                 outstanding: *outstanding,
             },
-            Reply::Latest(None) => Reply::Latest(None),
-            Reply::Latest(Some(map)) => Reply::Latest(Some(map.copy(alloc)?)),
             Reply::Refused(refusal) => Reply::Refused(*refusal),
         })
     }

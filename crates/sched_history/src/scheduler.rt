@@ -8,7 +8,6 @@ ghost use Rattle.sched_history.specs.Machine.{IsEncodable, MayLackMemory};
 
 mod answering;
 mod granting;
-mod newest;
 mod refusing;
 mod state;
 
@@ -53,8 +52,8 @@ impl Scheduler {
 
     /// Answers a call and records it, with its stamp and its reply. A call that is not recorded changes
     /// nothing: one where the history has as many entries as the configuration allows, before any
-    /// refusal, and an admission, a build or a question for the newest MAP that no refusal meets, where
-    /// memory ran out. Every other call takes no memory.
+    /// refusal, and an admission or a build that no refusal meets, where memory ran out. Every other call
+    /// takes no memory.
     pub fn call(&mut self, stamp: Stamp, call: Call) -> Result<Reply, Unrecorded>
         // A reply is recorded, and may follow the history.
         ensures recorded { IfOk result (λ reply. self.new ≡ record self.old {

@@ -9,10 +9,10 @@ use Rattle.flow_book.specs.declared.spec.FlowSpec.{FlowSpec}
 use Rattle.flow_book.specs.declared.spec.FlowSpec.TheVariants.{Unsolicited, Polled, BestEffort}
 use Rattle.map_build.specs.declared.frame_map.FrameMap.{FrameMap}
 use Rattle.sched_history.specs.declared.call.Call.{Call}
-use Rattle.sched_history.specs.declared.call.Call.TheVariants.{Admit, Remove, Ask, Heard, Build, Skip, Status, Newest}
+use Rattle.sched_history.specs.declared.call.Call.TheVariants.{Admit, Remove, Ask, Heard, Build, Skip, Status}
 use Rattle.sched_history.specs.declared.reply.Reply.{Reply}
 use Rattle.sched_history.specs.declared.reply.Reply.TheVariants.{Admitted, Removed, Taken, Noted, Built, Skipped, Flow}
-use Rattle.sched_history.specs.declared.reply.Reply.TheVariants.{Latest, Refused}
+use Rattle.sched_history.specs.declared.reply.Reply.TheVariants.{Refused}
 use Rattle.sched_history.specs.declared.reply.Entry.{Entry}
 use Rattle.sched_text.specs.Json.{count, counts, flow_data, call_data, plain_data, placed_data, map_data, refused_data}
 use Rattle.sched_text.specs.Json.{reply_data}
@@ -50,7 +50,6 @@ call-whole (Heard receiver upto) = refl
 call-whole (Build now) = refl
 call-whole (Skip now) = refl
 call-whole (Status sid) = refl
-call-whole Newest = refl
 
 plain-whole : (kind : List ℕ) → has_float (plain_data kind) ≡ false
 unfolding plain_data
@@ -75,8 +74,6 @@ reply-whole Noted = plain-whole (codes "noted")
 reply-whole (Built m) = map-whole (codes "map") m
 reply-whole (Skipped next) = refl
 reply-whole (Flow asked granted outstanding) = refl
-reply-whole (Latest None) = plain-whole (codes "latest")
-reply-whole (Latest (Some m)) = map-whole (codes "latest") m
 reply-whole (Refused refusal) = refused-whole (refusal_number refusal) (refusal_value refusal)
 
 entry-whole : (e : Entry) → has_float (entry_data e) ≡ false

@@ -10,7 +10,7 @@ use Rattle.minislots.specs.declared.config.Config.{Config}
 use Rattle.flow_book.specs.declared.spec.FlowSpec.{FlowSpec}
 use Rattle.flow_book.specs.declared.spec.FlowSpec.TheVariants.{Unsolicited, Polled, BestEffort}
 use Rattle.sched_history.specs.declared.call.Call.{Call}
-use Rattle.sched_history.specs.declared.call.Call.TheVariants.{Admit, Remove, Ask, Heard, Build, Skip, Status, Newest}
+use Rattle.sched_history.specs.declared.call.Call.TheVariants.{Admit, Remove, Ask, Heard, Build, Skip, Status}
 use Rattle.sched_text.specs.Fields.{below, number_at, u8_at, u16_at, u32_at, u64_at, text_at, slots_of, sizes_of}
 use Rattle.sched_text.specs.Fields.{counts_of, windows_of, config_of}
 use Rattle.sched_text.specs.Calls.{unsolicited_of, polled_of, best_effort_of, flow_of, admit_call, remove_call}
@@ -30,7 +30,7 @@ FlowFits (Polled interval jitter rate burst) = (interval < 2 ^ 32) × (jitter < 
     × (burst < 2 ^ 32)
 FlowFits (BestEffort priority rate burst) = (priority < 2 ^ 8) × (rate < 2 ^ 32) × (burst < 2 ^ 32)
 
--- the numbers of a call fit their types; a script has no question for the newest MAP
+-- the numbers of a call fit their types
 abbrev pub CallFits : Call → Type 0
 CallFits (Admit sid spec) = (sid < 2 ^ 16) × FlowFits spec
 CallFits (Remove sid) = sid < 2 ^ 16
@@ -39,7 +39,6 @@ CallFits (Heard receiver upto) = (receiver < 2 ^ 8) × (upto < 2 ^ 64)
 CallFits (Build now) = now < 2 ^ 64
 CallFits (Skip now) = now < 2 ^ 64
 CallFits (Status sid) = sid < 2 ^ 16
-CallFits Newest = ⊥
 
 -- a flow is read back
 pub flow_of-data : (spec : FlowSpec) → FlowFits spec → flow_of (flow_data spec) ≡ Some spec
@@ -71,7 +70,6 @@ call_of-data (Heard receiver upto) fits = rw (below-fits (2 ^ 8) receiver fits.0
 call_of-data (Build now) fits = rw (below-fits (2 ^ 64) now fits) refl
 call_of-data (Skip now) fits = rw (below-fits (2 ^ 64) now fits) refl
 call_of-data (Status sid) fits = rw (below-fits (2 ^ 16) sid fits) refl
-call_of-data Newest fits = absurd fits
 
 -- the numbers of a configuration fit their types
 pub record ConfigFits (c : Config) : Type 0 where

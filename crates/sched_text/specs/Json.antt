@@ -11,10 +11,10 @@ use Rattle.flow_book.specs.declared.spec.FlowSpec.TheVariants.{Unsolicited, Poll
 use Rattle.periodic.specs.declared.placement.Placement.{Placement}
 use Rattle.map_build.specs.declared.frame_map.FrameMap.{FrameMap}
 use Rattle.sched_history.specs.declared.call.Call.{Call}
-use Rattle.sched_history.specs.declared.call.Call.TheVariants.{Admit, Remove, Ask, Heard, Build, Skip, Status, Newest}
+use Rattle.sched_history.specs.declared.call.Call.TheVariants.{Admit, Remove, Ask, Heard, Build, Skip, Status}
 use Rattle.sched_history.specs.declared.reply.Reply.{Reply}
 use Rattle.sched_history.specs.declared.reply.Reply.TheVariants.{Admitted, Removed, Taken, Noted, Built, Skipped, Flow}
-use Rattle.sched_history.specs.declared.reply.Reply.TheVariants.{Latest, Refused}
+use Rattle.sched_history.specs.declared.reply.Reply.TheVariants.{Refused}
 use Rattle.sched_text.specs.Line.{refusal_number, refusal_value}
 
 -- a whole number
@@ -64,7 +64,6 @@ call_data (Skip now) = object (member (codes "call") (string (codes "skip"))
     (member (codes "now") (count now) no_members))
 call_data (Status sid) = object (member (codes "call") (string (codes "status"))
     (member (codes "sid") (count sid) no_members))
-call_data Newest = object (member (codes "call") (string (codes "newest")) no_members)
 
 -- a reply of this kind that says nothing more
 unfoldable pub plain_data : List ℕ → Data
@@ -104,6 +103,4 @@ reply_data (Skipped next) = object (
 reply_data (Flow asked granted outstanding) = object (
     member (codes "asked") (count asked) (member (codes "granted") (count granted) (
     member (codes "kind") (string (codes "flow")) (member (codes "outstanding") (count outstanding) no_members))))
-reply_data (Latest None) = plain_data (codes "latest")
-reply_data (Latest (Some m)) = map_data (codes "latest") m
 reply_data (Refused refusal) = refused_data (refusal_number refusal) (refusal_value refusal)

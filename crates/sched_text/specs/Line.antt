@@ -12,7 +12,7 @@ use Rattle.sched_history.specs.declared.reply.Refusal.TheVariants.{Acked, Ahead,
 use Rattle.sched_history.specs.declared.reply.Refusal.TheVariants.{NotLate}
 use Rattle.sched_history.specs.declared.reply.Reply.{Reply}
 use Rattle.sched_history.specs.declared.reply.Reply.TheVariants.{Admitted, Removed, Taken, Noted, Built, Skipped, Flow}
-use Rattle.sched_history.specs.declared.reply.Reply.TheVariants.{Latest, Refused}
+use Rattle.sched_history.specs.declared.reply.Reply.TheVariants.{Refused}
 use Rattle.sched_history.specs.declared.reply.Unrecorded.TheVariants.{HistoryFull, Memory}
 use Rattle.sched_history.specs.Machine.{IsEncodable}
 use Rattle.sched_history.specs.declared.reply.Unrecorded.{Unrecorded}
@@ -92,8 +92,6 @@ reply_text Taken = codes "taken"
 reply_text Noted = codes "noted"
 reply_text (Built m) = codes "map " ++ encode_lower (spelling m.wire)
 reply_text (Skipped next) = codes "skipped" ++ number_text next
-reply_text (Latest None) = codes "latest"
-reply_text (Latest (Some m)) = codes "latest " ++ encode_lower (spelling m.wire)
 reply_text (Flow asked granted outstanding) = codes "flow"
     ++ (number_text asked ++ (number_text granted ++ number_text outstanding))
 reply_text (Refused refusal) = codes "refused" ++ (number_text (refusal_number refusal)

@@ -171,9 +171,6 @@ fn put_reply<W: Write>(writer: &mut W, reply: &Reply) -> Result<(), TextFault>
             granted,
             outstanding,
         } => put_words(writer, b"flow", &[*asked, *granted, *outstanding]),
-        // No call of a script asks for the newest MAP.
-        Reply::Latest(None) => put(writer, b"latest"),
-        Reply::Latest(Some(map)) => put_payload(writer, b"latest ", &map.wire),
         Reply::Refused(refusal) => put_refusal(writer, *refusal),
     }
 }

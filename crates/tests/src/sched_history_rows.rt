@@ -26,9 +26,6 @@ fn read(alloc: Global, config: &str, calls: &str) -> Result<(Checked, Vec<Call>)
 
 // The call in a row.
 fn call_of(alloc: Global, row: &str) -> Result<Call, Fail> {
-    if row == "newest" {
-        return Ok(Call::Newest);
-    }
     let (_, calls) = read(alloc, &config_of(alloc, "")?, &json_of(alloc, row)?)?;
     Ok(*calls.first().ok_or("a row has a call")?)
 }
@@ -73,20 +70,17 @@ fn there_is_room_for_many_flows_and_many_grants(rt: HostRuntime) -> Result<(), F
     play_runs(&rt, rt.alloc(), GRANTS)
 }
 
-const NEWEST: &str = "newest => latest
-best_effort 17 3 0 0 => admitted
+const TWO_BUILDS: &str = "best_effort 17 3 0 0 => admitted
 build 760 => map 03010300000003200000032000000000fffc4000000180040001c028
-newest => latest 03010300000003200000032000000000fffc4000000180040001c028
 ask 0 17 100 801 => taken
-build 800 => map 03010400000003480000032000000000fffc4000004580040001800d0001c028
-newest => latest 03010400000003480000032000000000fffc4000004580040001800d0001c028";
+build 800 => map 03010400000003480000032000000000fffc4000004580040001800d0001c028";
 
 #[test]
-fn the_newest_map_is_the_last_one_built(rt: HostRuntime) -> Result<(), Fail> {
+fn the_history_has_each_call(rt: HostRuntime) -> Result<(), Fail> {
     let mut machine = Machine::open(rt.alloc(), "")?;
-    play(&rt, rt.alloc(), &mut machine, NEWEST)?;
-    is_shown(&rt, machine.scheduler.history().len(), "7");
-    is_shown(&rt, machine.scheduler.into_history().len(), "7");
+    play(&rt, rt.alloc(), &mut machine, TWO_BUILDS)?;
+    is_shown(&rt, machine.scheduler.history().len(), "4");
+    is_shown(&rt, machine.scheduler.into_history().len(), "4");
     Ok(())
 }
 

@@ -17,7 +17,6 @@ turn_by-refused (calls.Heard receiver upto) refusal sid = refl
 turn_by-refused (calls.Build now) refusal sid = refl
 turn_by-refused (calls.Skip now) refusal sid = refl
 turn_by-refused (calls.Status other) refusal sid = refl
-turn_by-refused calls.Newest refusal sid = refl
 
 asked_by-refused : (call : Call) (refusal : Refusal) (sid : ℕ) → asked_by sid call (replies.Refused refusal) ≡ 0
 asked_by-refused (calls.Admit other spec) refusal sid = refl
@@ -27,7 +26,6 @@ asked_by-refused (calls.Heard receiver upto) refusal sid = refl
 asked_by-refused (calls.Build now) refusal sid = refl
 asked_by-refused (calls.Skip now) refusal sid = refl
 asked_by-refused (calls.Status other) refusal sid = refl
-asked_by-refused calls.Newest refusal sid = refl
 
 -- the live flows stay as they are
 pub flows_of-refused : (stamp : Stamp) (h : List Entry) (call : Call) (refusal : Refusal)

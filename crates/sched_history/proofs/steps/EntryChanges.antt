@@ -24,7 +24,7 @@ use Rattle.sched_history.specs.declared.reply.Entry.{Entry}
 use Rattle.sched_history.specs.Life.{Life, life_of, flow_in_life, flows_of}
 use Rattle.sched_history.specs.Time.{skip_by, is_built, next_after, IsFirstStart}
 use Rattle.sched_history.specs.Refusal.{most_bytes, most_ahead, last_clock, refusal_of}
-use Rattle.sched_history.specs.History.{PlacesOrRefuses, AnswersAdmit, flow_status, IsNextMap, newest_map}
+use Rattle.sched_history.specs.History.{PlacesOrRefuses, AnswersAdmit, flow_status, IsNextMap}
 use Rattle.sched_history.specs.History.{Answers, IsStep}
 use Rattle.sched_history.proofs.lives.Finding.{good_sid, life_of-dead}
 use Rattle.sched_history.proofs.lives.FlowsAfter.{flows_of-quiet}
@@ -124,12 +124,6 @@ module _ (c : Config) (lawful : IsLawful c) (stamp : Stamp) (h : List Entry) whe
       Nothing (flows_of-quiet h e (λ sid. refl) (λ sid. refl) (λ sid. refl))
       (same_next (calls.Heard receiver upto) replies.Noted refl refl)
 
-  shown : (newest : Option FrameMap) → EntryChange c h (after calls.Newest (replies.Latest newest))
-  shown newest =
-      let e : Entry = entry calls.Newest (replies.Latest newest) in
-      Nothing (flows_of-quiet h e (λ sid. refl) (λ sid. refl) (λ sid. refl))
-      (same_next calls.Newest (replies.Latest newest) refl refl)
-
   skips : (now start : ℕ) → IsFirstStart c (now + c.lead) start → refusal_of c h (calls.Skip now) ≡ None
       → EntryChange c h (after (calls.Skip now) (replies.Skipped start))
   skips now start first none =
@@ -169,8 +163,6 @@ module _ (c : Config) (lawful : IsLawful c) (stamp : Stamp) (h : List Entry) whe
   answered (calls.Skip now) reply none answers =
       by_reply (calls.Skip now) reply (replies.Skipped answers.0) answers.2 (skips now answers.0 answers.1 none)
   answered (calls.Status sid) reply none answers = tells sid (life_of sid h) reply answers
-  answered calls.Newest reply none answers =
-      by_reply calls.Newest reply (replies.Latest (newest_map h)) answers (shown (newest_map h))
 
   stepped : (call : Call) (reply : Reply) (o : Option Refusal) → refusal_of c h call ≡ o
       → MatchOption o (Answers c h call reply) (λ refusal. reply ≡ replies.Refused refusal)

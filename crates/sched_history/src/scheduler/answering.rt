@@ -71,7 +71,6 @@ impl Scheduler {
             Call::Build { now } => self.build(stamp, now),
             Call::Skip { now } => Ok(self.skip(stamp, now)),
             Call::Status(sid) => Ok(self.tell(stamp, sid)),
-            Call::Newest => self.show_newest(stamp),
         }
     }
 

@@ -64,7 +64,6 @@ impl Scheduler {
             Call::Heard { receiver, upto } => self.refuse_progress(receiver, upto),
             Call::Build { now } => self.refuse_build(now),
             Call::Skip { now } => self.refuse_skip(now),
-            Call::Newest => None,
         }
     }
 

@@ -1,5 +1,4 @@
-//! What the scheduler keeps of the present, so that no call but one for the newest MAP reads the
-//! history again.
+//! What the scheduler keeps of the present, so that no call reads the history again.
 
 ghost use Rattle.std.specs.Prelude.{◌≡◌, ◌≢◌, ◌+◌, ◌/◌, ◌%◌, ◌<◌, ◌≤◌, ◌^◌, ◌==◌, [], true, None};
 ghost use Rattle.std.specs.Prelude.{length, take, find, IfOk, OnErr, OnOk, IfSome, IsErrOf};

@@ -120,6 +120,5 @@ pub fn put_call(map: &mut Map<String, Value>, alloc: Global, call: Call) -> Resu
         Call::Build { now } => put_named(map, alloc, "call", "build", &NOW, &[now]),
         Call::Skip { now } => put_named(map, alloc, "call", "skip", &NOW, &[now]),
         Call::Status(sid) => put_named(map, alloc, "call", "status", &SID, &[sid as u64]),
-        Call::Newest => put_named(map, alloc, "call", "newest", &[], &[]),
     }
 }

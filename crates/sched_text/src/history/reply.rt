@@ -134,8 +134,6 @@ pub fn put_reply(
             let numbers = [*asked, *granted, *outstanding];
             put_named(map, alloc, "kind", "flow", &SUMS, &numbers)
         }
-        Reply::Latest(None) => put_plain(map, alloc, "latest"),
-        Reply::Latest(Some(frame)) => put_map(map, alloc, "latest", frame),
         Reply::Refused(refusal) => {
             let (number, value) = (refusal_number(*refusal), refusal_value(*refusal));
             put_refused(map, alloc, number, value)

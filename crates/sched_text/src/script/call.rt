@@ -86,7 +86,7 @@ fn status_call(value: &Value) -> Option<Call>
     Some(Call::Status(number_u16(value, "sid")?))
 }
 
-/// The call that an object stands for, by its name. The question for the newest MAP has no name.
+/// The call that an object stands for, by its name.
 #[tactic(auto, unfolding(crate::specs::Calls::call_of))]
 pub fn call_of(value: &Value) -> Option<Call>
     ensures { result ≡ call_of (view value.now) }

@@ -37,7 +37,10 @@ fn calls_of(alloc: Global, sid: u16) -> Result<Vec<Call>, AllocError> {
         calls.push(match i % 4 {
             0 => Call::Build { now: 760 },
             1 => Call::Status(sid),
-            2 => Call::Newest,
+            2 => Call::Heard {
+                receiver: 0,
+                upto: 800,
+            },
             _ => ask,
         })?;
     }
