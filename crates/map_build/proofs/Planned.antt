@@ -16,7 +16,7 @@ use Rattle.map_build.specs.declared.draft.Draft.{Draft}
 use Rattle.map_build.specs.declared.frame_map.FrameMap.{FrameMap}
 use Rattle.map_build.specs.Plan.{Allocation, end_of, flow_after, flows_after, allocation_of, IsPlan}
 use Rattle.map_build.specs.FrameMap.{element_of, null_element, pending, elements_of, bytes_of_plan, IsLawfulMap}
-use Rattle.map_build.specs.FrameMap.{map_with}
+use Rattle.map_build.specs.FrameMap.{map_with, IsLawfulFrame}
 use Rattle.map_build.specs.Spots.{IsInFrame, AreInFrame, IsFlowSid, HaveFlowSids, AreOfChannel}
 use Rattle.map_build.specs.Draft.{Ends}
 use Rattle.map_build.specs.Walk.{IsFilled, HasPlan, AreTaken}
@@ -54,12 +54,16 @@ module _ (c : Config) (flows : List LiveFlow) (spots : List Spot) (start : ℕ) 
   bytes-are : ended.bytes.items ≡ bytes_of_plan c flows start plan
   bytes-are = ends.bytes_of ∙ rw (has.config, flows-are, has.bytes_of) refl
 
-  -- the MAP of the draft is the lawful one
-  pub lawful-map : (ack : ℕ) (m : FrameMap) → m ≡ map_with ended.book.config ended.start ack ended.elements.items
+  -- the MAP of the draft is the lawful one, and its book has the data grants
+  lawful-frame : (ack : ℕ) (m : FrameMap) → m ≡ map_with ended.book.config ended.start ack ended.elements.items
       ended.bytes.items →
-      IsLawfulMap c flows spots start ack m
-  lawful-map ack m made =
-      (plan, plan-is, made ∙ rw (elements-are, bytes-are, ends.book, ends.start, has.config, has.starts) refl)
+      IsLawfulFrame c flows spots start ack m ended.book.flows
+  lawful-frame ack m made = (
+    plan,
+    plan-is,
+    made ∙ rw (elements-are, bytes-are, ends.book, ends.start, has.config, has.starts) refl,
+    ap (λ b. b.flows) ends.book ∙ flows-are,
+  )
 
 -- a draft with the plan of nothing has the flows
 begun-flows : (c : Config) (flows : List LiveFlow) (spots : List Spot) (start : ℕ) (d : Draft) →
@@ -80,16 +84,22 @@ pub filled-full : (spots : List Spot) (begun filled : Draft) → IsFilled spots 
     filled.offset ≡ filled.book.config.frame
 filled-full spots begun filled is = is.2 ∙ ap (λ k. k.frame) (sym is.1.config)
 
--- a draft that is begun, filled and ended has the lawful MAP
+-- a draft that is begun, filled and ended has the lawful MAP, and its data grants
 pub planned : (c : Config) (flows : List LiveFlow) (spots : List Spot) (start ack : ℕ) (begun filled ended : Draft)
     (m : FrameMap) → AreInFrame c spots →
     HasPlan c flows spots start [] begun → IsFilled spots begun filled → Ends filled ended →
     m ≡ map_with ended.book.config ended.start ack ended.elements.items ended.bytes.items →
-    IsLawfulMap c flows spots start ack m
+    IsLawfulFrame c flows spots start ack m ended.book.flows
 planned c flows spots start ack begun filled ended m are has (plan, filling, full) ends made =
-    lawful-map c flows spots start plan filled ended are
+    lawful-frame c flows spots start plan filled ended are
     (rw (has.config, begun-flows c flows spots start begun has, has.starts) at filling) (full
     ∙ ap (λ k. k.frame) has.config) ends ack m made
+
+-- the MAP of a lawful frame is lawful
+pub lawful-from_frame : (c : Config) (flows : List LiveFlow) (spots : List Spot) (start ack : ℕ) (m : FrameMap)
+    (granted : List LiveFlow) → IsLawfulFrame c flows spots start ack m granted →
+    IsLawfulMap c flows spots start ack m
+lawful-from_frame c flows spots start ack m granted (plan, is, made, after) = (plan, is, made)
 
 -- spots that do not overlap are apart
 pub apart-in-frame : (c : Config) (spots : List Spot) → AreInFrame c spots → BeginApart spots

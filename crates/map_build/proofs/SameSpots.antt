@@ -8,6 +8,7 @@ use Rattle.std.proofs.lemmas.Result.{IfOk-weaker}
 use Rattle.std.proofs.lemmas.List.Sorted.{Contains-permutation, IsPermutation-sym}
 use Rattle.minislots.specs.declared.config.Config.{Config}
 use Rattle.flow_book.specs.Flows.{LiveFlow}
+use Rattle.flow_book.specs.Book.{BookView}
 use Rattle.flow_book.specs.Choice.{IsNext, IsAmount, NoneEligible}
 use Rattle.periodic.specs.declared.placement.Spot.{Spot}
 use Rattle.periodic.specs.Placement.{Placed, spots_in}
@@ -15,8 +16,8 @@ use Rattle.periodic.specs.Table.{FollowInTurn, IsWithinFrame}
 use Rattle.map_build.specs.declared.frame_map.FrameMap.{FrameMap}
 use Rattle.map_build.specs.EachAfter.{EachAfter}
 use Rattle.map_build.specs.Plan.{Purpose, Poll, UnsolicitedGrant, DataGrant, Idle, Allocation, next_stop, room_at}
-use Rattle.map_build.specs.Plan.{flows_after, Stands, StandsByItsRule, allocation_of}
-use Rattle.map_build.specs.FrameMap.{IsLawfulMap}
+use Rattle.map_build.specs.Plan.{flows_after, Stands, StandsByItsRule, allocation_of, IsPlan}
+use Rattle.map_build.specs.FrameMap.{IsLawfulMap, IsLawfulFrame}
 use Rattle.map_build.specs.Spots.{IsInFrame, AreInFrame, HaveFlowSids}
 use Rattle.map_build.proofs.Standings.{member-at}
 use Rattle.map_build.proofs.Stops.{next_stop-most, next_stop-is, next_stop-spot}
@@ -81,36 +82,38 @@ module _ (c : Config) (flows : List LiveFlow) (start : ℕ) (spots others : List
     same-each (before ++ a ∷ []) plan each.1,
   )
 
-  -- a MAP that is lawful for the ones is lawful for the others
-  lawful-among : (ack : ℕ) (m : FrameMap) → IsLawfulMap c flows spots start ack m →
-      IsLawfulMap c flows others start ack m
-  lawful-among ack m (plan, is, made) = (
-    plan,
-    record {
-      each = same-each [] plan is.each;
-      whole = is.whole;
-      due = all-members (λ (t : Spot). Contains plan (allocation_of t)) others
-          (λ s has. member-at (λ (t : Spot). Contains plan (allocation_of t)) spots s is.due (back s has));
-    },
-    made,
-  )
+  -- a plan round the ones is one round the others
+  plan-among : (plan : List Allocation) → IsPlan c flows spots start plan → IsPlan c flows others start plan
+  plan-among plan is = record {
+    each = same-each [] plan is.each;
+    whole = is.whole;
+    due = all-members (λ (t : Spot). Contains plan (allocation_of t)) others
+        (λ s has. member-at (λ (t : Spot). Contains plan (allocation_of t)) spots s is.due (back s has));
+  }
 
--- a MAP that is lawful for spots in one order is so in another
-pub lawful-reordered : (c : Config) (flows : List LiveFlow) (spots others : List Spot) (start ack : ℕ)
-    (m : FrameMap) → IsPermutation spots others →
-    IsLawfulMap c flows others start ack m → IsLawfulMap c flows spots start ack m
-lawful-reordered c flows spots others start ack m moved lawful =
-    lawful-among c flows start others spots (λ s is. Contains-permutation others spots s
-    (IsPermutation-sym spots others moved) is)
-    (λ s is. Contains-permutation spots others s moved is) ack m lawful
+-- a frame that is lawful for spots in one order is so in another
+frame-reordered : (c : Config) (flows : List LiveFlow) (spots others : List Spot) (start ack : ℕ)
+    (m : FrameMap) (granted : List LiveFlow) → IsPermutation spots others →
+    IsLawfulFrame c flows others start ack m granted → IsLawfulFrame c flows spots start ack m granted
+frame-reordered c flows spots others start ack m granted moved (plan, is, made, after) = (
+  plan,
+  plan-among c flows start others spots (λ s has. Contains-permutation others spots s
+  (IsPermutation-sym spots others moved) has)
+  (λ s has. Contains-permutation spots others s moved has) plan is,
+  made,
+  after,
+)
 
--- and the other way round
-pub lawful-in_order : (c : Config) (flows : List LiveFlow) (spots others : List Spot) (start ack : ℕ) (m : FrameMap) →
+-- and a MAP the other way round
+lawful-in_order : (c : Config) (flows : List LiveFlow) (spots others : List Spot) (start ack : ℕ) (m : FrameMap) →
     IsPermutation spots others →
     IsLawfulMap c flows spots start ack m → IsLawfulMap c flows others start ack m
-lawful-in_order c flows spots others start ack m moved lawful =
-    lawful-among c flows start spots others (λ s is. Contains-permutation spots others s moved is)
-    (λ s is. Contains-permutation others spots s (IsPermutation-sym spots others moved) is) ack m lawful
+lawful-in_order c flows spots others start ack m moved (plan, is, made) = (
+  plan,
+  plan-among c flows start spots others (λ s has. Contains-permutation spots others s moved has)
+  (λ s has. Contains-permutation others spots s (IsPermutation-sym spots others moved) has) plan is,
+  made,
+)
 
 each-in_frame : (c : Config) (spots : List Spot) → AllByRecursion (IsWithinFrame c) spots →
     AllByRecursion (IsInFrame c) spots
@@ -132,26 +135,27 @@ written-sids c (s ∷ spots) within =
     ((omega (arith, within.0.sid_positive), within.0.sid_most), written-sids c spots within.1)
 
 -- what is lawful for the spots that a table tells of frame k is lawful for those of its placements
-pub lawful-told : {E : Type 0} (c d : Config) (flows : List LiveFlow) (k n ack : ℕ) (placed : List Placed)
-    (spots : List Spot) (r : Result FrameMap E) →
+pub frame-told : {E : Type 0} (c d : Config) (flows : List LiveFlow) (k n ack : ℕ) (placed : List Placed)
+    (spots : List Spot) (r : Result (FrameMap × BookView) E) →
     d ≡ c → IsPermutation (spots_in d k placed) spots → n ≡ c.frame →
-    IfOk r (λ m. IsLawfulMap c flows spots (k * n) ack m) →
-    IfOk r (λ m. IsLawfulMap c flows (spots_in c k placed) (k * c.frame) ack m)
-lawful-told c d flows k n ack placed spots r same moved slots lawful =
+    IfOk r (λ both. IsLawfulFrame c flows spots (k * n) ack both.0 both.1.flows) →
+    IfOk r (λ both. IsLawfulFrame c flows (spots_in c k placed) (k * c.frame) ack both.0 both.1.flows)
+frame-told c d flows k n ack placed spots r same moved slots lawful =
     IfOk-weaker r _ _
-    (λ m is. lawful-reordered c flows (spots_in c k placed) spots (k * c.frame) ack m
+    (λ both is. frame-reordered c flows (spots_in c k placed) spots (k * c.frame) ack both.0 both.1.flows
     (subst (λ e. IsPermutation (spots_in e k placed) spots) same moved) is)
     (rw slots at lawful)
 
 -- and there is no other
 pub only-told : {E : Type 0} (c d : Config) (flows : List LiveFlow) (k n ack : ℕ) (placed : List Placed)
-    (spots : List Spot) (r : Result FrameMap E) →
+    (spots : List Spot) (r : Result (FrameMap × BookView) E) →
     d ≡ c → IsPermutation (spots_in d k placed) spots → n ≡ c.frame →
-    IfOk r (λ m. (other : FrameMap) → IsLawfulMap c flows spots (k * n) ack other → other ≡ m) →
-    IfOk r (λ m. (other : FrameMap) → IsLawfulMap c flows (spots_in c k placed) (k * c.frame) ack other → other ≡ m)
+    IfOk r (λ both. (other : FrameMap) → IsLawfulMap c flows spots (k * n) ack other → other ≡ both.0) →
+    IfOk r (λ both. (other : FrameMap) → IsLawfulMap c flows (spots_in c k placed) (k * c.frame) ack other
+    → other ≡ both.0)
 only-told c d flows k n ack placed spots r same moved slots only =
     IfOk-weaker r _ _
-    (λ m is other lawful. is other
+    (λ both is other lawful. is other
     (lawful-in_order c flows (spots_in c k placed) spots (k * c.frame) ack other
     (subst (λ e. IsPermutation (spots_in e k placed) spots) same moved) lawful))
     (rw slots at only)

@@ -86,3 +86,9 @@ map_of c flows start ack plan = map_with c start ack (elements_of c flows start 
 abbrev pub IsLawfulMap : Config → List LiveFlow → List Spot → ℕ → ℕ → FrameMap → Type 0
 IsLawfulMap c flows spots start ack m =
     (plan : List Allocation) × IsPlan c flows spots start plan × (m ≡ map_of c flows start ack plan)
+
+-- The MAP is lawful, and these are the live flows with its data grants
+abbrev pub IsLawfulFrame : Config → List LiveFlow → List Spot → ℕ → ℕ → FrameMap → List LiveFlow → Type 0
+IsLawfulFrame c flows spots start ack m granted =
+    (plan : List Allocation) × IsPlan c flows spots start plan × (m ≡ map_of c flows start ack plan)
+    × (granted ≡ flows_after start plan flows)

@@ -135,11 +135,12 @@ impl Draft {
         Ok(())
     }
 
-    /// The MAP with the elements of the draft.
-    pub(crate) fn into_map(self, ack: u64) -> FrameMap
-        ensures made { result ≡ map_with self.book.config self.start ack
+    /// The MAP with the elements of the draft, and its book.
+    pub(crate) fn into_map(self, ack: u64) -> (FrameMap, Book)
+        ensures made { result.0 ≡ map_with self.book.config self.start ack
             self.elements.items self.bytes.items }
-        ensures fits { FitsHeader result.wire }
+        ensures fits { FitsHeader result.0.wire }
+        ensures book { result.1 ≡ self.book }
     {
         let Draft {
             book,
@@ -148,12 +149,13 @@ impl Draft {
             bytes,
             ..
         } = self;
-        FrameMap {
+        let map = FrameMap {
             start,
             ack,
             wire: wire_map(book.config(), start, ack, elements),
             bytes: ByteCounts::from_vec(bytes),
-        }
+        };
+        (map, book)
     }
 }
 

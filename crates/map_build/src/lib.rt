@@ -6,7 +6,7 @@ mod frame;
 mod frame_map;
 mod walk;
 
-pub use frame::plan_frame;
+pub use frame::{plan_frame, plan_with_book};
 pub use frame_map::{ByteCounts, FrameMap};
 
 /// The most data grants of one MAP.

@@ -2,6 +2,7 @@
 use Rattle.minislots.proofs.Bounds.{bounds_of}
 use Rattle.map_build.proofs.OneMap.{one_map}
 use Rattle.map_build.proofs.Planned.{begun-here, filled-full, planned, apart-in-frame, lawful-encodable}
+use Rattle.map_build.proofs.Planned.{lawful-from_frame}
 use Rattle.map_build.proofs.frame.plan_around.Goals as goal
 
 pub fill-requires-clause-placed : goal.fill-requires-clause-placed
@@ -19,10 +20,11 @@ put_end-requires c = filled-full c.args.spots.now c.in_ok-draft.draft c.fill.new
 
 pub returns-clause-lawful : goal.returns-clause-lawful
 returns-clause-lawful c =
-    planned c.args.book.now.config c.args.book.now.flows c.args.spots.now c.args.start c.args.ack c.in_ok-draft.draft
+    rw (c.into_map.ensures.book)
+    (planned c.args.book.now.config c.args.book.now.flows c.args.spots.now c.args.start c.args.ack c.in_ok-draft.draft
     c.fill.new.self c.put_end.new.self
-    c.into_map.result c.requires.placed (c.in_ok-draft.ensures c.args.spots.now c.requires.placed)
-    c.in_ok-fill.ensures c.in_ok-put_end.ensures c.into_map.ensures.made
+    c.into_map.result.0 c.requires.placed (c.in_ok-draft.ensures c.args.spots.now c.requires.placed)
+    c.in_ok-fill.ensures c.in_ok-put_end.ensures c.into_map.ensures.made)
 
 pub returns-clause-only : goal.returns-clause-only
 returns-clause-only c = λ n lawful.
@@ -30,13 +32,16 @@ returns-clause-only c = λ n lawful.
     let has = c.in_ok-draft.ensures c.args.spots.now c.requires.placed in
     one_map config c.args.book.now.flows c.args.spots.now c.args.start
     (bounds_of config (rw has.config at has.ready.lawful)).overhead_positive
-    (apart-in-frame config c.args.spots.now c.requires.placed) c.args.ack n c.into_map.result lawful
-    (returns-clause-lawful c)
+    (apart-in-frame config c.args.spots.now c.requires.placed) c.args.ack n c.into_map.result.0 lawful
+    (lawful-from_frame config c.args.book.now.flows c.args.spots.now c.args.start c.args.ack c.into_map.result.0
+    c.into_map.result.1.flows (returns-clause-lawful c))
 
 pub returns-clause-encodable : goal.returns-clause-encodable
 returns-clause-encodable c = λ channel places.
     let config = c.args.book.now.config in
     let has = c.in_ok-draft.ensures c.args.spots.now c.requires.placed in
-    lawful-encodable config c.args.book.now.flows c.args.spots.now c.args.start c.args.ack c.into_map.result
+    lawful-encodable config c.args.book.now.flows c.args.spots.now c.args.start c.args.ack c.into_map.result.0
     (rw has.config at has.ready.lawful)
-    c.requires.placed (returns-clause-lawful c) c.into_map.ensures.fits channel places
+    c.requires.placed
+    (lawful-from_frame config c.args.book.now.flows c.args.spots.now c.args.start c.args.ack c.into_map.result.0
+    c.into_map.result.1.flows (returns-clause-lawful c)) c.into_map.ensures.fits channel places
