@@ -3,8 +3,5 @@ pub mod Opening
 pub mod Present
 pub mod Sums
 pub mod Moves
-pub mod Inside
 pub mod Recording
 pub mod Building
-pub mod CountedElements
-pub mod Entering

@@ -13,5 +13,6 @@ pub mod Refusal
 pub mod History
 pub mod Reply
 pub mod Machine
+pub mod Planned
 pub mod State
 pub mod Facts

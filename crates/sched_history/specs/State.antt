@@ -1,32 +1,25 @@
 -- What a scheduler keeps of its history, and what is true of each scheduler.
-use Rattle.std.specs.Prelude.{◌≡◌, ℕ, ◌+◌, ◌*◌, ◌%◌, ◌<◌, ◌≤◌, ◌^◌, false, None, List, [], ◌∷◌}
-use Rattle.std.specs.Prelude.{◌++◌, filter_map, map, zip, length, slice_index, vec_capacity}
+use Rattle.std.specs.Prelude.{◌≡◌, ℕ, ◌+◌, ◌*◌, ◌%◌, ◌<◌, ◌≤◌, false, None, List, [], ◌∷◌}
+use Rattle.std.specs.Prelude.{◌++◌, length, slice_index, vec_capacity}
 use Rattle.std.specs.List.{AllByRecursion}
-use Rattle.std.specs.Option.{IfSome, IsSomeAnd}
 use Rattle.minislots.specs.declared.config.Config.{Config}
 use Rattle.minislots.specs.declared.stamp.Stamp.{Stamp}
 use Rattle.minislots.specs.Config.{IsLawful}
-use Rattle.minislots.specs.Units.{slots_for}
-use Rattle.map_codec.specs.declared.element.Element.{Element}
 use Rattle.flow_book.specs.declared.TheConstants.{MAX_FLOWS}
-use Rattle.flow_book.specs.Flows.{LiveFlow, flow_of}
-use Rattle.flow_book.specs.Choice.{HasStartedBy, MayGrant}
-use Rattle.flow_book.specs.Book.{BookView, IsLive, Ascend, room_of}
-use Rattle.periodic.specs.declared.placement.Spot.{Spot}
-use Rattle.map_build.specs.declared.frame_map.FrameMap.{FrameMap}
-use Rattle.map_build.specs.Plan.{Allocation, most_grants, IsPlan}
-use Rattle.map_build.specs.FrameMap.{elements_of, bytes_of_plan, IsLawfulMap}
+use Rattle.flow_book.specs.Flows.{LiveFlow}
+use Rattle.flow_book.specs.Choice.{HasStartedBy}
 use Rattle.sched_history.specs.declared.scheduler.state.State.{State}
+use Rattle.sched_history.specs.declared.scheduler.answering.Answer.{Answer}
 use Rattle.sched_history.specs.declared.scheduler.Scheduler.TheInside.{Inside}
 use Rattle.sched_history.specs.declared.call.Call.{Call}
 use Rattle.sched_history.specs.declared.reply.Reply.{Reply}
 use Rattle.sched_history.specs.declared.reply.Entry.{Entry}
-use Rattle.sched_history.specs.Life.{turn_by, asked_by, grant_by, grants_by, flows_of, table_of}
+use Rattle.sched_history.specs.Life.{turn_by, asked_by, grants_by, flows_of, table_of}
 use Rattle.sched_history.specs.Time.{skip_by, is_built, progress_by, next_after, progress_of}
-use Rattle.sched_history.specs.Refusal.{most_bytes, most_ahead, last_clock}
-use Rattle.sched_history.specs.History.{IsStep, IsLegal}
+use Rattle.sched_history.specs.Refusal.{most_bytes, most_ahead, last_clock, refusal_of}
+use Rattle.sched_history.specs.History.{Answers, IsStep, IsLegal}
 use Rattle.sched_history.specs.Facts.{IsWithinAsked}
-use Rattle.sched_history.specs.Machine.{Machine, IsEncodable}
+use Rattle.sched_history.specs.Machine.{Machine, IsEncodable, TakesMemory}
 
 -- The bounds of what a scheduler keeps, after so many calls
 pub record IsBounded (c : Config) (flows : List LiveFlow) (next calls : ℕ) : Type 0 where
@@ -62,6 +55,35 @@ pub record IsSound (a : Inside) : Type 0 where
   pub within : length a.entries.items ≤ a.state.config.calls
   pub reserved : a.state.config.calls ≤ vec_capacity a.entries
 
+-- No test refuses the call after the history that the fields stand for, and there is room
+pub record IsOpenTo (s : State) (call : Call) (h : List Entry) : Type 0 where
+  pub is_after : IsStateAfter s h
+  pub bounded : IsBounded s.config s.book.flows s.next (length h)
+  pub legal : IsLegal s.config h
+  pub room : length h < s.config.calls
+  pub unrefused : refusal_of s.config h call ≡ None
+
+-- The answer to a call after the history, twice, and the fields with one entry more
+pub record IsAnswered (old new : State) (call : Call) (a : Answer) (h : List Entry) : Type 0 where
+  pub twice : a.kept ≡ a.reply
+  pub config : new.config ≡ old.config
+  pub answers : Answers old.config h call a.reply
+  pub encodable : IsEncodable a.reply
+  pub is_after : (stamp : Stamp)
+      → IsStateAfter new (h ++ record { stamp = stamp; call = call; reply = a.reply } ∷ [])
+
+-- after some history the call is open
+abbrev pub IsOpen : State → Call → Type 0
+IsOpen s call = (h : List Entry) × IsOpenTo s call h
+
+-- after each history that the fields stand for it is answered
+abbrev pub AnswersOpen : State → State → Call → Answer → Type 0
+AnswersOpen old new call a = (h : List Entry) → IsOpenTo old call h → IsAnswered old new call a h
+
+-- and takes memory
+abbrev pub TakesMemoryOpen : State → Call → Type 0
+TakesMemoryOpen s call = (h : List Entry) → IsOpenTo s call h → TakesMemory s.config h call
+
 -- A call was answered and recorded
 pub record IsRecorded (old new : Machine) (stamp : Stamp) (call : Call) (reply : Reply) : Type 0 where
   pub entered : new ≡ record old { history = old.history ++ record { stamp = stamp; call = call; reply = reply } ∷ [] }
@@ -76,43 +98,3 @@ pub record IsQuiet (call : Call) (reply : Reply) : Type 0 where
   pub skips : skip_by reply ≡ None
   pub builds : is_built reply ≡ false
   pub notes : (receiver : ℕ) → progress_by receiver call reply ≡ None
-
--- a flow with the data grants that these elements have for it, each with its byte count
-abbrev pub with_grants : ℕ → List (Element × ℕ) → LiveFlow → LiveFlow
-with_grants start elements f = record f { grants = f.grants ++ filter_map (grant_by f.sid start) elements }
-
--- the flows with the data grants that a MAP has for each
-abbrev pub flows_with : FrameMap → List LiveFlow → List LiveFlow
-flows_with m flows = map (with_grants m.start (zip m.wire.elements m.bytes)) flows
-
--- The data grant of an element with so many bytes may be entered
-pub record IsEnterable (book : BookView) (start : ℕ) (element : Element) (bytes : ℕ) : Type 0 where
-  pub room : 0 < room_of element.sid book.rooms
-  pub started : IfSome (flow_of element.sid book.flows) (HasStartedBy (start + element.offset))
-  pub lawful : IsSomeAnd (flow_of element.sid book.flows)
-      (λ f. MayGrant book.config f (start + element.offset) (slots_for book.config bytes) bytes)
-  pub bound : start ≤ 2 ^ 61
-
--- The elements, with their byte counts, are those of a plan that fills a frame, and there is room for its data grants
-pub record AreEnterable (book : BookView) (start : ℕ) (elements : List Element) (counts : List ℕ) : Type 0 where
-  pub spots : List Spot
-  pub plan : List Allocation
-  pub is_plan : IsPlan book.config book.flows spots start plan
-  pub elements_are : elements ≡ elements_of book.config book.flows start plan
-  pub counts_are : counts ≡ bytes_of_plan book.config book.flows start plan
-  pub config : IsLawful book.config
-  pub ascending : Ascend book.flows
-  pub started : AllByRecursion (HasStartedBy start) book.flows
-  pub rooms : (sid : ℕ) → IsLive sid book.flows → most_grants ≤ room_of sid book.rooms
-  pub bound : start ≤ 2 ^ 61
-
--- The MAP is a lawful one of the next frame
-pub record IsCommittable (s : State) (m : FrameMap) : Type 0 where
-  pub spots : List Spot
-  pub ack : ℕ
-  pub lawful : IsLawfulMap s.config s.book.flows spots s.next ack m
-  pub config : IsLawful s.config
-  pub book_config : s.book.config ≡ s.config
-  pub ascending : Ascend s.book.flows
-  pub started : AllByRecursion (HasStartedBy s.next) s.book.flows
-  pub bound : s.next ≤ 2 ^ 61

@@ -6,5 +6,5 @@ mod reply;
 mod scheduler;
 
 pub use call::{Call, MAX_SCRIPTS};
-pub use reply::{Entry, Refusal, Reply, Unrecorded};
-pub use scheduler::Scheduler;
+pub use reply::{Entry, PlanFault, Refusal, Reply, Unrecorded};
+pub use scheduler::{Planned, Scheduler};

@@ -137,3 +137,17 @@ pub enum Unrecorded {
     #[error("out of memory")]
     Memory,
 }
+
+/// Why a build was not planned. Nothing is recorded.
+#[derive(Clone, Copy, Debug, PartialEq, Eq, Error)]
+pub enum PlanFault {
+    /// The build is refused.
+    #[error("refused")]
+    Refused(Refusal),
+    /// The history has as many entries as are recorded.
+    #[error("history full")]
+    HistoryFull,
+    /// Memory ran out.
+    #[error("out of memory")]
+    Memory,
+}

@@ -1,19 +1,25 @@
 //! The scheduler of one thread, with its history.
 
-ghost use Rattle.std.specs.Prelude.{◌≡◌, ◌<◌, ◌≤◌, ◌↔◌, ◌++◌, ◌∷◌, [], length, IfOk, OnOk, OnErr, IsErrOf};
+ghost use Rattle.std.specs.Prelude.{◌≡◌, ◌<◌, ◌≤◌, ◌↔◌, ◌++◌, ◌∷◌, [], Some, length, nat_le};
+ghost use Rattle.std.specs.Prelude.{IfOk, OnOk, OnErr, IsErrOf};
 ghost use Rattle.std.specs.List.{AllByRecursion};
 ghost use Rattle.sched_history.specs.Facts.{FollowsAlways};
 ghost use Rattle.sched_history.specs.History.{IsStep, IsLegal};
 ghost use Rattle.sched_history.specs.Machine.{IsEncodable, MayLackMemory};
+ghost use Rattle.sched_history.specs.Planned.{IsPlanAfter};
+ghost use Rattle.sched_history.specs.Refusal.{refusal_of};
 
 mod answering;
-mod granting;
+mod planned;
+mod recording;
 mod refusing;
 mod state;
 
 use crate::call::Call;
-use crate::reply::{Entry, Reply, Unrecorded};
+use crate::reply::{Entry, PlanFault, Refusal, Reply, Unrecorded};
 use minislots::{Checked, Stamp};
+pub use planned::Planned;
+use recording::note;
 use state::State;
 use std::alloc::{AllocError, Global};
 use std::marker::Model;
@@ -70,7 +76,7 @@ impl Scheduler {
 
         ensures legal { IsLegal self.new.config self.new.history }
     {
-        if self.entries.len() >= self.state.config.calls() as usize {
+        if self.is_full() {
             return Err(Unrecorded::HistoryFull);
         }
         if let Some(refusal) = self.refusal_of(call) {
@@ -80,6 +86,57 @@ impl Scheduler {
             Ok(reply) => Ok(reply),
             Err(_) => Err(Unrecorded::Memory),
         }
+    }
+
+    /// Plans a build, which [`Scheduler::commit`] then records: all memory that it needs is taken here,
+    /// and nothing changes. The fault is the answer of [`Scheduler::call`] to the same build: the history
+    /// is full, before any refusal; its first refusal, which is not recorded here; or memory ran out.
+    pub fn plan(&mut self, now: u64) -> Result<Planned, PlanFault>
+        ensures clock { IfOk result (λ planned. planned.clock ≡ now) }
+        ensures fits { IfOk result (IsPlanAfter self.old.config self.old.history) }
+        ensures same { self.new ≡ self.old }
+
+        ensures full { IsErrOf result PlanFault.HistoryFull ↔ (self.old.config.calls ≤ length self.old.history) }
+        ensures refused { (refusal : Refusal) → IsErrOf result (PlanFault.Refused refusal) →
+            refusal_of self.old.config self.old.history (Call.Build now) ≡ Some refusal }
+        ensures memory { IsErrOf result PlanFault.Memory →
+            MayLackMemory self.old.config self.old.history (Call.Build now) }
+    {
+        if self.is_full() {
+            return Err(PlanFault::HistoryFull);
+        }
+        if let Some(refusal) = self.refusal_of(Call::Build { now }) {
+            return Err(PlanFault::Refused(refusal));
+        }
+        match self.state.plan(*self.entries.allocator(), now) {
+            Ok(planned) => Ok(planned),
+            Err(_) => Err(PlanFault::Memory),
+        }
+    }
+
+    /// Records a planned build with its stamp, and answers its MAP. Takes no memory. No call came between
+    /// it and its plan.
+    pub fn commit(&mut self, stamp: Stamp, planned: Planned) -> Reply
+        requires { IsPlanAfter self.old.config self.old.history planned }
+        ensures built { result ≡ Reply.Built planned.map }
+        ensures recorded { self.new ≡ record self.old {
+          history = self.old.history
+              ++ record { stamp = stamp; call = Call.Build planned.clock; reply = result } ∷ [];
+        } }
+        ensures step { IsStep self.old.config self.old.history (Call.Build planned.clock) result }
+        ensures legal { IsLegal self.new.config self.new.history }
+    {
+        let call = Call::Build { now: planned.clock };
+        let answer = self.state.commit(planned);
+        note(&mut self.entries, stamp, call, answer)
+    }
+
+    // Whether as many calls are recorded as the configuration allows.
+    fn is_full(&self) -> bool
+        ensures value { result ≡ nat_le self.now.config.calls (length self.now.history) }
+        ensures legal { IsLegal self.now.config self.now.history }
+    {
+        self.entries.len() >= self.state.config.calls() as usize
     }
 
     /// The calls that were recorded, with their replies, in order. What follows for the plant from a legal

@@ -7,6 +7,8 @@ use Rattle.sched_history.specs.declared.reply.Refusal.{Refusal}
 use Rattle.sched_history.specs.declared.reply.Reply.TheVariants as replies
 use Rattle.sched_history.specs.declared.reply.Entry.{Entry}
 use Rattle.sched_history.specs.Life.{turn_by, asked_by, flows_of}
+use Rattle.sched_history.specs.Time.{progress_by}
+use Rattle.sched_history.specs.State.{IsQuiet}
 use Rattle.sched_history.proofs.lives.FlowsAfter.{flows_of-quiet}
 
 turn_by-refused : (call : Call) (refusal : Refusal) (sid : ℕ) → turn_by sid call (replies.Refused refusal) ≡ None
@@ -26,6 +28,27 @@ asked_by-refused (calls.Heard receiver upto) refusal sid = refl
 asked_by-refused (calls.Build now) refusal sid = refl
 asked_by-refused (calls.Skip now) refusal sid = refl
 asked_by-refused (calls.Status other) refusal sid = refl
+
+progress_by-refused : (call : Call) (refusal : Refusal) (receiver : ℕ)
+    → progress_by receiver call (replies.Refused refusal) ≡ None
+progress_by-refused (calls.Admit other spec) refusal receiver = refl
+progress_by-refused (calls.Remove other) refusal receiver = refl
+progress_by-refused (calls.Ask other sid bytes heard) refusal receiver = refl
+progress_by-refused (calls.Heard other upto) refusal receiver = refl
+progress_by-refused (calls.Build now) refusal receiver = refl
+progress_by-refused (calls.Skip now) refusal receiver = refl
+progress_by-refused (calls.Status other) refusal receiver = refl
+
+-- nothing depends on a refusal
+pub IsQuiet-refused : (call : Call) (refusal : Refusal) → IsQuiet call (replies.Refused refusal)
+IsQuiet-refused call refusal = record {
+  turns = turn_by-refused call refusal;
+  asks = asked_by-refused call refusal;
+  grants = λ sid. refl;
+  skips = refl;
+  builds = refl;
+  notes = progress_by-refused call refusal;
+}
 
 -- the live flows stay as they are
 pub flows_of-refused : (stamp : Stamp) (h : List Entry) (call : Call) (refusal : Refusal)

@@ -1,21 +1,27 @@
 -- The MAP of the next frame, from what a scheduler keeps.
 use Rattle.std.proofs.Common.{◌≡◌, ℕ, zero, suc, ◌+◌, ◌/◌, ◌≤◌, ◌<◌, List, [], ◌∷◌, map}
-use Rattle.std.proofs.Common.{take, length, get_or, refl, ap, ◌∙◌, subst, arith}
+use Rattle.std.proofs.Common.{◌++◌, take, length, get_or, refl, sym, ap, ◌∙◌, subst, arith}
 use Rattle.std.specs.List.{AllByRecursion}
+use Rattle.minislots.specs.declared.stamp.Stamp.{Stamp}
 use Rattle.minislots.proofs.Bounds.{bounds_of}
 use Rattle.flow_book.specs.Flows.{LiveFlow}
 use Rattle.periodic.specs.Placement.{count_from, spots_in}
 use Rattle.map_build.specs.declared.frame_map.FrameMap.{FrameMap}
-use Rattle.map_build.specs.FrameMap.{IsLawfulMap}
+use Rattle.map_build.specs.Plan.{flows_after}
+use Rattle.map_build.specs.FrameMap.{IsLawfulMap, IsLawfulFrame}
 use Rattle.sched_history.specs.declared.scheduler.state.State.{State}
+use Rattle.sched_history.specs.declared.call.Call.TheVariants.{Build}
+use Rattle.sched_history.specs.declared.reply.Reply.TheVariants.{Built}
 use Rattle.sched_history.specs.declared.reply.Entry.{Entry}
 use Rattle.sched_history.specs.Life.{flows_of, table_of}
 use Rattle.sched_history.specs.Time.{least, next_after, progress_of, ack_after}
 use Rattle.sched_history.specs.History.{IsNextMap, IsLegal}
 use Rattle.map_build.specs.Spots.{IsFlowSid, AreOfChannel, ArePeriodicOf}
-use Rattle.sched_history.specs.State.{IsBounded, IsStateAfter, IsCommittable}
+use Rattle.sched_history.specs.State.{IsBounded, IsStateAfter}
 use Rattle.sched_history.proofs.placements.PeriodicFlows.{ArePeriodicOf-legal}
-use Rattle.sched_history.proofs.lives.Finding.{flows_of-sids, flows_of-ascend}
+use Rattle.sched_history.proofs.lives.Finding.{flows_of-sids}
+use Rattle.sched_history.proofs.flows.MapGrants.{plan-HasBytes}
+use Rattle.sched_history.proofs.flows.BuildCall.{flows_of-build_plan}
 
 -- the first numbers of a list are the values of f
 take-counted : (f : ℕ → ℕ) (first n : ℕ) (xs : List ℕ) → n ≤ length xs
@@ -57,6 +63,18 @@ module _ (s : State) (h : List Entry) (is_after : IsStateAfter s h) where
       (subst (λ flows. IsLawfulMap s.config flows (spots_in s.config (s.next / s.config.frame) s.table.placed) s.next
       (least (take s.config.receivers s.progress)) m) is_after.flows lawful)))
 
+  -- and the flows with its data grants are those after its build
+  pub flows_of-planned : (stamp : Stamp) (now : ℕ) (m : FrameMap) (granted : List LiveFlow)
+      → IsLawfulFrame s.config s.book.flows (spots_in s.config (s.next / s.config.frame) s.table.placed) s.next
+      (least (take s.config.receivers s.progress)) m granted
+      → granted ≡ flows_of (h ++ record { stamp = stamp; call = Build now; reply = Built m } ∷ [])
+  flows_of-planned stamp now m granted (plan, is, made, after) =
+      let has = plan-HasBytes s.config s.book.flows (spots_in s.config (s.next / s.config.frame) s.table.placed) s.next
+      plan is in
+      after ∙ ap (flows_after s.next plan) is_after.flows
+      ∙ sym (flows_of-build_plan stamp h now m s.config s.book.flows s.next
+      (least (take s.config.receivers s.progress)) plan has made)
+
   module _ (bounded : IsBounded s.config s.book.flows s.next (length h)) where
     -- the flows are those that a channel may have
     pub AreOfChannel-after : AreOfChannel s.book.flows
@@ -69,19 +87,3 @@ module _ (s : State) (h : List Entry) (is_after : IsStateAfter s h) where
     -- the placed ones are the periodic ones
     pub ArePeriodicOf-after : IsLegal s.config h → ArePeriodicOf s.book.flows s.table.placed
     ArePeriodicOf-after legal = rw (is_after.flows, is_after.placed) (ArePeriodicOf-legal s.config h legal)
-
-    -- and its MAP may be entered
-    pub IsCommittable-after : (m : FrameMap) → IsLawfulMap s.config s.book.flows
-        (spots_in s.config (s.next / s.config.frame) s.table.placed) s.next
-        (least (take s.config.receivers s.progress)) m
-        → IsCommittable s m
-    IsCommittable-after m lawful = record {
-      spots = spots_in s.config (s.next / s.config.frame) s.table.placed;
-      ack = least (take s.config.receivers s.progress);
-      lawful = lawful;
-      config = is_after.lawful;
-      book_config = is_after.book_config;
-      ascending = rw (is_after.flows) (flows_of-ascend h);
-      started = bounded.started;
-      bound = omega (arith, bounded.next_most);
-    }

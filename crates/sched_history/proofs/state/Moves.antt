@@ -2,13 +2,11 @@
 use Rattle.std.proofs.Common.{◌≡◌, ◌≢◌, ℕ, ◌+◌, ◌≤◌, ◌<◌, List, [], ◌∷◌, ◌++◌, length}
 use Rattle.std.proofs.Common.{set, None, Some, refl, sym, ap, ◌∙◌, arith, inl, inr}
 use Rattle.std.specs.Prelude.{◌==◌, if◌then◌else◌}
-use Rattle.std.specs.List.{zip}
 use Rattle.std.proofs.lemmas.Bool.{cases_eq}
 use Rattle.std.proofs.lemmas.Bool.Decides.{nat_tests}
 use Rattle.std.proofs.lemmas.List.{length-set, get_or-set_same, get_or-set_other}
 use Rattle.minislots.specs.declared.stamp.Stamp.{Stamp}
 use Rattle.flow_book.specs.declared.spec.FlowSpec.{FlowSpec}
-use Rattle.flow_book.specs.Flows.{LiveFlow}
 use Rattle.flow_book.specs.Book.{BookView, with_flow, new_flow, without, changed, with_asked}
 use Rattle.periodic.specs.declared.placement.Placement.{Placement}
 use Rattle.periodic.specs.Table.{with_placed, without as without_placed}
@@ -20,9 +18,9 @@ use Rattle.sched_history.specs.declared.reply.Reply.{Reply}
 use Rattle.sched_history.specs.declared.reply.Reply.TheVariants as replies
 use Rattle.sched_history.specs.declared.reply.Entry.{Entry}
 use Rattle.sched_history.specs.Life.{life_of, flows_of}
-use Rattle.sched_history.specs.State.{IsStateAfter, IsQuiet, with_grants, flows_with}
-use Rattle.sched_history.proofs.lives.FlowsAfter.{grown_by, flows_of-quiet, flows_of-grown, table_of-stays}
-use Rattle.sched_history.proofs.flows.FlowCalls.{map-each, flows_of-ask, table_of-ask, flows_of-remove, table_of-remove}
+use Rattle.sched_history.specs.State.{IsStateAfter, IsQuiet}
+use Rattle.sched_history.proofs.lives.FlowsAfter.{flows_of-quiet, table_of-stays}
+use Rattle.sched_history.proofs.flows.FlowCalls.{flows_of-ask, table_of-ask, flows_of-remove, table_of-remove}
 use Rattle.sched_history.proofs.flows.Admissions.{flows_of-admit, table_of-admit_placed, table_of-admit_unplaced}
 use Rattle.sched_history.proofs.time.TimeAfter.{next_after-same, next_after-built, next_after-skipped}
 use Rattle.sched_history.proofs.time.TimeAfter.{progress_of-same, progress_of-noted}
@@ -182,30 +180,20 @@ module _ (s : State) (h : List Entry) (is_after : IsStateAfter s h) (stamp : Sta
         progress = λ other below. is_after.progress other below ∙ sym (progress_of-same s.config other h e refl);
       }
 
-  grown-map : (now : ℕ) (m : FrameMap) (f : LiveFlow)
-      → grown_by (entry (calls.Build now) (replies.Built m)) f ≡ with_grants m.start
-      (zip m.wire.elements m.bytes) f
-  grown-map now m f = let none : f.asked + 0 ≡ f.asked = omega arith in rw none refl
-
-  -- after a MAP
-  pub IsStateAfter-built : (now : ℕ) (m : FrameMap) (s' : State) → s' ≡ record s { book = s'.book; next = s'.next }
-      → s'.book.config ≡ s.book.config → s'.book.flows ≡ flows_with m s.book.flows
-      → s'.next ≡ s.next + s.config.frame
-      → IsStateAfter s' (h ++ record { stamp = stamp; call = calls.Build now; reply = replies.Built m } ∷ [])
-  IsStateAfter-built now m s' same book_config flows next =
+  -- after a MAP, where the flows are those after it
+  pub IsStateAfter-built : (now : ℕ) (m : FrameMap) (book : BookView) → book.config ≡ s.config
+      → book.flows ≡ flows_of (h ++ record { stamp = stamp; call = calls.Build now; reply = replies.Built m } ∷ [])
+      → IsStateAfter (record s { book = book; next = s.next + s.config.frame })
+      (h ++ record { stamp = stamp; call = calls.Build now; reply = replies.Built m } ∷ [])
+  IsStateAfter-built now m book book_config flows =
       let e : Entry = entry (calls.Build now) (replies.Built m) in
-      let t : State = record s { book = s'.book; next = s'.next } in
-      let after : IsStateAfter t (h ++ e ∷ []) = record {
+      record {
         lawful = is_after.lawful;
-        book_config = book_config ∙ is_after.book_config;
+        book_config = book_config;
         table_config = is_after.table_config;
-        flows = flows ∙ ap (flows_with m) is_after.flows
-            ∙ sym (flows_of-grown h e (λ sid. refl) ∙ map-each (grown_by e)
-            (with_grants m.start (zip m.wire.elements m.bytes))
-            (flows_of h) (grown-map now m));
+        flows = flows;
         placed = is_after.placed ∙ sym (table_of-stays h e (λ sid. refl));
-        next = next ∙ ap (λ n. n + s.config.frame) is_after.next ∙ sym (next_after-built s.config h e m refl);
+        next = ap (λ n. n + s.config.frame) is_after.next ∙ sym (next_after-built s.config h e m refl);
         places = is_after.places;
         progress = λ other below. is_after.progress other below ∙ sym (progress_of-same s.config other h e refl);
-      } in
-      rw same after
+      }

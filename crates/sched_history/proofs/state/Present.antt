@@ -12,7 +12,7 @@ use Rattle.flow_book.specs.FlowSpec.{is_periodic}
 use Rattle.flow_book.specs.Flows.{flow_of}
 use Rattle.flow_book.specs.Book.{IsLive}
 use Rattle.periodic.specs.declared.placement.Placement.{Placement}
-use Rattle.periodic.specs.Placement.{Placed, IsPlacement}
+use Rattle.periodic.specs.Placement.{Placed, IsPlacement, NoPlacement}
 use Rattle.periodic.specs.Table.{IsPlaced, without as without_placed}
 use Rattle.sched_history.specs.declared.scheduler.state.State.{State}
 use Rattle.sched_history.specs.declared.reply.Reply.{Reply}
@@ -186,3 +186,19 @@ placement-after s h spec p is_after lawful =
     subst (λ next. IsPlacement s.config (table_of h) spec next p) is_after.next
     (subst (λ placed. IsPlacement s.config placed spec s.next p) is_after.placed
     (subst (λ c. IsPlacement c s.table.placed spec s.next p) is_after.table_config lawful))
+
+-- where the table has no place for it there is none after the history
+pub no_placement-after : (s : State) (h : List Entry) (spec : FlowSpec) → IsStateAfter s h
+    → NoPlacement s.table.config s.table.placed spec s.next
+    → NoPlacement s.config (table_of h) spec (next_after s.config h)
+no_placement-after s h spec is_after none =
+    subst (λ next. NoPlacement s.config (table_of h) spec next) is_after.next
+    (subst (λ placed. NoPlacement s.config placed spec s.next) is_after.placed
+    (subst (λ c. NoPlacement c s.table.placed spec s.next) is_after.table_config none))
+
+-- a flow without a place takes memory all the same
+pub placeable-best_effort : (c : Config) (h : List Entry) (spec : FlowSpec) → is_periodic spec ≡ false
+    → IsPlaceable c h spec
+placeable-best_effort c h (Unsolicited size interval jitter) aperiodic = absurd cc
+placeable-best_effort c h (Polled interval jitter rate burst) aperiodic = absurd cc
+placeable-best_effort c h (BestEffort priority rate burst) aperiodic = tt

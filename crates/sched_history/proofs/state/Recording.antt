@@ -1,21 +1,23 @@
 -- A scheduler with one entry more.
-use Rattle.std.proofs.Common.{◌≡◌, ◌<◌, List, [], ◌∷◌, ◌++◌, None, length, refl, sym, subst, arith}
+use Rattle.std.proofs.Common.{◌≡◌, ◌<◌, List, [], ◌∷◌, ◌++◌, None, length, refl, sym, ap, ◌∙◌, subst, arith}
 use Rattle.std.specs.Prelude.{vec_capacity}
 use Rattle.std.specs.List.{AllByRecursion}
 use Rattle.std.proofs.lemmas.List.{length_push}
 use Rattle.minislots.specs.declared.config.Config.{Config}
 use Rattle.minislots.specs.declared.stamp.Stamp.{Stamp}
+use Rattle.sched_history.specs.declared.scheduler.answering.Answer.{Answer}
 use Rattle.sched_history.specs.declared.scheduler.Scheduler.TheInside.{Inside}
 use Rattle.sched_history.specs.declared.call.Call.{Call}
+use Rattle.sched_history.specs.declared.call.Call.TheVariants.{Build}
 use Rattle.sched_history.specs.declared.reply.Reply.{Reply}
 use Rattle.sched_history.specs.declared.reply.Entry.{Entry}
 use Rattle.sched_history.specs.Refusal.{refusal_of}
-use Rattle.sched_history.specs.History.{Answers, IsStep, IsLegal}
+use Rattle.sched_history.specs.History.{IsStep, IsLegal}
 use Rattle.sched_history.specs.Machine.{Machine, IsEncodable}
-use Rattle.sched_history.specs.State.{IsStateAfter, machine_of, IsSound, IsRecorded}
+use Rattle.sched_history.specs.Planned.{PlannedBuild, IsPlanAfter}
+use Rattle.sched_history.specs.State.{IsStateAfter, machine_of, IsSound, IsOpenTo, IsAnswered, IsRecorded}
 use Rattle.sched_history.proofs.steps.Steps.{IsLegal-push, IsStep-answered}
 use Rattle.sched_history.proofs.steps.Bounded.{IsBounded-legal}
-use Rattle.sched_history.proofs.state.Inside.{unrefused-inside}
 
 -- what holds of all and of one more
 all-push : {X : Type 0} (P : X → Type 0) (xs : List X) (x : X) → AllByRecursion P xs → P x
@@ -42,25 +44,71 @@ IsSound-push a b e sound items capacity config room step encodable is_after =
       reserved = rw (config, capacity) sound.reserved;
     }
 
--- A scheduler with the answer to a call that no test refuses is sound, where its fields are those after it
-pub IsSound-answered : (a : Inside) (m : Machine) → machine_of a ≡ m
-    → (b : Inside) (stamp : Stamp) (call : Call) (reply : Reply)
-    → IsSound a → length m.history < m.config.calls → refusal_of m.config m.history call ≡ None
-    → b.entries.items ≡ a.entries.items ++ record { stamp = stamp; call = call; reply = reply } ∷ []
-    → vec_capacity b.entries ≡ vec_capacity a.entries → b.state.config ≡ a.state.config
-    → Answers a.state.config a.entries.items call reply → IsEncodable reply
-    → IsStateAfter b.state (a.entries.items ++ record { stamp = stamp; call = call; reply = reply } ∷ []) → IsSound b
-IsSound-answered a m is b stamp call reply sound room unrefused items capacity config answers encodable is_after =
-    IsSound-push a b (record { stamp = stamp; call = call; reply = reply }) sound items capacity config
-    (subst (λ n. length n.history < n.config.calls) (sym is) room)
-    (IsStep-answered a.state.config a.entries.items call reply (unrefused-inside a m is call unrefused) answers)
-    encodable is_after
+-- a call that no test refuses is open
+pub IsOpenTo-inside : (a : Inside) (m : Machine) → machine_of a ≡ m → (call : Call) → IsSound a
+    → length m.history < m.config.calls → refusal_of m.config m.history call ≡ None
+    → IsOpenTo a.state call a.entries.items
+IsOpenTo-inside a m is call sound room none = record {
+  is_after = sound.is_after;
+  bounded = sound.bounded;
+  legal = sound.legal;
+  room = subst (λ n. length n.history < n.config.calls) (sym is) room;
+  unrefused = subst (λ n. refusal_of n.config n.history call ≡ None) (sym is) none;
+}
 
 -- the same configuration with the same history
 pub machine-same : (c d : Config) (h k : List Entry) → c ≡ d → h ≡ k
     → ◌≡◌ {A = Machine} (record { config = c; history = h })
     (record { config = d; history = k })
 machine-same c d h k config history = rw (config, history) refl
+
+-- A scheduler in which the answer to an open call is entered
+module _ (a b : Inside) (stamp : Stamp) (call : Call) (t : Answer) (sound : IsSound a)
+    (opens : IsOpenTo a.state call a.entries.items) (answered : IsAnswered a.state b.state call t a.entries.items)
+    (entered : b.entries.items ≡ a.entries.items ++ record { stamp = stamp; call = call; reply = t.kept } ∷ []) where
+  items-are : b.entries.items ≡ a.entries.items ++ record { stamp = stamp; call = call; reply = t.reply } ∷ []
+  items-are = entered
+      ∙ ap (λ (r : Reply). a.entries.items ++ record { stamp = stamp; call = call; reply = r } ∷ []) answered.twice
+
+  step-is : IsStep a.state.config a.entries.items call t.reply
+  step-is = IsStep-answered a.state.config a.entries.items call t.reply opens.unrefused answered.answers
+
+  -- is sound
+  pub IsSound-answered : vec_capacity b.entries ≡ vec_capacity a.entries → IsSound b
+  IsSound-answered capacity =
+      IsSound-push a b (record { stamp = stamp; call = call; reply = t.reply }) sound items-are capacity
+      answered.config opens.room step-is answered.encodable (answered.is_after stamp)
+
+  -- and has recorded it
+  pub IsRecorded-answered : (m : Machine) → machine_of a ≡ m → IsRecorded m (machine_of b) stamp call t.reply
+  IsRecorded-answered m is = subst (λ n. IsRecorded n (machine_of b) stamp call t.reply) is (record {
+    entered = machine-same b.state.config a.state.config b.entries.items _ answered.config items-are;
+    step = step-is;
+    encodable = answered.encodable;
+  })
+
+-- A scheduler in which a planned build is entered
+module _ (a b : Inside) (m : Machine) (is : machine_of a ≡ m) (stamp : Stamp) (p : PlannedBuild) (t : Answer)
+    (sound : IsSound a) (fits : IsPlanAfter m.config m.history p)
+    (answered : (h : List Entry) → IsOpenTo a.state (Build p.clock) h → IsPlanAfter a.state.config h p
+    → IsAnswered a.state b.state (Build p.clock) t h)
+    (entered : b.entries.items ≡ a.entries.items
+    ++ record { stamp = stamp; call = Build p.clock; reply = t.kept } ∷ []) where
+  opens-planned : IsOpenTo a.state (Build p.clock) a.entries.items
+  opens-planned = IsOpenTo-inside a m is (Build p.clock) sound fits.room fits.unrefused
+
+  answers-planned : IsAnswered a.state b.state (Build p.clock) t a.entries.items
+  answers-planned =
+      answered a.entries.items opens-planned (subst (λ n. IsPlanAfter n.config n.history p) (sym is) fits)
+
+  -- is sound
+  pub IsSound-planned : vec_capacity b.entries ≡ vec_capacity a.entries → IsSound b
+  IsSound-planned = IsSound-answered a b stamp (Build p.clock) t sound opens-planned answers-planned entered
+
+  -- and has recorded it
+  pub IsRecorded-planned : IsRecorded m (machine_of b) stamp (Build p.clock) t.reply
+  IsRecorded-planned =
+      IsRecorded-answered a b stamp (Build p.clock) t sound opens-planned answers-planned entered m is
 
 -- a recorded call keeps the history legal
 pub IsLegal-recorded : (old new : Machine) (stamp : Stamp) (call : Call) (reply : Reply)

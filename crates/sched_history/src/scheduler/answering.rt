@@ -1,245 +1,177 @@
-//! What each call does that no test refuses, and how it is recorded.
+//! The answer to each call that no test refuses, and what it changes.
 
-ghost use Rattle.std.specs.Prelude.{◌≡◌, ◌<◌, ◌++◌, ◌∷◌, [], None, true, false, length, IfOk, OnErr, vec_capacity};
+ghost use Rattle.std.specs.Prelude.{◌≡◌, List, false, true, IfOk, OnErr};
 ghost use Rattle.flow_book.specs.FlowSpec.{is_periodic};
-ghost use Rattle.sched_history.specs.Refusal.{refusal_of};
-ghost use Rattle.sched_history.specs.History.{IsStep};
-ghost use Rattle.sched_history.specs.Machine.{IsEncodable, TakesMemory};
-ghost use Rattle.sched_history.specs.State.{IsRecorded, IsQuiet};
+ghost use Rattle.sched_history.specs.declared.reply.Entry.{Entry};
+ghost use Rattle.sched_history.specs.Planned.{IsPlanAfter};
+ghost use Rattle.sched_history.specs.State.{IsOpenTo, IsOpen, AnswersOpen, TakesMemoryOpen, IsAnswered};
 
-use super::Scheduler;
+use super::planned::Planned;
 use super::refusing::is_periodic;
+use super::state::State;
 use crate::call::Call;
-use crate::reply::{Entry, Refusal, Reply};
+use crate::reply::{Refusal, Reply};
 use flow_book::FlowSpec;
-use minislots::Stamp;
 use periodic::PlaceFault;
-use std::alloc::AllocError;
+use std::alloc::{AllocError, Global};
 
-// Enters a call with its reply, where there is room reserved.
-fn enter(entries: &mut Vec<Entry>, stamp: Stamp, call: Call, reply: Reply)
-    requires { length entries.old.items < vec_capacity entries.old }
-    ensures items { entries.new.items
-        ≡ entries.old.items ++ record { stamp = stamp; call = call; reply = reply } ∷ [] }
-    ensures capacity { vec_capacity entries.new ≡ vec_capacity entries.old }
-{
-    entries.push_reserved(Entry { stamp, call, reply });
+// An answer, and the same again for the history.
+#[derive(Drop)]
+pub(super) struct Answer {
+    pub(super) reply: Reply,
+    pub(super) kept: Reply,
 }
 
-impl Scheduler {
-    // Records a reply on which nothing depends but the history.
-    pub(super) fn note(&mut self, stamp: Stamp, call: Call, reply: Reply)
-        requires room { length self.old.history < self.old.config.calls }
-        requires step { IsStep self.old.config self.old.history call reply }
-        requires encodable { IsEncodable reply }
-        requires quiet { IsQuiet call reply }
-        ensures { IsRecorded self.old self.new stamp call reply }
-    {
-        enter(&mut self.entries, stamp, call, reply);
-    }
-
-    // Refuses a call.
-    pub(super) fn refuse(&mut self, stamp: Stamp, call: Call, refusal: Refusal) -> Reply
-        requires room { length self.old.history < self.old.config.calls }
-        requires step { IsStep self.old.config self.old.history call (Reply.Refused refusal) }
-        ensures refused { result ≡ Reply.Refused refusal }
-        ensures recorded { IsRecorded self.old self.new stamp call result }
-    {
-        self.note(stamp, call, Reply::Refused(refusal));
-        Reply::Refused(refusal)
-    }
-
-    // Answers a call that no test refuses.
-    pub(super) fn accept(&mut self, stamp: Stamp, call: Call) -> Result<Reply, AllocError>
-        requires room { length self.old.history < self.old.config.calls }
-        requires unrefused { refusal_of self.old.config self.old.history call ≡ None }
-        ensures recorded { IfOk result (IsRecorded self.old self.new stamp call) }
+impl State {
+    // Answers a call that no test refuses. Where memory runs out nothing changes.
+    pub(super) fn answer(&mut self, alloc: Global, call: Call) -> Result<Answer, AllocError>
+        requires { IsOpen self.old call }
+        ensures answered { IfOk result (AnswersOpen self.old self.new call) }
         ensures err { OnErr result (self.new ≡ self.old) }
-        ensures memory { OnErr result (TakesMemory self.old.config self.old.history call) }
+        ensures memory { OnErr result (TakesMemoryOpen self.old call) }
     {
         match call {
-            Call::Admit(sid, spec) if is_periodic(spec) => self.admit_periodic(stamp, sid, spec),
-            Call::Admit(sid, spec) => self.admit_best_effort(stamp, sid, spec),
-            Call::Remove(sid) => Ok(self.remove(stamp, sid)),
-            Call::Ask {
-                receiver,
-                sid,
-                bytes,
-                heard,
-            } => Ok(self.ask(stamp, receiver, sid, bytes, heard)),
-            Call::Heard { receiver, upto } => Ok(self.hear(stamp, receiver, upto)),
-            Call::Build { now } => self.build(stamp, now),
-            Call::Skip { now } => Ok(self.skip(stamp, now)),
-            Call::Status(sid) => Ok(self.tell(stamp, sid)),
+            Call::Admit(sid, spec) if is_periodic(spec) => self.admit_placed_flow(alloc, sid, spec),
+            Call::Admit(sid, spec) => self.admit_best_effort(sid, spec),
+            Call::Remove(sid) => Ok(self.forget(sid)),
+            Call::Ask { sid, bytes, .. } => {
+                self.book.ask(sid, bytes);
+                Ok(Answer {
+                    reply: Reply::Taken,
+                    kept: Reply::Taken,
+                })
+            }
+            Call::Heard { receiver, upto } => Ok(self.hear(receiver, upto)),
+            Call::Build { now } => self.build(alloc, now),
+            Call::Skip { now } => Ok(self.skip(now)),
+            Call::Status(sid) => Ok(self.tell(sid)),
         }
     }
 
     // Admits a flow that has no place in the cycle.
-    fn admit_best_effort(
-        &mut self,
-        stamp: Stamp,
-        sid: u16,
-        spec: FlowSpec,
-    ) -> Result<Reply, AllocError>
-        requires room { length self.old.history < self.old.config.calls }
-        requires unrefused { refusal_of self.old.config self.old.history
-            (Call.Admit sid spec) ≡ None }
+    fn admit_best_effort(&mut self, sid: u16, spec: FlowSpec) -> Result<Answer, AllocError>
+        requires open { IsOpen self.old (Call.Admit sid spec) }
         requires aperiodic { is_periodic spec ≡ false }
-        ensures recorded { IfOk result (IsRecorded self.old self.new stamp (Call.Admit sid spec)) }
+        ensures answered { IfOk result (AnswersOpen self.old self.new (Call.Admit sid spec)) }
         ensures err { OnErr result (self.new ≡ self.old) }
     {
-        self.state.book.admit(sid, spec)?;
-        enter(
-            &mut self.entries,
-            stamp,
-            Call::Admit(sid, spec),
-            Reply::Admitted(None),
-        );
-        Ok(Reply::Admitted(None))
+        self.book.admit(sid, spec)?;
+        Ok(Answer {
+            reply: Reply::Admitted(None),
+            kept: Reply::Admitted(None),
+        })
     }
 
     // Admits a periodic flow, where there is a place for it.
-    fn admit_periodic(
+    fn admit_placed_flow(
         &mut self,
-        stamp: Stamp,
+        alloc: Global,
         sid: u16,
         spec: FlowSpec,
-    ) -> Result<Reply, AllocError>
-        requires room { length self.old.history < self.old.config.calls }
-        requires unrefused { refusal_of self.old.config self.old.history
-            (Call.Admit sid spec) ≡ None }
+    ) -> Result<Answer, AllocError>
+        requires open { IsOpen self.old (Call.Admit sid spec) }
         requires periodic { is_periodic spec ≡ true }
-        ensures recorded { IfOk result (IsRecorded self.old self.new stamp (Call.Admit sid spec)) }
+        ensures answered { IfOk result (AnswersOpen self.old self.new (Call.Admit sid spec)) }
         ensures err { OnErr result (self.new ≡ self.old) }
-        ensures memory { OnErr result
-            (TakesMemory self.old.config self.old.history (Call.Admit sid spec)) }
+        ensures memory { OnErr result (TakesMemoryOpen self.old (Call.Admit sid spec)) }
     {
-        let alloc = *self.entries.allocator();
-        match self.state.admit_periodic(alloc, sid, spec) {
-            Ok((placement, kept)) => {
-                enter(
-                    &mut self.entries,
-                    stamp,
-                    Call::Admit(sid, spec),
-                    Reply::Admitted(Some(kept)),
-                );
-                Ok(Reply::Admitted(Some(placement)))
-            }
-            Err(PlaceFault::NoPlace) => {
-                Ok(self.refuse(stamp, Call::Admit(sid, spec), Refusal::NoPlace))
-            }
+        match self.admit_periodic(alloc, sid, spec) {
+            Ok((placement, kept)) => Ok(Answer {
+                reply: Reply::Admitted(Some(placement)),
+                kept: Reply::Admitted(Some(kept)),
+            }),
+            Err(PlaceFault::NoPlace) => Ok(Answer {
+                reply: Reply::Refused(Refusal::NoPlace),
+                kept: Reply::Refused(Refusal::NoPlace),
+            }),
             Err(PlaceFault::Memory) => Err(AllocError),
         }
     }
 
     // Forgets a flow.
-    fn remove(&mut self, stamp: Stamp, sid: u16) -> Reply
-        requires room { length self.old.history < self.old.config.calls }
-        requires unrefused { refusal_of self.old.config self.old.history (Call.Remove sid) ≡ None }
-        ensures { IsRecorded self.old self.new stamp (Call.Remove sid) result }
+    fn forget(&mut self, sid: u16) -> Answer
+        requires { IsOpen self.old (Call.Remove sid) }
+        ensures { AnswersOpen self.old self.new (Call.Remove sid) result }
     {
-        self.state.remove(sid);
-        enter(&mut self.entries, stamp, Call::Remove(sid), Reply::Removed);
-        Reply::Removed
-    }
-
-    // Counts a request.
-    fn ask(&mut self, stamp: Stamp, receiver: u8, sid: u16, bytes: u32, heard: u64) -> Reply
-        requires room { length self.old.history < self.old.config.calls }
-        requires unrefused { refusal_of self.old.config self.old.history
-            (Call.Ask receiver sid bytes heard) ≡ None }
-        ensures { IsRecorded self.old self.new stamp (Call.Ask receiver sid bytes heard) result }
-    {
-        self.state.book.ask(sid, bytes);
-        enter(
-            &mut self.entries,
-            stamp,
-            Call::Ask {
-                receiver,
-                sid,
-                bytes,
-                heard,
-            },
-            Reply::Taken,
-        );
-        Reply::Taken
+        self.remove(sid);
+        Answer {
+            reply: Reply::Removed,
+            kept: Reply::Removed,
+        }
     }
 
     // Notes a receiver's progress.
-    fn hear(&mut self, stamp: Stamp, receiver: u8, upto: u64) -> Reply
-        requires room { length self.old.history < self.old.config.calls }
-        requires unrefused { refusal_of self.old.config self.old.history
-            (Call.Heard receiver upto) ≡ None }
-        ensures { IsRecorded self.old self.new stamp (Call.Heard receiver upto) result }
+    fn hear(&mut self, receiver: u8, upto: u64) -> Answer
+        requires { IsOpen self.old (Call.Heard receiver upto) }
+        ensures { AnswersOpen self.old self.new (Call.Heard receiver upto) result }
     {
-        self.state.progress[usize::from(receiver)] = upto;
-        enter(
-            &mut self.entries,
-            stamp,
-            Call::Heard { receiver, upto },
-            Reply::Noted,
-        );
-        Reply::Noted
+        self.progress[usize::from(receiver)] = upto;
+        Answer {
+            reply: Reply::Noted,
+            kept: Reply::Noted,
+        }
     }
 
     // Builds the MAP of the next frame.
-    fn build(&mut self, stamp: Stamp, now: u64) -> Result<Reply, AllocError>
-        requires room { length self.old.history < self.old.config.calls }
-        requires unrefused { refusal_of self.old.config self.old.history (Call.Build now) ≡ None }
-        ensures recorded { IfOk result (IsRecorded self.old self.new stamp (Call.Build now)) }
+    fn build(&mut self, alloc: Global, now: u64) -> Result<Answer, AllocError>
+        requires { IsOpen self.old (Call.Build now) }
+        ensures answered { IfOk result (AnswersOpen self.old self.new (Call.Build now)) }
         ensures err { OnErr result (self.new ≡ self.old) }
     {
-        let alloc = *self.entries.allocator();
-        let map = self.state.plan(alloc)?;
-        let kept = map.copy(alloc)?;
-        self.state.commit(&map)?;
-        enter(
-            &mut self.entries,
-            stamp,
-            Call::Build { now },
-            Reply::Built(kept),
-        );
-        Ok(Reply::Built(map))
+        let planned = self.plan(alloc, now)?;
+        Ok(self.commit(planned))
+    }
+
+    // Describes the next frame by the MAP that is planned.
+    pub(super) fn commit(&mut self, planned: Planned) -> Answer
+        requires { (h : List Entry) × IsOpenTo self.old (Call.Build planned.clock) h
+            × IsPlanAfter self.old.config h planned }
+        ensures built { result.reply ≡ Reply.Built planned.map }
+        ensures answered { (h : List Entry) → IsOpenTo self.old (Call.Build planned.clock) h
+            → IsPlanAfter self.old.config h planned
+            → IsAnswered self.old self.new (Call.Build planned.clock) result h }
+    {
+        let Planned {
+            map, kept, book, ..
+        } = planned;
+        self.book = book;
+        self.next += u64::from(self.config.frame());
+        Answer {
+            reply: Reply::Built(map),
+            kept: Reply::Built(kept),
+        }
     }
 
     // Leaves out the frames whose MAP would be late.
-    fn skip(&mut self, stamp: Stamp, now: u64) -> Reply
-        requires room { length self.old.history < self.old.config.calls }
-        requires unrefused { refusal_of self.old.config self.old.history (Call.Skip now) ≡ None }
-        ensures { IsRecorded self.old self.new stamp (Call.Skip now) result }
+    fn skip(&mut self, now: u64) -> Answer
+        requires { IsOpen self.old (Call.Skip now) }
+        ensures { AnswersOpen self.old self.new (Call.Skip now) result }
     {
-        let lead = u64::from(self.state.config.lead());
-        let next = self.state.first_start(now + lead);
-        self.state.next = next;
-        enter(
-            &mut self.entries,
-            stamp,
-            Call::Skip { now },
-            Reply::Skipped(next),
-        );
-        Reply::Skipped(next)
+        let lead = u64::from(self.config.lead());
+        self.next = self.first_start(now + lead);
+        Answer {
+            reply: Reply::Skipped(self.next),
+            kept: Reply::Skipped(self.next),
+        }
     }
 
     // Tells a flow's bytes.
-    fn tell(&mut self, stamp: Stamp, sid: u16) -> Reply
-        requires room { length self.old.history < self.old.config.calls }
-        requires unrefused { refusal_of self.old.config self.old.history (Call.Status sid) ≡ None }
-        ensures { IsRecorded self.old self.new stamp (Call.Status sid) result }
+    fn tell(&self, sid: u16) -> Answer
+        requires { IsOpen self.now (Call.Status sid) }
+        ensures { AnswersOpen self.now self.now (Call.Status sid) result }
     {
-        let (asked, granted, outstanding) = self.state.bytes_of(sid);
-        self.note(
-            stamp,
-            Call::Status(sid),
-            Reply::Flow {
+        let (asked, granted, outstanding) = self.bytes_of(sid);
+        Answer {
+            reply: Reply::Flow {
                 asked,
                 granted,
                 outstanding,
             },
-        );
-        Reply::Flow {
-            asked,
-            granted,
-            outstanding,
+            kept: Reply::Flow {
+                asked,
+                granted,
+                outstanding,
+            },
         }
     }
 }

@@ -1,7 +1,7 @@
 //! What the scheduler keeps of the present, so that no call reads the history again.
 
 ghost use Rattle.std.specs.Prelude.{◌≡◌, ◌≢◌, ◌+◌, ◌/◌, ◌%◌, ◌<◌, ◌≤◌, ◌^◌, ◌==◌, [], true, None};
-ghost use Rattle.std.specs.Prelude.{length, take, find, IfOk, OnErr, OnOk, IfSome, IsErrOf};
+ghost use Rattle.std.specs.Prelude.{List, length, take, find, IfOk, OnErr, OnOk, IfSome, IsErrOf};
 ghost use Rattle.std.specs.List.{AllByRecursion};
 ghost use Rattle.map_codec.specs.WireMap.{IsWellFormed};
 ghost use Rattle.flow_book.specs.FlowSpec.{is_periodic, first_fault};
@@ -11,19 +11,22 @@ ghost use Rattle.flow_book.specs.Book.{IsLive, with_flow, new_flow, without};
 ghost use Rattle.periodic.specs.declared.TheConstants.{MAX_PERIODIC_FLOWS};
 ghost use Rattle.periodic.specs.Placement.{IsPlacement, NoPlacement, spots_in};
 ghost use Rattle.periodic.specs.Table.{IsPlaced, with_placed, without as without_placed};
-ghost use Rattle.map_build.specs.FrameMap.{IsLawfulMap};
+ghost use Rattle.map_build.specs.FrameMap.{IsLawfulFrame};
+ghost use Rattle.map_build.specs.Spots.{AreOfChannel, ArePeriodicOf};
 ghost use Rattle.sched_history.specs.declared.reply.Reply.TheVariants.{Flow};
 ghost use Rattle.sched_history.specs.Time.{least, IsFirstStart};
 ghost use Rattle.sched_history.specs.History.{flow_status};
-ghost use Rattle.map_build.specs.Spots.{AreOfChannel, ArePeriodicOf};
-ghost use Rattle.sched_history.specs.State.{IsStateAfter, IsCommittable, flows_with};
+ghost use Rattle.sched_history.specs.declared.reply.Entry.{Entry};
+ghost use Rattle.sched_history.specs.Planned.{IsPlanAfter};
+ghost use Rattle.sched_history.specs.State.{IsStateAfter, IsOpenTo, IsOpen};
 ghost use Rattle.sched_history.specs.Facts.{IsWithinAsked};
 
-use super::granting::enter_grants;
+use super::planned::Planned;
 use super::refusing::{is_periodic, takes_requests};
+use crate::call::Call;
 use crate::reply::copy_of_placement;
 use flow_book::{Book, FlowSpec};
-use map_build::{FrameMap, MAX_DATA_GRANTS, plan_frame};
+use map_build::{FrameMap, plan_with_book};
 use minislots::Checked;
 use periodic::{PlaceFault, Placement, Table};
 use std::alloc::{AllocError, Global};
@@ -194,8 +197,8 @@ impl State {
         least_of(&self.progress[..usize::from(self.config.receivers())])
     }
 
-    // The MAP of the next frame.
-    pub(super) fn plan(&self, alloc: Global) -> Result<FrameMap, AllocError>
+    // The MAP of the next frame, and the book with its data grants.
+    fn plan_next(&self, alloc: Global) -> Result<(FrameMap, Book), AllocError>
         requires book_config { self.now.book.config ≡ self.now.config }
         requires table_config { self.now.table.config ≡ self.now.config }
         requires aligned { self.now.next % self.now.config.frame ≡ 0 }
@@ -203,30 +206,29 @@ impl State {
         requires started { AllByRecursion (HasStartedBy self.now.next) self.now.book.flows }
         requires periodic { ArePeriodicOf self.now.book.flows self.now.table.placed }
         requires channel { AreOfChannel self.now.book.flows }
-        ensures lawful { IfOk result (IsLawfulMap self.now.config self.now.book.flows
+        ensures lawful { IfOk result (λ both. IsLawfulFrame self.now.config self.now.book.flows
             (spots_in self.now.config (self.now.next / self.now.config.frame) self.now.table.placed)
-            self.now.next (least (take self.now.config.receivers self.now.progress))) }
-        ensures encodable { IfOk result (λ map. IsWellFormed map.wire) }
+            self.now.next (least (take self.now.config.receivers self.now.progress)) both.0 both.1.flows) }
+        ensures encodable { IfOk result (λ both. IsWellFormed both.0.wire) }
+        ensures config { IfOk result (λ both. both.1.config ≡ self.now.config) }
     {
         let frame = self.next / u64::from(self.config.frame());
-        plan_frame(alloc, &self.book, &self.table, frame, self.ack())
+        plan_with_book(alloc, &self.book, &self.table, frame, self.ack())
     }
 
-    // Enters the data grants of the MAP of the next frame, and describes the frame. Where memory runs
-    // out nothing has changed but room for grants.
-    pub(super) fn commit(&mut self, map: &FrameMap) -> Result<(), AllocError>
-        requires { IsCommittable self.old map.now }
-        ensures flows { OnOk result (self.new.book.flows ≡ flows_with map.now self.old.book.flows) }
-        ensures next { OnOk result (self.new.next ≡ self.old.next + self.old.config.frame) }
-        ensures config { self.new.book.config ≡ self.old.book.config }
-        ensures same { self.new ≡ record self.old { book = self.new.book; next = self.new.next } }
-        ensures err_flows { OnErr result (self.new.book.flows ≡ self.old.book.flows) }
-        ensures err_next { OnErr result (self.new.next ≡ self.old.next) }
+    // The build of the MAP of the next frame, with all that it fills.
+    pub(super) fn plan(&self, alloc: Global, now: u64) -> Result<Planned, AllocError>
+        requires { IsOpen self.now (Call.Build now) }
+        ensures clock { IfOk result (λ planned. planned.clock ≡ now) }
+        ensures fits { IfOk result (λ planned. (h : List Entry) → IsOpenTo self.now (Call.Build now) h
+            → IsPlanAfter self.now.config h planned) }
     {
-        self.book.reserve(MAX_DATA_GRANTS)?;
-        let elements = map.wire.elements.as_slice();
-        enter_grants(&mut self.book, map.start, elements, map.bytes.as_slice());
-        self.next += u64::from(self.config.frame());
-        Ok(())
+        let (map, book) = self.plan_next(alloc)?;
+        Ok(Planned {
+            clock: now,
+            kept: map.copy(alloc)?,
+            map,
+            book,
+        })
     }
 }

@@ -1,0 +1,23 @@
+-- A planned build is entered.
+use Rattle.std.proofs.Common.{ap, ◌∙◌}
+use Rattle.sched_history.proofs.state.Recording.{IsSound-planned, IsRecorded-planned}
+use Rattle.sched_history.proofs.scheduler.Scheduler.commit.Goals as goal
+
+pub invariant_of-self : goal.invariant_of-self
+invariant_of-self c =
+    IsSound-planned c.self.inside _ c.args.self.now c.self.view_is c.args.stamp c.args.planned c.commit-answer.result
+    c.self.invariant c.requires c.commit-answer.ensures.answered
+    (rw (ap (λ p. p.clock) c.planned.view_is) at c.note.ensures.items) c.note.ensures.capacity
+
+pub returns-clause-built : goal.returns-clause-built
+returns-clause-built c = c.note.ensures.reply ∙ c.commit-answer.ensures.built
+
+pub returns-clause-step : goal.returns-clause-step
+returns-clause-step c = rw (c.note.ensures.reply)
+    (IsRecorded-planned c.self.inside (record { state = c.commit-answer.new.self; entries = c.note.new.entries })
+    c.args.self.now c.self.view_is c.args.stamp c.args.planned c.commit-answer.result
+    c.self.invariant c.requires c.commit-answer.ensures.answered
+    (rw (ap (λ p. p.clock) c.planned.view_is) at c.note.ensures.items)).step
+
+pub returns-clause-legal : goal.returns-clause-legal
+returns-clause-legal c = (invariant_of-self c).legal

@@ -1,0 +1,75 @@
+-- A periodic flow is admitted with its place, or there is none.
+use Rattle.std.proofs.Common.{Some, refl, ap, arith, inl, inr}
+use Rattle.periodic.specs.Placement.{IsPlacement}
+use Rattle.sched_history.specs.declared.call.Call.TheVariants as calls
+use Rattle.sched_history.specs.declared.reply.Refusal.TheVariants.{NoPlace}
+use Rattle.sched_history.specs.declared.reply.Reply.TheVariants as replies
+use Rattle.sched_history.specs.Life.{table_of}
+use Rattle.sched_history.specs.Time.{next_after}
+use Rattle.sched_history.proofs.lives.Finding.{good_sid, life_of-dead}
+use Rattle.sched_history.proofs.flows.Refused.{IsQuiet-refused}
+use Rattle.sched_history.proofs.placements.Counts.{length-placed_by}
+use Rattle.sched_history.proofs.steps.Passed.{passed-admit}
+use Rattle.sched_history.proofs.state.Present.{flow_of-fresh, find-fresh, answers-periodic}
+use Rattle.sched_history.proofs.state.Present.{placement-after, no_placement-after}
+use Rattle.sched_history.proofs.state.Moves.{IsStateAfter-placed, IsStateAfter-quiet}
+use Rattle.sched_history.proofs.scheduler.state.State.admit_placed_flow.Goals as goal
+
+pub admit_periodic-requires-clause-is_new : goal.admit_periodic-requires-clause-is_new
+admit_periodic-requires-clause-is_new c =
+    let s = c.args.self.now in
+    let opens = c.requires.open.1 in
+    let admits = passed-admit s.config c.requires.open.0 c.args.sid c.args.spec opens.unrefused in
+    flow_of-fresh s c.requires.open.0 c.args.sid opens.is_after admits.good admits.fresh
+
+pub admit_periodic-requires-clause-unplaced : goal.admit_periodic-requires-clause-unplaced
+admit_periodic-requires-clause-unplaced c =
+    let s = c.args.self.now in
+    let opens = c.requires.open.1 in
+    let admits = passed-admit s.config c.requires.open.0 c.args.sid c.args.spec opens.unrefused in
+    find-fresh s c.requires.open.0 c.args.sid opens.is_after admits.good admits.fresh
+
+pub admit_periodic-requires-clause-room : goal.admit_periodic-requires-clause-room
+admit_periodic-requires-clause-room c =
+    let s = c.args.self.now in
+    let opens = c.requires.open.1 in
+    let admits = passed-admit s.config c.requires.open.0 c.args.sid c.args.spec opens.unrefused in
+    omega (
+      arith,
+      length-placed_by s c.requires.open.0 opens.is_after opens.legal,
+      admits.few_periodic c.requires.periodic,
+    )
+
+pub returns-in-Ok-clause-answered : goal.returns-in-Ok-clause-answered
+returns-in-Ok-clause-answered c = λ h opens.
+    let s = c.args.self.now in
+    let sid = c.args.sid in
+    let spec = c.args.spec in
+    let p = c.in-Ok.placement in
+    let done = c.in-Ok.ensures in
+    let admits = passed-admit s.config h sid spec opens.unrefused in
+    let good = good_sid sid admits.good in
+    let lawful : IsPlacement s.config (table_of h) spec (next_after s.config h) p =
+    placement-after s h spec p opens.is_after done.lawful in
+    record {
+      twice = ap (λ k. replies.Admitted (Some k)) done.twice;
+      config = ap (λ n. n.config) done.same;
+      answers = answers-periodic s.config h spec (replies.Admitted (Some p)) c.requires.periodic (inl (p, lawful, refl));
+      encodable = tt;
+      is_after = λ stamp. IsStateAfter-placed s h opens.is_after stamp sid spec p c.admit_periodic.new.self done.same
+          (life_of-dead sid h admits.fresh) good.0 good.1 done.book_config done.flows done.table_config done.placed;
+    }
+
+pub returns-in-Err-NoPlace-clause-answered : goal.returns-in-Err-NoPlace-clause-answered
+returns-in-Err-NoPlace-clause-answered c = λ h opens.
+    let s = c.args.self.now in
+    let none = (rw c.in-Err-NoPlace.field-0-is at c.in-Err-NoPlace.ensures).no_place refl in
+    rw (c.in-Err-NoPlace.ensures.err) (record {
+      twice = refl;
+      config = refl;
+      answers = answers-periodic s.config h c.args.spec (replies.Refused NoPlace) c.requires.periodic
+          (inr (no_placement-after s h c.args.spec opens.is_after none, refl));
+      encodable = tt;
+      is_after = λ stamp. IsStateAfter-quiet s h opens.is_after stamp (calls.Admit c.args.sid c.args.spec)
+          (replies.Refused NoPlace) (IsQuiet-refused (calls.Admit c.args.sid c.args.spec) NoPlace);
+    })

@@ -1,0 +1,36 @@
+-- A request is counted, and each other call has its own answer.
+use Rattle.std.proofs.Common.{refl, arith}
+use Rattle.sched_history.proofs.steps.Passed.{passed-ask}
+use Rattle.sched_history.proofs.state.Present.{IsLive-after, asked-fits}
+use Rattle.sched_history.proofs.state.Moves.{IsStateAfter-asked}
+use Rattle.sched_history.proofs.scheduler.state.State.answer.Goals as goal
+
+pub ask-requires-clause-live : goal.ask-requires-clause-live
+ask-requires-clause-live c =
+    let s = c.args.self.now in
+    let h = c.requires.0 in
+    let opens = rw c.in-Ask.is at c.requires.1 in
+    IsLive-after s h c.in-Ask.sid opens.is_after
+    (passed-ask s.config h c.in-Ask.receiver c.in-Ask.sid c.in-Ask.bytes c.in-Ask.heard opens.unrefused).known
+
+pub ask-requires-clause-fits : goal.ask-requires-clause-fits
+ask-requires-clause-fits c =
+    let s = c.args.self.now in
+    let h = c.requires.0 in
+    let opens = rw c.in-Ask.is at c.requires.1 in
+    let asks = passed-ask s.config h c.in-Ask.receiver c.in-Ask.sid c.in-Ask.bytes c.in-Ask.heard opens.unrefused in
+    asked-fits s h c.in-Ask.sid opens.is_after c.in-Ask.bytes (omega (arith, asks.most)) (omega (arith, opens.room))
+    opens.bounded.asked
+
+pub returns-in-Ask-clause-answered : goal.returns-in-Ask-clause-answered
+returns-in-Ask-clause-answered c = λ h opens.
+    let s = c.args.self.now in
+    let ask = c.in-Ask in
+    rw c.in-Ask.is (record {
+      twice = refl;
+      config = refl;
+      answers = refl;
+      encodable = tt;
+      is_after = λ stamp. IsStateAfter-asked s h opens.is_after stamp ask.receiver ask.sid ask.bytes ask.heard
+          c.ask.new.self c.ask.ensures;
+    })
