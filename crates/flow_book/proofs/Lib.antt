@@ -2,10 +2,12 @@ pub mod Admission
 pub mod Amounts
 pub mod Backwards
 pub mod Base
+pub mod Buckets
 pub mod Changes
 pub mod Faults
 pub mod FirstGrant
 pub mod Insertion
+pub mod Levels
 pub mod Order
 pub mod Places
 pub mod Profile

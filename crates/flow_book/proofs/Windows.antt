@@ -37,14 +37,17 @@ window-last grants start n i le =
     ∙ sum_by-append (λ (g : Grant). g.bytes) (drop i grants) (one_more start n)
     ∙ ap (λ b. bytes_of (drop i grants) + b) (bytes-one start n)
 
-start-inside : (grants more : List Grant) (i : ℕ) → i < length grants → start_of (grants ++ more) i ≡ start_of grants i
+-- a grant starts where it did
+pub start-inside : (grants more : List Grant) (i : ℕ) → i < length grants → start_of (grants ++ more) i ≡ start_of grants i
 start-inside grants more i lt = ap (λ (g : Grant). g.start) (get_or_append_left grants more _ i lt)
 
-start-last : (grants : List Grant) (start n : ℕ) → start_of (grants ++ one_more start n) (length grants) ≡ start
+-- and the one more where it starts
+pub start-last : (grants : List Grant) (start n : ℕ) → start_of (grants ++ one_more start n) (length grants) ≡ start
 start-last grants start n =
     ap (λ (g : Grant). g.start) (get_or-append_seam grants (record { start = start; bytes = n }) [] _)
 
-drop-end : (grants : List Grant) → bytes_of (drop (length grants) grants) ≡ 0
+-- after the last grant there are no bytes
+pub drop-end : (grants : List Grant) → bytes_of (drop (length grants) grants) ≡ 0
 drop-end [] = refl
 drop-end (g ∷ grants) = drop-end grants
 

@@ -3,6 +3,7 @@ pub use Rattle.minislots.specs.Units
 pub mod FlowSpec
 pub mod Flows
 pub mod Ceiling
+pub mod Bucket
 pub mod Sids
 pub mod Choice
 pub mod Book

@@ -3,11 +3,13 @@
 #![tactic(auto)]
 
 mod book;
+mod bucket;
 mod check;
 mod flow;
 mod spec;
 
 pub use book::Book;
+pub use bucket::Bucket;
 pub use flow::Grant;
 pub use spec::{FlowFault, FlowSpec};
 

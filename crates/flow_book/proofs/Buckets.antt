@@ -1,0 +1,64 @@
+-- The grants that a bucket stands for, before and after one more.
+use Rattle.std.proofs.Common.{◌≡◌, sym, subst, ℕ, ◌+◌, ◌-◌, ◌*◌, ◌/◌, ◌<◌, ◌≤◌, ◌^◌, ◌==◌, min, List, [], ◌∷◌, ◌++◌}
+use Rattle.std.proofs.Common.{Bool, true, false, if◌then◌else◌, inl, inr, arith}
+use Rattle.std.proofs.lemmas.Nat.{mul-lt, mul-le}
+use Rattle.std.proofs.lemmas.Bool.{cases_eq}
+use Rattle.std.proofs.lemmas.Bool.Decides.{nat_tests}
+use Rattle.minislots.specs.declared.config.Config.{Config}
+use Rattle.flow_book.specs.declared.flow.Grant.{Grant}
+use Rattle.flow_book.specs.Ceiling.{KeepsCeiling}
+use Rattle.flow_book.specs.Bucket.{BucketView, level_of, HaveStartedBy, StandsFor, IsLevel}
+use Rattle.flow_book.proofs.Windows.{one_more}
+use Rattle.flow_book.proofs.Levels.{level-keeps, keeps-level, level-more, started-front}
+
+-- what a rate brings in a minislot
+pub slow : (ticks rate : ℕ) → ticks ≤ 128 → rate < 2 ^ 32 → ticks * rate < 2 ^ 40
+slow ticks rate few low = omega (arith, mul-lt ticks rate 129 (2 ^ 32) (omega arith) low)
+
+module _ (c : Config) (rate burst : ℕ) (b : BucketView) (grants : List Grant)
+    (stands : StandsFor c rate burst b grants) where
+  -- a bucket into which nothing comes has no ceiling
+  pub no-ceiling : b.per_slot ≡ 0 → rate ≡ 0
+  no-ceiling none = omega (arith, mul-le 1 rate c.ticks rate stands.ticks (omega arith), stands.per_slot)
+
+  -- and one into which something comes has one
+  pub some-ceiling : 0 < b.per_slot → 0 < rate
+  some-ceiling some = elim (cases_eq rate 0) [
+    | inl e ↦ (let is = stands.per_slot in let zero = rw e at is in absurd (omega arith))
+    | inr differ ↦ omega arith
+  ]
+
+  module _ (slot n : ℕ) (started : HaveStartedBy slot grants) where
+    -- the grants keep the ceiling with one more that the bucket has
+    pub kept-more : 1280000 * n ≤ level_of b slot → KeepsCeiling c rate burst (grants ++ one_more slot n)
+    kept-more enough positive =
+        level-keeps c rate burst grants slot n (level_of b slot) (stands.level positive slot started) stands.kept enough
+        positive
+
+    -- and not with one that it has not
+    pub has-more : 0 < b.per_slot → KeepsCeiling c rate burst (grants ++ one_more slot n)
+        → 1280000 * n ≤ level_of b slot
+    has-more some kept =
+        let positive = some-ceiling some in
+        keeps-level c rate burst grants slot n (level_of b slot) (stands.level positive slot started) positive kept
+
+    -- the bucket after it
+    abbrev pub spent : BucketView
+    spent = record b { level = level_of b slot - 1280000 * n; since = slot }
+
+    -- stands for the grants with this one more
+    pub spent-stands : 1280000 * n ≤ level_of b slot → StandsFor c rate burst spent (grants ++ one_more slot n)
+    spent-stands enough = record {
+      ticks = stands.ticks;
+      per_slot = stands.per_slot;
+      full = stands.full;
+      kept = kept-more enough;
+      since = λ later all. (started-front later grants _ all).1;
+      level = λ positive later all.
+          let full : b.full ≡ 1280000 * burst = grind (arith, nat_tests, stands.full) in
+          let past = (started-front later grants _ all).1 in
+          subst (λ m. IsLevel c rate burst (grants ++ one_more slot n) later
+          (min m (level_of b slot - 1280000 * n + (later - slot) * b.per_slot))) (sym full)
+          (level-more c rate burst grants slot n (level_of b slot) (stands.level positive slot started) later b.per_slot
+          past stands.per_slot enough);
+    }

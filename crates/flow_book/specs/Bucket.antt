@@ -1,0 +1,62 @@
+-- The token bucket of a flow: what it has at a minislot, and the grants that it stands for.
+use Rattle.std.specs.Prelude.{◌≡◌, ℕ, ◌+◌, ◌-◌, ◌*◌, ◌/◌, ◌<◌, ◌≤◌, ◌==◌, ◌++◌, min, List, [], ◌∷◌, length, drop}
+use Rattle.std.specs.Prelude.{Bool, IsTrue, ◌↔◌, if◌then◌else◌}
+use Rattle.std.specs.List.{AllByRecursion}
+use Rattle.minislots.specs.declared.config.Config.{Config}
+use Rattle.flow_book.specs.declared.flow.Grant.{Grant}
+use Rattle.flow_book.specs.Flows.{bytes_of}
+use Rattle.flow_book.specs.Ceiling.{start_of, KeepsCeiling}
+
+-- A bucket, in 1/1280000 bytes: what the rate brings in a minislot, what the burst allows, and what there was at the
+-- start of the last grant. Where there is no ceiling the first two are 0.
+pub record BucketView : Type 0 where
+  pub per_slot : ℕ
+  pub full : ℕ
+  pub level : ℕ
+  pub since : ℕ
+
+-- what there is at a minislot: the rate fills the bucket, which never has more than where it is full
+abbrev pub level_of : BucketView → ℕ → ℕ
+level_of b slot = min b.full (b.level + (slot - b.since) * b.per_slot)
+
+-- each of the grants starts at or before this minislot
+abbrev pub HaveStartedBy : ℕ → List Grant → Type 0
+HaveStartedBy slot grants = AllByRecursion (λ g. g.start ≤ slot) grants
+
+-- Each window of grants that ends at the minislot leaves this much, in 1/1280000 bytes, of the burst and of what the
+-- rate allows from the window's first start on. The empty window leaves the burst.
+pub record LeaveAtLeast (c : Config) (rate burst : ℕ) (grants : List Grant) (slot amount : ℕ) : Type 0 where
+  pub empty : amount ≤ 1280000 * burst
+  pub each : (i : ℕ) → i < length grants → 1280000 * bytes_of (drop i grants) + amount
+      + start_of grants i * c.ticks * rate ≤ slot * c.ticks * rate + 1280000 * burst
+
+-- the least that a window of grants leaves at the minislot
+pub record IsLevel (c : Config) (rate burst : ℕ) (grants : List Grant) (slot level : ℕ) : Type 0 where
+  pub left : LeaveAtLeast c rate burst grants slot level
+  pub least : (more : ℕ) → LeaveAtLeast c rate burst grants slot more → more ≤ level
+
+-- The bucket of a rate and a burst stands for some grants: they keep the ceiling, and at each minislot from the last
+-- one on the bucket has what they leave.
+pub record StandsFor (c : Config) (rate burst : ℕ) (b : BucketView) (grants : List Grant) : Type 0 where
+  pub ticks : 0 < c.ticks
+  pub per_slot : b.per_slot ≡ c.ticks * rate
+  pub full : b.full ≡ (if rate == 0 then 0 else 1280000 * burst)
+  pub kept : KeepsCeiling c rate burst grants
+  pub since : (slot : ℕ) → HaveStartedBy slot grants → b.since ≤ slot
+  pub level : 0 < rate → (slot : ℕ) → HaveStartedBy slot grants → IsLevel c rate burst grants slot (level_of b slot)
+
+-- the answer is true exactly where grants that the bucket stands for keep the ceiling with this one more
+abbrev pub AnswersCeiling : BucketView → ℕ → ℕ → Bool → Type 0
+AnswersCeiling b slot bytes taken = (c : Config) (rate burst : ℕ) (grants : List Grant)
+    → StandsFor c rate burst b grants → HaveStartedBy slot grants
+    → IsTrue taken ↔ KeepsCeiling c rate burst (grants ++ record { start = slot; bytes = bytes } ∷ [])
+
+-- where the one bucket stands for some grants that have started, the other stands for them and this one more
+abbrev pub HasOneMore : BucketView → BucketView → ℕ → ℕ → Type 0
+HasOneMore old new slot bytes = (c : Config) (rate burst : ℕ) (grants : List Grant)
+    → StandsFor c rate burst old grants → HaveStartedBy slot grants
+    → StandsFor c rate burst new (grants ++ record { start = slot; bytes = bytes } ∷ [])
+
+-- the most bytes, up to a limit, that the bucket has at a minislot
+abbrev pub most_of : BucketView → ℕ → ℕ → ℕ
+most_of b slot limit = if b.per_slot == 0 then limit else min limit (level_of b slot / 1280000)

@@ -1,0 +1,110 @@
+//! The token bucket of a flow under a rate ceiling.
+
+ghost use Rattle.std.specs.Prelude.{◌≡◌, ◌*◌, ◌<◌, ◌≤◌, ◌^◌, [], IsTrue, false};
+ghost use Rattle.flow_book.specs.Bucket.{level_of, most_of, StandsFor, AnswersCeiling, HasOneMore};
+
+use minislots::Checked;
+use std::marker::Model;
+
+// The part of a byte in which levels are counted: one bit per second brings 8 of them in a tick of 6.25
+// microseconds.
+const PARTS: u128 = 1_280_000;
+
+/// What a maximum sustained rate and burst leave to a flow, as the least over all windows of its grants.
+/// It is counted in 1/1280000 bytes: a rate of one bit per second brings one of them in each tick. With a
+/// rate of 0 there is no ceiling.
+#[derive(Clone, Copy, Debug, PartialEq, Eq)]
+pub struct Bucket {
+    // What the rate brings in a minislot, and what the burst allows: both 0 where there is no ceiling.
+    per_slot: u64,
+    full: u64,
+    // What there was at the start of the last grant, after it.
+    level: u64,
+    since: u64,
+}
+
+impl Model for Bucket {
+    ghost use Rattle.std.specs.Prelude.{◌<◌, ◌≤◌, ◌^◌};
+    ghost use Rattle.flow_book.specs.Bucket.{BucketView};
+
+    ghost Value = { BucketView };
+
+    ghost view = { λ b. record {
+      per_slot = b.per_slot;
+      full = b.full;
+      level = b.level;
+      since = b.since;
+    } };
+
+    ghost invariant = { λ b. (b.per_slot < 2 ^ 40) × (b.full < 2 ^ 53) × (b.level ≤ b.full) };
+
+    ghost inverse = { λ v. record { per_slot = v.per_slot; full = v.full; level = v.level; since = v.since } };
+}
+
+impl Bucket {
+    /// A full bucket for this channel: `rate` in bits per second, `burst` in bytes. It stands for no grants.
+    pub fn open(config: &Checked, rate: u32, burst: u32) -> Bucket
+        ensures { StandsFor config.now rate burst result [] }
+    {
+        let burst = if rate == 0 { 0 } else { burst };
+        let full = PARTS as u64 * u64::from(burst);
+        Bucket {
+            per_slot: u64::from(config.ticks()) * u64::from(rate),
+            full,
+            level: full,
+            since: 0,
+        }
+    }
+
+    /// What there is at minislot `slot`, in 1/1280000 bytes: the least that a window of the grants leaves,
+    /// and 0 where there is no ceiling. The grants start at or before `slot`.
+    pub fn level_at(&self, slot: u64) -> u128
+        requires { self.now.since ≤ slot }
+        ensures value { result ≡ level_of self.now slot }
+    {
+        let brought = brought(slot - self.since, self.per_slot);
+        u128::from(self.full).min(u128::from(self.level) + brought)
+    }
+
+    /// Takes a grant of so many bytes that starts at minislot `slot`, where the grants keep the ceiling with
+    /// it. Else the answer is false, and nothing changes. The grants start at or before `slot`.
+    pub fn take(&mut self, slot: u64, bytes: u32) -> bool
+        requires { self.old.since ≤ slot }
+        ensures exact { AnswersCeiling self.old slot bytes result }
+        ensures taken { IsTrue result → HasOneMore self.old self.new slot bytes }
+        ensures same { result ≡ false → self.new ≡ self.old }
+    {
+        if self.per_slot == 0 {
+            return true;
+        }
+        let level = self.level_at(slot);
+        let wanted = PARTS * u128::from(bytes);
+        if level < wanted {
+            return false;
+        }
+        self.level = (level - wanted) as u64;
+        self.since = slot;
+        true
+    }
+
+    // The most bytes, up to the limit, of a grant that starts at this minislot.
+    pub(crate) fn most(&self, slot: u64, limit: u32) -> u32
+        requires { self.now.since ≤ slot }
+        ensures { result ≡ most_of self.now slot limit }
+    {
+        let level = self.level_at(slot);
+        if self.per_slot == 0 || PARTS * u128::from(limit) <= level {
+            return limit;
+        }
+        (level as u64 / PARTS as u64) as u32
+    }
+}
+
+// What a rate brings in so many minislots, in 1/1280000 bytes.
+fn brought(slots: u64, per_slot: u64) -> u128
+    requires { per_slot < 2 ^ 40 }
+    ensures value { result ≡ slots * per_slot }
+    ensures bound { result < 2 ^ 104 }
+{
+    u128::from(slots) * u128::from(per_slot)
+}
