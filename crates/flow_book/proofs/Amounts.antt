@@ -4,9 +4,11 @@ use Rattle.std.proofs.lemmas.Bool.Decides.{nat_tests}
 use Rattle.minislots.specs.declared.config.Config.{Config}
 use Rattle.minislots.specs.Units.{slots_for, bytes_in}
 use Rattle.minislots.proofs.UnitLaws.{fits_bytes, fits_slots}
-use Rattle.flow_book.specs.FlowSpec.{takes_requests}
+use Rattle.flow_book.specs.FlowSpec.{takes_requests, rate_of, burst_of}
 use Rattle.flow_book.specs.Flows.{LiveFlow, outstanding}
 use Rattle.flow_book.specs.Choice.{KeepsWith, MayGrant, IsMost, IsEligible}
+use Rattle.flow_book.specs.Bucket.{BucketView, HaveStartedBy, StandsFor, most_of}
+use Rattle.flow_book.proofs.Buckets.{most-within, most-kept, most-greatest}
 
 module _ (c : Config) (f : LiveFlow) (start room limit most : ℕ) where
   -- of the bytes up to the limit the flow may have these under its ceiling, and no more
@@ -58,3 +60,16 @@ module _ (c : Config) (f : LiveFlow) (start room limit most : ℕ) where
       let e : most ≡ limit = omega (arith, is.within) in
       grind (arith, nat_tests) in
       (whole, same)
+
+-- of the bytes up to a limit the flow may have what its bucket has
+pub bucket-within : (c : Config) (f : LiveFlow) (b : BucketView) (start room limit most : ℕ)
+    → StandsFor c (rate_of f.spec) (burst_of f.spec) b f.grants → HaveStartedBy start f.grants
+    → most ≡ most_of b start limit → IsWithin c f start room limit most
+bucket-within c f b start room limit most stands started is =
+    let rate = rate_of f.spec in
+    let burst = burst_of f.spec in
+    rw is (record {
+      within = most-within c rate burst b f.grants stands start 0 started limit;
+      keeps = λ n some le. most-kept c rate burst b f.grants stands start n started limit le;
+      greatest = λ n some le kept. most-greatest c rate burst b f.grants stands start n started limit le kept;
+    })

@@ -1,19 +1,28 @@
 -- The grants that a bucket stands for, before and after one more.
-use Rattle.std.proofs.Common.{◌≡◌, sym, subst, ℕ, ◌+◌, ◌-◌, ◌*◌, ◌/◌, ◌<◌, ◌≤◌, ◌^◌, ◌==◌, min, List, [], ◌∷◌, ◌++◌}
-use Rattle.std.proofs.Common.{Bool, true, false, if◌then◌else◌, inl, inr, arith}
+use Rattle.std.proofs.Common.{◌≡◌, ◌≢◌, refl, sym, subst, ℕ, ◌+◌, ◌-◌, ◌*◌, ◌/◌, ◌<◌, ◌≤◌, ◌^◌, ◌==◌, min, List, ◌++◌}
+use Rattle.std.proofs.Common.{false, inl, inr, arith}
 use Rattle.std.proofs.lemmas.Nat.{mul-lt, mul-le}
 use Rattle.std.proofs.lemmas.Bool.{cases_eq}
 use Rattle.std.proofs.lemmas.Bool.Decides.{nat_tests}
 use Rattle.minislots.specs.declared.config.Config.{Config}
 use Rattle.flow_book.specs.declared.flow.Grant.{Grant}
 use Rattle.flow_book.specs.Ceiling.{KeepsCeiling}
-use Rattle.flow_book.specs.Bucket.{BucketView, level_of, HaveStartedBy, StandsFor, IsLevel}
+use Rattle.flow_book.specs.Bucket.{BucketView, level_of, most_of, HaveStartedBy, StandsFor, IsLevel}
 use Rattle.flow_book.proofs.Windows.{one_more}
 use Rattle.flow_book.proofs.Levels.{level-keeps, keeps-level, level-more, started-front}
 
 -- what a rate brings in a minislot
 pub slow : (ticks rate : ℕ) → ticks ≤ 128 → rate < 2 ^ 32 → ticks * rate < 2 ^ 40
 slow ticks rate few low = omega (arith, mul-lt ticks rate 129 (2 ^ 32) (omega arith) low)
+
+most-limit : (b : BucketView) (slot limit : ℕ) → b.per_slot ≡ 0 → most_of b slot limit ≡ limit
+most-limit b slot limit none = rw none refl
+
+most-limited : (b : BucketView) (slot limit : ℕ) → b.per_slot ≢ 0
+    → most_of b slot limit ≡ min limit (level_of b slot / 1280000)
+most-limited b slot limit some =
+    let fails : (b.per_slot == 0) ≡ false = grind (arith, nat_tests) in
+    rw fails refl
 
 module _ (c : Config) (rate burst : ℕ) (b : BucketView) (grants : List Grant)
     (stands : StandsFor c rate burst b grants) where
@@ -62,3 +71,25 @@ module _ (c : Config) (rate burst : ℕ) (b : BucketView) (grants : List Grant)
           (level-more c rate burst grants slot n (level_of b slot) (stands.level positive slot started) later b.per_slot
           past stands.per_slot enough);
     }
+
+    -- of the bytes up to a limit it has these at most
+    pub most-within : (limit : ℕ) → most_of b slot limit ≤ limit
+    most-within limit = elim (cases_eq b.per_slot 0) [
+      | inl e ↦ (let most = most-limit b slot limit e in omega arith)
+      | inr differ ↦ (let most = most-limited b slot limit differ in omega arith)
+    ]
+
+    -- each of which keeps the ceiling
+    pub most-kept : (limit : ℕ) → n ≤ most_of b slot limit → KeepsCeiling c rate burst (grants ++ one_more slot n)
+    most-kept limit le = elim (cases_eq b.per_slot 0) [
+      | inl e ↦ (λ positive. absurd (omega (arith, no-ceiling e)))
+      | inr differ ↦ (let most = most-limited b slot limit differ in kept-more (omega arith))
+    ]
+
+    -- and no more does
+    pub most-greatest : (limit : ℕ) → n ≤ limit → KeepsCeiling c rate burst (grants ++ one_more slot n)
+        → n ≤ most_of b slot limit
+    most-greatest limit le kept = elim (cases_eq b.per_slot 0) [
+      | inl e ↦ (let most = most-limit b slot limit e in omega arith)
+      | inr differ ↦ (let most = most-limited b slot limit differ in omega (arith, has-more (omega arith) kept))
+    ]

@@ -1,6 +1,5 @@
 pub mod Admission
 pub mod Amounts
-pub mod Backwards
 pub mod Base
 pub mod Buckets
 pub mod Changes
@@ -17,5 +16,6 @@ pub mod RowsCeiling
 pub mod RowsChoice
 pub mod RowsFaults
 pub mod Steps
+pub mod Sums
 pub mod Unlimited
 pub mod Windows

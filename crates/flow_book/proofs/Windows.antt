@@ -1,5 +1,5 @@
 -- The windows of a flow's grants followed by one more.
-use Rattle.std.proofs.Common.{◌≡◌, refl, ap, ◌∙◌, ℕ, ◌+◌, ◌-◌, ◌*◌, ◌/◌, ◌<◌, ◌≤◌, List, [], ◌∷◌, ◌++◌, length, take}
+use Rattle.std.proofs.Common.{◌≡◌, refl, ap, ◌∙◌, ℕ, ◌+◌, ◌*◌, ◌<◌, ◌≤◌, List, [], ◌∷◌, ◌++◌, length, take}
 use Rattle.std.proofs.Common.{drop, inl, inr, arith}
 use Rattle.std.proofs.Math.Seq.{get_or-append_seam}
 use Rattle.std.proofs.lemmas.Bool.{cases_eq}
@@ -111,11 +111,3 @@ module _ (c : Config) (rate burst start n : ℕ) (grants : List Grant) where
       rw (window-last grants start n (length grants) (omega arith), start-last grants start n, drop-end grants) at
       whole in
       omega arith
-
--- the bytes that are left, by division
-pub left-enough : (level from bytes n : ℕ) → 0 < n → n ≤ (level - from) / 1280000 - bytes
-    → 1280000 * (bytes + n) + from ≤ level
-left-enough level from bytes n some le = omega arith
-
-pub left-most : (level from bytes n : ℕ) → 1280000 * (bytes + n) + from ≤ level → n ≤ (level - from) / 1280000 - bytes
-left-most level from bytes n le = omega arith

@@ -1,11 +1,13 @@
 -- What the fields of a flow stand for, and what is true of every book.
-use Rattle.std.specs.Prelude.{◌-◌, ◌≤◌, List, vec_len, vec_capacity}
+use Rattle.std.specs.Prelude.{◌≡◌, ◌-◌, ◌≤◌, List, map, vec_len, vec_capacity}
 use Rattle.std.specs.List.{AllByRecursion}
 use Rattle.minislots.specs.declared.config.Config.{Config}
 use Rattle.flow_book.specs.declared.flow.Flow.{Flow}
 use Rattle.flow_book.specs.FlowSpec.{rate_of, burst_of}
-use Rattle.flow_book.specs.Flows.{LiveFlow, granted}
+use Rattle.flow_book.specs.Flows.{LiveFlow, bytes_of, granted}
 use Rattle.flow_book.specs.Ceiling.{KeepsCeiling}
+use Rattle.flow_book.specs.Choice.{last_start}
+use Rattle.flow_book.specs.Bucket.{StandsFor}
 use Rattle.flow_book.specs.Book.{Room, Ascend}
 
 -- the live flow that the fields stand for
@@ -16,6 +18,24 @@ live f = record { sid = f.sid; spec = f.spec; asked = f.asked; grants = f.grants
 abbrev pub room_in : Flow → Room
 room_in f = record { sid = f.sid; grants = vec_capacity f.grants - vec_len f.grants }
 
+-- the flow knows where its last grant starts
+abbrev pub KnowsLast : Flow → Type 0
+KnowsLast f = f.last ≡ last_start f.grants.items
+
+-- what a flow keeps beside its grants is theirs: their bytes, where the last one starts, and the bucket of its rate
+-- and burst that stands for them
+pub record KeepsSums (c : Config) (f : Flow) : Type 0 where
+  pub granted : f.granted ≡ bytes_of f.grants.items
+  pub last : KnowsLast f
+  pub bucket : StandsFor c (rate_of f.spec) (burst_of f.spec) f.bucket f.grants.items
+
+-- g is a copy of f, with what is kept beside its grants
+pub record IsCopy (f g : Flow) : Type 0 where
+  pub same : live g ≡ live f
+  pub granted : g.granted ≡ f.granted
+  pub last : g.last ≡ f.last
+  pub bucket : g.bucket ≡ f.bucket
+
 -- a flow was granted no more than it asked, within its rate ceiling
 pub record IsSoundFlow (c : Config) (f : LiveFlow) : Type 0 where
   pub within : granted f ≤ f.asked
@@ -25,3 +45,8 @@ pub record IsSoundFlow (c : Config) (f : LiveFlow) : Type 0 where
 pub record IsSoundBook (c : Config) (flows : List LiveFlow) : Type 0 where
   pub ascending : Ascend flows
   pub each : AllByRecursion (IsSoundFlow c) flows
+
+-- and of what they keep
+pub record IsBook (c : Config) (items : List Flow) : Type 0 where
+  pub sound : IsSoundBook c (map live items)
+  pub sums : AllByRecursion (KeepsSums c) items

@@ -6,11 +6,11 @@ ghost use Rattle.std.specs.List.{AllByRecursion};
 ghost use Rattle.minislots.specs.Units.{slots_for};
 ghost use Rattle.flow_book.specs.Flows.{flow_of, outstanding, with_grant};
 ghost use Rattle.flow_book.specs.Choice.{MayGrant, IsMost, IsNextSid, HasStartedBy};
-ghost use Rattle.flow_book.specs.Entry.{live, IsSoundFlow};
+ghost use Rattle.flow_book.specs.Entry.{live, IsSoundFlow, KeepsSums};
 ghost use Rattle.flow_book.specs.Book.{IsLive, Ascend, KeepsRoom, room_of, new_flow, with_flow, without, changed};
 ghost use Rattle.flow_book.specs.Book.{with_asked};
 
-use crate::flow::{Flow, Grant, first_eligible, reserve_each};
+use crate::flow::{Flow, first_eligible, reserve_each};
 use crate::spec::FlowSpec;
 use minislots::Checked;
 use std::alloc::{AllocError, Global};
@@ -30,7 +30,7 @@ impl Model for Book {
 
     ghost Value = { BookView };
 
-    ghost use Rattle.flow_book.specs.Entry.{live, room_in, IsSoundBook};
+    ghost use Rattle.flow_book.specs.Entry.{live, room_in, IsBook};
 
     ghost view = { λ b. record {
       config = b.config;
@@ -38,7 +38,7 @@ impl Model for Book {
       rooms = map room_in b.flows.items;
     } };
 
-    ghost invariant = { λ b. IsSoundBook b.config (map live b.flows.items) };
+    ghost invariant = { λ b. IsBook b.config b.flows.items };
 }
 
 // The place of the flow with this SID.
@@ -134,12 +134,7 @@ impl Book {
         ensures room { KeepsRoom self.old.rooms self.new.rooms }
     {
         let place = place_above(&self.flows, sid).unwrap_or(self.flows.len());
-        let flow = Flow {
-            sid,
-            spec,
-            asked: 0,
-            grants: Vec::new(*self.flows.allocator()),
-        };
+        let flow = Flow::open(*self.flows.allocator(), &self.config, sid, spec);
         self.flows.insert(place, flow)?;
         Ok(())
     }
@@ -214,9 +209,7 @@ impl Book {
         ensures other_room { (other : ℕ) → other ≢ sid → room_of other self.new.rooms ≡ room_of other self.old.rooms }
     {
         let place = self.place(sid);
-        self.flows[place]
-            .grants
-            .push_reserved(Grant { start, bytes });
+        self.flows[place].grant(start, bytes);
     }
 
     /// Another book that shows the same configuration and flows. It has no room for grants that
@@ -236,6 +229,7 @@ impl Book {
         requires { IsLive sid self.now.flows }
         ensures found { flow_of sid self.now.flows ≡ Some (live result.now) }
         ensures sound { IsSoundFlow self.now.config (live result.now) }
+        ensures sums { KeepsSums self.now.config result.now }
     {
         &self.flows[self.place(sid)]
     }

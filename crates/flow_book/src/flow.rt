@@ -1,17 +1,21 @@
-//! One live flow, with the list of its data grants.
+//! One live flow, with the list of its data grants and what is kept beside it.
 
-ghost use Rattle.std.specs.Prelude.{◌≡◌, ℕ, ◌-◌, ◌*◌, ◌/◌, ◌<◌, ◌≤◌, ◌^◌, min, map, length, slice_index_or, IsTrue};
-ghost use Rattle.std.specs.Prelude.{◌↔◌, MatchOption, OnOk, option_map, option_copied};
-ghost use Rattle.flow_book.specs.Flows.{granted, outstanding};
-ghost use Rattle.flow_book.specs.Choice.{last_start, is_earlier, is_as_early, is_before, IsEligible, IsMost, KeepsWith};
-ghost use Rattle.flow_book.specs.Entry.{live, room_in, IsSoundFlow, IsSoundBook};
-ghost use Rattle.flow_book.specs.Book.{KeepsRoom};
+ghost use Rattle.std.specs.Prelude.{◌≡◌, ℕ, ◌+◌, ◌-◌, ◌<◌, ◌≤◌, map, length, slice_index_or, IsTrue};
+ghost use Rattle.std.specs.Prelude.{◌↔◌, MatchOption, OnOk, IfSome, option_map, option_copied};
+ghost use Rattle.std.specs.List.{AllByRecursion};
+ghost use Rattle.minislots.specs.declared.config.Config.{Config};
+ghost use Rattle.flow_book.specs.Flows.{granted, outstanding, with_grant};
+ghost use Rattle.flow_book.specs.Choice.{is_earlier, is_as_early, is_before, IsEligible, IsMost, KeepsWith};
+ghost use Rattle.flow_book.specs.Choice.{IsNextOf, HasStartedBy};
+ghost use Rattle.flow_book.specs.Bucket.{HaveStartedBy};
+ghost use Rattle.flow_book.specs.Entry.{live, room_in, IsSoundFlow, IsSoundBook, IsCopy, KnowsLast, KeepsSums};
+ghost use Rattle.flow_book.specs.Book.{KeepsRoom, new_flow};
 ghost use Rattle.flow_book.specs.declared.flow.Flow.{Flow};
-ghost use Rattle.flow_book.specs.Choice.{IsNextOf};
 
+use crate::bucket::Bucket;
 use crate::spec::FlowSpec;
 use minislots::Checked;
-use std::alloc::AllocError;
+use std::alloc::{AllocError, Global};
 
 /// A data grant of a flow: the minislot at which it starts, and its bytes.
 #[derive(Clone, Copy, Debug, PartialEq, Eq)]
@@ -27,58 +31,67 @@ pub(crate) struct Flow {
     pub(crate) spec: FlowSpec,
     // The bytes of all requests.
     pub(crate) asked: u64,
+    // The bytes of all data grants.
+    granted: u64,
+    // Where the last data grant starts.
+    last: Option<u64>,
+    // What the data grants leave under the rate ceiling.
+    bucket: Bucket,
     // The data grants, in order.
     pub(crate) grants: Vec<Grant>,
 }
 
 impl Clone for Flow {
-    ghost is_clone = { λ f g. live g ≡ live f };
+    ghost is_clone = { λ f g. IsCopy f g };
 
     fn clone(&self) -> Result<Flow, AllocError> {
         Ok(Flow {
             sid: self.sid,
             spec: self.spec,
             asked: self.asked,
+            granted: self.granted,
+            last: self.last,
+            bucket: self.bucket,
             grants: Vec::from_slice(*self.grants.allocator(), &self.grants)?,
         })
     }
 }
 
 impl Flow {
-    // The bytes of all data grants.
-    fn granted(&self) -> u64
-        requires { granted (live self.now) < 2 ^ 64 }
-        ensures { result ≡ granted (live self.now) }
+    // A flow that has asked and been granted nothing.
+    pub(crate) fn open(alloc: Global, config: &Checked, sid: u16, spec: FlowSpec) -> Flow
+        ensures live { live result ≡ new_flow sid spec }
+        ensures sums { KeepsSums config.now result }
     {
-        self.grants.iter().map(|grant| u64::from(grant.bytes)).sum()
+        Flow {
+            sid,
+            spec,
+            asked: 0,
+            granted: 0,
+            last: None,
+            bucket: Bucket::open(config, spec.rate(), spec.burst()),
+            grants: Vec::new(alloc),
+        }
     }
 
     // The bytes that were asked and not granted.
     pub(crate) fn outstanding(&self) -> u64
-        requires { granted (live self.now) ≤ self.now.asked }
-        ensures value { result ≡ outstanding (live self.now) }
-        ensures fits { granted (live self.now) < 2 ^ 64 }
+        requires sum { self.now.granted ≡ granted (live self.now) }
+        requires within { granted (live self.now) ≤ self.now.asked }
+        ensures { result ≡ outstanding (live self.now) }
     {
-        self.asked - self.granted()
-    }
-
-    // Where the last data grant starts.
-    fn last_start(&self) -> Option<u64>
-        ensures { result ≡ last_start self.now.grants.items }
-    {
-        match self.grants.last() {
-            Some(grant) => Some(grant.start),
-            None => None,
-        }
+        self.asked - self.granted
     }
 
     // Whether this flow is served before the other: by rank from the highest, then by the start of the
     // last grant, none before any, then by SID.
     pub(crate) fn is_before(&self, other: &Flow) -> bool
+        requires last { KnowsLast self.now }
+        requires other_last { KnowsLast other.now }
         ensures { result ≡ is_before (live self.now) (live other.now) }
     {
         let (rank, other_rank) = (self.spec.rank(), other.spec.rank());
-        let (last, other_last) = (self.last_start(), other.last_start());
+        let (last, other_last) = (self.last, other.last);
         rank > other_rank
             || rank == other_rank
                 && (is_earlier(last, other_last)
@@ -87,6 +100,8 @@ impl Flow {
 
     // Whether this flow is served before the next of those before it, if there is one.
     fn comes_before(&self, next: Option<&Flow>) -> bool
+        requires last { KnowsLast self.now }
+        requires next_last { IfSome next (λ n. KnowsLast n.now) }
         ensures { MatchOption next.entry (IsTrue result) (λ n. result ≡ is_before (live self.now) (live n.now)) }
     {
         match next {
@@ -98,52 +113,49 @@ impl Flow {
     // The most bytes that a data grant at this minislot may have in so many minislots, 0 where it may
     // have none.
     pub(crate) fn most(&self, config: &Checked, start: u64, room: u32) -> u32
-        requires { IsSoundFlow config.now (live self.now) }
+        requires sound { IsSoundFlow config.now (live self.now) }
+        requires sums { KeepsSums config.now self.now }
+        requires started { HaveStartedBy start self.now.grants.items }
         ensures { IsMost config.now (live self.now) start room result }
     {
         let asked = self.outstanding().min(u64::from(config.grant_cap()));
         let limit = asked.min(config.bytes_in(room)) as u32;
-        self.within_ceiling(config, start, limit)
+        self.bucket.most(start, limit)
     }
 
     // Whether the flow may be served at this minislot: what it waits for, at most the quantum, fits the
     // minislots and keeps the ceiling.
     pub(crate) fn is_eligible(&self, config: &Checked, start: u64, room: u32) -> bool
-        requires { IsSoundFlow config.now (live self.now) }
+        requires sound { IsSoundFlow config.now (live self.now) }
+        requires sums { KeepsSums config.now self.now }
+        requires started { HaveStartedBy start self.now.grants.items }
         ensures { IsTrue result ↔ IsEligible config.now start room (live self.now) }
     {
         if !self.spec.takes_requests() {
             return false;
         }
         let wanted = self.outstanding().min(u64::from(config.quantum())) as u32;
-        if wanted == 0 || config.slots_for(wanted) > u64::from(room) {
+        if wanted == 0 || u64::from(wanted) > config.bytes_in(room) {
             return false;
         }
-        self.within_ceiling(config, start, wanted) == wanted
+        self.bucket.most(start, wanted) == wanted
     }
 
-    // The most bytes, up to the limit, that a data grant at this minislot may have under the rate
-    // ceiling: each window of grants that ends in it is tested, from the last back to the first.
-    fn within_ceiling(&self, config: &Checked, start: u64, limit: u32) -> u32
-        requires sound { IsSoundFlow config.now (live self.now) }
-        requires fits { granted (live self.now) < 2 ^ 64 }
-        ensures within { result ≤ limit }
-        ensures keeps { (n : ℕ) → 0 < n → n ≤ result → KeepsWith config.now (live self.now) start n }
-        ensures most { (n : ℕ) → 0 < n → n ≤ limit → KeepsWith config.now (live self.now) start n → n ≤ result }
+    // Adds a data grant, for which there is room, of bytes that were asked. The grants start at or before
+    // `start`.
+    pub(crate) fn grant(&mut self, start: u64, bytes: u32)
+        requires room { 0 < (room_in self.old).grants }
+        requires asked { self.old.granted + bytes ≤ self.old.asked }
+        requires since { self.old.bucket.since ≤ start }
+        ensures live { live self.new ≡ with_grant (record { start = start; bytes = bytes }) (live self.old) }
+        ensures room { (room_in self.new).grants + 1 ≡ (room_in self.old).grants }
+        ensures sums { (c : Config) → KeepsSums c self.old → HaveStartedBy start self.old.grants.items
+            → KeepsWith c (live self.old) start bytes → KeepsSums c self.new }
     {
-        if self.spec.rate() == 0 {
-            return limit;
-        }
-        let per_slot = u64::from(config.ticks()) * u64::from(self.spec.rate());
-        let level = sent(start, per_slot) + 1_280_000 * u128::from(self.spec.burst());
-        let mut most = limit.min(self.spec.burst());
-        let mut bytes = 0;
-        for i in (0..self.grants.len()).rev() {
-            let grant = self.grants[i];
-            bytes += u64::from(grant.bytes);
-            most = left(level, sent(grant.start, per_slot), bytes, most);
-        }
-        most
+        self.granted += u64::from(bytes);
+        self.last = Some(start);
+        let _ = self.bucket.take(start, bytes);
+        self.grants.push_reserved(Grant { start, bytes });
     }
 }
 
@@ -154,7 +166,9 @@ pub(crate) fn first_eligible<'a>(
     start: u64,
     room: u32,
 ) -> Option<&'a Flow>
-    requires { IsSoundBook config.now (map live flows.now) }
+    requires sound { IsSoundBook config.now (map live flows.now) }
+    requires sums { AllByRecursion (KeepsSums config.now) flows.now }
+    requires started { AllByRecursion (HasStartedBy start) (map live flows.now) }
     ensures { IsNextOf config.now start room (map live flows.now) (option_map live (option_copied result)) }
 {
     let mut next = None;
@@ -172,29 +186,12 @@ pub(crate) fn reserve_each(flows: &mut [Flow], grants: usize) -> Result<(), Allo
     ensures room { OnOk result ((k : ℕ) (d : Flow) → k < length flows.new
         → grants ≤ (room_in (slice_index_or flows.new k d)).grants) }
     ensures kept { KeepsRoom (map room_in flows.old) (map room_in flows.new) }
+    ensures sums { (c : Config) → AllByRecursion (KeepsSums c) flows.old → AllByRecursion (KeepsSums c) flows.new }
 {
     for flow in flows.iter_mut() {
         flow.grants.reserve(grants)?;
     }
     Ok(())
-}
-
-// What a rate allows in so many minislots, in 1/1280000 bytes.
-fn sent(slots: u64, per_slot: u64) -> u128
-    requires { per_slot < 2 ^ 40 }
-    ensures value { result ≡ slots * per_slot }
-    ensures bound { result < 2 ^ 104 }
-{
-    u128::from(slots) * u128::from(per_slot)
-}
-
-// The bytes that a window leaves, up to the limit: it has so many already, and begins where so much was
-// sent.
-fn left(level: u128, from: u128, bytes: u64, limit: u32) -> u32
-    ensures { result ≡ min limit ((level - from) / 1280000 - bytes) }
-{
-    let whole = level.saturating_sub(from) / 1_280_000;
-    u128::from(limit).min(whole.saturating_sub(u128::from(bytes))) as u32
 }
 
 fn is_earlier(a: Option<u64>, b: Option<u64>) -> bool

@@ -1,6 +1,8 @@
 -- Each flow is compared with the next of those before it.
 use Rattle.std.proofs.Common.{◌≡◌, map, take, true, false}
-use Rattle.flow_book.specs.Entry.{live, IsSoundFlow}
+use Rattle.std.proofs.lemmas.List.Elements.{All-from_recursion}
+use Rattle.flow_book.specs.Choice.{HasStartedBy}
+use Rattle.flow_book.specs.Entry.{live, IsSoundFlow, KeepsSums}
 use Rattle.flow_book.proofs.Order.{next-passes}
 use Rattle.flow_book.proofs.Steps.{taken-item, all-item, lower-item, step-changes, step-stays}
 use Rattle.flow_book.proofs.flow.first_eligible.Goals as goal
@@ -8,10 +10,15 @@ use Rattle.flow_book.proofs.flow.first_eligible.Goals.{then-is_eligible+then-com
 use Rattle.flow_book.proofs.flow.first_eligible.Goals.{else-is_eligible-via-then-is_eligible+else-comes_before}
 use Rattle.flow_book.proofs.flow.first_eligible.Goals.{else-is_eligible-via-else-is_eligible}
 
-pub is_eligible-requires : goal.is_eligible-requires
-is_eligible-requires c =
+pub is_eligible-requires-clause-sound : goal.is_eligible-requires-clause-sound
+is_eligible-requires-clause-sound c =
     all-item live c.args.flows.now c.loop-flow.flow-index c.flow-item.result c.loop-flow-test.true c.flow-item.is
-    (IsSoundFlow c.args.config.now) c.requires.each
+    (IsSoundFlow c.args.config.now) c.requires.sound.each
+
+pub is_eligible-requires-clause-started : goal.is_eligible-requires-clause-started
+is_eligible-requires-clause-started c =
+    all-item live c.args.flows.now c.loop-flow.flow-index c.flow-item.result c.loop-flow-test.true c.flow-item.is
+    (HasStartedBy c.args.start) c.requires.started
 
 pub loop-flow-preserved : goal.loop-flow-preserved
 loop-flow-preserved c =
@@ -20,19 +27,29 @@ loop-flow-preserved c =
     let f = c.flow-item.result in
     let flows = map live (take i items) in
     let taken = taken-item live items i f c.loop-flow-test.true c.flow-item.is in
+    let keeps : KeepsSums c.args.config.now f =
+    rw c.flow-item.is (All-from_recursion (KeepsSums c.args.config.now) items c.requires.sums i f c.loop-flow-test.true)
+    in
     elim c.if-is_eligible.branch [
-      | then-is_eligible+then-comes_before w ↦ rw (taken, w.next-is)
-          (step-changes c.args.config.now c.args.start c.args.room flows f c.loop-flow.next w.comes_before.result
-          c.loop-flow.invariant (c.is_eligible.ensures.0 w.if-is_eligible.true) w.comes_before.ensures
-          w.if-comes_before.true)
+      | then-is_eligible+then-comes_before w ↦ rw (taken, w.next-is) (record {
+          next = step-changes c.args.config.now c.args.start c.args.room flows f c.loop-flow.next w.comes_before.result
+              c.loop-flow.invariant.next (c.is_eligible.ensures.0 w.if-is_eligible.true) w.comes_before.ensures
+              w.if-comes_before.true;
+          known = keeps.last;
+        })
       | else-is_eligible w ↦ elim w.else-is_eligible.branch [
-        | else-is_eligible-via-then-is_eligible+else-comes_before v ↦ rw (taken, w.next-is)
-            (step-stays c.args.config.now c.args.start c.args.room flows f c.loop-flow.next v.comes_before.result
-            c.loop-flow.invariant (lower-item items i f c.loop-flow-test.true c.flow-item.is c.requires.ascending)
-            v.comes_before.ensures v.if-comes_before.false)
-        | else-is_eligible-via-else-is_eligible v ↦ rw (taken, w.next-is)
-            (next-passes c.args.config.now c.args.start c.args.room flows _ (live f) c.loop-flow.invariant
-            (λ may. let t : c.is_eligible.result ≡ true = c.is_eligible.ensures.1 may in
-            let e : c.is_eligible.result ≡ false = v.if-is_eligible.false in cc))
+        | else-is_eligible-via-then-is_eligible+else-comes_before v ↦ rw (taken, w.next-is) (record {
+            next = step-stays c.args.config.now c.args.start c.args.room flows f c.loop-flow.next v.comes_before.result
+                c.loop-flow.invariant.next
+                (lower-item items i f c.loop-flow-test.true c.flow-item.is c.requires.sound.ascending)
+                v.comes_before.ensures v.if-comes_before.false;
+            known = c.loop-flow.invariant.known;
+          })
+        | else-is_eligible-via-else-is_eligible v ↦ rw (taken, w.next-is) (record {
+            next = next-passes c.args.config.now c.args.start c.args.room flows _ (live f) c.loop-flow.invariant.next
+                (λ may. let t : c.is_eligible.result ≡ true = c.is_eligible.ensures.1 may in
+                let e : c.is_eligible.result ≡ false = v.if-is_eligible.false in cc);
+            known = c.loop-flow.invariant.known;
+          })
       ]
     ]

@@ -1,7 +1,9 @@
--- The flows gone through have the room, and the flows are the same.
+-- The flows gone through have the room, and the flows are the same and keep their sums.
 use Rattle.std.proofs.Common.{◌≡◌, ℕ, ◌<◌, ◌≤◌, map, get_or}
+use Rattle.std.specs.List.{AllByRecursion}
+use Rattle.minislots.specs.declared.config.Config.{Config}
 use Rattle.flow_book.specs.declared.flow.Flow.{Flow}
-use Rattle.flow_book.specs.Entry.{live, room_in}
+use Rattle.flow_book.specs.Entry.{live, room_in, KeepsSums}
 use Rattle.flow_book.specs.Book.{KeepsRoom}
 use Rattle.flow_book.proofs.flow.reserve_each.Given as goal
 
@@ -10,4 +12,5 @@ invariant-loop-flow l = record {
   same : map live l.flows ≡ map live l.initial.flows;
   room : (k : ℕ) (d : Flow) → k < l.flow-index → l.grants ≤ (room_in (get_or l.flows k d)).grants;
   kept : KeepsRoom (map room_in l.initial.flows) (map room_in l.flows);
+  sums : (c : Config) → AllByRecursion (KeepsSums c) l.initial.flows → AllByRecursion (KeepsSums c) l.flows;
 }

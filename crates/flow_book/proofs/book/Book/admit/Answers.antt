@@ -1,14 +1,16 @@
--- The new flow stands in order of SID, and is sound.
-use Rattle.std.proofs.Common.{◌≡◌, ℕ, ◌∙◌, ap, map, length, nat_lt, position, refl, arith}
-use Rattle.std.specs.List.{insert, position_or_len}
+-- The new flow stands in order of SID, is sound and keeps its sums.
+use Rattle.std.proofs.Common.{◌≡◌, ℕ, ◌∙◌, ap, map, length, nat_lt, position, arith}
+use Rattle.std.specs.List.{position_or_len}
 use Rattle.minislots.specs.declared.config.Config.{Config}
 use Rattle.flow_book.specs.declared.flow.Flow.{Flow}
 use Rattle.flow_book.specs.declared.spec.FlowSpec.{FlowSpec}
-use Rattle.flow_book.specs.Entry.{live, IsSoundFlow}
+use Rattle.flow_book.specs.Flows.{LiveFlow}
+use Rattle.flow_book.specs.Entry.{live, IsSoundFlow, KeepsSums}
 use Rattle.flow_book.specs.Book.{new_flow, with_flow}
 use Rattle.flow_book.proofs.Places.{place-or_len}
 use Rattle.flow_book.proofs.Insertion.{insert-put_in}
 use Rattle.flow_book.proofs.Admission.{sound-with_flow, room-insert}
+use Rattle.flow_book.proofs.Sums.{all-insert}
 use Rattle.flow_book.proofs.book.Book.admit.Goals as goal
 
 new-sound : (c : Config) (sid : ℕ) (spec : FlowSpec) → IsSoundFlow c (new_flow sid spec)
@@ -22,22 +24,29 @@ returns-clause-ok c =
     let len : c.len.result ≡ length items = omega (arith, c.self.inside.flows.ok.0) in
     let place : c.unwrap_or-place.result ≡ position_or_len (λ f. nat_lt c.args.sid f.sid) items =
     c.unwrap_or-place.ensures ∙ rw (above, len) (place-or_len (λ f. nat_lt c.args.sid f.sid) items) in
-    let e : Flow = record { sid = c.args.sid; spec = c.args.spec; asked = 0; grants = c.new.result } in
-    let fresh : live e ≡ new_flow c.args.sid c.args.spec = rw c.new.ensures.items refl in
+    let e : Flow = c.open-flow.result in
+    let fresh : live e ≡ new_flow c.args.sid c.args.spec = c.open-flow.ensures.live in
+    let same : e.sid ≡ c.args.sid = ap (λ (f : LiveFlow). f.sid) fresh in
+    let place : c.unwrap_or-place.result ≡ position_or_len (λ f. nat_lt e.sid f.sid) items = rw same place in
     rw (← c.self.view_is, c.in_ok-insert.ensures.items, place) (insert-put_in live (λ f. f.sid) e items
     ∙ ap (λ f. with_flow f (map live items)) fresh)
 
 pub invariant_of-self-2 : goal.invariant_of-self-2
 invariant_of-self-2 c =
+    let items = c.self.inside.flows.items in
+    let config = c.self.inside.config in
     let flows = rw (← c.self.view_is) at (returns-clause-ok c) in
     let none = rw (← c.self.view_is) at c.requires in
-    rw flows (sound-with_flow c.self.inside.config (new_flow c.args.sid c.args.spec)
-    (map live c.self.inside.flows.items) none (new-sound c.self.inside.config c.args.sid c.args.spec)
-    c.self.invariant)
+    record {
+      sound = rw flows (sound-with_flow config (new_flow c.args.sid c.args.spec) (map live items) none
+          (new-sound config c.args.sid c.args.spec) c.self.invariant.sound);
+      sums = rw c.in_ok-insert.ensures.items (all-insert (KeepsSums config) items c.unwrap_or-place.result
+          c.open-flow.result c.self.invariant.sums c.open-flow.ensures.sums);
+    }
 
 pub returns-clause-room : goal.returns-clause-room
 returns-clause-room c =
     let none = rw (← c.self.view_is) at c.requires in
-    let items : c.insert.new.self.items ≡ insert c.self.inside.flows.items c.unwrap_or-place.result _ =
-    c.in_ok-insert.ensures.items in
-    rw (← c.self.view_is, items) (room-insert _ c.self.inside.flows.items c.unwrap_or-place.result none)
+    let same : c.open-flow.result.sid ≡ c.args.sid = ap (λ (f : LiveFlow). f.sid) c.open-flow.ensures.live in
+    rw (← c.self.view_is, c.in_ok-insert.ensures.items) (room-insert c.open-flow.result c.self.inside.flows.items
+    c.unwrap_or-place.result (rw same none))

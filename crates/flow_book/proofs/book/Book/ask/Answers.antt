@@ -5,7 +5,8 @@ use Rattle.flow_book.specs.declared.flow.Flow.{Flow}
 use Rattle.flow_book.specs.Entry.{live, room_in}
 use Rattle.flow_book.specs.Book.{with_asked}
 use Rattle.flow_book.proofs.Places.{StandsAt, placed}
-use Rattle.flow_book.proofs.Changes.{placed-changed, placed-sound, placed-is_sound, asked-sound, same-view}
+use Rattle.flow_book.proofs.Changes.{placed-changed, placed-is_sound, asked-sound, same-view}
+use Rattle.flow_book.proofs.Sums.{placed-sums, placed-book}
 use Rattle.flow_book.proofs.book.Book.ask.Goals as goal
 
 pub overflow_add-index_mut : goal.overflow_add-index_mut
@@ -29,9 +30,11 @@ invariant_of-self c =
     let items = c.self.inside.flows.items in
     let f = c.index_mut.result.now in
     let is = stands c in
-    let sound = placed-is_sound config c.args.sid items c.place-place.result f c.self.invariant is in
-    placed-sound config c.args.sid items c.place-place.result _ f c.self.invariant is refl
+    let sound = placed-is_sound config c.args.sid items c.place-place.result f c.self.invariant.sound is in
+    let keeps = placed-sums config c.args.sid items c.place-place.result f c.self.invariant is in
+    placed-book config c.args.sid items c.place-place.result _ f c.self.invariant is refl
     (asked-sound config c.from.result (live f) sound)
+    (record { granted = keeps.granted; last = keeps.last; bucket = keeps.bucket })
 
 pub returns : goal.returns
 returns c =
@@ -40,6 +43,6 @@ returns c =
     let e : Flow = record f { asked = f.asked + c.from.result } in
     rw (← c.self.view_is)
     (same-view c.self.inside.config _ _ _ _
-    (placed-changed c.args.sid (with_asked c.args.bytes) items c.place-place.result e f c.self.invariant.ascending
+    (placed-changed c.args.sid (with_asked c.args.bytes) items c.place-place.result e f c.self.invariant.sound.ascending
     (stands c) (ap (λ n. with_asked n (live f)) c.from.ensures))
     (map-set_same room_in items c.place-place.result e f (ap room_in c.index_mut.ensures.value)))

@@ -1,6 +1,7 @@
--- The flow at the place of the SID is the live flow, which is sound.
+-- The flow at the place of the SID is the live flow, which is sound and keeps its sums.
 use Rattle.flow_book.proofs.Places.{StandsAt, placed}
 use Rattle.flow_book.proofs.Changes.{placed-is_sound}
+use Rattle.flow_book.proofs.Sums.{placed-sums}
 use Rattle.flow_book.proofs.book.Book.at.Goals as goal
 
 -- it stands at its place
@@ -16,4 +17,10 @@ pub returns-clause-sound : goal.returns-clause-sound
 returns-clause-sound c =
     rw (← c.self.view_is)
     (placed-is_sound c.self.inside.config c.args.sid c.self.inside.flows.items c.place.result c.index.result.now
+    c.self.invariant.sound (stands c))
+
+pub returns-clause-sums : goal.returns-clause-sums
+returns-clause-sums c =
+    rw (← c.self.view_is)
+    (placed-sums c.self.inside.config c.args.sid c.self.inside.flows.items c.place.result c.index.result.now
     c.self.invariant (stands c))

@@ -11,4 +11,4 @@ returns-in-Some c =
     let flows = map live c.self.inside.flows.items in
     let next : IsNext c.self.inside.config flows c.args.start c.args.room f =
     rw c.deref.ensures.value at c.in-Some.ensures in
-    rw (← c.self.view_is, flow_of-member flows f c.self.invariant.ascending next.live) next
+    rw (← c.self.view_is, flow_of-member flows f c.self.invariant.sound.ascending next.live) next

@@ -1,35 +1,50 @@
 -- The flow in its place has one grant more, for which there was room.
-use Rattle.std.proofs.Common.{◌≡◌, refl, arith}
-use Rattle.flow_book.specs.declared.flow.Flow.{Flow}
-use Rattle.flow_book.specs.Flows.{with_grant}
+use Rattle.std.proofs.Common.{◌∙◌, ap, arith}
+use Rattle.flow_book.specs.Flows.{LiveFlow, with_grant}
 use Rattle.flow_book.specs.Entry.{live}
 use Rattle.flow_book.proofs.Places.{StandsAt, placed}
-use Rattle.flow_book.proofs.Changes.{placed-changed, placed-sound, placed-is_sound, granted-sound}
+use Rattle.flow_book.proofs.Changes.{placed-changed, placed-is_sound, granted-sound}
+use Rattle.flow_book.proofs.Sums.{placed-sums, placed-book}
 use Rattle.flow_book.proofs.Rooms.{room-placed, room-replaced, room-others}
 use Rattle.flow_book.proofs.book.Book.grant.Goals as goal
+use Rattle.flow_book.proofs.book.Book.grant.Goals.{After-index_mut}
 
-pub push_reserved-requires : goal.push_reserved-requires
-push_reserved-requires c =
-    let items = c.self.inside.flows.items in
-    let stands = rw (← c.self.view_is) at c.place-place.ensures in
-    let is = placed c.args.sid items c.place-place.result c.index_mut.result.now stands c.index_mut.ensures.value in
-    let some = rw (← c.self.view_is, room-placed _ _ _ _ is) at c.requires.room in
+-- the flow stands at its place before the grant
+found : (c : goal.After-index_mut)
+    → StandsAt c.args.sid c.self.inside.flows.items c.place-place.result c.index_mut.result.now
+found c =
+    placed c.args.sid c.self.inside.flows.items c.place-place.result c.index_mut.result.now
+    (rw (← c.self.view_is) at c.place-place.ensures) c.index_mut.ensures.value
+
+pub grant-requires-clause-room : goal.grant-requires-clause-room
+grant-requires-clause-room c =
+    let some = rw (← c.self.view_is, room-placed _ _ _ _ (found c)) at c.requires.room in
     omega arith
 
--- the flow stands at its place
+pub grant-requires-clause-asked : goal.grant-requires-clause-asked
+grant-requires-clause-asked c =
+    let items = c.self.inside.flows.items in
+    let f = c.index_mut.result.now in
+    let is = found c in
+    let may = rw (← c.self.view_is, is.found) at c.requires.lawful in
+    let sound =
+    placed-is_sound c.self.inside.config c.args.sid items c.place-place.result f c.self.invariant.sound is in
+    let keeps = placed-sums c.self.inside.config c.args.sid items c.place-place.result f c.self.invariant is in
+    omega (arith, may.asked, sound.within, keeps.granted)
+
+pub grant-requires-clause-since : goal.grant-requires-clause-since
+grant-requires-clause-since c =
+    let is = found c in
+    let started = rw (← c.self.view_is, is.found) at c.requires.started in
+    (placed-sums c.self.inside.config c.args.sid c.self.inside.flows.items c.place-place.result c.index_mut.result.now
+    c.self.invariant is).bucket.since c.args.start started
+
+-- and after it
 stands : (c : goal.After-self-1)
     → StandsAt c.args.sid c.self.inside.flows.items c.place-place.result c.index_mut.result.now
 stands c =
     placed c.args.sid c.self.inside.flows.items c.place-place.result c.index_mut.result.now
     (rw (← c.self.view_is) at c.place-place.ensures) c.index_mut.ensures.value
-
--- the flow with the grant
-abbrev grown : goal.After-self-1 → Flow
-grown c = record c.index_mut.result.now { grants = c.push_reserved.new.self }
-
-turned : (c : goal.After-self-1)
-    → live (grown c) ≡ with_grant (record { start = c.args.start; bytes = c.args.bytes }) (live c.index_mut.result.now)
-turned c = rw c.push_reserved.ensures.items refl
 
 pub invariant_of-self : goal.invariant_of-self
 invariant_of-self c =
@@ -38,29 +53,32 @@ invariant_of-self c =
     let f = c.index_mut.result.now in
     let is = stands c in
     let may = rw (← c.self.view_is, is.found) at c.requires.lawful in
-    let sound = placed-is_sound config c.args.sid items c.place-place.result f c.self.invariant is in
-    placed-sound config c.args.sid items c.place-place.result (grown c) f c.self.invariant is refl
-    (rw (turned c) (granted-sound config c.args.start c.args.bytes _ (live f) sound may))
+    let started = rw (← c.self.view_is, is.found) at c.requires.started in
+    let sound = placed-is_sound config c.args.sid items c.place-place.result f c.self.invariant.sound is in
+    let keeps = placed-sums config c.args.sid items c.place-place.result f c.self.invariant is in
+    placed-book config c.args.sid items c.place-place.result c.grant.new.self f c.self.invariant is
+    (ap (λ (g : LiveFlow). g.sid) c.grant.ensures.live)
+    (rw c.grant.ensures.live (granted-sound config c.args.start c.args.bytes _ (live f) sound may))
+    (c.grant.ensures.sums config keeps started may.taken.ceiling)
 
 pub returns-clause-flows : goal.returns-clause-flows
 returns-clause-flows c =
     rw (← c.self.view_is)
     (placed-changed c.args.sid (with_grant (record { start = c.args.start; bytes = c.args.bytes }))
-    c.self.inside.flows.items c.place-place.result (grown c) c.index_mut.result.now c.self.invariant.ascending
-    (stands c) (turned c))
+    c.self.inside.flows.items c.place-place.result c.grant.new.self c.index_mut.result.now
+    c.self.invariant.sound.ascending (stands c) c.grant.ensures.live)
 
 pub returns-clause-room : goal.returns-clause-room
 returns-clause-room c =
     let is = stands c in
-    let some = rw (← c.self.view_is, room-placed _ _ _ _ is) at c.requires.room in
-    let less =
-    room-replaced c.args.sid c.self.inside.flows.items c.place-place.result (grown c) c.index_mut.result.now is
-    is.here in
-    rw (← c.self.view_is, room-placed _ _ _ _ is, less) (omega arith)
+    let same = ap (λ (g : LiveFlow). g.sid) c.grant.ensures.live ∙ is.here in
+    rw (← c.self.view_is, room-placed _ _ _ _ is, room-replaced c.args.sid c.self.inside.flows.items
+    c.place-place.result c.grant.new.self c.index_mut.result.now is same) (omega (arith, c.grant.ensures.room))
 
 pub returns-clause-other_room : goal.returns-clause-other_room
 returns-clause-other_room c = λ other differ.
     let is = stands c in
+    let same = ap (λ (g : LiveFlow). g.sid) c.grant.ensures.live ∙ is.here in
     rw (← c.self.view_is)
-    (room-others c.args.sid c.self.inside.flows.items c.place-place.result (grown c) c.index_mut.result.now
-    c.index_mut.ensures.value is is.here other differ)
+    (room-others c.args.sid c.self.inside.flows.items c.place-place.result c.grant.new.self c.index_mut.result.now
+    c.index_mut.ensures.value is same other differ)

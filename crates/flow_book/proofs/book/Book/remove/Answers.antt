@@ -3,10 +3,10 @@ use Rattle.std.proofs.Common.{◌≡◌, ◌∙◌, ap, map, filter, not, ◌==�
 use Rattle.std.proofs.lemmas.Fn.{filter_same}
 use Rattle.flow_book.specs.declared.flow.Flow.{Flow}
 use Rattle.flow_book.specs.Flows.{LiveFlow}
-use Rattle.flow_book.specs.Entry.{live, room_in}
+use Rattle.flow_book.specs.Entry.{live, room_in, IsSoundBook, KeepsSums}
 use Rattle.flow_book.specs.Book.{Room, room_of}
 use Rattle.flow_book.proofs.Admission.{room-found}
-use Rattle.flow_book.proofs.Removal.{map-filter, sound-filter, room-filter}
+use Rattle.flow_book.proofs.Removal.{map-filter, sound-filter, all-filter, room-filter}
 use Rattle.flow_book.proofs.book.Book.remove.Goals as goal
 
 -- the flows of other SIDs
@@ -17,8 +17,13 @@ left c = filter_same _ _ _ (λ x b f' k. search rules) _ _ c.retain.ensures.filt
 pub invariant_of-self : goal.invariant_of-self
 invariant_of-self c =
     let items = c.self.inside.flows.items in
-    rw (left c, map-filter live (λ (f : LiveFlow). not (f.sid == c.args.sid)) items)
-    (sound-filter c.self.inside.config (λ f. not (f.sid == c.args.sid)) (map live items) c.self.invariant)
+    let sound : IsSoundBook c.self.inside.config (map live (filter (λ (f : Flow). not (f.sid == c.args.sid)) items)) =
+    rw (map-filter live (λ (f : LiveFlow). not (f.sid == c.args.sid)) items)
+    (sound-filter c.self.inside.config (λ f. not (f.sid == c.args.sid)) (map live items) c.self.invariant.sound) in
+    rw (left c) (record {
+      sound = sound;
+      sums = all-filter (KeepsSums c.self.inside.config) (λ f. not (f.sid == c.args.sid)) items c.self.invariant.sums;
+    })
 
 pub returns-clause-removed : goal.returns-clause-removed
 returns-clause-removed c =

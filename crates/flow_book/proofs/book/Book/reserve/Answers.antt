@@ -14,7 +14,10 @@ same : (c : goal.After-self-1) → map live c.reserve_each.new.flows ≡ map liv
 same c = rw c.deref_mut.ensures.value at c.reserve_each.ensures.same
 
 pub invariant_of-self : goal.invariant_of-self
-invariant_of-self c = rw (written c, same c) c.self.invariant
+invariant_of-self c = rw (written c) (record {
+  sound = rw (same c) c.self.invariant.sound;
+  sums = c.reserve_each.ensures.sums c.self.inside.config (rw c.deref_mut.ensures.value c.self.invariant.sums);
+})
 
 pub returns-clause-room : goal.returns-clause-room
 returns-clause-room c =

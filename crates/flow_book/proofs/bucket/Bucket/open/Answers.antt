@@ -1,5 +1,5 @@
 -- The rate and the burst bound what the bucket has.
-use Rattle.std.proofs.Common.{◌<◌, ◌≤◌, ◌*◌, ◌^◌, ℕ, arith}
+use Rattle.std.proofs.Common.{arith}
 use Rattle.minislots.proofs.Bounds.{bounds_of}
 use Rattle.flow_book.proofs.Buckets.{slow}
 use Rattle.flow_book.proofs.bucket.Bucket.open.Goals as goal

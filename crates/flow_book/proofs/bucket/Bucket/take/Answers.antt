@@ -1,5 +1,5 @@
 -- A grant is taken exactly where the level has its bytes.
-use Rattle.std.proofs.Common.{◌≡◌, refl, ap, ◌*◌, ◌<◌, ◌≤◌, ℕ, ◌-◌, true, false, IsTrue, arith}
+use Rattle.std.proofs.Common.{refl, ap, ◌*◌, ◌<◌, ◌≤◌, arith}
 use Rattle.flow_book.specs.Bucket.{BucketView, level_of}
 use Rattle.flow_book.proofs.Buckets.{kept-more, has-more, spent-stands}
 use Rattle.flow_book.proofs.bucket.Bucket.take.Goals as goal

@@ -1,21 +1,43 @@
 -- The limit is the quantum, or what is outstanding where that is less.
 use Rattle.std.proofs.Common.{◌≡◌, ◌<◌, ◌≤◌, sym, min, arith}
 use Rattle.minislots.specs.Units.{slots_for}
+use Rattle.minislots.proofs.Bounds.{bounds_of}
+use Rattle.minislots.proofs.UnitLaws.{fits_bytes, fits_slots}
 use Rattle.flow_book.specs.Flows.{outstanding}
 use Rattle.flow_book.specs.Entry.{live}
-use Rattle.flow_book.proofs.Amounts.{eligible-is}
+use Rattle.flow_book.proofs.Amounts.{eligible-is, bucket-within}
 use Rattle.flow_book.proofs.flow.Flow.is_eligible.Goals as goal
+use Rattle.flow_book.proofs.flow.Flow.is_eligible.Goals.{then-wanted-eq0-via-then-wanted-eq0}
+use Rattle.flow_book.proofs.flow.Flow.is_eligible.Goals.{then-wanted-eq0-via-else-wanted-eq0+then-from-bytes_in}
+
+pub returns-then-wanted-eq0 : goal.returns-then-wanted-eq0
+returns-then-wanted-eq0 c =
+    let f = live c.args.self.now in
+    let channel = c.args.config.now in
+    let bounds = bounds_of _ c.quantum.ensures.lawful in
+    let limits : c.min-wanted.result ≡ min (outstanding f) channel.quantum = omega arith in
+    ((λ no'. absurd cc), (λ may.
+    let fits = fits_bytes channel bounds.bytes_positive (min (outstanding f) channel.quantum) c.args.room
+    may.takes.fits in
+    let waits = may.waits in
+    elim c.then-wanted-eq0.branch [
+      | then-wanted-eq0-via-then-wanted-eq0 w ↦ absurd (omega (arith, bounds.quantum_least))
+      | then-wanted-eq0-via-else-wanted-eq0+then-from-bytes_in w ↦ absurd (omega arith)
+    ]))
+
+pub most-requires : goal.most-requires
+most-requires c = c.requires.sums.bucket.since c.args.start c.requires.started
 
 pub returns : goal.returns
 returns c =
     let f = live c.args.self.now in
-    let limits : c.min-wanted.result ≡ min (outstanding f) c.args.config.now.quantum = omega arith in
+    let channel = c.args.config.now in
+    let limits : c.min-wanted.result ≡ min (outstanding f) channel.quantum = omega arith in
     let some : 0 < c.min-wanted.result = omega arith in
-    let fits : slots_for c.args.config.now c.min-wanted.result ≤ c.args.room = omega arith in
-    eligible-is c.args.config.now f c.args.start c.args.room c.min-wanted.result c.within_ceiling.result
+    let carries = (bounds_of _ c.quantum.ensures.lawful).bytes_positive in
+    let fits : slots_for channel c.min-wanted.result ≤ c.args.room =
+    fits_slots channel carries c.min-wanted.result c.args.room some (omega arith) in
+    eligible-is channel f c.args.start c.args.room c.min-wanted.result c.most.result
     (sym c.if-not-takes_requests.ensures) limits some fits
-    (record {
-      within = c.within_ceiling.ensures.within;
-      keeps = c.within_ceiling.ensures.keeps;
-      greatest = c.within_ceiling.ensures.most;
-    })
+    (bucket-within channel f c.args.self.now.bucket c.args.start c.args.room c.min-wanted.result c.most.result
+    c.requires.sums.bucket c.requires.started c.most.ensures)

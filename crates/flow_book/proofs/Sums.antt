@@ -1,0 +1,80 @@
+-- What flows keep beside their grants stays theirs.
+use Rattle.std.proofs.Common.{◌≡◌, refl, sym, ap, ◌∙◌, ℕ, zero, suc, ◌+◌, ◌<◌, ◌==◌, List, [], ◌∷◌, ◌++◌, map, Some}
+use Rattle.std.proofs.Common.{length, get_or, set}
+use Rattle.std.specs.List.{AllByRecursion, AllZip, insert}
+use Rattle.std.proofs.lemmas.List.Elements.{All-from_recursion}
+use Rattle.std.proofs.lemmas.List.Sums.{sum_by-append}
+use Rattle.minislots.specs.declared.config.Config.{Config}
+use Rattle.flow_book.specs.declared.flow.Flow.{Flow}
+use Rattle.flow_book.specs.declared.flow.Grant.{Grant}
+use Rattle.flow_book.specs.Flows.{LiveFlow, bytes_of}
+use Rattle.flow_book.specs.Choice.{last_start}
+use Rattle.flow_book.specs.Entry.{live, IsSoundFlow, KeepsSums, IsCopy, IsBook}
+use Rattle.flow_book.proofs.Changes.{all-set, placed-sound}
+use Rattle.flow_book.proofs.Windows.{one_more, bytes-one}
+use Rattle.flow_book.proofs.Places.{StandsAt, all-found}
+
+-- one grant more is the last
+pub last-more : (grants : List Grant) (g : Grant) → last_start (grants ++ g ∷ []) ≡ Some g.start
+last-more [] g = refl
+last-more (h ∷ []) g = refl
+last-more (h ∷ k ∷ grants) g = last-more (k ∷ grants) g
+
+-- and its bytes are added
+pub bytes-added : (grants : List Grant) (start n : ℕ) → bytes_of (grants ++ one_more start n) ≡ bytes_of grants + n
+bytes-added grants start n =
+    sum_by-append (λ (g : Grant). g.bytes) grants (one_more start n)
+    ∙ ap (λ b. bytes_of grants + b) (bytes-one start n)
+
+-- what holds of each and of one more holds where it is put in
+pub all-insert : {X : Type 0} (P : X → Type 0) (xs : List X) (k : ℕ) (x : X) → AllByRecursion P xs → P x
+    → AllByRecursion P (insert xs k x)
+all-insert P [] zero x all here = (here, tt)
+all-insert P [] (suc k) x all here = (here, tt)
+all-insert P (y ∷ xs) zero x all here = (here, all)
+all-insert P (y ∷ xs) (suc k) x all here = (all.0, all-insert P xs k x all.1 here)
+
+-- the flow at the place of an SID keeps its sums
+pub placed-sums : (c : Config) (sid : ℕ) (items : List Flow) (i : ℕ) (f : Flow) → IsBook c items
+    → StandsAt sid items i f → KeepsSums c f
+placed-sums c sid items i f are is = all-found (KeepsSums c) (λ g. g.sid == sid) items f are.sums is.fields
+
+-- and so does a copy
+copy-sums : (c : Config) (f g : Flow) → IsCopy f g → KeepsSums c f → KeepsSums c g
+copy-sums c f g is keeps =
+    let grants : g.grants.items ≡ f.grants.items = ap (λ (h : LiveFlow). h.grants) is.same in
+    let spec : g.spec ≡ f.spec = ap (λ (h : LiveFlow). h.spec) is.same in
+    record {
+      granted = is.granted ∙ keeps.granted ∙ ap bytes_of (sym grants);
+      last = is.last ∙ keeps.last ∙ ap last_start (sym grants);
+      bucket = rw (spec, grants, is.bucket) keeps.bucket;
+    }
+
+-- copies of flows show the same and keep the same
+pub copies-live : (fs gs : List Flow) → AllZip IsCopy fs gs → map live gs ≡ map live fs
+copies-live [] [] are = refl
+copies-live [] (g ∷ gs) are = absurd are
+copies-live (f ∷ fs) [] are = absurd are
+copies-live (f ∷ fs) (g ∷ gs) are = let is : IsCopy f g = are.0 in rw (is.same, copies-live fs gs are.1)
+
+pub copies-sums : (c : Config) (fs gs : List Flow) → AllZip IsCopy fs gs → AllByRecursion (KeepsSums c) fs
+    → AllByRecursion (KeepsSums c) gs
+copies-sums c [] [] are all = tt
+copies-sums c [] (g ∷ gs) are all = absurd are
+copies-sums c (f ∷ fs) [] are all = absurd are
+copies-sums c (f ∷ fs) (g ∷ gs) are all = (copy-sums c f g are.0 all.0, copies-sums c fs gs are.1 all.1)
+
+-- flows keep their sums where a copy of one takes its place
+pub copied-set : (c : Config) (items : List Flow) (i : ℕ) (e d : Flow) → i < length items → IsCopy (get_or items i d) e
+    → AllByRecursion (KeepsSums c) items → AllByRecursion (KeepsSums c) (set items i e)
+copied-set c items i e d lt is all =
+    all-set (KeepsSums c) items i e all
+    (copy-sums c (get_or items i d) e is (All-from_recursion (KeepsSums c) items all i d lt))
+
+-- a book stays one where a flow takes the place of that with its SID, sound and with its own sums
+pub placed-book : (c : Config) (sid : ℕ) (items : List Flow) (i : ℕ) (e f : Flow) → IsBook c items
+    → StandsAt sid items i f → e.sid ≡ f.sid → IsSoundFlow c (live e) → KeepsSums c e → IsBook c (set items i e)
+placed-book c sid items i e f are is same sound keeps = record {
+  sound = placed-sound c sid items i e f are.sound is same sound;
+  sums = all-set (KeepsSums c) items i e are.sums keeps;
+}
