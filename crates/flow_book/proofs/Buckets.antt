@@ -37,6 +37,12 @@ module _ (c : Config) (rate burst : ℕ) (b : BucketView) (grants : List Grant)
     | inr differ ↦ omega arith
   ]
 
+  -- where there is no ceiling it has nothing
+  pub nothing-unlimited : (slot : ℕ) → rate ≡ 0 → level_of b slot ≡ 0
+  nothing-unlimited slot none =
+      let full : b.full ≡ 0 = rw none at stands.full in
+      omega arith
+
   module _ (slot n : ℕ) (started : HaveStartedBy slot grants) where
     -- the grants keep the ceiling with one more that the bucket has
     pub kept-more : 1280000 * n ≤ level_of b slot → KeepsCeiling c rate burst (grants ++ one_more slot n)

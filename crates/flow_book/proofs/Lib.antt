@@ -12,9 +12,11 @@ pub mod Places
 pub mod Profile
 pub mod Removal
 pub mod Rooms
+pub mod RowsBucket
 pub mod RowsCeiling
 pub mod RowsChoice
 pub mod RowsFaults
+pub mod Started
 pub mod Steps
 pub mod Sums
 pub mod Unlimited

@@ -45,6 +45,12 @@ pub record StandsFor (c : Config) (rate burst : ℕ) (b : BucketView) (grants : 
   pub since : (slot : ℕ) → HaveStartedBy slot grants → b.since ≤ slot
   pub level : 0 < rate → (slot : ℕ) → HaveStartedBy slot grants → IsLevel c rate burst grants slot (level_of b slot)
 
+-- a level of grants that the bucket stands for: the least that their windows leave, and 0 where there is no ceiling
+abbrev pub AnswersLevel : BucketView → ℕ → ℕ → Type 0
+AnswersLevel b slot level = (c : Config) (rate burst : ℕ) (grants : List Grant)
+    → StandsFor c rate burst b grants → HaveStartedBy slot grants
+    → (0 < rate → IsLevel c rate burst grants slot level) × (rate ≡ 0 → level ≡ 0)
+
 -- the answer is true exactly where grants that the bucket stands for keep the ceiling with this one more
 abbrev pub AnswersCeiling : BucketView → ℕ → ℕ → Bool → Type 0
 AnswersCeiling b slot bytes taken = (c : Config) (rate burst : ℕ) (grants : List Grant)

@@ -1,7 +1,7 @@
 //! The token bucket of a flow under a rate ceiling.
 
 ghost use Rattle.std.specs.Prelude.{◌≡◌, ◌*◌, ◌<◌, ◌≤◌, ◌^◌, [], IsTrue, false};
-ghost use Rattle.flow_book.specs.Bucket.{level_of, most_of, StandsFor, AnswersCeiling, HasOneMore};
+ghost use Rattle.flow_book.specs.Bucket.{level_of, most_of, StandsFor, AnswersLevel, AnswersCeiling, HasOneMore};
 
 use minislots::Checked;
 use std::marker::Model;
@@ -44,7 +44,8 @@ impl Model for Bucket {
 impl Bucket {
     /// A full bucket for this channel: `rate` in bits per second, `burst` in bytes. It stands for no grants.
     pub fn open(config: &Checked, rate: u32, burst: u32) -> Bucket
-        ensures { StandsFor config.now rate burst result [] }
+        ensures empty { StandsFor config.now rate burst result [] }
+        ensures since { result.since ≡ 0 }
     {
         let burst = if rate == 0 { 0 } else { burst };
         let full = PARTS as u64 * u64::from(burst);
@@ -60,6 +61,7 @@ impl Bucket {
     /// and 0 where there is no ceiling. The grants start at or before `slot`.
     pub fn level_at(&self, slot: u64) -> u128
         requires { self.now.since ≤ slot }
+        ensures least { AnswersLevel self.now slot result }
         ensures value { result ≡ level_of self.now slot }
     {
         let brought = brought(slot - self.since, self.per_slot);
@@ -73,6 +75,7 @@ impl Bucket {
         ensures exact { AnswersCeiling self.old slot bytes result }
         ensures taken { IsTrue result → HasOneMore self.old self.new slot bytes }
         ensures same { result ≡ false → self.new ≡ self.old }
+        ensures since { self.new.since ≤ slot }
     {
         if self.per_slot == 0 {
             return true;

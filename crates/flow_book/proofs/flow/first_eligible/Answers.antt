@@ -32,24 +32,24 @@ loop-flow-preserved c =
     in
     elim c.if-is_eligible.branch [
       | then-is_eligible+then-comes_before w ↦ rw (taken, w.next-is) (record {
-          next = step-changes c.args.config.now c.args.start c.args.room flows f c.loop-flow.next w.comes_before.result
-              c.loop-flow.invariant.next (c.is_eligible.ensures.0 w.if-is_eligible.true) w.comes_before.ensures
-              w.if-comes_before.true;
-          known = keeps.last;
-        })
+        next = step-changes c.args.config.now c.args.start c.args.room flows f c.loop-flow.next w.comes_before.result
+            c.loop-flow.invariant.next (c.is_eligible.ensures.0 w.if-is_eligible.true) w.comes_before.ensures
+            w.if-comes_before.true;
+        known = keeps.last;
+      })
       | else-is_eligible w ↦ elim w.else-is_eligible.branch [
         | else-is_eligible-via-then-is_eligible+else-comes_before v ↦ rw (taken, w.next-is) (record {
-            next = step-stays c.args.config.now c.args.start c.args.room flows f c.loop-flow.next v.comes_before.result
-                c.loop-flow.invariant.next
-                (lower-item items i f c.loop-flow-test.true c.flow-item.is c.requires.sound.ascending)
-                v.comes_before.ensures v.if-comes_before.false;
-            known = c.loop-flow.invariant.known;
-          })
+          next = step-stays c.args.config.now c.args.start c.args.room flows f c.loop-flow.next v.comes_before.result
+              c.loop-flow.invariant.next
+              (lower-item items i f c.loop-flow-test.true c.flow-item.is c.requires.sound.ascending)
+              v.comes_before.ensures v.if-comes_before.false;
+          known = c.loop-flow.invariant.known;
+        })
         | else-is_eligible-via-else-is_eligible v ↦ rw (taken, w.next-is) (record {
-            next = next-passes c.args.config.now c.args.start c.args.room flows _ (live f) c.loop-flow.invariant.next
-                (λ may. let t : c.is_eligible.result ≡ true = c.is_eligible.ensures.1 may in
-                let e : c.is_eligible.result ≡ false = v.if-is_eligible.false in cc);
-            known = c.loop-flow.invariant.known;
-          })
+          next = next-passes c.args.config.now c.args.start c.args.room flows _ (live f) c.loop-flow.invariant.next
+              (λ may. let t : c.is_eligible.result ≡ true = c.is_eligible.ensures.1 may in
+              let e : c.is_eligible.result ≡ false = v.if-is_eligible.false in cc);
+          known = c.loop-flow.invariant.known;
+        })
       ]
     ]

@@ -72,8 +72,12 @@ pub returns-clause-room : goal.returns-clause-room
 returns-clause-room c =
     let is = stands c in
     let same = ap (λ (g : LiveFlow). g.sid) c.grant.ensures.live ∙ is.here in
-    rw (← c.self.view_is, room-placed _ _ _ _ is, room-replaced c.args.sid c.self.inside.flows.items
-    c.place-place.result c.grant.new.self c.index_mut.result.now is same) (omega (arith, c.grant.ensures.room))
+    rw (
+      ← c.self.view_is,
+      room-placed _ _ _ _ is,
+      room-replaced c.args.sid c.self.inside.flows.items
+          c.place-place.result c.grant.new.self c.index_mut.result.now is same,
+    ) (omega (arith, c.grant.ensures.room))
 
 pub returns-clause-other_room : goal.returns-clause-other_room
 returns-clause-other_room c = λ other differ.

@@ -8,17 +8,20 @@ pub returns-then-level-wanted-clause-exact : goal.returns-then-level-wanted-clau
 returns-then-level-wanted-clause-exact c = λ channel rate burst grants stands started.
     let some : 0 < c.args.self.now.per_slot = rw (← c.self.view_is) (omega arith) in
     let less : level_of c.args.self.now c.args.slot < 1280000 * c.args.bytes =
-    omega (arith, c.level_at-level.ensures.value) in
-    ((λ no'. absurd cc), (λ kept.
-    let has = has-more channel rate burst c.args.self.now grants stands c.args.slot c.args.bytes started some kept in
-    absurd (omega arith)))
+    omega (arith, c.level_at-level.ensures.value) in (
+      (λ no'. absurd cc),
+      (λ kept.
+          let has = has-more channel rate burst c.args.self.now grants stands c.args.slot c.args.bytes started some kept in
+          absurd (omega arith)),
+    )
 
 pub returns-clause-exact : goal.returns-clause-exact
 returns-clause-exact c = λ channel rate burst grants stands started.
     let enough : 1280000 * c.args.bytes ≤ level_of c.args.self.now c.args.slot =
-    omega (arith, c.level_at-level.ensures.value) in
-    ((λ yes'. kept-more channel rate burst c.args.self.now grants stands c.args.slot c.args.bytes started enough),
-    (λ kept. refl))
+    omega (arith, c.level_at-level.ensures.value) in (
+      (λ yes'. kept-more channel rate burst c.args.self.now grants stands c.args.slot c.args.bytes started enough),
+      (λ kept. refl),
+    )
 
 pub returns-clause-taken : goal.returns-clause-taken
 returns-clause-taken c = λ yes' channel rate burst grants stands started.

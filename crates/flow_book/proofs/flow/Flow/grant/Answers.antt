@@ -19,6 +19,6 @@ returns-clause-sums c = λ channel keeps started kept.
     record {
       granted = bytes ∙ sym (ap bytes_of items ∙ bytes-added f.grants.items c.args.start c.args.bytes);
       last = sym (ap last_start items
-      ∙ last-more f.grants.items (record { start = c.args.start; bytes = c.args.bytes }));
+          ∙ last-more f.grants.items (record { start = c.args.start; bytes = c.args.bytes }));
       bucket = rw items bucket;
     }

@@ -15,15 +15,17 @@ returns-then-wanted-eq0 c =
     let f = live c.args.self.now in
     let channel = c.args.config.now in
     let bounds = bounds_of _ c.quantum.ensures.lawful in
-    let limits : c.min-wanted.result ≡ min (outstanding f) channel.quantum = omega arith in
-    ((λ no'. absurd cc), (λ may.
-    let fits = fits_bytes channel bounds.bytes_positive (min (outstanding f) channel.quantum) c.args.room
-    may.takes.fits in
-    let waits = may.waits in
-    elim c.then-wanted-eq0.branch [
-      | then-wanted-eq0-via-then-wanted-eq0 w ↦ absurd (omega (arith, bounds.quantum_least))
-      | then-wanted-eq0-via-else-wanted-eq0+then-from-bytes_in w ↦ absurd (omega arith)
-    ]))
+    let limits : c.min-wanted.result ≡ min (outstanding f) channel.quantum = omega arith in (
+      (λ no'. absurd cc),
+      (λ may.
+          let fits = fits_bytes channel bounds.bytes_positive (min (outstanding f) channel.quantum) c.args.room
+          may.takes.fits in
+          let waits = may.waits in
+          elim c.then-wanted-eq0.branch [
+            | then-wanted-eq0-via-then-wanted-eq0 w ↦ absurd (omega (arith, bounds.quantum_least))
+            | then-wanted-eq0-via-else-wanted-eq0+then-from-bytes_in w ↦ absurd (omega arith)
+          ]),
+    )
 
 pub most-requires : goal.most-requires
 most-requires c = c.requires.sums.bucket.since c.args.start c.requires.started
