@@ -1,5 +1,6 @@
 -- No stop is behind the end of the frame.
 use Rattle.std.proofs.Common.{arith}
+use Rattle.std.proofs.lemmas.Grind.{common_steps}
 use Rattle.map_build.proofs.Stops.{next_stop-most}
 use Rattle.map_build.proofs.walk.next_stop.Goals as goal
 
@@ -9,3 +10,6 @@ loop-spot-init c = record {
   least = λ inside. omega (arith, c.frame-stop.ensures.value, inside);
   first = omega (arith, c.frame-stop.ensures.value, next_stop-most c.args.config.now c.args.spots.now c.args.offset);
 }
+
+pub loop-spot-preserved : goal.loop-spot-preserved
+loop-spot-preserved c = grind (arith, common_steps)

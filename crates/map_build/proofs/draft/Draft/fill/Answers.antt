@@ -1,4 +1,5 @@
 -- An allocation more that may stand there is one of the plan.
+use Rattle.std.proofs.Common.{rules}
 use Rattle.map_build.proofs.Plans.{HasPlan-push}
 use Rattle.map_build.proofs.draft.Draft.fill.Goals as goal
 
@@ -13,3 +14,6 @@ loop-self-preserved c =
           c.put_next.new.self next.0
           c.requires.placed has next.1 stands,
     )
+
+pub returns : goal.returns
+returns c = search rules

@@ -1,5 +1,5 @@
 -- An element more is a data grant more.
-use Rattle.std.proofs.Common.{◌≡◌, ◌+◌, arith}
+use Rattle.std.proofs.Common.{rules, ◌≡◌, ◌+◌, arith}
 use Rattle.minislots.specs.Units.{slots_for}
 use Rattle.minislots.proofs.Bounds.{bounds_of}
 use Rattle.flow_book.specs.Flows.{flow_of}
@@ -28,3 +28,6 @@ pub grant-requires-clause-started : goal.grant-requires-clause-started
 grant-requires-clause-started c =
     rw (c.in_ok-put_slots.ensures.book, c.minislot-start.ensures)
     (started-found _ c.args.sid c.args.self.now.book.flows c.requires.ready.started)
+
+pub returns : goal.returns
+returns c = search rules
