@@ -1,5 +1,5 @@
 -- The value is in its slot, and has what all seats have seen.
-use Rattle.std.proofs.Common.{sym, ◌∙◌, subst}
+use Rattle.std.proofs.Common.{sym, ◌∙◌, subst, rules}
 use Rattle.std.proofs.lemmas.Option.{same_Some}
 use Rattle.ticket_lock.specs.Calls.{Closes}
 use Rattle.ticket_lock.proofs.Gathered.{closed_as}
@@ -25,3 +25,6 @@ returns g c =
       closed = subst (Closes g.T.Journal.stamp g.T.Journal.head g.T.Journal.entries c.args.self c.args.seats.items)
           (same_Some told.0 c.in-Some.value (sym told.1 ∙ c.in-Some.is)) told.2;
     }
+
+pub take-found-requires : goal.take-found-requires
+take-found-requires g c = search rules
