@@ -48,7 +48,7 @@ module _ (c : Config) (rate burst : ℕ) (grants : List Grant) (slot n level : �
 
   -- and only there
   pub keeps-level : 0 < rate → KeepsCeiling c rate burst (grants ++ one_more slot n) → 1280000 * n ≤ level
-  keeps-level positive kept = is.least (1280000 * n) (record {
+  keeps-level positive kept = is.greatest (1280000 * n) (record {
     empty = omega (arith, more-small c rate burst slot n grants kept positive);
     each = λ i lt. omega (arith, more-leaves c rate burst slot n grants kept positive i lt);
   })
@@ -90,7 +90,7 @@ module _ (c : Config) (rate burst : ℕ) (grants : List Grant) (slot n level : �
         let alone =
         rw (bytes-more grants slot n (length grants) (omega arith), drop-end grants, start-last grants slot n, apart) at
         end in
-        let fits : 1280000 * n + more - brought ≤ level = is.least (1280000 * n + more - brought) (record {
+        let fits : 1280000 * n + more - brought ≤ level = is.greatest (1280000 * n + more - brought) (record {
           empty = omega arith;
           each = λ i lt.
               let whole = leave.each i (omega arith) in
@@ -105,5 +105,5 @@ module _ (c : Config) (rate burst : ℕ) (grants : List Grant) (slot n level : �
     pub level-more : IsLevel c rate burst (grants ++ one_more slot n) later (min (1280000 * burst) risen)
     level-more = record {
       left = record { empty = omega arith; each = λ i lt. window-left i _ lt (omega arith) };
-      least = λ more leave. omega (arith, leave.empty, before more leave);
+      greatest = λ more leave. omega (arith, leave.empty, before more leave);
     }

@@ -40,12 +40,12 @@ two_leave (suc (suc i)) lt = absurd (omega arith)
 pub the_window_of_both_leaves_the_least : IsLevel base 64000 1600 two 924 675840000
 the_window_of_both_leaves_the_least = record {
   left = record { empty = lit≤ tt; each = two_leave };
-  least = λ more leave. let both = leave.each 0 (lit< tt) in omega arith;
+  greatest = λ more leave. let both = leave.each 0 (lit< tt) in omega arith;
 }
 
 -- in the first frame the empty window leaves the least: the burst
 pub the_empty_window_leaves_the_burst : IsLevel base 64000 1600 [] 844 2048000000
 the_empty_window_leaves_the_burst = record {
   left = record { empty = lit≤ tt; each = λ i lt. absurd (omega arith) };
-  least = λ more leave. leave.empty;
+  greatest = λ more leave. leave.empty;
 }

@@ -30,10 +30,10 @@ pub record LeaveAtLeast (c : Config) (rate burst : ℕ) (grants : List Grant) (s
   pub each : (i : ℕ) → i < length grants → 1280000 * bytes_of (drop i grants) + amount
       + start_of grants i * c.ticks * rate ≤ slot * c.ticks * rate + 1280000 * burst
 
--- the least that a window of grants leaves at the minislot
+-- the most that each window leaves, which is the least that one of them leaves
 pub record IsLevel (c : Config) (rate burst : ℕ) (grants : List Grant) (slot level : ℕ) : Type 0 where
   pub left : LeaveAtLeast c rate burst grants slot level
-  pub least : (more : ℕ) → LeaveAtLeast c rate burst grants slot more → more ≤ level
+  pub greatest : (more : ℕ) → LeaveAtLeast c rate burst grants slot more → more ≤ level
 
 -- The bucket of a rate and a burst stands for some grants: they keep the ceiling, and at each minislot from the last
 -- one on the bucket has what they leave.

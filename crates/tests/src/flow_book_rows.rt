@@ -5,8 +5,11 @@ ghost use Rattle.flow_book.specs.Flows.{flow_of, with_grant};
 ghost use Rattle.flow_book.specs.Book.{IsLive, changed};
 ghost use Rattle.flow_book.specs.Choice.{HasStartedBy};
 
+mod lists;
+mod slow;
+
 use crate::base::{BASE, Player, is_shown, play, short, shown, word};
-use flow_book::{Book, FlowSpec};
+use flow_book::{Book, Bucket, FlowSpec};
 use minislots::Checked;
 use std::alloc::{AllocError, AllocGlobal, Global};
 use std::process::Abort;
@@ -75,15 +78,15 @@ const fn best_effort(rate: u32, burst: u32) -> FlowSpec {
     }
 }
 
-// Grants the most to a live flow in a frame's 36 minislots, and gives the bytes.
-fn grant_most(book: &mut Book, sid: u16, start: u64) -> Result<u32, AllocError>
+// Grants the most to a live flow in so many minislots, and gives the bytes.
+fn grant_most(book: &mut Book, sid: u16, start: u64, room: u32) -> Result<u32, AllocError>
     requires live { IsLive sid book.old.flows }
     requires started { IfSome (flow_of sid book.old.flows) (HasStartedBy start) }
     ensures { IfOk result (λ bytes. book.new.flows ≡
         changed sid (with_grant (record { start = start; bytes = bytes })) book.old.flows) }
 {
     book.reserve(1)?;
-    let bytes = book.most(sid, start, 36);
+    let bytes = book.most(sid, start, room);
     if bytes == 0 {
         return Err(AllocError);
     }
@@ -96,11 +99,36 @@ fn a_rate_ceiling_holds_to_the_byte(rt: HostRuntime) -> Result<(), Fail> {
     let mut book = Book::open(rt.alloc(), BASE.check()?)?;
     book.admit(17, best_effort(64_000, 1_600))?;
     book.ask(17, 3_000);
-    is_shown(&rt, grant_most(&mut book, 17, 844)?, "544");
-    is_shown(&rt, grant_most(&mut book, 17, 884)?, "544");
-    is_shown(&rt, grant_most(&mut book, 17, 924)?, "528");
+    is_shown(&rt, grant_most(&mut book, 17, 844, 36)?, "544");
+    is_shown(&rt, grant_most(&mut book, 17, 884, 36)?, "544");
+    is_shown(&rt, grant_most(&mut book, 17, 924, 36)?, "528");
     is_shown(&rt, book.eligible(964, 36), "None");
     is_shown(&rt, (book.asked(17), book.outstanding(17)), "(3000, 1384)");
+    Ok(())
+}
+
+#[test]
+fn a_bucket_has_what_the_ceiling_leaves(rt: HostRuntime) -> Result<(), Fail> {
+    let mut bucket = Bucket::open(&BASE.check()?, 64_000, 1_600);
+    is_shown(&rt, bucket.level_at(844), "2048000000");
+    is_shown(&rt, bucket.take(844, 544), "true");
+    is_shown(&rt, bucket.level_at(884), "1361920000");
+    is_shown(&rt, bucket.take(884, 544), "true");
+    is_shown(&rt, bucket.level_at(924), "675840000");
+    is_shown(&rt, bucket.take(924, 529), "false");
+    is_shown(&rt, bucket.level_at(924), "675840000");
+    is_shown(&rt, bucket.take(924, 528), "true");
+    is_shown(&rt, bucket.level_at(924), "0");
+    is_shown(&rt, bucket.level_at(964), "10240000");
+    Ok(())
+}
+
+#[test]
+fn a_bucket_without_a_rate_takes_all(rt: HostRuntime) -> Result<(), Fail> {
+    let mut bucket = Bucket::open(&BASE.check()?, 0, 1_600);
+    is_shown(&rt, bucket.take(844, u32::MAX), "true");
+    is_shown(&rt, bucket.take(844, u32::MAX), "true");
+    is_shown(&rt, bucket.level_at(844), "0");
     Ok(())
 }
 
@@ -109,7 +137,7 @@ fn a_removal_forgets_the_grants(rt: HostRuntime) -> Result<(), Fail> {
     let mut book = Book::open(rt.alloc(), BASE.check()?)?;
     book.admit(17, best_effort(64_000, 600))?;
     book.ask(17, 3_000);
-    is_shown(&rt, grant_most(&mut book, 17, 844)?, "544");
+    is_shown(&rt, grant_most(&mut book, 17, 844, 36)?, "544");
     book.remove(17);
     is_shown(&rt, book.is_empty(), "true");
     book.admit(17, best_effort(64_000, 600))?;
@@ -132,7 +160,7 @@ fn equal_flows_take_turns(rt: HostRuntime) -> Result<(), Fail> {
     book.ask(20, 1_000);
     book.ask(21, 1_000);
     is_shown(&rt, book.eligible(844, 36), "Some(20)");
-    is_shown(&rt, grant_most(&mut book, 20, 844)?, "544");
+    is_shown(&rt, grant_most(&mut book, 20, 844, 36)?, "544");
     is_shown(&rt, book.eligible(884, 36), "Some(21)");
     Ok(())
 }
@@ -148,7 +176,7 @@ fn a_copy_alone_is_granted_to(rt: HostRuntime) -> Result<(), Fail> {
         copy.flow(20),
         "Some(BestEffort { priority: 3, rate: 0, burst: 0 })",
     );
-    is_shown(&rt, grant_most(&mut copy, 20, 844)?, "544");
+    is_shown(&rt, grant_most(&mut copy, 20, 844, 36)?, "544");
     is_shown(&rt, copy.most(20, 924, 36), "456");
     is_shown(&rt, copy.eligible(955, 5), "None");
     is_shown(

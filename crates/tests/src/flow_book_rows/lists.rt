@@ -1,0 +1,176 @@
+//! Lists of admissions, requests, grants and removals, in which the book answers what the slow reference
+//! does.
+
+ghost use Rattle.std.specs.Prelude.{◌≡◌, ◌<◌, ◌≤◌, IfOk};
+ghost use Rattle.std.specs.List.{AllByRecursion};
+ghost use Rattle.flow_book.specs.Choice.{HasStartedBy};
+
+use super::grant_most;
+use super::slow::{SlowFlow, eligible};
+use crate::base::BASE;
+use flow_book::{Book, FlowSpec, Grant};
+use std::alloc::{AllocError, AllocGlobal, Global};
+use std::process::Abort;
+use std::test::Fail;
+
+// A fixed sequence of numbers.
+#[derive(Drop)]
+struct Draws {
+    state: u64,
+}
+
+impl Draws {
+    // A number below the bound.
+    fn below(&mut self, bound: u32) -> u32
+        requires { 0 < bound }
+        ensures { result < bound }
+    {
+        self.state = self
+            .state
+            .wrapping_mul(6_364_136_223_846_793_005)
+            .wrapping_add(1_442_695_040_888_963_407);
+        ((self.state >> 33) % u64::from(bound)) as u32
+    }
+
+    // Parameters of some flow: one in eight has no data grants, and some have no ceiling.
+    fn spec(&mut self) -> FlowSpec {
+        let rate = [0, 64_000, 300_000, 2_000_000][self.below(4) as usize];
+        let burst = [600, 1_600, 9_000][self.below(3) as usize];
+        match self.below(8) {
+            0 => FlowSpec::Unsolicited {
+                size: 200,
+                interval_us: 10_000,
+                jitter_us: 0,
+            },
+            1 | 2 => FlowSpec::Polled {
+                interval_us: 5_000,
+                jitter_us: 0,
+                rate,
+                burst,
+            },
+            priority => FlowSpec::BestEffort {
+                priority: priority as u8,
+                rate,
+                burst,
+            },
+        }
+    }
+}
+
+// A book, and what the slow reference knows of its flows.
+#[derive(Drop)]
+struct Twins {
+    book: Book,
+    slow: Vec<SlowFlow>,
+}
+
+// Admits a flow, where none has its SID.
+fn admit(twins: &mut Twins, alloc: Global, sid: u16, spec: FlowSpec, now: u64) -> Result<(), AllocError>
+    requires { AllByRecursion (HasStartedBy now) twins.old.book.flows }
+    ensures { IfOk result (λ _. AllByRecursion (HasStartedBy now) twins.new.book.flows) }
+{
+    if twins.book.flow(sid).is_some() {
+        return Ok(());
+    }
+    twins.book.admit(sid, spec)?;
+    twins.slow.push(SlowFlow {
+        sid,
+        spec,
+        asked: 0,
+        grants: Vec::new(alloc),
+    })
+}
+
+// Removes the flow of this SID, where there is one.
+fn remove(twins: &mut Twins, sid: u16, now: u64)
+    requires { AllByRecursion (HasStartedBy now) twins.old.book.flows }
+    ensures { AllByRecursion (HasStartedBy now) twins.new.book.flows }
+{
+    if twins.book.flow(sid).is_none() {
+        return;
+    }
+    twins.book.remove(sid);
+    twins.slow.retain(|flow| flow.sid != sid);
+}
+
+// Asks for the flow of this SID, where there is one.
+fn ask(twins: &mut Twins, sid: u16, bytes: u32, now: u64)
+    requires { AllByRecursion (HasStartedBy now) twins.old.book.flows }
+    ensures { AllByRecursion (HasStartedBy now) twins.new.book.flows }
+{
+    if twins.book.flow(sid).is_none() || twins.book.asked(sid) > u64::from(u32::MAX) {
+        return;
+    }
+    twins.book.ask(sid, bytes);
+    for flow in twins.slow.iter_mut() {
+        if flow.sid == sid {
+            flow.asked = flow.asked.saturating_add(u64::from(bytes));
+        }
+    }
+}
+
+// Grants the most to the flow that is served first, if there is one.
+fn grant(twins: &mut Twins, now: u64, room: u32) -> Result<(), AllocError>
+    requires { AllByRecursion (HasStartedBy now) twins.old.book.flows }
+    ensures { IfOk result (λ _. AllByRecursion (HasStartedBy now) twins.new.book.flows) }
+{
+    let Some(sid) = twins.book.eligible(now, room) else {
+        return Ok(());
+    };
+    let bytes = grant_most(&mut twins.book, sid, now, room)?;
+    for flow in twins.slow.iter_mut() {
+        if flow.sid == sid {
+            flow.grants.push(Grant { start: now, bytes })?;
+        }
+    }
+    Ok(())
+}
+
+// The book answers what the slow reference does.
+fn compare(rt: &impl Abort, twins: &Twins, now: u64, room: u32)
+    requires { AllByRecursion (HasStartedBy now) twins.now.book.flows }
+{
+    let book = &twins.book;
+    let config = book.config();
+    assert_eq!(rt; book.len(), twins.slow.len(), "flows at {now}");
+    for flow in &twins.slow {
+        let sid = flow.sid;
+        assert!(rt; book.flow(sid).is_some(), "flow {sid} at {now}");
+        assert_eq!(rt; book.outstanding(sid), flow.outstanding(), "outstanding of {sid} at {now}");
+        assert_eq!(rt; book.most(sid, now, room), flow.most(config, now, room), "most of {sid} at {now}");
+    }
+    let first = eligible(&twins.slow, config, now, room);
+    assert_eq!(rt; book.eligible(now, room), first, "eligible at {now} in {room}");
+}
+
+// One change, drawn.
+fn change(twins: &mut Twins, draws: &mut Draws, alloc: Global, now: u64, room: u32) -> Result<(), AllocError>
+    requires { AllByRecursion (HasStartedBy now) twins.old.book.flows }
+    ensures { IfOk result (λ _. AllByRecursion (HasStartedBy now) twins.new.book.flows) }
+{
+    let sid = draws.below(12) as u16;
+    match draws.below(12) {
+        0 | 1 => admit(twins, alloc, sid, draws.spec(), now)?,
+        2 => remove(twins, sid, now),
+        3..=5 => ask(twins, sid, draws.below(3_000), now),
+        _ => grant(twins, now, room)?,
+    }
+    Ok(())
+}
+
+#[test]
+fn the_book_answers_what_its_slow_reference_does(rt: HostRuntime) -> Result<(), Fail> {
+    let mut draws = Draws { state: 3 };
+    let mut twins = Twins {
+        book: Book::open(rt.alloc(), BASE.check()?)?,
+        slow: Vec::new(rt.alloc()),
+    };
+    let mut now: u64 = 800;
+    for _ in 0..2_000 {
+        let room = draws.below(60);
+        change(&mut twins, &mut draws, rt.alloc(), now, room)?;
+        compare(&rt, &twins, now, room);
+        now += u64::from(draws.below(30));
+    }
+    Ok(())
+}

@@ -1,0 +1,111 @@
+//! The plain bodies of a book, as a slow reference: each goes through the grants of a flow at each call.
+
+use flow_book::{FlowSpec, Grant};
+use minislots::Checked;
+
+/// A live flow, with the list of its data grants.
+#[derive(Drop)]
+pub struct SlowFlow {
+    pub sid: u16,
+    pub spec: FlowSpec,
+    pub asked: u64,
+    pub grants: Vec<Grant>,
+}
+
+// The rank, the rate and the burst of a flow.
+fn limits_of(spec: &FlowSpec) -> (u8, u32, u32) {
+    match *spec {
+        FlowSpec::Unsolicited { .. } => (0, 0, 0),
+        FlowSpec::Polled { rate, burst, .. } => (8, rate, burst),
+        FlowSpec::BestEffort {
+            priority,
+            rate,
+            burst,
+        } => (priority, rate, burst),
+    }
+}
+
+impl SlowFlow {
+    /// The bytes that were asked and not granted.
+    pub fn outstanding(&self) -> u64 {
+        let mut granted: u64 = 0;
+        for grant in &self.grants {
+            granted = granted.saturating_add(u64::from(grant.bytes));
+        }
+        self.asked.saturating_sub(granted)
+    }
+
+    /// The most bytes of a data grant at this minislot in so many minislots.
+    pub fn most(&self, config: &Checked, start: u64, room: u32) -> u32 {
+        let asked = self.outstanding().min(u64::from(config.grant_cap()));
+        let limit = asked.min(config.bytes_in(room)) as u32;
+        self.within_ceiling(config, start, limit)
+    }
+
+    // Where the last data grant starts.
+    fn last_start(&self) -> Option<u64> {
+        match self.grants.last() {
+            Some(grant) => Some(grant.start),
+            None => None,
+        }
+    }
+
+    // Whether this flow is served before the other.
+    fn is_before(&self, other: &SlowFlow) -> bool {
+        let ((rank, _, _), (other_rank, _, _)) = (limits_of(&self.spec), limits_of(&other.spec));
+        let (last, other_last) = (self.last_start(), other.last_start());
+        rank > other_rank
+            || rank == other_rank
+                && (last < other_last || last == other_last && self.sid < other.sid)
+    }
+
+    // Whether the flow may be served at this minislot.
+    fn is_eligible(&self, config: &Checked, start: u64, room: u32) -> bool {
+        if matches!(self.spec, FlowSpec::Unsolicited { .. }) {
+            return false;
+        }
+        let wanted = self.outstanding().min(u64::from(config.quantum())) as u32;
+        if wanted == 0 || config.slots_for(wanted) > u64::from(room) {
+            return false;
+        }
+        self.within_ceiling(config, start, wanted) == wanted
+    }
+
+    // The most bytes, up to the limit, that a data grant at this minislot may have under the rate
+    // ceiling: each window of grants that ends in it is tested, from the last back to the first.
+    fn within_ceiling(&self, config: &Checked, start: u64, limit: u32) -> u32 {
+        let (_, rate, burst) = limits_of(&self.spec);
+        if rate == 0 {
+            return limit;
+        }
+        let per_slot = u128::from(config.ticks()) * u128::from(rate);
+        let full = 1_280_000 * u128::from(burst);
+        let mut most = limit.min(burst);
+        let mut bytes: u128 = 0;
+        for grant in self.grants.iter().rev() {
+            bytes = bytes.saturating_add(u128::from(grant.bytes));
+            let slots = u128::from(start.saturating_sub(grant.start));
+            let whole = full.saturating_add(slots.saturating_mul(per_slot)) / 1_280_000;
+            most = u128::from(most).min(whole.saturating_sub(bytes)) as u32;
+        }
+        most
+    }
+}
+
+/// The SID of the flow that is served first at this minislot, of those that may be served.
+pub fn eligible(flows: &[SlowFlow], config: &Checked, start: u64, room: u32) -> Option<u16> {
+    let mut next: Option<&SlowFlow> = None;
+    for flow in flows {
+        let is_first = match next {
+            Some(next) => flow.is_before(next),
+            None => true,
+        };
+        if is_first && flow.is_eligible(config, start, room) {
+            next = Some(flow);
+        }
+    }
+    match next {
+        Some(flow) => Some(flow.sid),
+        None => None,
+    }
+}
