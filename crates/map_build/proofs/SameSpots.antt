@@ -98,8 +98,8 @@ frame-reordered : (c : Config) (flows : List LiveFlow) (spots others : List Spot
 frame-reordered c flows spots others start ack m granted moved (plan, is, made, after) = (
   plan,
   plan-among c flows start others spots (λ s has. Contains-permutation others spots s
-  (IsPermutation-sym spots others moved) has)
-  (λ s has. Contains-permutation spots others s moved has) plan is,
+      (IsPermutation-sym spots others moved) has)
+      (λ s has. Contains-permutation spots others s moved has) plan is,
   made,
   after,
 )
@@ -111,7 +111,7 @@ lawful-in_order : (c : Config) (flows : List LiveFlow) (spots others : List Spot
 lawful-in_order c flows spots others start ack m moved (plan, is, made) = (
   plan,
   plan-among c flows start spots others (λ s has. Contains-permutation spots others s moved has)
-  (λ s has. Contains-permutation others spots s (IsPermutation-sym spots others moved) has) plan is,
+      (λ s has. Contains-permutation others spots s (IsPermutation-sym spots others moved) has) plan is,
   made,
 )
 

@@ -46,7 +46,7 @@ module _ (sid start : ℕ) where
   no_bytes false g = refl
 
   -- an element with no bytes is no data grant
-  pub grant_by-none : (e : Element) → grant_by sid start (e, 0) ≡ None
+  grant_by-none : (e : Element) → grant_by sid start (e, 0) ≡ None
   grant_by-none e = no_bytes (e.sid == sid) (record { start = start + e.offset; bytes = 0 })
 
   some_bytes : (b : Bool) (bytes : ℕ) (g : Grant) → 0 < bytes
@@ -55,7 +55,7 @@ module _ (sid start : ℕ) where
   some_bytes false bytes g some = refl
 
   -- the data grant that an allocation's element is read as
-  pub grant_by-allocation : (c : Config) (offset slots : ℕ) (purpose : Purpose) → HasBytes purpose
+  grant_by-allocation : (c : Config) (offset slots : ℕ) (purpose : Purpose) → HasBytes purpose
       → grant_by sid start (element_for c offset slots purpose, bytes_for purpose) ≡ grant_to start sid purpose offset
   grant_by-allocation c offset slots (Poll other) has = grant_by-none (element_for c offset slots (Poll other))
   grant_by-allocation c offset slots (UnsolicitedGrant other) has =

@@ -51,11 +51,6 @@ abbrev pub put_in : {Y : Type 0} → (Y → ℕ) → Y → List Y → List Y
 put_in key y [] = y ∷ []
 put_in key y (z ∷ ys) = if nat_lt (key y) (key z) then y ∷ z ∷ ys else z ∷ put_in key y ys
 
--- keys ascend
-abbrev pub Ascends : {Y : Type 0} → (Y → ℕ) → List Y → Type 0
-Ascends key [] = Unit {0}
-Ascends key (y ∷ ys) = AllByRecursion (λ z. key y < key z) ys × Ascends key ys
-
 -- each value has its number
 abbrev pub HasNumber : {Y : Type 0} → (Y → ℕ) → (ℕ → Option Y) → Type 0
 HasNumber {Y} key f = (n : ℕ) (y : Y) → f n ≡ Some y → key y ≡ n
@@ -107,18 +102,6 @@ module _ {Y : Type 0} (key : Y → ℕ) where
         all-cons_option (λ y. key y < bound) (f first) (filter_map f (count_from (first + 1) n))
         (λ y is. let own : key y ≡ first = has first y is in omega arith)
         (filter_map-below bound (first + 1) n (omega arith))
-
-    ascends-cons_option : (o : Option Y) (first : ℕ) (ys : List Y) → ((y : Y) → o ≡ Some y → key y ≡ first)
-        → AllByRecursion (λ y. first < key y) ys → Ascends key ys → Ascends key (cons_option o ys)
-    ascends-cons_option None first ys own above up = up
-    ascends-cons_option (Some y) first ys own above up = let here : key y ≡ first = own y refl in (rw here above, up)
-
-    -- keys ascend
-    pub filter_map-ascends : (first n : ℕ) → Ascends key (filter_map f (count_from first n))
-    filter_map-ascends first zero = tt
-    filter_map-ascends first (suc n) =
-        ascends-cons_option (f first) first (filter_map f (count_from (first + 1) n)) (has first)
-        (filter_map-above first (first + 1) n (omega arith)) (filter_map-ascends (first + 1) n)
 
     -- a number outside of the range has no value
     pub find-outside : (first n x : ℕ) → (x < first) ⊎ (first + n ≤ x)

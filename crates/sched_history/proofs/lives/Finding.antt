@@ -7,13 +7,12 @@ use Rattle.std.specs.Option.{option_map, option_and_then}
 use Rattle.std.proofs.lemmas.Bool.Decides.{nat_tests}
 use Rattle.flow_book.specs.declared.spec.FlowSpec.{FlowSpec}
 use Rattle.flow_book.specs.Flows.{LiveFlow, flow_of}
-use Rattle.flow_book.specs.Book.{Ascend}
 use Rattle.periodic.specs.declared.placement.Placement.{Placement}
 use Rattle.periodic.specs.Placement.{count_from, Placed}
 use Rattle.sched_history.specs.declared.reply.Entry.{Entry}
 use Rattle.sched_history.specs.Life.{Life, life_of, flow_in_life, placed_in_life, sids, flows_of, table_of}
 use Rattle.sched_history.specs.Refusal.{bad_sid, is_live}
-use Rattle.sched_history.proofs.lists.Numbered.{Ascends, HasNumber, filter_map-above, filter_map-below}
+use Rattle.sched_history.proofs.lists.Numbered.{HasNumber, filter_map-above, filter_map-below}
 use Rattle.sched_history.proofs.lists.Numbered.{filter_map-ascends, find-inside}
 
 -- how many SIDs there are, from 1 on
@@ -74,17 +73,6 @@ flows_of-sids h = rw sids-range.2 (
   filter_map-below (λ f. f.sid)
       (flow_at h) (flow_at-sid h) 8192 1 sids-range.0 (omega (arith, sids-range.1)),
 )
-
-ascend-from : (flows : List LiveFlow) → Ascends (λ f. f.sid) flows → Ascend flows
-ascend-from [] up = tt
-ascend-from (f ∷ flows) up = (up.0, ascend-from flows up.1)
-
--- the SIDs of the live flows ascend
-pub flows_of-ascend : (h : List Entry) → Ascend (flows_of h)
-flows_of-ascend h =
-    rw sids-range.2
-    (ascend-from (filter_map (flow_at h) (count_from 1 sids-range.0))
-    (filter_map-ascends (λ f. f.sid) (flow_at h) (flow_at-sid h) 1 sids-range.0))
 
 -- the SIDs of flows are those that are not refused
 pub good_sid : (sid : ℕ) → bad_sid sid ≡ false → (1 ≤ sid) × (sid ≤ 8191)

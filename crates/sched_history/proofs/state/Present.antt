@@ -171,13 +171,6 @@ answers-periodic c h (Unsolicited size interval jitter) reply periodic answers =
 answers-periodic c h (Polled interval jitter rate burst) reply periodic answers = answers
 answers-periodic c h (BestEffort priority rate burst) reply periodic answers = absurd cc
 
--- a periodic flow takes memory where there is a place for it
-pub placeable-periodic : (c : Config) (h : List Entry) (spec : FlowSpec) (p : Placement) → is_periodic spec ≡ true
-    → IsPlacement c (table_of h) spec (next_after c h) p → IsPlaceable c h spec
-placeable-periodic c h (Unsolicited size interval jitter) p periodic lawful = (p, lawful)
-placeable-periodic c h (Polled interval jitter rate burst) p periodic lawful = (p, lawful)
-placeable-periodic c h (BestEffort priority rate burst) p periodic lawful = absurd cc
-
 -- a placement in the table is one after the history
 pub placement-after : (s : State) (h : List Entry) (spec : FlowSpec) (p : Placement) → IsStateAfter s h
     → IsPlacement s.table.config s.table.placed spec s.next p
@@ -195,10 +188,3 @@ no_placement-after s h spec is_after none =
     subst (λ next. NoPlacement s.config (table_of h) spec next) is_after.next
     (subst (λ placed. NoPlacement s.config placed spec s.next) is_after.placed
     (subst (λ c. NoPlacement c s.table.placed spec s.next) is_after.table_config none))
-
--- a flow without a place takes memory all the same
-pub placeable-best_effort : (c : Config) (h : List Entry) (spec : FlowSpec) → is_periodic spec ≡ false
-    → IsPlaceable c h spec
-placeable-best_effort c h (Unsolicited size interval jitter) aperiodic = absurd cc
-placeable-best_effort c h (Polled interval jitter rate burst) aperiodic = absurd cc
-placeable-best_effort c h (BestEffort priority rate burst) aperiodic = tt

@@ -57,7 +57,7 @@ IsOpenTo-inside a m is call sound room none = record {
 }
 
 -- the same configuration with the same history
-pub machine-same : (c d : Config) (h k : List Entry) → c ≡ d → h ≡ k
+machine-same : (c d : Config) (h k : List Entry) → c ≡ d → h ≡ k
     → ◌≡◌ {A = Machine} (record { config = c; history = h })
     (record { config = d; history = k })
 machine-same c d h k config history = rw (config, history) refl

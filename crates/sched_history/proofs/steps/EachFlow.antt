@@ -17,7 +17,7 @@ use Rattle.sched_history.specs.History.{IsNextMap}
 use Rattle.sched_history.proofs.steps.EntryChanges.{EntryChange, Nothing, Asked, Began, Ended, Described, Skipped}
 
 -- what follows of each holds of the image of each
-pub all-image : {X : Type 0} (P Q : X → Type 0) (k : X → X) (xs : List X) → ((x : X) → P x → Q (k x))
+all-image : {X : Type 0} (P Q : X → Type 0) (k : X → X) (xs : List X) → ((x : X) → P x → Q (k x))
     → AllByRecursion P xs → AllByRecursion Q (map k xs)
 all-image P Q k [] step all = tt
 all-image P Q k (x ∷ xs) step all = (step x all.0, all-image P Q k xs step all.1)

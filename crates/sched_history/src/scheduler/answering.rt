@@ -132,7 +132,10 @@ impl State {
             → IsAnswered self.old self.new (Call.Build planned.clock) result h }
     {
         let Planned {
-            map, kept, book, ..
+            map,
+            kept,
+            book,
+            ..
         } = planned;
         self.book = book;
         self.next += u64::from(self.config.frame());

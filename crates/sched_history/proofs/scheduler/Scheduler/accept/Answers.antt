@@ -4,9 +4,11 @@ use Rattle.sched_history.proofs.scheduler.Scheduler.accept.Goals as goal
 
 pub answer-requires : goal.answer-requires
 answer-requires c =
-    let a = c.self.inside in
-    (a.entries.items, IsOpenTo-inside a c.args.self.now c.self.view_is c.args.call c.self.invariant c.requires.room
-    c.requires.unrefused)
+    let a = c.self.inside in (
+      a.entries.items,
+      IsOpenTo-inside a c.args.self.now c.self.view_is c.args.call c.self.invariant c.requires.room
+          c.requires.unrefused,
+    )
 
 pub invariant_of-self-2 : goal.invariant_of-self-2
 invariant_of-self-2 c =
