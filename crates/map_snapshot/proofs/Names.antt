@@ -1,12 +1,12 @@
 -- Each step of an end keeps the rule that both ends are of one list.
-use Rattle.std.proofs.Common.{◌≡◌, ◌≢◌, ℕ, List, [], ◌∷◌, ◌++◌, set, fold, Option, Some, None, refl, sym, ap, ◌∙◌, subst, ⊎_elim, inl, inr}
+use Rattle.std.proofs.Common.{◌≡◌, ◌≢◌, ℕ, List, [], ◌∷◌, ◌++◌, ◌+◌, length, set, fold, Option, Some, None, refl, sym, ap, ◌∙◌, subst, ⊎_elim, inl, inr}
 use mathlib.Core.Option.{some}
 use lib.ListN.{get_elem?}
 use Rattle.left_right.specs.Register.{Admits, TurnsAt, Forks, Merges}
 use Rattle.atomic_table.proofs.Lists.{at_set, at_snoc}
-use Rattle.logbook.specs.Pages.{Named}
+use Rattle.logbook.specs.Pages.{Book, Named}
 use Rattle.map_snapshot.specs.declared.printed.Printed.{Printed}
-use Rattle.map_snapshot.specs.Maps.{Page}
+use Rattle.map_snapshot.specs.Maps.{Page, Coming, MayWait}
 use Rattle.map_snapshot.specs.Rules.{word_of, IsNameOf, AllName}
 
 abbrev pub law : Page → List (Option Named) → Type 0
@@ -51,16 +51,21 @@ merges seat v other w s names all at apart there =
     (at_set names seat other w w there) in
     all_set word (set names seat w) other None (all_set word names seat w all is) (inl refl)
 
--- what an operation makes of what both copies have: its map is the newest, and the word stays
-abbrev pub applied : Option Printed × Named → Printed → Option Printed × Named
-applied s p = (Some p, s.1)
+-- what an addition makes of what both copies have: its map is the newest, and the word is that of its press
+abbrev pub applied : Option Printed × Named → Coming → Option Printed × Named
+applied s a = (Some a.printed, word_of a.press)
 
-fold_keeps : (s : Option Printed × Named) (ops : List Printed) → (fold applied s ops).1 ≡ s.1
-fold_keeps s [] = refl
-fold_keeps s (p ∷ ops) = fold_keeps (applied s p) ops
+-- where what waits is of this press, its word stays
+fold_keeps : (press : Book) (list : List (List ℕ)) (o : Option Printed) (ops : List Coming) → MayWait press list ops
+    → (fold applied (o, word_of press) ops).1 ≡ word_of press
+fold_keeps press list o ops may =
+    let word_after : List Coming → Named = λ l. (fold applied (o, word_of press) l).1 in
+    ⊎_elim (λ (none : ops ≡ []). ap word_after none)
+    (λ (t : (a : Coming) × (ops ≡ a ∷ []) × (a.press ≡ press) × (a.printed.version ≡ length list + 1)). ap word_after t.1 ∙ ap word_of t.2)
+    may
 
 -- a publish shows a copy of the same list
-pub publishes : (seat : ℕ) (v : Option Named) (s next : Page) (ops : List Printed)
+pub publishes : (seat : ℕ) (v : Option Named) (s next : Page) (ops : List Coming) → MayWait s.press s.list ops
     → (next.printed, word_of next.press) ≡ fold applied (s.printed, word_of s.press) ops
     → TurnsAt law seat v s next (λ v x y w. w ≡ Some (word_of y.press))
-publishes seat v s next ops is = shows seat v s next (ap (λ t. t.1) is ∙ fold_keeps (s.printed, word_of s.press) ops)
+publishes seat v s next ops may is = shows seat v s next (ap (λ t. t.1) is ∙ fold_keeps s.press s.list s.printed ops may)

@@ -37,9 +37,17 @@ pub record Page : Type 0 where
   pub list : List (List ℕ)
   pub listed : Bool
 
--- nothing was appended, or one map, which comes next
-abbrev pub MayWait : List (List ℕ) → List Printed → Type 0
-MayWait list waiting = (waiting ≡ []) ⊎ ((p : Printed) × (waiting ≡ p ∷ []) × (p.version ≡ length list + 1))
+-- a map that was appended, and to which press
+pub record Coming : Type 0 where
+  pub press : Book
+  pub printed : Printed
+
+abbrev pub printed_of : Coming → Printed
+printed_of a = a.printed
+
+-- nothing was appended, or one map, which comes next in the list of this press
+abbrev pub MayWait : Book → List (List ℕ) → List Coming → Type 0
+MayWait press list waiting = (waiting ≡ []) ⊎ ((a : Coming) × (waiting ≡ a ∷ []) × (a.press ≡ press) × (a.printed.version ≡ length list + 1))
 
 -- what is known where nothing was published yet
 abbrev pub unread : Book → Known

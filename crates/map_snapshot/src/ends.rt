@@ -1,6 +1,6 @@
 //! The two ends of the copies, and the rule that both are of one list.
+use crate::addition::Addition;
 use crate::list::Count;
-use crate::printed::Printed;
 use crate::sheet::Sheet;
 use atomic_table::{Join, Split};
 use crossbeam_utils::rule::{Outcome, Protocol};
@@ -21,7 +21,7 @@ impl Protocol<Sheet, Name> for OneList {
     ghost first = { None };
 }
 
-pub type Writer = writer::Writer<Sheet, Printed, Name, OneList>;
+pub type Writer = writer::Writer<Sheet, Addition, Name, OneList>;
 
 pub type Reader = reader::Reader<Sheet, Name, OneList>;
 

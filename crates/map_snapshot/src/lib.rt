@@ -1,6 +1,7 @@
 //! Versions of the newest map for readers that take no lock: one press publishes, and many readers read.
 #![tactic(auto)]
 
+mod addition;
 mod ends;
 mod fault;
 mod laws;

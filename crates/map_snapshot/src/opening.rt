@@ -25,13 +25,13 @@ fn lay<R: Wait>(rt: &R, alloc: Global, places: usize) -> Result<Press, AllocErro
 {
     let (seen, mut pen, _unused) = Seen::open(Start::alone(), 0, 0);
     let count = Arc::new(alloc, Word::tracked(0, &mut pen))?;
-    let first = Sheet::blank(Arc::try_clone(&count)?, seen.again());
-    let second = Sheet::blank(count, seen);
+    let first = Sheet::blank(seen.again());
+    let second = Sheet::blank(seen);
     let writer = Writer::new(alloc, first, second, places)?;
     let (writer, shown) = writer.publish_as::<Shows, R>(rt);
     let Ok(()) = shown else { unreachable!() };
     settle(rt, &writer);
-    Ok(Press { writer })
+    Ok(Press { writer, count })
 }
 
 impl Press {

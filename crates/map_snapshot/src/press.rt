@@ -3,24 +3,28 @@ ghost use Rattle.std.specs.Prelude.{◌≡◌, ◌+◌, ◌≤◌, ◌++◌, tru
 ghost use Rattle.map_snapshot.specs.declared.printed.TheConstants.{MAX_BYTES};
 ghost use Rattle.map_snapshot.specs.Maps.{map_in, IsNewest};
 
+use crate::addition::Addition;
 use crate::ends::{Shows, Writer};
+use crate::list::Count;
 use crate::printed::{MAX_BYTES, Printed};
 use crate::told::Told;
 use core::mem::replace_with;
-use std::alloc::AllocError;
+use std::alloc::{AllocError, Global};
 use std::marker::Model;
-use std::sync::Wait;
+use std::sync::{Arc, Wait};
 
 /// What publishes. It has no `Drop`, so it has to end.
 #[must_use]
 pub struct Press {
     pub(crate) writer: Writer,
+    pub(crate) count: Arc<Count, Global>,
 }
 
 impl Model for Press {
-    ghost use Rattle.std.specs.Prelude.{◌≡◌, true, Some, drop};
+    ghost use Rattle.std.specs.Prelude.{◌≡◌, true, Some, map, drop};
+    ghost use Rattle.std.specs.Arc.{arc_value};
     ghost use Rattle.left_right.specs.Sides.{view as name_in};
-    ghost use Rattle.map_snapshot.specs.Maps.{Printing, MayWait};
+    ghost use Rattle.map_snapshot.specs.Maps.{Printing, MayWait, printed_of};
     ghost use Rattle.map_snapshot.specs.Rules.{word_of};
 
     ghost Value = { Printing };
@@ -28,12 +32,13 @@ impl Model for Press {
     ghost view = { λ p. record {
       press = p.writer.desk.shown.value.press;
       list = p.writer.desk.shown.value.list;
-      waiting = drop p.writer.behind p.writer.log.items;
+      waiting = map printed_of (drop p.writer.behind p.writer.log.items);
     } };
 
     ghost invariant = { λ p. (p.writer.desk.shown.value.listed ≡ true)
         × (name_in p.writer.desk.place ≡ Some (word_of p.writer.desk.shown.value.press))
-        × MayWait p.writer.desk.shown.value.list (drop p.writer.behind p.writer.log.items) };
+        × (arc_value p.count ≡ word_of p.writer.desk.shown.value.press)
+        × MayWait p.writer.desk.shown.value.press p.writer.desk.shown.value.list (drop p.writer.behind p.writer.log.items) };
 }
 
 // Waits until what readers take is in the list, as it is at the first look: nobody else adds to the list.
@@ -57,14 +62,14 @@ fn show<R: Wait>(press: Press, rt: &R) -> (Press, ())
       waiting = [];
     } }
 {
-    let Press { writer } = press;
+    let Press { writer, count } = press;
     let before = writer.published().seen().again();
     let (writer, shown) = writer.publish_as::<Shows, R>(rt);
     let Ok(()) = shown else { unreachable!() };
     settle(rt, &writer);
     let mut both = writer.published().seen().again();
     both.learn(&before);
-    (Press { writer }, ())
+    (Press { writer, count }, ())
 }
 
 impl Press {
@@ -76,7 +81,9 @@ impl Press {
         ensures ok { OnOk result (self.new ≡ record self.old { waiting = printed ∷ [] }) }
         ensures err { OnErr result (self.new ≡ self.old) }
     {
-        match self.writer.append(printed) {
+        let seen = self.writer.published().seen().again();
+        let addition = Addition::new(printed, Arc::try_clone(&self.count)?, seen);
+        match self.writer.append(addition) {
             Ok(()) => Ok(()),
             Err(_) => Err(AllocError),
         }
@@ -106,7 +113,7 @@ impl Press {
     /// Ends the press. Its readers keep what they know. It takes no memory, and waits for readers that are in
     /// the middle of a read.
     pub fn end<R: Wait>(self, rt: &R) {
-        let Press { writer } = self;
+        let Press { writer, count: _ } = self;
         writer.take(rt);
     }
 }

@@ -1,22 +1,19 @@
 //! What readers take: one of the two copies.
 ghost use Rattle.std.specs.Prelude.{◌≡◌, true, [], None};
 ghost use mathlib.Core.List.{IsPrefix};
-ghost use Rattle.std.specs.Arc.{arc_value};
 ghost use Rattle.map_snapshot.specs.Maps.{IsNewest};
-ghost use Rattle.map_snapshot.specs.Rules.{word_of};
 
-use crate::list::{Count, Seen, add};
+use crate::addition::Addition;
+use crate::list::{Count, Seen};
 use crate::printed::Printed;
 use crate::told::Told;
 use left_right::Absorb;
-use std::alloc::{AllocError, Global};
+use std::alloc::AllocError;
 use std::marker::Model;
-use std::sync::Arc;
 
 /// The newest map, and the list that it stands last in, where it was added to the list.
 #[derive(Drop)]
 pub struct Sheet {
-    count: Arc<Count, Global>,
     printed: Option<Printed>,
     seen: Seen,
     listed: bool,
@@ -24,9 +21,7 @@ pub struct Sheet {
 
 impl Model for Sheet {
     ghost use Rattle.std.specs.Prelude.{◌≡◌, true};
-    ghost use Rattle.std.specs.Arc.{arc_value};
     ghost use Rattle.map_snapshot.specs.Maps.{Page, IsNewest};
-    ghost use Rattle.map_snapshot.specs.Rules.{word_of};
 
     ghost Value = { Page };
 
@@ -37,19 +32,16 @@ impl Model for Sheet {
       listed = s.listed;
     } };
 
-    ghost invariant = { λ s. (arc_value s.count ≡ word_of s.seen.book)
-        × (s.listed ≡ true → IsNewest s.printed s.seen.log) };
+    ghost invariant = { λ s. s.listed ≡ true → IsNewest s.printed s.seen.log };
 }
 
 impl Sheet {
     // What readers take before anything was published.
-    pub(crate) fn blank(count: Arc<Count, Global>, seen: Seen) -> Sheet
-        requires own { arc_value count ≡ word_of seen.book }
+    pub(crate) fn blank(seen: Seen) -> Sheet
         requires empty { seen.log ≡ [] }
         ensures made { result ≡ record { press = seen.book; printed = None; list = []; listed = true } }
     {
         Sheet {
-            count,
             printed: None,
             seen,
             listed: true,
@@ -94,7 +86,7 @@ impl Sheet {
     }
 }
 
-impl Absorb<Printed> for Sheet {
+impl Absorb<Addition> for Sheet {
     ghost use Rattle.std.specs.Prelude.{Some};
     ghost use Rattle.map_snapshot.specs.Rules.{word_of};
 
@@ -102,13 +94,15 @@ impl Absorb<Printed> for Sheet {
 
     ghost state = { λ s. (s.printed, word_of s.press) };
 
-    ghost applied = { λ s printed. (Some printed, s.1) };
+    ghost applied = { λ s addition. (Some addition.printed, word_of addition.press) };
 
     ghost never_fails = { Unit {0} };
 
-    fn absorb_first(&mut self, operation: &Printed, _other: &Sheet) -> Result<(), AllocError> {
-        self.listed = add(&self.count, &mut self.seen, operation);
-        self.printed = Some(*operation);
+    fn absorb_first(&mut self, operation: &Addition, _other: &Sheet) -> Result<(), AllocError> {
+        let (seen, listed) = operation.add();
+        self.printed = Some(operation.printed());
+        self.seen = seen;
+        self.listed = listed;
         Ok(())
     }
 }

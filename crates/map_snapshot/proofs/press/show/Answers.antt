@@ -8,7 +8,7 @@ use Rattle.map_snapshot.proofs.press.show.Goals as goal
 pub publish_as-writer-requires : goal.publish_as-writer-requires
 publish_as-writer-requires g c next is =
     let writer = c.press.inside.writer in
-    publishes _ _ writer.desk.shown.value next (drop writer.behind writer.log.items) is
+    publishes _ _ writer.desk.shown.value next (drop writer.behind writer.log.items) c.press.invariant.3 is
 
 pub returns : goal.returns
 returns g c =
@@ -23,5 +23,5 @@ returns g c =
     let ends : IsPrefix next.list both =
     subst (λ l. IsPrefix l both) (ap (λ s. s.log) c.again-both.ensures ∙ (c.seen-2.ensures.seen.1 ∙ ap (λ (s : Page). s.list) c.published-2.ensures)) c.learn.ensures.2 in
     let waits = ap (λ (p : Printing). p.waiting) c.press.view_is ∙ c.requires.waits.1 in
-    let shows = shown_press shown next (drop writer.behind writer.log.items) (drop after.behind after.log.items) both c.requires.waits.0 c.press.invariant.2 waits values.0 values.1 c.settle.ensures.newest begins ends in
+    let shows = shown_press shown next (drop writer.behind writer.log.items) (drop after.behind after.log.items) both c.requires.waits.0 c.press.invariant.3 waits values.0 values.1 c.settle.ensures.newest begins ends in
     record { shown = shows ∙ ap (λ (p : Printing). record p { list = p.list ++ map map_in p.waiting; waiting = [] }) c.press.view_is }

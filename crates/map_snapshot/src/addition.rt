@@ -1,0 +1,64 @@
+//! What a press has appended, and is to be added to the list.
+ghost use Rattle.std.specs.Prelude.{◌≡◌, Some, IsTrue};
+ghost use Rattle.std.specs.Arc.{arc_value};
+ghost use Rattle.map_snapshot.specs.Maps.{IsNewest};
+ghost use Rattle.map_snapshot.specs.Rules.{word_of};
+
+use crate::list::{Count, Seen, add};
+use crate::printed::Printed;
+use std::alloc::Global;
+use std::marker::Model;
+use std::sync::Arc;
+
+/// A map that was appended, with the word that counts the list of its press. A press and its additions alone have
+/// the word: nothing that a reader can reach adds to the list.
+#[derive(Drop)]
+pub struct Addition {
+    printed: Printed,
+    count: Arc<Count, Global>,
+    seen: Seen,
+}
+
+impl Model for Addition {
+    ghost use Rattle.std.specs.Prelude.{◌≡◌};
+    ghost use Rattle.std.specs.Arc.{arc_value};
+    ghost use Rattle.map_snapshot.specs.Maps.{Coming};
+    ghost use Rattle.map_snapshot.specs.Rules.{word_of};
+
+    ghost Value = { Coming };
+
+    ghost view = { λ a. record { press = a.seen.book; printed = a.printed } };
+
+    ghost invariant = { λ a. arc_value a.count ≡ word_of a.seen.book };
+}
+
+impl Addition {
+    // The map, for the press whose word it is.
+    pub(crate) fn new(printed: Printed, count: Arc<Count, Global>, seen: Seen) -> Addition
+        requires own { arc_value count ≡ word_of seen.book }
+        ensures made { result ≡ record { press = seen.book; printed = printed } }
+    {
+        Addition {
+            printed,
+            count,
+            seen,
+        }
+    }
+
+    // The map.
+    pub(crate) fn printed(&self) -> Printed
+        ensures printed { result ≡ self.now.printed }
+    {
+        self.printed
+    }
+
+    // Adds the map to the list where it comes next: the list as it was seen then, and whether the map was added.
+    pub(crate) fn add(&self) -> (Seen, bool)
+        ensures press { result.0.book ≡ self.now.press }
+        ensures added { IsTrue result.1 → IsNewest (Some self.now.printed) result.0.log }
+    {
+        let mut seen = self.seen.again();
+        let added = add(&self.count, &mut seen, &self.printed);
+        (seen, added)
+    }
+}
