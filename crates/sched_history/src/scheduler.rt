@@ -124,6 +124,7 @@ impl Scheduler {
               ++ record { stamp = stamp; call = Call.Build planned.clock; reply = result } ∷ [];
         } }
         ensures step { IsStep self.old.config self.old.history (Call.Build planned.clock) result }
+        ensures encodable { IsEncodable result }
         ensures legal { IsLegal self.new.config self.new.history }
     {
         let call = Call::Build { now: planned.clock };

@@ -1,8 +1,8 @@
 -- The live flows and placements are found by their SIDs, and ascend.
-use Rattle.std.proofs.Common.{◌≡◌, ℕ, ◌≤◌, ◌<◌, false, ◌==◌, List, [], ◌∷◌, find}
+use Rattle.std.proofs.Common.{◌≡◌, ℕ, ◌≤◌, ◌<◌, false, ◌==◌, List, find}
 use Rattle.std.proofs.Common.{Option, None, Some, refl, sym, ap, arith}
 use Rattle.std.specs.Prelude.{is_some}
-use Rattle.std.specs.List.{AllByRecursion, filter_map}
+use Rattle.std.specs.List.{AllByRecursion}
 use Rattle.std.specs.Option.{option_map, option_and_then}
 use Rattle.std.proofs.lemmas.Bool.Decides.{nat_tests}
 use Rattle.flow_book.specs.declared.spec.FlowSpec.{FlowSpec}
@@ -13,7 +13,7 @@ use Rattle.sched_history.specs.declared.reply.Entry.{Entry}
 use Rattle.sched_history.specs.Life.{Life, life_of, flow_in_life, placed_in_life, sids, flows_of, table_of}
 use Rattle.sched_history.specs.Refusal.{bad_sid, is_live}
 use Rattle.sched_history.proofs.lists.Numbered.{HasNumber, filter_map-above, filter_map-below}
-use Rattle.sched_history.proofs.lists.Numbered.{filter_map-ascends, find-inside}
+use Rattle.sched_history.proofs.lists.Numbered.{find-inside}
 
 -- how many SIDs there are, from 1 on
 pub sids-range : (n : ℕ) × (n ≡ 8191) × (sids ≡ count_from 1 n)

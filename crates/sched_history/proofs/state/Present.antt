@@ -22,7 +22,6 @@ use Rattle.sched_history.specs.Life.{Life, life_of, flow_in_life, placed_in_life
 use Rattle.sched_history.specs.Refusal.{bad_sid, is_live, most_bytes}
 use Rattle.sched_history.specs.Time.{next_after}
 use Rattle.sched_history.specs.History.{AnswersAdmit, PlacesOrRefuses, IsLegal, flow_status}
-use Rattle.sched_history.specs.Machine.{IsPlaceable}
 use Rattle.sched_history.specs.State.{IsStateAfter}
 use Rattle.sched_history.proofs.lives.Finding.{flow_of-flows_of, find-table_of, good_sid, life_of-dead}
 use Rattle.sched_history.proofs.placements.Counts.{IsPaired, life_of-pairs}

@@ -12,6 +12,9 @@ invariant_of-self c =
 pub returns-clause-built : goal.returns-clause-built
 returns-clause-built c = c.note.ensures.reply ∙ c.commit-answer.ensures.built
 
+pub returns-clause-encodable : goal.returns-clause-encodable
+returns-clause-encodable c = rw (returns-clause-built c) (c.requires.encodable)
+
 pub returns-clause-step : goal.returns-clause-step
 returns-clause-step c = rw (c.note.ensures.reply)
     (IsRecorded-planned c.self.inside (record { state = c.commit-answer.new.self; entries = c.note.new.entries })
