@@ -52,8 +52,9 @@ impl Press {
 }
 
 /// Opens a press with this many readers, at most 16, none of which has read anything. More readers are
-/// `ReaderCount`, and want of memory is `Memory`; after either nothing is left open. It waits for nobody, since no
-/// one reads yet: it takes the handle because a press that is left is ended by a call that may wait.
+/// `ReaderCount`, and want of memory is `Memory`; after either nothing is left open. It takes a handle that waits:
+/// it makes the first publish, and ends the press that a later want of memory leaves, and both are calls that may
+/// wait. There is no reader yet for whom they could.
 pub fn open_press<R: Wait>(
     rt: &R,
     alloc: Global,

@@ -41,7 +41,9 @@ impl Model for Press {
         × MayWait p.writer.desk.shown.value.press p.writer.desk.shown.value.list (drop p.writer.behind p.writer.log.items) };
 }
 
-// Waits until what readers take is in the list, as it is at the first look: nobody else adds to the list.
+// Waits until what readers take is in the list: that it then is, is proved. That it is at the first look is argued
+// alone: this press and its additions have the word that counts the list, so the step found the number that it
+// expects. No clause can say so: what is asked of a step names each list that begins with what was seen.
 pub(crate) fn settle<R: Wait>(rt: &R, writer: &Writer)
     ensures listed { writer.now.desk.shown.value.listed ≡ true }
     ensures newest { IsNewest writer.now.desk.shown.value.printed writer.now.desk.shown.value.list }
@@ -73,7 +75,9 @@ fn show<R: Wait>(press: Press, rt: &R) -> (Press, ())
 }
 
 impl Press {
-    /// Makes room for the map, which readers do not see yet. After a refusal of memory the press is as it was.
+    /// Makes room for the map, which readers do not see yet. Nothing else may wait to be published, the version is
+    /// one more than the number of maps published, and the length is at most `MAX_BYTES`. After a refusal of memory
+    /// the press is as it was.
     pub fn append(&mut self, printed: Printed) -> Result<(), AllocError>
         requires settled { self.old.waiting ≡ [] }
         requires next { printed.version ≡ length self.old.list + 1 }
@@ -89,8 +93,8 @@ impl Press {
         }
     }
 
-    /// Shows readers the map that was appended, if one was. It takes no memory, and waits for readers that are in
-    /// the middle of a read.
+    /// Shows readers the map that was appended, if one was. It takes no memory, and may wait for readers that are in
+    /// the middle of a read, and until it finds the map in the list. No clause bounds either wait.
     pub fn publish<R: Wait>(&mut self, rt: &R)
         ensures published { self.new ≡ record self.old {
           list = self.old.list ++ map map_in self.old.waiting;
@@ -110,7 +114,7 @@ impl Press {
         self.writer.published().told()
     }
 
-    /// Ends the press. Its readers keep what they know. It takes no memory, and waits for readers that are in
+    /// Ends the press. Its readers keep what they know. It takes no memory, and may wait for readers that are in
     /// the middle of a read.
     pub fn end<R: Wait>(self, rt: &R) {
         let Press { writer, count: _ } = self;

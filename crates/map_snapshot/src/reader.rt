@@ -49,8 +49,9 @@ impl Reader {
         }
     }
 
-    /// The newest map, or none where nothing was published yet. It is never older than one read before, nor than
-    /// one that the reader was told of. It takes no memory and no lock, and waits for nobody.
+    /// The newest map of the list that the reader then knows, or none where that is empty. The list begins with the
+    /// one before, so the map is never older than one read before, nor than one that the reader was told of. Its
+    /// length is at most `MAX_BYTES`. It takes no memory and no lock, and waits for nobody.
     pub fn newest(&mut self) -> Option<Printed>
         ensures press { self.new.press ≡ self.old.press }
         ensures grows { IsPrefix self.old.list self.new.list }
@@ -60,8 +61,8 @@ impl Reader {
         self.known.newest()
     }
 
-    /// Takes in what its own press told: what it knows and what it was told are beginnings of what the press has
-    /// published, and it keeps the longer.
+    /// Takes in what its own press told. The list that the reader then knows is the one before or the one that it
+    /// was told, and both begin it. It takes no memory, and waits for nobody.
     pub fn learn(&mut self, told: Told)
         requires own { told.press ≡ self.old.press }
         ensures press { self.new.press ≡ self.old.press }
