@@ -1,17 +1,19 @@
 -- Lists of published maps, and the newest of a list.
-use Rattle.std.specs.Prelude.{◌≡◌, ◌⊎◌, ℕ, Bool, ◌+◌, List, [], ◌∷◌, ◌++◌, length, take, Option, Some, None}
+use Rattle.std.specs.Prelude.{◌≡◌, ◌⊎◌, ℕ, Bool, ◌+◌, ◌≤◌, List, [], ◌∷◌, ◌++◌, length, take, Option, Some, None}
 use Rattle.logbook.specs.Pages.{Book}
 use Rattle.map_snapshot.specs.declared.printed.Printed.{Printed}
+use Rattle.map_snapshot.specs.declared.printed.TheConstants.{MAX_BYTES}
 
 -- the map: the first `len` of the bytes
 abbrev pub map_in : Printed → List ℕ
 map_in p = take p.len p.bytes
 
--- what stands last in a list of maps, with the list's length as its version
+-- what stands last in a list of maps, with the list's length as its version. Its length is within its bytes
 pub record IsLast (p : Printed) (list : List (List ℕ)) : Type 0 where
   pub before : List (List ℕ)
   pub list_is : list ≡ before ++ map_in p ∷ []
   pub version : p.version ≡ length list
+  pub fits : p.len ≤ MAX_BYTES
 
 -- the newest of a list of maps: none where the list is empty, else what stands last
 abbrev pub IsNewest : Option Printed → List (List ℕ) → Type 0

@@ -1,6 +1,7 @@
 //! What a press has appended, and is to be added to the list.
-ghost use Rattle.std.specs.Prelude.{◌≡◌, Some, IsTrue};
+ghost use Rattle.std.specs.Prelude.{◌≡◌, ◌≤◌, Some, IsTrue};
 ghost use Rattle.std.specs.Arc.{arc_value};
+ghost use Rattle.map_snapshot.specs.declared.printed.TheConstants.{MAX_BYTES};
 ghost use Rattle.map_snapshot.specs.Maps.{IsNewest};
 ghost use Rattle.map_snapshot.specs.Rules.{word_of};
 
@@ -20,8 +21,9 @@ pub struct Addition {
 }
 
 impl Model for Addition {
-    ghost use Rattle.std.specs.Prelude.{◌≡◌};
+    ghost use Rattle.std.specs.Prelude.{◌≡◌, ◌≤◌};
     ghost use Rattle.std.specs.Arc.{arc_value};
+    ghost use Rattle.map_snapshot.specs.declared.printed.TheConstants.{MAX_BYTES};
     ghost use Rattle.map_snapshot.specs.Maps.{Coming};
     ghost use Rattle.map_snapshot.specs.Rules.{word_of};
 
@@ -29,13 +31,14 @@ impl Model for Addition {
 
     ghost view = { λ a. record { press = a.seen.book; printed = a.printed } };
 
-    ghost invariant = { λ a. arc_value a.count ≡ word_of a.seen.book };
+    ghost invariant = { λ a. (arc_value a.count ≡ word_of a.seen.book) × (a.printed.len ≤ MAX_BYTES) };
 }
 
 impl Addition {
     // The map, for the press whose word it is.
     pub(crate) fn new(printed: Printed, count: Arc<Count, Global>, seen: Seen) -> Addition
         requires own { arc_value count ≡ word_of seen.book }
+        requires fits { printed.len ≤ MAX_BYTES }
         ensures made { result ≡ record { press = seen.book; printed = printed } }
     {
         Addition {

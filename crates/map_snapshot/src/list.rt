@@ -1,5 +1,6 @@
 //! The list of what a press has published. It exists in the proofs alone; what runs is one word, its length.
-ghost use Rattle.std.specs.Prelude.{◌≡◌, ◌+◌, IsTrue, Some};
+ghost use Rattle.std.specs.Prelude.{◌≡◌, ◌≤◌, IsTrue, Some};
+ghost use Rattle.map_snapshot.specs.declared.printed.TheConstants.{MAX_BYTES};
 ghost use Rattle.map_snapshot.specs.Maps.{IsNewest};
 ghost use Rattle.map_snapshot.specs.Rules.{word_of};
 
@@ -66,6 +67,7 @@ pub type Seen = logbook::Seen<Map, (), Counted>;
 // Adds the map to the list where its version says that it comes next, and says whether it did.
 pub(crate) fn add(count: &Count, seen: &mut Seen, printed: &Printed) -> bool
     requires own { count.now ≡ word_of seen.old.book }
+    requires fits { printed.now.len ≤ MAX_BYTES }
     ensures book { seen.new.book ≡ seen.old.book }
     ensures added { IsTrue result → IsNewest (Some printed.now) seen.new.log }
 {

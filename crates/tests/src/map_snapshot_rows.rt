@@ -29,9 +29,11 @@ fn printed(version: u64) -> Printed
 }
 
 // Whether this is the map of its version.
-fn is_whole(read: &Printed) -> bool {
+fn is_whole(read: &Printed) -> bool
+    requires fits { read.now.len ≤ MAX_BYTES }
+{
     let made = printed(read.version);
-    read.len == made.len && read.bytes == made.bytes
+    read.bytes[..read.len] == made.bytes[..made.len]
 }
 
 // A press with this many readers.
