@@ -5,8 +5,8 @@ ghost use Rattle.std.specs.Prelude.{◌≡◌, ◌<◌, ◌≤◌, IfOk};
 ghost use Rattle.std.specs.List.{AllByRecursion};
 ghost use Rattle.flow_book.specs.Choice.{HasStartedBy};
 
-use super::grant_most;
-use super::slow::{SlowFlow, eligible};
+use super::slow::SlowFlow;
+use super::{grant_most, slow};
 use crate::base::BASE;
 use flow_book::{Book, FlowSpec, Grant};
 use std::alloc::{AllocError, AllocGlobal, Global};
@@ -30,6 +30,13 @@ impl Draws {
             .wrapping_mul(6_364_136_223_846_793_005)
             .wrapping_add(1_442_695_040_888_963_407);
         ((self.state >> 33) % u64::from(bound)) as u32
+    }
+
+    // A minislot at or after this one.
+    fn later(&mut self, now: u64) -> u64
+        ensures { now ≤ result }
+    {
+        now.saturating_add(u64::from(self.below(30)))
     }
 
     // Parameters of some flow: one in eight has no data grants, and some have no ceiling.
@@ -65,7 +72,13 @@ struct Twins {
 }
 
 // Admits a flow, where none has its SID.
-fn admit(twins: &mut Twins, alloc: Global, sid: u16, spec: FlowSpec, now: u64) -> Result<(), AllocError>
+fn admit(
+    twins: &mut Twins,
+    alloc: Global,
+    sid: u16,
+    spec: FlowSpec,
+    now: u64,
+) -> Result<(), AllocError>
     requires { AllByRecursion (HasStartedBy now) twins.old.book.flows }
     ensures { IfOk result (λ _. AllByRecursion (HasStartedBy now) twins.new.book.flows) }
 {
@@ -78,7 +91,8 @@ fn admit(twins: &mut Twins, alloc: Global, sid: u16, spec: FlowSpec, now: u64) -
         spec,
         asked: 0,
         grants: Vec::new(alloc),
-    })
+    })?;
+    Ok(())
 }
 
 // Removes the flow of this SID, where there is one.
@@ -102,11 +116,7 @@ fn ask(twins: &mut Twins, sid: u16, bytes: u32, now: u64)
         return;
     }
     twins.book.ask(sid, bytes);
-    for flow in twins.slow.iter_mut() {
-        if flow.sid == sid {
-            flow.asked = flow.asked.saturating_add(u64::from(bytes));
-        }
-    }
+    slow::ask(&mut twins.slow, sid, bytes);
 }
 
 // Grants the most to the flow that is served first, if there is one.
@@ -118,33 +128,49 @@ fn grant(twins: &mut Twins, now: u64, room: u32) -> Result<(), AllocError>
         return Ok(());
     };
     let bytes = grant_most(&mut twins.book, sid, now, room)?;
-    for flow in twins.slow.iter_mut() {
-        if flow.sid == sid {
-            flow.grants.push(Grant { start: now, bytes })?;
-        }
-    }
+    slow::grant(&mut twins.slow, sid, Grant { start: now, bytes })?;
     Ok(())
+}
+
+// The book answers of a flow what the slow reference does.
+fn compare_flow(rt: &impl Abort, book: &Book, flow: &SlowFlow, now: u64, room: u32)
+    requires { AllByRecursion (HasStartedBy now) book.now.flows }
+{
+    let sid = flow.sid;
+    assert!(rt; book.flow(sid).is_some(), "flow {sid} at {now}");
+    let most = flow.most(book.config(), now, room);
+    assert_eq!(rt;
+        book.outstanding(sid),
+        flow.outstanding(),
+        "outstanding of {sid} at {now}"
+    );
+    assert_eq!(rt; book.most(sid, now, room), most, "most of {sid} at {now}");
 }
 
 // The book answers what the slow reference does.
 fn compare(rt: &impl Abort, twins: &Twins, now: u64, room: u32)
     requires { AllByRecursion (HasStartedBy now) twins.now.book.flows }
 {
-    let book = &twins.book;
-    let config = book.config();
-    assert_eq!(rt; book.len(), twins.slow.len(), "flows at {now}");
+    assert_eq!(rt; twins.book.len(), twins.slow.len(), "flows at {now}");
+    let first = slow::eligible(&twins.slow, twins.book.config(), now, room);
+    assert_eq!(rt;
+        twins.book.eligible(now, room),
+        first,
+        "eligible at {now} in {room}"
+    );
     for flow in &twins.slow {
-        let sid = flow.sid;
-        assert!(rt; book.flow(sid).is_some(), "flow {sid} at {now}");
-        assert_eq!(rt; book.outstanding(sid), flow.outstanding(), "outstanding of {sid} at {now}");
-        assert_eq!(rt; book.most(sid, now, room), flow.most(config, now, room), "most of {sid} at {now}");
+        compare_flow(rt, &twins.book, flow, now, room);
     }
-    let first = eligible(&twins.slow, config, now, room);
-    assert_eq!(rt; book.eligible(now, room), first, "eligible at {now} in {room}");
 }
 
 // One change, drawn.
-fn change(twins: &mut Twins, draws: &mut Draws, alloc: Global, now: u64, room: u32) -> Result<(), AllocError>
+fn change(
+    twins: &mut Twins,
+    draws: &mut Draws,
+    alloc: Global,
+    now: u64,
+    room: u32,
+) -> Result<(), AllocError>
     requires { AllByRecursion (HasStartedBy now) twins.old.book.flows }
     ensures { IfOk result (λ _. AllByRecursion (HasStartedBy now) twins.new.book.flows) }
 {
@@ -170,7 +196,7 @@ fn the_book_answers_what_its_slow_reference_does(rt: HostRuntime) -> Result<(), 
         let room = draws.below(60);
         change(&mut twins, &mut draws, rt.alloc(), now, room)?;
         compare(&rt, &twins, now, room);
-        now += u64::from(draws.below(30));
+        now = draws.later(now);
     }
     Ok(())
 }

@@ -2,6 +2,7 @@
 
 use flow_book::{FlowSpec, Grant};
 use minislots::Checked;
+use std::alloc::AllocError;
 
 /// A live flow, with the list of its data grants.
 #[derive(Drop)]
@@ -28,11 +29,7 @@ fn limits_of(spec: &FlowSpec) -> (u8, u32, u32) {
 impl SlowFlow {
     /// The bytes that were asked and not granted.
     pub fn outstanding(&self) -> u64 {
-        let mut granted: u64 = 0;
-        for grant in &self.grants {
-            granted = granted.saturating_add(u64::from(grant.bytes));
-        }
-        self.asked.saturating_sub(granted)
+        self.asked.saturating_sub(bytes_of(&self.grants))
     }
 
     /// The most bytes of a data grant at this minislot in so many minislots.
@@ -72,24 +69,56 @@ impl SlowFlow {
     }
 
     // The most bytes, up to the limit, that a data grant at this minislot may have under the rate
-    // ceiling: each window of grants that ends in it is tested, from the last back to the first.
+    // ceiling: each window of grants that ends in it is tested.
     fn within_ceiling(&self, config: &Checked, start: u64, limit: u32) -> u32 {
         let (_, rate, burst) = limits_of(&self.spec);
         if rate == 0 {
             return limit;
         }
         let per_slot = u128::from(config.ticks()) * u128::from(rate);
-        let full = 1_280_000 * u128::from(burst);
         let mut most = limit.min(burst);
-        let mut bytes: u128 = 0;
-        for grant in self.grants.iter().rev() {
-            bytes = bytes.saturating_add(u128::from(grant.bytes));
-            let slots = u128::from(start.saturating_sub(grant.start));
-            let whole = full.saturating_add(slots.saturating_mul(per_slot)) / 1_280_000;
-            most = u128::from(most).min(whole.saturating_sub(bytes)) as u32;
+        for i in 0..self.grants.len() {
+            let slots = u128::from(start.saturating_sub(self.grants[i].start));
+            let parts = slots.saturating_mul(per_slot);
+            let whole = parts.saturating_add(1_280_000 * u128::from(burst)) / 1_280_000;
+            let left = whole.saturating_sub(u128::from(bytes_of(&self.grants[i..])));
+            most = lesser(most, left);
         }
         most
     }
+}
+
+// The lesser of two numbers of bytes.
+fn lesser(most: u32, left: u128) -> u32 {
+    u128::from(most).min(left) as u32
+}
+
+// The bytes of some grants.
+fn bytes_of(grants: &[Grant]) -> u64 {
+    let mut bytes: u64 = 0;
+    for grant in grants {
+        bytes = bytes.saturating_add(u64::from(grant.bytes));
+    }
+    bytes
+}
+
+/// Adds bytes to what the flow of this SID asked.
+pub fn ask(flows: &mut [SlowFlow], sid: u16, bytes: u32) {
+    for flow in flows.iter_mut() {
+        if flow.sid == sid {
+            flow.asked = flow.asked.saturating_add(u64::from(bytes));
+        }
+    }
+}
+
+/// Adds a grant to the flow of this SID.
+pub fn grant(flows: &mut [SlowFlow], sid: u16, grant: Grant) -> Result<(), AllocError> {
+    for flow in flows.iter_mut() {
+        if flow.sid == sid {
+            flow.grants.push(grant)?;
+        }
+    }
+    Ok(())
 }
 
 /// The SID of the flow that is served first at this minislot, of those that may be served.
