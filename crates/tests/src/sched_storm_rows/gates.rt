@@ -226,7 +226,11 @@ impl FromTheLast {
 
 impl Gate for FromTheLast {
     fn pass(&self, worker: usize, _index: usize) -> bool {
-        self.told.load(SeqCst).saturating_add(worker as u64).saturating_add(1) == self.workers
+        self.told
+            .load(SeqCst)
+            .saturating_add(worker as u64)
+            .saturating_add(1)
+            == self.workers
     }
 
     fn answered(&self, _worker: usize, _index: usize) {
