@@ -5,7 +5,7 @@ ghost use Rattle.std.specs.Prelude.{◌≡◌, length};
 use crate::base::{Player, number, play, shown, word};
 use std::alloc::Global;
 use std::test::Fail;
-use ticket_core::{Step, World};
+use ticket_core::{GRANTS, Step, World};
 
 // A world of two seats, which take the steps of rows. The answer is whether the seat could take the step,
 // and what both seats do then.
@@ -73,4 +73,52 @@ enter 1 => (true, Idle, Holding(0))";
 #[test]
 fn tickets_go_on_past_the_greatest_word(rt: HostRuntime) -> Result<(), Fail> {
     play(&rt, rt.alloc(), &mut Pair::open(u64::MAX), LAST_AND_FIRST)
+}
+
+// A pair whose rows may name a word of the row of grants too.
+#[derive(Drop)]
+struct Grants {
+    pair: Pair,
+}
+
+impl Player for Grants {
+    fn answer(&mut self, alloc: Global, row: &str) -> Result<String, Fail> {
+        if word(row, 0)? == "word" {
+            let index = usize::try_from(number(row, 1)?)?;
+            if index >= GRANTS {
+                return Err(Fail::from("no such word"));
+            }
+            return Ok(shown(alloc, self.pair.world.grant_word(index))?);
+        }
+        self.pair.answer(alloc, row)
+    }
+}
+
+const ROW_FROM_0: &str = "word 0 => 0
+word 1 => 18446744073709551553
+word 63 => 18446744073709551615
+draw 0 => (true, Waiting(0), Idle)
+enter 0 => (true, Holding(0), Idle)
+word 1 => 18446744073709551553
+leave 0 => (true, Idle, Idle)
+word 0 => 0
+word 1 => 1";
+
+const ROW_FROM_THE_LAST: &str = "word 63 => 18446744073709551615
+word 0 => 18446744073709551552
+draw 0 => (true, Waiting(18446744073709551615), Idle)
+enter 0 => (true, Holding(18446744073709551615), Idle)
+leave 0 => (true, Idle, Idle)
+word 0 => 0
+word 63 => 18446744073709551615";
+
+#[test]
+fn a_word_of_the_row_has_the_latest_ticket_served_on_it(rt: HostRuntime) -> Result<(), Fail> {
+    for (first, rows) in [(0, ROW_FROM_0), (u64::MAX, ROW_FROM_THE_LAST)] {
+        let mut grants = Grants {
+            pair: Pair::open(first),
+        };
+        play(&rt, rt.alloc(), &mut grants, rows)?;
+    }
+    Ok(())
 }

@@ -1,4 +1,5 @@
 pub mod Fields
+pub mod Grants
 pub mod Lawful
 pub mod Seats
 pub mod Steps

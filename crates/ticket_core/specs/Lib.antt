@@ -1,3 +1,4 @@
 pub mod LockWorld
 pub mod Schedule
 pub mod World
+pub mod Grants

@@ -6,12 +6,17 @@ ghost use Rattle.std.specs.Prelude.{◌≡◌, ◌≤◌, ◌<◌, ℕ, List, So
 ghost use Rattle.ticket_core.specs.LockWorld.{LockWorld, opened_world, state_of, world_after, IsLawful};
 ghost use Rattle.ticket_core.specs.Schedule.{Move, opened_run, run_all, KeepsTurns};
 ghost use Rattle.ticket_core.specs.World.{words_of, shown_state, StandForLawful};
+ghost use Rattle.ticket_core.specs.Grants.{ShowsGrant, TellsTurns};
 
 use std::marker::Model;
 
 /// The most seats that a lock has. So at most this many tickets are in flight, and a word of 64 bits
 /// names one of them.
 pub const MAX_SEATS: usize = 64;
+
+/// How many words the row of grants has. Each ticket in flight has a word of its own, since there are as
+/// many as seats; and the words count on over 2^64, since they divide it.
+pub const GRANTS: usize = 64;
 
 /// What a seat may do next.
 #[derive(Clone, Copy, Debug, PartialEq, Eq)]
@@ -126,6 +131,17 @@ impl World {
     {
         let shown = &self.states;
         shown[seat]
+    }
+
+    /// The word of this index in the row of grants of a partitioned lock: the latest ticket served that
+    /// leaves the index on division by 64, modulo 2^64.
+    pub fn grant_word(&self, index: usize) -> u64
+        requires { index < 64 }
+        ensures grant { ShowsGrant self.now index result }
+        ensures tells { TellsTurns self.now index result }
+    {
+        let past = self.serving.wrapping_sub(index as u64) % GRANTS as u64;
+        self.serving.wrapping_sub(past)
     }
 }
 
