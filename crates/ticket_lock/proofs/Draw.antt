@@ -3,7 +3,6 @@ use Rattle.std.proofs.Common.{◌≡◌, ◌≢◌, ℕ, ◌+◌, ◌%◌, ◌^�
 use Rattle.std.proofs.Common.{◌∙◌, subst}
 use Rattle.std.proofs.Common.{⊎_elim, arith, length-set}
 use Rattle.std.specs.Prelude.{slice_index}
-use Rattle.std.proofs.Math.Nat.{mod-add-mod}
 use Rattle.std.proofs.lemmas.List.{get_or-set_same, get_or-set_other}
 use mathlib.Core.Option.{some, none}
 use lib.ListN.{get_elem?}
@@ -23,6 +22,7 @@ use Rattle.ticket_lock.specs.Rule.{Every, PartStands, Stands, Ruled}
 use Rattle.ticket_lock.specs.Plays.{drawn_view, Drawn}
 use Rattle.ticket_lock.proofs.Logs.{IsOrdered-seen, IsOrdered-wider}
 use Rattle.ticket_lock.proofs.OneSeat.{own_part, stands_after}
+use Rattle.ticket_lock.proofs.Row.{WordsStand-drawn}
 
 -- the world after a draw of this seat
 abbrev pub drawn_world : LockWorld → ℕ → LockWorld
@@ -79,8 +79,7 @@ module _ {T H E : Type 0} (head : T → H) (entries : T → List E) (stamp : E �
         (drawn_view v w.next)
         (IsLawful-draw w p.number r.lawful part.exists is_idle)
         (length-set w.seats p.number (Waiting w.next))
-        (ap (λ (ws : List ℕ). set ws 0 ((slice_index ws 0 + 1) % 2 ^ 64)) r.words
-        ∙ ap (λ (n : ℕ). n ∷ w.served % 2 ^ 64 ∷ []) (mod-add-mod w.next (2 ^ 64) 1))
+        (WordsStand-drawn w (drawn_world w p.number) s.words r.words refl refl)
         (omega arith) refl (λ k. refl) refl r.ordered
         (λ j n. get_or-set_other w.seats p.number j (Waiting w.next) Idle n)
         (λ j seen n e. e)
@@ -106,7 +105,7 @@ draws head entries stamp a slots id v c p only idle s (w, log, r) deep at fits =
     w.next,
     a,
     mine.0,
-    ap (λ (ws : List ℕ). slice_index ws 0) r.words,
+    r.words.next,
     refl,
     IsOrdered-seen stamp a.first a.seats q.number q.log log w.next mine.1.seen
         (IsOrdered-wider stamp a.first a.seats log w.served w.next (omega (arith, r.lawful.counted)) r.ordered),

@@ -2,8 +2,6 @@
 use Rattle.std.proofs.Common.{◌≡◌, ◌≢◌, ℕ, ◌+◌, ◌%◌, ◌^◌, ◌<◌, List, [], ◌∷◌, ◌++◌, map, length, get_or, set, Option}
 use Rattle.std.proofs.Common.{Some, None, refl}
 use Rattle.std.proofs.Common.{sym, ap, ◌∙◌, subst, ⊎_elim, arith, length-set}
-use Rattle.std.specs.Prelude.{slice_index}
-use Rattle.std.proofs.Math.Nat.{mod-add-mod}
 use Rattle.std.proofs.lemmas.List.{get_or-set_same, get_or-set_other, append-nil}
 use Rattle.std.proofs.lemmas.Option.{same_Some}
 use mathlib.Core.Option.{some, none}
@@ -23,10 +21,12 @@ use Rattle.ticket_lock.specs.declared.board.Part.{Part}
 use Rattle.ticket_lock.specs.declared.board.View.{View}
 use Rattle.ticket_lock.specs.Rule.{head_in, owns_of, ended_by, entry_of, Extends, IsOfOthers, IsOrdered, IsJournal}
 use Rattle.ticket_lock.specs.Rule.{PartStands, Stands, Ruled}
+use Rattle.ticket_lock.specs.Row.{place_of}
 use Rattle.ticket_lock.specs.Standing.{opening_in}
 use Rattle.ticket_lock.specs.Plays.{part_left, left_view, IsAdded, MayPut, Left}
 use Rattle.ticket_lock.proofs.Logs.{Extends-self, Extends-more, IsOrdered-wider, IsOrdered-push}
 use Rattle.ticket_lock.proofs.OneSeat.{own_part, stands_after}
+use Rattle.ticket_lock.proofs.Row.{place_of-residue, WordsStand-left}
 
 -- the world after this seat has left
 abbrev pub left_world : LockWorld → ℕ → LockWorld
@@ -128,7 +128,7 @@ module _ {T H E : Type 0} (head : T → H) (entries : T → List E) (stamp : E �
   pub leave_is_the_cores : (world_after w p.number Leave ≡ Some (left_world w p.number))
       × Stands head entries stamp a (left_world w p.number) (log ++ added)
       record {
-        words = set s.words 1 ((slice_index s.words 1 + 1) % 2 ^ 64);
+        words = set s.words (place_of (t + 1)) ((t + 1) % 2 ^ 64);
         homes = set s.homes 0 (some (Some x));
         views = set s.views id (left_view v p added);
       }
@@ -140,8 +140,7 @@ module _ {T H E : Type 0} (head : T → H) (entries : T → List E) (stamp : E �
             (set s.homes 0 (some (Some x))) (left_view v p added)
             (IsLawful-leave w p.number r.lawful mine.1.exists t is_holding)
             (length-set w.seats p.number Idle)
-            (ap (λ (ws : List ℕ). set ws 1 ((slice_index ws 1 + 1) % 2 ^ 64)) r.words
-            ∙ ap (λ (n : ℕ). w.next % 2 ^ 64 ∷ n ∷ []) (mod-add-mod w.served (2 ^ 64) 1))
+            (WordsStand-left w (left_world w p.number) s.words r.words t is_served refl refl)
             refl (omega (arith, ap (λ (ps : List (Part E)). ended_by ps) only))
             (λ k. sym (ap (owns_of k) only))
             (sym (ap (λ (ps : List (Part E)). length ps) only))
@@ -158,8 +157,9 @@ module _ {T H E : Type 0} (head : T → H) (entries : T → List E) (stamp : E �
     (slots id : ℕ) (v : View H E) (p : Part E) (t : ℕ) (x : T) (only : v.parts ≡ p ∷ []) (holding : v.state ≡ Holding t)
     (may : MayPut stamp head entries v.about p t x) where
   -- what the table asks of a leave, with the value in the slot
-  leaves_with : Allows (Ruled head entries stamp a) slots id (v, (0, Some x) ∷ []) 1 (λ n. (n + 1) % 2 ^ 64)
-      (Left stamp head entries (step 0 0 0 0 none) (v, (0, Some x) ∷ []))
+  leaves_with : Allows (Ruled head entries stamp a) slots id (v, (0, Some x) ∷ []) (place_of (t + 1))
+      (λ n. (t + 1) % 2 ^ 64)
+      (λ n. Left stamp head entries (step 0 0 0 0 none) (v, (0, Some x) ∷ []) ((t + 1) % 2 ^ 64))
   leaves_with s (w, log, r) deep at fits =
       let mine = own_part head entries stamp a w log s r id v at p only in
       let more = may.1.0 in (
@@ -195,10 +195,13 @@ module _ {T H E : Type 0} (head : T → H) (entries : T → List E) (stamp : E �
             ),
       )
 
-  -- what the table asks of a leave
-  pub leaves : (c : List (ℕ × Option T)) → c ≡ (0, Some x) ∷ []
-      → Allows (Ruled head entries stamp a) slots id (v, c) 1 (λ n. (n + 1) % 2 ^ 64)
-      (Left stamp head entries (step 0 0 0 0 none) (v, c))
-  leaves c e =
-      subst (λ (d : List (ℕ × Option T)). Allows (Ruled head entries stamp a) slots id (v, d) 1 (λ n. (n + 1) % 2 ^ 64)
-      (Left stamp head entries (step 0 0 0 0 none) (v, d))) (sym e) leaves_with
+  -- what the table asks of a leave, which stores the next ticket by its residue
+  pub leaves : (c : List (ℕ × Option T)) → c ≡ (0, Some x) ∷ [] → (word new : ℕ) → word ≡ place_of new
+      → new ≡ (t + 1) % 2 ^ 64
+      → Allows (Ruled head entries stamp a) slots id (v, c) word (λ n. new)
+      (λ n. Left stamp head entries (step 0 0 0 0 none) (v, c) new)
+  leaves c e word new at is =
+      subst (λ (y : List (ℕ × Option T) × (ℕ × ℕ)).
+      Allows (Ruled head entries stamp a) slots id (v, y.0) y.1.0 (λ n. y.1.1)
+      (λ n. Left stamp head entries (step 0 0 0 0 none) (v, y.0) y.1.1))
+      (λ i. (sym e i, ((sym (place_of-residue (t + 1)) ∙ ap place_of (sym is) ∙ sym at) i, sym is i))) leaves_with

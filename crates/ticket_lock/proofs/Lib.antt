@@ -1,6 +1,8 @@
 pub mod Sums
 pub mod Logs
 pub mod Views
+pub mod Row
+pub mod Laid
 pub mod OneSeat
 pub mod Draw
 pub mod Look

@@ -14,16 +14,17 @@ use Rattle.ticket_core.specs.LockWorld.{LockWorld, state_of, world_after, ticket
 use Rattle.ticket_core.proofs.Lawful.{IsLawful-enter}
 use Rattle.ticket_core.proofs.Steps.{world_after-enter, world_after-look}
 use Rattle.ticket_core.proofs.Turns.{none_holds}
-use Rattle.ticket_core.proofs.Words.{served_by_residue}
 use Rattle.ticket_lock.specs.declared.board.About.{About}
 use Rattle.ticket_lock.specs.declared.board.Logged.{Logged}
 use Rattle.ticket_lock.specs.declared.board.Part.{Part}
 use Rattle.ticket_lock.specs.declared.board.View.{View}
 use Rattle.ticket_lock.specs.Rule.{Every, owns_of, ended_by, Extends, IsOrdered, IsJournal, PartStands, ViewStands}
 use Rattle.ticket_lock.specs.Rule.{Stands, Ruled}
+use Rattle.ticket_lock.specs.Row.{place_of, WordsStand}
 use Rattle.ticket_lock.specs.Plays.{part_with, looked_view, entered_view, Looked}
 use Rattle.ticket_lock.proofs.Logs.{Extends-self}
 use Rattle.ticket_lock.proofs.OneSeat.{own_part, stands_after}
+use Rattle.ticket_lock.proofs.Row.{place_of-residue, WordsStand-same, WordsStand-tell}
 
 -- the world after this seat has entered
 abbrev pub entered_world : LockWorld → ℕ → ℕ → LockWorld
@@ -40,34 +41,39 @@ module _ {T H E : Type 0} (head : T → H) (entries : T → List E) (stamp : E �
   is_waiting = mine.1.state_is ∙ waits
 
   -- a load leaves the words as they are
-  same_words : (i : ℕ) → set s.words i (slice_index s.words i) ≡ w.next % 2 ^ 64 ∷ w.served % 2 ^ 64 ∷ []
-  same_words i = set-get_or s.words i 0 ∙ r.words
+  same_words : WordsStand w (set s.words (place_of t) (slice_index s.words (place_of t)))
+  same_words = subst (WordsStand w) (sym (set-get_or s.words (place_of t) 0)) r.words
 
-  found_is : slice_index s.words 1 ≡ w.served % 2 ^ 64
-  found_is = ap (λ (ws : List ℕ). slice_index ws 1) r.words
+  -- the seat finds its ticket exactly where it is served
+  told : (slice_index s.words (place_of t) ≡ t % 2 ^ 64 → t ≡ w.served)
+      × (t ≡ w.served → slice_index s.words (place_of t) ≡ t % 2 ^ 64)
+  told = WordsStand-tell w s.words r.words r.lawful (omega (arith, r.sized, r.few)) p.number t is_waiting
 
   -- the ticket in flight with the residue found is the served one
-  pub is_served : slice_index s.words 1 ≡ t % 2 ^ 64 → t ≡ w.served
-  is_served same = served_by_residue w p.number r.lawful (omega (arith, r.sized, r.few)) t (ap ticket_of is_waiting)
-      (sym same ∙ found_is)
+  pub is_served : slice_index s.words (place_of t) ≡ t % 2 ^ 64 → t ≡ w.served
+  is_served = told.0
 
   -- with another residue found, an earlier ticket is served
-  pub is_later : ¬ (slice_index s.words 1 ≡ t % 2 ^ 64) → w.served < t
+  pub is_later : ¬ (slice_index s.words (place_of t) ≡ t % 2 ^ 64) → w.served < t
   is_later other =
       let from : w.served ≤ t = r.lawful.from_served p.number t (ap ticket_of is_waiting) in
       ⊎_elim
-      (λ (e : t ≡ w.served). absurd (other (found_is ∙ ap (λ (n : ℕ). n % 2 ^ 64) (sym e))))
+      (λ (e : t ≡ w.served). absurd (other (told.1 e)))
       (λ (n : t ≢ w.served). omega arith)
       (cases_eq t w.served)
 
   -- the table after the look stands for the core's world after it
-  pub look_is_the_cores : ¬ (slice_index s.words 1 ≡ t % 2 ^ 64) → (world_after w p.number Look ≡ Some w)
+  pub look_is_the_cores : ¬ (slice_index s.words (place_of t) ≡ t % 2 ^ 64) → (world_after w p.number Look ≡ Some w)
       × Stands head entries stamp a w log
-      record { words = set s.words 1 (slice_index s.words 1); homes = s.homes; views = set s.views id (looked_view v) }
+      record {
+        words = set s.words (place_of t) (slice_index s.words (place_of t));
+        homes = s.homes;
+        views = set s.views id (looked_view v);
+      }
   look_is_the_cores other = (
     world_after-look w p.number mine.1.exists t is_waiting (is_later other),
     stands_after head entries stamp a w log s r id v at p only w log _ s.homes (looked_view v)
-        r.lawful refl (same_words 1) refl refl (λ k. refl) refl r.ordered
+        r.lawful refl (WordsStand-same w _ _ same_words refl refl) refl refl (λ k. refl) refl r.ordered
         (λ j n. refl) (λ j seen n e. e) (λ j u n h. refl) (r.views id v at) r.home r.out,
   )
 
@@ -95,7 +101,7 @@ module _ {T H E : Type 0} (head : T → H) (entries : T → List E) (stamp : E �
         → (world_after w p.number Enter ≡ Some (entered_world w p.number t))
         × Stands head entries stamp a (entered_world w p.number t) log
         record {
-          words = set s.words 1 (slice_index s.words 1);
+          words = set s.words (place_of t) (slice_index s.words (place_of t));
           homes = set s.homes 0 none;
           views = set s.views id (entered_view v p t more);
         }
@@ -107,7 +113,8 @@ module _ {T H E : Type 0} (head : T → H) (entries : T → List E) (stamp : E �
               (entered_view v p t more)
               (IsLawful-enter w p.number r.lawful mine.1.exists t is_waiting served)
               (length-set w.seats p.number (Holding t))
-              (same_words 1) refl (ap (λ (ps : List (Part E)). w.served + ended_by ps) only)
+              (WordsStand-same w _ _ same_words refl refl) refl
+              (ap (λ (ps : List (Part E)). w.served + ended_by ps) only)
               (λ k. sym (ap (owns_of k) only))
               (sym (ap (λ (ps : List (Part E)). length ps) only))
               r.ordered
@@ -136,10 +143,10 @@ has_entered head entries stamp before after p t found only waits none_held same 
 pub looks : {T H E : Type 0} (head : T → H) (entries : T → List E) (stamp : E → Stamp) (a : About H E)
     (slots id : ℕ) (v : View H E) (c : List (ℕ × Option T)) (p : Part E) (t : ℕ) → v.parts ≡ p ∷ []
     → v.state ≡ Waiting t
-    → Allows (Ruled head entries stamp a) slots id (v, c) 1 (λ n. n)
+    → Allows (Ruled head entries stamp a) slots id (v, c) (place_of t) (λ n. n)
     (Looked stamp head entries (step 0 0 0 0 none) (v, c))
 looks {T} {H} {E} head entries stamp a slots id v c p t only waits s (w, log, r) deep at fits = ⊎_elim
-    (λ (found : slice_index s.words 1 ≡ t % 2 ^ 64).
+    (λ (found : slice_index s.words (place_of t) ≡ t % 2 ^ 64).
     let served = is_served head entries stamp a w log s r id v at p only t waits found in
     let home = at_home head entries stamp a w log s r id v at p only t waits served in
     let mine = own_part head entries stamp a w log s r id v at p only in
@@ -173,7 +180,7 @@ looks {T} {H} {E} head entries stamp a slots id v c p t only waits s (w, log, r)
             (λ n. absurd (n (found ∙ ap (λ (k : ℕ). k % 2 ^ 64) same_t))),
           ),
     ))
-    (λ (other : ¬ (slice_index s.words 1 ≡ t % 2 ^ 64)). (
+    (λ (other : ¬ (slice_index s.words (place_of t) ≡ t % 2 ^ 64)). (
       looked_view v,
       keeps,
       tt,
@@ -182,4 +189,16 @@ looks {T} {H} {E} head entries stamp a slots id v c p t only waits s (w, log, r)
           let same_t : t ≡ u = cc in
           ((λ e. absurd (other (e ∙ ap (λ (k : ℕ). k % 2 ^ 64) (sym same_t)))), (λ n. refl)),
     ))
-    (cases_eq (slice_index s.words 1) (t % 2 ^ 64))
+    (cases_eq (slice_index s.words (place_of t)) (t % 2 ^ 64))
+
+-- the same of a load of the word by the ticket's residue
+pub looks_at : {T H E : Type 0} (head : T → H) (entries : T → List E) (stamp : E → Stamp) (a : About H E)
+    (slots id : ℕ) (v : View H E) (c : List (ℕ × Option T)) (p : Part E) (t word residue : ℕ) → v.parts ≡ p ∷ []
+    → v.state ≡ Waiting t → residue ≡ t % 2 ^ 64 → word ≡ place_of residue
+    → Allows (Ruled head entries stamp a) slots id (v, c) word (λ n. n)
+    (Looked stamp head entries (step 0 0 0 0 none) (v, c))
+looks_at head entries stamp a slots id v c p t word residue only waits same at = subst
+    (λ (i : ℕ). Allows (Ruled head entries stamp a) slots id (v, c) i (λ n. n)
+    (Looked stamp head entries (step 0 0 0 0 none) (v, c)))
+    (sym (place_of-residue t) ∙ ap place_of (sym same) ∙ sym at)
+    (looks head entries stamp a slots id v c p t only waits)

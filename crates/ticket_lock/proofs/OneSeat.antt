@@ -1,5 +1,5 @@
 -- The table after a step of one seat: what each step owes, and what the others keep.
-use Rattle.std.proofs.Common.{◌≡◌, ◌≢◌, ℕ, ◌+◌, ◌%◌, ◌^◌, ◌≤◌, List, [], ◌∷◌, length, set, Option, Some, ap, ◌∙◌, subst}
+use Rattle.std.proofs.Common.{◌≡◌, ◌≢◌, ℕ, ◌+◌, ◌≤◌, List, [], ◌∷◌, length, set, Option, Some, ap, ◌∙◌, subst}
 use Rattle.std.proofs.Common.{arith}
 use Rattle.std.specs.List.{sum_by}
 use Rattle.std.proofs.lemmas.Bool.Decides.{nat_tests}
@@ -14,6 +14,7 @@ use Rattle.ticket_lock.specs.declared.board.Logged.{Logged}
 use Rattle.ticket_lock.specs.declared.board.Part.{Part}
 use Rattle.ticket_lock.specs.declared.board.View.{View}
 use Rattle.ticket_lock.specs.Rule.{Every, owns_of, owns, width, draws_of, leaves_of, once_below, Extends, IsOrdered}
+use Rattle.ticket_lock.specs.Row.{WordsStand}
 use Rattle.ticket_lock.specs.Rule.{IsJournal, PartStands, ViewStands, Stands}
 use Rattle.ticket_lock.proofs.Sums.{sum_by-replaced}
 use Rattle.ticket_lock.proofs.Views.{views_stay}
@@ -39,7 +40,7 @@ module _ {T H E : Type 0} (head : T → H) (entries : T → List E) (stamp : E �
   pub stands_after : (after : LockWorld) (grown : List (Logged E)) (words : List ℕ)
       (homes : List (maybe.Option (Option T))) (now : View H E)
       → IsLawful after → length after.seats ≡ length w.seats
-      → words ≡ after.next % 2 ^ 64 ∷ after.served % 2 ^ 64 ∷ []
+      → WordsStand after words
       → after.next + v.draws ≡ w.next + now.draws → after.served + leaves_of v ≡ w.served + leaves_of now
       → ((k : ℕ) → owns k now ≡ owns k v) → width now ≡ width v
       → IsOrdered stamp a.first a.seats grown after.served

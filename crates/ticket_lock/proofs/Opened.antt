@@ -15,6 +15,7 @@ use Rattle.ticket_lock.specs.declared.board.View.{View}
 use Rattle.ticket_lock.specs.Rule.{head_in, about_of, Every, owns_of, once_below, new_parts, first_view, PartStands}
 use Rattle.ticket_lock.specs.Rule.{ViewStands, Ruled}
 use Rattle.ticket_lock.specs.declared.board.Key.{Key}
+use Rattle.ticket_lock.specs.Row.{WordsStand}
 use Rattle.ticket_lock.proofs.Parts.{new_parts-owned, ended_by-new_parts, length-new_parts}
 
 module _ {T H E : Type 0} (head : T → H) (entries : T → List E) (stamp : E → Stamp) (a : About H E) where
@@ -37,16 +38,17 @@ module _ {T H E : Type 0} (head : T → H) (entries : T → List E) (stamp : E �
   )
 
   -- the opened table stands for the opened world
-  pub opens : (x : T) → a.seats ≤ 64 → a.first < 2 ^ 64 → head_in (Some a) ≡ Some (head x) → entries x ≡ a.opening
-      → Ruled head entries stamp a (opening (a.first ∷ a.first ∷ []) (Some x ∷ []) (first_view a))
-  opens x few fits head_is opening_is = (
+  pub opens : (x : T) (words : List ℕ) → WordsStand (opened_world a.seats a.first) words → a.seats ≤ 64
+      → head_in (Some a) ≡ Some (head x) → entries x ≡ a.opening
+      → Ruled head entries stamp a (opening words (Some x ∷ []) (first_view a))
+  opens x words row few head_is opening_is = (
     opened_world a.seats a.first,
     [],
     record {
       lawful = IsLawful-opened_world a.seats a.first;
       sized = length-replicate a.seats Idle;
       few = few;
-      words = let same : a.first ≡ a.first % 2 ^ 64 = omega arith in ap (λ (n : ℕ). n ∷ n ∷ []) same;
+      words = row;
       drawn = omega arith;
       left = omega (arith, ended_by-new_parts E 0 a.seats);
       owned = λ k. let count : 0 + a.seats ≡ a.seats = omega arith in
@@ -71,12 +73,13 @@ module _ {T H E : Type 0} (head : T → H) (entries : T → List E) (stamp : E �
 
 -- the table of a lock with this key and this value stands for the opened world
 pub opens_with : {T H E : Type 0} (head : T → H) (entries : T → List E) (stamp : E → Stamp) (key : Key T) (x : T)
-    (slots : List (Option T))
-    → key.value.value ≡ x → key.seats ≤ 64 → key.first < 2 ^ 64 → slots ≡ Some x ∷ []
+    (words : List ℕ) (slots : List (Option T))
+    → key.value.value ≡ x → WordsStand (opened_world key.seats key.first) words → key.seats ≤ 64
+    → slots ≡ Some x ∷ []
     → Ruled head entries stamp (about_of head entries key)
-    (opening (key.first ∷ key.first ∷ []) slots (first_view (about_of head entries key)))
-opens_with head entries stamp key x slots is few fits there =
+    (opening words slots (first_view (about_of head entries key)))
+opens_with head entries stamp key x words slots is row few there =
     let a = about_of head entries key in
     subst (λ (xs : List (Option _)). Ruled head entries stamp a
-    (opening (key.first ∷ key.first ∷ []) xs (first_view a))) (sym there)
-    (opens head entries stamp a x few fits (ap (λ y. Some (head y)) is) (ap entries (sym is)))
+    (opening words xs (first_view a))) (sym there)
+    (opens head entries stamp a x words row few (ap (λ y. Some (head y)) is) (ap entries (sym is)))

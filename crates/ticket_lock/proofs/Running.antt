@@ -20,6 +20,7 @@ use Rattle.ticket_lock.specs.declared.board.Logged.{Logged}
 use Rattle.ticket_lock.specs.declared.board.Part.{Part}
 use Rattle.ticket_lock.specs.declared.board.View.{View}
 use Rattle.ticket_lock.specs.Rule.{owns, leaves_of, ended_by, PartStands, Stands}
+use Rattle.ticket_lock.specs.Row.{place_of}
 use Rattle.ticket_lock.specs.Plays.{part_with, part_left, drawn_view, looked_view, entered_view, left_view}
 use Rattle.ticket_lock.specs.Plays.{Drawn, Looked, Left}
 use Rattle.ticket_lock.specs.Laws.{StepsTo}
@@ -58,7 +59,7 @@ module _ {T H E : Type 0} (head : T → H) (entries : T → List E) (stamp : E �
       state_here head entries stamp a w now log grown s after r kept id v u p p to.mine only only refl views in
       let from : now.served ≤ t = kept.lawful.from_served p.number t (ap ticket_of waits) in
       let below : t < now.next = kept.lawful.below_next p.number t (ap ticket_of waits) in
-      let residue : t % 2 ^ 64 ≡ w.next % 2 ^ 64 = sym told.3 ∙ ap (λ (ws : List ℕ). slice_index ws 0) r.words in
+      let residue : t % 2 ^ 64 ≡ w.next % 2 ^ 64 = sym told.3 ∙ r.words.next in
       let is : t ≡ w.next = one_turn t w.next (2 ^ 64) (omega arith)
       (omega (arith, r.lawful.counted, count_by-le-length has_ticket w.seats, r.sized, r.few)) residue in
       world_after-draw w p.number mine.1.exists (mine.1.state_is ∙ idle)
@@ -66,15 +67,17 @@ module _ {T H E : Type 0} (head : T → H) (entries : T → List E) (stamp : E �
       w.served (w.next + 1) (Waiting w.next) (omega arith) (omega arith) (ap Waiting is))
 
   module _ (t : ℕ) (waits : v.state ≡ Waiting t)
-      (to : StepsTo holds id (v, []) 1 (λ n. n) (Looked stamp head entries (step 1 1 0 0 none) (v, [])) s after) where
+      (to : StepsTo holds id (v, []) (place_of t) (λ n. n)
+      (Looked stamp head entries (step 1 (place_of t) 0 0 none) (v, [])) s after) where
     mine : (v.about ≡ Some a) × PartStands head entries stamp a w log v.state p
     mine = own_part head entries stamp a w log s r id v to.mine p only
 
     -- a step by the play of a look that finds another ticket is the core's look
-    pub look_runs : ¬ (slice_index s.words 1 ≡ t % 2 ^ 64) → world_after w p.number Look ≡ Some now
+    pub look_runs : ¬ (slice_index s.words (place_of t) ≡ t % 2 ^ 64) → world_after w p.number Look ≡ Some now
     look_runs other =
         let u = looked_view v in
-        let views = views_after [] 1 (λ n. n) (Looked stamp head entries (step 1 1 0 0 none) (v, [])) to u []
+        let views = views_after [] (place_of t) (λ n. n)
+        (Looked stamp head entries (step 1 (place_of t) 0 0 none) (v, [])) to u []
         ((to.is_told p t only waits).1 other) in
         let next : now.next + v.draws ≡ w.next + v.draws =
         next_moved head entries stamp a w now log grown s after r kept id v u p p to.mine only only refl views in
@@ -89,12 +92,13 @@ module _ {T H E : Type 0} (head : T → H) (entries : T → List E) (stamp : E �
         w.served w.next (Waiting t) (omega arith) (omega arith) waits)
 
     -- one that finds its own is the core's entry
-    pub enter_runs : slice_index s.words 1 ≡ t % 2 ^ 64 → world_after w p.number Enter ≡ Some now
+    pub enter_runs : slice_index s.words (place_of t) ≡ t % 2 ^ 64 → world_after w p.number Enter ≡ Some now
     enter_runs own =
         let told = (to.is_told p t only waits).0 own in
         let u = entered_view v p t told.2 in
         let q = part_with p told.2 in
-        let views = views_after [] 1 (λ n. n) (Looked stamp head entries (step 1 1 0 0 none) (v, [])) to u
+        let views = views_after [] (place_of t) (λ n. n)
+        (Looked stamp head entries (step 1 (place_of t) 0 0 none) (v, [])) to u
         ((0, Some told.3) ∷ []) told.4 in
         let next : now.next + v.draws ≡ w.next + v.draws =
         next_moved head entries stamp a w now log grown s after r kept id v u p q to.mine only refl refl views in
@@ -108,15 +112,17 @@ module _ {T H E : Type 0} (head : T → H) (entries : T → List E) (stamp : E �
 
   -- a step by the play of a leave is the core's leave
   pub leave_runs : (t : ℕ) (x : T) → v.state ≡ Holding t
-      → StepsTo holds id (v, (0, Some x) ∷ []) 1 (λ n. (n + 1) % 2 ^ 64)
-      (Left stamp head entries (step 1 1 1 0 none) (v, (0, Some x) ∷ [])) s after
+      → StepsTo holds id (v, (0, Some x) ∷ []) (place_of (t + 1)) (λ n. (t + 1) % 2 ^ 64)
+      (λ n. Left stamp head entries (step 1 (place_of (t + 1)) ((t + 1) % 2 ^ 64) 0 none) (v, (0, Some x) ∷ [])
+      ((t + 1) % 2 ^ 64)) s after
       → world_after w p.number Leave ≡ Some now
   leave_runs t x holding to =
       let told = to.is_told p t x only holding refl in
       let u = left_view v p told.2 in
       let q = part_left p told.2 in
-      let views = views_after ((0, Some x) ∷ []) 1 (λ n. (n + 1) % 2 ^ 64)
-      (Left stamp head entries (step 1 1 1 0 none) (v, (0, Some x) ∷ [])) to u [] told.3 in
+      let views = views_after ((0, Some x) ∷ []) (place_of (t + 1)) (λ n. (t + 1) % 2 ^ 64)
+      (λ n. Left stamp head entries (step 1 (place_of (t + 1)) ((t + 1) % 2 ^ 64) 0 none) (v, (0, Some x) ∷ [])
+      ((t + 1) % 2 ^ 64)) to u [] told.3 in
       let mine = own_part head entries stamp a w log s r id v to.mine p only in
       let next : now.next + v.draws ≡ w.next + v.draws =
       next_moved head entries stamp a w now log grown s after r kept id v u p q to.mine only refl refl views in

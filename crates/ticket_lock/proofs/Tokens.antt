@@ -1,6 +1,7 @@
 -- From what callers see of a token to what the table asks and tells.
 use Rattle.std.proofs.Common.{◌≡◌, ℕ, ◌+◌, ◌%◌, ◌^◌, List, [], ◌∷◌, ◌++◌, map, Option, Some, refl, sym, ap, ◌∙◌, subst}
 use Rattle.std.proofs.Common.{⊎_elim, inl, inr}
+use Rattle.std.proofs.Math.Nat.{mod-add-mod}
 use Rattle.std.proofs.lemmas.List.{append-nil, append_assoc, map-append}
 use Rattle.atomic_table.specs.Table.{Me, step, Allows}
 use Rattle.atomic_table.specs.Seated.{TableId}
@@ -17,6 +18,7 @@ use Rattle.ticket_lock.specs.Standing.{log_in, turns_in, standing_of}
 use Rattle.ticket_lock.specs.Plays.{part_left, left_view, IsAdded, MayPut, Left}
 use Rattle.ticket_lock.specs.Calls.{MayLeave, Leaves}
 use Rattle.ticket_lock.specs.Tokens.{IsIdle, IsHolding}
+use Rattle.ticket_lock.specs.Row.{place_of}
 use Rattle.ticket_lock.proofs.Leave.{leaves}
 
 module _ {T H E : Type 0} (head : T → H) (entries : T → List E) (stamp : E → Stamp) (table : TableId) (v : View H E)
@@ -82,17 +84,18 @@ module _ {T H E : Type 0} (head : T → H) (entries : T → List E) (stamp : E �
     (held : Standing H E) (held_is : standing_of table v ≡ held) (x : T) (may : MayLeave stamp head entries held x)
     (now : Me (Option T) (View H E)) (view : now.0 ≡ v) (put : now.1 ≡ (0, Some x) ∷ []) where
   -- the holder may leave with the value in the slot
-  pub leaves_as : (a : About H E) (slots id : ℕ)
-      → Allows (Ruled head entries stamp a) slots id now 1 (λ n. (n + 1) % 2 ^ 64)
-      (Left stamp head entries (step 0 0 0 0 none) now)
-  leaves_as a slots id = subst
-      (λ (m : Me (Option T) (View H E)). Allows (Ruled head entries stamp a) slots id m 1 (λ n. (n + 1) % 2 ^ 64)
-      (Left stamp head entries (step 0 0 0 0 none) m))
+  pub leaves_as : (a : About H E) (slots id word new : ℕ) → word ≡ place_of new → new ≡ (residue + 1) % 2 ^ 64
+      → Allows (Ruled head entries stamp a) slots id now word (λ n. new)
+      (λ n. Left stamp head entries (step 0 0 0 0 none) now new)
+  leaves_as a slots id word new at is = subst
+      (λ (m : Me (Option T) (View H E)). Allows (Ruled head entries stamp a) slots id m word (λ n. new)
+      (λ n. Left stamp head entries (step 0 0 0 0 none) m new))
       (λ i. (sym view i, now.1))
       (leaves head entries stamp a slots id v holds.0.0 holds.1.0 x holds.0.1 holds.1.1
       (MayLeave-put head entries stamp table v holds.0.0 holds.0.1 holds.1.0 holds.1.1 x
       (subst (λ (h : Standing H E). MayLeave stamp head entries h x) (sym held_is) may))
-      now.1 put)
+      now.1 put word new at
+      (is ∙ ap (λ (n : ℕ). (n + 1) % 2 ^ 64) holds.1.2 ∙ mod-add-mod holds.1.0 (2 ^ 64) 1))
 
   module _ (found : ℕ) (after : Me (Option T) (View H E))
       (told : Left stamp head entries (step 0 0 0 0 none) now found after) where

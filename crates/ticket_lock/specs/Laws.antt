@@ -13,6 +13,7 @@ use Rattle.ticket_lock.specs.declared.board.About.{About}
 use Rattle.ticket_lock.specs.declared.board.Logged.{Logged}
 use Rattle.ticket_lock.specs.declared.board.Part.{Part}
 use Rattle.ticket_lock.specs.declared.board.View.{View}
+use Rattle.ticket_lock.specs.Row.{place_of}
 use Rattle.ticket_lock.specs.Rule.{IsJournal, Stands}
 use Rattle.ticket_lock.specs.Plays.{drawn_view, looked_view, entered_view, left_view, IsAdded, MayPut}
 
@@ -55,20 +56,21 @@ module _ {T H E : Type 0} (head : T → H) (entries : T → List E) (stamp : E �
         → (after : LockWorld) × (world_after w p.number Draw ≡ Some after)
         × Stands head entries stamp a after log
         (stepped s 0 ((slice_index s.words 0 + 1) % 2 ^ 64) id [] (drawn_view v w.next) keeps)
-    pub look : (t : ℕ) → v.state ≡ Waiting t → ¬ (slice_index s.words 1 ≡ t % 2 ^ 64)
+    pub look : (t : ℕ) → v.state ≡ Waiting t → ¬ (slice_index s.words (place_of t) ≡ t % 2 ^ 64)
         → (world_after w p.number Look ≡ Some w)
-        × Stands head entries stamp a w log (stepped s 1 (slice_index s.words 1) id [] (looked_view v) keeps)
-    pub enter : (t : ℕ) → v.state ≡ Waiting t → slice_index s.words 1 ≡ t % 2 ^ 64
+        × Stands head entries stamp a w log
+        (stepped s (place_of t) (slice_index s.words (place_of t)) id [] (looked_view v) keeps)
+    pub enter : (t : ℕ) → v.state ≡ Waiting t → slice_index s.words (place_of t) ≡ t % 2 ^ 64
         → (more : List (Logged E)) × (log ≡ p.log ++ more) × (after : LockWorld)
         × (world_after w p.number Enter ≡ Some after)
         × (x : T) × (s.homes ≡ some (Some x) ∷ [])
         × Stands head entries stamp a after log
-        (stepped s 1 (slice_index s.words 1) id [] (entered_view v p t more) (takes 0 (Some x)))
+        (stepped s (place_of t) (slice_index s.words (place_of t)) id [] (entered_view v p t more) (takes 0 (Some x)))
     pub leave : (t : ℕ) (x : T) → v.state ≡ Holding t → MayPut stamp head entries v.about p t x
         → (more : List (Logged E)) × IsAdded stamp p.number t more × (after : LockWorld)
         × (world_after w p.number Leave ≡ Some after)
         × Stands head entries stamp a after (log ++ more)
-        (stepped s 1 ((slice_index s.words 1 + 1) % 2 ^ 64) id ((0, Some x) ∷ []) (left_view v p more) gives)
+        (stepped s (place_of (t + 1)) ((t + 1) % 2 ^ 64) id ((0, Some x) ∷ []) (left_view v p more) gives)
 
   -- a step from the first state to the second is this event of this seat in the core, whatever worlds they stand for
   abbrev pub IsEvent : About H E → ℕ → Step → State (Option T) (View H E) → State (Option T) (View H E) → Type 0
@@ -77,8 +79,8 @@ module _ {T H E : Type 0} (head : T → H) (entries : T → List E) (stamp : E �
       → Stands head entries stamp a now grown after → world_after w number event ≡ Some now
 
   -- each step that a table with this rule lets a seat with one number take by these plays is its event of the core:
-  -- the fetch-and-add on `next` its draw, the load of `serving` its look or its entry, the fetch-and-add on `serving`
-  -- its leave
+  -- the fetch-and-add on `next` its draw, the load of its ticket's word its look or its entry, the store of the next
+  -- ticket into that one's word its leave
   pub record RunsTheCore (a : About H E) (holds : State (Option T) (View H E) → Type 0)
       (drawn looked left : table.Step (Option T) → Me (Option T) (View H E) → ℕ → Me (Option T) (View H E) → Type 0)
       : Type 0 where
@@ -87,14 +89,17 @@ module _ {T H E : Type 0} (head : T → H) (entries : T → List E) (stamp : E �
         → StepsTo holds id (v, []) 0 (λ n. (n + 1) % 2 ^ 64) (drawn (step 1 0 1 0 none) (v, [])) s after
         → IsEvent a p.number Draw s after
     pub look : (id t : ℕ) (v : View H E) (p : Part E) (s after : State (Option T) (View H E)) → v.parts ≡ p ∷ []
-        → v.state ≡ Waiting t → StepsTo holds id (v, []) 1 (λ n. n) (looked (step 1 1 0 0 none) (v, [])) s after
-        → ¬ (slice_index s.words 1 ≡ t % 2 ^ 64) → IsEvent a p.number Look s after
+        → v.state ≡ Waiting t
+        → StepsTo holds id (v, []) (place_of t) (λ n. n) (looked (step 1 (place_of t) 0 0 none) (v, [])) s after
+        → ¬ (slice_index s.words (place_of t) ≡ t % 2 ^ 64) → IsEvent a p.number Look s after
     pub enter : (id t : ℕ) (v : View H E) (p : Part E) (s after : State (Option T) (View H E)) → v.parts ≡ p ∷ []
-        → v.state ≡ Waiting t → StepsTo holds id (v, []) 1 (λ n. n) (looked (step 1 1 0 0 none) (v, [])) s after
-        → slice_index s.words 1 ≡ t % 2 ^ 64 → IsEvent a p.number Enter s after
+        → v.state ≡ Waiting t
+        → StepsTo holds id (v, []) (place_of t) (λ n. n) (looked (step 1 (place_of t) 0 0 none) (v, [])) s after
+        → slice_index s.words (place_of t) ≡ t % 2 ^ 64 → IsEvent a p.number Enter s after
     pub leave : (id t : ℕ) (v : View H E) (p : Part E) (x : T) (s after : State (Option T) (View H E))
         → v.parts ≡ p ∷ []
         → v.state ≡ Holding t
-        → StepsTo holds id (v, (0, Some x) ∷ []) 1 (λ n. (n + 1) % 2 ^ 64)
-        (left (step 1 1 1 0 none) (v, (0, Some x) ∷ [])) s after
+        → StepsTo holds id (v, (0, Some x) ∷ []) (place_of (t + 1)) (λ n. (t + 1) % 2 ^ 64)
+        (λ n. left (step 1 (place_of (t + 1)) ((t + 1) % 2 ^ 64) 0 none) (v, (0, Some x) ∷ []) ((t + 1) % 2 ^ 64))
+        s after
         → IsEvent a p.number Leave s after

@@ -1,3 +1,4 @@
+pub mod Row
 pub mod Rule
 pub mod Standing
 pub mod Plays

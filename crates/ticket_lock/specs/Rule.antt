@@ -14,6 +14,7 @@ use Rattle.ticket_lock.specs.declared.board.Logged.{Logged}
 use Rattle.ticket_lock.specs.declared.board.Part.{Part}
 use Rattle.ticket_lock.specs.declared.board.View.{View}
 use Rattle.ticket_lock.specs.declared.board.Key.{Key}
+use Rattle.ticket_lock.specs.Row.{WordsStand}
 
 -- the fact holds of each member
 abbrev pub Every : {X : Type 0} → (X → Type 0) → List X → Type 0
@@ -130,7 +131,7 @@ module _ {T H E : Type 0} (head : T → H) (entries : T → List E) where
       pub lawful : IsLawful w
       pub sized : length w.seats ≡ a.seats
       pub few : a.seats ≤ 64
-      pub words : s.words ≡ w.next % 2 ^ 64 ∷ w.served % 2 ^ 64 ∷ []
+      pub words : WordsStand w s.words
       pub drawn : w.next ≡ a.first + sum_by draws_of s.views
       pub left : w.served ≡ a.first + sum_by leaves_of s.views
       pub owned : (k : ℕ) → sum_by (owns k) s.views ≡ once_below k a.seats

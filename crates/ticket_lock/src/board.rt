@@ -1,12 +1,16 @@
 //! The table that the seats of a lock share, and what a seat at it knows.
-//! Word 0 is the ticket that is drawn next, word 1 the one that is served, both modulo 2^64, and the slot
-//! has the value while no seat holds.
+//! Word 0 is the ticket that is drawn next, and behind it lies the row of words by which the lock grants;
+//! the slot has the value while no seat holds.
+ghost use Rattle.std.specs.Prelude.{◌≡◌, ℕ};
+ghost use Rattle.ticket_core.specs.LockWorld.{opened_world};
+ghost use Rattle.ticket_lock.specs.Row.{place_of, WordsStand};
+
 use crate::journal::Journal;
 use atomic_table::{Seat, Shared, Table, TableRule};
 use std::alloc::Global;
 use std::collections::LinkedList;
 use std::snapshot::Snapshot;
-use ticket_core::SeatState;
+use ticket_core::{GRANTS, SeatState, World};
 
 /// What a lock was opened about. No value of it is made.
 pub struct About<H, E> {
@@ -52,6 +56,36 @@ pub struct Key<T> {
     pub value: Snapshot<T>,
     pub seats: usize,
     pub first: u64,
+}
+
+/// How many words a cache line has. Each word that seats wait on has a line of its own: a store to one
+/// takes it from the one seat that looks at it.
+const LINE: usize = 8;
+
+/// How many words the table has: a line for the ticket drawn next, and one for each word of the row.
+pub const WORDS: usize = 520;
+
+/// The word that has the ticket drawn next.
+pub const NEXT: usize = 0;
+
+/// The word that a seat with this ticket waits on.
+pub fn place_of(ticket: u64) -> usize
+    ensures place { result ≡ place_of ticket }
+{
+    ((ticket % GRANTS as u64) as usize + 1) * LINE
+}
+
+/// The words of a lock just opened, with this first ticket: the row has what the core's world grants.
+pub fn opening_words(first: u64) -> [u64; WORDS]
+    ensures words { (seats : ℕ) → WordsStand (opened_world seats first) result }
+{
+    let opened = World::open(1, first);
+    let mut words = [0; WORDS];
+    words[NEXT] = first;
+    for index in 0..GRANTS {
+        words[place_of(index as u64)] = opened.grant_word(index);
+    }
+    words
 }
 
 pub struct LockRule;

@@ -30,8 +30,8 @@ pub fn one_holder<T: Journal>()
 {}
 
 /// Each step of a seat is one event of the lock's core, `ticket_core`: the fetch-and-add on `next` its draw,
-/// the load of `serving` its look or its entry, the fetch-and-add on `serving` its leave. The event can be
-/// taken, and whatever step the table of a running lock allows there is that event.
+/// the load of its ticket's word its look or its entry, the store of the next ticket its leave. The event can
+/// be taken, and whatever step the table of a running lock allows there is that event.
 pub fn follows_the_core<T: Journal>()
     ensures steps { (a : About T.Head T.Entry) (w : LockWorld) (log : List (Logged T.Entry))
         (s : State (Option T) (View T.Head T.Entry)) (id : ℕ) (v : View T.Head T.Entry) (p : Part T.Entry)

@@ -2,7 +2,7 @@
 ghost use Rattle.std.specs.Prelude.{◌≡◌, ◌+◌, ℕ, Option, [], ◌∷◌, IfOk, IfErr};
 ghost use Rattle.ticket_lock.specs.Calls.{Draws, Enters, MayLeave, Leaves};
 
-use crate::board::{Board, Place, Steps};
+use crate::board::{Board, NEXT, Place, Steps, place_of};
 use crate::journal::Journal;
 use crate::plays::{Draw, Leave, Look};
 use crate::seat::{Held, Seat, Ticket};
@@ -28,7 +28,7 @@ impl<T: Journal> Model for TicketLock<T> {
       about = Some (about_of T.head T.entries l.table.shared.key);
     } };
 
-    ghost invariant = { λ l. (l.table.shared.table_id.words ≡ 2)
+    ghost invariant = { λ l. (l.table.shared.table_id.words ≡ 520)
         × (l.table.shared.table_id.slots ≡ 1) × (1 ≤ l.table.shared.key.seats) };
 }
 
@@ -65,10 +65,10 @@ impl<T: Journal> TicketLock<T> {
         ensures drawn { Draws T.stamp seat result }
     {
         let Seat { number, mut place } = seat;
-        let ticket = self.table.shared.fetch_add::<Draw>(&mut place, 0, 1);
+        let residue = self.table.shared.fetch_add::<Draw>(&mut place, NEXT, 1);
         Ticket {
             number,
-            ticket,
+            residue,
             place,
         }
     }
@@ -81,15 +81,15 @@ impl<T: Journal> TicketLock<T> {
     {
         let Ticket {
             number,
-            ticket: own,
+            residue,
             mut place,
         } = ticket;
         let steps = &self.table.shared;
-        let served = steps.load::<Look>(&mut place, 1);
-        if served != own {
+        let granted = steps.load::<Look>(&mut place, place_of(residue));
+        if granted != residue {
             return Err(Ticket {
                 number,
-                ticket: own,
+                residue,
                 place,
             });
         }
@@ -97,7 +97,7 @@ impl<T: Journal> TicketLock<T> {
         let Some(value) = found else { unreachable!() };
         let held = Held {
             number,
-            ticket: own,
+            residue,
             place,
         };
         Ok((held, value))
@@ -130,13 +130,14 @@ impl<T: Journal> TicketLock<T> {
     {
         let Held {
             number,
-            ticket: _,
+            residue,
             mut place,
         } = held;
         let steps = &self.table.shared;
         let before = exchange(steps, &mut place, Some(value));
         let None = before else { unreachable!() };
-        steps.fetch_add::<Leave>(&mut place, 1, 1);
+        let next = residue.wrapping_add(1);
+        steps.store::<Leave>(&mut place, place_of(next), next);
         Seat { number, place }
     }
 }

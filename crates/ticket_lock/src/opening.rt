@@ -7,7 +7,7 @@ ghost use Rattle.ticket_lock.specs.declared.fault.LockFault.TheVariants.{SeatCou
 ghost use Rattle.ticket_lock.specs.Rule.{about_of, first_view};
 ghost use Rattle.ticket_lock.specs.Calls.{Opens, new_standing};
 
-use crate::board::{Board, Key, Place, Steps};
+use crate::board::{Board, Key, Place, Steps, opening_words};
 use crate::fault::LockFault;
 use crate::journal::Journal;
 use crate::lock::TicketLock;
@@ -26,7 +26,7 @@ fn lay<T: Journal>(
     first: u64,
 ) -> Result<(Board<T>, Place<T>), T>
     requires few { seats ≤ MAX_SEATS }
-    ensures table { IfOk result (λ r. (r.0.shared.table_id.words ≡ 2)
+    ensures table { IfOk result (λ r. (r.0.shared.table_id.words ≡ 520)
         × (r.0.shared.table_id.slots ≡ 1) × (r.1.table_id ≡ r.0.shared.table_id)) }
     ensures view { IfOk result (λ r. r.1.me ≡ (first_view (about_of T.head T.entries r.0.shared.key), [])) }
     ensures key { IfOk result (λ r. (r.0.shared.key.value.value ≡ value)
@@ -42,7 +42,8 @@ fn lay<T: Journal>(
         return Err(value);
     };
     slots.push_reserved(Some(value));
-    match Table::new(alloc, &[first, first], slots, &key) {
+    let words = opening_words(first);
+    match Table::new(alloc, &words, slots, &key) {
         Ok(made) => Ok(made),
         Err(Refused { mut slots }) => {
             let Some(Some(value)) = slots.pop() else {

@@ -12,7 +12,7 @@ impl<T: Journal> Play<Option<T>, View<T::Head, T::Entry>> for Draw {
     ghost then = { Drawn T.stamp };
 }
 
-/// A load of `serving`: a waiting seat enters, or has looked.
+/// A load of the word of a waiting seat's ticket: the seat enters, or has looked.
 pub struct Look;
 
 impl<T: Journal> Play<Option<T>, View<T::Head, T::Entry>> for Look {
@@ -21,7 +21,7 @@ impl<T: Journal> Play<Option<T>, View<T::Head, T::Entry>> for Look {
     ghost then = { Looked T.stamp T.head T.entries };
 }
 
-/// A fetch-and-add on `serving`: the holder gives the slot back.
+/// A store of the next ticket into that ticket's word: the holder gives the slot back.
 pub struct Leave;
 
 impl<T: Journal> Play<Option<T>, View<T::Head, T::Entry>> for Leave {

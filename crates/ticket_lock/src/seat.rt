@@ -18,7 +18,8 @@ pub struct Seat<T: Journal> {
 #[must_use]
 pub struct Ticket<T: Journal> {
     pub(crate) number: u32,
-    pub(crate) ticket: u64,
+    // The ticket modulo 2^64.
+    pub(crate) residue: u64,
     pub(crate) place: Place<T>,
 }
 
@@ -26,7 +27,8 @@ pub struct Ticket<T: Journal> {
 #[must_use]
 pub struct Held<T: Journal> {
     pub(crate) number: u32,
-    pub(crate) ticket: u64,
+    // The ticket modulo 2^64.
+    pub(crate) residue: u64,
     pub(crate) place: Place<T>,
 }
 
@@ -51,7 +53,7 @@ impl<T: Journal> Model for Ticket<T> {
 
     ghost view = { λ s. standing_of s.place.table_id s.place.me.0 };
 
-    ghost invariant = { λ s. IsWaiting s.number s.ticket s.place.me.0 × (s.place.me.1 ≡ []) };
+    ghost invariant = { λ s. IsWaiting s.number s.residue s.place.me.0 × (s.place.me.1 ≡ []) };
 }
 
 impl<T: Journal> Model for Held<T> {
@@ -63,7 +65,7 @@ impl<T: Journal> Model for Held<T> {
 
     ghost view = { λ s. standing_of s.place.table_id s.place.me.0 };
 
-    ghost invariant = { λ s. IsHolding s.number s.ticket s.place.me.0
+    ghost invariant = { λ s. IsHolding s.number s.residue s.place.me.0
         × (s.place.me.1 ≡ (0, None) ∷ []) };
 }
 
@@ -81,7 +83,7 @@ impl<T: Journal> Ticket<T> {
     pub fn number(&self) -> u64
         ensures number { result ≡ self.now.ticket % 2 ^ 64 }
     {
-        self.ticket
+        self.residue
     }
 }
 
@@ -92,12 +94,12 @@ impl<T: Journal> Held<T> {
     {
         let Held {
             number,
-            ticket,
+            residue,
             place: _,
         } = self;
         Stamp {
             seat: *number,
-            ticket: *ticket,
+            ticket: *residue,
         }
     }
 }

@@ -6,5 +6,5 @@ use Rattle.ticket_lock.proofs.opening.lay.Goals as goal
 pub new-requires : goal.new-requires
 new-requires g c = opens_with g.T.Journal.head g.T.Journal.entries g.T.Journal.stamp
     (record { value = c.of.result; seats = c.args.seats; first = c.args.first }) c.args.value
-    c.push_reserved.new.self.items (search rules) (search rules) (omega (arith, c.ranges.first.fits))
+    _ c.push_reserved.new.self.items (search rules) (c.opening_words-words.ensures.words c.args.seats) (search rules)
     (c.push_reserved.ensures.items ∙ ap (λ l. l ++ Some c.args.value ∷ []) c.in-Ok.ensures.items)

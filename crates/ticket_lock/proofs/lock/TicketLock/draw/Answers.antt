@@ -3,8 +3,8 @@ use Rattle.std.proofs.Common.{rules}
 use Rattle.ticket_lock.proofs.Draw.{draws}
 use Rattle.ticket_lock.proofs.lock.TicketLock.draw.Goals as goal
 
-pub fetch_add-ticket-requires : goal.fetch_add-ticket-requires
-fetch_add-ticket-requires g c =
+pub fetch_add-residue-requires : goal.fetch_add-residue-requires
+fetch_add-residue-requires g c =
     let i = c.seat.invariant in (
       search rules,
       search rules,

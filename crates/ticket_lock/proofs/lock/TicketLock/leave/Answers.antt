@@ -6,31 +6,32 @@ use Rattle.ticket_lock.proofs.lock.TicketLock.leave.Goals as goal
 pub exchange-before-requires : goal.exchange-before-requires
 exchange-before-requires g c = record { table = search rules; held = (None, c.held.invariant.1) }
 
-pub fetch_add-requires : goal.fetch_add-requires
-fetch_add-requires g c =
+pub store-requires : goal.store-requires
+store-requires g c =
     let e = c.exchange-before.ensures in (
       search rules,
       search rules,
       leaves_as g.T.Journal.head g.T.Journal.entries g.T.Journal.stamp c.held.inside.place.table_id
-          c.held.inside.place.me.0 c.held.inside.number c.held.inside.ticket c.held.invariant.0 c.args.held
-          c.held.view_is c.args.value c.requires.kept c.exchange-before.new.place.me e.view e.put _ _ _,
+          c.held.inside.place.me.0 c.held.inside.number c.held.inside.residue c.held.invariant.0 c.args.held
+          c.held.view_is c.args.value c.requires.kept c.exchange-before.new.place.me e.view e.put
+          _ _ _ _ _ (search rules) (search rules),
     )
 
 pub invariant_of-result : goal.invariant_of-result
 invariant_of-result g c =
     let e = c.exchange-before.ensures in
     left_idle g.T.Journal.head g.T.Journal.entries g.T.Journal.stamp c.held.inside.place.table_id
-    c.held.inside.place.me.0 c.held.inside.number c.held.inside.ticket c.held.invariant.0 c.args.held c.held.view_is
+    c.held.inside.place.me.0 c.held.inside.number c.held.inside.residue c.held.invariant.0 c.args.held c.held.view_is
     c.args.value c.requires.kept c.exchange-before.new.place.me e.view e.put
-    c.fetch_add.result c.fetch_add.new.seat.me c.fetch_add.ensures.2
+    0 c.store.new.seat.me c.store.ensures.2
 
 pub returns : goal.returns
 returns g c =
     let e = c.exchange-before.ensures in
     record {
       left = left_as g.T.Journal.head g.T.Journal.entries g.T.Journal.stamp c.held.inside.place.table_id
-          c.held.inside.place.me.0 c.held.inside.number c.held.inside.ticket c.held.invariant.0 c.args.held
+          c.held.inside.place.me.0 c.held.inside.number c.held.inside.residue c.held.invariant.0 c.args.held
           c.held.view_is c.args.value c.requires.kept c.exchange-before.new.place.me e.view e.put
-          c.fetch_add.result c.fetch_add.new.seat.me c.fetch_add.ensures.2
-          c.fetch_add.new.seat.table_id (c.fetch_add.ensures.0 ∙ e.same);
+          0 c.store.new.seat.me c.store.ensures.2
+          c.store.new.seat.table_id (c.store.ensures.0 ∙ e.same);
     }
