@@ -47,7 +47,7 @@ impl<T: Journal> TicketLock<T> {
         requires all { length seats.items ≡ seats_of self }
         ensures closed { Closes T.stamp T.head T.entries self seats.items result }
     {
-        let TicketLock { table } = self;
+        let TicketLock { table, asleep: _ } = self;
         let place = gather(&table.shared, seats);
         let mut closed = table.close_with(place);
         let found = closed.take(0);
@@ -61,7 +61,7 @@ impl<T: Journal + Drop> TicketLock<T> {
     /// Lets the lock go, and its value with it, where it cannot be closed any more: a seat of it was
     /// dropped. It takes no memory and waits for nobody.
     pub fn discard(self) {
-        let TicketLock { table } = self;
+        let TicketLock { table, asleep: _ } = self;
         drop(table);
     }
 }

@@ -1,4 +1,9 @@
-//! The lock, and the calls by which a seat draws, enters and leaves.
+//! The lock, and the calls by which a seat draws, enters and leaves. It is a partitioned ticket lock:
+//! 1. A seat draws its ticket, t, by a fetch-and-add on `next`. Tickets are served in the order of the draws.
+//! 2. It looks at a word of its own, word t mod 64 of a row, until that is t. At most 64 tickets are in flight.
+//! 3. The holder of t leaves by one store, of t + 1 into word (t + 1) mod 64, which one seat at most looks at.
+//! 4. A seat that has looked often yields, and then sleeps on its word; whoever serves its ticket wakes it.
+//! 5. The words count modulo 2^64. The value goes in and out of a slot that is the holder's alone.
 ghost use Rattle.std.specs.Prelude.{◌≡◌, ◌+◌, ℕ, Option, [], ◌∷◌, IfOk, IfErr};
 ghost use Rattle.ticket_lock.specs.Calls.{Draws, Enters, MayLeave, Leaves};
 
@@ -8,11 +13,16 @@ use crate::plays::{Draw, Leave, Look};
 use crate::seat::{Held, Seat, Ticket};
 use std::marker::Model;
 use std::sync::Wait;
+use std::sync::atomic::AtomicU64;
+use std::sync::atomic::Ordering::SeqCst;
 use std::{hint, thread};
+use ticket_core::GRANTS;
 
 /// A value that one seat at a time holds, in the order of their tickets. Threads share it by a reference.
 pub struct TicketLock<T: Journal> {
     pub(crate) table: Board<T>,
+    // Which words of the row have a seat that sleeps or is about to: bit i for word i. No clause tells of it.
+    pub(crate) asleep: AtomicU64,
 }
 
 // Clauses see which lock it is, and what it was opened about.
@@ -35,15 +45,12 @@ impl<T: Journal> Model for TicketLock<T> {
 // How often a waiting seat looks before it lets other threads run.
 const LOOKS: u32 = 100;
 
-// What passes between two looks, after so many since other threads last ran; and how many there are then.
-fn pause(looks: u32) -> u32 {
-    if looks < LOOKS {
-        hint::spin_loop();
-        looks + 1
-    } else {
-        thread::yield_now();
-        0
-    }
+// How often it lets them run, with a look after each, before it sleeps.
+const YIELDS: u32 = 4;
+
+// The bit of the word that a seat with this ticket waits on.
+fn bit_of(ticket: u64) -> u64 {
+    1 << (ticket % GRANTS as u64)
 }
 
 // Puts a value into the slot that the seat holds, and gives the one that was there.
@@ -103,7 +110,7 @@ impl<T: Journal> TicketLock<T> {
         Ok((held, value))
     }
 
-    /// Looks until the ticket is served, and enters.
+    /// Looks, yields or sleeps until the ticket is served, and enters.
     pub fn enter<R: Wait>(&self, rt: &R, ticket: Ticket<T>) -> (Held<T>, T)
         requires own { ticket.lock ≡ self.now }
         ensures entered { Enters T.stamp T.head T.entries ticket result.0 result.1 }
@@ -115,7 +122,8 @@ impl<T: Journal> TicketLock<T> {
                 Ok(entered) => return entered,
                 Err(back) => waiting = back,
             }
-            looks = pause(looks);
+            self.pause(rt, waiting.number(), looks);
+            looks = looks.saturating_add(1);
         }
         unreachable!()
     }
@@ -138,6 +146,42 @@ impl<T: Journal> TicketLock<T> {
         let None = before else { unreachable!() };
         let next = residue.wrapping_add(1);
         steps.store::<Leave>(&mut place, place_of(next), next);
+        self.wake(next);
         Seat { number, place }
+    }
+
+    // What passes between two looks of a seat with this ticket, after so many of them.
+    fn pause<R: Wait>(&self, rt: &R, ticket: u64, looks: u32) {
+        if looks < LOOKS {
+            hint::spin_loop();
+        } else if looks < LOOKS + YIELDS {
+            thread::yield_now();
+        } else {
+            self.sleep(rt, ticket);
+        }
+    }
+
+    // Sleeps on the ticket's word while it has what it has before its turn: the ticket 64 before it.
+    //
+    // A sleeper is always woken. It sets its bit, and then the kernel lets it sleep only if its word is not
+    // yet its ticket. Whoever serves it stores the ticket, and then reads the bits. These four steps have
+    // one order: if the store comes first, the seat does not sleep; if not, the bit is set when it is read,
+    // and the word is woken after the store. Nobody else waits on that word, so the wake is the sleeper's.
+    // A wake that comes before the seat is asleep comes after the store, so the seat does not sleep then.
+    fn sleep<R: Wait>(&self, rt: &R, ticket: u64) {
+        let bit = bit_of(ticket);
+        self.asleep.fetch_add(bit, SeqCst);
+        let before = ticket.wrapping_sub(GRANTS as u64);
+        self.table
+            .shared
+            .park(rt, place_of(ticket), (before & 0xffff_ffff) as u32);
+        self.asleep.fetch_sub(bit, SeqCst);
+    }
+
+    // Wakes the seat with this ticket, if it sleeps.
+    fn wake(&self, ticket: u64) {
+        if self.asleep.load(SeqCst) & bit_of(ticket) != 0 {
+            self.table.shared.wake_one(place_of(ticket));
+        }
     }
 }

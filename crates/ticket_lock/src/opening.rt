@@ -16,6 +16,7 @@ use crate::seat::Seat;
 use atomic_table::{Refused, Table};
 use std::alloc::Global;
 use std::snapshot::Snapshot;
+use std::sync::atomic::AtomicU64;
 use ticket_core::MAX_SEATS;
 
 // Makes the table with the value in its slot. The value comes back where there is no memory.
@@ -104,7 +105,8 @@ impl<T: Journal> TicketLock<T> {
         match lay(alloc, value, seats, first) {
             Ok((table, place)) => {
                 let row = deal(&table.shared, place, seats, row);
-                Ok((TicketLock { table }, row))
+                let asleep = AtomicU64::new(0);
+                Ok((TicketLock { table, asleep }, row))
             }
             Err(value) => {
                 row.destroy_empty();

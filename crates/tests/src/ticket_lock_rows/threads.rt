@@ -13,11 +13,13 @@ use std::thread;
 use std::thread::Threads;
 use ticket_lock::{Seat, Ticket, TicketLock};
 
-// How many threads take turns at once.
-const THREADS: usize = 16;
-
-// How many turns each of them takes.
-const TURNS: usize = 1000;
+// Threads that take turns at once, how many each takes, and the first ticket.
+#[derive(Clone, Copy)]
+struct Race {
+    threads: usize,
+    turns: usize,
+    first: u64,
+}
 
 // Enters when the ticket is served, adds an entry or nothing, and leaves.
 fn turn<R: Wait>(
@@ -104,25 +106,31 @@ fn two_threads_enter_in_the_order_of_their_tickets(rt: HostRuntime) {
     }
 }
 
-// Takes turns, each with an entry.
-fn take_turns<R: Wait>(rt: &R, lock: &TicketLock<Stamps>, seat: Seat<Stamps>) -> Seat<Stamps>
+// Takes so many turns, each with an entry.
+fn take_turns<R: Wait>(
+    rt: &R,
+    lock: &TicketLock<Stamps>,
+    seat: Seat<Stamps>,
+    turns: usize,
+) -> Seat<Stamps>
     requires own { seat.lock ≡ lock.now }
     requires head { head_of lock.now ≡ Some tt }
     ensures own { result.lock ≡ lock.now }
 {
     let mut seat = seat;
-    for _ in 0..TURNS {
+    for _ in 0..turns {
         let ticket = lock.draw(seat);
         seat = turn(rt, lock, ticket, true);
     }
     seat
 }
 
-// Takes turns by all these seats, each in a thread of its own.
+// Takes so many turns by each of these seats, which have a thread of their own.
 fn race<R: Threads + Wait + Sync>(
     rt: &R,
     lock: &TicketLock<Stamps>,
     seats: Vec<Seat<Stamps>>,
+    turns: usize,
 ) -> Result<Vec<Seat<Stamps>>, AllocError>
     requires own { Every (λ s. s.lock ≡ lock.now) seats.items }
     requires head { head_of lock.now ≡ Some tt }
@@ -133,19 +141,19 @@ fn race<R: Threads + Wait + Sync>(
         requires own { seat.lock ≡ lock.now }
         requires head { head_of lock.now ≡ Some tt }
         ensures own { result.lock ≡ lock.entry.now }
-    { take_turns(rt, lock, seat) };
+    { take_turns(rt, lock, seat, turns) };
     thread::map_vec(rt, seats, &take)
 }
 
 // The list after all threads have taken their turns at one lock.
-fn list_of_all<R: Threads + Wait + Sync + Abort>(rt: &R, alloc: Global, first: u64) -> Vec<Stamp> {
+fn list_of_all<R: Threads + Wait + Sync + Abort>(rt: &R, alloc: Global, run: Race) -> Vec<Stamp> {
     let empty = Stamps {
         list: Vec::new(alloc),
     };
-    let Ok((lock, seats)) = TicketLock::open(alloc, empty, THREADS, first) else {
+    let Ok((lock, seats)) = TicketLock::open(alloc, empty, run.threads, run.first) else {
         panic!(rt; "no memory")
     };
-    let Ok(seats) = race(rt, &lock, seats) else {
+    let Ok(seats) = race(rt, &lock, seats, run.turns) else {
         panic!(rt; "no memory")
     };
     let Stamps { list } = lock.close(seats);
@@ -164,15 +172,56 @@ fn is_in_order(list: &[Stamp], first: u64) -> bool {
     true
 }
 
+// The list of a race has each turn once, in the order of the tickets.
+fn is_run_in_order<R: Threads + Wait + Sync + Abort>(rt: &R, alloc: Global, run: Race) {
+    let list = list_of_all(rt, alloc, run);
+    assert!(rt;
+        list.len() == run.threads * run.turns,
+        "first {}",
+        run.first
+    );
+    assert!(rt; is_in_order(&list, run.first), "first {}", run.first);
+    for seat in 0..run.threads as u32 {
+        let made = list.iter().filter(|stamp| stamp.seat == seat).count();
+        assert!(rt; made == run.turns, "seat {seat}");
+    }
+}
+
 #[test]
 fn entries_of_16_threads_stand_once_in_ticket_order(rt: HostRuntime) {
     for first in [0, u64::MAX] {
-        let list = list_of_all(&rt, rt.alloc(), first);
-        assert!(rt; list.len() == THREADS * TURNS, "first {first}");
-        assert!(rt; is_in_order(&list, first), "first {first}");
-        for seat in 0..THREADS as u32 {
-            let made = list.iter().filter(|stamp| stamp.seat == seat).count();
-            assert!(rt; made == TURNS, "seat {seat}");
-        }
+        let run = Race {
+            threads: 16,
+            turns: 1000,
+            first,
+        };
+        is_run_in_order(&rt, rt.alloc(), run);
+    }
+}
+
+// How often all threads of a race start and end.
+const RUNS: u64 = 1000;
+
+#[test]
+fn a_seat_that_sleeps_is_woken_for_its_turn_among_16(rt: HostRuntime) {
+    for first in 0..RUNS {
+        let run = Race {
+            threads: 16,
+            turns: 8,
+            first,
+        };
+        is_run_in_order(&rt, rt.alloc(), run);
+    }
+}
+
+#[test]
+fn a_seat_that_sleeps_is_woken_for_its_turn_among_64(rt: HostRuntime) {
+    for first in 0..RUNS {
+        let run = Race {
+            threads: 64,
+            turns: 4,
+            first,
+        };
+        is_run_in_order(&rt, rt.alloc(), run);
     }
 }
