@@ -12,6 +12,7 @@ pub mod Dealt
 pub mod Opened
 pub mod Numbers
 pub mod Tokens
+pub mod Entered
 pub mod Gathered
 pub mod Moved
 pub mod Running

@@ -1,5 +1,5 @@
 -- What the fields of the three tokens are of their seat's view.
-use Rattle.std.specs.Prelude.{◌≡◌, ℕ, ◌%◌, ◌^◌, List, [], ◌∷◌, map, Option}
+use Rattle.std.specs.Prelude.{◌≡◌, ℕ, ◌%◌, ◌^◌, List, [], ◌∷◌, map, Option, None}
 use Rattle.ticket_core.specs.declared.SeatState.TheVariants.{Idle, Waiting, Holding}
 use Rattle.ticket_lock.specs.declared.board.About.{About}
 use Rattle.ticket_lock.specs.declared.board.Part.{Part}
@@ -22,6 +22,11 @@ module _ {H E : Type 0} where
   -- a seat of this number that holds by a ticket of this residue
   abbrev pub IsHolding : ℕ → ℕ → View H E → Type 0
   IsHolding number residue v = HasNumber number v × ((t : ℕ) × (v.state ≡ Holding t) × (residue ≡ t % 2 ^ 64))
+
+-- what is in the slot that was taken last
+abbrev pub carried_in : {T : Type 0} → List (ℕ × Option T) → Option T
+carried_in [] = None
+carried_in (y ∷ ys) = y.1
 
 -- the part of a seat that stands so
 abbrev pub part_of : {H E : Type 0} → Standing H E → Part E

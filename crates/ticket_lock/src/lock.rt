@@ -4,13 +4,13 @@
 //! 3. The holder of t leaves by one store, of t + 1 into word (t + 1) mod 64, which one seat at most looks at.
 //! 4. A seat that has looked often yields, and then sleeps on its word; whoever serves its ticket wakes it.
 //! 5. The words count modulo 2^64. The value goes in and out of a slot that is the holder's alone.
-ghost use Rattle.std.specs.Prelude.{◌≡◌, ◌+◌, ℕ, Option, [], ◌∷◌, IfOk, IfErr};
+ghost use Rattle.std.specs.Prelude.{◌≡◌, ◌+◌, ℕ, Option, Some, [], ◌∷◌, IfOk, IfErr};
 ghost use Rattle.ticket_lock.specs.Calls.{Draws, Enters, MayLeave, Leaves};
 
 use crate::board::{Board, NEXT, Place, Steps, place_of};
 use crate::journal::Journal;
 use crate::plays::{Draw, Leave, Look};
-use crate::seat::{Held, Seat, Ticket};
+use crate::seat::{Held, Inside, Seat, Ticket};
 use std::marker::Model;
 use std::sync::Wait;
 use std::sync::atomic::AtomicU64;
@@ -86,28 +86,10 @@ impl<T: Journal> TicketLock<T> {
         ensures entered { IfOk result (λ r. Enters T.stamp T.head T.entries ticket r.0 r.1) }
         ensures given_back { IfErr result (λ t. t ≡ record ticket { looks = ticket.looks + 1 }) }
     {
-        let Ticket {
-            number,
-            residue,
-            mut place,
-        } = ticket;
-        let steps = &self.table.shared;
-        let granted = steps.load::<Look>(&mut place, place_of(residue));
-        if granted != residue {
-            return Err(Ticket {
-                number,
-                residue,
-                place,
-            });
+        match self.look(ticket) {
+            Ok(inside) => Ok(self.take(inside)),
+            Err(back) => Err(back),
         }
-        let found = exchange(steps, &mut place, None);
-        let Some(value) = found else { unreachable!() };
-        let held = Held {
-            number,
-            residue,
-            place,
-        };
-        Ok((held, value))
     }
 
     /// Looks, yields or sleeps until the ticket is served, and enters.
@@ -118,8 +100,8 @@ impl<T: Journal> TicketLock<T> {
         let mut waiting = ticket;
         let mut looks = 0;
         for _ in rt.forever() {
-            match self.try_enter(waiting) {
-                Ok(entered) => return entered,
+            match self.look(waiting) {
+                Ok(inside) => return self.take(inside),
                 Err(back) => waiting = back,
             }
             self.pause(rt, waiting.number(), looks);
@@ -148,6 +130,56 @@ impl<T: Journal> TicketLock<T> {
         steps.store::<Leave>(&mut place, place_of(next), next);
         self.wake(next);
         Seat { number, place }
+    }
+
+    // Looks at the ticket's word. The seat is inside if that is the ticket.
+    fn look(&self, ticket: Ticket<T>) -> Result<Inside<T>, Ticket<T>>
+        requires own { ticket.lock ≡ self.now }
+        ensures entered { IfOk result (λ r. (x : T) × (r.1 ≡ Some x)
+            × Enters T.stamp T.head T.entries ticket r.0 x) }
+        ensures given_back { IfErr result (λ t. t ≡ record ticket { looks = ticket.looks + 1 }) }
+    {
+        let Ticket {
+            number,
+            residue,
+            mut place,
+        } = ticket;
+        let steps = &self.table.shared;
+        let granted = steps.load::<Look>(&mut place, place_of(residue));
+        if granted == residue {
+            Ok(Inside {
+                number,
+                residue,
+                place,
+            })
+        } else {
+            Err(Ticket {
+                number,
+                residue,
+                place,
+            })
+        }
+    }
+
+    // Takes the value out of the slot.
+    fn take(&self, inside: Inside<T>) -> (Held<T>, T)
+        requires own { inside.0.lock ≡ self.now }
+        ensures same { result.0 ≡ inside.0 }
+        ensures taken { inside.1 ≡ Some result.1 }
+    {
+        let Inside {
+            number,
+            residue,
+            mut place,
+        } = inside;
+        let found = exchange(&self.table.shared, &mut place, None);
+        let Some(value) = found else { unreachable!() };
+        let held = Held {
+            number,
+            residue,
+            place,
+        };
+        (held, value)
     }
 
     // What passes between two looks of a seat with this ticket, after so many of them.

@@ -32,6 +32,14 @@ pub struct Held<T: Journal> {
     pub(crate) place: Place<T>,
 }
 
+// A seat that holds the lock, whose value is still in the slot.
+pub(crate) struct Inside<T: Journal> {
+    pub(crate) number: u32,
+    // The ticket modulo 2^64.
+    pub(crate) residue: u64,
+    pub(crate) place: Place<T>,
+}
+
 impl<T: Journal> Model for Seat<T> {
     ghost use Rattle.std.specs.Prelude.{◌≡◌, []};
     ghost use Rattle.ticket_lock.specs.Standing.{Standing, standing_of};
@@ -67,6 +75,19 @@ impl<T: Journal> Model for Held<T> {
 
     ghost invariant = { λ s. IsHolding s.number s.residue s.place.me.0
         × (s.place.me.1 ≡ (0, None) ∷ []) };
+}
+
+impl<T: Journal> Model for Inside<T> {
+    ghost use Rattle.std.specs.Prelude.{◌≡◌, [], ◌∷◌, Option, Some};
+    ghost use Rattle.ticket_lock.specs.Standing.{Standing, standing_of};
+    ghost use Rattle.ticket_lock.specs.Tokens.{IsHolding, carried_in};
+
+    ghost Value = { Standing T.Head T.Entry × Option T };
+
+    ghost view = { λ s. (standing_of s.place.table_id s.place.me.0, carried_in s.place.me.1) };
+
+    ghost invariant = { λ s. IsHolding s.number s.residue s.place.me.0
+        × ((x : T) × (s.place.me.1 ≡ (0, Some x) ∷ [])) };
 }
 
 impl<T: Journal> Seat<T> {

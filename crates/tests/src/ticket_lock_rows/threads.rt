@@ -126,7 +126,7 @@ fn take_turns<R: Wait>(
 }
 
 // Takes so many turns by each of these seats, which have a thread of their own.
-fn race<R: Threads + Wait + Sync>(
+fn take_all<R: Threads + Wait + Sync>(
     rt: &R,
     lock: &TicketLock<Stamps>,
     seats: Vec<Seat<Stamps>>,
@@ -153,7 +153,7 @@ fn list_of_all<R: Threads + Wait + Sync + Abort>(rt: &R, alloc: Global, run: Rac
     let Ok((lock, seats)) = TicketLock::open(alloc, empty, run.threads, run.first) else {
         panic!(rt; "no memory")
     };
-    let Ok(seats) = race(rt, &lock, seats, run.turns) else {
+    let Ok(seats) = take_all(rt, &lock, seats, run.turns) else {
         panic!(rt; "no memory")
     };
     let Stamps { list } = lock.close(seats);
@@ -175,11 +175,8 @@ fn is_in_order(list: &[Stamp], first: u64) -> bool {
 // The list of a race has each turn once, in the order of the tickets.
 fn is_run_in_order<R: Threads + Wait + Sync + Abort>(rt: &R, alloc: Global, run: Race) {
     let list = list_of_all(rt, alloc, run);
-    assert!(rt;
-        list.len() == run.threads * run.turns,
-        "first {}",
-        run.first
-    );
+    let turns = run.threads.saturating_mul(run.turns);
+    assert!(rt; list.len() == turns, "first {}", run.first);
     assert!(rt; is_in_order(&list, run.first), "first {}", run.first);
     for seat in 0..run.threads as u32 {
         let made = list.iter().filter(|stamp| stamp.seat == seat).count();
