@@ -178,8 +178,11 @@ fn is_run_in_order<R: Threads + Wait + Sync + Abort>(rt: &R, alloc: Global, run:
     let turns = run.threads.saturating_mul(run.turns);
     assert!(rt; list.len() == turns, "first {}", run.first);
     assert!(rt; is_in_order(&list, run.first), "first {}", run.first);
-    for seat in 0..run.threads as u32 {
-        let made = list.iter().filter(|stamp| stamp.seat == seat).count();
+    for seat in 0..run.threads {
+        let made = list
+            .iter()
+            .filter(|stamp| stamp.seat as usize == seat)
+            .count();
         assert!(rt; made == run.turns, "seat {seat}");
     }
 }

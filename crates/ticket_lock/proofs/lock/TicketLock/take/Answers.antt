@@ -3,4 +3,5 @@ use Rattle.std.proofs.Common.{rules, Some}
 use Rattle.ticket_lock.proofs.lock.TicketLock.take.Goals as goal
 
 pub exchange-found-requires : goal.exchange-found-requires
-exchange-found-requires g c = record { table = search rules; held = (Some c.inside.invariant.1.0, c.inside.invariant.1.1) }
+exchange-found-requires g c =
+    let i = c.inside.invariant.1 in record { table = search rules; held = (Some i.0, i.1) }
