@@ -18,6 +18,8 @@ pub mod RowsChoice
 pub mod RowsFaults
 pub mod Started
 pub mod Steps
+pub mod Searches
 pub mod Sums
+pub mod Turns
 pub mod Unlimited
 pub mod Windows

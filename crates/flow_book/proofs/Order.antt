@@ -11,7 +11,7 @@ use Rattle.flow_book.specs.Choice.{last_start, is_earlier, is_as_early, is_befor
 use Rattle.flow_book.specs.Book.{Ascend}
 
 -- the order on ranks, last starts and SIDs
-abbrev goes_first : ℕ → Option ℕ → ℕ → ℕ → Option ℕ → ℕ → Bool
+abbrev pub goes_first : ℕ → Option ℕ → ℕ → ℕ → Option ℕ → ℕ → Bool
 goes_first rank last sid rank' last' sid' =
     nat_lt rank' rank || (rank == rank' && (is_earlier last last' || (is_as_early last last' && nat_lt sid sid')))
 

@@ -46,7 +46,7 @@ copy-sums c f g is keeps =
     let spec : g.spec ≡ f.spec = ap (λ (h : LiveFlow). h.spec) is.same in
     record {
       granted = is.granted ∙ keeps.granted ∙ ap bytes_of (sym grants);
-      last = is.last ∙ keeps.last ∙ ap last_start (sym grants);
+      turn = rw (spec, grants, is.turn) keeps.turn;
       bucket = rw (spec, grants, is.bucket) keeps.bucket;
     }
 

@@ -1,9 +1,9 @@
 -- What the fields of a flow stand for, and what is true of every book.
-use Rattle.std.specs.Prelude.{◌≡◌, ◌-◌, ◌≤◌, List, map, vec_len, vec_capacity}
+use Rattle.std.specs.Prelude.{◌≡◌, ℕ, ◌+◌, ◌-◌, ◌*◌, ◌^◌, ◌<◌, ◌≤◌, List, map, Option, None, Some}
 use Rattle.std.specs.List.{AllByRecursion}
 use Rattle.minislots.specs.declared.config.Config.{Config}
 use Rattle.flow_book.specs.declared.flow.Flow.{Flow}
-use Rattle.flow_book.specs.FlowSpec.{rate_of, burst_of}
+use Rattle.flow_book.specs.FlowSpec.{rank_of, rate_of, burst_of}
 use Rattle.flow_book.specs.Flows.{LiveFlow, bytes_of, granted}
 use Rattle.flow_book.specs.Ceiling.{KeepsCeiling}
 use Rattle.flow_book.specs.Choice.{last_start}
@@ -16,24 +16,30 @@ live f = record { sid = f.sid; spec = f.spec; asked = f.asked; grants = f.grants
 
 -- its room
 abbrev pub room_in : Flow → Room
-room_in f = record { sid = f.sid; grants = vec_capacity f.grants - vec_len f.grants }
+room_in f = record { sid = f.sid; grants = f.grants.room }
 
--- the flow knows where its last grant starts
-abbrev pub KnowsLast : Flow → Type 0
-KnowsLast f = f.last ≡ last_start f.grants.items
+-- A number by which flows of this rank, whose last grant starts there, are served: the least first. Flows of higher
+-- ranks come before all others, and in a rank the start of the last grant decides, none before any.
+abbrev pub IsTurn : ℕ → Option ℕ → ℕ → Type 0
+IsTurn rank None turn = turn ≡ (255 - rank) * 2 ^ 65
+IsTurn rank (Some start) turn = (start < 2 ^ 64) × (turn ≡ (255 - rank) * 2 ^ 65 + start + 1)
 
--- what a flow keeps beside its grants is theirs: their bytes, where the last one starts, and the bucket of its rate
+-- the flow knows its turn
+abbrev pub KnowsTurn : Flow → Type 0
+KnowsTurn f = (rank_of f.spec ≤ 255) × IsTurn (rank_of f.spec) (last_start f.grants.items) f.turn
+
+-- what a flow keeps beside its grants is theirs: their bytes, its turn after the last one, and the bucket of its rate
 -- and burst that stands for them
 pub record KeepsSums (c : Config) (f : Flow) : Type 0 where
   pub granted : f.granted ≡ bytes_of f.grants.items
-  pub last : KnowsLast f
+  pub turn : KnowsTurn f
   pub bucket : StandsFor c (rate_of f.spec) (burst_of f.spec) f.bucket f.grants.items
 
 -- g is a copy of f, with what is kept beside its grants
 pub record IsCopy (f g : Flow) : Type 0 where
   pub same : live g ≡ live f
   pub granted : g.granted ≡ f.granted
-  pub last : g.last ≡ f.last
+  pub turn : g.turn ≡ f.turn
   pub bucket : g.bucket ≡ f.bucket
 
 -- a flow was granted no more than it asked, within its rate ceiling

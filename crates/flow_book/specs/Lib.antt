@@ -2,6 +2,7 @@ pub use Rattle.minislots.specs.Config
 pub use Rattle.minislots.specs.Units
 pub mod FlowSpec
 pub mod Flows
+pub mod Granted
 pub mod Ceiling
 pub mod Bucket
 pub mod Sids

@@ -1,7 +1,7 @@
 //! The live flows of a channel, in order of SID.
 
 ghost use Rattle.std.specs.Prelude.{◌≡◌, ◌≢◌, ℕ, ◌+◌, ◌<◌, ◌≤◌, ◌^◌, ◌==◌, [], length, IfOk, OnOk, OnErr, IfSome};
-ghost use Rattle.std.specs.Prelude.{IsSomeAnd, option_map, slice_get, nat_lt, position, find, option_copied};
+ghost use Rattle.std.specs.Prelude.{IsSomeAnd, map, option_map, slice_get, nat_lt, position, find, option_copied};
 ghost use Rattle.std.specs.List.{AllByRecursion};
 ghost use Rattle.minislots.specs.Units.{slots_for};
 ghost use Rattle.flow_book.specs.Flows.{flow_of, outstanding, with_grant};
@@ -43,9 +43,10 @@ impl Model for Book {
 
 // The place of the flow with this SID.
 fn place_in(flows: &[Flow], sid: u16) -> Option<usize>
+    requires { Ascend (map live flows.now) }
     ensures { result ≡ position (λ f. f.sid == sid) flows.now }
 {
-    flows.iter().position(|flow| flow.sid == sid)
+    flows.binary_search_by_key(&sid, |flow| flow.sid).ok()
 }
 
 // The place of the first flow with a higher SID.
@@ -134,7 +135,7 @@ impl Book {
         ensures room { KeepsRoom self.old.rooms self.new.rooms }
     {
         let place = place_above(&self.flows, sid).unwrap_or(self.flows.len());
-        let flow = Flow::open(*self.flows.allocator(), &self.config, sid, spec);
+        let flow = Flow::open(&self.config, sid, spec);
         self.flows.insert(place, flow)?;
         Ok(())
     }
@@ -191,7 +192,8 @@ impl Book {
         ensures kept { KeepsRoom self.old.rooms self.new.rooms }
         ensures same { self.new ≡ record self.old { rooms = self.new.rooms } }
     {
-        reserve_each(&mut self.flows, grants)
+        reserve_each(&mut self.flows, grants);
+        Ok(())
     }
 
     /// Grants bytes to a live flow from minislot `start` on: at least 1, at most [`Book::most`] of some

@@ -1,21 +1,23 @@
-//! One live flow, with the list of its data grants and what is kept beside it.
+//! One live flow: what it asked, and what its data grants come to.
 
 ghost use Rattle.std.specs.Prelude.{◌≡◌, ℕ, ◌+◌, ◌-◌, ◌<◌, ◌≤◌, map, length, slice_index_or, IsTrue};
-ghost use Rattle.std.specs.Prelude.{◌↔◌, MatchOption, OnOk, IfSome, option_map, option_copied};
+ghost use Rattle.std.specs.Prelude.{◌↔◌, None, nat_lt, ◌==◌, ◌||◌, ◌&&◌, MatchOption, IfSome, option_map};
+ghost use Rattle.std.specs.Prelude.{option_copied};
 ghost use Rattle.std.specs.List.{AllByRecursion};
 ghost use Rattle.minislots.specs.declared.config.Config.{Config};
 ghost use Rattle.flow_book.specs.Flows.{granted, outstanding, with_grant};
-ghost use Rattle.flow_book.specs.Choice.{is_earlier, is_as_early, is_before, IsEligible, IsMost, KeepsWith};
+ghost use Rattle.flow_book.specs.Choice.{is_before, IsEligible, IsMost, KeepsWith};
 ghost use Rattle.flow_book.specs.Choice.{IsNextOf, HasStartedBy};
 ghost use Rattle.flow_book.specs.Bucket.{HaveStartedBy};
-ghost use Rattle.flow_book.specs.Entry.{live, room_in, IsSoundFlow, IsSoundBook, IsCopy, KnowsLast, KeepsSums};
+ghost use Rattle.flow_book.specs.Entry.{live, room_in, IsSoundFlow, IsSoundBook, IsCopy, IsTurn, KnowsTurn, KeepsSums};
 ghost use Rattle.flow_book.specs.Book.{KeepsRoom, new_flow};
 ghost use Rattle.flow_book.specs.declared.flow.Flow.{Flow};
 
 use crate::bucket::Bucket;
+use crate::granted::GrantList;
 use crate::spec::FlowSpec;
 use minislots::Checked;
-use std::alloc::{AllocError, Global};
+use std::alloc::AllocError;
 
 /// A data grant of a flow: the minislot at which it starts, and its bytes.
 #[derive(Clone, Copy, Debug, PartialEq, Eq)]
@@ -23,6 +25,9 @@ pub struct Grant {
     pub start: u64,
     pub bytes: u32,
 }
+
+// The turns of a rank: more than there are starts.
+const TURNS: u128 = 1 << 65;
 
 // A live flow.
 #[derive(Drop)]
@@ -33,12 +38,12 @@ pub(crate) struct Flow {
     pub(crate) asked: u64,
     // The bytes of all data grants.
     granted: u64,
-    // Where the last data grant starts.
-    last: Option<u64>,
+    // Its turn among the flows that may be served: the least is served first.
+    turn: u128,
     // What the data grants leave under the rate ceiling.
     bucket: Bucket,
-    // The data grants, in order.
-    pub(crate) grants: Vec<Grant>,
+    // The data grants, in order, for contracts alone.
+    pub(crate) grants: GrantList,
 }
 
 impl Clone for Flow {
@@ -50,16 +55,16 @@ impl Clone for Flow {
             spec: self.spec,
             asked: self.asked,
             granted: self.granted,
-            last: self.last,
+            turn: self.turn,
             bucket: self.bucket,
-            grants: Vec::from_slice(*self.grants.allocator(), &self.grants)?,
+            grants: GrantList::with_room(&self.grants, &0),
         })
     }
 }
 
 impl Flow {
     // A flow that has asked and been granted nothing.
-    pub(crate) fn open(alloc: Global, config: &Checked, sid: u16, spec: FlowSpec) -> Flow
+    pub(crate) fn open(config: &Checked, sid: u16, spec: FlowSpec) -> Flow
         ensures live { live result ≡ new_flow sid spec }
         ensures sums { KeepsSums config.now result }
     {
@@ -68,9 +73,9 @@ impl Flow {
             spec,
             asked: 0,
             granted: 0,
-            last: None,
+            turn: first_turn(spec.rank()),
             bucket: Bucket::open(config, spec.rate(), spec.burst()),
-            grants: Vec::new(alloc),
+            grants: GrantList::none(),
         }
     }
 
@@ -86,22 +91,17 @@ impl Flow {
     // Whether this flow is served before the other: by rank from the highest, then by the start of the
     // last grant, none before any, then by SID.
     pub(crate) fn is_before(&self, other: &Flow) -> bool
-        requires last { KnowsLast self.now }
-        requires other_last { KnowsLast other.now }
+        requires turn { KnowsTurn self.now }
+        requires other_turn { KnowsTurn other.now }
         ensures { result ≡ is_before (live self.now) (live other.now) }
     {
-        let (rank, other_rank) = (self.spec.rank(), other.spec.rank());
-        let (last, other_last) = (self.last, other.last);
-        rank > other_rank
-            || rank == other_rank
-                && (is_earlier(last, other_last)
-                    || is_as_early(last, other_last) && self.sid < other.sid)
+        comes_first(self.turn, self.sid, other.turn, other.sid)
     }
 
     // Whether this flow is served before the next of those before it, if there is one.
     fn comes_before(&self, next: Option<&Flow>) -> bool
-        requires last { KnowsLast self.now }
-        requires next_last { IfSome next (λ n. KnowsLast n.now) }
+        requires turn { KnowsTurn self.now }
+        requires next_turn { IfSome next (λ n. KnowsTurn n.now) }
         ensures { MatchOption next.entry (IsTrue result) (λ n. result ≡ is_before (live self.now) (live n.now)) }
     {
         match next {
@@ -153,9 +153,9 @@ impl Flow {
             → KeepsWith c (live self.old) start bytes → KeepsSums c self.new }
     {
         self.granted += u64::from(bytes);
-        self.last = Some(start);
+        self.turn = first_turn(self.spec.rank()) + u128::from(start) + 1;
         let _ = self.bucket.take(start, bytes);
-        self.grants.push_reserved(Grant { start, bytes });
+        self.grants = GrantList::and(&self.grants, &Grant { start, bytes });
     }
 }
 
@@ -173,43 +173,37 @@ pub(crate) fn first_eligible<'a>(
 {
     let mut next = None;
     for flow in flows {
-        if flow.is_eligible(config, start, room) && flow.comes_before(next) {
+        if flow.comes_before(next) && flow.is_eligible(config, start, room) {
             next = Some(flow);
         }
     }
     next
 }
 
-// Makes room for so many more grants of each flow.
-pub(crate) fn reserve_each(flows: &mut [Flow], grants: usize) -> Result<(), AllocError>
+// Gives each flow room for so many more grants.
+pub(crate) fn reserve_each(flows: &mut [Flow], grants: usize)
     ensures same { map live flows.new ≡ map live flows.old }
-    ensures room { OnOk result ((k : ℕ) (d : Flow) → k < length flows.new
-        → grants ≤ (room_in (slice_index_or flows.new k d)).grants) }
+    ensures room { (k : ℕ) (d : Flow) → k < length flows.new
+        → grants ≤ (room_in (slice_index_or flows.new k d)).grants }
     ensures kept { KeepsRoom (map room_in flows.old) (map room_in flows.new) }
     ensures sums { (c : Config) → AllByRecursion (KeepsSums c) flows.old → AllByRecursion (KeepsSums c) flows.new }
 {
     for flow in flows.iter_mut() {
-        flow.grants.reserve(grants)?;
-    }
-    Ok(())
-}
-
-fn is_earlier(a: Option<u64>, b: Option<u64>) -> bool
-    ensures { result ≡ is_earlier a b }
-{
-    match (a, b) {
-        (None, Some(_)) => true,
-        (Some(a), Some(b)) => a < b,
-        _ => false,
+        flow.grants = GrantList::with_room(&flow.grants, &grants);
     }
 }
 
-fn is_as_early(a: Option<u64>, b: Option<u64>) -> bool
-    ensures { result ≡ is_as_early a b }
+// Whether the one turn comes before the other, of two flows with these SIDs.
+fn comes_first(turn: u128, sid: u16, other_turn: u128, other_sid: u16) -> bool
+    ensures { result ≡ (nat_lt turn other_turn || (turn == other_turn && nat_lt sid other_sid)) }
 {
-    match (a, b) {
-        (None, None) => true,
-        (Some(a), Some(b)) => a == b,
-        _ => false,
-    }
+    turn < other_turn || turn == other_turn && sid < other_sid
+}
+
+// The turn of a flow of this rank before its first data grant. Each start of a last one comes behind it,
+// and before the turns of the rank below.
+fn first_turn(rank: u8) -> u128
+    ensures { IsTurn rank None result }
+{
+    u128::from(u8::MAX - rank) * TURNS
 }

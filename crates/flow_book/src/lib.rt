@@ -6,6 +6,7 @@ mod book;
 mod bucket;
 mod check;
 mod flow;
+mod granted;
 mod spec;
 
 pub use book::Book;

@@ -64,7 +64,7 @@ clear-purpose c flows spots start before offset slots Idle are inside some stand
 contains-more : {X : Type 0} (xs : List X) (x y : X) → Contains xs y → Contains (xs ++ x ∷ []) y
 contains-more xs x y (k, lt, at) = (k, omega (arith, length_push xs x), get_or_append_left xs (x ∷ []) y k lt ∙ at)
 
-contains-later : {X : Type 0} (xs : List X) (x y : X) → Contains xs y → Contains (x ∷ xs) y
+pub contains-later : {X : Type 0} (xs : List X) (x y : X) → Contains xs y → Contains (x ∷ xs) y
 contains-later xs x y (k, lt, at) = (suc k, omega arith, at)
 
 taken-one : (spots : List Spot) (plan : List Allocation) (a : Allocation) (s : Spot) →

@@ -6,6 +6,7 @@ pub mod EachAfterLaws
 pub mod FlowsAfter
 pub mod IdleFrame
 pub mod NextGrants
+pub mod Left
 pub mod OneMap
 pub mod Pendings
 pub mod Planned

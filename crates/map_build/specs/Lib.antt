@@ -10,5 +10,6 @@ pub mod EachAfter
 pub mod Plan
 pub mod FrameMap
 pub mod Spots
+pub mod Left
 pub mod Draft
 pub mod Walk

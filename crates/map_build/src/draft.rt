@@ -16,7 +16,7 @@ ghost use Rattle.map_build.specs.Walk.{HasPlan};
 use crate::MAX_DATA_GRANTS;
 use crate::frame_map::{ByteCounts, FrameMap};
 use flow_book::Book;
-use map_codec::{Element, Elements, WireMap, iuc};
+use map_codec::{Element, Elements, MAX_ELEMENTS, WireMap, iuc};
 use minislots::{Checked, wire};
 use std::alloc::{AllocError, Global};
 
@@ -65,8 +65,8 @@ impl Draft {
         let mut draft = Draft {
             book: copy_with_room(book)?,
             start,
-            elements: Vec::new(alloc),
-            bytes: Vec::new(alloc),
+            elements: Vec::with_capacity(alloc, usize::from(MAX_ELEMENTS))?,
+            bytes: Vec::with_capacity(alloc, usize::from(MAX_ELEMENTS))?,
             offset: 0,
             grants: 0,
         };

@@ -5,6 +5,8 @@ ghost use Rattle.map_build.specs.Plan.{most_grants, next_stop, allocation_of};
 ghost use Rattle.map_build.specs.Spots.{AreInFrame};
 ghost use Rattle.map_build.specs.Walk.{IsWellBegun, IsUnfilled, IsFilled, Takes, TakesNext, Grants, IsServed};
 ghost use Rattle.map_build.specs.Walk.{IsNextHere, IsNextAmount, idle_to};
+ghost use Rattle.map_build.specs.Left.{left_at, AreAhead};
+ghost use Rattle.minislots.specs.declared.config.Config.{Config};
 
 use crate::MAX_DATA_GRANTS;
 use crate::draft::{Draft, NOBODY, data_iuc};
@@ -14,23 +16,26 @@ use periodic::Spot;
 use std::alloc::AllocError;
 
 impl Draft {
-    /// Fills the frame from the offset that is reached.
+    /// Fills the frame from the offset that is reached. The spots that are left there go with it.
     pub(crate) fn fill(&mut self, spots: &[Spot]) -> Result<(), AllocError>
         requires placed { AreInFrame self.old.book.config spots.now }
         requires unfilled { IsUnfilled spots.now self.old }
         ensures { OnOk result (IsFilled spots.now self.old self.new) }
     {
         let frame = self.book.config().frame() as u16;
+        let mut left = spots;
         while self.offset < frame {
-            self.put_next(spots)?;
+            self.put_next(left)?;
+            left = left_at(left, self.offset);
         }
         Ok(())
     }
 
     // What stands at the offset that is reached: the spot that begins there, else a data grant to the
-    // flow that is next, else an idle.
+    // flow that is next, else an idle. The spots are those that are left.
     fn put_next(&mut self, spots: &[Spot]) -> Result<(), AllocError>
         requires placed { AreInFrame self.old.book.config spots.now }
+        requires ahead { AreAhead self.old.offset spots.now }
         requires ready { IsWellBegun self.old }
         requires inside { self.old.offset < self.old.book.config.frame }
         ensures { OnOk result (TakesNext spots.now self.old self.new) }
@@ -118,24 +123,41 @@ impl Draft {
     }
 }
 
-// The spot that begins at the offset.
-fn spot_at(spots: &[Spot], offset: u16) -> Option<&Spot>
-    ensures { option_copied result ≡ find (λ s. s.offset == offset) spots.now }
+// The spots that are left at the offset, where at most one of them begins before it.
+fn left_at(spots: &[Spot], offset: u16) -> &[Spot]
+    ensures { result.now ≡ left_at offset spots.now }
 {
-    spots.iter().find(|spot| spot.offset == offset)
+    match spots.split_first() {
+        Some((first, left)) if first.offset < offset => left,
+        _ => spots,
+    }
 }
 
-// The first minislot from the offset on at which a spot begins, or the end of the frame.
+// The spot that begins at the offset, of those that are left there.
+fn spot_at(spots: &[Spot], offset: u16) -> Option<&Spot>
+    requires placed { (c : Config) × AreInFrame c spots.now }
+    requires ahead { AreAhead offset spots.now }
+    ensures { option_copied result ≡ find (λ s. s.offset == offset) spots.now }
+{
+    let first = spots.first()?;
+    if first.offset == offset {
+        Some(first)
+    } else {
+        None
+    }
+}
+
+// The first minislot from the offset on at which a spot begins, of those that are left there, or the end
+// of the frame.
 fn next_stop(spots: &[Spot], offset: u16, config: &Checked) -> u16
+    requires placed { AreInFrame config.now spots.now }
+    requires ahead { AreAhead offset spots.now }
     ensures value { result ≡ next_stop config.now spots.now offset }
     ensures least { offset ≤ config.now.frame → offset ≤ result }
     ensures most { result ≤ config.now.frame }
 {
-    let mut stop = config.frame() as u16;
-    for spot in spots {
-        if offset <= spot.offset {
-            stop = stop.min(spot.offset);
-        }
+    match spots.first() {
+        Some(first) => first.offset,
+        None => config.frame() as u16,
     }
-    stop
 }

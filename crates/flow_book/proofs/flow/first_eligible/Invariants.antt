@@ -1,12 +1,12 @@
--- The first of those gone through, which knows its last grant.
+-- The first of those gone through, which knows its turn.
 use Rattle.std.proofs.Common.{map, take, option_map, option_copied}
 use Rattle.std.specs.Prelude.{IfSome}
 use Rattle.flow_book.specs.Choice.{IsNextOf}
-use Rattle.flow_book.specs.Entry.{live, KnowsLast}
+use Rattle.flow_book.specs.Entry.{live, KnowsTurn}
 use Rattle.flow_book.proofs.flow.first_eligible.Given as goal
 
 abbrev pub invariant-loop-flow : goal.invariant-loop-flow
 invariant-loop-flow l = record {
   next : IsNextOf l.config l.start l.room (map live (take l.flow-index l.flows)) (option_map live (option_copied l.next));
-  known : IfSome l.next (λ n. KnowsLast n.now);
+  known : IfSome l.next (λ n. KnowsTurn n.now);
 }

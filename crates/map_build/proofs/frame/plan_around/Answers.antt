@@ -1,5 +1,7 @@
 -- The MAP of the draft is the lawful one, and has bytes.
+use Rattle.std.proofs.Common.{sym, ap, subst}
 use Rattle.minislots.proofs.Bounds.{bounds_of}
+use Rattle.map_build.specs.FrameMap.{IsLawfulFrame}
 use Rattle.map_build.proofs.OneMap.{one_map}
 use Rattle.map_build.proofs.Planned.{begun-here, filled-full, planned, apart-in-frame, lawful-encodable}
 use Rattle.map_build.proofs.Planned.{lawful-from_frame}
@@ -20,7 +22,9 @@ put_end-requires c = filled-full c.args.spots.now c.in_ok-draft.draft c.fill.new
 
 pub returns-clause-lawful : goal.returns-clause-lawful
 returns-clause-lawful c =
-    rw (c.into_map.ensures.book)
+    let handed = sym (ap (λ b. b.flows) c.into_map.ensures.book) in
+    subst (IsLawfulFrame c.args.book.now.config c.args.book.now.flows c.args.spots.now c.args.start c.args.ack
+    c.into_map.result.0) handed
     (planned c.args.book.now.config c.args.book.now.flows c.args.spots.now c.args.start c.args.ack c.in_ok-draft.draft
     c.fill.new.self c.put_end.new.self
     c.into_map.result.0 c.requires.placed (c.in_ok-draft.ensures c.args.spots.now c.requires.placed)

@@ -34,7 +34,7 @@ invariant_of-self c =
     let keeps = placed-sums config c.args.sid items c.place-place.result f c.self.invariant is in
     placed-book config c.args.sid items c.place-place.result _ f c.self.invariant is refl
     (asked-sound config c.from.result (live f) sound)
-    (record { granted = keeps.granted; last = keeps.last; bucket = keeps.bucket })
+    (record { granted = keeps.granted; turn = keeps.turn; bucket = keeps.bucket })
 
 pub returns : goal.returns
 returns c =

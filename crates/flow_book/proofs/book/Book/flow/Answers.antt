@@ -19,3 +19,6 @@ returns-in-None c =
     let is : None ≡ position (λ f. f.sid == c.args.sid) items = rw c.deref.ensures.value at c.in-None.ensures in
     let none = position-map live (λ f. f.sid == c.args.sid) items ∙ sym is in
     rw (← c.self.view_is, found-none (λ f. f.sid == c.args.sid) (map live items) _ refl none) refl
+
+pub place_in-requires : goal.place_in-requires
+place_in-requires c = rw c.deref.ensures.value c.self.invariant.sound.ascending

@@ -19,3 +19,6 @@ returns c =
     let is : Some c.in-Some.place ≡ position (λ f. f.sid == c.args.sid) c.self.inside.flows.items =
     rw c.deref.ensures.value at c.in-Some.ensures in
     rw (← c.self.view_is) (position-map live (λ f. f.sid == c.args.sid) c.self.inside.flows.items ∙ sym is)
+
+pub place_in-requires : goal.place_in-requires
+place_in-requires c = rw c.deref.ensures.value c.self.invariant.sound.ascending

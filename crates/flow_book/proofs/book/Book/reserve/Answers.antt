@@ -2,7 +2,7 @@
 use Rattle.std.proofs.Common.{◌≡◌, ◌++◌, length, map, take, drop, refl, arith}
 use Rattle.flow_book.specs.Entry.{live, room_in}
 use Rattle.flow_book.specs.Book.{KeepsRoom}
-use Rattle.flow_book.proofs.Rooms.{room-live, written-back, on-ok}
+use Rattle.flow_book.proofs.Rooms.{room-live, written-back}
 use Rattle.flow_book.proofs.book.Book.reserve.Goals as goal
 
 -- all of them are written back
@@ -21,8 +21,7 @@ invariant_of-self c = rw (written c) (record {
 
 pub returns-clause-room : goal.returns-clause-room
 returns-clause-room c =
-    rw (written c)
-    (on-ok c.reserve_each.result (room-live c.reserve_each.new.flows c.args.grants) c.reserve_each.ensures.room)
+    rw (written c) (room-live c.reserve_each.new.flows c.args.grants c.reserve_each.ensures.room)
 
 pub returns-clause-kept : goal.returns-clause-kept
 returns-clause-kept c =

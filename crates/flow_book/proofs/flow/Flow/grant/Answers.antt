@@ -1,8 +1,9 @@
 -- The sums are those of the grants with this one more.
-use Rattle.std.proofs.Common.{◌≡◌, sym, ap, ◌∙◌, ◌+◌, IsTrue, arith}
-use Rattle.flow_book.specs.FlowSpec.{rate_of, burst_of}
+use Rattle.std.proofs.Common.{◌≡◌, sym, ap, ◌∙◌, ◌+◌, Some, IsTrue, arith}
+use Rattle.flow_book.specs.FlowSpec.{rank_of, rate_of, burst_of}
 use Rattle.flow_book.specs.Flows.{bytes_of}
 use Rattle.flow_book.specs.Choice.{last_start}
+use Rattle.flow_book.specs.Entry.{IsTurn}
 use Rattle.flow_book.proofs.Sums.{last-more, bytes-added}
 use Rattle.flow_book.proofs.flow.Flow.grant.Goals as goal
 
@@ -15,10 +16,12 @@ returns-clause-sums c = λ channel keeps started kept.
     c.take.ensures.taken taken channel (rate_of f.spec) (burst_of f.spec) f.grants.items keeps.bucket started in
     let bytes : f.granted + c.from.result ≡ bytes_of f.grants.items + c.args.bytes =
     omega (arith, keeps.granted, c.from.ensures) in
-    let items = c.push_reserved.ensures.items in
+    let items = c.and-self.ensures.0 in
+    let last = ap last_start items ∙ last-more f.grants.items (record { start = c.args.start; bytes = c.args.bytes }) in
+    let turn : IsTurn (rank_of f.spec) (Some c.args.start) (c.first_turn.result + c.from-2.result + 1) =
+    (omega arith, omega (arith, c.first_turn.ensures, c.rank.ensures, c.from-2.ensures)) in
     record {
       granted = bytes ∙ sym (ap bytes_of items ∙ bytes-added f.grants.items c.args.start c.args.bytes);
-      last = sym (ap last_start items
-          ∙ last-more f.grants.items (record { start = c.args.start; bytes = c.args.bytes }));
+      turn = (keeps.turn.0, rw last turn);
       bucket = rw items bucket;
     }

@@ -13,8 +13,8 @@ returns c = λ spots are.
     let begun : Draft = record {
       book = c.in_ok-copy_with_room.field-0;
       start = c.args.start;
-      elements = c.new.result;
-      bytes = c.new-2.result;
+      elements = c.in_ok-with_capacity.field-0;
+      bytes = c.in_ok-with_capacity-2.field-0;
       offset = 0;
       grants = 0;
     } in
@@ -30,8 +30,8 @@ returns c = λ spots are.
       starts = refl;
       offset = refl;
       grants = refl;
-      elements = c.new.ensures.items;
-      bytes_of = c.new-2.ensures.items;
+      elements = c.in_ok-with_capacity.ensures.items;
+      bytes_of = c.in_ok-with_capacity-2.ensures.items;
       room = c.in_ok-copy_with_room.ensures.room;
       started = c.requires.started;
     })

@@ -6,6 +6,12 @@ use Rattle.map_build.specs.Plan.{next_stop, room_at}
 use Rattle.map_build.proofs.Standings.{spot-here, spot-within, stop-behind, spot-stands, grant-stands, idle-stands}
 use Rattle.map_build.proofs.draft.Draft.put_next.Goals as goal
 
+pub spot_at-requires-clause-placed : goal.spot_at-requires-clause-placed
+spot_at-requires-clause-placed c = (c.args.self.now.book.config, c.requires.placed)
+
+pub next_stop-stop-requires-clause-placed : goal.next_stop-stop-requires-clause-placed
+next_stop-stop-requires-clause-placed c = rw c.config.ensures.value c.requires.placed
+
 pub put_spot-requires-clause-here : goal.put_spot-requires-clause-here
 put_spot-requires-clause-here c =
     (spot-here c.args.spots.now c.args.self.now.offset c.in-Some.spot.now (sym c.in-Some.ensures)).1
