@@ -52,7 +52,7 @@ all-map : {X : Type 0} (P Q : X → Type 0) (xs : List X) → ((x : X) → P x �
 all-map P Q [] step all = tt
 all-map P Q (x ∷ xs) step all = (step x all.0, all-map P Q xs step all.1)
 
-all-contains : {X : Type 0} (P : X → Type 0) (xs : List X) (x : X) → AllByRecursion P xs → Contains xs x → P x
+pub all-contains : {X : Type 0} (P : X → Type 0) (xs : List X) (x : X) → AllByRecursion P xs → Contains xs x → P x
 all-contains P xs x all (k, lt, at) = subst P at (All-from_recursion P xs all k x lt)
 
 higher : (flows : List LiveFlow) (g f : LiveFlow) (more : List LiveFlow)

@@ -1,7 +1,7 @@
 -- One step of the search for the flow that is served first.
 use Rattle.std.proofs.Common.{◌≡◌, sym, ap, ◌∙◌, ℕ, ◌+◌, ◌<◌, Bool, true, false, List, [], ◌∷◌, ◌++◌, map, length}
 use Rattle.std.proofs.Common.{get_or, take, drop, Option, None, Some, IsTrue, MatchOption, Bor, option_map}
-use Rattle.std.proofs.Common.{option_copied, arith}
+use Rattle.std.proofs.Common.{option_copied, IfSome, arith}
 use Rattle.std.specs.List.{AllByRecursion}
 use Rattle.std.proofs.Math.ListN.{get_or-map}
 use Rattle.std.proofs.lemmas.List.Elements.{All-from_recursion}
@@ -12,7 +12,7 @@ use Rattle.flow_book.specs.Flows.{LiveFlow}
 use Rattle.flow_book.specs.Choice.{is_before, IsEligible, IsNextOf}
 use Rattle.flow_book.specs.Entry.{live}
 use Rattle.flow_book.specs.Book.{Ascend}
-use Rattle.flow_book.proofs.Order.{lower-before, next-first, next-changes, next-stays}
+use Rattle.flow_book.proofs.Order.{lower-before, all-contains, next-first, next-changes, next-stays}
 
 module _ {X Y : Type 0} (h : X → Y) (items : List X) (i : ℕ) (x : X) (lt : i < length items)
     (is : x ≡ get_or items i x) where
@@ -41,6 +41,12 @@ lower-item items i f lt is up =
     lower-before (map live (take i items)) (live f) (map live (drop (i + 1) items)) (rw parts at up)
 
 module _ (c : Config) (start room : ℕ) (flows : List LiveFlow) (f : Flow) where
+  -- the next of those before it has a lower SID
+  pub next-lower : (o : Option (Bor Flow)) → IsNextOf c start room flows (option_map live (option_copied o))
+      → AllByRecursion (λ g. g.sid < (live f).sid) flows → IfSome o (λ n. n.now.sid < f.sid)
+  next-lower None is lower = tt
+  next-lower (Some n) is lower = all-contains (λ (g : LiveFlow). g.sid < f.sid) flows (live n.now) lower is.live
+
   -- a flow that may be served and comes before the next is the next
   pub step-changes : (o : Option (Bor Flow)) (r : Bool)
       → IsNextOf c start room flows (option_map live (option_copied o)) → IsEligible c start room (live f)

@@ -1,7 +1,7 @@
 //! One live flow: what it asked, and what its data grants come to.
 
 ghost use Rattle.std.specs.Prelude.{◌≡◌, ℕ, ◌+◌, ◌-◌, ◌<◌, ◌≤◌, map, length, slice_index_or, IsTrue};
-ghost use Rattle.std.specs.Prelude.{◌↔◌, None, nat_lt, ◌==◌, ◌||◌, ◌&&◌, MatchOption, IfSome, option_map};
+ghost use Rattle.std.specs.Prelude.{◌↔◌, None, nat_lt, MatchOption, IfSome, option_map};
 ghost use Rattle.std.specs.Prelude.{option_copied};
 ghost use Rattle.std.specs.List.{AllByRecursion};
 ghost use Rattle.minislots.specs.declared.config.Config.{Config};
@@ -88,24 +88,25 @@ impl Flow {
         self.asked - self.granted
     }
 
-    // Whether this flow is served before the other: by rank from the highest, then by the start of the
-    // last grant, none before any, then by SID.
-    pub(crate) fn is_before(&self, other: &Flow) -> bool
-        requires turn { KnowsTurn self.now }
-        requires other_turn { KnowsTurn other.now }
-        ensures { result ≡ is_before (live self.now) (live other.now) }
+    // Whether the flow waits for bytes.
+    fn waits(&self) -> bool
+        requires sum { self.now.granted ≡ granted (live self.now) }
+        requires within { granted (live self.now) ≤ self.now.asked }
+        ensures { result ≡ nat_lt 0 (outstanding (live self.now)) }
     {
-        comes_first(self.turn, self.sid, other.turn, other.sid)
+        self.outstanding() > 0
     }
 
-    // Whether this flow is served before the next of those before it, if there is one.
+    // Whether this flow is served before the next of those before it, if there is one: by rank from the
+    // highest, then by the start of the last grant, none before any, then by SID, which is higher here.
     fn comes_before(&self, next: Option<&Flow>) -> bool
         requires turn { KnowsTurn self.now }
         requires next_turn { IfSome next (λ n. KnowsTurn n.now) }
+        requires lower { IfSome next (λ n. n.now.sid < self.now.sid) }
         ensures { MatchOption next.entry (IsTrue result) (λ n. result ≡ is_before (live self.now) (live n.now)) }
     {
         match next {
-            Some(next) => self.is_before(next),
+            Some(next) => self.turn < next.turn,
             None => true,
         }
     }
@@ -173,7 +174,7 @@ pub(crate) fn first_eligible<'a>(
 {
     let mut next = None;
     for flow in flows {
-        if flow.comes_before(next) && flow.is_eligible(config, start, room) {
+        if flow.waits() && flow.comes_before(next) && flow.is_eligible(config, start, room) {
             next = Some(flow);
         }
     }
@@ -191,13 +192,6 @@ pub(crate) fn reserve_each(flows: &mut [Flow], grants: usize)
     for flow in flows.iter_mut() {
         flow.grants = GrantList::with_room(&flow.grants, &grants);
     }
-}
-
-// Whether the one turn comes before the other, of two flows with these SIDs.
-fn comes_first(turn: u128, sid: u16, other_turn: u128, other_sid: u16) -> bool
-    ensures { result ≡ (nat_lt turn other_turn || (turn == other_turn && nat_lt sid other_sid)) }
-{
-    turn < other_turn || turn == other_turn && sid < other_sid
 }
 
 // The turn of a flow of this rank before its first data grant. Each start of a last one comes behind it,

@@ -1,6 +1,6 @@
 -- The spots that are left at an offset, as the walk along the frame goes on.
-use Rattle.std.proofs.Common.{◌≡◌, ℕ, zero, suc, ◌+◌, ◌<◌, ◌≤◌, min, Bool, true, false, nat_le, nat_lt, ◌==◌, List, [], ◌∷◌}
-use Rattle.std.proofs.Common.{length, find, slice_get, Contains, Option, None, Some, if◌then◌else◌, refl, sym, ap, ◌∙◌, arith}
+use Rattle.std.proofs.Common.{◌≡◌, ℕ, zero, ◌+◌, ◌<◌, ◌≤◌, min, Bool, true, false, nat_le, nat_lt, ◌==◌, List, []}
+use Rattle.std.proofs.Common.{◌∷◌, find, slice_get, Contains, None, Some, if◌then◌else◌, refl, sym, ap, ◌∙◌, arith}
 use Rattle.std.specs.Prelude.{MatchOption}
 use Rattle.std.specs.List.{AllByRecursion}
 use Rattle.std.proofs.lemmas.Bool.{le-leb, cond_both}
@@ -8,7 +8,6 @@ use Rattle.std.proofs.lemmas.Bool.Decides.{nat_tests}
 use Rattle.minislots.specs.declared.config.Config.{Config}
 use Rattle.flow_book.specs.Flows.{LiveFlow}
 use Rattle.periodic.specs.declared.placement.Spot.{Spot}
-use Rattle.periodic.specs.Table.{FollowInTurn}
 use Rattle.map_build.specs.Plan.{Purpose, Poll, UnsolicitedGrant, DataGrant, Idle, Allocation, next_stop, Stands}
 use Rattle.map_build.specs.Plan.{StandsByItsRule, allocation_of}
 use Rattle.map_build.specs.Spots.{IsInFrame, AreInFrame}

@@ -8,4 +8,5 @@ pub returns : goal.returns
 returns c =
     let facts = c.binary_search_by_key.ensures in
     let by_sid = facts.position (λ flow. flow.sid) (answers_always _ _ _ (λ f a r g called. search rules)) in
-    c.ok.ensures.value ∙ searched c.args.flows.now c.args.sid c.binary_search_by_key.result c.requires facts.bound by_sid
+    c.ok.ensures.value
+    ∙ searched c.args.flows.now c.args.sid c.binary_search_by_key.result c.requires facts.bound by_sid

@@ -1,3 +1,4 @@
+-- `none` makes the empty struct, with no grants and no room. Assumes `Logic`.
 use mathlib.Core.Path.{refl}
 use mathlib.Core.List.{[], ◌∷◌}
 use seplogic.Ra.Ura.{Ura}
@@ -24,24 +25,30 @@ use Rattle.flow_book.specs.contracts.granted.GrantList.none.Key.{name as key}
 use Rattle.flow_book.specs.contracts.granted.GrantList.none as f
 use Rattle.flow_book.proofs.granted.GrantList.none.Statement as stated
 use Rattle.flow_book.proofs.granted.GrantList.none.Code as code
-use Rattle.flow_book.specs.contracts.granted.GrantList as made
+use Rattle.flow_book.specs.contracts.granted.GrantList as list
 
 abbrev stayed : Stays (f.ended).signature.params (f.ended).kept
 stayed = tt
 
-module _ {M : Type 1} {𝓤 : Ura M} (𝓛 : Logic 𝓤) (mem : Memory → SProp 𝓤) (run : Routine → Fun 𝓤) (C : Calls 𝓤 𝓛.H) (Λ : Loops 𝓤 𝓛.H) where
+module _ {M : Type 1} {𝓤 : Ura M} (𝓛 : Logic 𝓤) (mem : Memory → SProp 𝓤) (run : Routine → Fun 𝓤)
+    (C : Calls 𝓤 𝓛.H) (Λ : Loops 𝓤 𝓛.H) where
   open 𝓛 use {H}
 
   abbrev bound : (walk_of 𝓛 f.ended stayed (f.clauses 𝓛 mem run)).Ghost
   bound = ((tt, tt, tt, tt, tt), tt)
 
-  walk : ent 𝓤 (on_entry 𝓛 f.signature tt tt tt tt) (WpFn 𝓤 H C Λ code.function [] ((walk_of 𝓛 f.ended stayed (f.clauses 𝓛 mem run)).post bound))
+  abbrev made : list.the_row.Denot
+  made = record { items = []; room = 0 }
+
+  walk : ent 𝓤 (on_entry 𝓛 f.signature tt tt tt tt)
+      (WpFn 𝓤 H C Λ code.function [] ((walk_of 𝓛 f.ended stayed (f.clauses 𝓛 mem run)).post bound))
   walk =
       qed 𝓛 (raw (alive 𝓛 f.signature tt tt) ∷ ‵ (owns [] tt tt) ∷ []) ∵ enter ! C Λ code.function [] _ $
       alloc_all ! (λ l. pass_all ! refl tt $ sets ! (agg ! (no_more !)) refl (tt, tt) $
       returns ! (look_at ! 0 refl) $ free_all ! refl $
-      suffices ! _ (ends_at 𝓛 f.ended stayed (f.clauses 𝓛 mem run) bound (vstruct vnil) (record { items = []; room = 0 }) tt tt) $
-      says ! refl $ pure_i ! (made.the_row.own_val (record { items = []; room = 0 }) (vstruct vnil ∷ [])) ((λ vss. (tt, tt)), tt) ((tt, (refl, tt)), tt) $
+      suffices ! _ (ends_at 𝓛 f.ended stayed (f.clauses 𝓛 mem run) bound (vstruct vnil) made tt tt) $
+      says ! refl $ pure_i ! (list.the_row.own_val made (vstruct vnil ∷ []))
+      ((λ vss. (tt, tt)), tt) ((tt, (refl, tt)), tt) $
       move ! (1 ∷ 2 ∷ 0 ∷ []) $ done !)
 
   walks : Walks 𝓛 f.ended stayed (WpFn 𝓤 H C Λ code.function) (f.clauses 𝓛 mem run)
