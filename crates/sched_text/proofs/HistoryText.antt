@@ -16,7 +16,7 @@ use Rattle.sched_history.specs.declared.reply.Reply.TheVariants.{Refused}
 use Rattle.sched_history.specs.declared.reply.Entry.{Entry}
 use Rattle.sched_text.specs.Json.{count, counts, flow_data, call_data, plain_data, placed_data, map_data, refused_data}
 use Rattle.sched_text.specs.Json.{reply_data}
-use Rattle.sched_text.specs.HistoryText.{config_data, entry_data, entries_data, history_data}
+use Rattle.sched_text.specs.HistoryText.{config_data, entry_data}
 use Rattle.sched_text.specs.Line.{refusal_number, refusal_value}
 
 -- two tests that fail
@@ -76,15 +76,12 @@ reply-whole (Skipped next) = refl
 reply-whole (Flow asked granted outstanding) = refl
 reply-whole (Refused refusal) = refused-whole (refusal_number refusal) (refusal_value refusal)
 
-entry-whole : (e : Entry) → has_float (entry_data e) ≡ false
+-- an entry has no fraction
+pub entry-whole : (e : Entry) → has_float (entry_data e) ≡ false
 unfolding entry_data
 entry-whole e = rw (call-whole e.call, reply-whole e.reply) refl
 
-config-whole : (c : Config) → has_float (config_data c) ≡ false
+-- nor has a configuration
+pub config-whole : (c : Config) → has_float (config_data c) ≡ false
 unfolding config_data
 config-whole c = refl
-
--- a history has no fraction
-pub history-whole : (c : Config) (es : List Entry) → has_float (history_data c es) ≡ false
-unfolding history_data entries_data
-history-whole c es = rw (config-whole c, items-whole entry_data es entry-whole) refl

@@ -3,6 +3,7 @@ pub mod Calls
 pub mod Fields
 pub mod HistoryText
 pub mod Items
+pub mod JoinedText
 pub mod Outcome
 pub mod RowsFaults
 pub mod RowsHistory

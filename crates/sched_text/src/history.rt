@@ -1,13 +1,14 @@
 //! The text of a history.
 
-ghost use Rattle.std.specs.Prelude.{◌≡◌, ◌≢◌, IfOk, OnOk, IfErr, string_bytes, ◌⊎◌};
+ghost use Rattle.std.specs.Prelude.{◌≡◌, ◌≢◌, ◌++◌, false, IfOk, OnOk, IfErr, ◌⊎◌};
 ghost use Rattle.std.specs.List.{AllByRecursion};
 ghost use Rattle.std.specs.Io.KnownBytes.{Appends};
 ghost use Rattle.serde_json.specs.Data.{object, no_members};
 ghost use Rattle.serde_json.specs.View.{view, members_view};
+ghost use Rattle.serde_json.specs.Written.{has_float, compact_text, comma_if};
 ghost use Rattle.sched_history.specs.Machine.{IsEncodable};
 ghost use Rattle.sched_text.specs.Json.{call_data, reply_data};
-ghost use Rattle.sched_text.specs.HistoryText.{config_data, entry_data, entries_data, history_data, history_text};
+ghost use Rattle.sched_text.specs.HistoryText.{config_data, entry_data, joined, history_text};
 
 mod call;
 mod config;
@@ -78,53 +79,58 @@ fn entry_value(alloc: Global, entry: &Entry) -> Result<Value, AllocError>
     Ok(Value::Object(map))
 }
 
-#[tactic(auto, unfolding(crate::specs::HistoryText::entries_data))]
-fn entries_value(alloc: Global, entries: &[Entry]) -> Result<Value, AllocError>
-    requires { AllByRecursion (λ e. IsEncodable e.reply) entries.now }
-    ensures { IfOk result (λ v. view v ≡ entries_data entries.now) }
+// Puts the text of a value behind the bytes.
+fn push_value(text: &mut Vec<u8>, alloc: Global, value: &Value) -> Result<(), AllocError>
+    requires { has_float (view value.now) ≡ false }
+    ensures { OnOk result (text.new.items ≡ text.old.items ++ compact_text (view value.now)) }
 {
-    let mut values = Vec::with_capacity(alloc, entries.len())?;
-    for entry in entries {
-        values.push(entry_value(alloc, entry)?)?;
-    }
-    Ok(Value::Array(values))
+    let piece = value.to_vec(alloc)?;
+    text.extend_from_slice(&piece)
 }
 
-// Puts a history under a configuration.
-#[tactic(auto, unfolding(crate::specs::HistoryText::history_data))]
-fn put_members(
-    map: &mut Map<String, Value>,
+// Puts the text of an entry behind the bytes, after a comma where one stands before it.
+fn push_entry(
+    text: &mut Vec<u8>,
     alloc: Global,
-    config: &Config,
-    entries: &[Entry],
+    later: bool,
+    entry: &Entry,
 ) -> Result<(), AllocError>
-    requires encodable { AllByRecursion (λ e. IsEncodable e.reply) entries.now }
-    requires empty { members_view map.old.entries ≡ no_members }
-    ensures { OnOk result (object (members_view map.new.entries) ≡ history_data config.now entries.now) }
+    requires { IsEncodable entry.now.reply }
+    ensures { OnOk result (text.new.items
+        ≡ text.old.items ++ (comma_if later ++ compact_text (entry_data entry.now))) }
 {
-    let config = config_value(alloc, config)?;
-    serde_json::put(map, alloc, "config", config)?;
-    let entries = entries_value(alloc, entries)?;
-    serde_json::put(map, alloc, "entries", entries)
+    if later {
+        text.push(b',')?;
+    }
+    let value = entry_value(alloc, entry)?;
+    push_value(text, alloc, &value)
 }
 
-fn history_value(alloc: Global, config: &Config, entries: &[Entry]) -> Result<Value, AllocError>
+// Puts the texts of entries behind the bytes, with commas between them.
+fn push_entries(text: &mut Vec<u8>, alloc: Global, entries: &[Entry]) -> Result<(), AllocError>
     requires { AllByRecursion (λ e. IsEncodable e.reply) entries.now }
-    ensures { IfOk result (λ v. view v ≡ history_data config.now entries.now) }
+    ensures { OnOk result (text.new.items ≡ text.old.items ++ joined false entries.now) }
 {
-    let mut map = Map::new(alloc);
-    put_members(&mut map, alloc, config, entries)?;
-    Ok(Value::Object(map))
+    for (place, entry) in entries.iter().enumerate() {
+        push_entry(text, alloc, place > 0, entry)?;
+    }
+    Ok(())
 }
 
-/// The text of a history: JSON without spaces, keys in ascending order, and one newline.
+/// The text of a history: JSON without spaces, keys in ascending order, and one newline. One entry after the other is
+/// a JSON value.
 #[tactic(auto, unfolding(crate::specs::HistoryText::history_text))]
-fn history_text(alloc: Global, config: &Config, entries: &[Entry]) -> Result<String, AllocError>
+fn history_text(alloc: Global, config: &Config, entries: &[Entry]) -> Result<Vec<u8>, AllocError>
     requires { AllByRecursion (λ e. IsEncodable e.reply) entries.now }
-    ensures { IfOk result (λ text. string_bytes text ≡ history_text config.now entries.now) }
+    ensures { IfOk result (λ text. text.items ≡ history_text config.now entries.now) }
 {
-    let mut text = history_value(alloc, config, entries)?.to_string(alloc)?;
-    text.push_str("\n")?;
+    let mut text = Vec::new(alloc);
+    text.extend_from_slice(b"{\"config\":")?;
+    let config = config_value(alloc, config)?;
+    push_value(&mut text, alloc, &config)?;
+    text.extend_from_slice(b",\"entries\":[")?;
+    push_entries(&mut text, alloc, entries)?;
+    text.extend_from_slice(b"]}\n")?;
     Ok(text)
 }
 
@@ -142,5 +148,5 @@ pub fn put_history<W: Write>(
     ensures err { IfErr result (λ e. (e ≡ TextFault.Memory) ⊎ (e ≡ TextFault.Output)) }
 {
     let text = history_text(alloc, config, entries)?;
-    put(writer, text.as_bytes())
+    put(writer, &text)
 }

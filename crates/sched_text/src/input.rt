@@ -14,7 +14,7 @@ use std::io::Read;
 pub const MAX_INPUT: usize = 16_777_216;
 
 /// The bytes of one read.
-const PIECE: usize = 4096;
+const PIECE: usize = 65_536;
 
 /// All bytes that the reader has. A read that fails ends it, one that was interrupted among them,
 /// and so does the first byte too many, after which nothing more is read.
