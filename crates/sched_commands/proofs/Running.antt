@@ -2,7 +2,7 @@
 use Rattle.std.proofs.Common.{◌≡◌, ℕ, ◌+◌, ◌<◌, ◌≤◌, ◌↔◌, true, false, List, [], ◌∷◌, ◌++◌, length, get_or, take}
 use Rattle.std.proofs.Common.{Option, Ok, Err, refl, sym, ap, ◌∙◌, inl, inr, arith}
 use Rattle.std.specs.Prelude.{flat_map, IfOk, OnOk, OnErr, IsErrOf}
-use Rattle.std.specs.Io.KnownBytes.{Appends}
+use Rattle.std.specs.Io.KnownBytes.{Appends, append_known}
 use Rattle.std.proofs.KnownBytes.{Appends-trans}
 use Rattle.std.proofs.lemmas.Bool.{cases_lt}
 use Rattle.std.proofs.lemmas.List.{append-nil, take_more, take_all, length-take}
@@ -16,6 +16,7 @@ use Rattle.sched_history.specs.Machine.{Machine, MayLackMemory}
 use Rattle.sched_text.specs.Line.{Answer}
 use Rattle.sched_commands.specs.Answer.{MayGet, recorded, recorded_entries, MakesCall, MakesCalls}
 use Rattle.sched_text.specs.Line.{line_of}
+use Rattle.sched_text.proofs.Written.{Appends-out}
 use Rattle.sched_text.specs.HistoryText.{history_text}
 use Rattle.sched_commands.specs.Run.{AnswersEach}
 use Rattle.sched_commands.proofs.Answered.{MayGetEach-push, recorded_entries-push, IsLegal-answered}
@@ -98,6 +99,16 @@ Runs-push old mid new calls i d answer before between after below runs one line 
 pub MakesCalls-legal : (old new : Machine) (calls : List Call) (answers : List Answer)
     → MakesCalls old new calls answers → IsLegal old.config (recorded_entries 0 calls answers)
 MakesCalls-legal old new calls answers makes = IsLegal-answered old.config [] 0 calls answers tt makes.each
+
+-- the lines that waited are written
+pub Runs-written : (old new : Machine) (calls : List Call) (before between after : Option (List ℕ)) (waiting : List ℕ)
+    → Runs old new calls before (append_known between waiting) → Appends between after waiting
+    → Runs old new calls before after
+Runs-written old new calls before between after waiting runs out = record {
+  answers = runs.answers;
+  makes = runs.makes;
+  written = Appends-out before between after waiting (flat_map line_of runs.answers) runs.written out;
+}
 
 -- all calls, with their lines
 pub Runs-whole : (old new : Machine) (calls : List Call) (n : ℕ) (before after : Option (List ℕ))

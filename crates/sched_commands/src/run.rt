@@ -8,7 +8,7 @@ ghost use Rattle.sched_commands.specs.Run.{AnswersEach, Ran, Stops};
 use crate::fault::RunFault;
 use minislots::{Checked, Stamp};
 use sched_history::{Call, Reply, Scheduler, Unrecorded};
-use sched_text::{TextFault, put_history, put_line, read_script};
+use sched_text::{LineBuffer, TextFault, put_history, read_script};
 use std::alloc::Global;
 use std::io::{Read, Write};
 
@@ -24,7 +24,7 @@ fn make_call(scheduler: &mut Scheduler, place: usize, call: Call) -> Result<Repl
     scheduler.call(stamp, call)
 }
 
-// Makes the calls of a script one after the other, and writes the line of each answer.
+// Makes the calls of a script one after the other, and writes the line of each answer, many lines at a time.
 fn run_calls<W: Write>(
     scheduler: &mut Scheduler,
     calls: &[Call],
@@ -36,11 +36,12 @@ fn run_calls<W: Write>(
         (W.contents writer.old) (W.contents writer.new)) }
     ensures err { IfErr result (λ e. e ≡ TextFault.Output) }
 {
+    let mut lines = LineBuffer::new();
     for (place, call) in calls.iter().enumerate() {
         let answer = make_call(scheduler, place, *call);
-        put_line(writer, &answer)?;
+        lines.put_line(writer, &answer)?;
     }
-    Ok(())
+    lines.write_out(writer)
 }
 
 // Makes the calls of a script one after the other.

@@ -2,6 +2,7 @@
 
 mod faults;
 mod histories;
+mod lines;
 mod readers;
 pub mod scripts;
 mod storms;

@@ -1,5 +1,6 @@
 //! Readers and writers that fail.
 
+use std::alloc::Global;
 use std::io;
 use std::io::{ErrorKind, Read, Write};
 
@@ -42,6 +43,41 @@ impl Write for Narrow {
         }
         self.room -= 1;
         Ok(1)
+    }
+
+    fn flush(&mut self) -> io::Result<()> {
+        Ok(())
+    }
+}
+
+/// Keeps what it takes: so many bytes at most at each write, until it fails after so many writes.
+#[derive(Drop)]
+pub struct Keeping {
+    pub taken: Vec<u8>,
+    most: usize,
+    writes_left: usize,
+}
+
+impl Keeping {
+    pub fn new(alloc: Global, most: usize, writes_left: usize) -> Keeping {
+        let taken = Vec::new(alloc);
+        Keeping {
+            taken,
+            most,
+            writes_left,
+        }
+    }
+}
+
+impl Write for Keeping {
+    fn write(&mut self, buf: &[u8]) -> io::Result<usize> {
+        if self.writes_left == 0 {
+            return Err(io::Error::new(ErrorKind::Other, "fails here"));
+        }
+        self.writes_left -= 1;
+        let len = self.most.min(buf.len());
+        self.taken.extend_from_slice(&buf[..len])?;
+        Ok(len)
     }
 
     fn flush(&mut self) -> io::Result<()> {

@@ -1,10 +1,10 @@
 //! Writes that fail.
 
 use super::tables::ONE_MAP;
-use crate::base::fakes::Narrow;
-use crate::base::texts::script_in;
+use crate::base::fakes::{Keeping, Narrow};
+use crate::base::texts::{config_of, push_part, script_in, script_of};
 use sched_commands::{RunFault, decode_text, run_script};
-use std::alloc::Global;
+use std::alloc::{AllocError, Global};
 use std::io::ErrorKind;
 use std::process::Abort;
 use std::test::Fail;
@@ -75,4 +75,52 @@ fn a_failed_write_ends_what_is_shown(rt: HostRuntime) {
     shows_until(&rt, alloc, payload, ONE_MAP.len(), true);
     shows_until(&rt, alloc, "0g", 10, false);
     shows_until(&rt, alloc, "", 8, false);
+}
+
+// A script of so many questions about a flow that is not live.
+fn questions(alloc: Global, count: usize) -> Result<String, Fail> {
+    let mut calls = String::new(alloc);
+    for _ in 0..count {
+        push_part(&mut calls, r#"{"call":"status","sid":17}"#)?;
+    }
+    Ok(script_of(alloc, &config_of(alloc, "")?, &calls)?)
+}
+
+// Their lines: the first thousand are recorded.
+fn lines_of_questions(alloc: Global, count: usize) -> Result<String, AllocError> {
+    let mut lines = String::new(alloc);
+    for place in 0..count {
+        lines.push_str(if place < 1000 {
+            "refused 7\n"
+        } else {
+            "history full\n"
+        })?;
+    }
+    Ok(lines)
+}
+
+#[test]
+fn a_write_that_fails_after_others_leaves_a_front_of_the_lines(
+    rt: HostRuntime,
+) -> Result<(), Fail> {
+    let alloc = rt.alloc();
+    let (script, lines) = (questions(alloc, 1300)?, lines_of_questions(alloc, 1300)?);
+    // The lines have 13900 bytes, of which the first 8190 are written first.
+    for (writes, len) in [
+        (0, 0),
+        (1, 3000),
+        (2, 6000),
+        (3, 8190),
+        (4, 11_190),
+        (5, 13_900),
+    ] {
+        let mut writer = Keeping::new(alloc, 3000, writes);
+        let outcome = run_script(alloc, &mut script.as_bytes(), &mut writer, false);
+        assert!(rt;
+            writer.taken.as_slice() == &lines.as_bytes()[..len],
+            "after {writes} writes"
+        );
+        assert!(rt; outcome.is_ok() == (writes == 5), "after {writes} writes");
+    }
+    Ok(())
 }

@@ -1,5 +1,6 @@
--- Each call leads the run one step on.
-use Rattle.sched_commands.proofs.Running.{Runs-push, Runs-whole}
+-- Each call leads the run one step on, and the lines that wait at the end are written.
+use Rattle.sched_text.proofs.Written.{where_ok}
+use Rattle.sched_commands.proofs.Running.{Runs-push, Runs-written, Runs-whole}
 use Rattle.sched_commands.proofs.run.run_calls.Goals as goal
 
 pub loop-place-preserved : goal.loop-place-preserved
@@ -10,4 +11,6 @@ loop-place-preserved g c =
 
 pub returns-clause-ok : goal.returns-clause-ok
 returns-clause-ok g c =
-    let at = c.loop-place in Runs-whole _ _ c.args.calls.now at.place _ _ c.loop-place-test.false at.invariant
+    let at = c.loop-place in
+    where_ok c.write_out.result (λ out. Runs-whole _ _ c.args.calls.now at.place _ _ c.loop-place-test.false
+    (Runs-written _ _ _ _ _ _ _ at.invariant out)) c.write_out.ensures.ok
