@@ -53,7 +53,7 @@ pub apart-first : (o : Option Spot) (spots : List Spot) (s : Spot) → o ≡ Som
 apart-first None spots s is apart = absurd (cc)
 apart-first (Some t) spots s is apart = subst (λ u. AllByRecursion (IsApart u) spots) (same_Some t s is) apart.0
 
-all-spots-with : (c : Config) (k : ℕ) (P : Spot → Type 0) (f : Placed) (placed : List Placed)
+pub all-spots-with : (c : Config) (k : ℕ) (P : Spot → Type 0) (f : Placed) (placed : List Placed)
     → ((s : Spot) → spot_in c k f ≡ Some s → P s) → AllByRecursion P (spots_in c k placed)
     → AllByRecursion P (spots_in c k (with_placed f placed))
 all-spots-with c k P f [] here all = all-cons P (spot_in c k f) [] here tt
@@ -98,7 +98,7 @@ module _ (c : Config) (placed : List Placed) (sid : ℕ) (spec : FlowSpec) (next
     free = tt;
   }
 
-  new-sound : 0 < sid → sid ≤ 8191 → is_periodic spec ≡ true → first_fault c spec ≡ None
+  pub new-sound : 0 < sid → sid ≤ 8191 → is_periodic spec ≡ true → first_fault c spec ≡ None
       → IsPlacement c placed spec next p → IsSoundPlaced c new
   new-sound some most periodic none is = record {
     sid_positive = some;

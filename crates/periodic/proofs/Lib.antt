@@ -10,3 +10,8 @@ pub mod EachFrame
 pub mod Choosing
 pub mod Adding
 pub mod Removing
+pub mod Words
+pub mod Occupied
+pub mod Seeking
+pub mod Marking
+pub mod Standing

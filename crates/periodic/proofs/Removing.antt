@@ -9,7 +9,7 @@ use Rattle.periodic.specs.Placement.{Placed, spot_in, spots_in}
 use Rattle.periodic.specs.Table.{IsApart, AreApart, IsSoundPlaced, AreSound}
 use Rattle.periodic.proofs.Adding.{all-cons, all-first, all-rest, apart-cons, apart-first, apart-rest}
 
-all-spots-filter : (c : Config) (k : ℕ) (P : Spot → Type 0) (p : Placed → Bool) (placed : List Placed)
+pub all-spots-filter : (c : Config) (k : ℕ) (P : Spot → Type 0) (p : Placed → Bool) (placed : List Placed)
     → AllByRecursion P (spots_in c k placed) → AllByRecursion P (spots_in c k (filter p placed))
 all-spots-filter c k P p [] all = tt
 all-spots-filter c k P p (f ∷ placed) all =

@@ -4,9 +4,11 @@ use Rattle.std.specs.List.{AllByRecursion}
 use Rattle.minislots.specs.declared.config.Config.{Config}
 use Rattle.periodic.specs.declared.TheConstants.{MAX_PERIODIC_FLOWS}
 use Rattle.periodic.specs.declared.placement.Placement.{Placement}
+use Rattle.periodic.specs.declared.bits.Bits.{Bits}
 use Rattle.periodic.specs.declared.spots.PlacedFlow.{PlacedFlow}
 use Rattle.periodic.specs.Placement.{Placed}
-use Rattle.periodic.specs.Table.{IsSoundPlaced}
+use Rattle.periodic.specs.Table.{IsSoundPlaced, AreSound}
+use Rattle.periodic.specs.Rows.{AreRowsOf}
 
 -- the placement of this reference and these starts
 abbrev pub placement_at : ℕ → List ℕ → Placement
@@ -24,3 +26,8 @@ placed_in flows = map placed_of flows
 pub record AreSoundFlows (c : Config) (flows : List PlacedFlow) : Type 0 where
   pub each : AllByRecursion (IsSoundPlaced c) (placed_in flows)
   pub most : length flows ≤ MAX_PERIODIC_FLOWS
+
+-- What is true of the fields of every table
+pub record AreSoundFields (c : Config) (flows : List PlacedFlow) (rows : List Bits) : Type 0 where
+  pub sound : AreSound c (placed_in flows)
+  pub told : AreRowsOf c (placed_in flows) rows

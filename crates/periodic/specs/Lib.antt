@@ -5,5 +5,7 @@ pub use Rattle.flow_book.specs.Sids
 pub mod Placement
 pub mod Table
 pub mod Choice
+pub mod Bits
+pub mod Rows
 pub mod Fields
 pub mod Search

@@ -4,18 +4,21 @@ use Rattle.minislots.specs.declared.config.Config.{Config}
 use Rattle.flow_book.specs.declared.spec.FlowSpec.{FlowSpec}
 use Rattle.flow_book.specs.FlowSpec.{interval_frames, jitter_slots, periodic_slots}
 use Rattle.periodic.specs.declared.placement.Placement.{Placement}
-use Rattle.periodic.specs.declared.placement.Spot.{Spot}
+use Rattle.periodic.specs.declared.bits.Bits.{Bits}
 use Rattle.periodic.specs.declared.search.Wanted.{Wanted}
 use Rattle.periodic.specs.declared.search.Row.{Row}
 use Rattle.periodic.specs.declared.search.Found.{Found}
 use Rattle.periodic.specs.declared.search.Chosen.{Chosen}
-use Rattle.periodic.specs.Placement.{Placed, nominal_places, spots_in, AreFree, IsLawfulStart, EachPlace}
+use Rattle.periodic.specs.Bits.{IsClear}
+use Rattle.periodic.specs.Rows.{row_at}
+use Rattle.periodic.specs.Placement.{nominal_places, EachPlace}
 use Rattle.periodic.specs.Choice.{AreNoLater}
 use Rattle.periodic.specs.Fields.{placement_at}
 
--- What is looked for has an interval, and fits behind the request region
+-- What is looked for has an interval, is not empty and fits behind the request region
 pub record CanBeSought (c : Config) (w : Wanted) : Type 0 where
   pub interval_positive : 0 < w.interval
+  pub not_empty : 0 < w.slots
   pub fits : w.slots + c.req_slots ≤ c.frame
 
 -- What is looked for is what these parameters say
@@ -24,64 +27,81 @@ pub record IsWantedOf (c : Config) (spec : FlowSpec) (w : Wanted) : Type 0 where
   pub jitter : w.jitter ≡ jitter_slots c spec
   pub slots : w.slots ≡ periodic_slots c spec
 
--- a start that is lawful in a frame with these spots
-abbrev pub IsStartOf : Config → Wanted → ℕ → List Spot → ℕ → Type 0
-IsStartOf c w offset spots start = IsLawfulStart c w.jitter w.slots offset spots start
+-- A start with so many free minislots behind it in a frame of this length
+pub record IsFreeStart (words : List ℕ) (frame slots from start : ℕ) : Type 0 where
+  pub after : from ≤ start
+  pub within : start + slots ≤ frame
+  pub clear : IsClear words start slots
 
--- no start is lawful in a frame with these spots
-abbrev pub HasNoStart : Config → Wanted → ℕ → List Spot → Type 0
-HasNoStart c w offset spots = (start : ℕ) → IsStartOf c w offset spots start → ⊥
+-- The first of these
+pub record IsNextStart (words : List ℕ) (frame slots from start : ℕ) : Type 0 where
+  pub free : IsFreeStart words frame slots from start
+  pub least : (other : ℕ) → IsFreeStart words frame slots from other → start ≤ other
 
--- Up to this end, which lies behind it, the start and all later ones are not free
-pub record EndsBlocker (spots : List Spot) (start slots end : ℕ) : Type 0 where
-  pub later : start < end
-  pub not_free : (between : ℕ) → start ≤ between → between < end → AreFree spots between slots → ⊥
+-- A start within the jitter after an offset
+pub record IsStartOf (c : Config) (w : Wanted) (offset : ℕ) (words : List ℕ) (start : ℕ) : Type 0 where
+  pub free : IsFreeStart words c.frame w.slots offset start
+  pub within_jitter : start ≤ offset + w.jitter
 
--- The first lawful start in a frame
-pub record IsFirstStart (c : Config) (w : Wanted) (offset : ℕ) (spots : List Spot) (start : ℕ) : Type 0 where
-  pub lawful : IsStartOf c w offset spots start
-  pub least : (other : ℕ) → IsStartOf c w offset spots other → start ≤ other
+-- The first of these starts
+pub record IsFirstStart (c : Config) (w : Wanted) (offset : ℕ) (words : List ℕ) (start : ℕ) : Type 0 where
+  pub lawful : IsStartOf c w offset words start
+  pub least : (other : ℕ) → IsStartOf c w offset words other → start ≤ other
+
+-- The next offset at which P may hold: it does at none from here up to that one
+pub record IsNextOffset (c : Config) (P : ℕ → Type 0) (offset next : ℕ) : Type 0 where
+  pub later : offset < next
+  pub most : next ≤ c.frame
+  pub none : (between : ℕ) → offset ≤ between → between < next → P between → ⊥
+
+-- the offsets at which a frame has a start
+abbrev pub HasStartAt : Config → Wanted → List ℕ → ℕ → Type 0
+HasStartAt c w words offset = (start : ℕ) × IsStartOf c w offset words start
 
 -- lawful starts at a phase and an offset, one for each nominal frame of the cycle
-abbrev pub AreStarts : Config → List Placed → Wanted → ℕ → ℕ → List ℕ → Type 0
-AreStarts c table w phase offset starts =
-    EachPlace (λ place start. IsStartOf c w offset (spots_in c place table) start) (nominal_places c w.interval phase)
+abbrev pub AreStarts : Config → List Bits → Wanted → ℕ → ℕ → List ℕ → Type 0
+AreStarts c rows w phase offset starts =
+    EachPlace (λ place start. IsStartOf c w offset (row_at c rows place) start) (nominal_places c w.interval phase)
     starts
 
+-- the offsets at which all frames of a phase have starts
+abbrev pub HaveStartsAt : Config → List Bits → Wanted → ℕ → ℕ → Type 0
+HaveStartsAt c rows w phase offset = (starts : List ℕ) × AreStarts c rows w phase offset starts
+
 -- no starts are lawful at this phase and offset
-abbrev pub NoStarts : Config → List Placed → Wanted → ℕ → ℕ → Type 0
-NoStarts c table w phase offset = (starts : List ℕ) → AreStarts c table w phase offset starts → ⊥
+abbrev pub NoStarts : Config → List Bits → Wanted → ℕ → ℕ → Type 0
+NoStarts c rows w phase offset = (starts : List ℕ) → AreStarts c rows w phase offset starts → ⊥
 
 -- nor at any offset of this phase below this one
-abbrev pub NoneBelow : Config → List Placed → Wanted → ℕ → ℕ → Type 0
-NoneBelow c table w phase below = (offset : ℕ) → c.req_slots ≤ offset → offset < below → NoStarts c table w phase offset
+abbrev pub NoneBelow : Config → List Bits → Wanted → ℕ → ℕ → Type 0
+NoneBelow c rows w phase below = (offset : ℕ) → c.req_slots ≤ offset → offset < below → NoStarts c rows w phase offset
 
 -- nor at any phase below this one
-abbrev pub NonePhase : Config → List Placed → Wanted → ℕ → Type 0
-NonePhase c table w below = (phase : ℕ) → phase < below → NoneBelow c table w phase c.frame
+abbrev pub NonePhase : Config → List Bits → Wanted → ℕ → Type 0
+NonePhase c rows w below = (phase : ℕ) → phase < below → NoneBelow c rows w phase c.frame
 
 -- the starts of a row
 abbrev pub starts_of : Row → List ℕ
 starts_of row = take row.count row.starts
 
 -- The first lawful starts in all frames
-pub record AreFirstStarts (c : Config) (table : List Placed) (w : Wanted) (phase offset : ℕ)
+pub record AreFirstStarts (c : Config) (rows : List Bits) (w : Wanted) (phase offset : ℕ)
     (starts : List ℕ) : Type 0 where
-  pub lawful : AreStarts c table w phase offset starts
-  pub least : (others : List ℕ) → AreStarts c table w phase offset others → AreNoLater starts others
+  pub lawful : AreStarts c rows w phase offset starts
+  pub least : (others : List ℕ) → AreStarts c rows w phase offset others → AreNoLater starts others
 
 -- The first lawful starts at the least offset of a phase
-pub record IsFirstAtPhase (c : Config) (table : List Placed) (w : Wanted) (f : Found) : Type 0 where
+pub record IsFirstAtPhase (c : Config) (rows : List Bits) (w : Wanted) (f : Found) : Type 0 where
   pub after_requests : c.req_slots ≤ f.offset
   pub within : f.offset < c.frame
-  pub starts : AreFirstStarts c table w f.phase f.offset (starts_of f.row)
-  pub before : NoneBelow c table w f.phase f.offset
+  pub starts : AreFirstStarts c rows w f.phase f.offset (starts_of f.row)
+  pub before : NoneBelow c rows w f.phase f.offset
 
 -- The first lawful starts at the least offset of the least phase
-pub record IsFirstFound (c : Config) (table : List Placed) (w : Wanted) (f : Found) : Type 0 where
+pub record IsFirstFound (c : Config) (rows : List Bits) (w : Wanted) (f : Found) : Type 0 where
   pub phase_within : f.phase < w.interval
-  pub at_phase : IsFirstAtPhase c table w f
-  pub before : NonePhase c table w f.phase
+  pub at_phase : IsFirstAtPhase c rows w f
+  pub before : NonePhase c rows w f.phase
 
 -- the placement that was chosen
 abbrev pub chosen_placement : Chosen → Placement

@@ -1,6 +1,7 @@
 //! The places of unsolicited grants and polls in the cycle of frames.
 #![tactic(auto)]
 
+mod bits;
 mod placement;
 mod search;
 mod spots;

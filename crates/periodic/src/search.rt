@@ -1,18 +1,19 @@
 //! The search for a placement: the least phase, then the least offset, then the least start in each
 //! nominal frame.
 
-ghost use Rattle.std.specs.Prelude.{◌≡◌, ◌<◌, ◌≤◌, ◌+◌, ◌^◌, ◌%◌, true, None, IfSome, IfNone};
+ghost use Rattle.std.specs.Prelude.{◌≡◌, ℕ, ◌<◌, ◌≤◌, ◌+◌, ◌^◌, ◌%◌, List, length, true, None, IfSome, IfNone, IfOk};
+ghost use Rattle.std.specs.Prelude.{IfErr};
 ghost use Rattle.flow_book.specs.FlowSpec.{is_periodic, first_fault};
-ghost use Rattle.periodic.specs.Placement.{AreFree, spots_in, NoPlacement};
+ghost use Rattle.periodic.specs.Placement.{Placed, NoPlacement};
+ghost use Rattle.periodic.specs.Table.{AreSound};
+ghost use Rattle.periodic.specs.Rows.{AreRowsOf};
 ghost use Rattle.periodic.specs.Choice.{IsChosen};
-ghost use Rattle.periodic.specs.Fields.{placed_in, AreSoundFlows};
-ghost use Rattle.periodic.specs.Search.{CanBeSought, EndsBlocker, HasNoStart, IsFirstStart, AreFirstStarts, NoStarts};
-ghost use Rattle.periodic.specs.Search.{NoneBelow, NonePhase, IsFirstAtPhase, IsFirstFound, IsReference, starts_of};
-ghost use Rattle.periodic.specs.Search.{chosen_placement};
+ghost use Rattle.periodic.specs.Search.{CanBeSought, IsFreeStart, IsNextStart, IsFirstStart, HasStartAt, IsNextOffset};
+ghost use Rattle.periodic.specs.Search.{HaveStartsAt, AreFirstStarts, NoneBelow, NonePhase, IsFirstAtPhase};
+ghost use Rattle.periodic.specs.Search.{IsFirstFound, IsReference, starts_of, chosen_placement};
 
-use crate::MAX_PERIODIC_FLOWS;
-use crate::placement::Spot;
-use crate::spots::{NO_SPOT, PlacedFlow, fill, interval, jitter, slots};
+use crate::bits::Bits;
+use crate::spots::{interval, jitter, slots};
 use flow_book::FlowSpec;
 use minislots::Checked;
 
@@ -56,76 +57,58 @@ impl Chosen {
     }
 }
 
-// Where the first of the spots ends that has one of so many minislots from `start` on, if there is one.
-fn end_of_blocker(spots: &[Spot], start: u64, slots: u64) -> Option<u64>
-    requires { start + slots < 2 ^ 64 }
-    ensures free { IfNone result (AreFree spots.now start slots) }
-    ensures blocked { IfSome result (EndsBlocker spots.now start slots) }
+// The first start from `from` on with so many free minislots behind it in a frame of this length. A start that
+// does not fit goes on behind the minislots that stand in its way.
+fn next_start(bits: &Bits, frame: u64, slots: u64, from: u64) -> Option<u64>
+    requires frame { frame ≤ 1024 }
+    requires not_empty { 0 < slots }
+    requires slots { slots ≤ 1024 }
+    requires from { from ≤ 1024 }
+    ensures found { IfSome result (IsNextStart bits.now.words frame slots from) }
+    ensures absent { IfNone result ((start : ℕ) → IsFreeStart bits.now.words frame slots from start → ⊥) }
 {
-    for spot in spots {
-        let end = u64::from(spot.offset) + u64::from(spot.slots);
-        if start < end && u64::from(spot.offset) < start + slots {
-            return Some(end);
+    let mut start = bits.next_free(from);
+    'starts: while start + slots <= frame {
+        let end = bits.next_taken(start);
+        if start + slots <= end {
+            return Some(start);
         }
+        start = bits.next_free(end);
     }
     None
 }
 
-// The first lawful start in a frame beside these spots.
-fn first_start(spots: &[Spot], config: &Checked, wanted: Wanted, offset: u64) -> Option<u16>
+// The first start in a frame within the jitter after this offset, or else the next offset that may have one.
+fn start_in(bits: &Bits, config: &Checked, wanted: Wanted, offset: u64) -> Result<u16, u64>
     requires sought { CanBeSought config.now wanted }
     requires within { offset < config.now.frame }
-    ensures found { IfSome result (IsFirstStart config.now wanted offset spots.now) }
-    ensures absent { IfNone result (HasNoStart config.now wanted offset spots.now) }
+    ensures found { IfOk result (IsFirstStart config.now wanted offset bits.now.words) }
+    ensures blocked { IfErr result (IsNextOffset config.now (HasStartAt config.now wanted bits.now.words) offset) }
 {
-    let latest = u64::from(config.frame()) - wanted.slots;
-    let mut start = offset;
-    'starts: while start <= latest && start - offset <= wanted.jitter {
-        match end_of_blocker(spots, start, wanted.slots) {
-            Some(end) => start = end,
-            None => return Some(start as u16),
-        }
+    let frame = u64::from(config.frame());
+    let Some(start) = next_start(bits, frame, wanted.slots, offset) else {
+        return Err(frame);
+    };
+    if start - offset <= wanted.jitter {
+        return Ok(start as u16);
     }
-    None
+    Err(start - wanted.jitter)
 }
 
-// The first lawful start in the frame at this place of the cycle.
-fn start_in(
-    flows: &[PlacedFlow],
-    config: &Checked,
-    wanted: Wanted,
-    offset: u64,
-    place: u64,
-) -> Option<u16>
-    requires sound { AreSoundFlows config.now flows.now }
-    requires sought { CanBeSought config.now wanted }
-    requires offset { offset < config.now.frame }
-    requires place { place < config.now.cycle }
-    ensures found { IfSome result
-        (IsFirstStart config.now wanted offset (spots_in config.now place (placed_in flows.now))) }
-    ensures absent { IfNone result
-        (HasNoStart config.now wanted offset (spots_in config.now place (placed_in flows.now))) }
-{
-    let mut spots = [NO_SPOT; MAX_PERIODIC_FLOWS];
-    let count = fill(flows, config, place, &mut spots);
-    first_start(&spots[..count], config, wanted, offset)
-}
-
-// The first lawful starts at this phase and offset.
+// The first starts at this phase and offset, or else the next offset that may have starts in all frames.
 fn starts_at(
-    flows: &[PlacedFlow],
+    rows: &[Bits],
     config: &Checked,
     wanted: Wanted,
     phase: u64,
     offset: u64,
-) -> Option<Row>
-    requires sound { AreSoundFlows config.now flows.now }
+) -> Result<Row, u64>
+    requires long { length rows.now ≡ config.now.cycle }
     requires sought { CanBeSought config.now wanted }
     requires offset { offset < config.now.frame }
-    ensures found { IfSome result (λ row.
-        AreFirstStarts config.now (placed_in flows.now) wanted phase offset (starts_of row)) }
-    ensures most { IfSome result (λ row. row.count ≤ 64) }
-    ensures absent { IfNone result (NoStarts config.now (placed_in flows.now) wanted phase offset) }
+    ensures found { IfOk result (λ row. AreFirstStarts config.now rows.now wanted phase offset (starts_of row)) }
+    ensures most { IfOk result (λ row. row.count ≤ 64) }
+    ensures blocked { IfErr result (IsNextOffset config.now (HaveStartsAt config.now rows.now wanted phase) offset) }
 {
     let mut row = Row {
         starts: [0; 64],
@@ -133,43 +116,42 @@ fn starts_at(
     };
     for place in 0..u64::from(config.cycle()) {
         if place % wanted.interval == phase {
-            let Some(start) = start_in(flows, config, wanted, offset, place) else {
-                return None;
-            };
-            row.starts[row.count] = start;
+            row.starts[row.count] = start_in(&rows[place as usize], config, wanted, offset)?;
             row.count += 1;
         }
     }
-    Some(row)
+    Ok(row)
 }
 
 // The first lawful starts at the least offset of this phase.
-fn found_at(flows: &[PlacedFlow], config: &Checked, wanted: Wanted, phase: u64) -> Option<Found>
-    requires sound { AreSoundFlows config.now flows.now }
+fn found_at(rows: &[Bits], config: &Checked, wanted: Wanted, phase: u64) -> Option<Found>
+    requires long { length rows.now ≡ config.now.cycle }
     requires sought { CanBeSought config.now wanted }
     ensures phase { IfSome result (λ found. found.phase ≡ phase) }
-    ensures found { IfSome result (IsFirstAtPhase config.now (placed_in flows.now) wanted) }
+    ensures found { IfSome result (IsFirstAtPhase config.now rows.now wanted) }
     ensures most { IfSome result (λ found. found.row.count ≤ 64) }
-    ensures absent { IfNone result (NoneBelow config.now (placed_in flows.now) wanted phase config.now.frame) }
+    ensures absent { IfNone result (NoneBelow config.now rows.now wanted phase config.now.frame) }
 {
-    for offset in u64::from(config.req_slots())..u64::from(config.frame()) {
-        if let Some(row) = starts_at(flows, config, wanted, phase, offset) {
-            return Some(Found { phase, offset, row });
+    let mut offset = u64::from(config.req_slots());
+    'offsets: while offset < u64::from(config.frame()) {
+        match starts_at(rows, config, wanted, phase, offset) {
+            Ok(row) => return Some(Found { phase, offset, row }),
+            Err(next) => offset = next,
         }
     }
     None
 }
 
 // The first lawful starts at the least offset of the least phase.
-fn first_found(flows: &[PlacedFlow], config: &Checked, wanted: Wanted) -> Option<Found>
-    requires sound { AreSoundFlows config.now flows.now }
+fn first_found(rows: &[Bits], config: &Checked, wanted: Wanted) -> Option<Found>
+    requires long { length rows.now ≡ config.now.cycle }
     requires sought { CanBeSought config.now wanted }
-    ensures found { IfSome result (IsFirstFound config.now (placed_in flows.now) wanted) }
+    ensures found { IfSome result (IsFirstFound config.now rows.now wanted) }
     ensures most { IfSome result (λ found. found.row.count ≤ 64) }
-    ensures absent { IfNone result (NonePhase config.now (placed_in flows.now) wanted wanted.interval) }
+    ensures absent { IfNone result (NonePhase config.now rows.now wanted wanted.interval) }
 {
     for phase in 0..wanted.interval {
-        if let Some(found) = found_at(flows, config, wanted, phase) {
+        if let Some(found) = found_at(rows, config, wanted, phase) {
             return Some(found);
         }
     }
@@ -191,29 +173,26 @@ fn first_nominal(config: &Checked, interval: u64, next: u64, phase: u64, offset:
     (frames + wait) * frame + offset
 }
 
-// The lawful placement of the least phase, then the least offset, then the least start in each frame.
-pub(crate) fn choose(
-    flows: &[PlacedFlow],
-    config: &Checked,
-    spec: &FlowSpec,
-    next: u64,
-) -> Option<Chosen>
-    requires sound { AreSoundFlows config.now flows.now }
+// The lawful placement of the least phase, then the least offset, then the least start in each frame, beside the
+// flows whose minislots these rows have.
+pub(crate) fn choose(rows: &[Bits], config: &Checked, spec: &FlowSpec, next: u64) -> Option<Chosen>
+    requires long { length rows.now ≡ config.now.cycle }
     requires periodic { is_periodic spec.now ≡ true }
     requires no_fault { first_fault config.now spec.now ≡ None }
     requires aligned { next % config.now.frame ≡ 0 }
     requires most { next ≤ 2 ^ 61 }
-    ensures chosen { IfSome result (λ chosen.
-        IsChosen config.now (placed_in flows.now) spec.now next (chosen_placement chosen)) }
+    ensures chosen { (placed : List Placed) → AreSound config.now placed → AreRowsOf config.now placed rows.now
+        → IfSome result (λ chosen. IsChosen config.now placed spec.now next (chosen_placement chosen)) }
     ensures count { IfSome result (λ chosen. chosen.row.count ≤ 64) }
-    ensures absent { IfNone result (NoPlacement config.now (placed_in flows.now) spec.now next) }
+    ensures absent { (placed : List Placed) → AreSound config.now placed → AreRowsOf config.now placed rows.now
+        → IfNone result (NoPlacement config.now placed spec.now next) }
 {
     let wanted = Wanted {
         interval: interval(config, spec),
         jitter: jitter(config, spec),
         slots: slots(config, spec),
     };
-    let Some(found) = first_found(flows, config, wanted) else {
+    let Some(found) = first_found(rows, config, wanted) else {
         return None;
     };
     let reference = first_nominal(config, wanted.interval, next, found.phase, found.offset);

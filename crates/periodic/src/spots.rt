@@ -1,15 +1,18 @@
 //! What the placed flows take of a frame.
 
-ghost use Rattle.std.specs.Prelude.{◌≡◌, ◌<◌, ◌≤◌, ◌+◌, ◌%◌, take, drop, length, true, None};
+ghost use Rattle.std.specs.Prelude.{◌≡◌, ℕ, ◌<◌, ◌≤◌, ◌+◌, ◌%◌, take, drop, length, true, None};
 ghost use Rattle.std.specs.List.Sorted.{IsPermutation, IsNonDecreasingBy};
 ghost use Rattle.minislots.specs.Config.{IsLawful};
 ghost use Rattle.flow_book.specs.FlowSpec.{is_periodic, is_polled, interval_frames, jitter_slots, periodic_slots};
 ghost use Rattle.flow_book.specs.FlowSpec.{first_fault};
 ghost use Rattle.periodic.specs.Placement.{phase_of, spot_in, spots_in};
+ghost use Rattle.periodic.specs.Bits.{bit_for};
+ghost use Rattle.periodic.specs.Rows.{row_at, IsMarked};
 ghost use Rattle.periodic.specs.Table.{IsSoundPlaced};
 ghost use Rattle.periodic.specs.Fields.{placed_of, placed_in, AreSoundFlows};
 
 use crate::MAX_PERIODIC_FLOWS;
+use crate::bits::Bits;
 use crate::placement::{Placement, Spot};
 use flow_book::FlowSpec;
 use minislots::Checked;
@@ -137,6 +140,22 @@ pub(crate) fn fill(
         }
     }
     count
+}
+
+// Marks what a flow takes of each frame of the cycle as taken, or as free.
+pub(crate) fn mark(rows: &mut [Bits], config: &Checked, flow: &PlacedFlow, taken: bool)
+    requires sound { IsSoundPlaced config.now (placed_of flow.now) }
+    requires long { length rows.old ≡ config.now.cycle }
+    ensures long { length rows.new ≡ config.now.cycle }
+    ensures marked { (k : ℕ) → IsMarked (spot_in config.now k (placed_of flow.now)) (bit_for taken)
+        (row_at config.now rows.old k) (row_at config.now rows.new k) }
+{
+    for place in 0..u64::from(config.cycle()) {
+        if let Some(spot) = flow.spot(config, place) {
+            let start = u64::from(spot.offset);
+            rows[place as usize].mark(start, start + u64::from(spot.slots), taken);
+        }
+    }
 }
 
 // Sorts spots by their offsets.

@@ -1,20 +1,23 @@
 //! The placements of a channel's periodic flows in the cycle of frames.
 
 ghost use Rattle.std.specs.Prelude.{◌≡◌, ℕ, ◌<◌, ◌==◌, nat_lt, position, ◌≤◌, ◌^◌, ◌%◌, ◌↔◌, [], length, take, drop};
-ghost use Rattle.std.specs.Prelude.{true, None, IfOk, OnErr, IsErrOf};
+ghost use Rattle.std.specs.Prelude.{true, None, IfOk, OnErr, IsErrOf, IfSome, IfNone};
 ghost use Rattle.std.specs.List.{AllByRecursion};
 ghost use Rattle.std.specs.List.Sorted.{IsPermutation};
 ghost use Rattle.flow_book.specs.FlowSpec.{is_periodic, first_fault};
 ghost use Rattle.periodic.specs.declared.TheConstants.{MAX_PERIODIC_FLOWS};
 ghost use Rattle.periodic.specs.Placement.{spots_in, IsPlacement, NoPlacement};
+ghost use Rattle.periodic.specs.Choice.{IsChosen};
 ghost use Rattle.periodic.specs.Fields.{placement_at};
+ghost use Rattle.periodic.specs.Search.{chosen_placement};
 ghost use Rattle.periodic.specs.Table.{IsPlaced, IsNotPlaced, HasPlacement, placed_at, with_placed, without};
 ghost use Rattle.periodic.specs.Table.{AreSound, IsWithinFrame, FollowInTurn};
 
 use crate::MAX_PERIODIC_FLOWS;
+use crate::bits::Bits;
 use crate::placement::{PlaceFault, Placement, Spot, Starts};
-use crate::search::choose;
-use crate::spots::{PlacedFlow, fill, sort};
+use crate::search::{Chosen, choose};
+use crate::spots::{PlacedFlow, fill, mark, sort};
 use flow_book::FlowSpec;
 use minislots::Checked;
 use std::alloc::{AllocError, Global};
@@ -26,6 +29,8 @@ use std::marker::Model;
 pub struct Table {
     config: Checked,
     flows: Vec<PlacedFlow>,
+    // What the flows take of each frame of the cycle.
+    rows: Vec<Bits>,
 }
 
 impl Model for Table {
@@ -34,12 +39,11 @@ impl Model for Table {
 
     ghost Value = { TableView };
 
-    ghost use Rattle.periodic.specs.Table.{AreSound};
-    ghost use Rattle.periodic.specs.Fields.{placed_of};
+    ghost use Rattle.periodic.specs.Fields.{placed_of, AreSoundFields};
 
     ghost view = { λ t. record { config = t.config; placed = map placed_of t.flows.items } };
 
-    ghost invariant = { λ t. AreSound t.config (map placed_of t.flows.items) };
+    ghost invariant = { λ t. AreSoundFields t.config t.flows.items t.rows.items };
 }
 
 impl Table {
@@ -48,9 +52,12 @@ impl Table {
         ensures config { IfOk result (λ table. table.config ≡ config) }
         ensures empty { IfOk result (λ table. table.placed ≡ []) }
     {
+        let cycle = config.cycle() as usize;
+        let rows = vec![in alloc; Bits::free(); cycle]?;
         Ok(Table {
             config,
             flows: Vec::new(alloc),
+            rows,
         })
     }
 
@@ -102,7 +109,7 @@ impl Table {
         ensures memory { IsErrOf result PlaceFault.Memory → HasPlacement self.old.config self.old.placed spec.now next }
         ensures err { OnErr result (self.new ≡ self.old) }
     {
-        let Some(chosen) = choose(&self.flows, &self.config, spec, next) else {
+        let Some(chosen) = self.chosen(spec, next) else {
             return Err(PlaceFault::NoPlace);
         };
         match self.add(sid, *spec, chosen.reference, chosen.starts()) {
@@ -116,6 +123,10 @@ impl Table {
         requires { IsPlaced sid self.old.placed }
         ensures { self.new ≡ record self.old { placed = without sid self.old.placed } }
     {
+        let Some(place) = place_of(&self.flows, sid) else {
+            return;
+        };
+        mark(&mut self.rows, &self.config, &self.flows[place], false);
         self.flows.retain(|flow| flow.sid != sid);
     }
 
@@ -135,6 +146,20 @@ impl Table {
         let count = fill(&self.flows, &self.config, place, spots);
         sort(&mut spots[..count]);
         count
+    }
+
+    // The placement that is taken for these parameters from `next` on, if there is one.
+    fn chosen(&self, spec: &FlowSpec, next: u64) -> Option<Chosen>
+        requires periodic { is_periodic spec.now ≡ true }
+        requires no_fault { first_fault self.now.config spec.now ≡ None }
+        requires aligned { next % self.now.config.frame ≡ 0 }
+        requires most { next ≤ 2 ^ 61 }
+        ensures chosen { IfSome result (λ chosen.
+            IsChosen self.now.config self.now.placed spec.now next (chosen_placement chosen)) }
+        ensures count { IfSome result (λ chosen. chosen.row.count ≤ 64) }
+        ensures absent { IfNone result (NoPlacement self.now.config self.now.placed spec.now next) }
+    {
+        choose(&self.rows, &self.config, spec, next)
     }
 
     // Adds a flow with a placement that is lawful beside those that stand, in order of SID.
@@ -171,6 +196,7 @@ impl Table {
             },
         };
         self.flows.insert(place, flow)?;
+        mark(&mut self.rows, &self.config, &self.flows[place], true);
         Ok(Placement {
             reference,
             starts: Starts::from_vec(answered),
@@ -183,4 +209,11 @@ fn place_above(flows: &[PlacedFlow], sid: u16) -> Option<usize>
     ensures { result ≡ position (λ f. nat_lt sid f.sid) flows.now }
 {
     flows.iter().position(|flow| sid < flow.sid)
+}
+
+// The place of the flow with this SID.
+fn place_of(flows: &[PlacedFlow], sid: u16) -> Option<usize>
+    ensures { result ≡ position (λ f. f.sid == sid) flows.now }
+{
+    flows.iter().position(|flow| flow.sid == sid)
 }

@@ -1,11 +1,19 @@
--- The first offset with lawful starts lies behind the request region.
-use Rattle.std.proofs.Common.{arith}
+-- At no offset before the next one has every frame a start.
+use Rattle.std.proofs.Common.{inl, inr, arith}
+use Rattle.std.proofs.lemmas.Bool.{cases_lt}
 use Rattle.periodic.proofs.search.found_at.Goals as goal
 
-pub returns-in-Some-clause-found : goal.returns-in-Some-clause-found
-returns-in-Some-clause-found c = record {
-  after_requests = omega arith;
-  within = omega arith;
-  starts = c.in-Some.ensures.found;
-  before = c.loop-offset.invariant;
+pub offsets-init : goal.offsets-init
+offsets-init c = record {
+  after = omega (arith, c.from-offset.ensures, c.req_slots.ensures.value);
+  below = λ offset from to. absurd (omega (arith, from, to, c.from-offset.ensures, c.req_slots.ensures.value));
+}
+
+pub offsets-preserved : goal.offsets-preserved
+offsets-preserved c = record {
+  after = omega (arith, c.offsets.invariant.after, c.in-Err.ensures.blocked.later);
+  below = λ offset from to starts are. elim (cases_lt offset c.offsets.offset) [
+    | inl early ↦ c.offsets.invariant.below offset from early starts are
+    | inr late ↦ c.in-Err.ensures.blocked.none offset late to (starts, are)
+  ];
 }

@@ -1,8 +1,13 @@
--- No offset tried so far has lawful starts.
-use Rattle.std.proofs.Common.{map}
-use Rattle.periodic.specs.Fields.{placed_of}
+-- No offset gone past so far has lawful starts.
+use Rattle.std.proofs.Common.{◌-◌, ◌≤◌}
 use Rattle.periodic.specs.Search.{NoneBelow}
 use Rattle.periodic.proofs.search.found_at.Given as goal
 
-abbrev pub invariant-loop-offset : goal.invariant-loop-offset
-invariant-loop-offset l = NoneBelow l.config (map placed_of l.flows) l.wanted l.phase l.offset
+abbrev pub invariant-offsets : goal.invariant-offsets
+invariant-offsets l = record {
+  after : l.config.req_slots ≤ l.offset;
+  below : NoneBelow l.config l.rows l.wanted l.phase l.offset;
+}
+
+abbrev pub decreases-offsets : goal.decreases-offsets
+decreases-offsets l = l.config.frame - l.offset

@@ -1,39 +1,39 @@
--- The new flow stands in order of SID, and the table is sound.
-use Rattle.std.proofs.Common.{◌≡◌, ◌∙◌, nat_lt, position, map, length, arith}
-use Rattle.std.specs.List.{position_or_len}
-use Rattle.flow_book.proofs.Places.{place-or_len}
-use Rattle.periodic.specs.declared.spots.PlacedFlow.{PlacedFlow}
-use Rattle.periodic.specs.Placement.{Placed}
-use Rattle.periodic.specs.Table.{with_placed}
-use Rattle.periodic.specs.Fields.{placed_of}
-use Rattle.flow_book.proofs.Insertion.{insert-put_in}
-use Rattle.periodic.proofs.Adding.{sound-with}
+-- The new flow stands in order of SID, its minislots are taken, and the table is sound.
+use Rattle.std.proofs.Common.{◌≡◌, ◌∙◌, sym, subst, map, length, arith}
+use Rattle.std.proofs.lemmas.List.{take_at}
+use Rattle.periodic.specs.Table.{IsSoundPlaced, placed_at, with_placed}
+use Rattle.periodic.specs.Fields.{placed_of, placement_at}
+use Rattle.periodic.proofs.Adding.{new-sound, sound-with}
+use Rattle.periodic.proofs.Standing.{above-place, put-in, flow-at, marked-for, fields-with}
 use Rattle.periodic.proofs.table.Table.add.Goals as goal
 
--- the flow that is added
-abbrev added : goal.After-from_vec-2 → Placed
-added c = record {
-  sid = c.args.sid;
-  spec = c.args.spec;
-  placement = record { reference = c.args.reference; starts = c.args.starts.now };
-}
+pub mark-requires-clause-sound : goal.mark-requires-clause-sound
+mark-requires-clause-sound c =
+    let a = c.args in
+    let inside = c.self.inside in
+    let place = above-place a.sid inside.flows.items c.deref.result.now c.place_above.result c.len.result
+    c.unwrap_or-place.result c.deref.ensures.value c.place_above.ensures (omega (arith, inside.flows.ok.0))
+    c.unwrap_or-place.ensures in
+    let here = flow-at inside.flows.items c.insert.new.self.items c.unwrap_or-place.result a.sid a.spec a.reference
+    a.starts.now c.from_vec.result (c.from_vec.ensures ∙ c.in_ok-kept.ensures.items) place c.index.result.now
+    c.in_ok-insert.ensures.items c.index.ensures in
+    let lawful = rw (← c.self.view_is) at c.requires.lawful in
+    subst (IsSoundPlaced inside.config) (sym here)
+    (new-sound inside.config (map placed_of inside.flows.items) a.sid a.spec lawful.0
+    (placement_at a.reference a.starts.now) c.requires.sid_positive c.requires.sid_most c.requires.periodic
+    (rw (← c.self.view_is) at c.requires.no_fault) lawful.1)
 
-inserted : (c : goal.After-from_vec-2)
-    → map placed_of c.insert.new.self.items ≡ with_placed (added c) (map placed_of c.self.inside.flows.items)
+inserted : (c : goal.After-from_vec-2) → map placed_of c.insert.new.self.items
+    ≡ with_placed (placed_at c.args.sid c.args.spec (placement_at c.args.reference c.args.starts.now))
+    (map placed_of c.self.inside.flows.items)
 inserted c =
+    let a = c.args in
     let items = c.self.inside.flows.items in
-    let above : c.place_above.result ≡ position (λ f. nat_lt c.args.sid f.sid) items =
-    rw c.deref.ensures.value at c.place_above.ensures in
-    let len : c.len.result ≡ length items = omega (arith, c.self.inside.flows.ok.0) in
-    let place : c.unwrap_or-place.result ≡ position_or_len (λ f. nat_lt c.args.sid f.sid) items =
-    c.unwrap_or-place.ensures ∙ rw (above, len) (place-or_len (λ f. nat_lt c.args.sid f.sid) items) in
-    let kept : c.from_vec.result ≡ c.args.starts.now = c.from_vec.ensures ∙ c.in_ok-kept.ensures.items in
-    let e : PlacedFlow = record {
-      sid = c.args.sid;
-      spec = c.args.spec;
-      placement = record { reference = c.args.reference; starts = c.from_vec.result };
-    } in
-    rw (c.in_ok-insert.ensures.items, place, ← kept) (insert-put_in placed_of (λ f. f.sid) e items)
+    let place = above-place a.sid items c.deref.result.now c.place_above.result c.len.result
+    c.unwrap_or-place.result c.deref.ensures.value c.place_above.ensures (omega (arith, c.self.inside.flows.ok.0))
+    c.unwrap_or-place.ensures in
+    put-in items c.insert.new.self.items c.unwrap_or-place.result a.sid a.spec a.reference a.starts.now c.from_vec.result
+    (c.from_vec.ensures ∙ c.in_ok-kept.ensures.items) place c.in_ok-insert.ensures.items
 
 pub returns-clause-placed : goal.returns-clause-placed
 returns-clause-placed c =
@@ -42,10 +42,25 @@ returns-clause-placed c =
 
 pub invariant_of-self-2 : goal.invariant_of-self-2
 invariant_of-self-2 c =
-    let config = c.self.inside.config in
-    let placed = map placed_of c.self.inside.flows.items in
+    let a = c.args in
+    let inside = c.self.inside in
+    let placed = map placed_of inside.flows.items in
+    let added = placed_at a.sid a.spec (placement_at a.reference a.starts.now) in
+    let place = above-place a.sid inside.flows.items c.deref.result.now c.place_above.result c.len.result
+    c.unwrap_or-place.result c.deref.ensures.value c.place_above.ensures (omega (arith, inside.flows.ok.0))
+    c.unwrap_or-place.ensures in
+    let here = flow-at inside.flows.items c.insert.new.self.items c.unwrap_or-place.result a.sid a.spec a.reference
+    a.starts.now c.from_vec.result (c.from_vec.ensures ∙ c.in_ok-kept.ensures.items) place c.index.result.now
+    c.in_ok-insert.ensures.items c.index.ensures in
     let lawful = rw (← c.self.view_is) at c.requires.lawful in
-    rw (inserted c)
-    (sound-with config placed c.args.sid c.args.spec lawful.0 (added c).placement c.requires.sid_positive
-    c.requires.sid_most c.requires.periodic (rw (← c.self.view_is) at c.requires.no_fault)
-    (rw (← c.self.view_is) at c.requires.room) (rw (← c.self.view_is) at c.requires.is_new) lawful.1 c.self.invariant)
+    let long : length c.mark.new.rows ≡ inside.rows.len =
+    omega (arith, c.mark.ensures.long, c.self.invariant.told.long, inside.rows.ok.0) in
+    rw (take_at c.mark.new.rows _ inside.rows.len long)
+    (fields-with inside.config inside.flows.items c.insert.new.self.items inside.rows.items c.mark.new.rows added
+    c.self.invariant c.mark.ensures.long (inserted c)
+    (sound-with inside.config placed a.sid a.spec lawful.0 (placement_at a.reference a.starts.now)
+    c.requires.sid_positive c.requires.sid_most c.requires.periodic (rw (← c.self.view_is) at c.requires.no_fault)
+    (rw (← c.self.view_is) at c.requires.room) (rw (← c.self.view_is) at c.requires.is_new) lawful.1
+    c.self.invariant.sound)
+    (λ k. marked-for inside.config k 1 c.index.result.now added c.deref_mut.result.now inside.rows.items c.mark.new.rows
+    here c.deref_mut.ensures.value (c.mark.ensures.marked k)))

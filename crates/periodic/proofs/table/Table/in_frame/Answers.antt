@@ -10,7 +10,7 @@ use Rattle.periodic.proofs.table.Table.in_frame.Goals as goal
 
 pub fill-count-requires-clause-sound : goal.fill-count-requires-clause-sound
 fill-count-requires-clause-sound c =
-    rw c.deref.ensures.value (sound-flows c.self.inside.config c.self.inside.flows.items c.self.invariant)
+    rw c.deref.ensures.value (sound-flows c.self.inside.config c.self.inside.flows.items c.self.invariant.sound)
 
 -- the front of the array is the frame
 in-order : (c : goal.After-sort) (rest : List Spot)
@@ -19,7 +19,7 @@ in-order : (c : goal.After-sort) (rest : List Spot)
 in-order c rest =
     let config = c.self.inside.config in
     let few : length c.self.inside.flows.items ≤ MAX_PERIODIC_FLOWS =
-    rw (length-map c.self.inside.flows.items placed_of) at c.self.invariant.most in
+    rw (length-map c.self.inside.flows.items placed_of) at c.self.invariant.sound.most in
     let long : length c.sort.new.spots ≡ c.fill-count.result = c.sort.auto.spots
     ∙ length-take-le c.fill-count.result c.fill-count.new.spots (omega arith) in
     let place : c.args.k % c.from.result ≡ c.args.k % config.cycle =
@@ -29,7 +29,7 @@ in-order c rest =
     (frame-sorted config c.args.k (map placed_of c.self.inside.flows.items)
     (take c.fill-count.result c.fill-count.new.spots)
     c.sort.new.spots
-    c.cycle.ensures.lawful c.self.invariant (rw (place, c.deref.ensures.value) at written) c.sort.ensures.permutation
+    c.cycle.ensures.lawful c.self.invariant.sound (rw (place, c.deref.ensures.value) at written) c.sort.ensures.permutation
     c.sort.ensures.sorted)
 
 pub returns-clause-spots : goal.returns-clause-spots

@@ -1,12 +1,15 @@
--- The flows of other SIDs are left.
-use Rattle.std.proofs.Common.{◌≡◌, refl, ◌∙◌, ap, map, filter, not, ◌==◌, rules}
+-- The flows of other SIDs are left, and the minislots of this one are free.
+use Rattle.std.proofs.Common.{◌≡◌, refl, sym, ◌∙◌, ap, Bool, map, filter, not, ◌==◌, position, length, Some, None, arith, rules}
+use Rattle.std.proofs.lemmas.List.{take_at}
 use Rattle.std.proofs.lemmas.Fn.{filter_same}
+use Rattle.std.proofs.lemmas.List.Quantifiers.{position-Some}
 use Rattle.flow_book.proofs.Removal.{map-filter}
+use Rattle.flow_book.proofs.Steps.{all-item}
 use Rattle.periodic.specs.declared.spots.PlacedFlow.{PlacedFlow}
 use Rattle.periodic.specs.Placement.{Placed}
-use Rattle.periodic.specs.Table.{without}
+use Rattle.periodic.specs.Table.{IsSoundPlaced, without}
 use Rattle.periodic.specs.Fields.{placed_of}
-use Rattle.periodic.proofs.Removing.{sound-filter}
+use Rattle.periodic.proofs.Standing.{flow-found, has-place, marked-for, fields-without}
 use Rattle.periodic.proofs.table.Table.remove.Goals as goal
 
 left : (c : goal.After-retain) → map placed_of c.retain.new.self.items
@@ -17,10 +20,36 @@ left c =
     filter_same _ _ _ (λ x b f' k. search rules) _ _ c.retain.ensures.filtered in
     ap (map placed_of) kept ∙ map-filter placed_of (λ (f : Placed). not (f.sid == c.args.sid)) items
 
+pub returns-in_default : goal.returns-in_default
+returns-in_default c =
+    let none : position (λ (f : PlacedFlow). f.sid == c.args.sid) c.self.inside.flows.items ≡ None =
+    rw c.deref.ensures.value at (sym c.place_of.ensures ∙ c.in_default.is) in
+    absurd (has-place c.args.sid c.self.inside.flows.items (rw (← c.self.view_is) at c.requires) none)
+
+pub mark-requires-clause-sound : goal.mark-requires-clause-sound
+mark-requires-clause-sound c =
+    let items = c.self.inside.flows.items in
+    let p : PlacedFlow → Bool = λ f. f.sid == c.args.sid in
+    let stands : position p items ≡ Some c.in-Some.place =
+    rw c.deref.ensures.value at (sym c.place_of.ensures ∙ c.in-Some.is) in
+    let within = (position-Some p items c.in-Some.place c.index.result.now stands).0 in
+    all-item placed_of items c.in-Some.place c.index.result.now within c.index.ensures
+    (IsSoundPlaced c.self.inside.config) c.self.invariant.sound.each
+
 pub invariant_of-self : goal.invariant_of-self
-invariant_of-self c = rw (left c)
-    (sound-filter c.self.inside.config (λ f. not (f.sid == c.args.sid)) (map placed_of c.self.inside.flows.items)
-    c.self.invariant)
+invariant_of-self c =
+    let inside = c.self.inside in
+    let flow = c.index.result.now in
+    let stands : position (λ (f : PlacedFlow). f.sid == c.args.sid) inside.flows.items ≡ Some c.in-Some.place =
+    rw c.deref.ensures.value at (sym c.place_of.ensures ∙ c.in-Some.is) in
+    let long : length c.mark.new.rows ≡ inside.rows.len =
+    omega (arith, c.mark.ensures.long, c.self.invariant.told.long, inside.rows.ok.0) in
+    rw (take_at c.mark.new.rows _ inside.rows.len long)
+    (fields-without inside.config inside.flows.items c.retain.new.self.items inside.rows.items c.mark.new.rows
+    (placed_of flow) c.self.invariant c.mark.ensures.long c.args.sid (left c)
+    (flow-found c.args.sid inside.flows.items c.in-Some.place flow stands c.index.ensures)
+    (λ k. marked-for inside.config k 0 flow (placed_of flow) c.deref_mut.result.now inside.rows.items c.mark.new.rows
+    refl c.deref_mut.ensures.value (c.mark.ensures.marked k)))
 
 pub returns : goal.returns
 returns c = rw (← c.self.view_is, left c) refl

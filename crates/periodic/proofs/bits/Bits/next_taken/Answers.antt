@@ -1,0 +1,31 @@
+-- The first that is set in the first word that has one.
+use Rattle.std.proofs.Common.{◌∙◌, ◌*◌, ◌%◌, inl, inr, arith}
+use Rattle.std.proofs.lemmas.Bool.{cases_lt}
+use Rattle.periodic.proofs.Words.{bit_of-in, before-first, at-first}
+use Rattle.periodic.proofs.bits.Bits.next_taken.Goals as goal
+
+pub returns-in-Some-clause-none_before : goal.returns-in-Some-clause-none_before
+returns-in-Some-clause-none_before c = λ m from lt.
+    let words = c.args.self.now.words in
+    let place = c.loop-place.place in
+    elim (cases_lt m (place * 64)) [
+      | inl early ↦ c.loop-place.invariant m from early
+      | inr late ↦ bit_of-in words place m (omega (arith, c.in-Some.ensures.found.most))
+          ∙ before-first 1 _ place c.args.from c.in-Some.taken m c.in-Some.ensures.found from late lt
+    ]
+
+pub returns-in-Some-clause-is : goal.returns-in-Some-clause-is
+returns-in-Some-clause-is c = λ lt.
+    let first = c.in-Some.ensures.found in
+    bit_of-in c.args.self.now.words c.loop-place.place c.in-Some.taken (omega (arith, first.least, first.most))
+    ∙ at-first 1 _ c.loop-place.place c.args.from c.in-Some.taken first
+
+pub loop-place-preserved : goal.loop-place-preserved
+loop-place-preserved c = λ m from lt.
+    let words = c.args.self.now.words in
+    let place = c.loop-place.place in
+    elim (cases_lt m (place * 64)) [
+      | inl early ↦ c.loop-place.invariant m from early
+      | inr late ↦ bit_of-in words place m (omega arith)
+          ∙ c.in_default.ensures.absent (m % 64) (omega arith) (omega arith)
+    ]

@@ -1,0 +1,16 @@
+-- The rows tell of the placed flows.
+use Rattle.std.proofs.Common.{map}
+use Rattle.periodic.specs.Fields.{placed_of}
+use Rattle.periodic.proofs.table.Table.chosen.Goals as goal
+
+pub returns-clause-chosen : goal.returns-clause-chosen
+returns-clause-chosen c =
+    let inside = c.self.inside in
+    rw (← c.self.view_is) (c.choose.ensures.chosen (map placed_of inside.flows.items) c.self.invariant.sound
+    (rw c.deref.ensures.value c.self.invariant.told))
+
+pub returns-clause-absent : goal.returns-clause-absent
+returns-clause-absent c =
+    let inside = c.self.inside in
+    rw (← c.self.view_is) (c.choose.ensures.absent (map placed_of inside.flows.items) c.self.invariant.sound
+    (rw c.deref.ensures.value c.self.invariant.told))
