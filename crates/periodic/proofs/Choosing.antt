@@ -26,7 +26,8 @@ AreStartsBy c table starts jitter slots interval phase offset =
     EachPlace (λ place start. IsLawfulStart c jitter slots offset (spots_in c place table) start)
     (nominal_places c interval phase) starts
 
-same-starts : (c : Config) (table : List Placed) (starts : List ℕ) (j j' s s' i i' p p' o o' : ℕ) → j ≡ j' → s ≡ s'
+-- the same lawful starts, one number after another put for its equal
+pub same-starts : (c : Config) (table : List Placed) (starts : List ℕ) (j j' s s' i i' p p' o o' : ℕ) → j ≡ j' → s ≡ s'
     → i ≡ i'
     → p ≡ p' → o ≡ o' → AreStartsBy c table starts j s i p o → AreStartsBy c table starts j' s' i' p' o'
 same-starts c table starts j j' s s' i i' p p' o o' ej es ei ep eo are =

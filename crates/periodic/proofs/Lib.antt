@@ -8,6 +8,7 @@ pub mod Frames
 pub mod Reference
 pub mod EachFrame
 pub mod Choosing
+pub mod Adopting
 pub mod Adding
 pub mod Removing
 pub mod Words

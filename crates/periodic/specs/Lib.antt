@@ -9,3 +9,4 @@ pub mod Bits
 pub mod Rows
 pub mod Fields
 pub mod Search
+pub mod Adoption

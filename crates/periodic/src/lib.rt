@@ -1,6 +1,7 @@
 //! The places of unsolicited grants and polls in the cycle of frames.
 #![tactic(auto)]
 
+mod adopt;
 mod bits;
 mod placement;
 mod search;

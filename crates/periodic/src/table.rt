@@ -1,7 +1,7 @@
 //! The placements of a channel's periodic flows in the cycle of frames.
 
 ghost use Rattle.std.specs.Prelude.{◌≡◌, ℕ, ◌<◌, ◌==◌, nat_lt, position, ◌≤◌, ◌^◌, ◌%◌, ◌↔◌, [], length, take, drop};
-ghost use Rattle.std.specs.Prelude.{true, None, IfOk, OnErr, IsErrOf, IfSome, IfNone};
+ghost use Rattle.std.specs.Prelude.{true, false, None, IfOk, OnErr, IsErrOf, IfSome, IfNone};
 ghost use Rattle.std.specs.List.{AllByRecursion};
 ghost use Rattle.std.specs.List.Sorted.{IsPermutation};
 ghost use Rattle.flow_book.specs.FlowSpec.{is_periodic, first_fault};
@@ -14,6 +14,7 @@ ghost use Rattle.periodic.specs.Table.{IsPlaced, IsNotPlaced, HasPlacement, plac
 ghost use Rattle.periodic.specs.Table.{AreSound, IsWithinFrame, FollowInTurn};
 
 use crate::MAX_PERIODIC_FLOWS;
+use crate::adopt::is_lawful;
 use crate::bits::Bits;
 use crate::placement::{PlaceFault, Placement, Spot, Starts};
 use crate::search::{Chosen, choose};
@@ -116,6 +117,47 @@ impl Table {
             Ok(placement) => Ok(placement),
             Err(_) => Err(PlaceFault::Memory),
         }
+    }
+
+    /// Places a periodic flow where it stood elsewhere: true, and placed, exactly where this is a lawful
+    /// placement beside those that stand, its reference being the first nominal time at or after `next`.
+    /// The flow, its SID and `next` are as for [`Table::place`]. Memory is lacking only where the answer
+    /// would be true; after that fault nothing has changed.
+    pub fn adopt(
+        &mut self,
+        sid: u16,
+        spec: &FlowSpec,
+        next: u64,
+        placement: &Placement,
+    ) -> Result<bool, AllocError>
+        requires sid_positive { 0 < sid }
+        requires sid_most { sid ≤ 8191 }
+        requires is_new { IsNotPlaced sid self.old.placed }
+        requires periodic { is_periodic spec.now ≡ true }
+        requires no_fault { first_fault self.old.config spec.now ≡ None }
+        requires room { length self.old.placed < MAX_PERIODIC_FLOWS }
+        requires aligned { next % self.old.config.frame ≡ 0 }
+        requires most { next ≤ 2 ^ 61 }
+
+        // True stands for a lawful placement, which then stands in the table beside the others.
+        ensures lawful { IfOk result (λ taken. taken ≡ true →
+            IsPlacement self.old.config self.old.placed spec.now next placement.now) }
+        ensures placed { IfOk result (λ taken. taken ≡ true → self.new.placed
+            ≡ with_placed (placed_at sid spec.now placement.now) self.old.placed) }
+        ensures config { self.new.config ≡ self.old.config }
+
+        // False stands for any other, and nothing has changed.
+        ensures unlawful { IfOk result (λ taken. taken ≡ false →
+            IsPlacement self.old.config self.old.placed spec.now next placement.now → ⊥) }
+        ensures same { IfOk result (λ taken. taken ≡ false → self.new ≡ self.old) }
+        ensures memory { OnErr result (IsPlacement self.old.config self.old.placed spec.now next placement.now) }
+        ensures err { OnErr result (self.new ≡ self.old) }
+    {
+        if !is_lawful(&self.flows, &self.config, spec, next, placement) {
+            return Ok(false);
+        }
+        self.add(sid, *spec, placement.reference, placement.starts.as_slice())?;
+        Ok(true)
     }
 
     /// Takes out a placed flow, with its placement. Takes no memory.
