@@ -5,3 +5,6 @@ pub mod Sums
 pub mod Moves
 pub mod Recording
 pub mod Building
+pub mod Following
+pub mod SameMaps
+pub mod Judging

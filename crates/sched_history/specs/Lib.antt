@@ -16,3 +16,4 @@ pub mod Machine
 pub mod Planned
 pub mod State
 pub mod Facts
+pub mod Audit

@@ -5,6 +5,7 @@ use Rattle.std.specs.List.{AllByRecursion}
 use Rattle.minislots.specs.declared.config.Config.{Config}
 use Rattle.minislots.specs.declared.stamp.Stamp.{Stamp}
 use Rattle.minislots.specs.Config.{IsLawful}
+use Rattle.map_codec.specs.WireMap.{IsWellFormed}
 use Rattle.flow_book.specs.declared.TheConstants.{MAX_FLOWS}
 use Rattle.flow_book.specs.Flows.{LiveFlow}
 use Rattle.flow_book.specs.Choice.{HasStartedBy}
@@ -12,12 +13,16 @@ use Rattle.sched_history.specs.declared.scheduler.state.State.{State}
 use Rattle.sched_history.specs.declared.scheduler.answering.Answer.{Answer}
 use Rattle.sched_history.specs.declared.scheduler.Scheduler.TheInside.{Inside}
 use Rattle.sched_history.specs.declared.call.Call.{Call}
+use Rattle.sched_history.specs.declared.call.Call.TheVariants.{Build}
+use Rattle.sched_history.specs.declared.reply.TheConstants.{MAX_ENTRIES}
 use Rattle.sched_history.specs.declared.reply.Reply.{Reply}
+use Rattle.sched_history.specs.declared.reply.Reply.TheVariants.{Built}
 use Rattle.sched_history.specs.declared.reply.Entry.{Entry}
 use Rattle.sched_history.specs.Life.{turn_by, asked_by, grants_by, flows_of, table_of}
 use Rattle.sched_history.specs.Time.{skip_by, is_built, progress_by, next_after, progress_of}
 use Rattle.sched_history.specs.Refusal.{most_bytes, most_ahead, last_clock, refusal_of}
-use Rattle.sched_history.specs.History.{Answers, IsStep, IsLegal}
+use Rattle.sched_history.specs.History.{Answers, IsStep, IsLegal, IsNextMap}
+use Rattle.sched_history.specs.Planned.{PlannedBuild}
 use Rattle.sched_history.specs.Facts.{IsWithinAsked}
 use Rattle.sched_history.specs.Machine.{Machine, IsEncodable, TakesMemory}
 
@@ -55,13 +60,28 @@ pub record IsSound (a : Inside) : Type 0 where
   pub within : length a.entries.items ≤ a.state.config.calls
   pub reserved : a.state.config.calls ≤ vec_capacity a.entries
 
--- No test refuses the call after the history that the fields stand for, and there is room
+-- The fields are those after the history, which is legal; they keep to bounds
+pub record IsKeptOf (s : State) (h : List Entry) : Type 0 where
+  pub is_after : IsStateAfter s h
+  pub bounded : IsBounded s.config s.book.flows s.next (length h)
+  pub legal : IsLegal s.config h
+
+-- No test refuses the call after the history that the fields stand for, which is no longer than any that is recorded
 pub record IsOpenTo (s : State) (call : Call) (h : List Entry) : Type 0 where
   pub is_after : IsStateAfter s h
   pub bounded : IsBounded s.config s.book.flows s.next (length h)
   pub legal : IsLegal s.config h
-  pub room : length h < s.config.calls
+  pub short : length h < MAX_ENTRIES
   pub unrefused : refusal_of s.config h call ≡ None
+
+-- The MAP of the build is the lawful one of the next frame after the history and has bytes, and the flows are those
+-- after it
+pub record IsBuildAfter (c : Config) (h : List Entry) (p : PlannedBuild) : Type 0 where
+  pub lawful : IsNextMap c h p.map
+  pub encodable : IsWellFormed p.map.wire
+  pub config : p.config ≡ c
+  pub flows : (stamp : Stamp) → p.flows
+      ≡ flows_of (h ++ record { stamp = stamp; call = Build p.clock; reply = Built p.map } ∷ [])
 
 -- The answer to a call after the history, twice, and the fields with one entry more
 pub record IsAnswered (old new : State) (call : Call) (a : Answer) (h : List Entry) : Type 0 where
@@ -83,6 +103,20 @@ AnswersOpen old new call a = (h : List Entry) → IsOpenTo old call h → IsAnsw
 -- and takes memory
 abbrev pub TakesMemoryOpen : State → Call → Type 0
 TakesMemoryOpen s call = (h : List Entry) → IsOpenTo s call h → TakesMemory s.config h call
+
+-- The reply is the answer to the call after the history, and the fields are those with one entry more
+pub record IsFollowed (old new : State) (call : Call) (reply : Reply) (h : List Entry) : Type 0 where
+  pub config : new.config ≡ old.config
+  pub answers : Answers old.config h call reply
+  pub is_after : (stamp : Stamp) → IsStateAfter new (h ++ record { stamp = stamp; call = call; reply = reply } ∷ [])
+
+-- after each history that the fields stand for it is
+abbrev pub FollowsOpen : State → State → Call → Reply → Type 0
+FollowsOpen old new call reply = (h : List Entry) → IsOpenTo old call h → IsFollowed old new call reply h
+
+-- after none it is the answer
+abbrev pub DiffersOpen : State → Call → Reply → Type 0
+DiffersOpen s call reply = (h : List Entry) → IsOpenTo s call h → Answers s.config h call reply → ⊥
 
 -- A call was answered and recorded
 pub record IsRecorded (old new : Machine) (stamp : Stamp) (call : Call) (reply : Reply) : Type 0 where

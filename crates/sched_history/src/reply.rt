@@ -11,6 +11,9 @@ use periodic::{Placement, Starts};
 use std::alloc::{AllocError, Global};
 use thiserror::Error;
 
+/// The most entries of a history.
+pub const MAX_ENTRIES: usize = 16_777_216;
+
 /// Why a call is refused. The tests are made in this order, and the first that holds is answered. A
 /// refusal is recorded, and changes nothing else.
 #[derive(Clone, Copy, Debug, PartialEq, Eq)]
@@ -147,6 +150,17 @@ pub enum PlanFault {
     /// The history has as many entries as are recorded.
     #[error("history full")]
     HistoryFull,
+    /// Memory ran out.
+    #[error("out of memory")]
+    Memory,
+}
+
+/// Why a history is not judged legal.
+#[derive(Clone, Copy, Debug, PartialEq, Eq, Error)]
+pub enum AuditFault {
+    /// This entry, counted from 0, is the first whose reply may not follow the entries before it.
+    #[error("illegal {0}")]
+    Illegal(usize),
     /// Memory ran out.
     #[error("out of memory")]
     Memory,

@@ -10,7 +10,9 @@ ghost use Rattle.sched_history.specs.Planned.{IsPlanAfter};
 ghost use Rattle.sched_history.specs.Refusal.{refusal_of};
 
 mod answering;
+mod following;
 mod planned;
+mod present;
 mod recording;
 mod refusing;
 mod state;
@@ -19,8 +21,9 @@ use crate::call::Call;
 use crate::reply::{Entry, PlanFault, Refusal, Reply, Unrecorded};
 use minislots::{Checked, Stamp};
 pub use planned::Planned;
+pub(crate) use present::Present;
 use recording::note;
-use state::State;
+pub(crate) use state::State;
 use std::alloc::{AllocError, Global};
 use std::marker::Model;
 
@@ -137,7 +140,24 @@ impl Scheduler {
         ensures value { result ≡ nat_le self.now.config.calls (length self.now.history) }
         ensures legal { IsLegal self.now.config self.now.history }
     {
-        self.entries.len() >= self.state.config.calls() as usize
+        self.present().is_full()
+    }
+
+    // The first refusal of a call.
+    fn refusal_of(&self, call: Call) -> Option<Refusal>
+        ensures { result ≡ refusal_of self.now.config self.now.history call }
+    {
+        self.present().refusal_of(call)
+    }
+
+    // The present of the history.
+    fn present(&self) -> Present<'_>
+        ensures { result ≡ self.now }
+    {
+        Present {
+            state: &self.state,
+            entries: &self.entries,
+        }
     }
 
     /// The calls that were recorded, with their replies, in order. What follows for the plant from a legal

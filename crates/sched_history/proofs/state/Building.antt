@@ -63,6 +63,21 @@ module _ (s : State) (h : List Entry) (is_after : IsStateAfter s h) where
       (subst (λ flows. IsLawfulMap s.config flows (spots_in s.config (s.next / s.config.frame) s.table.placed) s.next
       (least (take s.config.receivers s.progress)) m) is_after.flows lawful)))
 
+  -- and the other way round
+  pub IsLawfulMap-after : (m : FrameMap) → IsNextMap s.config h m
+      → IsLawfulMap s.config s.book.flows (spots_in s.config (s.next / s.config.frame) s.table.placed) s.next
+      (least (take s.config.receivers s.progress)) m
+  IsLawfulMap-after m next =
+      subst (λ flows. IsLawfulMap s.config flows (spots_in s.config (s.next / s.config.frame) s.table.placed) s.next
+      (least (take s.config.receivers s.progress)) m) (sym is_after.flows)
+      (subst (λ placed. IsLawfulMap s.config (flows_of h) (spots_in s.config (s.next / s.config.frame) placed) s.next
+      (least (take s.config.receivers s.progress)) m) (sym is_after.placed)
+      (subst (λ next. IsLawfulMap s.config (flows_of h) (spots_in s.config (next / s.config.frame) (table_of h)) next
+      (least (take s.config.receivers s.progress)) m) (sym is_after.next)
+      (subst (λ ack. IsLawfulMap s.config (flows_of h)
+      (spots_in s.config (next_after s.config h / s.config.frame) (table_of h))
+      (next_after s.config h) ack m) (sym ack-after) next)))
+
   -- and the flows with its data grants are those after its build
   pub flows_of-planned : (stamp : Stamp) (now : ℕ) (m : FrameMap) (granted : List LiveFlow)
       → IsLawfulFrame s.config s.book.flows (spots_in s.config (s.next / s.config.frame) s.table.placed) s.next

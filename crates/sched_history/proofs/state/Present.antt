@@ -5,7 +5,6 @@ use Rattle.std.specs.Prelude.{is_some, IsSome}
 use Rattle.std.specs.List.{AllByRecursion}
 use Rattle.std.specs.Option.{option_map, option_and_then, IfSome, MatchOption}
 use Rattle.minislots.specs.declared.config.Config.{Config}
-use Rattle.minislots.proofs.Bounds.{bounds_of}
 use Rattle.flow_book.specs.declared.spec.FlowSpec.{FlowSpec}
 use Rattle.flow_book.specs.declared.spec.FlowSpec.TheVariants.{Unsolicited, Polled, BestEffort}
 use Rattle.flow_book.specs.FlowSpec.{is_periodic}
@@ -95,6 +94,15 @@ without_placed-none sid (p ∷ placed) none =
     let both = passed_over (p.sid == sid) p (find (λ q. q.sid == sid) placed) none in
     rw (both.0) (ap (λ ps. p ∷ ps) (without_placed-none sid placed both.1))
 
+-- the bytes of one request more fit 64 bits
+pub asked-fits : (s : State) (h : List Entry) (sid bytes : ℕ) → bytes < 2 ^ 32 → length h ≤ 16777216
+    → AllByRecursion (λ f. f.asked ≤ most_bytes * length h) s.book.flows
+    → IfSome (flow_of sid s.book.flows) (λ f. f.asked + bytes < 2 ^ 64)
+asked-fits s h sid bytes low short all =
+    if_some-follows (λ f. f.asked ≤ most_bytes * length h) (λ f. f.asked + bytes < 2 ^ 64) (flow_of sid s.book.flows)
+    (λ f most. omega arith)
+    (find-all (λ f. f.asked ≤ most_bytes * length h) (λ f. f.sid == sid) s.book.flows all)
+
 module _ (s : State) (h : List Entry) (sid : ℕ) (is_after : IsStateAfter s h) where
   module _ (good : bad_sid sid ≡ false) where
     -- the live flow of a SID that a flow may have
@@ -117,16 +125,6 @@ module _ (s : State) (h : List Entry) (sid : ℕ) (is_after : IsStateAfter s h) 
       -- and no placement
       pub find-fresh : find (λ p. p.sid == sid) s.table.placed ≡ None
       find-fresh = find-after ∙ unplaced-life sid (life_of sid h) (life_of-dead sid h fresh)
-
-  -- the bytes of one request more fit 64 bits
-  pub asked-fits : (bytes : ℕ) → bytes < 2 ^ 32 → length h ≤ s.config.calls
-      → AllByRecursion (λ f. f.asked ≤ most_bytes * length h) s.book.flows
-      → IfSome (flow_of sid s.book.flows) (λ f. f.asked + bytes < 2 ^ 64)
-  asked-fits bytes low room all =
-      let calls = (bounds_of s.config is_after.lawful).calls_most in
-      if_some-follows (λ f. f.asked ≤ most_bytes * length h) (λ f. f.asked + bytes < 2 ^ 64) (flow_of sid s.book.flows)
-      (λ f most. omega arith)
-      (find-all (λ f. f.asked ≤ most_bytes * length h) (λ f. f.sid == sid) s.book.flows all)
 
   module _ (known : IsKnown h sid) where
     -- a SID that is live has a flow

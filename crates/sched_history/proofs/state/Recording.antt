@@ -5,6 +5,7 @@ use Rattle.std.specs.List.{AllByRecursion}
 use Rattle.std.proofs.lemmas.List.{length_push}
 use Rattle.minislots.specs.declared.config.Config.{Config}
 use Rattle.minislots.specs.declared.stamp.Stamp.{Stamp}
+use Rattle.minislots.proofs.Bounds.{bounds_of}
 use Rattle.sched_history.specs.declared.scheduler.answering.Answer.{Answer}
 use Rattle.sched_history.specs.declared.scheduler.Scheduler.TheInside.{Inside}
 use Rattle.sched_history.specs.declared.call.Call.{Call}
@@ -15,9 +16,11 @@ use Rattle.sched_history.specs.Refusal.{refusal_of}
 use Rattle.sched_history.specs.History.{IsStep, IsLegal}
 use Rattle.sched_history.specs.Machine.{Machine, IsEncodable}
 use Rattle.sched_history.specs.Planned.{PlannedBuild, IsPlanAfter}
-use Rattle.sched_history.specs.State.{IsStateAfter, machine_of, IsSound, IsOpenTo, IsAnswered, IsRecorded}
+use Rattle.sched_history.specs.State.{IsStateAfter, machine_of, IsSound, IsKeptOf, IsOpenTo, IsBuildAfter, IsAnswered}
+use Rattle.sched_history.specs.State.{IsRecorded}
 use Rattle.sched_history.proofs.steps.Steps.{IsLegal-push, IsStep-answered}
 use Rattle.sched_history.proofs.steps.Bounded.{IsBounded-legal}
+use Rattle.sched_history.proofs.rows.Limits.{most_entries}
 
 -- what holds of all and of one more
 all-push : {X : Type 0} (P : X → Type 0) (xs : List X) (x : X) → AllByRecursion P xs → P x
@@ -44,6 +47,28 @@ IsSound-push a b e sound items capacity config room step encodable is_after =
       reserved = rw (config, capacity) sound.reserved;
     }
 
+-- what is kept is that of the history
+pub IsKeptOf-inside : (a : Inside) → IsSound a → IsKeptOf a.state a.entries.items
+IsKeptOf-inside a sound = record { is_after = sound.is_after; bounded = sound.bounded; legal = sound.legal }
+
+-- a planned build may follow
+pub IsBuildAfter-planned : (c : Config) (h : List Entry) (p : PlannedBuild) → IsPlanAfter c h p → IsBuildAfter c h p
+IsBuildAfter-planned c h p fits =
+    record { lawful = fits.lawful; encodable = fits.encodable; config = fits.config; flows = fits.flows }
+
+-- and is planned, where there is room and no test refuses it
+pub IsPlanAfter-build : (c : Config) (h : List Entry) (p : PlannedBuild) → length h < c.calls
+    → refusal_of c h (Build p.clock) ≡ None → IsBuildAfter c h p → IsPlanAfter c h p
+IsPlanAfter-build c h p room unrefused fits =
+    record {
+      room = room;
+      unrefused = unrefused;
+      lawful = fits.lawful;
+      encodable = fits.encodable;
+      config = fits.config;
+      flows = fits.flows;
+    }
+
 -- a call that no test refuses is open
 pub IsOpenTo-inside : (a : Inside) (m : Machine) → machine_of a ≡ m → (call : Call) → IsSound a
     → length m.history < m.config.calls → refusal_of m.config m.history call ≡ None
@@ -52,7 +77,10 @@ IsOpenTo-inside a m is call sound room none = record {
   is_after = sound.is_after;
   bounded = sound.bounded;
   legal = sound.legal;
-  room = subst (λ n. length n.history < n.config.calls) (sym is) room;
+  short =
+      (let some : length a.entries.items < a.state.config.calls =
+      subst (λ n. length n.history < n.config.calls) (sym is) room in
+      omega (arith, most_entries, (bounds_of a.state.config sound.is_after.lawful).calls_most));
   unrefused = subst (λ n. refusal_of n.config n.history call ≡ None) (sym is) none;
 }
 
@@ -73,11 +101,12 @@ module _ (a b : Inside) (stamp : Stamp) (call : Call) (t : Answer) (sound : IsSo
   step-is : IsStep a.state.config a.entries.items call t.reply
   step-is = IsStep-answered a.state.config a.entries.items call t.reply opens.unrefused answered.answers
 
-  -- is sound
-  pub IsSound-answered : vec_capacity b.entries ≡ vec_capacity a.entries → IsSound b
-  IsSound-answered capacity =
+  -- is sound, where there was room
+  pub IsSound-answered : vec_capacity b.entries ≡ vec_capacity a.entries
+      → length a.entries.items < a.state.config.calls → IsSound b
+  IsSound-answered capacity room =
       IsSound-push a b (record { stamp = stamp; call = call; reply = t.reply }) sound items-are capacity
-      answered.config opens.room step-is answered.encodable (answered.is_after stamp)
+      answered.config room step-is answered.encodable (answered.is_after stamp)
 
   -- and has recorded it
   pub IsRecorded-answered : (m : Machine) → machine_of a ≡ m → IsRecorded m (machine_of b) stamp call t.reply
@@ -90,7 +119,7 @@ module _ (a b : Inside) (stamp : Stamp) (call : Call) (t : Answer) (sound : IsSo
 -- A scheduler in which a planned build is entered
 module _ (a b : Inside) (m : Machine) (is : machine_of a ≡ m) (stamp : Stamp) (p : PlannedBuild) (t : Answer)
     (sound : IsSound a) (fits : IsPlanAfter m.config m.history p)
-    (answered : (h : List Entry) → IsOpenTo a.state (Build p.clock) h → IsPlanAfter a.state.config h p
+    (answered : (h : List Entry) → IsOpenTo a.state (Build p.clock) h → IsBuildAfter a.state.config h p
     → IsAnswered a.state b.state (Build p.clock) t h)
     (entered : b.entries.items ≡ a.entries.items
     ++ record { stamp = stamp; call = Build p.clock; reply = t.kept } ∷ []) where
@@ -99,11 +128,14 @@ module _ (a b : Inside) (m : Machine) (is : machine_of a ≡ m) (stamp : Stamp) 
 
   answers-planned : IsAnswered a.state b.state (Build p.clock) t a.entries.items
   answers-planned =
-      answered a.entries.items opens-planned (subst (λ n. IsPlanAfter n.config n.history p) (sym is) fits)
+      answered a.entries.items opens-planned
+      (subst (λ n. IsBuildAfter n.config n.history p) (sym is) (IsBuildAfter-planned m.config m.history p fits))
 
   -- is sound
   pub IsSound-planned : vec_capacity b.entries ≡ vec_capacity a.entries → IsSound b
-  IsSound-planned = IsSound-answered a b stamp (Build p.clock) t sound opens-planned answers-planned entered
+  IsSound-planned capacity =
+      IsSound-answered a b stamp (Build p.clock) t sound opens-planned answers-planned entered capacity
+      (subst (λ n. length n.history < n.config.calls) (sym is) fits.room)
 
   -- and has recorded it
   pub IsRecorded-planned : IsRecorded m (machine_of b) stamp (Build p.clock) t.reply

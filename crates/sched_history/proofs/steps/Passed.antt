@@ -30,7 +30,8 @@ faultless : (fault : Option FlowFault) (rest : Option Refusal) → option_or (op
 faultless None rest e = (refl, e)
 faultless (Some fault) rest e = absurd cc
 
-above : (m n : ℕ) → nat_le m n ≡ false → n < m
+-- a test that failed
+pub above : (m n : ℕ) → nat_le m n ≡ false → n < m
 above m n e = grind (arith, nat_tests)
 
 within : (m n : ℕ) → nat_lt m n ≡ false → n ≤ m

@@ -3,8 +3,7 @@
 ghost use Rattle.std.specs.Prelude.{◌≡◌, List, false, true, IfOk, OnErr};
 ghost use Rattle.flow_book.specs.FlowSpec.{is_periodic};
 ghost use Rattle.sched_history.specs.declared.reply.Entry.{Entry};
-ghost use Rattle.sched_history.specs.Planned.{IsPlanAfter};
-ghost use Rattle.sched_history.specs.State.{IsOpenTo, IsOpen, AnswersOpen, TakesMemoryOpen, IsAnswered};
+ghost use Rattle.sched_history.specs.State.{IsOpenTo, IsOpen, IsBuildAfter, AnswersOpen, TakesMemoryOpen, IsAnswered};
 
 use super::planned::Planned;
 use super::refusing::is_periodic;
@@ -125,10 +124,10 @@ impl State {
     // Describes the next frame by the MAP that is planned.
     pub(super) fn commit(&mut self, planned: Planned) -> Answer
         requires { (h : List Entry) × IsOpenTo self.old (Call.Build planned.clock) h
-            × IsPlanAfter self.old.config h planned }
+            × IsBuildAfter self.old.config h planned }
         ensures built { result.reply ≡ Reply.Built planned.map }
         ensures answered { (h : List Entry) → IsOpenTo self.old (Call.Build planned.clock) h
-            → IsPlanAfter self.old.config h planned
+            → IsBuildAfter self.old.config h planned
             → IsAnswered self.old self.new (Call.Build planned.clock) result h }
     {
         let Planned {

@@ -8,7 +8,7 @@ ghost use Rattle.sched_history.specs.Time.{next_after, progress_of};
 ghost use Rattle.sched_history.specs.Refusal.{bad_sid, is_live, is_silent, periodic_count, refused_if};
 ghost use Rattle.sched_history.specs.Refusal.{first_of, refusal_of, most_bytes};
 
-use super::Scheduler;
+use super::present::Present;
 use crate::call::Call;
 use crate::reply::Refusal;
 use flow_book::{FlowSpec, MAX_FLOWS};
@@ -44,9 +44,9 @@ pub(super) fn takes_requests(spec: FlowSpec) -> bool
     !matches!(spec, FlowSpec::Unsolicited { .. })
 }
 
-impl Scheduler {
+impl<'a> Present<'a> {
     // The first refusal of a call.
-    pub(super) fn refusal_of(&self, call: Call) -> Option<Refusal>
+    pub(crate) fn refusal_of(&self, call: Call) -> Option<Refusal>
         ensures { result ≡ refusal_of self.now.config self.now.history call }
     {
         match call {

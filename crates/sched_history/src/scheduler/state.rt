@@ -11,14 +11,13 @@ ghost use Rattle.flow_book.specs.Book.{IsLive, with_flow, new_flow, without};
 ghost use Rattle.periodic.specs.declared.TheConstants.{MAX_PERIODIC_FLOWS};
 ghost use Rattle.periodic.specs.Placement.{IsPlacement, NoPlacement, spots_in};
 ghost use Rattle.periodic.specs.Table.{IsPlaced, with_placed, without as without_placed};
-ghost use Rattle.map_build.specs.FrameMap.{IsLawfulFrame};
+ghost use Rattle.map_build.specs.FrameMap.{IsLawfulMap, IsLawfulFrame};
 ghost use Rattle.map_build.specs.Spots.{AreOfChannel, ArePeriodicOf};
 ghost use Rattle.sched_history.specs.declared.reply.Reply.TheVariants.{Flow};
 ghost use Rattle.sched_history.specs.Time.{least, IsFirstStart};
-ghost use Rattle.sched_history.specs.History.{flow_status};
+ghost use Rattle.sched_history.specs.History.{flow_status, IsNextMap};
 ghost use Rattle.sched_history.specs.declared.reply.Entry.{Entry};
-ghost use Rattle.sched_history.specs.Planned.{IsPlanAfter};
-ghost use Rattle.sched_history.specs.State.{IsStateAfter, IsOpenTo, IsOpen};
+ghost use Rattle.sched_history.specs.State.{IsStateAfter, IsOpenTo, IsOpen, IsBuildAfter};
 ghost use Rattle.sched_history.specs.Facts.{IsWithinAsked};
 
 use super::planned::Planned;
@@ -33,14 +32,14 @@ use std::alloc::{AllocError, Global};
 
 // The live flows, their placements, and the time.
 #[derive(Drop)]
-pub(super) struct State {
-    pub(super) config: Checked,
-    pub(super) book: Book,
-    pub(super) table: Table,
+pub(crate) struct State {
+    pub(crate) config: Checked,
+    pub(crate) book: Book,
+    pub(crate) table: Table,
     // Where the frame of the next MAP starts.
-    pub(super) next: u64,
+    pub(crate) next: u64,
     // The minislot before which each receiver has handed in every request that it heard.
-    pub(super) progress: [u64; 16],
+    pub(crate) progress: [u64; 16],
 }
 
 // The least of some numbers, 0 where there are none.
@@ -62,7 +61,7 @@ fn least_of(numbers: &[u64]) -> u64
 
 impl State {
     // The state before any call.
-    pub(super) fn open(alloc: Global, config: Checked) -> Result<State, AllocError>
+    pub(crate) fn open(alloc: Global, config: Checked) -> Result<State, AllocError>
         ensures config { IfOk result (λ state. state.config ≡ config) }
         ensures is_after { IfOk result (λ state. IsStateAfter state []) }
     {
@@ -77,7 +76,7 @@ impl State {
     }
 
     // The first start of a frame at or after this minislot.
-    pub(super) fn first_start(&self, slot: u64) -> u64
+    pub(crate) fn first_start(&self, slot: u64) -> u64
         requires { slot ≤ 2 ^ 61 }
         ensures { IsFirstStart self.now.config slot result }
     {
@@ -87,7 +86,7 @@ impl State {
 
     // The bytes of a live flow that were asked, granted and are outstanding: zeros where it does not
     // ask.
-    pub(super) fn bytes_of(&self, sid: u16) -> (u64, u64, u64)
+    pub(crate) fn bytes_of(&self, sid: u16) -> (u64, u64, u64)
         requires live { IsLive sid self.now.book.flows }
         requires within { AllByRecursion IsWithinAsked self.now.book.flows }
         ensures { IfSome (flow_of sid self.now.book.flows) (λ f.
@@ -103,7 +102,7 @@ impl State {
     }
 
     // Forgets a live flow, with its placement.
-    pub(super) fn remove(&mut self, sid: u16)
+    pub(crate) fn remove(&mut self, sid: u16)
         requires live { IsLive sid self.old.book.flows }
         requires placed { IfSome (flow_of sid self.old.book.flows) (λ f.
             is_periodic f.spec ≡ true → IsPlaced sid self.old.table.placed) }
@@ -125,7 +124,7 @@ impl State {
 
     // Places and admits a periodic flow. Its placement comes twice: for the reply and for the history.
     // After a fault nothing has changed.
-    pub(super) fn admit_periodic(
+    pub(crate) fn admit_periodic(
         &mut self,
         alloc: Global,
         sid: u16,
@@ -209,6 +208,9 @@ impl State {
         ensures lawful { IfOk result (λ both. IsLawfulFrame self.now.config self.now.book.flows
             (spots_in self.now.config (self.now.next / self.now.config.frame) self.now.table.placed)
             self.now.next (least (take self.now.config.receivers self.now.progress)) both.0 both.1.flows) }
+        ensures only { IfOk result (λ both. (n : FrameMap) → IsLawfulMap self.now.config self.now.book.flows
+            (spots_in self.now.config (self.now.next / self.now.config.frame) self.now.table.placed)
+            self.now.next (least (take self.now.config.receivers self.now.progress)) n → n ≡ both.0) }
         ensures encodable { IfOk result (λ both. IsWellFormed both.0.wire) }
         ensures config { IfOk result (λ both. both.1.config ≡ self.now.config) }
     {
@@ -217,11 +219,13 @@ impl State {
     }
 
     // The build of the MAP of the next frame, with all that it fills.
-    pub(super) fn plan(&self, alloc: Global, now: u64) -> Result<Planned, AllocError>
+    pub(crate) fn plan(&self, alloc: Global, now: u64) -> Result<Planned, AllocError>
         requires { IsOpen self.now (Call.Build now) }
         ensures clock { IfOk result (λ planned. planned.clock ≡ now) }
         ensures fits { IfOk result (λ planned. (h : List Entry) → IsOpenTo self.now (Call.Build now) h
-            → IsPlanAfter self.now.config h planned) }
+            → IsBuildAfter self.now.config h planned) }
+        ensures only { IfOk result (λ planned. (h : List Entry) → IsOpenTo self.now (Call.Build now) h
+            → (n : FrameMap) → IsNextMap self.now.config h n → n ≡ planned.map) }
     {
         let (map, book) = self.plan_next(alloc)?;
         Ok(Planned {

@@ -1,5 +1,7 @@
 -- The answer to an open call is entered.
-use Rattle.sched_history.proofs.state.Recording.{IsOpenTo-inside, IsSound-answered}
+use Rattle.std.proofs.Common.{◌<◌, length, sym, subst, Result, Ok, Err, OnErr}
+use Rattle.sched_history.specs.Machine.{TakesMemory}
+use Rattle.sched_history.proofs.state.Recording.{IsOpenTo-inside, IsSound-answered, IsRecorded-answered}
 use Rattle.sched_history.proofs.scheduler.Scheduler.accept.Goals as goal
 
 pub answer-requires : goal.answer-requires
@@ -10,6 +12,29 @@ answer-requires c =
           c.requires.unrefused,
     )
 
+on-err : {X Y : Type 0} (r : Result X Y) (P : Type 0) → P → OnErr r P
+on-err (Ok x) P p = tt
+on-err (Err e) P p = p
+
+pub returns-in_err-answer-clause-memory : goal.returns-in_err-answer-clause-memory
+returns-in_err-answer-clause-memory c =
+    let a = c.self.inside in
+    let opens = IsOpenTo-inside a c.args.self.now c.self.view_is c.args.call c.self.invariant c.requires.room
+    c.requires.unrefused in
+    on-err c.from_residual.result _
+    (subst (λ m. TakesMemory m.config m.history c.args.call) c.self.view_is
+    (c.in_err-answer.ensures.memory a.entries.items opens))
+
+pub returns-clause-recorded : goal.returns-clause-recorded
+returns-clause-recorded c =
+    let a = c.self.inside in
+    let opens = IsOpenTo-inside a c.args.self.now c.self.view_is c.args.call c.self.invariant c.requires.room
+    c.requires.unrefused in
+    rw (c.note.ensures.reply)
+    (IsRecorded-answered a (record { state = c.answer.new.self; entries = c.note.new.entries }) c.args.stamp c.args.call
+    c.in_ok-answer.answer c.self.invariant opens (c.in_ok-answer.ensures.answered a.entries.items opens)
+    c.note.ensures.items c.args.self.now c.self.view_is)
+
 pub invariant_of-self-2 : goal.invariant_of-self-2
 invariant_of-self-2 c =
     let a = c.self.inside in
@@ -17,3 +42,4 @@ invariant_of-self-2 c =
     c.requires.unrefused in
     IsSound-answered a _ c.args.stamp c.args.call c.in_ok-answer.answer c.self.invariant opens
     (c.in_ok-answer.ensures.answered a.entries.items opens) c.note.ensures.items c.note.ensures.capacity
+    (subst (λ m. length m.history < m.config.calls) (sym c.self.view_is) c.requires.room)

@@ -11,3 +11,12 @@ returns-clause-lawful c =
     omega (arith, mod-eq-sub-div-mul next frame, div-mul-le_self next frame, c.requires.aligned) in
     rw (c.from.ensures, c.frame.ensures.value, c.requires.book_config, c.ack.ensures, whole)
     at c.plan_with_book.ensures.lawful
+
+pub returns-clause-only : goal.returns-clause-only
+returns-clause-only c =
+    let next = c.args.self.now.next in
+    let frame = c.args.self.now.config.frame in
+    let whole : next / frame * frame ≡ next =
+    omega (arith, mod-eq-sub-div-mul next frame, div-mul-le_self next frame, c.requires.aligned) in
+    rw (c.from.ensures, c.frame.ensures.value, c.requires.book_config, c.ack.ensures, whole)
+    at c.plan_with_book.ensures.only

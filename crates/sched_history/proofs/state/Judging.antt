@@ -1,0 +1,64 @@
+-- What is kept, with one judged entry more.
+use Rattle.std.proofs.Common.{◌≡◌, ◌<◌, List, [], ◌∷◌, ◌++◌, length, None, Some, refl, sym, subst}
+use Rattle.std.specs.Option.{MatchOption}
+use Rattle.minislots.specs.declared.config.Config.{Config}
+use Rattle.sched_history.specs.declared.reply.TheConstants.{MAX_ENTRIES}
+use Rattle.sched_history.specs.declared.scheduler.state.State.{State}
+use Rattle.sched_history.specs.declared.call.Call.{Call}
+use Rattle.sched_history.specs.declared.reply.Refusal.{Refusal}
+use Rattle.sched_history.specs.declared.reply.Reply.{Reply}
+use Rattle.sched_history.specs.declared.reply.Reply.TheVariants.{Refused}
+use Rattle.sched_history.specs.declared.reply.Entry.{Entry}
+use Rattle.sched_history.specs.Refusal.{refusal_of}
+use Rattle.sched_history.specs.History.{Answers, IsStep, IsLegal}
+use Rattle.sched_history.specs.State.{IsStateAfter, IsKeptOf, IsOpenTo, IsFollowed}
+use Rattle.sched_history.proofs.flows.Refused.{IsQuiet-refused}
+use Rattle.sched_history.proofs.steps.Steps.{IsLegal-push, IsStep-answered}
+use Rattle.sched_history.proofs.steps.Bounded.{IsBounded-legal}
+use Rattle.sched_history.proofs.state.Moves.{IsStateAfter-quiet}
+
+-- what is kept after a step is that of the history with this entry more
+IsKeptOf-push : (s t : State) (h : List Entry) (e : Entry) → IsKeptOf s h → t.config ≡ s.config
+    → IsStep s.config h e.call e.reply → IsStateAfter t (h ++ e ∷ []) → IsKeptOf t (h ++ e ∷ [])
+IsKeptOf-push s t h e kept config step is_after =
+    let legal : IsLegal t.config (h ++ e ∷ []) = rw config (IsLegal-push s.config h e kept.legal step) in
+    record {
+      is_after = is_after;
+      bounded = rw (is_after.flows, is_after.next) (IsBounded-legal t.config (h ++ e ∷ []) is_after.lawful legal);
+      legal = legal;
+    }
+
+-- before any call
+pub IsKeptOf-open : (s : State) → IsStateAfter s [] → IsKeptOf s []
+IsKeptOf-open s is_after = record {
+  is_after = is_after;
+  bounded = rw (is_after.flows, is_after.next) (IsBounded-legal s.config [] is_after.lawful tt);
+  legal = tt;
+}
+
+module _ (s : State) (h : List Entry) (e : Entry) (kept : IsKeptOf s h) where
+  -- after its first refusal
+  pub IsKeptOf-refused : (refusal : Refusal) → refusal_of s.config h e.call ≡ Some refusal → e.reply ≡ Refused refusal
+      → IsKeptOf s (h ++ e ∷ [])
+  IsKeptOf-refused refusal first same =
+      let step : IsStep s.config h e.call e.reply =
+      subst (λ o. MatchOption o (Answers s.config h e.call e.reply) (λ r. e.reply ≡ Refused r)) (sym first) same in
+      IsKeptOf-push s s h e kept refl step
+      (IsStateAfter-quiet s h kept.is_after e.stamp e.call e.reply (rw same (IsQuiet-refused e.call refusal)))
+
+  module _ (short : length h < MAX_ENTRIES) (unrefused : refusal_of s.config h e.call ≡ None) where
+    -- a call that no test refuses is open
+    pub IsOpenTo-kept : IsOpenTo s e.call h
+    IsOpenTo-kept = record {
+      is_after = kept.is_after;
+      bounded = kept.bounded;
+      legal = kept.legal;
+      short = short;
+      unrefused = unrefused;
+    }
+
+    -- after its answer
+    pub IsKeptOf-followed : (t : State) → IsFollowed s t e.call e.reply h → IsKeptOf t (h ++ e ∷ [])
+    IsKeptOf-followed t followed =
+        IsKeptOf-push s t h e kept followed.config
+        (IsStep-answered s.config h e.call e.reply unrefused followed.answers) (followed.is_after e.stamp)

@@ -1,0 +1,126 @@
+//! Whether a reply that is handed in is an answer to a call that no test refuses, and what is kept after it.
+
+ghost use Rattle.std.specs.Prelude.{◌≡◌, true, false, Some, IfOk};
+ghost use Rattle.flow_book.specs.FlowSpec.{is_periodic};
+ghost use Rattle.sched_history.specs.State.{IsOpen, FollowsOpen, DiffersOpen};
+ghost use Rattle.sched_history.specs.Audit.{is_told};
+
+use super::refusing::is_periodic;
+use super::state::State;
+use crate::auditing::sameness::{is_refused, is_same_map, is_same_plain, map_in, placement_in};
+use crate::call::Call;
+use crate::reply::{Refusal, Reply};
+use flow_book::FlowSpec;
+use map_build::FrameMap;
+use periodic::{PlaceFault, Placement};
+use std::alloc::{AllocError, Global};
+
+impl State {
+    // Whether this is an answer to a call that no test refuses: any lawful one. Where it is, the state is
+    // that after it.
+    pub(crate) fn follow(
+        &mut self,
+        alloc: Global,
+        call: Call,
+        reply: &Reply,
+    ) -> Result<bool, AllocError>
+        requires { IsOpen self.old call }
+        ensures follows { IfOk result (λ is. is ≡ true → FollowsOpen self.old self.new call reply.now) }
+        ensures differs { IfOk result (λ is. is ≡ false → DiffersOpen self.old call reply.now) }
+    {
+        match call {
+            Call::Admit(sid, spec) if is_periodic(spec) => self.follow_admission(sid, spec, reply),
+            Call::Build { now } => self.follow_build(alloc, now, reply),
+            _ => self.follow_told(alloc, call, reply),
+        }
+    }
+
+    // The same for a call that has one answer without lists.
+    fn follow_told(&mut self, alloc: Global, call: Call, reply: &Reply) -> Result<bool, AllocError>
+        requires open { IsOpen self.old call }
+        requires told { is_told call ≡ true }
+        ensures follows { IfOk result (λ is. is ≡ true → FollowsOpen self.old self.new call reply.now) }
+        ensures differs { IfOk result (λ is. is ≡ false → DiffersOpen self.old call reply.now) }
+    {
+        let answer = self.answer(alloc, call)?;
+        Ok(is_same_plain(&answer.reply, reply))
+    }
+
+    // The same for the admission of a periodic flow: it has a lawful placement, or there is none.
+    fn follow_admission(
+        &mut self,
+        sid: u16,
+        spec: FlowSpec,
+        reply: &Reply,
+    ) -> Result<bool, AllocError>
+        requires open { IsOpen self.old (Call.Admit sid spec) }
+        requires periodic { is_periodic spec ≡ true }
+        ensures follows { IfOk result (λ is. is ≡ true →
+            FollowsOpen self.old self.new (Call.Admit sid spec) reply.now) }
+        ensures differs { IfOk result (λ is. is ≡ false → DiffersOpen self.old (Call.Admit sid spec) reply.now) }
+    {
+        if let Some(placement) = placement_in(reply) {
+            return self.adopt(sid, spec, placement);
+        }
+        Ok(is_refused(reply, Refusal::NoPlace) && self.has_no_place(sid, spec))
+    }
+
+    // Whether this placement is lawful for the flow. Where it is, the flow is admitted with it.
+    fn adopt(&mut self, sid: u16, spec: FlowSpec, placement: &Placement) -> Result<bool, AllocError>
+        requires open { IsOpen self.old (Call.Admit sid spec) }
+        requires periodic { is_periodic spec ≡ true }
+        ensures follows { IfOk result (λ is. is ≡ true →
+            FollowsOpen self.old self.new (Call.Admit sid spec) (Reply.Admitted (Some placement.now))) }
+        ensures differs { IfOk result (λ is. is ≡ false →
+            DiffersOpen self.old (Call.Admit sid spec) (Reply.Admitted (Some placement.now))) }
+    {
+        if !self.table.adopt(sid, &spec, self.next, placement)? {
+            return Ok(false);
+        }
+        self.book.admit(sid, spec)?;
+        Ok(true)
+    }
+
+    // Whether no placement is lawful for the flow.
+    fn has_no_place(&mut self, sid: u16, spec: FlowSpec) -> bool
+        requires open { IsOpen self.old (Call.Admit sid spec) }
+        requires periodic { is_periodic spec ≡ true }
+        ensures follows { result ≡ true →
+            FollowsOpen self.old self.new (Call.Admit sid spec) (Reply.Refused Refusal.NoPlace) }
+        ensures differs { result ≡ false →
+            DiffersOpen self.old (Call.Admit sid spec) (Reply.Refused Refusal.NoPlace) }
+    {
+        let Err(PlaceFault::NoPlace) = self.table.place(sid, &spec, self.next) else {
+            return false;
+        };
+        true
+    }
+
+    // The same for a build: it has the lawful MAP of the next frame.
+    fn follow_build(&mut self, alloc: Global, now: u64, reply: &Reply) -> Result<bool, AllocError>
+        requires open { IsOpen self.old (Call.Build now) }
+        ensures follows { IfOk result (λ is. is ≡ true → FollowsOpen self.old self.new (Call.Build now) reply.now) }
+        ensures differs { IfOk result (λ is. is ≡ false → DiffersOpen self.old (Call.Build now) reply.now) }
+    {
+        let Some(map) = map_in(reply) else {
+            return Ok(false);
+        };
+        self.follow_map(alloc, now, map)
+    }
+
+    // Whether this is the lawful MAP of the next frame. Where it is, the state is that after it.
+    fn follow_map(&mut self, alloc: Global, now: u64, map: &FrameMap) -> Result<bool, AllocError>
+        requires open { IsOpen self.old (Call.Build now) }
+        ensures follows { IfOk result (λ is. is ≡ true →
+            FollowsOpen self.old self.new (Call.Build now) (Reply.Built map.now)) }
+        ensures differs { IfOk result (λ is. is ≡ false →
+            DiffersOpen self.old (Call.Build now) (Reply.Built map.now)) }
+    {
+        let planned = self.plan(alloc, now)?;
+        if !is_same_map(planned.map(), map) {
+            return Ok(false);
+        }
+        self.commit(planned);
+        Ok(true)
+    }
+}
