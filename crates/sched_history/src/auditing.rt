@@ -21,6 +21,7 @@ use std::alloc::{AllocError, Global};
 pub fn audit(alloc: Global, config: &Checked, entries: &[Entry]) -> Result<(), AuditFault>
     requires { length entries.now ≤ MAX_ENTRIES }
     ensures legal { OnOk result (IsLegal config.now entries.now) }
+    ensures exact { IsLegal config.now entries.now → (i : ℕ) → IsErrOf result (AuditFault.Illegal i) → ⊥ }
     ensures illegal { (i : ℕ) → IsErrOf result (AuditFault.Illegal i) → IsFirstIllegal config.now entries.now i }
 {
     let Ok(mut state) = State::open(alloc, *config) else {

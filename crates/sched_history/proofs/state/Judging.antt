@@ -1,6 +1,11 @@
 -- What is kept, with one judged entry more.
-use Rattle.std.proofs.Common.{◌≡◌, ◌<◌, List, [], ◌∷◌, ◌++◌, length, None, Some, refl, sym, subst}
+use Rattle.std.proofs.Common.{◌≡◌, ℕ, zero, suc, ◌<◌, List, [], ◌∷◌, ◌++◌, take, length, None, Some, refl, sym, subst}
+use Rattle.std.proofs.Common.{append_assoc}
+use Rattle.std.specs.List.{slice_get}
 use Rattle.std.specs.Option.{MatchOption}
+use Rattle.std.proofs.lemmas.List.{append-nil}
+use Rattle.std.proofs.lemmas.Option.{same_Some}
+use Rattle.map_build.specs.EachAfter.{EachAfter}
 use Rattle.minislots.specs.declared.config.Config.{Config}
 use Rattle.sched_history.specs.declared.reply.TheConstants.{MAX_ENTRIES}
 use Rattle.sched_history.specs.declared.scheduler.state.State.{State}
@@ -11,11 +16,24 @@ use Rattle.sched_history.specs.declared.reply.Reply.TheVariants.{Refused}
 use Rattle.sched_history.specs.declared.reply.Entry.{Entry}
 use Rattle.sched_history.specs.Refusal.{refusal_of}
 use Rattle.sched_history.specs.History.{Answers, IsStep, IsLegal}
+use Rattle.sched_history.specs.Audit.{IsFirstIllegal}
 use Rattle.sched_history.specs.State.{IsStateAfter, IsKeptOf, IsOpenTo, IsFollowed}
 use Rattle.sched_history.proofs.flows.Refused.{IsQuiet-refused}
 use Rattle.sched_history.proofs.steps.Steps.{IsLegal-push, IsStep-answered}
 use Rattle.sched_history.proofs.steps.Bounded.{IsBounded-legal}
 use Rattle.sched_history.proofs.state.Moves.{IsStateAfter-quiet}
+
+each-at : {X : Type 0} (P : List X → X → Type 0) (before xs : List X) (i : ℕ) (x : X) → EachAfter P before xs
+    → slice_get xs i ≡ Some x → P (before ++ take i xs) x
+each-at P before [] i x each stands = absurd cc
+each-at P before (y ∷ xs) zero x each stands = rw append-nil (subst (P before) (same_Some y x stands) each.0)
+each-at P before (y ∷ xs) (suc i) x each stands =
+    rw append_assoc at (each-at P (before ++ y ∷ []) xs i x each.1 stands)
+
+-- a legal history has no entry that may not follow those before it
+pub IsFirstIllegal-not : (c : Config) (h : List Entry) (i : ℕ) → IsLegal c h → IsFirstIllegal c h i → ⊥
+IsFirstIllegal-not c h i legal first =
+    first.no_step (each-at (λ before e. IsStep c before e.call e.reply) [] h i first.entry legal first.stands)
 
 -- what is kept after a step is that of the history with this entry more
 IsKeptOf-push : (s t : State) (h : List Entry) (e : Entry) → IsKeptOf s h → t.config ≡ s.config

@@ -5,7 +5,7 @@ use Rattle.sched_history.specs.declared.reply.AuditFault.{AuditFault}
 use Rattle.sched_history.specs.declared.reply.AuditFault.TheVariants.{Illegal, Memory}
 use Rattle.sched_history.specs.History.{IsStep, IsLegal}
 use Rattle.sched_history.specs.Audit.{IsFirstIllegal}
-use Rattle.sched_history.proofs.state.Judging.{IsKeptOf-open}
+use Rattle.sched_history.proofs.state.Judging.{IsKeptOf-open, IsFirstIllegal-not}
 use Rattle.sched_history.proofs.auditing.audit.Goals as goal
 
 pub loop-index-init : goal.loop-index-init
@@ -33,3 +33,7 @@ returns-in-Ok-false-clause-illegal c = λ i is.
       no_step = subst (λ n. IsStep n (take index h) e.call e.reply → ⊥) config (c.in-Ok-false.ensures.no_step c.in-Ok-false.field-0-test);
     } in
     subst (λ n. IsFirstIllegal c.args.config.now h n) (ap named is) first
+
+pub returns-in-Ok-false-clause-exact : goal.returns-in-Ok-false-clause-exact
+returns-in-Ok-false-clause-exact c = λ legal i is.
+    IsFirstIllegal-not c.args.config.now c.args.entries.now i legal (returns-in-Ok-false-clause-illegal c i is)
