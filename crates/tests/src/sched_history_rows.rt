@@ -1,5 +1,8 @@
 //! Worked histories of the scheduler, call by call.
 
+mod audits;
+mod changes;
+
 use crate::base::crowds::{CROWDS, GRANTS};
 use crate::base::runs::RUNS;
 use crate::base::texts::{config_of, json_of, script_of};
@@ -15,6 +18,7 @@ use std::test::Fail;
 // A scheduler that makes the call of each row.
 #[derive(Drop)]
 struct Machine {
+    config: Checked,
     scheduler: Scheduler,
 }
 
@@ -35,6 +39,7 @@ impl Machine {
     fn open(alloc: Global, table: &str) -> Result<Machine, Fail> {
         let (config, _) = read(alloc, &config_of(alloc, table)?, "")?;
         Ok(Machine {
+            config,
             scheduler: Scheduler::open(alloc, config)?,
         })
     }
