@@ -13,7 +13,7 @@ use Rattle.sched_history.specs.declared.reply.Unrecorded.TheVariants.{HistoryFul
 use Rattle.ticket_lock.specs.declared.board.Logged.{Logged}
 use Rattle.ticket_lock.specs.Rule.{entry_of, IsOfOthers}
 use Rattle.ticket_lock.specs.Standing.{Standing, opening_of, seen, stamp_of}
-use Rattle.shared_sched.specs.Desk.{maker_of}
+use Rattle.shared_sched.specs.Desk.{FixedDesk, maker_of}
 use Rattle.shared_sched.specs.Calls.{added_by, AnswersHeld, AnswersCall}
 use Rattle.shared_sched.specs.Closed.{entries_of}
 use Rattle.sched_storm.specs.Made.{MadeCall, list_left, MayBeLeftOut, GrowsByOthers, IsMadeAfter}
@@ -21,7 +21,7 @@ use Rattle.sched_storm.specs.Work.{MakesOne}
 use Rattle.sched_storm.proofs.MadeLaws.{entries_of-append, GrowsByOthers-same}
 
 -- what a seat has seen with a longer log
-seen-more : (s w : Standing Config Entry) (more : List (Logged Entry))
+seen-more : (s w : Standing FixedDesk Entry) (more : List (Logged Entry))
     → seen w ≡ opening_of s.lock ++ map entry_of (s.log ++ more) → seen w ≡ seen s ++ map entry_of more
 seen-more s w more is =
     is
@@ -47,36 +47,36 @@ grows_by number from others are = record {
       ∙ append-nil (entries_of number from);
 }
 
-module _ (c : Config) (s w : Standing Config Entry) (call : Call) where
+module _ (c : Config) (s w : Standing FixedDesk Entry) (call : Call) where
   -- the entry that a holder adds
-  abbrev entry_by : Standing Config Entry → Result Reply Unrecorded → Option Entry
+  abbrev entry_by : Standing FixedDesk Entry → Result Reply Unrecorded → Option Entry
   entry_by holder (Ok reply) = Some (record { stamp = stamp_of holder; call = call; reply = reply })
   entry_by holder (Err unrecorded) = None
 
   -- a holder's call, as a call that was made
-  abbrev made_by : Standing Config Entry → Result Reply Unrecorded → MadeCall
+  abbrev made_by : Standing FixedDesk Entry → Result Reply Unrecorded → MadeCall
   made_by holder answer = record { call = call; entered = seen holder; added = entry_by holder answer }
 
   -- it was recorded exactly where it has a reply
-  made_by-recorded : (holder : Standing Config Entry) (answer : Result Reply Unrecorded)
+  made_by-recorded : (holder : Standing FixedDesk Entry) (answer : Result Reply Unrecorded)
       → is_some (entry_by holder answer) ≡ is_ok answer
   made_by-recorded holder (Ok reply) = refl
   made_by-recorded holder (Err unrecorded) = refl
 
   -- the entry is what the holder added to the list
-  made_by-added : (holder : Standing Config Entry) (answer : Result Reply Unrecorded)
+  made_by-added : (holder : Standing FixedDesk Entry) (answer : Result Reply Unrecorded)
       → map entry_of (added_by holder call answer) ≡ option_to_list (entry_by holder answer)
   made_by-added holder (Ok reply) = refl
   made_by-added holder (Err unrecorded) = refl
 
   -- it has the seat's number and the call
-  made_by-adds : (holder : Standing Config Entry) → holder.number ≡ s.number → (answer : Result Reply Unrecorded)
+  made_by-adds : (holder : Standing FixedDesk Entry) → holder.number ≡ s.number → (answer : Result Reply Unrecorded)
       → IfSome (entry_by holder answer) (λ e. (e.stamp.seat ≡ s.number) × (e.call ≡ call))
   made_by-adds holder number (Ok reply) = (number, refl)
   made_by-adds holder number (Err unrecorded) = tt
 
   -- why there is none
-  made_by-leaves_out : (holder : Standing Config Entry) (answer : Result Reply Unrecorded)
+  made_by-leaves_out : (holder : Standing FixedDesk Entry) (answer : Result Reply Unrecorded)
       → AnswersHeld c holder call w answer → IfNone (entry_by holder answer) (MayBeLeftOut c (made_by holder answer))
   made_by-leaves_out holder (Ok reply) held = tt
   made_by-leaves_out holder (Err HistoryFull) held = inl (held.full.0 refl)
@@ -85,21 +85,21 @@ module _ (c : Config) (s w : Standing Config Entry) (call : Call) where
   module _ (answer : Result Reply Unrecorded) (a : AnswersCall c s call w answer) where
     -- the holder entered the list that the seat had seen, with entries of others
     entered_is : seen a.holder ≡ seen s ++ map entry_of a.others
-    entered_is = seen-more s a.holder a.others (ap (λ (x : Standing Config Entry). seen x) a.entered)
+    entered_is = seen-more s a.holder a.others (ap (λ (x : Standing FixedDesk Entry). seen x) a.entered)
 
     -- and the seat has seen the list that it left
     left_is : list_left (made_by a.holder answer) ≡ seen w
     left_is =
         ap (λ (l : List Entry). seen a.holder ++ l) (sym (made_by-added a.holder answer))
         ∙ sym (seen-more a.holder w (added_by a.holder call answer)
-        (ap (λ (x : Standing Config Entry). seen x) a.answered.left))
+        (ap (λ (x : Standing FixedDesk Entry). seen x) a.answered.left))
 
     -- the call was made after what the seat had seen
     made_after : IsMadeAfter c s.number (seen s) (made_by a.holder answer)
     made_after = record {
       enters = subst (GrowsByOthers s.number (seen s)) (sym entered_is)
           (grows_by s.number (seen s) a.others a.are_others);
-      adds = made_by-adds a.holder (ap (λ (x : Standing Config Entry). x.number) a.entered) answer;
+      adds = made_by-adds a.holder (ap (λ (x : Standing FixedDesk Entry). x.number) a.entered) answer;
       leaves_out = made_by-leaves_out a.holder answer a.answered;
     }
 
@@ -112,10 +112,10 @@ module _ (c : Config) (s w : Standing Config Entry) (call : Call) where
           call_is = refl;
           recorded_is = made_by-recorded a.holder answer;
           makes = record {
-            lock_is = ap (λ (x : Standing Config Entry). x.lock) a.answered.left
-                ∙ ap (λ (x : Standing Config Entry). x.lock) a.entered;
-            number_is = ap (λ (x : Standing Config Entry). x.number) a.answered.left
-                ∙ ap (λ (x : Standing Config Entry). x.number) a.entered;
+            lock_is = ap (λ (x : Standing FixedDesk Entry). x.lock) a.answered.left
+                ∙ ap (λ (x : Standing FixedDesk Entry). x.lock) a.entered;
+            number_is = ap (λ (x : Standing FixedDesk Entry). x.number) a.answered.left
+                ∙ ap (λ (x : Standing FixedDesk Entry). x.number) a.entered;
             turns_is = a.turns;
             leads = (
               made_after,

@@ -4,6 +4,7 @@ pub mod CallLaws
 pub mod Working
 pub mod JobLaws
 pub mod GatherLaws
+pub mod ReadLaws
 pub mod SeatLaws
 pub mod TallyLaws
 pub mod StormLaws

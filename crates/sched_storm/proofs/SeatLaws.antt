@@ -1,11 +1,10 @@
 -- What a seat has seen of its own entries.
 use Rattle.std.proofs.Common.{◌≡◌, ◌==◌, List, [], ◌∷◌, ◌++◌, map, ap, ◌∙◌, sym}
-use Rattle.minislots.specs.declared.config.Config.{Config}
 use Rattle.sched_history.specs.declared.reply.Entry.{Entry}
 use Rattle.flow_book.proofs.Removal.{map-filter}
 use Rattle.ticket_lock.specs.Rule.{entry_of, Every}
 use Rattle.ticket_lock.specs.Standing.{Lock, Standing, opening_of, seen, own}
-use Rattle.shared_sched.specs.Desk.{maker_of}
+use Rattle.shared_sched.specs.Desk.{FixedDesk, maker_of}
 use Rattle.shared_sched.specs.Closed.{entries_of}
 
 -- a fact of what is made of each member is one of the members
@@ -15,12 +14,12 @@ Every-map P f [] each = tt
 Every-map P f (x ∷ xs) each = (each.0, Every-map P f xs each.1)
 
 -- what a seat has seen, where the lock opened with no entries
-pub seen_log : (lock : Lock Config Entry) → opening_of lock ≡ [] → (s : Standing Config Entry) → s.lock ≡ lock
+pub seen_log : (lock : Lock FixedDesk Entry) → opening_of lock ≡ [] → (s : Standing FixedDesk Entry) → s.lock ≡ lock
     → seen s ≡ map entry_of s.log
 seen_log lock opening s of_lock = ap (λ (l : List Entry). l ++ map entry_of s.log) (ap opening_of of_lock ∙ opening)
 
 -- the seat's own entries are those of what it has seen
-pub own_seen : (lock : Lock Config Entry) → opening_of lock ≡ [] → (s : Standing Config Entry) → s.lock ≡ lock
+pub own_seen : (lock : Lock FixedDesk Entry) → opening_of lock ≡ [] → (s : Standing FixedDesk Entry) → s.lock ≡ lock
     → own maker_of s ≡ entries_of s.number (seen s)
 own_seen lock opening s of_lock =
     map-filter entry_of (λ (e : Entry). e.stamp.seat == s.number) s.log

@@ -7,11 +7,12 @@ use Rattle.std.proofs.lemmas.List.{length-map}
 use Rattle.minislots.specs.declared.config.Config.{Config}
 use Rattle.sched_history.specs.declared.call.Call.{Call}
 use Rattle.sched_history.specs.declared.reply.Entry.{Entry}
+use Rattle.logbook.specs.Pages.{Book}
 use Rattle.ticket_lock.specs.Rule.{Every}
 use Rattle.ticket_lock.specs.Standing.{Lock, Standing, opening_in, seats_in, seats_of}
 use Rattle.ticket_lock.specs.Calls.{Opens, new_standing}
 use Rattle.ticket_lock.proofs.Dealt.{new_standings-own, length-new_standings}
-use Rattle.shared_sched.specs.Desk.{config_of, history_of, empty_desk}
+use Rattle.shared_sched.specs.Desk.{FixedDesk, fixed_of, history_of, empty_desk}
 use Rattle.shared_sched.specs.Closed.{ClosesTo}
 use Rattle.sched_storm.specs.declared.gather.Gathered.{Gathered}
 use Rattle.sched_storm.specs.declared.tally.StormFault.{StormFault}
@@ -23,8 +24,8 @@ use Rattle.sched_storm.specs.Storm.{IsTally, IsGatedTally, Tells}
 use Rattle.sched_storm.proofs.TallyLaws.{each_own, each_length, Counted, counted}
 
 -- the seats of a lock that was opened round an empty desk
-module _ (c : Config) (workers : ℕ) (lock : Lock Config Entry) (seats : List (Standing Config Entry))
-    (opened : Opens config_of history_of (empty_desk c) workers 0 lock seats) where
+module _ (c : Config) (workers : ℕ) (lock : Lock FixedDesk Entry) (seats : List (Standing FixedDesk Entry))
+    (press : Book) (opened : Opens fixed_of history_of (empty_desk c press) workers 0 lock seats) where
   -- they are of this lock
   pub opened_own : Every (λ s. s.lock ≡ lock) seats
   opened_own =
@@ -92,6 +93,7 @@ module _ (c : Config) (workers : ℕ) (lock : Lock Config Entry) (seats : List (
             each = counts.each;
             unrecorded_is = tells.unrecorded_is ∙ made.all.unrecorded_is ∙ counts.unrecorded_is;
             maps_is = tells.maps_is;
+            newest_is = tells.newest_is;
             held_is = tells.held_is ∙ made.all.held_is ∙ counts.held_is;
           };
           gated = counts.gated;

@@ -13,7 +13,7 @@ use Rattle.sched_history.specs.declared.reply.Entry.{Entry}
 use Rattle.ticket_lock.specs.Rule.{Every}
 use Rattle.ticket_lock.specs.Standing.{Lock, Standing, opening_of, seen, own}
 use Rattle.ticket_lock.specs.Calls.{new_standing}
-use Rattle.shared_sched.specs.Desk.{maker_of}
+use Rattle.shared_sched.specs.Desk.{FixedDesk, maker_of}
 use Rattle.shared_sched.specs.Closed.{entries_of}
 use Rattle.sched_storm.specs.declared.worker.Ended.{Ended}
 use Rattle.sched_storm.specs.declared.worker.Ended.TheVariants.{Done, Held, Stopped}
@@ -70,11 +70,11 @@ going_rest true b none = absurd (let contra : true ≡ false = none in cc)
 
 module _ (passes holds : ℕ → ℕ → Type 0) (c : Config) where
   -- what a worker with this seat and this script makes
-  abbrev Work : Standing Config Entry → List Call → Worked → Type 0
+  abbrev Work : Standing FixedDesk Entry → List Call → Worked → Type 0
   Work s script w = HasWorked passes holds c s script w.seat w.unrecorded w.ended
 
   -- the workers gave back seats of the lock
-  pub each_own : (lock : Lock Config Entry) (seats : List (Standing Config Entry)) (scripts : List (List Call))
+  pub each_own : (lock : Lock FixedDesk Entry) (seats : List (Standing FixedDesk Entry)) (scripts : List (List Call))
       (done : List Worked) → Every (λ s. s.lock ≡ lock) seats → EachOf Work seats scripts done
       → Every (λ s. s.lock ≡ lock) (map (λ w. w.seat) done)
   each_own lock [] [] [] own kept = tt
@@ -86,7 +86,7 @@ module _ (passes holds : ℕ → ℕ → Type 0) (c : Config) where
       (kept.0.makes.lock_is ∙ own.0, each_own lock seats scripts ws own.1 kept.1)
 
   -- there is one for each script
-  pub each_length : (seats : List (Standing Config Entry)) (scripts : List (List Call)) (done : List Worked)
+  pub each_length : (seats : List (Standing FixedDesk Entry)) (scripts : List (List Call)) (done : List Worked)
       → EachOf Work seats scripts done → length done ≡ length scripts
   each_length [] [] [] kept = refl
   each_length [] [] (w ∷ ws) kept = absurd kept
@@ -95,7 +95,7 @@ module _ (passes holds : ℕ → ℕ → Type 0) (c : Config) where
   each_length (s ∷ seats) (script ∷ scripts) [] kept = absurd kept
   each_length (s ∷ seats) (script ∷ scripts) (w ∷ ws) kept = ap suc (each_length seats scripts ws kept.1)
 
-  module _ (lock : Lock Config Entry) (opening : opening_of lock ≡ []) (h : List Entry) where
+  module _ (lock : Lock FixedDesk Entry) (opening : opening_of lock ≡ []) (h : List Entry) where
     module _ (number : ℕ) (script : List Call) (w : Worked) (kept : Work (new_standing lock number) script w) where
       -- what it did
       abbrev deed_of : Deed

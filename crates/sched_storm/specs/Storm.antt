@@ -1,5 +1,5 @@
 -- What a storm is, as its tally tells it.
-use Rattle.std.specs.Prelude.{◌≡◌, ◌<◌, ℕ, List, [], ◌∷◌, length, map, sum_by, nat_lt, if◌then◌else◌}
+use Rattle.std.specs.Prelude.{◌≡◌, ◌<◌, ◌≤◌, ℕ, List, [], ◌∷◌, length, map, sum_by, nat_lt, if◌then◌else◌}
 use Rattle.std.specs.Prelude.{Option, Some, None}
 use Rattle.std.specs.List.{range_with_len}
 use mathlib.Core.List.{IsPrefix}
@@ -9,6 +9,7 @@ use Rattle.sched_history.specs.declared.reply.Entry.{Entry}
 use Rattle.sched_history.specs.Facts.{maps_of}
 use Rattle.ticket_lock.specs.Rule.{Every}
 use Rattle.ticket_lock.specs.Standing.{Lock, Standing, seats_of}
+use Rattle.shared_sched.specs.Desk.{FixedDesk}
 use Rattle.shared_sched.specs.Closed.{entries_of, ClosesTo}
 use Rattle.sched_storm.specs.declared.gather.Gathered.{Gathered}
 use Rattle.sched_storm.specs.declared.tally.Tally.{Tally}
@@ -16,7 +17,7 @@ use Rattle.sched_storm.specs.Made.{MadeCall, calls_made, calls_recorded, calls_i
 
 -- what a worker did: its seat, as it came back, its script, and the calls that it made of it
 pub record Deed : Type 0 where
-  pub seat : Standing Config Entry
+  pub seat : Standing FixedDesk Entry
   pub script : List Call
   pub made : List MadeCall
 
@@ -37,11 +38,17 @@ abbrev pub held_of : List Deed → Option ℕ
 held_of [] = None
 held_of (d ∷ ds) = if nat_lt (length d.made) (length d.script) then Some d.seat.number else held_of ds
 
+-- what is read after so many MAPs were published and told: a version that is not below their number, or none, where
+-- there are none
+abbrev pub HasRead : ℕ → Option ℕ → Type 0
+HasRead maps None = maps ≡ 0
+HasRead maps (Some version) = maps ≤ version
+
 -- a tally of a storm with these scripts, a worker for each
 pub record IsTally (c : Config) (scripts : List (List Call)) (t : Tally) : Type 0 where
   -- its history is that of a scheduler that was closed with a seat for each worker, and its counts are those of the
   -- seats
-  pub lock : Lock Config Entry
+  pub lock : Lock FixedDesk Entry
   pub deeds : List Deed
   pub scripts_are : map (λ d. d.script) deeds ≡ scripts
   pub numbers_are : map (λ d. d.seat.number) deeds ≡ range_with_len 0 (length scripts)
@@ -53,6 +60,7 @@ pub record IsTally (c : Config) (scripts : List (List Call)) (t : Tally) : Type 
   -- the numbers are those of these calls and of this history
   pub unrecorded_is : t.unrecorded ≡ sum_by (λ d. left_out_count d.made) deeds
   pub maps_is : t.maps ≡ length (maps_of t.history.items)
+  pub newest_is : HasRead t.maps t.newest
   pub held_is : t.held ≡ held_of deeds
 
 -- the gate let a worker pass before each call that it made, and not before the next one of its script, if there is one
@@ -68,8 +76,9 @@ pub record IsGatedTally (passes holds : ℕ → ℕ → Type 0) (c : Config) (sc
     pub gated : Every (KeepsGate passes holds) tally.deeds
 
 -- what the workers gave back and the history at the close, as a tally
-pub record Tells (c : Config) (lock : Lock Config Entry) (g : Gathered) (t : Tally) : Type 0 where
+pub record Tells (c : Config) (lock : Lock FixedDesk Entry) (g : Gathered) (t : Tally) : Type 0 where
   pub closed : ClosesTo c lock g.seats.items t.history.items t.counts
   pub unrecorded_is : t.unrecorded ≡ g.unrecorded
   pub maps_is : t.maps ≡ length (maps_of t.history.items)
+  pub newest_is : HasRead t.maps t.newest
   pub held_is : t.held ≡ g.held

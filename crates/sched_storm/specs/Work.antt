@@ -5,20 +5,21 @@ use Rattle.minislots.specs.declared.config.Config.{Config}
 use Rattle.sched_history.specs.declared.call.Call.{Call}
 use Rattle.sched_history.specs.declared.reply.Entry.{Entry}
 use Rattle.ticket_lock.specs.Standing.{Standing, seen}
+use Rattle.shared_sched.specs.Desk.{FixedDesk}
 use Rattle.sched_storm.specs.declared.worker.Ended.{Ended}
 use Rattle.sched_storm.specs.declared.worker.Ended.TheVariants.{Done, Held, Stopped}
 use Rattle.sched_storm.specs.Made.{MadeCall, is_recorded, calls_made, left_out_count, Leads}
 
 -- by making these calls, and no others in between, a seat came from the first standing to the second: each call, also
 -- one that was not recorded, is a turn that it ended
-pub record Makes (c : Config) (s w : Standing Config Entry) (made : List MadeCall) : Type 0 where
+pub record Makes (c : Config) (s w : Standing FixedDesk Entry) (made : List MadeCall) : Type 0 where
   pub lock_is : w.lock ≡ s.lock
   pub number_is : w.number ≡ s.number
   pub turns_is : w.turns ≡ s.turns + length made
   pub leads : Leads c s.number (seen s) made (seen w)
 
 -- by making this call, which was recorded or not, a seat came from the first standing to the second
-pub record MakesOne (c : Config) (s w : Standing Config Entry) (call : Call) (recorded : Bool) : Type 0 where
+pub record MakesOne (c : Config) (s w : Standing FixedDesk Entry) (call : Call) (recorded : Bool) : Type 0 where
   pub made : MadeCall
   pub call_is : made.call ≡ call
   pub recorded_is : is_recorded made ≡ recorded
@@ -38,8 +39,8 @@ EndsSo held made calls Stopped = Unit {0}
 
 -- the worker with this seat made calls of its script under a gate of which this is so where it lets a worker pass to
 -- the call at a place, and this where it does not
-pub record HasWorked (passes holds : ℕ → ℕ → Type 0) (c : Config) (s : Standing Config Entry) (script : List Call)
-    (w : Standing Config Entry) (unrecorded : ℕ) (ended : Ended) : Type 0 where
+pub record HasWorked (passes holds : ℕ → ℕ → Type 0) (c : Config) (s : Standing FixedDesk Entry) (script : List Call)
+    (w : Standing FixedDesk Entry) (unrecorded : ℕ) (ended : Ended) : Type 0 where
   pub made : List MadeCall
   pub makes : Makes c s w made
   pub front : IsPrefix (calls_made made) script

@@ -4,6 +4,7 @@
 mod gate;
 mod gather;
 mod jobs;
+mod reading;
 mod storm;
 mod tally;
 mod worker;

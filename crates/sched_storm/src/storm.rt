@@ -11,12 +11,13 @@ ghost use Rattle.sched_storm.specs.Storm.{IsTally, IsGatedTally, Tells};
 use crate::gate::Gate;
 use crate::gather::Gathered;
 use crate::jobs::{Rooms, run_workers};
+use crate::reading::read_last;
 use crate::tally::{StormFault, Tally, count_maps};
+use map_snapshot::Reader;
 use minislots::Checked;
 use sched_history::{Call, MAX_SCRIPTS};
 use shared_sched::{Closed, Shared, open};
 use std::alloc::{AllocError, Global};
-use std::snapshot::Snapshot;
 use std::sync::Wait;
 use std::thread::Threads;
 
@@ -31,10 +32,17 @@ fn reserve<G: Gate>(alloc: Global, workers: usize) -> Result<Rooms<G>, AllocErro
     })
 }
 
-// Closes the scheduler, and counts what its history has. There is no tally where a worker was stopped.
-fn close(shared: Shared, gathered: Gathered) -> Result<Tally, StormFault>
+// Closes the scheduler, reads what it published last, and counts what its history has. There is no tally where a
+// worker was stopped.
+fn close<R: Wait>(
+    rt: &R,
+    shared: Shared,
+    reader: Reader,
+    gathered: Gathered,
+) -> Result<Tally, StormFault>
     requires own { Every (λ s. s.lock ≡ shared.lock) gathered.seats.items }
     requires all { length gathered.seats.items ≡ seats_of shared.lock }
+    requires reader { reader.press ≡ shared.press }
     ensures told { IfOk result (Tells shared.config shared.lock gathered) }
     ensures ok { OnOk result (gathered.stopped ≡ false) }
     ensures err { IfErr result (λ fault. (fault ≡ StormFault.Threads) × (gathered.stopped ≡ true)) }
@@ -45,7 +53,12 @@ fn close(shared: Shared, gathered: Gathered) -> Result<Tally, StormFault>
         held,
         stopped,
     } = gathered;
-    let Closed { history, counts } = shared.close(seats);
+    let Closed {
+        history,
+        counts,
+        press,
+    } = shared.close(seats);
+    let newest = read_last(rt, press, reader);
     if stopped {
         return Err(StormFault::Threads);
     }
@@ -55,6 +68,7 @@ fn close(shared: Shared, gathered: Gathered) -> Result<Tally, StormFault>
         counts,
         unrecorded,
         maps,
+        newest,
         held,
     })
 }
@@ -62,7 +76,8 @@ fn close(shared: Shared, gathered: Gathered) -> Result<Tally, StormFault>
 /// Runs 1 to 16 scripts at the same time on a new scheduler of this configuration: script i has a thread,
 /// which is worker i, and seat i. Before each call its worker asks the gate and yields until the gate lets it
 /// pass; a worker that asked 1000000 times in vain before one call makes no more of them, and is held. After
-/// each call the gate is told. It waits until all workers have ended. Where a thread was not started, there is
+/// each call the gate is told. It waits until all workers have ended. Then one reader, told of all that was published,
+/// reads the newest MAP, and the press is ended. Where a thread was not started, there is
 /// no tally.
 pub fn storm_with<R: Threads + Wait + Sync, G: Gate>(
     rt: &R,
@@ -86,9 +101,12 @@ pub fn storm_with<R: Threads + Wait + Sync, G: Gate>(
     let Ok(rooms) = reserve(alloc, workers) else {
         return Err(StormFault::Memory);
     };
-    let Ok((shared, seats)) = open(alloc, checked, workers) else {
+    let Ok((shared, seats, mut readers)) = open(rt, alloc, checked, workers, 1) else {
         return Err(StormFault::Memory);
     };
+    let Some(reader) = readers.pop() else {
+        unreachable!()
+    };
     let gathered = run_workers(rt, &shared, checked, gate, seats, scripts, rooms);
-    close(shared, gathered)
+    close(rt, shared, reader, gathered)
 }

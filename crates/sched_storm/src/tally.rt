@@ -18,6 +18,8 @@ pub struct Tally {
     pub unrecorded: u64,
     /// How many MAPs the history has.
     pub maps: u64,
+    /// The version that one reader, told of all that was published, reads at the end, if any.
+    pub newest: Option<u64>,
     /// The least of the workers that their gates held, if any.
     pub held: Option<usize>,
 }
@@ -31,7 +33,7 @@ pub enum StormFault {
     /// A thread was not started.
     #[error("no thread")]
     Threads,
-    /// There was no memory for the scheduler, its seats or the workers.
+    /// There was no memory for the scheduler, its seats, its reader or the workers.
     #[error("out of memory")]
     Memory,
 }

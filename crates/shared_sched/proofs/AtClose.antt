@@ -10,13 +10,13 @@ use Rattle.minislots.specs.declared.config.Config.{Config}
 use Rattle.sched_history.specs.declared.reply.Entry.{Entry}
 use Rattle.sched_history.specs.Facts.{FollowsAlways}
 use Rattle.sched_history.specs.History.{IsLegal}
-use Rattle.sched_history.specs.Machine.{Machine, IsEncodable}
+use Rattle.sched_history.specs.Machine.{IsEncodable}
 use Rattle.ticket_core.specs.declared.TheConstants.{MAX_SEATS}
 use Rattle.ticket_lock.specs.declared.board.Logged.{Logged}
 use Rattle.ticket_lock.specs.Rule.{Every, Extends, IsStamped, IsOrdered, entry_of}
 use Rattle.ticket_lock.specs.Standing.{Lock, Standing, opening_of, seats_of, turns_of, seen, own, made_by}
 use Rattle.ticket_lock.specs.Calls.{Closes}
-use Rattle.shared_sched.specs.Desk.{config_of, history_of, maker_of, IsDeskLock}
+use Rattle.shared_sched.specs.Desk.{DeskState, FixedDesk, fixed_of, history_of, maker_of, IsDeskLock}
 use Rattle.shared_sched.specs.Closed.{entries_of, CountsEach, ClosesTo}
 use Rattle.shared_sched.proofs.Own.{own-others}
 use Rattle.shared_sched.proofs.Whole.{Every-both, Any-weaker, one_saw_all, makers_are}
@@ -48,31 +48,32 @@ seats_are : (seats : ℕ) (log : List (Logged Entry)) → Every (IsStamped maker
 seats_are seats [] every = tt
 seats_are seats (x ∷ xs) every = (every.0.1, seats_are seats xs every.1)
 
-module _ (c : Config) (lock : Lock Config Entry) (desk : IsDeskLock c lock) (seats : List (Standing Config Entry))
-    (x : Machine)
-    (closes : Closes maker_of config_of history_of lock seats x) where
+module _ (c : Config) (lock : Lock FixedDesk Entry) (desk : IsDeskLock c lock) (seats : List (Standing FixedDesk Entry))
+    (x : DeskState)
+    (closes : Closes maker_of fixed_of history_of lock seats x) where
   -- the history is the log
   history_is : x.history ≡ map entry_of closes.log
   history_is = closes.entries_are ∙ ap (λ (l : List Entry). l ++ map entry_of closes.log) desk.opening_is
 
   -- under the configuration of the lock
   pub config_is : x.config ≡ c
-  config_is = same_Some x.config c (closes.head_is ∙ desk.head_is)
+  config_is = ap (λ (f : FixedDesk). f.config)
+      (same_Some (fixed_of x) (record { config = c; press = desk.press }) (closes.head_is ∙ desk.head_is))
 
   -- it begins with what a seat has seen
-  begins_with : (s : Standing Config Entry) → s.lock ≡ lock → Extends maker_of s.number s.log closes.log
+  begins_with : (s : Standing FixedDesk Entry) → s.lock ≡ lock → Extends maker_of s.number s.log closes.log
       → IsPrefix (seen s) x.history
   begins_with s of_lock extends = (
     map entry_of extends.0,
     append_assoc (opening_of s.lock) (map entry_of s.log) (map entry_of extends.0)
         ∙ ap (λ (l : List Entry). opening_of s.lock ++ l)
         (sym (map-append entry_of s.log extends.0) ∙ ap (map entry_of) (sym extends.1))
-        ∙ ap (λ (k : Lock Config Entry). opening_of k ++ map entry_of closes.log) of_lock
+        ∙ ap (λ (k : Lock FixedDesk Entry). opening_of k ++ map entry_of closes.log) of_lock
         ∙ sym closes.entries_are,
   )
 
   -- the entries of a seat in it are its own
-  own_in : (s : Standing Config Entry) → Extends maker_of s.number s.log closes.log
+  own_in : (s : Standing FixedDesk Entry) → Extends maker_of s.number s.log closes.log
       → entries_of s.number x.history ≡ own maker_of s
   own_in s extends =
       ap (entries_of s.number) history_is
@@ -80,13 +81,13 @@ module _ (c : Config) (lock : Lock Config Entry) (desk : IsDeskLock c lock) (sea
       ∙ ap (λ (l : List (Logged Entry)). map entry_of (made_by maker_of s.number l)) extends.1
       ∙ own-others maker_of s.number s.log extends.0 extends.2
 
-  all_begin : (some_seats : List (Standing Config Entry)) → Every (λ s. s.lock ≡ lock) some_seats
+  all_begin : (some_seats : List (Standing FixedDesk Entry)) → Every (λ s. s.lock ≡ lock) some_seats
       → Every (λ s. Extends maker_of s.number s.log closes.log) some_seats
       → Every (λ s. IsPrefix (seen s) x.history) some_seats
   all_begin [] of_lock each = tt
   all_begin (s ∷ ss) of_lock each = (begins_with s of_lock.0 each.0, all_begin ss of_lock.1 each.1)
 
-  all_own : (some_seats : List (Standing Config Entry))
+  all_own : (some_seats : List (Standing FixedDesk Entry))
       → Every (λ s. Extends maker_of s.number s.log closes.log) some_seats
       → Every (λ s. entries_of s.number x.history ≡ own maker_of s) some_seats
   all_own [] each = tt
@@ -108,7 +109,7 @@ module _ (c : Config) (lock : Lock Config Entry) (desk : IsDeskLock c lock) (sea
   whole : Every (λ s. s.lock ≡ lock) seats → Any (λ s. seen s ≡ x.history) seats
   whole of_lock = Any-weaker (λ s. (s.lock ≡ lock) × (closes.log ≡ s.log)) (λ s. seen s ≡ x.history)
       (λ s here.
-      ap (λ (k : Lock Config Entry). opening_of k ++ map entry_of s.log) here.0
+      ap (λ (k : Lock FixedDesk Entry). opening_of k ++ map entry_of s.log) here.0
       ∙ ap (λ (l : List (Logged Entry)). opening_of lock ++ map entry_of l) (sym here.1)
       ∙ sym closes.entries_are)
       seats
@@ -129,8 +130,9 @@ module _ (c : Config) (lock : Lock Config Entry) (desk : IsDeskLock c lock) (sea
   closes_to of_lock legal within encodable facts counts each total =
       let lawful : IsLegal c x.history = subst (λ k. IsLegal k x.history) config_is legal in
       record {
-        closes = subst (λ k. Closes maker_of config_of history_of lock seats
-            (record { config = k; history = x.history })) config_is closes;
+        press = x.press;
+        closes = subst (λ k. Closes maker_of fixed_of history_of lock seats
+            (record { config = k; press = x.press; history = x.history })) config_is closes;
         legal = lawful;
         maps = HasLawfulMaps-legal c x.history lawful;
         within = subst (λ (k : Config). length x.history ≤ k.calls) config_is within;

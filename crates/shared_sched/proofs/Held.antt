@@ -1,6 +1,6 @@
 -- What a holder's call added, from what the scheduler recorded and what the lock tells at the leave.
-use Rattle.std.proofs.Common.{◌≡◌, ◌≤◌, ◌↔◌, ◌+◌, ◌%◌, ◌^◌, ℕ, List, [], ◌∷◌, ◌++◌, map, length, Result, Ok, Err, IfOk}
-use Rattle.std.proofs.Common.{OnErr, IsErrOf, sym, ap, ◌∙◌, subst, ⊎_elim}
+use Rattle.std.proofs.Common.{◌≡◌, ◌+◌, ◌%◌, ◌^◌, ℕ, List, [], ◌∷◌, ◌++◌, map, Result, Ok, Err}
+use Rattle.std.proofs.Common.{sym, ap, ◌∙◌, subst, ⊎_elim}
 use Rattle.std.proofs.lemmas.List.{append-nil, append_assoc, map-append, append_cancel_left}
 use mathlib.Core.List.{cons≢nil}
 use Rattle.minislots.specs.declared.config.Config.{Config}
@@ -9,16 +9,14 @@ use Rattle.sched_history.specs.declared.call.Call.{Call}
 use Rattle.sched_history.specs.declared.reply.Entry.{Entry}
 use Rattle.sched_history.specs.declared.reply.Reply.{Reply}
 use Rattle.sched_history.specs.declared.reply.Unrecorded.{Unrecorded}
-use Rattle.sched_history.specs.declared.reply.Unrecorded.TheVariants.{HistoryFull, Memory}
-use Rattle.sched_history.specs.History.{IsStep, IsLegal}
-use Rattle.sched_history.specs.Machine.{Machine, IsEncodable, MayLackMemory}
+use Rattle.sched_history.specs.History.{IsLegal}
 use Rattle.ticket_lock.specs.declared.board.Logged.{Logged}
 use Rattle.ticket_lock.specs.Rule.{entry_of, IsOrdered}
 use Rattle.ticket_lock.specs.Standing.{Standing, opening_of, seats_of, seen, own, made_by, stamp_of}
 use Rattle.ticket_lock.specs.Plays.{IsAdded}
 use Rattle.ticket_lock.specs.Calls.{Leaves}
-use Rattle.shared_sched.specs.Desk.{config_of, history_of, maker_of, IsDeskLock, SeesLegal}
-use Rattle.shared_sched.specs.Calls.{added_by, AnswersHeld}
+use Rattle.shared_sched.specs.Desk.{DeskState, FixedDesk, fixed_of, history_of, maker_of, IsDeskLock, SeesLegal}
+use Rattle.shared_sched.specs.Calls.{HasCalled, added_by, AnswersHeld}
 use Rattle.shared_sched.proofs.Own.{own-append, made_by-added}
 
 -- an entry with this stamp's seat and ticket was added, alone
@@ -56,24 +54,12 @@ module _ {E : Type 0} (stamp : E → Stamp) (number ticket : ℕ) (opening : Lis
       (ap (map entry_of) (sym one.1) ∙ entries_added (e ∷ []) is))
       added
 
--- what the scheduler tells of a call
-pub record HasCalled (d : Machine) (stamp : Stamp) (call : Call) (x : Machine)
-    (answer : Result Reply Unrecorded) : Type 0 where
-  pub recorded : IfOk answer
-      (λ reply. x ≡ record d { history = d.history ++ record { stamp = stamp; call = call; reply = reply } ∷ [] })
-  pub same : OnErr answer (x ≡ d)
-  pub step : IfOk answer (λ reply. IsStep d.config d.history call reply)
-  pub encodable : IfOk answer IsEncodable
-  pub full : IsErrOf answer HistoryFull ↔ (d.config.calls ≤ length d.history)
-  pub memory : IsErrOf answer Memory → MayLackMemory d.config d.history call
-  pub legal : IsLegal x.config x.history
-
-module _ (c : Config) (s : Standing Config Entry) (call : Call) (x : Machine) (w : Standing Config Entry)
+module _ (c : Config) (s : Standing FixedDesk Entry) (call : Call) (x : DeskState) (w : Standing FixedDesk Entry)
     (desk : IsDeskLock c s.lock)
-    (left : Leaves maker_of config_of history_of s x w) where
+    (left : Leaves maker_of fixed_of history_of s x w) where
   -- the desk that the holder entered
-  abbrev pub entered : Machine
-  entered = record { config = c; history = seen s }
+  abbrev pub entered : DeskState
+  entered = record { config = c; press = desk.press; history = seen s }
 
   -- the list given back, as the log past the opening
   seen_by : history_of x ≡ opening_of s.lock ++ map entry_of (s.log ++ left.more)
@@ -90,14 +76,14 @@ module _ (c : Config) (s : Standing Config Entry) (call : Call) (x : Machine) (w
 
   -- the configuration stays
   config_stays : (answer : Result Reply Unrecorded) → HasCalled entered (stamp_of s) call x answer → x.config ≡ c
-  config_stays (Ok reply) told = ap config_of told.recorded
-  config_stays (Err unrecorded) told = ap config_of told.same
+  config_stays (Ok reply) told = ap (λ (d : DeskState). d.config) told.recorded
+  config_stays (Err unrecorded) told = ap (λ (d : DeskState). d.config) told.same
 
   -- what the seat has seen afterwards
   sees : (answer : Result Reply Unrecorded) → HasCalled entered (stamp_of s) call x answer
       → SeesLegal c w (s.ticket + 1)
   sees answer told =
-      let lock : w.lock ≡ s.lock = ap (λ (z : Standing Config Entry). z.lock) left.left in record {
+      let lock : w.lock ≡ s.lock = ap (λ (z : Standing FixedDesk Entry). z.lock) left.left in record {
         in_order = (
           ap (λ (l : List Entry). l ++ map entry_of w.log) (ap opening_of lock ∙ desk.opening_is),
           subst (λ (y : ℕ × ℕ). IsOrdered maker_of y.0 y.1 w.log (s.ticket + 1))

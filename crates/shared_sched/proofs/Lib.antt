@@ -1,3 +1,6 @@
+pub mod Published
+pub mod Plain
+pub mod Recorded
 pub mod Own
 pub mod Held
 pub mod Called

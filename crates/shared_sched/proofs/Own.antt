@@ -3,7 +3,6 @@ use Rattle.std.proofs.Common.{◌≡◌, ℕ, List, [], ◌∷◌, ◌++◌, map
 use Rattle.std.proofs.Common.{ne_eqb}
 use Rattle.std.proofs.lemmas.List.{append-nil, map-append}
 use Rattle.std.proofs.lemmas.List.Elements.{filter-append}
-use Rattle.minislots.specs.declared.config.Config.{Config}
 use Rattle.minislots.specs.declared.stamp.Stamp.{Stamp}
 use Rattle.sched_history.specs.declared.call.Call.{Call}
 use Rattle.sched_history.specs.declared.reply.Entry.{Entry}
@@ -12,7 +11,7 @@ use Rattle.sched_history.specs.declared.reply.Unrecorded.{Unrecorded}
 use Rattle.ticket_lock.specs.declared.board.Logged.{Logged}
 use Rattle.ticket_lock.specs.Rule.{entry_of, IsOfOthers}
 use Rattle.ticket_lock.specs.Standing.{Standing, made_by}
-use Rattle.shared_sched.specs.Desk.{maker_of}
+use Rattle.shared_sched.specs.Desk.{FixedDesk, maker_of}
 use Rattle.shared_sched.specs.Calls.{added_by}
 
 module _ {E : Type 0} (stamp : E → Stamp) (number : ℕ) where
@@ -42,7 +41,7 @@ module _ {E : Type 0} (stamp : E → Stamp) (number : ℕ) where
       ∙ append-nil (map entry_of (made_by stamp number log))
 
 -- what a holder adds is its own
-pub made_by-added : (s : Standing Config Entry) (call : Call) (answer : Result Reply Unrecorded)
+pub made_by-added : (s : Standing FixedDesk Entry) (call : Call) (answer : Result Reply Unrecorded)
     → made_by maker_of s.number (added_by s call answer) ≡ added_by s call answer
 made_by-added s call (Ok reply) =
     ap (λ b. cond b (added_by s call (Ok reply)) []) (eq-eqb s.number s.number refl)

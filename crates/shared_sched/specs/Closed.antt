@@ -3,6 +3,7 @@ use Rattle.std.specs.Prelude.{◌≡◌, ◌<◌, ◌≤◌, ℕ, List, [], leng
 use Rattle.std.specs.List.{filter, AllByRecursion, Any}
 use mathlib.Core.List.{IsPrefix}
 use Rattle.minislots.specs.declared.config.Config.{Config}
+use Rattle.logbook.specs.Pages.{Book}
 use Rattle.map_build.specs.declared.frame_map.FrameMap.{FrameMap}
 use Rattle.map_build.specs.EachAfter.{EachAfter}
 use Rattle.sched_history.specs.declared.reply.Entry.{Entry}
@@ -15,7 +16,7 @@ use Rattle.ticket_lock.specs.declared.board.Logged.{Logged}
 use Rattle.ticket_lock.specs.Rule.{Every}
 use Rattle.ticket_lock.specs.Standing.{Lock, Standing, seats_of, turns_of, seen, own}
 use Rattle.ticket_lock.specs.Calls.{Closes}
-use Rattle.shared_sched.specs.Desk.{config_of, history_of, maker_of, IsInTicketOrder}
+use Rattle.shared_sched.specs.Desk.{FixedDesk, fixed_of, history_of, maker_of, IsInTicketOrder}
 
 -- the entries of the seat with this number
 abbrev pub entries_of : ℕ → List Entry → List Entry
@@ -29,11 +30,12 @@ CountsEach counts h = (number : ℕ) → number < MAX_SEATS → slice_index coun
 abbrev pub HasLawfulMaps : Config → List Entry → Type 0
 HasLawfulMaps c h = EachAfter (λ before e. (m : FrameMap) → e.reply ≡ Built m → IsNextMap c before m) [] h
 
-module _ (c : Config) (lock : Lock Config Entry) (seats : List (Standing Config Entry)) where
+module _ (c : Config) (lock : Lock FixedDesk Entry) (seats : List (Standing FixedDesk Entry)) where
   -- the history of a scheduler that was closed with these seats, and how many of its entries each seat made
   pub record ClosesTo (h : List Entry) (counts : List ℕ) : Type 0 where
-    -- it is a list that the lock gives at its close
-    pub closes : Closes maker_of config_of history_of lock seats (record { config = c; history = h })
+    -- it is a list that the lock gives at its close, with this press
+    pub press : Book
+    pub closes : Closes maker_of fixed_of history_of lock seats (record { config = c; press = press; history = h })
     -- it is legal, and so each MAP in it is lawful
     pub legal : IsLegal c h
     pub maps : HasLawfulMaps c h

@@ -1,3 +1,4 @@
 pub mod Desk
+pub mod Build
 pub mod Calls
 pub mod Closed

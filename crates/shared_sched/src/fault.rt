@@ -7,7 +7,10 @@ pub enum OpenFault {
     /// The number of seats is not from 1 to 64.
     #[error("a scheduler has 1 to 64 seats")]
     SeatCount,
-    /// There was no memory for the scheduler, its history, the lock or the seats.
+    /// There were to be more than 16 readers.
+    #[error("a scheduler has at most 16 readers")]
+    ReaderCount,
+    /// There was no memory for the scheduler, its history, the press, the readers, the lock or the seats.
     #[error("out of memory")]
     Memory,
 }

@@ -1,9 +1,7 @@
 //! The law of the lock, at the desk.
 ghost use Rattle.std.specs.Prelude.{List, Option};
 ghost use Rattle.atomic_table.specs.Table.{State};
-ghost use Rattle.minislots.specs.declared.config.Config.{Config};
 ghost use Rattle.sched_history.specs.declared.reply.Entry.{Entry};
-ghost use Rattle.sched_history.specs.Machine.{Machine};
 ghost use Rattle.ticket_core.specs.LockWorld.{LockWorld};
 ghost use Rattle.ticket_lock.specs.declared.board.About.{About};
 ghost use Rattle.ticket_lock.specs.declared.board.Key.{Key};
@@ -11,7 +9,7 @@ ghost use Rattle.ticket_lock.specs.declared.board.Logged.{Logged};
 ghost use Rattle.ticket_lock.specs.declared.board.View.{View};
 ghost use Rattle.ticket_lock.specs.Rule.{Stands, Ruled, about_of};
 ghost use Rattle.ticket_lock.specs.Laws.{HasOneHolder, RunsWithOneHolder};
-ghost use Rattle.shared_sched.specs.Desk.{config_of, history_of, maker_of};
+ghost use Rattle.shared_sched.specs.Desk.{DeskState, FixedDesk, fixed_of, history_of, maker_of};
 
 use crate::desk::Desk;
 
@@ -19,13 +17,13 @@ use crate::desk::Desk;
 /// every world that a table under the rule stands for, and in every state that the rule of a running lock
 /// allows.
 pub fn one_holder()
-    ensures holder { (a : About Config Entry) (w : LockWorld) (log : List (Logged Entry))
-        (s : State (Option Machine) (View Config Entry))
-        → Stands config_of history_of maker_of a w log s
-        → HasOneHolder config_of history_of maker_of a w log s }
-    ensures running { (key : Key Machine) (s : State (Option Machine) (View Config Entry))
-        → Ruled config_of history_of maker_of (about_of config_of history_of key) s
-        → RunsWithOneHolder config_of history_of maker_of (about_of config_of history_of key) s }
+    ensures holder { (a : About FixedDesk Entry) (w : LockWorld) (log : List (Logged Entry))
+        (s : State (Option DeskState) (View FixedDesk Entry))
+        → Stands fixed_of history_of maker_of a w log s
+        → HasOneHolder fixed_of history_of maker_of a w log s }
+    ensures running { (key : Key DeskState) (s : State (Option DeskState) (View FixedDesk Entry))
+        → Ruled fixed_of history_of maker_of (about_of fixed_of history_of key) s
+        → RunsWithOneHolder fixed_of history_of maker_of (about_of fixed_of history_of key) s }
 {
     ticket_lock::one_holder::<Desk>()
 }

@@ -1,9 +1,10 @@
 //! The scheduler that threads share, and its calls.
 ghost use Rattle.std.specs.Prelude.{◌≡◌};
-ghost use Rattle.shared_sched.specs.Desk.{IsDeskLock};
+ghost use Rattle.shared_sched.specs.Desk.{IsDeskLock, HasPress};
 ghost use Rattle.shared_sched.specs.Calls.{IsEntered, AnswersHeld, AnswersCall};
 
 use crate::desk::Desk;
+use map_snapshot::Told;
 use minislots::Checked;
 use sched_history::{Call, Reply, Unrecorded};
 use std::marker::Model;
@@ -15,19 +16,20 @@ use ticket_lock::{Held, Seat, TicketLock};
 #[must_use]
 pub struct Shared {
     pub(crate) lock: TicketLock<Desk>,
-    // What clauses name: the desk has the same.
+    // What clauses name: the desk has the same configuration, and the press that told this.
     pub(crate) config: Checked,
+    pub(crate) told: Told,
 }
 
-// Clauses see the configuration, and the lock round the desk.
+// Clauses see the configuration, which press it has, and the lock round the desk.
 impl Model for Shared {
-    ghost use Rattle.shared_sched.specs.Desk.{SharedDesk, IsDeskLock};
+    ghost use Rattle.shared_sched.specs.Desk.{SharedDesk, IsDeskLock, HasPress};
 
     ghost Value = { SharedDesk };
 
-    ghost view = { λ s. record { config = s.config; lock = s.lock } };
+    ghost view = { λ s. record { config = s.config; press = s.told.press; lock = s.lock } };
 
-    ghost invariant = { λ s. IsDeskLock s.config s.lock };
+    ghost invariant = { λ s. IsDeskLock s.config s.lock × HasPress s.config s.told.press s.lock };
 }
 
 impl Shared {
@@ -35,12 +37,13 @@ impl Shared {
     pub fn lock(&self) -> &TicketLock<Desk>
         ensures lock { result.now ≡ self.now.lock }
         ensures desk { IsDeskLock self.now.config self.now.lock }
+        ensures press { HasPress self.now.config self.now.press self.now.lock }
     {
         &self.lock
     }
 
-    /// Makes a call by this seat: it draws a ticket, waits until it is served, and records the call
-    /// with its reply. Only the entry waits. A call that is not recorded changes nothing: one where the
+    /// Makes a call by this seat: it draws a ticket, waits until it is served, and records the call with its reply.
+    /// The entry waits, and so may a build, for readers. A call that is not recorded changes nothing: one where the
     /// history is full, and one for which memory ran out.
     pub fn call<R: Wait>(
         &self,
@@ -56,11 +59,12 @@ impl Shared {
         self.call_held(rt, held, desk, call)
     }
 
-    /// Makes a call by the seat that holds the desk, and leaves. The desk is as it was entered. Nothing
-    /// in it waits yet: the runtime is there for a build that will wait for readers.
+    /// Makes a call by the seat that holds the desk, and leaves. The desk is as it was entered. A build that is
+    /// recorded is published before it is: it may wait for readers that are in the middle of a read, and nothing else
+    /// waits.
     pub fn call_held<R: Wait>(
         &self,
-        _rt: &R,
+        rt: &R,
         held: Held<Desk>,
         desk: Desk,
         call: Call,
@@ -69,8 +73,7 @@ impl Shared {
         requires entered { IsEntered held desk }
         ensures answered { AnswersHeld self.now.config held call result.0 result.1 }
     {
-        let mut desk = desk;
-        let answer = desk.scheduler.call(held.stamp(), call);
+        let (desk, answer) = desk.call(rt, held.stamp(), call);
         let seat = self.lock.leave(held, desk);
         (seat, answer)
     }

@@ -3,7 +3,7 @@ use Rattle.std.proofs.Common.{refl, rules}
 use Rattle.sched_storm.proofs.storm.close.Goals as goal
 
 pub returns-then-stopped-clause-err : goal.returns-then-stopped-clause-err
-returns-then-stopped-clause-err c = (refl, search rules)
+returns-then-stopped-clause-err g c = (refl, search rules)
 
 pub returns-clause-ok : goal.returns-clause-ok
-returns-clause-ok c = search rules
+returns-clause-ok g c = search rules

@@ -10,13 +10,15 @@ run_workers-gathered-requires-clause-ready g c κs within =
     let new = c.in-Ok-open in
     let room = c.in-Ok.ensures in
     let workers = c.len-workers.ensures in
-    let seats = opened_length c.args.checked c.len-workers.result new.shared.lock new.seats.items new.ensures.opened in
+    let seats = opened_length c.args.checked c.len-workers.result new.shared.lock new.seats.items new.shared.press
+    new.ensures.opened in
     let len = new.seats.ok.0 in
     let jobs = room.jobs.1 in
     let row = room.row.1 in
     let most = c.if-workers-gt-MAX_SCRIPTS.false in
     record {
-      own = opened_own c.args.checked c.len-workers.result new.shared.lock new.seats.items new.ensures.opened;
+      own = opened_own c.args.checked c.len-workers.result new.shared.lock new.seats.items new.shared.press
+          new.ensures.opened;
       each = omega (arith, seats, len, workers);
       few = omega (arith, seats, len, most);
       jobs_empty = room.jobs.0;
@@ -28,21 +30,24 @@ run_workers-gathered-requires-clause-ready g c κs within =
 pub close-requires-clause-own : goal.close-requires-clause-own
 close-requires-clause-own g c =
     let new = c.in-Ok-open in
-    gathered_own c.args.checked c.len-workers.result new.shared.lock new.seats.items new.ensures.opened
+    gathered_own c.args.checked c.len-workers.result new.shared.lock new.seats.items new.shared.press
+    new.ensures.opened
     (g.G.Gate.lets_pass c.args.gate.now) (g.G.Gate.holds_back c.args.gate.now) c.args.scripts c.len-workers.ensures
     c.run_workers-gathered.result c.run_workers-gathered.ensures.worked
 
 pub close-requires-clause-all : goal.close-requires-clause-all
 close-requires-clause-all g c =
     let new = c.in-Ok-open in
-    gathered_all c.args.checked c.len-workers.result new.shared.lock new.seats.items new.ensures.opened
+    gathered_all c.args.checked c.len-workers.result new.shared.lock new.seats.items new.shared.press
+    new.ensures.opened
     (g.G.Gate.lets_pass c.args.gate.now) (g.G.Gate.holds_back c.args.gate.now) c.args.scripts c.len-workers.ensures
     c.run_workers-gathered.result c.run_workers-gathered.ensures.worked
 
 pub returns-clause-tally : goal.returns-clause-tally
 returns-clause-tally g c =
     let new = c.in-Ok-open in
-    is_tally c.args.checked c.len-workers.result new.shared.lock new.seats.items new.ensures.opened
+    is_tally c.args.checked c.len-workers.result new.shared.lock new.seats.items new.shared.press
+    new.ensures.opened
     (g.G.Gate.lets_pass c.args.gate.now) (g.G.Gate.holds_back c.args.gate.now) c.args.scripts c.len-workers.ensures
     c.run_workers-gathered.result c.run_workers-gathered.ensures.worked new.shared.config new.ensures.config
     c.close.result c.close.ensures.told c.close.ensures.ok
@@ -50,7 +55,8 @@ returns-clause-tally g c =
 pub returns-clause-gated : goal.returns-clause-gated
 returns-clause-gated g c =
     let new = c.in-Ok-open in
-    is_gated_tally c.args.checked c.len-workers.result new.shared.lock new.seats.items new.ensures.opened
+    is_gated_tally c.args.checked c.len-workers.result new.shared.lock new.seats.items new.shared.press
+    new.ensures.opened
     (g.G.Gate.lets_pass c.args.gate.now) (g.G.Gate.holds_back c.args.gate.now) c.args.scripts c.len-workers.ensures
     c.run_workers-gathered.result c.run_workers-gathered.ensures.worked new.shared.config new.ensures.config
     c.close.result c.close.ensures.told c.close.ensures.ok
