@@ -16,6 +16,11 @@ abbrev pub seat_lines : List ℕ → ℕ → List ℕ
 seat_lines counts zero = []
 seat_lines counts (suc n) = seat_lines counts n ++ seat_line n (slice_index counts n)
 
+-- the line of the version that was read last, or of none
+abbrev pub newest_line : Option ℕ → List ℕ
+newest_line None = codes "newest none" ++ 10 ∷ []
+newest_line (Some version) = number_line (codes "newest") version
+
 -- the line of a worker that was held, if any
 abbrev pub held_line : Option ℕ → List ℕ
 held_line None = []
@@ -25,4 +30,5 @@ held_line (Some worker) = number_line (codes "held") worker
 unfoldable pub tally_text : ℕ → Tally → List ℕ
 tally_text workers t =
     seat_lines t.counts workers
-    ++ (number_line (codes "unrecorded") t.unrecorded ++ (number_line (codes "maps") t.maps ++ held_line t.held))
+    ++ (number_line (codes "unrecorded") t.unrecorded
+    ++ (number_line (codes "maps") t.maps ++ (newest_line t.newest ++ held_line t.held)))

@@ -1,28 +1,39 @@
 //! A scheduler that two seats share.
 
-ghost use Rattle.std.specs.Prelude.{◌≡◌, IfOk};
+ghost use Rattle.std.specs.Prelude.{◌≡◌, replicate, IfOk};
+ghost use Rattle.map_snapshot.specs.Maps.{unread};
 ghost use Rattle.sched_history.specs.Machine.{IsEncodable};
 ghost use Rattle.ticket_lock.specs.Standing.{seats_of};
 ghost use Rattle.ticket_lock.specs.Calls.{new_standing};
 ghost use Rattle.shared_sched.specs.Calls.{IsEntered};
 
 use crate::base::{BASE, checked, is_shown};
+use map_snapshot::Reader;
 use minislots::{Config, Stamp};
 use sched_history::{Call, Reply, Unrecorded};
 use sched_text::put_line;
 use shared_sched::{Closed, Desk, OpenFault, Shared, open};
 use std::alloc::{AllocGlobal, Global};
 use std::process::Abort;
+use std::sync::Wait;
 use ticket_lock::{Held, Seat, Ticket, TicketLock};
 
-// A scheduler with two seats, which records so many calls.
-fn pair<R: Abort + AllocGlobal>(rt: &R, calls: u32) -> (Shared, Seat<Desk>, Seat<Desk>)
+mod reading;
+mod threads;
+
+// A scheduler with two seats and so many readers, which records so many calls.
+fn opened<R: Wait + Abort + AllocGlobal>(
+    rt: &R,
+    calls: u32,
+    readers: usize,
+) -> (Shared, Seat<Desk>, Seat<Desk>, Vec<Reader>)
     ensures zero { result.1 ≡ new_standing result.0.lock 0 }
     ensures one { result.2 ≡ new_standing result.0.lock 1 }
     ensures count { seats_of result.0.lock ≡ 2 }
+    ensures readers { result.3.items ≡ replicate readers (unread result.0.press) }
 {
     let config = checked(rt, Config { calls, ..BASE });
-    let Ok((shared, mut seats)) = open(rt.alloc(), config, 2) else {
+    let Ok((shared, mut seats, readers)) = open(rt, rt.alloc(), config, 2, readers) else {
         panic!(rt; "no memory")
     };
     let one = seats.pop();
@@ -31,6 +42,33 @@ fn pair<R: Abort + AllocGlobal>(rt: &R, calls: u32) -> (Shared, Seat<Desk>, Seat
         unreachable!()
     };
     seats.destroy_empty();
+    (shared, zero, one, readers)
+}
+
+// A scheduler with two seats and a reader, which records so many calls.
+fn watched<R: Wait + Abort + AllocGlobal>(
+    rt: &R,
+    calls: u32,
+) -> (Shared, Seat<Desk>, Seat<Desk>, Reader)
+    ensures zero { result.1 ≡ new_standing result.0.lock 0 }
+    ensures one { result.2 ≡ new_standing result.0.lock 1 }
+    ensures count { seats_of result.0.lock ≡ 2 }
+    ensures reader { result.3 ≡ unread result.0.press }
+{
+    let (shared, zero, one, mut readers) = opened(rt, calls, 1);
+    let Some(reader) = readers.pop() else {
+        unreachable!()
+    };
+    (shared, zero, one, reader)
+}
+
+// A scheduler with two seats, which records so many calls.
+fn pair<R: Wait + Abort + AllocGlobal>(rt: &R, calls: u32) -> (Shared, Seat<Desk>, Seat<Desk>)
+    ensures zero { result.1 ≡ new_standing result.0.lock 0 }
+    ensures one { result.2 ≡ new_standing result.0.lock 1 }
+    ensures count { seats_of result.0.lock ≡ 2 }
+{
+    let (shared, zero, one, _readers) = opened(rt, calls, 0);
     (shared, zero, one)
 }
 
@@ -87,15 +125,17 @@ fn has_line<R: Abort + AllocGlobal>(rt: &R, answer: Result<Reply, Unrecorded>, e
 }
 
 // Each of the two seats has recorded one call.
-fn has_one_each<R: Abort + AllocGlobal>(rt: &R, closed: &Closed) {
+fn has_one_each<R: Wait + Abort + AllocGlobal>(rt: &R, closed: Closed) {
+    let Closed {
+        history,
+        counts,
+        press,
+    } = closed;
+    press.end(rt);
     let stamps = [Stamp { seat: 0, ticket: 0 }, Stamp { seat: 1, ticket: 1 }];
-    let made = closed.history.iter().map(|entry| entry.stamp);
+    let made = history.iter().map(|entry| entry.stamp);
     assert!(rt; made.eq(stamps), "the stamps");
-    is_shown(
-        rt,
-        (closed.counts[0], closed.counts[1], closed.counts[2]),
-        "(1, 1, 0)",
-    );
+    is_shown(rt, (counts[0], counts[1], counts[2]), "(1, 1, 0)");
 }
 
 #[test]
@@ -116,7 +156,7 @@ fn the_second_ticket_reads_the_build_of_the_first(rt: HostRuntime) {
     let (held, desk) = let_in(&rt, lock, one);
     let (one, answer) = shared.call_held(&rt, held, desk, Call::Build { now: 801 });
     has_line(&rt, answer, "refused 16 840");
-    has_one_each(&rt, &close_pair(&rt, shared, zero, one));
+    has_one_each(&rt, close_pair(&rt, shared, zero, one));
 }
 
 #[test]
@@ -132,15 +172,30 @@ fn a_full_history_records_no_call_of_any_seat(rt: HostRuntime) {
     has_line(&rt, answer, "refused 7");
     let (zero, answer) = shared.call(&rt, zero, Call::Build { now: 800 });
     has_line(&rt, answer, "history full");
-    has_one_each(&rt, &close_pair(&rt, shared, zero, one));
+    has_one_each(&rt, close_pair(&rt, shared, zero, one));
+}
+
+// The fault of a scheduler with so many seats and readers.
+fn fault_of<R: Wait + Abort + AllocGlobal>(rt: &R, seats: usize, readers: usize) -> OpenFault {
+    match open(rt, rt.alloc(), checked(rt, BASE), seats, readers) {
+        Ok(_opened) => panic!(rt; "{seats} seats and {readers} readers"),
+        Err(fault) => fault,
+    }
 }
 
 #[test]
 fn a_scheduler_has_one_to_64_seats(rt: HostRuntime) {
     for seats in [0, 65] {
-        match open(rt.alloc(), checked(&rt, BASE), seats) {
-            Ok(_opened) => panic!(&rt; "{seats} seats are too few or too many"),
-            Err(fault) => assert!(rt; fault == OpenFault::SeatCount, "{seats} seats"),
-        }
+        assert!(rt;
+            fault_of(&rt, seats, 0) == OpenFault::SeatCount,
+            "{seats} seats"
+        );
     }
+}
+
+#[test]
+fn a_scheduler_has_at_most_16_readers(rt: HostRuntime) {
+    assert!(rt; fault_of(&rt, 65, 17) == OpenFault::SeatCount);
+    assert!(rt; fault_of(&rt, 64, 17) == OpenFault::ReaderCount);
+    assert!(rt; fault_of(&rt, 1, usize::MAX) == OpenFault::ReaderCount);
 }

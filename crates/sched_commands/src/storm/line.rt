@@ -2,7 +2,8 @@
 
 ghost use Rattle.std.specs.Prelude.{◌≡◌, ◌≤◌, OnOk, IfErr};
 ghost use Rattle.std.specs.Io.KnownBytes.{Appends};
-ghost use Rattle.sched_commands.specs.StormLines.{number_line, seat_line, seat_lines, held_line, tally_text};
+ghost use Rattle.sched_commands.specs.StormLines.{number_line, seat_line, seat_lines};
+ghost use Rattle.sched_commands.specs.StormLines.{newest_line, held_line, tally_text};
 
 use sched_storm::Tally;
 use sched_text::{TextFault, put, put_number};
@@ -48,6 +49,17 @@ fn put_seats<W: Write>(
     Ok(())
 }
 
+// The line of the version that was read last, or of none.
+fn put_newest<W: Write>(writer: &mut W, newest: Option<u64>) -> Result<(), TextFault>
+    ensures ok { OnOk result (Appends (W.contents writer.old) (W.contents writer.new) (newest_line newest)) }
+    ensures err { IfErr result (λ e. e ≡ TextFault.Output) }
+{
+    match newest {
+        Some(version) => put_named(writer, b"newest", version),
+        None => put(writer, b"newest none\n"),
+    }
+}
+
 // The line of the worker that was held, if any.
 fn put_held<W: Write>(writer: &mut W, held: Option<usize>) -> Result<(), TextFault>
     ensures ok { OnOk result (Appends (W.contents writer.old) (W.contents writer.new) (held_line held)) }
@@ -69,5 +81,6 @@ pub fn put_tally<W: Write>(writer: &mut W, workers: usize, tally: &Tally) -> Res
     put_seats(writer, &tally.counts, workers)?;
     put_named(writer, b"unrecorded", tally.unrecorded)?;
     put_named(writer, b"maps", tally.maps)?;
+    put_newest(writer, tally.newest)?;
     put_held(writer, tally.held)
 }

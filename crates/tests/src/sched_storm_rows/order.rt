@@ -26,9 +26,14 @@ pub fn tally_of<R: Threads + Wait + AllocGlobal + Sync>(
     Ok(storm_with(rt, rt.alloc(), config, scripts, gate)?)
 }
 
-/// The tally has these counts of the first two workers, unrecorded calls and MAPs, and this worker was held.
+/// The tally has these counts of the first two workers, unrecorded calls and MAPs, this worker was held, and the
+/// version read last is that of the last MAP.
 pub fn has_counts<R: Abort + AllocGlobal>(rt: &R, tally: &Tally, expected: &str) {
     let (zero, one) = (tally.counts[0], tally.counts[1]);
+    assert!(rt;
+        tally.newest.unwrap_or(0) == tally.maps,
+        "the newest version"
+    );
     is_shown(
         rt,
         (zero, one, tally.unrecorded, tally.maps, tally.held),
