@@ -1,9 +1,7 @@
 pub mod Bytes
 pub mod Calls
 pub mod Fields
-pub mod HistoryText
-pub mod Items
-pub mod JoinedText
+pub mod JsonTokens
 pub mod Outcome
 pub mod RowsFaults
 pub mod RowsHistory

@@ -1,8 +1,8 @@
 -- The text of a history: its JSON value in compact form, and one newline.
-use Rattle.std.specs.Prelude.{ℕ, Bool, true, List, [], ◌∷◌, ◌++◌, map, codes}
+use Rattle.std.specs.Prelude.{ℕ, List, [], ◌∷◌, ◌++◌, map, codes}
 use Rattle.serde_json.specs.Data.{Data, array, object, no_members, member}
 use Rattle.serde_json.specs.View.{items_of}
-use Rattle.serde_json.specs.Written.{comma_if, compact_text}
+use Rattle.serde_json.specs.Written.{compact_text}
 use Rattle.minislots.specs.declared.config.Config.{Config}
 use Rattle.sched_history.specs.declared.reply.Entry.{Entry}
 use Rattle.sched_text.specs.Json.{count, call_data, reply_data}
@@ -40,8 +40,3 @@ history_data c es = object (member (codes "config") (config_data c)
 -- the text of a history: without a space, and ended by one newline
 unfoldable pub history_text : Config → List Entry → List ℕ
 history_text c es = compact_text (history_data c es) ++ 10 ∷ []
-
--- the texts of entries, each after a comma but the first, which has one where something stands before it
-abbrev pub joined : Bool → List Entry → List ℕ
-joined later [] = []
-joined later (e ∷ es) = comma_if later ++ (compact_text (entry_data e) ++ joined true es)

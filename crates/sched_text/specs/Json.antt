@@ -1,9 +1,8 @@
 -- The JSON values that a flow, a call and a reply stand for in the text of a history: members in ascending order of
 -- their keys.
-use Rattle.std.specs.Prelude.{ℕ, List, [], ◌∷◌, map, codes, Option, None, Some}
-use Rattle.std.specs.Borrow.{Bor}
+use Rattle.std.specs.Prelude.{ℕ, List, map, codes, Option, None, Some}
 use Rattle.hex.specs.Hex.{encode_lower}
-use Rattle.serde_json.specs.Data.{Data, number, unsigned, string, array, object, Members, no_members, member, put}
+use Rattle.serde_json.specs.Data.{Data, number, unsigned, string, array, object, no_members, member}
 use Rattle.serde_json.specs.View.{items_of}
 use Rattle.map_codec.specs.WireMap.{spelling}
 use Rattle.flow_book.specs.declared.spec.FlowSpec.{FlowSpec}
@@ -20,12 +19,6 @@ use Rattle.sched_text.specs.Line.{refusal_number, refusal_value}
 -- a whole number
 abbrev pub count : ℕ → Data
 count n = number (unsigned n)
-
--- the members, with each of these whole numbers at the key of its place
-abbrev pub with_counts : List (Bor (List ℕ)) → List ℕ → Members → Members
-with_counts [] ns ms = ms
-with_counts (k ∷ ks) [] ms = ms
-with_counts (k ∷ ks) (n ∷ ns) ms = with_counts ks ns (put k.now (count n) ms)
 
 -- an array of whole numbers
 unfoldable pub counts : List ℕ → Data

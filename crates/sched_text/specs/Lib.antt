@@ -6,5 +6,6 @@ pub mod Outcome
 pub mod StormScript
 pub mod Line
 pub mod Json
+pub mod Tokens
 pub mod HistoryText
 pub mod Fault

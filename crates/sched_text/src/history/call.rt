@@ -1,15 +1,14 @@
 //! Calls as JSON.
 
-ghost use Rattle.std.specs.Prelude.{◌≡◌, IfOk, OnOk};
-ghost use Rattle.serde_json.specs.Data.{object, no_members};
-ghost use Rattle.serde_json.specs.View.{view, members_view};
+ghost use Rattle.std.specs.Prelude.{◌≡◌, ◌++◌, OnOk};
 ghost use Rattle.sched_text.specs.Json.{flow_data, call_data};
+ghost use Rattle.sched_text.specs.Tokens.{tokens_of};
 
-use super::count::put_named;
+use super::count::{put_counts, put_name, put_named};
 use flow_book::FlowSpec;
+use json::Writer;
 use sched_history::Call;
-use serde_json::{Map, Value};
-use std::alloc::{AllocError, Global};
+use std::alloc::AllocError;
 
 // The keys of what a flow or a call has beside its name.
 static UNSOLICITED: [&str; 3] = ["interval_us", "jitter_us", "size"];
@@ -26,11 +25,11 @@ static HEARD: [&str; 2] = ["receiver", "upto"];
 
 static NOW: [&str; 1] = ["now"];
 
-// Puts the parameters of a flow, by its kind.
+// Writes the parameters of a flow, by its kind.
 #[tactic(auto, unfolding(crate::specs::Json::flow_data))]
-fn put_flow(map: &mut Map<String, Value>, alloc: Global, flow: FlowSpec) -> Result<(), AllocError>
-    requires { members_view map.old.entries ≡ no_members }
-    ensures { OnOk result (object (members_view map.new.entries) ≡ flow_data flow) }
+fn put_flow(out: &mut Writer, flow: FlowSpec) -> Result<(), AllocError>
+    ensures ok { OnOk result (out.new.tokens ≡ out.old.tokens ++ tokens_of (flow_data flow)) }
+    ensures before { out.new.before ≡ out.old.before }
 {
     match flow {
         FlowSpec::Unsolicited {
@@ -39,7 +38,7 @@ fn put_flow(map: &mut Map<String, Value>, alloc: Global, flow: FlowSpec) -> Resu
             jitter_us,
         } => {
             let numbers = [interval_us as u64, jitter_us as u64, size as u64];
-            put_named(map, alloc, "kind", "unsolicited", &UNSOLICITED, &numbers)
+            put_named(out, "kind", "unsolicited", 2, &UNSOLICITED, &numbers)
         }
         FlowSpec::Polled {
             interval_us,
@@ -53,7 +52,7 @@ fn put_flow(map: &mut Map<String, Value>, alloc: Global, flow: FlowSpec) -> Resu
                 jitter_us as u64,
                 rate as u64,
             ];
-            put_named(map, alloc, "kind", "polled", &POLLED, &numbers)
+            put_named(out, "kind", "polled", 3, &POLLED, &numbers)
         }
         FlowSpec::BestEffort {
             priority,
@@ -61,43 +60,34 @@ fn put_flow(map: &mut Map<String, Value>, alloc: Global, flow: FlowSpec) -> Resu
             burst,
         } => {
             let numbers = [burst as u64, priority as u64, rate as u64];
-            put_named(map, alloc, "kind", "best_effort", &BEST_EFFORT, &numbers)
+            put_named(out, "kind", "best_effort", 1, &BEST_EFFORT, &numbers)
         }
     }
 }
 
-fn flow_value(alloc: Global, flow: FlowSpec) -> Result<Value, AllocError>
-    ensures { IfOk result (λ v. view v ≡ flow_data flow) }
+#[tactic(auto, unfolding(crate::specs::Json::call_data))]
+fn put_admit(out: &mut Writer, sid: u16, flow: FlowSpec) -> Result<(), AllocError>
+    ensures ok { OnOk result (out.new.tokens
+        ≡ out.old.tokens ++ tokens_of (call_data (Call.Admit sid flow))) }
+    ensures before { out.new.before ≡ out.old.before }
 {
-    let mut map = Map::new(alloc);
-    put_flow(&mut map, alloc, flow)?;
-    Ok(Value::Object(map))
+    out.begin_object()?;
+    put_name(out, "call", "admit")?;
+    out.key("flow")?;
+    put_flow(out, flow)?;
+    put_counts(out, &SID, &[sid as u64])?;
+    out.end_object()
 }
 
+/// Writes a call, by its name.
 #[tactic(auto, unfolding(crate::specs::Json::call_data))]
-fn put_admit(
-    map: &mut Map<String, Value>,
-    alloc: Global,
-    sid: u16,
-    flow: FlowSpec,
-) -> Result<(), AllocError>
-    requires { members_view map.old.entries ≡ no_members }
-    ensures { OnOk result (object (members_view map.new.entries) ≡ call_data (Call.Admit sid flow)) }
-{
-    let flow = flow_value(alloc, flow)?;
-    put_named(map, alloc, "call", "admit", &SID, &[sid as u64])?;
-    serde_json::put(map, alloc, "flow", flow)
-}
-
-/// Puts the members of a call, by its name.
-#[tactic(auto, unfolding(crate::specs::Json::call_data))]
-pub fn put_call(map: &mut Map<String, Value>, alloc: Global, call: Call) -> Result<(), AllocError>
-    requires { members_view map.old.entries ≡ no_members }
-    ensures { OnOk result (object (members_view map.new.entries) ≡ call_data call) }
+pub fn put_call(out: &mut Writer, call: Call) -> Result<(), AllocError>
+    ensures ok { OnOk result (out.new.tokens ≡ out.old.tokens ++ tokens_of (call_data call)) }
+    ensures before { out.new.before ≡ out.old.before }
 {
     match call {
-        Call::Admit(sid, flow) => put_admit(map, alloc, sid, flow),
-        Call::Remove(sid) => put_named(map, alloc, "call", "remove", &SID, &[sid as u64]),
+        Call::Admit(sid, flow) => put_admit(out, sid, flow),
+        Call::Remove(sid) => put_named(out, "call", "remove", 0, &SID, &[sid as u64]),
         Call::Ask {
             receiver,
             sid,
@@ -105,20 +95,13 @@ pub fn put_call(map: &mut Map<String, Value>, alloc: Global, call: Call) -> Resu
             heard,
         } => {
             let numbers = [bytes as u64, heard, receiver as u64, sid as u64];
-            put_named(map, alloc, "call", "ask", &ASK, &numbers)
+            put_named(out, "call", "ask", 1, &ASK, &numbers)
         }
         Call::Heard { receiver, upto } => {
-            put_named(
-                map,
-                alloc,
-                "call",
-                "heard",
-                &HEARD,
-                &[receiver as u64, upto],
-            )
+            put_named(out, "call", "heard", 0, &HEARD, &[receiver as u64, upto])
         }
-        Call::Build { now } => put_named(map, alloc, "call", "build", &NOW, &[now]),
-        Call::Skip { now } => put_named(map, alloc, "call", "skip", &NOW, &[now]),
-        Call::Status(sid) => put_named(map, alloc, "call", "status", &SID, &[sid as u64]),
+        Call::Build { now } => put_named(out, "call", "build", 0, &NOW, &[now]),
+        Call::Skip { now } => put_named(out, "call", "skip", 0, &NOW, &[now]),
+        Call::Status(sid) => put_named(out, "call", "status", 0, &SID, &[sid as u64]),
     }
 }

@@ -1,68 +1,83 @@
-//! Whole numbers as JSON, and objects that have little else.
+//! Whole numbers and names as members of JSON objects, token by token.
 
-ghost use Rattle.std.specs.Prelude.{◌≡◌, length, IfOk, OnOk};
-ghost use Rattle.serde_json.specs.Data.{string, put};
-ghost use Rattle.serde_json.specs.View.{view, members_view};
-ghost use Rattle.sched_text.specs.Json.{counts, with_counts};
+ghost use Rattle.std.specs.Prelude.{◌≡◌, ◌≤◌, ◌++◌, ◌∷◌, length, OnOk};
+ghost use Rattle.json.specs.Token.{key};
+ghost use Rattle.sched_text.specs.Json.{counts};
+ghost use Rattle.sched_text.specs.Tokens.{tokens_of, counted, titled, named};
 
-use serde_json::{Map, Value};
-use std::alloc::{AllocError, Global};
+use json::Writer;
+use std::alloc::AllocError;
 
-/// Puts whole numbers, each under the key at its place.
-pub fn put_counts(
-    map: &mut Map<String, Value>,
-    alloc: Global,
-    keys: &[&str],
-    numbers: &[u64],
-) -> Result<(), AllocError>
+/// Writes whole numbers, each under the key at its place.
+pub fn put_counts(out: &mut Writer, keys: &[&str], numbers: &[u64]) -> Result<(), AllocError>
     requires { length keys.now ≡ length numbers.now }
-    ensures { OnOk result
-        (members_view map.new.entries ≡ with_counts keys.now numbers.now (members_view map.old.entries)) }
+    ensures ok { OnOk result (out.new.tokens ≡ out.old.tokens ++ counted keys.now numbers.now) }
+    ensures before { out.new.before ≡ out.old.before }
 {
     for index in 0..numbers.len() {
-        serde_json::put(map, alloc, keys[index], Value::from(numbers[index]))?;
+        out.key(keys[index])?;
+        out.u64(numbers[index])?;
     }
     Ok(())
 }
 
-/// Puts a name under this title, and whole numbers.
+/// Writes a name under this title.
+pub fn put_name(out: &mut Writer, title: &str, name: &str) -> Result<(), AllocError>
+    ensures ok { OnOk result (out.new.tokens ≡ out.old.tokens ++ titled title.now name.now) }
+    ensures before { out.new.before ≡ out.old.before }
+{
+    out.key(title)?;
+    out.string(name)
+}
+
+/// Writes an object: so many of the whole numbers, a name under this title, and the other numbers.
 pub fn put_named(
-    map: &mut Map<String, Value>,
-    alloc: Global,
+    out: &mut Writer,
     title: &str,
     name: &str,
+    place: usize,
     keys: &[&str],
     numbers: &[u64],
 ) -> Result<(), AllocError>
-    requires { length keys.now ≡ length numbers.now }
-    ensures { OnOk result (members_view map.new.entries
-        ≡ with_counts keys.now numbers.now (put title.now (string name.now) (members_view map.old.entries))) }
+    requires fits { place ≤ length keys.now }
+    requires same { length keys.now ≡ length numbers.now }
+    ensures ok { OnOk result (out.new.tokens
+        ≡ out.old.tokens ++ named title.now name.now place keys.now numbers.now) }
+    ensures before { out.new.before ≡ out.old.before }
 {
-    let name = Value::try_from_str(alloc, name)?;
-    serde_json::put(map, alloc, title, name)?;
-    put_counts(map, alloc, keys, numbers)
+    let (first_keys, last_keys) = keys.split_at(place);
+    let (first, last) = numbers.split_at(place);
+    out.begin_object()?;
+    put_counts(out, first_keys, first)?;
+    put_name(out, title, name)?;
+    put_counts(out, last_keys, last)?;
+    out.end_object()
 }
 
-/// An array of offsets in a frame.
-#[tactic(auto, unfolding(crate::specs::Json::counts))]
-pub fn offsets_value(alloc: Global, offsets: &[u16]) -> Result<Value, AllocError>
-    ensures { IfOk result (λ v. view v ≡ counts offsets.now) }
+/// Writes an array of offsets in a frame under this key.
+pub fn put_offsets(out: &mut Writer, name: &str, offsets: &[u16]) -> Result<(), AllocError>
+    ensures ok { OnOk result (out.new.tokens
+        ≡ out.old.tokens ++ key name.now ∷ tokens_of (counts offsets.now)) }
+    ensures before { out.new.before ≡ out.old.before }
 {
-    let mut values = Vec::with_capacity(alloc, offsets.len())?;
+    out.key(name)?;
+    out.begin_array()?;
     for offset in offsets {
-        values.push(Value::from(*offset))?;
+        out.u64(u64::from(*offset))?;
     }
-    Ok(Value::Array(values))
+    out.end_array()
 }
 
-/// An array of counts of bytes.
-#[tactic(auto, unfolding(crate::specs::Json::counts))]
-pub fn bytes_value(alloc: Global, numbers: &[u32]) -> Result<Value, AllocError>
-    ensures { IfOk result (λ v. view v ≡ counts numbers.now) }
+/// Writes an array of counts of bytes under this key.
+pub fn put_bytes(out: &mut Writer, name: &str, numbers: &[u32]) -> Result<(), AllocError>
+    ensures ok { OnOk result (out.new.tokens
+        ≡ out.old.tokens ++ key name.now ∷ tokens_of (counts numbers.now)) }
+    ensures before { out.new.before ≡ out.old.before }
 {
-    let mut values = Vec::with_capacity(alloc, numbers.len())?;
+    out.key(name)?;
+    out.begin_array()?;
     for number in numbers {
-        values.push(Value::from(*number))?;
+        out.u64(u64::from(*number))?;
     }
-    Ok(Value::Array(values))
+    out.end_array()
 }

@@ -1,26 +1,27 @@
 //! Replies as JSON.
 
-ghost use Rattle.std.specs.Prelude.{◌≡◌, IfOk, OnOk, string_bytes};
+ghost use Rattle.std.specs.Prelude.{◌≡◌, ◌++◌, IfOk, OnOk, string_bytes};
 ghost use Rattle.hex.specs.Hex.{encode_lower};
 ghost use Rattle.map_codec.specs.WireMap.{IsWellFormed, spelling};
-ghost use Rattle.serde_json.specs.Data.{object, no_members};
-ghost use Rattle.serde_json.specs.View.{members_view};
 ghost use Rattle.sched_history.specs.Machine.{IsEncodable};
 ghost use Rattle.sched_text.specs.Json.{placed_data, map_data, plain_data, refused_data, reply_data};
+ghost use Rattle.sched_text.specs.Tokens.{tokens_of};
 
-use super::count::{bytes_value, offsets_value, put_named};
+use super::count::{put_bytes, put_counts, put_name, put_named, put_offsets};
 use crate::line::{refusal_number, refusal_value};
+use json::Writer;
 use map_build::FrameMap;
 use map_codec::{MAX_BYTES, WireMap, encode};
 use periodic::Placement;
 use sched_history::Reply;
-use serde_json::{Map, Value};
 use std::alloc::{AllocError, Global};
 
 // The keys of the numbers that a reply has beside its kind.
 static REFERENCE: [&str; 1] = ["reference"];
 
-static TIMES: [&str; 2] = ["ack", "start"];
+static ACK: [&str; 1] = ["ack"];
+
+static START: [&str; 1] = ["start"];
 
 static NUMBER: [&str; 1] = ["number"];
 
@@ -31,24 +32,15 @@ static NEXT: [&str; 1] = ["next"];
 static SUMS: [&str; 3] = ["asked", "granted", "outstanding"];
 
 #[tactic(auto, unfolding(crate::specs::Json::placed_data))]
-fn put_placed(
-    map: &mut Map<String, Value>,
-    alloc: Global,
-    placement: &Placement,
-) -> Result<(), AllocError>
-    requires { members_view map.old.entries ≡ no_members }
-    ensures { OnOk result (object (members_view map.new.entries) ≡ placed_data placement.now) }
+fn put_placed(out: &mut Writer, placement: &Placement) -> Result<(), AllocError>
+    ensures ok { OnOk result (out.new.tokens ≡ out.old.tokens ++ tokens_of (placed_data placement.now)) }
+    ensures before { out.new.before ≡ out.old.before }
 {
-    let starts = offsets_value(alloc, placement.starts.as_slice())?;
-    put_named(
-        map,
-        alloc,
-        "kind",
-        "admitted",
-        &REFERENCE,
-        &[placement.reference],
-    )?;
-    serde_json::put(map, alloc, "starts", starts)
+    out.begin_object()?;
+    put_name(out, "kind", "admitted")?;
+    put_counts(out, &REFERENCE, &[placement.reference])?;
+    put_offsets(out, "starts", placement.starts.as_slice())?;
+    out.end_object()
 }
 
 // The payload of a MAP in lower-case hexadecimal.
@@ -62,81 +54,70 @@ fn hex_of(alloc: Global, map: &WireMap) -> Result<String, AllocError>
 }
 
 #[tactic(auto, unfolding(crate::specs::Json::map_data))]
-fn put_map(
-    map: &mut Map<String, Value>,
-    alloc: Global,
-    kind: &str,
-    frame: &FrameMap,
-) -> Result<(), AllocError>
-    requires well_formed { IsWellFormed frame.now.wire }
-    requires empty { members_view map.old.entries ≡ no_members }
-    ensures { OnOk result (object (members_view map.new.entries) ≡ map_data kind.now frame.now) }
+fn put_map(out: &mut Writer, alloc: Global, kind: &str, frame: &FrameMap) -> Result<(), AllocError>
+    requires { IsWellFormed frame.now.wire }
+    ensures ok { OnOk result (out.new.tokens ≡ out.old.tokens ++ tokens_of (map_data kind.now frame.now)) }
+    ensures before { out.new.before ≡ out.old.before }
 {
-    put_named(map, alloc, "kind", kind, &TIMES, &[frame.ack, frame.start])?;
-    let bytes = bytes_value(alloc, frame.bytes.as_slice())?;
-    serde_json::put(map, alloc, "bytes", bytes)?;
+    out.begin_object()?;
+    put_counts(out, &ACK, &[frame.ack])?;
+    put_bytes(out, "bytes", frame.bytes.as_slice())?;
     let hex = hex_of(alloc, &frame.wire)?;
-    serde_json::put(map, alloc, "hex", Value::String(hex))
+    put_name(out, "hex", hex.as_str())?;
+    put_name(out, "kind", kind)?;
+    put_counts(out, &START, &[frame.start])?;
+    out.end_object()
 }
 
 #[tactic(auto, unfolding(crate::specs::Json::refused_data))]
-fn put_refused(
-    map: &mut Map<String, Value>,
-    alloc: Global,
-    number: u64,
-    value: Option<u64>,
-) -> Result<(), AllocError>
-    requires { members_view map.old.entries ≡ no_members }
-    ensures { OnOk result (object (members_view map.new.entries) ≡ refused_data number value) }
+fn put_refused(out: &mut Writer, number: u64, value: Option<u64>) -> Result<(), AllocError>
+    ensures ok { OnOk result (out.new.tokens ≡ out.old.tokens ++ tokens_of (refused_data number value)) }
+    ensures before { out.new.before ≡ out.old.before }
 {
     match value {
-        None => put_named(map, alloc, "kind", "refused", &NUMBER, &[number]),
+        None => put_named(out, "kind", "refused", 0, &NUMBER, &[number]),
         Some(value) => {
             let numbers = [number, value];
-            put_named(map, alloc, "kind", "refused", &NUMBER_AND_VALUE, &numbers)
+            put_named(out, "kind", "refused", 0, &NUMBER_AND_VALUE, &numbers)
         }
     }
 }
 
-// Puts a kind that says nothing more.
+// Writes a kind that says nothing more.
 #[tactic(auto, unfolding(crate::specs::Json::plain_data))]
-fn put_plain(map: &mut Map<String, Value>, alloc: Global, kind: &str) -> Result<(), AllocError>
-    requires { members_view map.old.entries ≡ no_members }
-    ensures { OnOk result (object (members_view map.new.entries) ≡ plain_data kind.now) }
+fn put_plain(out: &mut Writer, kind: &str) -> Result<(), AllocError>
+    ensures ok { OnOk result (out.new.tokens ≡ out.old.tokens ++ tokens_of (plain_data kind.now)) }
+    ensures before { out.new.before ≡ out.old.before }
 {
-    put_named(map, alloc, "kind", kind, &[], &[])
+    put_named(out, "kind", kind, 0, &[], &[])
 }
 
-/// Puts the members of a reply, by its kind.
+/// Writes a reply, by its kind.
 #[tactic(auto, unfolding(crate::specs::Json::reply_data))]
-pub fn put_reply(
-    map: &mut Map<String, Value>,
-    alloc: Global,
-    reply: &Reply,
-) -> Result<(), AllocError>
-    requires encodable { IsEncodable reply.now }
-    requires empty { members_view map.old.entries ≡ no_members }
-    ensures { OnOk result (object (members_view map.new.entries) ≡ reply_data reply.now) }
+pub fn put_reply(out: &mut Writer, alloc: Global, reply: &Reply) -> Result<(), AllocError>
+    requires { IsEncodable reply.now }
+    ensures ok { OnOk result (out.new.tokens ≡ out.old.tokens ++ tokens_of (reply_data reply.now)) }
+    ensures before { out.new.before ≡ out.old.before }
 {
     match reply {
-        Reply::Admitted(None) => put_plain(map, alloc, "admitted"),
-        Reply::Admitted(Some(placement)) => put_placed(map, alloc, placement),
-        Reply::Removed => put_plain(map, alloc, "removed"),
-        Reply::Taken => put_plain(map, alloc, "taken"),
-        Reply::Noted => put_plain(map, alloc, "noted"),
-        Reply::Built(frame) => put_map(map, alloc, "map", frame),
-        Reply::Skipped(next) => put_named(map, alloc, "kind", "skipped", &NEXT, &[*next]),
+        Reply::Admitted(None) => put_plain(out, "admitted"),
+        Reply::Admitted(Some(placement)) => put_placed(out, placement),
+        Reply::Removed => put_plain(out, "removed"),
+        Reply::Taken => put_plain(out, "taken"),
+        Reply::Noted => put_plain(out, "noted"),
+        Reply::Built(frame) => put_map(out, alloc, "map", frame),
+        Reply::Skipped(next) => put_named(out, "kind", "skipped", 0, &NEXT, &[*next]),
         Reply::Flow {
             asked,
             granted,
             outstanding,
         } => {
             let numbers = [*asked, *granted, *outstanding];
-            put_named(map, alloc, "kind", "flow", &SUMS, &numbers)
+            put_named(out, "kind", "flow", 2, &SUMS, &numbers)
         }
         Reply::Refused(refusal) => {
             let (number, value) = (refusal_number(*refusal), refusal_value(*refusal));
-            put_refused(map, alloc, number, value)
+            put_refused(out, number, value)
         }
     }
 }

@@ -1,12 +1,17 @@
--- The pieces of the text, one behind the other.
-use Rattle.std.proofs.Common.{arith}
-use Rattle.std.proofs.lemmas.Grind.{common_steps}
-use Rattle.sched_text.proofs.HistoryText.{config-whole}
-use Rattle.sched_text.proofs.JoinedText.{history-pieces}
+-- The text of the tokens, and the newline.
+use Rattle.std.proofs.Common.{◌≡◌, ap, ◌∙◌, ◌++◌, ◌∷◌, [], List, ℕ}
+use Rattle.serde_json.specs.Written.{compact_text}
+use Rattle.serde_json.proofs.Texts.{print-outline}
+use Rattle.sched_text.specs.HistoryText.{history_data, history_text}
 use Rattle.sched_text.proofs.history.history_text.Goals as goal
 
-pub push_value-requires : goal.push_value-requires
-push_value-requires c = rw c.in_ok-config.ensures (config-whole c.args.config.now)
-
 pub returns : goal.returns
-returns c = rw (history-pieces c.args.config.now c.args.entries.now) (grind (arith, common_steps))
+unfolding history_text
+returns c =
+    let history = history_data c.args.config.now c.args.entries.now in
+    let members = c.in_ok-put_members.ensures in
+    let text : c.into_inner-text.result.items ≡ compact_text history =
+    c.into_inner-text.ensures.items
+    ∙ rw (members.before, members.ok, c.new-out.ensures.before, c.new-out.ensures.tokens, c.new.ensures.items)
+    (print-outline history) in
+    c.in_ok-push.ensures.items ∙ ap (λ (known : List ℕ). known ++ 10 ∷ []) text

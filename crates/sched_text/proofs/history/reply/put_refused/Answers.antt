@@ -1,8 +1,7 @@
--- The number of the refusal, and its value.
-use Rattle.std.proofs.Common.{rules}
+-- A refusal with its value.
 use Rattle.sched_text.specs.Json.{refused_data}
 use Rattle.sched_text.proofs.history.reply.put_refused.Goals as goal
 
-pub returns-in-Some : goal.returns-in-Some
+pub returns-in-Some-clause-ok : goal.returns-in-Some-clause-ok
 unfolding refused_data
-returns-in-Some c = search rules
+returns-in-Some-clause-ok c = rw c.in-Some.is c.put_named-in-Some.ensures.ok

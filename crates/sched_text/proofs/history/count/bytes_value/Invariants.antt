@@ -1,8 +1,0 @@
--- The numbers so far are those of the array.
-use Rattle.std.proofs.Common.{◌≡◌, map, take}
-use Rattle.serde_json.specs.View.{view}
-use Rattle.sched_text.specs.Json.{count}
-use Rattle.sched_text.proofs.history.count.bytes_value.Given as goal
-
-abbrev pub invariant-loop-number : goal.invariant-loop-number
-invariant-loop-number l = map view l.values.items ≡ map count (take l.number-index l.numbers)
