@@ -1,13 +1,13 @@
 //! The costliest admission and the costliest frame that there are: a placement that is sought everywhere in a
 //! cycle of 64 frames beside 39 others, and a MAP of 93 data grants and 40 polls.
 
-use crate::run::{figure, now};
+use crate::run::{Took, figure, now};
 use flow_book::FlowSpec;
 use map_build::FrameMap;
 use minislots::{Config, Stamp};
 use sched_history::{Call, Refusal, Reply, Scheduler, Unrecorded};
 use std::alloc::Global;
-use std::time::Clock;
+use std::time::{Clock, CpuClock};
 
 /// Frames of 1024 minislots of 25 microseconds.
 pub const WIDE: Config = Config {
@@ -111,12 +111,12 @@ fn is_wanted(answer: &Result<Reply, Unrecorded>, wanted: Wanted) -> bool {
 }
 
 // The nanoseconds of a call with this reply.
-fn time_call<R: Clock>(
+fn time_call<R: Clock + CpuClock>(
     rt: &R,
     scheduler: &mut Scheduler,
     call: Call,
     wanted: Wanted,
-) -> Option<u64> {
+) -> Option<Took> {
     let start = now(rt);
     let answer = scheduler.call(STAMP, call);
     let end = now(rt);
@@ -125,7 +125,7 @@ fn time_call<R: Clock>(
 }
 
 /// The nanoseconds of an admission that finds no place in any frame of the cycle: 39 flows fill each of them.
-pub fn time_admission<R: Clock>(rt: &R, alloc: Global) -> Option<u64> {
+pub fn time_admission<R: Clock + CpuClock>(rt: &R, alloc: Global) -> Option<Took> {
     let mut scheduler = open(alloc)?;
     for sid in 1..40u16 {
         make(&mut scheduler, STAMP, Call::Admit(sid, grants_every(1, 0)));
@@ -136,7 +136,7 @@ pub fn time_admission<R: Clock>(rt: &R, alloc: Global) -> Option<u64> {
 
 /// The nanoseconds of a build with 93 data grants, 40 polls and 64 pending grants: each of 64 flows has asked for
 /// more than a frame carries.
-pub fn time_build<R: Clock>(rt: &R, alloc: Global) -> Option<u64> {
+pub fn time_build<R: Clock + CpuClock>(rt: &R, alloc: Global) -> Option<Took> {
     let mut scheduler = open(alloc)?;
     for sid in 1..65u16 {
         make(&mut scheduler, STAMP, Call::Admit(sid, capped(sid)));

@@ -1,7 +1,7 @@
 //! The same calls of a scheduler by the workers of a storm at once, and by one thread without a lock.
 
 use crate::frames::{WIDE, make};
-use crate::run::{figure, now};
+use crate::run::{Took, figure, now};
 use flow_book::FlowSpec;
 use minislots::{Checked, Config, Stamp};
 use sched_history::{Call, Entry, Reply, Scheduler};
@@ -9,7 +9,7 @@ use sched_storm::{Open, storm_with};
 use std::alloc::{AllocError, Global};
 use std::sync::Wait;
 use std::thread::Threads;
-use std::time::Clock;
+use std::time::{Clock, CpuClock};
 
 /// How many calls each worker makes.
 pub const CALLS: usize = 40_000;
@@ -91,11 +91,11 @@ fn config() -> Option<Checked> {
 }
 
 /// Times a storm of so many workers, 1 to 16, from the opening of its scheduler to its close.
-pub fn time_storm<R: Threads + Wait + Sync + Clock>(
+pub fn time_storm<R: Threads + Wait + Sync + Clock + CpuClock>(
     rt: &R,
     alloc: Global,
     workers: usize,
-) -> Option<u64> {
+) -> Option<Took> {
     let checked = config()?;
     let Ok(scripts) = scripts_of(alloc, workers) else {
         return None;
@@ -110,7 +110,7 @@ pub fn time_storm<R: Threads + Wait + Sync + Clock>(
 }
 
 /// Times the same calls of one worker, from the opening of its scheduler on, without a lock.
-pub fn time_bare<R: Clock>(rt: &R, alloc: Global) -> Option<u64> {
+pub fn time_bare<R: Clock + CpuClock>(rt: &R, alloc: Global) -> Option<Took> {
     let checked = config()?;
     let Ok(calls) = script_of(alloc, 0) else {
         return None;

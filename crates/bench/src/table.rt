@@ -3,16 +3,20 @@
 use crate::frames::{time_admission, time_build};
 use crate::locked::time_lock;
 use crate::mutexed::time_mutex;
+use crate::run::{Load, Took};
 use crate::storms::{CALLS, time_bare, time_storm};
-use crate::tally::{Added, TURNS};
+use crate::tally::{Added, Desk, Tally, Turning};
 use std::alloc::Global;
 use std::io;
 use std::sync::Wait;
 use std::thread::Threads;
-use std::time::Clock;
+use std::time::{Clock, CpuClock};
 
 // How often each figure is taken. The middle one is shown.
 const RUNS: usize = 5;
+
+// How many turns are taken in one run, by all threads together.
+const TURNS: usize = 400_000;
 
 // What is left of a figure once it is printed: nothing, or none where it could not be.
 fn shown(printed: io::Result<()>) -> Option<()> {
@@ -29,24 +33,37 @@ fn middle(nanos: [u64; RUNS]) -> u64 {
     nanos[RUNS / 2]
 }
 
-// The nanoseconds of runs at a ticket lock and at a mutex by turns, the middle one of each.
-fn lock_figures<R: Threads + Wait + Sync + Clock>(
-    rt: &R,
-    alloc: Global,
-    workers: usize,
-    added: Added,
-) -> Option<(u64, u64)> {
-    let (mut tickets, mut mutexes) = ([0u64; RUNS], [0u64; RUNS]);
-    for i in 0..RUNS {
-        tickets[i] = time_lock(rt, alloc, workers, added)?;
-        mutexes[i] = time_mutex(rt, alloc, workers, added)?;
+// The middle of runs, by the clock and of all processors.
+fn middle_of(runs: [Took; RUNS]) -> Took {
+    let (mut wall, mut used) = ([0u64; RUNS], [0u64; RUNS]);
+    for (i, run) in runs.iter().enumerate() {
+        wall[i] = run.wall;
+        used[i] = run.used;
     }
-    Some((middle(tickets), middle(mutexes)))
+    Took {
+        wall: middle(wall),
+        used: middle(used),
+    }
 }
 
-// Tenths of a nanosecond for each turn of so many threads.
-fn tenths_of(nanos: u64, workers: usize) -> u64 {
-    nanos.saturating_mul(10) / (workers.saturating_mul(TURNS) as u64).max(1)
+// What runs at a ticket lock and at a mutex took by turns, the middle one of each.
+fn lock_figures<T: Turning + Drop + Send, R: Threads + Wait + Sync + Clock + CpuClock>(
+    rt: &R,
+    alloc: Global,
+    load: Load,
+) -> Option<(Took, Took)> {
+    let none = Took { wall: 0, used: 0 };
+    let (mut tickets, mut mutexes) = ([none; RUNS], [none; RUNS]);
+    for i in 0..RUNS {
+        tickets[i] = time_lock::<T, R>(rt, alloc, load)?;
+        mutexes[i] = time_mutex::<T, R>(rt, alloc, load)?;
+    }
+    Some((middle_of(tickets), middle_of(mutexes)))
+}
+
+// Tenths of a nanosecond for each of so many turns.
+fn tenths_of(nanos: u64, turns: usize) -> u64 {
+    nanos.saturating_mul(10) / (turns as u64).max(1)
 }
 
 // Prints a number of tenths, hundredths or the like, with as many digits after the point.
@@ -62,28 +79,55 @@ fn print_parts<R: Print>(
 }
 
 // Prints one row of the locks.
-fn print_row<R: Threads + Wait + Sync + Clock + Print>(
+fn print_row<T: Turning + Drop + Send, R: Threads + Wait + Sync + Clock + CpuClock + Print>(
     rt: &R,
     alloc: Global,
-    workers: usize,
-    added: Added,
+    bytes: usize,
+    load: Load,
 ) -> Option<()> {
-    let (ticket, mutex) = lock_figures(rt, alloc, workers, added)?;
-    let (ticket, mutex) = (tenths_of(ticket, workers), tenths_of(mutex, workers));
-    shown(print!(rt; "{workers:>7} {:>7}", added.name()))?;
-    print_parts(rt, 9, ticket, 10, 1)?;
-    print_parts(rt, 9, mutex, 10, 1)?;
-    print_parts(rt, 5, ticket.saturating_mul(100) / mutex.max(1), 100, 2)?;
+    let (ticket, mutex) = lock_figures::<T, R>(rt, alloc, load)?;
+    let turns = load.all_turns();
+    shown(print!(rt; "{:>7} {bytes:>5} {:>7}", load.threads, load.added.name()))?;
+    for nanos in [ticket.wall, ticket.used, mutex.wall, mutex.used] {
+        print_parts(rt, 9, tenths_of(nanos, turns), 10, 1)?;
+    }
+    print_parts(
+        rt,
+        4,
+        ticket.wall.saturating_mul(100) / mutex.wall.max(1),
+        100,
+        2,
+    )?;
     shown(rt.println(""))
 }
 
-/// Prints the nanoseconds for each turn at a ticket lock, at a mutex, and the first as a multiple of the second.
-pub fn print_lock<R: Threads + Wait + Sync + Clock + Print>(rt: &R, alloc: Global) -> Option<()> {
-    shown(rt.println("threads   added ticket_lock       Mutex    ratio"))?;
+// Prints the rows of so many threads.
+fn print_rows<R: Threads + Wait + Sync + Clock + CpuClock + Print>(
+    rt: &R,
+    alloc: Global,
+    threads: usize,
+) -> Option<()> {
     for added in [Added::Nothing, Added::Entry] {
-        for workers in [1, 2, 4] {
-            print_row(rt, alloc, workers, added)?;
-        }
+        let load = Load {
+            threads,
+            turns: TURNS / threads.max(1),
+            added,
+        };
+        print_row::<Desk, R>(rt, alloc, 8, load)?;
+        print_row::<Tally, R>(rt, alloc, 32, load)?;
+    }
+    Some(())
+}
+
+/// Prints the nanoseconds for each turn at a ticket lock and at a mutex, by the clock and of all processors,
+/// and the first as a multiple of the mutex's, for values of one pointer and of 32 bytes.
+pub fn print_lock<R: Threads + Wait + Sync + Clock + CpuClock + Print>(
+    rt: &R,
+    alloc: Global,
+) -> Option<()> {
+    shown(rt.println("threads bytes   added ticket_lock  all CPUs     Mutex   all CPUs   ratio"))?;
+    for threads in [1, 2, 4, 16, 64] {
+        print_rows(rt, alloc, threads)?;
     }
     Some(())
 }
@@ -94,11 +138,11 @@ fn print_call<R: Print>(rt: &R, name: &str, nanos: u64) -> Option<()> {
 }
 
 /// Prints the microseconds of the costliest admission and of the costliest build.
-pub fn print_frames<R: Clock + Print>(rt: &R, alloc: Global) -> Option<()> {
+pub fn print_frames<R: Clock + CpuClock + Print>(rt: &R, alloc: Global) -> Option<()> {
     let (mut admissions, mut builds) = ([0u64; RUNS], [0u64; RUNS]);
     for i in 0..RUNS {
-        admissions[i] = time_admission(rt, alloc)?;
-        builds[i] = time_build(rt, alloc)?;
+        admissions[i] = time_admission(rt, alloc)?.wall;
+        builds[i] = time_build(rt, alloc)?.wall;
     }
     print_call(rt, "no place", middle(admissions))?;
     print_call(rt, "93 grants and 40 polls", middle(builds))
@@ -110,23 +154,23 @@ fn rate(nanos: u64, calls: usize) -> u64 {
 }
 
 // Calls per second of a scheduler without a lock.
-fn bare_rate<R: Clock>(rt: &R, alloc: Global) -> Option<u64> {
+fn bare_rate<R: Clock + CpuClock>(rt: &R, alloc: Global) -> Option<u64> {
     let mut nanos = [0u64; RUNS];
     for i in 0..RUNS {
-        nanos[i] = time_bare(rt, alloc)?;
+        nanos[i] = time_bare(rt, alloc)?.wall;
     }
     Some(rate(middle(nanos), CALLS))
 }
 
 // Calls per second of a storm of so many workers.
-fn storm_rate<R: Threads + Wait + Sync + Clock>(
+fn storm_rate<R: Threads + Wait + Sync + Clock + CpuClock>(
     rt: &R,
     alloc: Global,
     workers: usize,
 ) -> Option<u64> {
     let mut nanos = [0u64; RUNS];
     for i in 0..RUNS {
-        nanos[i] = time_storm(rt, alloc, workers)?;
+        nanos[i] = time_storm(rt, alloc, workers)?.wall;
     }
     Some(rate(middle(nanos), workers.saturating_mul(CALLS)))
 }
@@ -139,7 +183,10 @@ fn print_rate<R: Print>(rt: &R, calls: u64, bare: u64) -> Option<()> {
 }
 
 /// Prints the calls per second of a scheduler without a lock, and of storms, as multiples of the first.
-pub fn print_storm<R: Threads + Wait + Sync + Clock + Print>(rt: &R, alloc: Global) -> Option<()> {
+pub fn print_storm<R: Threads + Wait + Sync + Clock + CpuClock + Print>(
+    rt: &R,
+    alloc: Global,
+) -> Option<()> {
     shown(rt.println("workers calls per second   ratio"))?;
     let bare = bare_rate(rt, alloc)?;
     shown(rt.print("no lock"))?;

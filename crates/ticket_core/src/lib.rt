@@ -23,11 +23,11 @@ pub const GRANTS: usize = 64;
 pub enum Step {
     /// An idle seat draws the next ticket and waits with it: a fetch-and-add on `next`.
     Draw,
-    /// A waiting seat finds that an earlier ticket is served: a load of `serving`.
+    /// A waiting seat finds that an earlier ticket is served: a load of its ticket's word.
     Look,
-    /// A waiting seat finds that its ticket is served, and holds the lock: a load of `serving`.
+    /// A waiting seat finds that its ticket is served, and holds the lock: a load of its ticket's word.
     Enter,
-    /// The holder gives the lock up, and is idle: a fetch-and-add on `serving`.
+    /// The holder gives the lock up, and is idle: a store of the next ticket into that ticket's word.
     Leave,
 }
 
@@ -139,6 +139,7 @@ impl World {
         requires { index < 64 }
         ensures grant { ShowsGrant self.now index result }
         ensures tells { TellsTurns self.now index result }
+        ensures lawful { StandForLawful self.now }
     {
         let past = self.serving.wrapping_sub(index as u64) % GRANTS as u64;
         self.serving.wrapping_sub(past)

@@ -10,13 +10,13 @@ pub take_all-seats-requires-after_bounds : goal.take_all-seats-requires-after_bo
 take_all-seats-requires-after_bounds g c κs within =
     let opened = c.in-Ok-open.ensures.opened in
     subst (AreSeatsOf c.in-Ok-open.lock) (sym opened.seats_are)
-    (new_standings-own c.in-Ok-open.lock (range_with_len 0 c.args.workers))
+    (new_standings-own c.in-Ok-open.lock (range_with_len 0 c.args.load.threads))
 
-pub close-tally-requires-clause-all : goal.close-tally-requires-clause-all
-close-tally-requires-clause-all g c =
+pub close-value-requires-clause-all : goal.close-value-requires-clause-all
+close-value-requires-clause-all g c =
     let opened = c.in-Ok-open.ensures.opened in
-    let made = ap length opened.seats_are ∙ length-new_standings c.in-Ok-open.lock 0 c.args.workers in
-    let wanted : seats_of c.in-Ok-open.lock ≡ c.args.workers = rw opened.about_is in
+    let made = ap length opened.seats_are ∙ length-new_standings c.in-Ok-open.lock 0 c.args.load.threads in
+    let wanted : seats_of c.in-Ok-open.lock ≡ c.args.load.threads = rw opened.about_is in
     let same = c.take_all-seats.ensures.len in
     let back = c.take_all-seats.result.ok.0 in
     let given = c.in-Ok-open.seats.ok.0 in
