@@ -1,7 +1,7 @@
 -- One step of the search for the flow that is served first.
 use Rattle.std.proofs.Common.{◌≡◌, sym, ap, ◌∙◌, ℕ, ◌+◌, ◌<◌, Bool, true, false, List, [], ◌∷◌, ◌++◌, map, length}
 use Rattle.std.proofs.Common.{get_or, take, drop, Option, None, Some, IsTrue, MatchOption, Bor, option_map}
-use Rattle.std.proofs.Common.{option_copied, IfSome, arith}
+use Rattle.std.proofs.Common.{option_copied, IfSome, ◌&&◌, ◌⊎◌, inl, inr, refl, arith}
 use Rattle.std.specs.List.{AllByRecursion}
 use Rattle.std.proofs.Math.ListN.{get_or-map}
 use Rattle.std.proofs.lemmas.List.Elements.{All-from_recursion}
@@ -27,6 +27,17 @@ module _ {X Y : Type 0} (h : X → Y) (items : List X) (i : ℕ) (x : X) (lt : i
   all-item P all =
       let at : h x ≡ get_or (map h items) i (h x) = ap h is ∙ sym (get_or-map h items i x) in
       rw at (All-from_recursion P (map h items) all i (h x) (omega (arith, length-map items h)))
+
+-- of two tests of which not both pass one fails
+pub both-true : (a b r : Bool) → r ≡ (a && b) → r ≡ true → (a ≡ true) × (b ≡ true)
+both-true true true r is e = (refl, refl)
+both-true true false r is e = absurd (cc)
+both-true false b r is e = absurd (cc)
+
+pub both-false : (a b r : Bool) → r ≡ (a && b) → r ≡ false → (a ≡ false) ⊎ (b ≡ false)
+both-false true true r is e = absurd (cc)
+both-false true false r is e = inr refl
+both-false false b r is e = inl refl
 
 -- those before it have lower SIDs
 pub lower-item : (items : List Flow) (i : ℕ) (f : Flow) → i < length items → f ≡ get_or items i f

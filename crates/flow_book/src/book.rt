@@ -125,6 +125,14 @@ impl Book {
         self.at(sid).outstanding()
     }
 
+    /// The bytes that a live flow asked and was not granted, by its place, from 0, in the order of SIDs.
+    pub fn outstanding_at(&self, index: usize) -> u64
+        requires { index < length self.now.flows }
+        ensures { option_map outstanding (slice_get self.now.flows index) ≡ Some result }
+    {
+        self.flows[index].outstanding()
+    }
+
     /// Adds a flow that has asked and been granted nothing. No flow has its SID. Where memory runs out
     /// nothing changes.
     pub fn admit(&mut self, sid: u16, spec: FlowSpec) -> Result<(), AllocError>

@@ -1,7 +1,7 @@
 //! One live flow: what it asked, and what its data grants come to.
 
 ghost use Rattle.std.specs.Prelude.{◌≡◌, ℕ, ◌+◌, ◌-◌, ◌<◌, ◌≤◌, map, length, slice_index_or, IsTrue};
-ghost use Rattle.std.specs.Prelude.{◌↔◌, None, nat_lt, MatchOption, IfSome, option_map};
+ghost use Rattle.std.specs.Prelude.{◌↔◌, None, nat_lt, ◌&&◌, MatchOption, IfSome, option_map};
 ghost use Rattle.std.specs.Prelude.{option_copied};
 ghost use Rattle.std.specs.List.{AllByRecursion};
 ghost use Rattle.minislots.specs.declared.config.Config.{Config};
@@ -174,7 +174,7 @@ pub(crate) fn first_eligible<'a>(
 {
     let mut next = None;
     for flow in flows {
-        if flow.waits() && flow.comes_before(next) && flow.is_eligible(config, start, room) {
+        if both(flow.waits(), flow.comes_before(next)) && flow.is_eligible(config, start, room) {
             next = Some(flow);
         }
     }
@@ -192,6 +192,13 @@ pub(crate) fn reserve_each(flows: &mut [Flow], grants: usize)
     for flow in flows.iter_mut() {
         flow.grants = GrantList::with_room(&flow.grants, &grants);
     }
+}
+
+// Both at once: with one branch for the two, which is hardly ever taken.
+fn both(a: bool, b: bool) -> bool
+    ensures { result ≡ (a && b) }
+{
+    a & b
 }
 
 // The turn of a flow of this rank before its first data grant. Each start of a last one comes behind it,

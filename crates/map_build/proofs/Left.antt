@@ -1,6 +1,6 @@
 -- The spots that are left at an offset, as the walk along the frame goes on.
 use Rattle.std.proofs.Common.{◌≡◌, ℕ, zero, ◌+◌, ◌<◌, ◌≤◌, min, Bool, true, false, nat_le, nat_lt, ◌==◌, List, []}
-use Rattle.std.proofs.Common.{◌∷◌, find, slice_get, Contains, None, Some, if◌then◌else◌, refl, sym, ap, ◌∙◌, arith}
+use Rattle.std.proofs.Common.{◌∷◌, find, slice_get, None, Some, if◌then◌else◌, refl, ap, ◌∙◌, arith}
 use Rattle.std.specs.Prelude.{MatchOption}
 use Rattle.std.specs.List.{AllByRecursion}
 use Rattle.std.proofs.lemmas.Bool.{le-leb, cond_both}

@@ -1,6 +1,6 @@
 -- The pending grants of flows, as they are gone through.
 use Rattle.std.proofs.Common.{◌≡◌, ℕ, ◌+◌, ◌<◌, true, nat_lt, ◌==◌, List, [], ◌∷◌, ◌++◌, length, take, slice_get}
-use Rattle.std.proofs.Common.{get_or, Option, None, Some, refl, ap, ◌∙◌, arith}
+use Rattle.std.proofs.Common.{get_or, Option, None, Some, option_map, refl, sym, ap, ◌∙◌, arith}
 use Rattle.std.specs.Option.{IfSome}
 use Rattle.std.proofs.lemmas.Bool.Decides.{nat_tests}
 use Rattle.std.proofs.lemmas.List.{map-append, append_assoc, take_more}
@@ -45,6 +45,12 @@ PutsPending-some sid left old new end waits puts (Some f) named is =
       start = puts.start;
       grants = puts.grants;
     }
+
+-- what is outstanding of a flow that is found
+pub found-outstanding : (o : Option LiveFlow) (left : ℕ) → option_map outstanding o ≡ Some left →
+    IfSome o (λ f. left ≡ outstanding f)
+found-outstanding None left is = tt
+found-outstanding (Some f) left is = let same : outstanding f ≡ left = cc in sym same
 
 -- the flow that is found has the SID
 pub found-sid : (sid : ℕ) (flows : List LiveFlow) (f : LiveFlow) → flow_of sid flows ≡ Some f → f.sid ≡ sid

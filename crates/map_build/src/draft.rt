@@ -1,9 +1,10 @@
 //! The MAP of one frame while it is made.
 
 ghost use Rattle.std.specs.Prelude.{◌≡◌, ℕ, ◌<◌, ◌≤◌, ◌+◌, ◌^◌, List, [], ◌∷◌, IfOk, OnOk, IfSome};
+ghost use Rattle.std.specs.Prelude.{length, slice_get};
 ghost use Rattle.std.specs.List.{AllByRecursion};
 ghost use Rattle.map_codec.specs.WireMap.{FitsHeader};
-ghost use Rattle.flow_book.specs.Flows.{flow_of};
+ghost use Rattle.flow_book.specs.Flows.{flow_of, outstanding};
 ghost use Rattle.flow_book.specs.Book.{IsLive, room_of};
 ghost use Rattle.flow_book.specs.Choice.{HasStartedBy};
 ghost use Rattle.periodic.specs.declared.placement.Spot.{Spot};
@@ -117,19 +118,30 @@ impl Draft {
     {
         for i in 0..self.book.len() {
             let sid = self.book.sid_at(i);
-            self.put_pending_of(sid)?;
+            self.put_pending_of(sid, i)?;
         }
         Ok(())
     }
 
+    // The bytes outstanding of the flow with this SID, by its place.
+    fn outstanding_of(&self, sid: u16, place: usize) -> u64
+        requires inside { place < length self.now.book.flows }
+        requires here { flow_of sid self.now.book.flows ≡ slice_get self.now.book.flows place }
+        ensures { IfSome (flow_of sid self.now.book.flows) (λ f. result ≡ outstanding f) }
+    {
+        let _ = sid;
+        self.book.outstanding_at(place)
+    }
+
     // The pending grant of a flow, if it has bytes outstanding.
-    fn put_pending_of(&mut self, sid: u16) -> Result<(), AllocError>
-        requires live { IsLive sid self.old.book.flows }
+    fn put_pending_of(&mut self, sid: u16, place: usize) -> Result<(), AllocError>
+        requires inside { place < length self.old.book.flows }
+        requires here { flow_of sid self.old.book.flows ≡ slice_get self.old.book.flows place }
         requires end { self.old.offset ≡ self.old.book.config.frame }
         ensures { OnOk result (IfSome (flow_of sid self.old.book.flows)
             (λ f. PutsPending (f ∷ []) self.old self.new)) }
     {
-        if self.book.outstanding(sid) > 0 {
+        if self.outstanding_of(sid, place) > 0 {
             self.put(sid, iuc::LONG_DATA_GRANT, 0)?;
         }
         Ok(())

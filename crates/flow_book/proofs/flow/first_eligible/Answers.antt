@@ -1,5 +1,5 @@
 -- Each flow is compared with the next of those before it.
-use Rattle.std.proofs.Common.{◌≡◌, map, take, true, false, nat_lt, arith}
+use Rattle.std.proofs.Common.{◌≡◌, map, take, true, false, nat_lt, inl, inr, arith}
 use Rattle.std.proofs.lemmas.Bool.Decides.{nat_tests}
 use Rattle.std.proofs.lemmas.List.Elements.{All-from_recursion}
 use Rattle.flow_book.specs.Flows.{outstanding}
@@ -7,11 +7,10 @@ use Rattle.flow_book.specs.Choice.{HasStartedBy}
 use Rattle.flow_book.specs.Entry.{live, IsSoundFlow, KeepsSums}
 use Rattle.flow_book.proofs.Order.{next-passes}
 use Rattle.flow_book.proofs.Steps.{taken-item, all-item, lower-item, next-lower, step-changes, step-stays}
+use Rattle.flow_book.proofs.Steps.{both-true, both-false}
 use Rattle.flow_book.proofs.flow.first_eligible.Goals as goal
-use Rattle.flow_book.proofs.flow.first_eligible.Goals.{then-waits+then-comes_before+then-is_eligible, else-waits}
-use Rattle.flow_book.proofs.flow.first_eligible.Goals.{else-waits-via-then-waits+then-comes_before+else-is_eligible}
-use Rattle.flow_book.proofs.flow.first_eligible.Goals.{else-waits-via-then-waits+else-comes_before}
-use Rattle.flow_book.proofs.flow.first_eligible.Goals.{else-waits-via-else-waits}
+use Rattle.flow_book.proofs.flow.first_eligible.Goals.{then-both+then-is_eligible, else-both}
+use Rattle.flow_book.proofs.flow.first_eligible.Goals.{else-both-via-then-both+else-is_eligible, else-both-via-else-both}
 
 pub is_eligible-requires-clause-sound : goal.is_eligible-requires-clause-sound
 is_eligible-requires-clause-sound c =
@@ -47,32 +46,29 @@ loop-flow-preserved c =
     let keeps : KeepsSums c.args.config.now f =
     rw c.flow-item.is (All-from_recursion (KeepsSums c.args.config.now) items c.requires.sums i f c.loop-flow-test.true)
     in
-    elim c.if-waits.branch [
-      | then-waits+then-comes_before+then-is_eligible w ↦ rw (taken, w.next-is) (record {
-        next = step-changes c.args.config.now c.args.start c.args.room flows f c.loop-flow.next w.comes_before.result
-            c.loop-flow.invariant.next (w.is_eligible.ensures.0 w.if-is_eligible.true) w.comes_before.ensures
-            w.if-comes_before.true;
+    let lower = lower-item items i f c.loop-flow-test.true c.flow-item.is c.requires.sound.ascending in
+    elim c.if-both.branch [
+      | then-both+then-is_eligible w ↦ rw (taken, w.next-is) (record {
+        next = step-changes c.args.config.now c.args.start c.args.room flows f c.loop-flow.next c.comes_before.result
+            c.loop-flow.invariant.next (w.is_eligible.ensures.0 w.if-is_eligible.true) c.comes_before.ensures
+            (both-true c.waits.result c.comes_before.result c.both.result c.both.ensures w.if-both.true).1;
         known = keeps.turn;
       })
-      | else-waits w ↦ elim w.else-waits.branch [
-        | else-waits-via-then-waits+then-comes_before+else-is_eligible v ↦ rw (taken, w.next-is) (record {
+      | else-both w ↦ elim w.else-both.branch [
+        | else-both-via-then-both+else-is_eligible v ↦ rw (taken, w.next-is) (record {
           next = next-passes c.args.config.now c.args.start c.args.room flows _ (live f) c.loop-flow.invariant.next
               (λ may. let t : v.is_eligible.result ≡ true = v.is_eligible.ensures.1 may in
               let e : v.is_eligible.result ≡ false = v.if-is_eligible.false in cc);
           known = c.loop-flow.invariant.known;
         })
-        | else-waits-via-then-waits+else-comes_before v ↦ rw (taken, w.next-is) (record {
-          next = step-stays c.args.config.now c.args.start c.args.room flows f c.loop-flow.next v.comes_before.result
-              c.loop-flow.invariant.next
-              (lower-item items i f c.loop-flow-test.true c.flow-item.is c.requires.sound.ascending)
-              v.comes_before.ensures v.if-comes_before.false;
-          known = c.loop-flow.invariant.known;
-        })
-        | else-waits-via-else-waits v ↦ rw (taken, w.next-is) (record {
-          next = next-passes c.args.config.now c.args.start c.args.room flows _ (live f) c.loop-flow.invariant.next
-              (λ may. let some = may.waits in
-              let t : c.waits.result ≡ nat_lt 0 (outstanding (live f)) = c.waits.ensures in
-              let e : c.waits.result ≡ false = v.if-waits.false in grind (arith, nat_tests));
+        | else-both-via-else-both v ↦ rw (taken, w.next-is) (record {
+          next = elim (both-false c.waits.result c.comes_before.result c.both.result c.both.ensures v.if-both.false) [
+            | inl idle ↦ next-passes c.args.config.now c.args.start c.args.room flows _ (live f)
+                c.loop-flow.invariant.next (λ may. let some = may.waits in
+                let t : c.waits.result ≡ nat_lt 0 (outstanding (live f)) = c.waits.ensures in grind (arith, nat_tests))
+            | inr after ↦ step-stays c.args.config.now c.args.start c.args.room flows f c.loop-flow.next
+                c.comes_before.result c.loop-flow.invariant.next lower c.comes_before.ensures after
+          ];
           known = c.loop-flow.invariant.known;
         })
       ]
