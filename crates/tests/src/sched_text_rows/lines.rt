@@ -11,21 +11,21 @@ use std::test::Fail;
 // How many starts a placement has whose line has so many bytes, 12 at least, and its first nominal minislot.
 fn starts_and_reference(len: usize) -> (usize, u64) {
     if len % 2 == 1 {
-        ((len - 11) / 2, 0)
+        (len.saturating_sub(11) / 2, 0)
     } else {
-        ((len - 12) / 2, 10)
+        (len.saturating_sub(12) / 2, 10)
     }
 }
 
-// The answer whose line has so many bytes: an admission at starts of one digit.
-fn answer_of(alloc: Global, len: usize) -> Result<Reply, AllocError> {
+// The placement of an admission whose line has so many bytes: starts of one digit.
+fn placement_of(alloc: Global, len: usize) -> Result<Placement, AllocError> {
     let (count, reference) = starts_and_reference(len);
     let mut starts = Vec::new(alloc);
     for _ in 0..count {
         starts.push(7)?;
     }
     let starts = Starts::from_vec(starts);
-    Ok(Reply::Admitted(Some(Placement { reference, starts })))
+    Ok(Placement { reference, starts })
 }
 
 // That line.
@@ -50,7 +50,8 @@ fn text_of(alloc: Global, len: usize) -> Result<String, AllocError> {
 // Writes these lines.
 fn write_lines(alloc: Global, writer: &mut Keeping, len: usize) -> Result<(), TextFault> {
     let mut lines = LineBuffer::new();
-    lines.put_line(writer, &Ok(answer_of(alloc, len)?))?;
+    let admitted = Reply::Admitted(Some(placement_of(alloc, len)?));
+    lines.put_line(writer, &Ok(admitted))?;
     lines.put_line(writer, &Err(Unrecorded::HistoryFull))?;
     lines.put_line(writer, &Err(Unrecorded::HistoryFull))?;
     lines.put_line(writer, &Err(Unrecorded::Memory))?;
