@@ -1,16 +1,14 @@
 -- From what the table tells of an entry to what callers see.
-use Rattle.std.proofs.Common.{◌≡◌, ℕ, ◌+◌, ◌%◌, ◌^◌, List, [], ◌∷◌, ◌++◌, map, Option, Some, refl, sym, ap, ◌∙◌, subst}
-use Rattle.std.proofs.lemmas.Option.{same_Some}
+use Rattle.std.proofs.Common.{◌≡◌, ℕ, List, ◌++◌, map, Option, Some, sym, ap, ◌∙◌, subst}
 use mathlib.Core.Option.{none}
 use Rattle.atomic_table.specs.Table.{Me, step}
 use Rattle.atomic_table.specs.Seated.{TableId}
 use Rattle.minislots.specs.declared.stamp.Stamp.{Stamp}
 use Rattle.ticket_lock.specs.declared.board.About.{About}
-use Rattle.ticket_lock.specs.declared.board.Logged.{Logged}
 use Rattle.ticket_lock.specs.declared.board.Part.{Part}
 use Rattle.ticket_lock.specs.declared.board.View.{View}
 use Rattle.ticket_lock.specs.Rule.{entry_of, head_in, IsOfOthers, IsOrdered}
-use Rattle.ticket_lock.specs.Standing.{Lock, Standing, opening_in, seats_in, first_in, ticket_in, number_in, log_in}
+use Rattle.ticket_lock.specs.Standing.{Standing, opening_in, seats_in, first_in, ticket_in, number_in, log_in}
 use Rattle.ticket_lock.specs.Standing.{turns_in, standing_of}
 use Rattle.ticket_lock.specs.Plays.{entered_view, Looked}
 use Rattle.ticket_lock.specs.Calls.{Enters}

@@ -1,5 +1,5 @@
 -- The seat that looked and entered is that of the ticket.
-use Rattle.std.proofs.Common.{rules, ap, ◌∙◌, sym, subst}
+use Rattle.std.proofs.Common.{ap, ◌∙◌, sym, subst}
 use Rattle.std.proofs.lemmas.Option.{same_Some}
 use Rattle.ticket_lock.specs.Standing.{Standing}
 use Rattle.ticket_lock.specs.Calls.{Enters}
