@@ -192,7 +192,7 @@ fn is_lawful(reference: u64, starts: &[u16]) -> bool {
     window
         && starts.iter().all(|start| {
             let start = u64::from(*start);
-            offset <= start && start <= offset + 32 && start <= 25 && (!taken || start >= 19)
+            offset <= start && start - offset <= 32 && start <= 25 && (!taken || start >= 19)
         })
 }
 
@@ -200,7 +200,7 @@ fn is_lawful(reference: u64, starts: &[u16]) -> bool {
 fn drawn_placements_are_judged_by_the_definition(rt: HostRuntime) -> Result<(), Fail> {
     let alloc = rt.alloc();
     let mut state: u64 = 7;
-    let mut lawful = 0;
+    let mut lawful: u32 = 0;
     for _ in 0..2_000 {
         state = state
             .wrapping_mul(6_364_136_223_846_793_005)
@@ -220,7 +220,7 @@ fn drawn_placements_are_judged_by_the_definition(rt: HostRuntime) -> Result<(), 
             verdict.as_str() == expected,
             "{reference} {starts:?}: {verdict}"
         );
-        lawful += u32::from(is);
+        lawful = lawful.saturating_add(u32::from(is));
     }
     assert!(rt;
         (100..1_900).contains(&lawful),
