@@ -4,7 +4,9 @@
 mod frames;
 mod locked;
 mod mutexed;
+mod readers;
 mod run;
+mod rwlocked;
 mod storms;
 mod table;
 mod tally;
@@ -39,9 +41,10 @@ fn main(rt: HostRuntime) -> ExitCode {
     match word.as_str() {
         "lock" => status_of(table::print_lock(&rt, rt.alloc())),
         "storm" => status_of(table::print_storm(&rt, rt.alloc())),
+        "readers" => status_of(table::print_readers(&rt, rt.alloc())),
         "frames" => status_of(table::print_frames(&rt, rt.alloc())),
         _ => {
-            let _ = rt.eprintln("usage: bench [lock|frames|storm]");
+            let _ = rt.eprintln("usage: bench [lock|frames|readers|storm]");
             ExitCode::from(2)
         }
     }

@@ -3,7 +3,9 @@
 use crate::frames::{time_admission, time_build};
 use crate::locked::time_lock;
 use crate::mutexed::time_mutex;
+use crate::readers::{Pace, READS, time_readers};
 use crate::run::{Load, Took};
+use crate::rwlocked::time_rwlock;
 use crate::storms::{CALLS, time_bare, time_storm};
 use crate::tally::{Added, Desk, Tally, Turning};
 use std::alloc::Global;
@@ -195,6 +197,55 @@ pub fn print_storm<R: Threads + Wait + Sync + Clock + CpuClock + Print>(
         let calls = storm_rate(rt, alloc, workers)?;
         shown(print!(rt; "{workers:>7}"))?;
         print_rate(rt, calls, bare)?;
+    }
+    Some(())
+}
+
+// The nanoseconds of runs of so many readers of a press and of a lock by turns, the middle one of each.
+fn reader_figures<R: Threads + Wait + Sync + Clock>(
+    rt: &R,
+    alloc: Global,
+    readers: usize,
+    pace: Pace,
+) -> Option<(u64, u64)> {
+    let (mut presses, mut locks) = ([0u64; RUNS], [0u64; RUNS]);
+    for i in 0..RUNS {
+        presses[i] = time_readers(rt, alloc, readers, pace)?;
+        locks[i] = time_rwlock(rt, readers, pace)?;
+    }
+    Some((middle(presses), middle(locks)))
+}
+
+// Prints one row of the readers.
+fn print_reader<R: Threads + Wait + Sync + Clock + Print>(
+    rt: &R,
+    alloc: Global,
+    readers: usize,
+    pace: Pace,
+) -> Option<()> {
+    let (press, lock) = reader_figures(rt, alloc, readers, pace)?;
+    let (press, lock) = (
+        press.saturating_mul(10) / READS as u64,
+        lock.saturating_mul(10) / READS as u64,
+    );
+    shown(print!(rt; "{readers:>7} {:>13}", pace.name()))?;
+    print_parts(rt, 7, press, 10, 1)?;
+    print_parts(rt, 7, lock, 10, 1)?;
+    print_parts(rt, 5, press.saturating_mul(100) / lock.max(1), 100, 2)?;
+    shown(rt.println(""))
+}
+
+/// Prints the nanoseconds of each read of the newest map of a kilobyte by each of so many readers, of each read of as
+/// many bytes under a read lock, and the first as a multiple of the second.
+pub fn print_readers<R: Threads + Wait + Sync + Clock + Print>(
+    rt: &R,
+    alloc: Global,
+) -> Option<()> {
+    shown(rt.println("readers     published    newest    RwLock    ratio"))?;
+    for pace in [Pace::Once, Pace::Thousand, Pace::Always] {
+        for readers in [1, 3] {
+            print_reader(rt, alloc, readers, pace)?;
+        }
     }
     Some(())
 }

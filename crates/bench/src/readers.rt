@@ -1,0 +1,152 @@
+//! Reads of the newest map of a press, while maps are published.
+ghost use Rattle.std.specs.Prelude.{◌≡◌, ◌+◌, ◌≤◌, true, [], length};
+ghost use Rattle.map_snapshot.specs.declared.printed.TheConstants.{MAX_BYTES};
+
+use crate::run::{figure, now};
+use map_snapshot::{MAX_BYTES, Press, Printed, Reader, open_press};
+use std::alloc::Global;
+use std::sync::Wait;
+use std::sync::atomic::Ordering::SeqCst;
+use std::sync::atomic::{AtomicBool, AtomicU64};
+use std::thread;
+use std::thread::Threads;
+use std::time::{Clock, Duration};
+
+/// How often each reader reads in one run.
+pub const READS: usize = 300_000;
+
+/// How often a map is published while readers read.
+#[derive(Clone, Copy)]
+pub enum Pace {
+    /// Once, when they begin.
+    Once,
+    /// A thousand times a second.
+    Thousand,
+    /// Without a pause.
+    Always,
+}
+
+impl Pace {
+    /// As the table has it.
+    pub fn name(self) -> &'static str {
+        match self {
+            Pace::Once => "none",
+            Pace::Thousand => "1000 a second",
+            Pace::Always => "at full speed",
+        }
+    }
+
+    /// Waits until the next map is to be published. It says whether there is one.
+    pub fn rest<R: Clock>(self, rt: &R) -> bool {
+        match self {
+            Pace::Once => false,
+            Pace::Thousand => {
+                thread::sleep(rt, Duration::from_millis(1));
+                true
+            }
+            Pace::Always => true,
+        }
+    }
+}
+
+/// A map of the greatest length, of this version.
+pub fn printed(version: u64) -> Printed
+    ensures version { result.version ≡ version }
+    ensures fits { result.len ≤ MAX_BYTES }
+{
+    Printed {
+        version,
+        len: MAX_BYTES,
+        bytes: [(version % 251) as u8; MAX_BYTES],
+    }
+}
+
+/// The bytes of a map, added up.
+pub fn sum_of(read: &Printed) -> u64 {
+    let mut sum: u64 = 0;
+    for byte in &read.bytes {
+        sum = sum.wrapping_add(u64::from(*byte));
+    }
+    sum
+}
+
+// Appends and publishes the map of this version. It says whether there was memory for it.
+fn publish<R: Wait>(rt: &R, press: &mut Press, version: u64) -> bool
+    requires settled { press.old.waiting ≡ [] }
+    requires next { version ≡ length press.old.list + 1 }
+    ensures settled { press.new.waiting ≡ [] }
+    ensures count { result ≡ true → length press.new.list ≡ version }
+{
+    if press.append(printed(version)).is_err() {
+        return false;
+    }
+    press.publish(rt);
+    true
+}
+
+// Publishes until all readers have read.
+fn publish_all<R: Wait + Clock>(rt: &R, press: &mut Press, pace: Pace, ended: &AtomicBool)
+    requires new { (press.old.list ≡ []) × (press.old.waiting ≡ []) }
+{
+    for before in 0..u64::MAX {
+        if !publish(rt, press, before + 1) || ended.load(SeqCst) || !pace.rest(rt) {
+            return;
+        }
+    }
+}
+
+// Reads, each time to the same place, and gives the sum of the bytes that were read last.
+fn read_all(reader: &mut Reader) -> u64 {
+    let mut last = printed(0);
+    for _ in 0..READS {
+        if let Some(read) = reader.newest() {
+            last = read;
+        }
+    }
+    sum_of(&last)
+}
+
+// The nanoseconds until all readers have read, each in a thread of its own. The writer is told then.
+fn time_reads<R: Threads + Clock + Sync>(
+    rt: &R,
+    readers: &mut [Reader],
+    ended: &AtomicBool,
+) -> Option<u64> {
+    let sum = AtomicU64::new(0);
+    let total = &sum;
+    let start = now(rt);
+    thread::for_each_mut(
+        rt,
+        readers,
+        4,
+        &|_, reader: &mut Reader| {
+            total.fetch_add(read_all(reader), SeqCst);
+        },
+    );
+    let end = now(rt);
+    ended.store(true, SeqCst);
+    figure(start, end, sum.load(SeqCst) > 0)
+}
+
+/// The nanoseconds of the reads of so many readers, while maps are published at this pace.
+pub fn time_readers<R: Threads + Wait + Clock + Sync>(
+    rt: &R,
+    alloc: Global,
+    count: usize,
+    pace: Pace,
+) -> Option<u64> {
+    let Ok((mut press, mut readers)) = open_press(rt, alloc, count) else {
+        return None;
+    };
+    let ended = AtomicBool::new(false);
+    let (writer, row, ended) = (&mut press, readers.as_mut_slice(), &ended);
+    let (_, nanos) = thread::join(
+        rt,
+        move || -> ()
+            requires new { (writer.now.list ≡ []) × (writer.now.waiting ≡ []) }
+        { publish_all(rt, writer, pace, ended) },
+        move || time_reads(rt, row, ended),
+    );
+    press.end(rt);
+    nanos
+}
