@@ -180,8 +180,8 @@ fn read_beside_builders<R: Threads + Wait + Sync + Abort + AllocGlobal>(
     rt: &R,
 ) -> ([Option<Vec<Printed>>; 3], Vec<Entry>) {
     let (shared, zero, one, mut readers) = opened(rt, 2 * BUILDS as u32, 3);
-    let readers = (readers.pop(), readers.pop(), readers.pop());
-    let (Some(first), Some(second), Some(third)) = readers else {
+    let (first, second, third) = (readers.pop(), readers.pop(), readers.pop());
+    let (Some(first), Some(second), Some(third)) = (first, second, third) else {
         unreachable!()
     };
     let (seats, maps) = build_and_read(
