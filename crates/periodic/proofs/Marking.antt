@@ -56,7 +56,8 @@ module _ (c : Config) (f : Placed) (bit : ℕ) (old rows : List Bits) where
           let same : j ≡ place = omega arith in
           let new = get_or-set_at rows place j row no_bits same (omega (arith, is.long)) in
           let kept = is.rest place (omega arith) in
-          subst (λ n. IsMarked (spot_in c n f) bit (get_or old n no_bits).words (get_or (set rows place row) j no_bits).words)
+          subst (λ n. IsMarked (spot_in c n f) bit (get_or old n no_bits).words
+          (get_or (set rows place row) j no_bits).words)
           (sym same)
           (subst (λ (b : Bits). IsMarked (spot_in c place f) bit (get_or old place no_bits).words b.words) (sym new)
           (subst (λ (b : Bits). IsMarked (spot_in c place f) bit b.words row.words) kept here)))

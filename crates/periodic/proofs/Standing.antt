@@ -1,6 +1,6 @@
 -- Where a flow stands in the fields of a table.
-use Rattle.std.proofs.Common.{◌≡◌, sym, ap, ◌∙◌, subst, ℕ, ◌≤◌, Bool, true, false, cond, not, ◌==◌, nat_lt, List, map, length}
-use Rattle.std.proofs.Common.{get_or, slice_get, find, position, Option, Some, None, option_map, unwrap_or, arith}
+use Rattle.std.proofs.Common.{◌≡◌, sym, ap, ◌∙◌, subst, ℕ, ◌≤◌, Bool, true, false, cond, not, ◌==◌, nat_lt}
+use Rattle.std.proofs.Common.{List, map, length, get_or, slice_get, find, position, Option, Some, None, option_map, unwrap_or, arith}
 use Rattle.std.specs.List.{insert, position_or_len}
 use Rattle.std.proofs.lemmas.List.Edits.{get_or-insert_at}
 use Rattle.std.proofs.lemmas.List.Folds.{find_at}
@@ -56,7 +56,8 @@ some-place true m i h = cc
 some-place false m i h = absurd (cc)
 
 -- the flow at the place of an SID is the one that is found
-pub flow-found : (sid : ℕ) (items : List PlacedFlow) (i : ℕ) (f : PlacedFlow) → position (λ g. g.sid == sid) items ≡ Some i
+pub flow-found : (sid : ℕ) (items : List PlacedFlow) (i : ℕ) (f : PlacedFlow)
+    → position (λ g. g.sid == sid) items ≡ Some i
     → f ≡ get_or items i f → find (λ g. g.sid == sid) (map placed_of items) ≡ Some (placed_of f)
 flow-found sid items i f stands is =
     let p : PlacedFlow → Bool = λ g. g.sid == sid in

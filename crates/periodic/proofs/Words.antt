@@ -1,12 +1,14 @@
 -- Bits of words, and words of a row.
 use Rattle.std.proofs.Common.{◌≡◌, ◌≢◌, refl, sym, ap, ◌∙◌, subst, ℕ, ◌+◌, ◌-◌, ◌*◌, ◌/◌, ◌%◌, ◌^◌, ◌<◌, ◌≤◌, ◌⊎◌, min}
-use Rattle.std.proofs.Common.{Option, Some, None, IfSome, IfNone, List, [], ◌∷◌, zero, suc, length, get_or, set, replicate, inl, inr, arith}
+use Rattle.std.proofs.Common.{Option, Some, None, IfSome, IfNone}
+use Rattle.std.proofs.Common.{List, [], ◌∷◌, zero, suc, length, get_or, set, replicate, inl, inr, arith}
 use Rattle.std.specs.Int.{bit_at, w64}
 use Rattle.std.specs.Int.RustNames.{bit_and}
 use Rattle.std.proofs.lemmas.Bool.{cases_eq, cases_lt}
 use Rattle.std.proofs.lemmas.Grind.{get_or-set_at}
 use Rattle.std.proofs.lemmas.List.{get_or-set_other, get_or-replicate}
-use Rattle.std.proofs.lemmas.Nat.Bits.{bit_at-zero, ones_shl, bit_at_mask_inside, bit_at_mask_below, bit_at_and, bit_at_not}
+use Rattle.std.proofs.lemmas.Nat.Bits.{bit_at-zero, ones_shl, bit_at_mask_inside, bit_at_mask_below}
+use Rattle.std.proofs.lemmas.Nat.Bits.{bit_at_and, bit_at_not}
 use Rattle.periodic.specs.Bits.{bit_of, IsWritten, IsFirstBit}
 
 -- the ones from bit k on
@@ -38,16 +40,9 @@ unfolding bit_of
 bit_of-set_other words place word m differ =
     ap (λ w. bit_at w (m % 64)) (get_or-set_other words place (m / 64) word 0 differ)
 
--- a bit of the word at a place
-pub bit_of-word : (words : List ℕ) (place i : ℕ) → i < 64 → bit_of words (place * 64 + i) ≡ bit_at (get_or words place 0) i
-unfolding bit_of
-bit_of-word words place i lt =
-    let word : (place * 64 + i) / 64 ≡ place = omega arith in
-    let bit : (place * 64 + i) % 64 ≡ i = omega arith in
-    (λ j. bit_at (get_or words (word j) 0) (bit j))
-
--- and of the word that has a minislot's
-pub bit_of-in : (words : List ℕ) (place m : ℕ) → m / 64 ≡ place → bit_of words m ≡ bit_at (get_or words place 0) (m % 64)
+-- the bit of a minislot in the word that has it
+pub bit_of-in : (words : List ℕ) (place m : ℕ) → m / 64 ≡ place
+    → bit_of words m ≡ bit_at (get_or words place 0) (m % 64)
 unfolding bit_of
 bit_of-in words place m is = ap (λ p. bit_at (get_or words p 0) (m % 64)) is
 
@@ -79,7 +74,8 @@ written-none words start end bit = record {
 pub written-more : (old new : List ℕ) (start end bit place word : ℕ) → place < length new
     → IsWritten old new start end bit place
     → ((i : ℕ) → i < 64 → start ≤ place * 64 + i → place * 64 + i < end → bit_at word i ≡ bit)
-    → ((i : ℕ) → i < 64 → (place * 64 + i < start) ⊎ (end ≤ place * 64 + i) → bit_at word i ≡ bit_at (get_or new place 0) i)
+    → ((i : ℕ) → i < 64 → (place * 64 + i < start) ⊎ (end ≤ place * 64 + i)
+    → bit_at word i ≡ bit_at (get_or new place 0) i)
     → IsWritten old (set new place word) start end bit (place + 1)
 written-more old new start end bit place word long is inner outer = record {
   inside = λ m lt from to. elim (cases_eq (m / 64) place) [

@@ -9,8 +9,8 @@ pub returns-in_default-clause-absent : goal.returns-in_default-clause-absent
 returns-in_default-clause-absent c = λ placed sound are.
     let w : Wanted = record { interval = c.interval.result; jitter = c.jitter.result; slots = c.slots.result } in
     let frame : 0 < c.args.config.now.frame = omega (arith, (bounds_of _ c.interval.ensures.lawful).frame_least) in
-    none-lawful c.args.config.now placed c.args.rows.now c.args.spec.now c.args.next w c.interval.ensures.lawful sound are
-    c.slots.ensures.positive
+    none-lawful c.args.config.now placed c.args.rows.now c.args.spec.now c.args.next w c.interval.ensures.lawful sound
+    are c.slots.ensures.positive
     (record { interval = c.interval.ensures.value; jitter = c.jitter.ensures; slots = c.slots.ensures.value })
     c.interval.ensures.positive frame c.in_default.ensures.absent
 
@@ -18,7 +18,7 @@ pub returns-clause-chosen : goal.returns-clause-chosen
 returns-clause-chosen c = λ placed sound are.
     let w : Wanted = record { interval = c.interval.result; jitter = c.jitter.result; slots = c.slots.result } in
     let frame : 0 < c.args.config.now.frame = omega (arith, (bounds_of _ c.interval.ensures.lawful).frame_least) in
-    found-chosen c.args.config.now placed c.args.rows.now c.args.spec.now c.args.next w c.interval.ensures.lawful sound are
-    c.slots.ensures.positive
+    found-chosen c.args.config.now placed c.args.rows.now c.args.spec.now c.args.next w c.interval.ensures.lawful sound
+    are c.slots.ensures.positive
     (record { interval = c.interval.ensures.value; jitter = c.jitter.ensures; slots = c.slots.ensures.value })
     c.in-Some.found c.first_nominal-reference.result frame c.in-Some.ensures.found c.first_nominal-reference.ensures

@@ -21,8 +21,8 @@ returns-in_err-row-clause-blocked c =
     let rows = c.args.rows.now in
     let place = c.loop-place.place in
     let here = row-here config rows place _ c.requires.long (omega arith) in
-    let next = subst (λ words. IsNextOffset config (HasStartAt config c.args.wanted words) c.args.offset c.in_err-row.field-0.0)
-    (sym here) c.in_err-row.ensures.blocked in
+    let next = subst
+    (λ words. IsNextOffset config (HasStartAt config c.args.wanted words) c.args.offset c.in_err-row.field-0.0) (sym here) c.in_err-row.ensures.blocked in
     let blocked : IsNextOffset config (HaveStartsAt config rows c.args.wanted c.args.phase) c.args.offset
     c.in_err-row.field-0.0 = record {
       later = next.later;
@@ -55,8 +55,8 @@ loop-place-preserved c =
           )
           in
           let here = row-here config rows place _ c.requires.long (omega arith) in
-          let first : P place start = subst (λ words. IsFirstStart config c.args.wanted c.args.offset words start) (sym here)
-          w.in_ok-row.ensures.found in
+          let first : P place start = subst (λ words. IsFirstStart config c.args.wanted c.args.offset words start)
+          (sym here) w.in_ok-row.ensures.found in
           let starts = take_more_set row.starts row.count start within in
           rw (w.row-is, filter-passes nominal place (eq-eqb _ _ w.if-place-wanted.true), starts) (record {
             long = length-set row.starts row.count start ∙ c.loop-place.invariant.long;

@@ -32,8 +32,8 @@ inserted c =
     let place = above-place a.sid items c.deref.result.now c.place_above.result c.len.result
     c.unwrap_or-place.result c.deref.ensures.value c.place_above.ensures (omega (arith, c.self.inside.flows.ok.0))
     c.unwrap_or-place.ensures in
-    put-in items c.insert.new.self.items c.unwrap_or-place.result a.sid a.spec a.reference a.starts.now c.from_vec.result
-    (c.from_vec.ensures ∙ c.in_ok-kept.ensures.items) place c.in_ok-insert.ensures.items
+    put-in items c.insert.new.self.items c.unwrap_or-place.result a.sid a.spec a.reference a.starts.now
+    c.from_vec.result (c.from_vec.ensures ∙ c.in_ok-kept.ensures.items) place c.in_ok-insert.ensures.items
 
 pub returns-clause-placed : goal.returns-clause-placed
 returns-clause-placed c =

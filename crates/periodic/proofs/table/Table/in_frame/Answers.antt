@@ -29,8 +29,8 @@ in-order c rest =
     (frame-sorted config c.args.k (map placed_of c.self.inside.flows.items)
     (take c.fill-count.result c.fill-count.new.spots)
     c.sort.new.spots
-    c.cycle.ensures.lawful c.self.invariant.sound (rw (place, c.deref.ensures.value) at written) c.sort.ensures.permutation
-    c.sort.ensures.sorted)
+    c.cycle.ensures.lawful c.self.invariant.sound (rw (place, c.deref.ensures.value) at written)
+    c.sort.ensures.permutation c.sort.ensures.sorted)
 
 pub returns-clause-spots : goal.returns-clause-spots
 returns-clause-spots c = (in-order c _).permuted
