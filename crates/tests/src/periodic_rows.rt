@@ -1,5 +1,8 @@
 //! Worked placements, and the spots of their frames.
 
+mod lists;
+mod slow;
+
 use crate::base::{BASE, is_shown, shown};
 use flow_book::FlowSpec;
 use periodic::{Placement, Spot, Table};
