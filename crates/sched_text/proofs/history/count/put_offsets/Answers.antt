@@ -11,5 +11,5 @@ unfolding counts
 returns-clause-ok c =
     let at = c.loop-offset in
     where_ok c.end_array.result (λ ended.
-    tokens-all count c.args.offsets.now at.offset-index c.args.out.now.tokens (Token.key c.args.name.now ∷ []) at.out.tokens _
-    c.loop-offset-test.false at.invariant.0 ended) c.end_array.ensures.ok
+    tokens-all count c.args.offsets.now at.offset-index c.args.out.now.tokens (Token.key c.args.name.now ∷ [])
+    at.out.tokens _ c.loop-offset-test.false at.invariant.0 ended) c.end_array.ensures.ok
