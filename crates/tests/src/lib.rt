@@ -16,6 +16,8 @@ mod minislots_rows;
 #[cfg(test)]
 mod periodic_rows;
 #[cfg(test)]
+mod readme_rows;
+#[cfg(test)]
 mod sched_commands_rows;
 #[cfg(test)]
 mod sched_history_rows;
