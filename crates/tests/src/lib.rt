@@ -18,6 +18,8 @@ mod periodic_rows;
 #[cfg(test)]
 mod readme_rows;
 #[cfg(test)]
+mod refused_rows;
+#[cfg(test)]
 mod sched_commands_rows;
 #[cfg(test)]
 mod sched_history_rows;

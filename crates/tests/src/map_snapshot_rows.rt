@@ -12,7 +12,7 @@ use std::sync::Wait;
 mod threads;
 
 // The map of a version: from 1 to 976 bytes, each the version modulo 251. What is behind them is not the map's.
-fn printed(version: u64) -> Printed
+pub fn printed(version: u64) -> Printed
     ensures version { result.version ≡ version }
     ensures fits { result.len ≤ MAX_BYTES }
 {
@@ -37,7 +37,7 @@ fn is_whole(read: &Printed) -> bool
 }
 
 // A press with this many readers.
-fn opened<R: Wait + Abort + AllocGlobal>(rt: &R, readers: usize) -> (Press, Vec<Reader>)
+pub fn opened<R: Wait + Abort + AllocGlobal>(rt: &R, readers: usize) -> (Press, Vec<Reader>)
     ensures new { (result.0.list ≡ []) × (result.0.waiting ≡ []) }
     ensures readers { result.1.items ≡ replicate readers (unread result.0.press) }
 {
@@ -48,7 +48,7 @@ fn opened<R: Wait + Abort + AllocGlobal>(rt: &R, readers: usize) -> (Press, Vec<
 }
 
 // Appends and publishes the map of this version.
-fn publish<R: Wait + Abort>(rt: &R, press: &mut Press, version: u64)
+pub fn publish<R: Wait + Abort>(rt: &R, press: &mut Press, version: u64)
     requires settled { press.old.waiting ≡ [] }
     requires next { version ≡ length press.old.list + 1 }
     ensures press { press.new.press ≡ press.old.press }
@@ -62,7 +62,7 @@ fn publish<R: Wait + Abort>(rt: &R, press: &mut Press, version: u64)
 }
 
 // The version that the reader reads, whose map it is; 0 for none.
-fn version_read(rt: &impl Abort, reader: &mut Reader) -> u64
+pub fn version_read(rt: &impl Abort, reader: &mut Reader) -> u64
     ensures press { reader.new.press ≡ reader.old.press }
 {
     match reader.newest() {
