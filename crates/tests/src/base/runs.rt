@@ -69,6 +69,7 @@ the builds that are too early
 build 943 => refused 15 5000
 build 944 => map 03010300000013880000138800000000fffc4000000180040001c028
 build 1152921504606846977 => refused 14
+build 18446744073709551615 => refused 14
 
 minislots wrap on the wire
 "start":800 -> "start":4294967280

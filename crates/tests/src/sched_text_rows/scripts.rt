@@ -118,6 +118,8 @@ const EDITS: &str = r#""start":800 -> "start":18446744073709551616 => bad script
 "calls":[ -> "calls":null,"other":[ => bad script at 0
 "calls":[ -> "calls":[null, => bad script at 1
 "calls":[ -> "calls":[{}, => bad script at 1
+"calls":[ -> "calls":[7, => bad script at 1
+"now":760 -> "now":-1 => bad script at 1
 "now":760 -> "now":-0 => bad script at 1
 "now":760 -> "now":1.0 => bad script at 1
 "now":760 -> "now":18446744073709551616 => bad script at 1
@@ -172,6 +174,7 @@ const EARLIER: &str = r#""ticks":4 -> "ticks":3 => bad config 1
 "lead":2049 -> "lead":2048 => bad config 14
 "now":802 -> "now":1.0 => bad script at 7
 "best_effort" -> "other" => bad script at 2
+{"call":"admit","sid":17,"flow":{"kind":"other","priority":3,"rate":64000,"burst":1600}} -> 1 => bad script at 2
 "channel":3 -> "channel":256 => bad script at 0"#;
 
 #[test]
