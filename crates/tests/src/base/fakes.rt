@@ -4,21 +4,25 @@ use std::alloc::Global;
 use std::io;
 use std::io::{ErrorKind, Read, Write};
 
-/// Gives its bytes a few at a time, and fails at one of its reads.
+/// Gives at most so many of its bytes at a time. Behind so many reads it fails, or ends where it has no error.
 #[derive(Drop)]
 pub struct Failing<'a> {
     pub rest: &'a [u8],
+    pub step: usize,
     pub reads_left: usize,
-    pub kind: ErrorKind,
+    pub error: Option<ErrorKind>,
 }
 
 impl Read for Failing<'_> {
     fn read(&mut self, buf: &mut [u8]) -> io::Result<usize> {
         if self.reads_left == 0 {
-            return Err(io::Error::new(self.kind, "fails here"));
+            return match self.error {
+                Some(kind) => Err(io::Error::new(kind, "fails here")),
+                None => Ok(0),
+            };
         }
         self.reads_left -= 1;
-        let len = self.rest.len().min(buf.len()).min(100);
+        let len = self.rest.len().min(buf.len()).min(self.step);
         let (front, back) = self.rest.split_at(len);
         buf[..len].copy_from_slice(front);
         self.rest = back;
