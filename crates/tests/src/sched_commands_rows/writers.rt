@@ -1,7 +1,7 @@
 //! Writes that fail.
 
 use super::tables::ONE_MAP;
-use crate::base::fakes::{Keeping, Narrow};
+use crate::base::fakes::{Failing, Keeping, Narrow};
 use crate::base::texts::{config_of, push_part, script_in, script_of};
 use sched_commands::{RunFault, decode_text, run_script};
 use std::alloc::{AllocError, Global};
@@ -50,6 +50,34 @@ fn a_failed_write_ends_the_run(rt: HostRuntime) -> Result<(), Fail> {
             );
         }
     }
+    Ok(())
+}
+
+// What a run answers whose reads fail behind so many, and whose writes all do.
+fn both_fail(alloc: Global, script: &str, reads_left: usize) -> Result<(), RunFault> {
+    let mut reader = Failing {
+        rest: script.as_bytes(),
+        step: 1,
+        reads_left,
+        error: Some(ErrorKind::Other),
+    };
+    let mut writer = Narrow {
+        room: 0,
+        kind: ErrorKind::Other,
+    };
+    run_script(alloc, &mut reader, &mut writer, false)
+}
+
+#[test]
+fn a_failed_read_comes_before_a_failed_write(rt: HostRuntime) -> Result<(), Fail> {
+    let script = script_in(rt.alloc(), "build 760 => map")?;
+    let enough = script.len() + 1;
+    for reads_left in 0..enough {
+        let found = both_fail(rt.alloc(), &script, reads_left);
+        assert!(rt; found == Err(RunFault::Input), "{reads_left} reads");
+    }
+    let found = both_fail(rt.alloc(), &script, enough);
+    assert!(rt; found == Err(RunFault::Output), "all reads");
     Ok(())
 }
 
