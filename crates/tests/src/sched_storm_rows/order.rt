@@ -5,7 +5,7 @@ use crate::base::texts::storm_in;
 use crate::base::{BASE, checked, is_shown};
 use sched_storm::{Gate, Open, StormFault, Tally, storm_with};
 use sched_text::read_storm;
-use std::alloc::AllocGlobal;
+use std::alloc::{AllocError, AllocGlobal, Global};
 use std::process::Abort;
 use std::sync::Wait;
 use std::test::Fail;
@@ -93,6 +93,26 @@ fn each_worker_can_wait_for_the_other(rt: HostRuntime) -> Result<(), Fail> {
     let tally = tally_of(&rt, PAIR, &After::of(1, 0))?;
     has_counts(&rt, &tally, "(1, 1, 0, 1, None)");
     has_order(&rt, &tally, &[0, 1]);
+    Ok(())
+}
+
+// The two scripts, and a third of a hundred calls.
+fn beside_a_hundred(alloc: Global) -> Result<String, AllocError> {
+    let mut table = format!(in alloc; "{PAIR}\nstatus 17")?;
+    for _ in 1..100 {
+        table.push_str(", status 17")?;
+    }
+    Ok(table)
+}
+
+#[test]
+fn each_worker_can_wait_for_the_other_beside_a_third(rt: HostRuntime) -> Result<(), Fail> {
+    let table = beside_a_hundred(rt.alloc())?;
+    for (worker, other) in [(0, 1), (1, 0)] {
+        let tally = tally_of(&rt, &table, &After::of(worker, other))?;
+        has_counts(&rt, &tally, "(1, 1, 0, 1, None)");
+        is_shown(&rt, (tally.counts[2], tally.history.len()), "(100, 102)");
+    }
     Ok(())
 }
 
