@@ -1,6 +1,7 @@
 //! Schedulers, alone and under the lock.
 
 ghost use Rattle.std.specs.Prelude.{◌≡◌, ◌∷◌, [], IfOk};
+ghost use Rattle.map_snapshot.specs.Maps.{unread};
 ghost use Rattle.sched_history.specs.Machine.{IsEncodable};
 ghost use Rattle.ticket_lock.specs.Standing.{seats_of};
 ghost use Rattle.ticket_lock.specs.Calls.{new_standing};
@@ -8,10 +9,11 @@ ghost use Rattle.ticket_lock.specs.Calls.{new_standing};
 use crate::base::fakes::Expecting;
 use crate::base::{BASE, checked};
 use flow_book::FlowSpec;
+use map_snapshot::Reader;
 use minislots::Stamp;
 use sched_history::{Call, Reply, Scheduler, Unrecorded};
 use sched_text::put_line;
-use shared_sched::{Desk, OpenFault, Shared, open};
+use shared_sched::{Closed, Desk, OpenFault, Shared, open};
 use std::alloc::AllocGlobal;
 use std::process::Abort;
 use std::sync::Wait;
@@ -111,16 +113,17 @@ fn a_call_that_found_no_memory_can_be_made_again(rt: HostRuntime) {
     assert!(rt; scheduler.history().len() == 7);
 }
 
-// A scheduler with one seat, opened again where there was no memory.
-fn shared_at_last<R: Abort + AllocGlobal>(rt: &R) -> (Shared, Vec<Seat<Desk>>)
+// A scheduler with one seat and one reader, opened again where there was no memory.
+fn shared_at_last<R: Wait + Abort + AllocGlobal>(rt: &R) -> (Shared, Vec<Seat<Desk>>, Vec<Reader>)
     ensures seats { result.1.items ≡ new_standing result.0.lock 0 ∷ [] }
     ensures count { seats_of result.0.lock ≡ 1 }
+    ensures reader { result.2.items ≡ unread result.0.press ∷ [] }
 {
-    match open(rt.alloc(), checked(rt, BASE), 1) {
+    match open(rt, rt.alloc(), checked(rt, BASE), 1, 1) {
         Ok(made) => made,
         Err(fault) => {
             assert!(rt; fault == OpenFault::Memory, "one seat");
-            match open(rt.alloc(), checked(rt, BASE), 1) {
+            match open(rt, rt.alloc(), checked(rt, BASE), 1, 1) {
                 Ok(made) => made,
                 Err(_) => panic!(rt; "no memory"),
             }
@@ -128,31 +131,49 @@ fn shared_at_last<R: Abort + AllocGlobal>(rt: &R) -> (Shared, Vec<Seat<Desk>>)
     }
 }
 
-// Makes a call, again where there was no memory.
-fn call_at_last<R: Wait>(
+// The version that is read, 0 for none.
+fn version_read(reader: &mut Reader) -> u64 {
+    match reader.newest() {
+        Some(printed) => printed.version,
+        None => 0,
+    }
+}
+
+// Makes a call, again where there was no memory: the version that was read before is read again then.
+fn call_at_last<R: Wait + Abort>(
     rt: &R,
     shared: &Shared,
     seat: Seat<Desk>,
+    reader: &mut Reader,
     call: Call,
 ) -> (Seat<Desk>, Result<Reply, Unrecorded>)
     requires own { seat.lock ≡ shared.now.lock }
     ensures own { result.0.lock ≡ shared.now.lock }
     ensures line { IfOk result.1 IsEncodable }
 {
+    let before = version_read(reader);
     match shared.call(rt, seat, call) {
-        (seat, Err(Unrecorded::Memory)) => shared.call(rt, seat, call),
+        (seat, Err(Unrecorded::Memory)) => {
+            assert!(rt; version_read(reader) == before, "{before}");
+            shared.call(rt, seat, call)
+        }
         answered => answered,
     }
 }
 
 // Makes the calls of all rows by one seat.
-fn play_shared<R: Wait + Abort>(rt: &R, shared: &Shared, seat: Seat<Desk>) -> Seat<Desk>
+fn play_shared<R: Wait + Abort>(
+    rt: &R,
+    shared: &Shared,
+    seat: Seat<Desk>,
+    reader: &mut Reader,
+) -> Seat<Desk>
     requires own { seat.lock ≡ shared.now.lock }
     ensures own { result.lock ≡ shared.now.lock }
 {
     let mut seat = seat;
     for row in ROWS.iter() {
-        let (back, answer) = call_at_last(rt, shared, seat, row.0);
+        let (back, answer) = call_at_last(rt, shared, seat, reader, row.0);
         has_line(rt, answer, row.1);
         seat = back;
     }
@@ -161,14 +182,20 @@ fn play_shared<R: Wait + Abort>(rt: &R, shared: &Shared, seat: Seat<Desk>) -> Se
 
 #[test]
 fn a_shared_call_that_found_no_memory_can_be_made_again(rt: HostRuntime) {
-    let (shared, mut seats) = shared_at_last(&rt);
-    let Some(seat) = seats.pop() else {
+    let (shared, mut seats, mut readers) = shared_at_last(&rt);
+    let (Some(seat), Some(mut reader)) = (seats.pop(), readers.pop()) else {
         unreachable!()
     };
-    let seat = play_shared(&rt, &shared, seat);
+    let seat = play_shared(&rt, &shared, seat, &mut reader);
     if seats.push(seat).is_err() {
         panic!(rt; "a seat has left its place");
     }
-    let closed = shared.close(seats);
-    assert!(rt; closed.history.len() == 7 && closed.counts[0] == 7);
+    let Closed {
+        history,
+        counts,
+        press,
+    } = shared.close(seats);
+    press.end(&rt);
+    assert!(rt; history.len() == 7 && counts[0] == 7);
+    assert!(rt; version_read(&mut reader) == 3);
 }
