@@ -6,7 +6,7 @@ ghost use Rattle.flow_book.specs.Book.{IsLive, changed};
 ghost use Rattle.flow_book.specs.Choice.{HasStartedBy};
 
 mod lists;
-mod slow;
+pub mod slow;
 
 use crate::base::{BASE, Player, is_shown, play, short, shown, word};
 use flow_book::{Book, Bucket, FlowSpec};

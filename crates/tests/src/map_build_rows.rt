@@ -2,6 +2,9 @@
 
 ghost use Rattle.map_codec.specs.WireMap.{IsWellFormed};
 
+mod drawn;
+mod plain;
+
 use crate::base::{BASE, is_shown};
 use flow_book::{Book, FlowSpec};
 use map_build::{ByteCounts, FrameMap, plan_frame};

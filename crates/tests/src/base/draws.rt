@@ -1,6 +1,8 @@
 //! Numbers that are drawn by a fixed rule, so that each run has the same.
 
-ghost use Rattle.std.specs.Prelude.{◌<◌};
+ghost use Rattle.std.specs.Prelude.{◌<◌, ◌≤◌};
+
+use flow_book::FlowSpec;
 
 /// A fixed sequence of numbers.
 #[derive(Drop)]
@@ -24,5 +26,36 @@ impl Draws {
             .wrapping_mul(6_364_136_223_846_793_005)
             .wrapping_add(1_442_695_040_888_963_407);
         ((self.state >> 33) % u64::from(bound)) as u32
+    }
+
+    /// A minislot at or after this one.
+    pub fn later(&mut self, now: u64) -> u64
+        ensures { now ≤ result }
+    {
+        now.saturating_add(u64::from(self.below(30)))
+    }
+
+    /// Parameters of some flow: one in eight has no data grants, and some have no ceiling.
+    pub fn spec(&mut self) -> FlowSpec {
+        let rate = [0, 64_000, 300_000, 2_000_000][self.below(4) as usize];
+        let burst = [600, 1_600, 9_000][self.below(3) as usize];
+        match self.below(8) {
+            0 => FlowSpec::Unsolicited {
+                size: 200,
+                interval_us: 10_000,
+                jitter_us: 0,
+            },
+            1 | 2 => FlowSpec::Polled {
+                interval_us: 5_000,
+                jitter_us: 0,
+                rate,
+                burst,
+            },
+            priority => FlowSpec::BestEffort {
+                priority: priority as u8,
+                rate,
+                burst,
+            },
+        }
     }
 }

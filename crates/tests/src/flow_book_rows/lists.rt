@@ -1,68 +1,18 @@
 //! Lists of admissions, requests, grants and removals, in which the book answers what the slow reference
 //! does.
 
-ghost use Rattle.std.specs.Prelude.{◌≡◌, ◌<◌, ◌≤◌, IfOk};
+ghost use Rattle.std.specs.Prelude.{◌≡◌, IfOk};
 ghost use Rattle.std.specs.List.{AllByRecursion};
 ghost use Rattle.flow_book.specs.Choice.{HasStartedBy};
 
 use super::slow::SlowFlow;
 use super::{grant_most, slow};
 use crate::base::BASE;
+use crate::base::draws::Draws;
 use flow_book::{Book, FlowSpec, Grant};
 use std::alloc::{AllocError, AllocGlobal, Global};
 use std::process::Abort;
 use std::test::Fail;
-
-// A fixed sequence of numbers.
-#[derive(Drop)]
-struct Draws {
-    state: u64,
-}
-
-impl Draws {
-    // A number below the bound.
-    fn below(&mut self, bound: u32) -> u32
-        requires { 0 < bound }
-        ensures { result < bound }
-    {
-        self.state = self
-            .state
-            .wrapping_mul(6_364_136_223_846_793_005)
-            .wrapping_add(1_442_695_040_888_963_407);
-        ((self.state >> 33) % u64::from(bound)) as u32
-    }
-
-    // A minislot at or after this one.
-    fn later(&mut self, now: u64) -> u64
-        ensures { now ≤ result }
-    {
-        now.saturating_add(u64::from(self.below(30)))
-    }
-
-    // Parameters of some flow: one in eight has no data grants, and some have no ceiling.
-    fn spec(&mut self) -> FlowSpec {
-        let rate = [0, 64_000, 300_000, 2_000_000][self.below(4) as usize];
-        let burst = [600, 1_600, 9_000][self.below(3) as usize];
-        match self.below(8) {
-            0 => FlowSpec::Unsolicited {
-                size: 200,
-                interval_us: 10_000,
-                jitter_us: 0,
-            },
-            1 | 2 => FlowSpec::Polled {
-                interval_us: 5_000,
-                jitter_us: 0,
-                rate,
-                burst,
-            },
-            priority => FlowSpec::BestEffort {
-                priority: priority as u8,
-                rate,
-                burst,
-            },
-        }
-    }
-}
 
 // A book, and what the slow reference knows of its flows.
 #[derive(Drop)]
@@ -186,7 +136,7 @@ fn change(
 
 #[test]
 fn the_book_answers_what_its_slow_reference_does(rt: HostRuntime) -> Result<(), Fail> {
-    let mut draws = Draws { state: 3 };
+    let mut draws = Draws::from_seed(3);
     let mut twins = Twins {
         book: Book::open(rt.alloc(), BASE.check()?)?,
         slow: Vec::new(rt.alloc()),
