@@ -2,7 +2,7 @@
 ghost use Rattle.std.specs.Prelude.{◌≡◌, ◌+◌, ◌≤◌, true, [], length};
 ghost use Rattle.map_snapshot.specs.declared.printed.TheConstants.{MAX_BYTES};
 
-use crate::run::{figure, now};
+use crate::run::{Took, figure, now};
 use map_snapshot::{MAX_BYTES, Press, Printed, Reader, open_press};
 use std::alloc::Global;
 use std::sync::Wait;
@@ -10,7 +10,7 @@ use std::sync::atomic::Ordering::SeqCst;
 use std::sync::atomic::{AtomicBool, AtomicU64};
 use std::thread;
 use std::thread::Threads;
-use std::time::{Clock, Duration};
+use std::time::{Clock, CpuClock, Duration};
 
 /// How often each reader reads in one run.
 pub const READS: usize = 300_000;
@@ -106,12 +106,12 @@ fn read_all(reader: &mut Reader) -> u64 {
     sum_of(&last)
 }
 
-// The nanoseconds until all readers have read, each in a thread of its own. The writer is told then.
-fn time_reads<R: Threads + Clock + Sync>(
+// What it takes until all readers have read, each in a thread of its own. The writer is told then.
+fn time_reads<R: Threads + Clock + CpuClock + Sync>(
     rt: &R,
     readers: &mut [Reader],
     ended: &AtomicBool,
-) -> Option<u64> {
+) -> Option<Took> {
     let sum = AtomicU64::new(0);
     let total = &sum;
     let start = now(rt);
@@ -128,19 +128,19 @@ fn time_reads<R: Threads + Clock + Sync>(
     figure(start, end, sum.load(SeqCst) > 0)
 }
 
-/// The nanoseconds of the reads of so many readers, while maps are published at this pace.
-pub fn time_readers<R: Threads + Wait + Clock + Sync>(
+/// What the reads of so many readers take, while maps are published at this pace.
+pub fn time_readers<R: Threads + Wait + Clock + CpuClock + Sync>(
     rt: &R,
     alloc: Global,
     count: usize,
     pace: Pace,
-) -> Option<u64> {
+) -> Option<Took> {
     let Ok((mut press, mut readers)) = open_press(rt, alloc, count) else {
         return None;
     };
     let ended = AtomicBool::new(false);
     let (writer, row, ended) = (&mut press, readers.as_mut_slice(), &ended);
-    let (_, nanos) = thread::join(
+    let (_, took) = thread::join(
         rt,
         move || -> ()
             requires new { (writer.now.list ≡ []) × (writer.now.waiting ≡ []) }
@@ -148,5 +148,5 @@ pub fn time_readers<R: Threads + Wait + Clock + Sync>(
         move || time_reads(rt, row, ended),
     );
     press.end(rt);
-    nanos
+    took
 }

@@ -202,7 +202,7 @@ pub fn print_storm<R: Threads + Wait + Sync + Clock + CpuClock + Print>(
 }
 
 // The nanoseconds of runs of so many readers of a press and of a lock by turns, the middle one of each.
-fn reader_figures<R: Threads + Wait + Sync + Clock>(
+fn reader_figures<R: Threads + Wait + Sync + Clock + CpuClock>(
     rt: &R,
     alloc: Global,
     readers: usize,
@@ -210,14 +210,14 @@ fn reader_figures<R: Threads + Wait + Sync + Clock>(
 ) -> Option<(u64, u64)> {
     let (mut presses, mut locks) = ([0u64; RUNS], [0u64; RUNS]);
     for i in 0..RUNS {
-        presses[i] = time_readers(rt, alloc, readers, pace)?;
-        locks[i] = time_rwlock(rt, readers, pace)?;
+        presses[i] = time_readers(rt, alloc, readers, pace)?.wall;
+        locks[i] = time_rwlock(rt, readers, pace)?.wall;
     }
     Some((middle(presses), middle(locks)))
 }
 
 // Prints one row of the readers.
-fn print_reader<R: Threads + Wait + Sync + Clock + Print>(
+fn print_reader<R: Threads + Wait + Sync + Clock + CpuClock + Print>(
     rt: &R,
     alloc: Global,
     readers: usize,
@@ -237,7 +237,7 @@ fn print_reader<R: Threads + Wait + Sync + Clock + Print>(
 
 /// Prints the nanoseconds of each read of the newest map of a kilobyte by each of so many readers, of each read of as
 /// many bytes under a read lock, and the first as a multiple of the second.
-pub fn print_readers<R: Threads + Wait + Sync + Clock + Print>(
+pub fn print_readers<R: Threads + Wait + Sync + Clock + CpuClock + Print>(
     rt: &R,
     alloc: Global,
 ) -> Option<()> {
