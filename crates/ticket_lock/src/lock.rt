@@ -46,7 +46,7 @@ impl<T: Journal> Model for TicketLock<T> {
 const LOOKS: u32 = 100;
 
 // How often it lets them run, with a look after each, before it sleeps.
-const YIELDS: u32 = 4;
+const YIELDS: u32 = 200;
 
 // The bit of the word that a seat with this ticket waits on.
 fn bit_of(ticket: u64) -> u64 {
