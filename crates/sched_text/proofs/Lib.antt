@@ -12,3 +12,9 @@ pub mod Profile
 pub mod StormCalls
 pub mod StormOutcome
 pub mod ReadBack
+pub mod Numbers
+pub mod Entries
+pub mod Payload
+pub mod Sizes
+pub mod FewEntries
+pub mod HistoryOutcome

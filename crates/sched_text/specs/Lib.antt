@@ -9,3 +9,6 @@ pub mod Json
 pub mod Tokens
 pub mod HistoryText
 pub mod Fault
+pub mod Refusals
+pub mod Replies
+pub mod Recorded

@@ -1,4 +1,5 @@
-//! The texts of the scheduler: the scripts that it reads, the lines and the histories that it writes.
+//! The texts of the scheduler: the scripts that it reads, the lines that it writes, and the histories that it writes
+//! and reads.
 #![tactic(auto)]
 
 mod fault;
@@ -7,6 +8,7 @@ mod input;
 mod line;
 mod lines;
 mod output;
+mod recorded;
 mod script;
 
 pub use fault::TextFault;
@@ -14,4 +16,5 @@ pub use history::put_history;
 pub use line::{put_line, put_number};
 pub use lines::LineBuffer;
 pub use output::put;
+pub use recorded::read_history;
 pub use script::{read_script, read_storm};

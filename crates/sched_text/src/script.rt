@@ -4,9 +4,9 @@ ghost use Rattle.std.specs.Prelude.{◌<◌, ◌+◌, ◌^◌};
 ghost use Rattle.serde_json.specs.View.{view, items_view};
 ghost use Rattle.sched_text.specs.Script.{Gives, calls_of, script_of, scenario_of};
 
-mod call;
-mod config;
-mod field;
+pub(crate) mod call;
+pub(crate) mod config;
+pub(crate) mod field;
 mod flow;
 mod reading;
 mod storms;

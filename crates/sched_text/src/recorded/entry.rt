@@ -1,0 +1,34 @@
+//! One entry of a history.
+
+ghost use Rattle.std.specs.Prelude.{◌≡◌, IfOk};
+ghost use Rattle.serde_json.specs.View.{view};
+ghost use Rattle.sched_text.specs.Replies.{entry_of};
+
+use super::reply::reply_of;
+use crate::script::call::call_of;
+use crate::script::field::{member, number_u32, number_u64};
+use minislots::Stamp;
+use sched_history::Entry;
+use serde_json::Value;
+use std::alloc::{AllocError, Global};
+
+/// The entry that an object stands for: its stamp, its call as in a script, and its reply. Nothing says that the
+/// reply may follow.
+#[tactic(auto, unfolding(crate::specs::Replies::entry_of))]
+pub fn entry_of(alloc: Global, value: &Value) -> Result<Option<Entry>, AllocError>
+    ensures { IfOk result (λ entry. entry ≡ entry_of (view value.now)) }
+{
+    let (Some(seat), Some(ticket), Some(call), Some(replied)) = (
+        number_u32(value, "seat"),
+        number_u64(value, "ticket"),
+        member(value, "call").and_then(call_of),
+        member(value, "reply"),
+    ) else {
+        return Ok(None);
+    };
+    let Some(reply) = reply_of(alloc, replied)? else {
+        return Ok(None);
+    };
+    let stamp = Stamp { seat, ticket };
+    Ok(Some(Entry { stamp, call, reply }))
+}

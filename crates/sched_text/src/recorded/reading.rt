@@ -1,0 +1,42 @@
+//! The history in the bytes of a reader.
+
+ghost use Rattle.std.specs.Prelude.{◌≤◌, vec_len, Ok, IfOk, IfErr};
+ghost use Rattle.sched_history.specs.declared.reply.TheConstants.{MAX_ENTRIES};
+ghost use Rattle.sched_text.specs.Script.{Gives};
+ghost use Rattle.sched_text.specs.Recorded.{history_in, GivesHistory, StopsHistory};
+
+use super::{Recorded, history_of};
+use crate::fault::TextFault;
+use crate::input::{parse, read_all};
+use minislots::Checked;
+use sched_history::Entry;
+use std::alloc::Global;
+use std::io::Read;
+
+// The history that a text stands for, where its configuration is lawful.
+#[tactic(auto, unfolding(crate::specs::Recorded::history_in))]
+fn history_in(alloc: Global, bytes: &[u8]) -> Result<(Checked, Vec<Entry>), TextFault>
+    ensures { Gives (λ r. record { config = r.0; entries = r.1.items }) result (history_in bytes.now) }
+{
+    let value = parse(alloc, bytes)?;
+    let Recorded { config, entries } = history_of(alloc, &value)?;
+    let config = config.check()?;
+    Ok((config, entries))
+}
+
+/// The configuration and the entries of the history in a reader, of which all bytes are read. The faults come in
+/// the order of [`TextFault`]: a fault of shape at any entry comes before a wrong configuration. Nothing says that
+/// an entry may follow those before it.
+pub fn read_history<R: Read>(
+    alloc: Global,
+    reader: &mut R,
+) -> Result<(Checked, Vec<Entry>), TextFault>
+    ensures ok { IfOk result (λ r. GivesHistory (R.remaining reader.old) (R.remaining reader.new)
+        (Ok (record { config = r.0; entries = r.1.items }))) }
+    ensures few { IfOk result (λ r. vec_len r.1 ≤ MAX_ENTRIES) }
+    ensures stops { IfErr result
+        (StopsHistory (R.remaining reader.old) (R.remaining reader.new)) }
+{
+    let bytes = read_all(alloc, reader)?;
+    history_in(alloc, &bytes)
+}
