@@ -1,4 +1,3 @@
 pub mod Answered
 pub mod Running
-pub mod Held
 pub mod RowsStops

@@ -1,3 +1,4 @@
+pub mod Line
 pub mod Fault
 pub mod Answer
 pub mod Run

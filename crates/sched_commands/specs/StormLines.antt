@@ -1,11 +1,9 @@
 -- The lines of a tally.
-use Rattle.std.specs.Prelude.{ℕ, zero, suc, List, [], ◌∷◌, ◌++◌, Option, None, Some, codes, slice_index}
+use Rattle.std.specs.Prelude.{ℕ, zero, suc, Bool, true, false, List, [], ◌∷◌, ◌++◌, Option, None, Some}
+use Rattle.std.specs.Prelude.{codes, slice_index}
 use Rattle.sched_storm.specs.declared.tally.Tally.{Tally}
 use Rattle.sched_text.specs.Line.{number_text}
-
--- the line of a number under this name
-unfoldable pub number_line : List ℕ → ℕ → List ℕ
-number_line name n = name ++ (number_text n ++ 10 ∷ [])
+use Rattle.sched_commands.specs.Line.{number_line}
 
 -- the line of a seat: its number and its count
 unfoldable pub seat_line : ℕ → ℕ → List ℕ
@@ -26,9 +24,14 @@ abbrev pub held_line : Option ℕ → List ℕ
 held_line None = []
 held_line (Some worker) = number_line (codes "held") worker
 
+-- the line of the audit
+abbrev pub audit_line : Bool → List ℕ
+audit_line true = codes "audit legal\n"
+audit_line false = codes "audit illegal\n"
+
 -- the lines of a tally of so many workers
 unfoldable pub tally_text : ℕ → Tally → List ℕ
 tally_text workers t =
     seat_lines t.counts workers
     ++ (number_line (codes "unrecorded") t.unrecorded
-    ++ (number_line (codes "maps") t.maps ++ (newest_line t.newest ++ held_line t.held)))
+    ++ (number_line (codes "maps") t.maps ++ (newest_line t.newest ++ (held_line t.held ++ audit_line t.legal))))

@@ -12,7 +12,7 @@ use Rattle.sched_commands.specs.StormLines.{tally_text}
 
 -- the reader's bytes are a script of a storm, and the lines of a tally of it were written, and nothing else, one under
 -- a gate of which this is so where it lets a worker pass to the call at a place, and this where it does not; the answer
--- is whether no worker was held
+-- is whether no worker was held and the audit found the history legal
 pub record Stormed (passes holds : ℕ → ℕ → Type 0) (unread left written_before written_after : Option (List ℕ))
     (free : Bool) : Type 0 where
   pub storm : Storm
@@ -20,7 +20,7 @@ pub record Stormed (passes holds : ℕ → ℕ → Type 0) (unread left written_
   pub tally : Tally
   pub tally_is : IsGatedTally passes holds storm.config storm.scripts tally
   pub written : Appends written_before written_after (tally_text (length storm.scripts) tally)
-  pub free_is : free ≡ true ↔ (tally.held ≡ None)
+  pub free_is : free ≡ true ↔ ((tally.held ≡ None) × (tally.legal ≡ true))
 
 -- why a storm ends: there is no script, or a thread or a write was tried after a whole one was read
 abbrev pub StopsStorm : Option (List ℕ) → Option (List ℕ) → RunFault → Type 0

@@ -1,23 +1,31 @@
 //! A storm from its script to the lines of its tally.
 
-ghost use Rattle.std.specs.Prelude.{◌≡◌, ◌≢◌, IfOk, IfErr};
+ghost use Rattle.std.specs.Prelude.{◌≡◌, ◌≢◌, ◌↔◌, true, None, IfOk, IfErr};
 ghost use Rattle.sched_commands.specs.StormRun.{Stormed, StopsStorm};
 
 mod line;
 
 use crate::fault::RunFault;
 use line::put_tally;
-use sched_storm::{Gate, StormFault, storm_with};
+use sched_storm::{Gate, StormFault, Tally, storm_with};
 use sched_text::read_storm;
 use std::alloc::Global;
 use std::io::{Read, Write};
 use std::sync::Wait;
 use std::thread::Threads;
 
+// Whether no worker was held and the history is legal.
+fn went_well(tally: &Tally) -> bool
+    ensures { (result ≡ true) ↔ ((tally.now.held ≡ None) × (tally.now.legal ≡ true)) }
+{
+    tally.held.is_none() && tally.legal
+}
+
 /// Reads a script of a storm, a configuration and 1 to 16 scripts in JSON, to the reader's end, runs the scripts
 /// at the same time, and writes the lines of their tally: one for each seat with its number and its count, then
-/// the number of calls that were not recorded, that of the MAPs, and the least of the workers that the gate held,
-/// if any. Answers whether no worker was held. Nothing is written before another fault than one of output.
+/// the number of calls that were not recorded, that of the MAPs, the version that was read last, the least of the
+/// workers that the gate held, if any, and what the audit says. Answers whether no worker was held and the history is
+/// legal. Nothing is written before another fault than one of output.
 pub fn run_storm<R: Threads + Wait + Sync, I: Read, W: Write, G: Gate>(
     rt: &R,
     alloc: Global,
@@ -43,5 +51,5 @@ pub fn run_storm<R: Threads + Wait + Sync, I: Read, W: Write, G: Gate>(
         Err(StormFault::ScriptCount) => unreachable!(),
     };
     put_tally(writer, workers, &tally)?;
-    Ok(tally.held.is_none())
+    Ok(went_well(&tally))
 }

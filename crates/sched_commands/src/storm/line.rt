@@ -2,24 +2,14 @@
 
 ghost use Rattle.std.specs.Prelude.{◌≡◌, ◌≤◌, OnOk, IfErr};
 ghost use Rattle.std.specs.Io.KnownBytes.{Appends};
-ghost use Rattle.sched_commands.specs.StormLines.{number_line, seat_line, seat_lines};
-ghost use Rattle.sched_commands.specs.StormLines.{newest_line, held_line, tally_text};
+ghost use Rattle.sched_commands.specs.StormLines.{seat_line, seat_lines};
+ghost use Rattle.sched_commands.specs.StormLines.{newest_line, held_line, audit_line, tally_text};
 
+use crate::line::put_named;
 use sched_storm::Tally;
 use sched_text::{TextFault, put, put_number};
 use std::io::Write;
 use ticket_core::MAX_SEATS;
-
-// The line of a number under this name.
-#[tactic(auto, unfolding(crate::specs::StormLines::number_line))]
-fn put_named<W: Write>(writer: &mut W, name: &[u8], number: u64) -> Result<(), TextFault>
-    ensures ok { OnOk result (Appends (W.contents writer.old) (W.contents writer.new) (number_line name.now number)) }
-    ensures err { IfErr result (λ e. e ≡ TextFault.Output) }
-{
-    put(writer, name)?;
-    put_number(writer, number)?;
-    put(writer, b"\n")
-}
 
 // The line of a seat: its number and its count.
 #[tactic(auto, unfolding(crate::specs::StormLines::seat_line))]
@@ -71,6 +61,21 @@ fn put_held<W: Write>(writer: &mut W, held: Option<usize>) -> Result<(), TextFau
     }
 }
 
+// The line of the audit.
+fn put_audit<W: Write>(writer: &mut W, legal: bool) -> Result<(), TextFault>
+    ensures ok { OnOk result (Appends (W.contents writer.old) (W.contents writer.new) (audit_line legal)) }
+    ensures err { IfErr result (λ e. e ≡ TextFault.Output) }
+{
+    put(
+        writer,
+        if legal {
+            b"audit legal\n"
+        } else {
+            b"audit illegal\n"
+        },
+    )
+}
+
 /// The lines of a tally of so many workers.
 #[tactic(auto, unfolding(crate::specs::StormLines::tally_text))]
 pub fn put_tally<W: Write>(writer: &mut W, workers: usize, tally: &Tally) -> Result<(), TextFault>
@@ -82,5 +87,6 @@ pub fn put_tally<W: Write>(writer: &mut W, workers: usize, tally: &Tally) -> Res
     put_named(writer, b"unrecorded", tally.unrecorded)?;
     put_named(writer, b"maps", tally.maps)?;
     put_newest(writer, tally.newest)?;
-    put_held(writer, tally.held)
+    put_held(writer, tally.held)?;
+    put_audit(writer, tally.legal)
 }

@@ -36,22 +36,22 @@ fn a_storm_has_its_lines(rt: HostRuntime) -> Result<(), Fail> {
         PAIR,
         &Open,
         Ok(true),
-        "seat 0 1\nseat 1 1\nunrecorded 0\nmaps 1\nnewest 1\n",
+        "seat 0 1\nseat 1 1\nunrecorded 0\nmaps 1\nnewest 1\naudit legal\n",
     )?;
     storms(
         &rt,
         "[]",
         &Open,
         Ok(true),
-        "seat 0 0\nunrecorded 0\nmaps 0\nnewest none\n",
+        "seat 0 0\nunrecorded 0\nmaps 0\nnewest none\naudit legal\n",
     )
 }
 
 #[test]
 fn a_worker_that_is_held_has_a_line(rt: HostRuntime) -> Result<(), Fail> {
-    let lines = "seat 0 0\nseat 1 1\nunrecorded 0\nmaps 0\nnewest none\nheld 0\n";
+    let lines = "seat 0 0\nseat 1 1\nunrecorded 0\nmaps 0\nnewest none\nheld 0\naudit legal\n";
     storms(&rt, PAIR, &Shut { worker: 0 }, Ok(false), lines)?;
-    let lines = "seat 0 1\nseat 1 0\nunrecorded 0\nmaps 1\nnewest 1\nheld 1\n";
+    let lines = "seat 0 1\nseat 1 0\nunrecorded 0\nmaps 1\nnewest 1\nheld 1\naudit legal\n";
     storms(&rt, PAIR, &Shut { worker: 1 }, Ok(false), lines)
 }
 

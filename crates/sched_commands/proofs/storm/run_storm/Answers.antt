@@ -4,7 +4,6 @@ use Rattle.std.proofs.lemmas.List.{length-map}
 use Rattle.std.specs.Io.KnownBytes.{Appends}
 use Rattle.sched_storm.specs.Jobs.{calls_each}
 use Rattle.sched_commands.specs.StormLines.{tally_text}
-use Rattle.sched_commands.proofs.Held.{free-held}
 use Rattle.sched_commands.proofs.storm.run_storm.Goals as goal
 
 pub returns-clause-ok : goal.returns-clause-ok
@@ -21,5 +20,5 @@ returns-clause-ok g c =
       written = subst
           (λ n. Appends (contents c.args.writer.now) (contents c.put_tally.new.writer) (tally_text n c.in-Ok.tally))
           workers c.in_ok-put_tally.ensures.ok;
-      free_is = free-held c.in-Ok.tally.held c.is_none.result c.is_none.ensures;
+      free_is = c.went_well.ensures;
     }

@@ -1,0 +1,19 @@
+//! The line of a number under a name.
+
+ghost use Rattle.std.specs.Prelude.{◌≡◌, OnOk, IfErr};
+ghost use Rattle.std.specs.Io.KnownBytes.{Appends};
+ghost use Rattle.sched_commands.specs.Line.{number_line};
+
+use sched_text::{TextFault, put, put_number};
+use std::io::Write;
+
+/// The line of a number under this name.
+#[tactic(auto, unfolding(crate::specs::Line::number_line))]
+pub fn put_named<W: Write>(writer: &mut W, name: &[u8], number: u64) -> Result<(), TextFault>
+    ensures ok { OnOk result (Appends (W.contents writer.old) (W.contents writer.new) (number_line name.now number)) }
+    ensures err { IfErr result (λ e. e ≡ TextFault.Output) }
+{
+    put(writer, name)?;
+    put_number(writer, number)?;
+    put(writer, b"\n")
+}
