@@ -1,5 +1,5 @@
 -- A storm from the opening of its lock to its tally.
-use Rattle.std.proofs.Common.{◌≡◌, ℕ, false, List, length, map, Result, Ok, Err, sym, ap, ◌∙◌, subst}
+use Rattle.std.proofs.Common.{◌≡◌, ℕ, true, false, List, length, map, Result, Ok, Err, sym, ap, ◌∙◌, subst}
 use Rattle.std.specs.Prelude.{IfOk, OnOk, vec_len}
 use Rattle.std.specs.Global.{Vec}
 use Rattle.std.specs.List.{range_with_len}
@@ -94,6 +94,7 @@ module _ (c : Config) (workers : ℕ) (lock : Lock FixedDesk Entry) (seats : Lis
             unrecorded_is = tells.unrecorded_is ∙ made.all.unrecorded_is ∙ counts.unrecorded_is;
             maps_is = tells.maps_is;
             newest_is = tells.newest_is;
+            legal_is = tells.legal_is;
             held_is = tells.held_is ∙ made.all.held_is ∙ counts.held_is;
           };
           gated = counts.gated;
@@ -111,3 +112,9 @@ module _ (c : Config) (workers : ℕ) (lock : Lock FixedDesk Entry) (seats : Lis
           → IfOk r (IsTally c (calls_each given.items))
       is_tally (Ok t) tells going = (is_gated t going (subst (λ x. Tells x lock g t) same tells)).tally
       is_tally (Err fault) tells going = tt
+
+-- an audit of a closed history finds it legal
+pub legal_tally : (c : Config) (lock : Lock FixedDesk Entry) (g : Gathered) (r : Result Tally StormFault)
+    → IfOk r (Tells c lock g) → IfOk r (λ t. t.legal ≡ true)
+legal_tally c lock g (Ok t) tells = tells.legal_is.1 tells.closed.legal
+legal_tally c lock g (Err fault) tells = tt

@@ -1,12 +1,13 @@
 -- What a storm is, as its tally tells it.
-use Rattle.std.specs.Prelude.{◌≡◌, ◌<◌, ◌≤◌, ℕ, List, [], ◌∷◌, length, map, sum_by, nat_lt, if◌then◌else◌}
-use Rattle.std.specs.Prelude.{Option, Some, None}
+use Rattle.std.specs.Prelude.{◌≡◌, ◌<◌, ◌≤◌, ◌↔◌, ℕ, true, List, [], ◌∷◌, length, map, sum_by, nat_lt}
+use Rattle.std.specs.Prelude.{if◌then◌else◌, Option, Some, None}
 use Rattle.std.specs.List.{range_with_len}
 use mathlib.Core.List.{IsPrefix}
 use Rattle.minislots.specs.declared.config.Config.{Config}
 use Rattle.sched_history.specs.declared.call.Call.{Call}
 use Rattle.sched_history.specs.declared.reply.Entry.{Entry}
 use Rattle.sched_history.specs.Facts.{maps_of}
+use Rattle.sched_history.specs.History.{IsLegal}
 use Rattle.ticket_lock.specs.Rule.{Every}
 use Rattle.ticket_lock.specs.Standing.{Lock, Standing, seats_of}
 use Rattle.shared_sched.specs.Desk.{FixedDesk}
@@ -57,10 +58,11 @@ pub record IsTally (c : Config) (scripts : List (List Call)) (t : Tally) : Type 
   pub closed : ClosesTo c lock (map (λ d. d.seat) deeds) t.history.items t.counts
   -- each worker made calls of its script, in order, and the entries of its seat are those that were recorded
   pub each : Every (HasMade c t.history.items) deeds
-  -- the numbers are those of these calls and of this history
+  -- the numbers are those of these calls and of this history, and the verdict is that of this history
   pub unrecorded_is : t.unrecorded ≡ sum_by (λ d. left_out_count d.made) deeds
   pub maps_is : t.maps ≡ length (maps_of t.history.items)
   pub newest_is : HasRead t.maps t.newest
+  pub legal_is : (t.legal ≡ true) ↔ IsLegal c t.history.items
   pub held_is : t.held ≡ held_of deeds
 
 -- the gate let a worker pass before each call that it made, and not before the next one of its script, if there is one
@@ -81,4 +83,5 @@ pub record Tells (c : Config) (lock : Lock FixedDesk Entry) (g : Gathered) (t : 
   pub unrecorded_is : t.unrecorded ≡ g.unrecorded
   pub maps_is : t.maps ≡ length (maps_of t.history.items)
   pub newest_is : HasRead t.maps t.newest
+  pub legal_is : (t.legal ≡ true) ↔ IsLegal c t.history.items
   pub held_is : t.held ≡ g.held

@@ -12,7 +12,7 @@ use crate::gate::Gate;
 use crate::gather::Gathered;
 use crate::jobs::{Rooms, run_workers};
 use crate::reading::read_last;
-use crate::tally::{StormFault, Tally, count_maps};
+use crate::tally::{StormFault, Tally, count_maps, is_legal};
 use map_snapshot::Reader;
 use minislots::Checked;
 use sched_history::{Call, MAX_SCRIPTS};
@@ -32,20 +32,24 @@ fn reserve<G: Gate>(alloc: Global, workers: usize) -> Result<Rooms<G>, AllocErro
     })
 }
 
-// Closes the scheduler, reads what it published last, and counts what its history has. There is no tally where a
-// worker was stopped.
+// Closes the scheduler, reads what it published last, counts what its history has, and audits it. There is no tally
+// where a worker was stopped, or where memory ran out for the audit.
 fn close<R: Wait>(
     rt: &R,
+    alloc: Global,
+    checked: &Checked,
     shared: Shared,
     reader: Reader,
     gathered: Gathered,
 ) -> Result<Tally, StormFault>
+    requires config { shared.config ≡ checked.now }
     requires own { Every (λ s. s.lock ≡ shared.lock) gathered.seats.items }
     requires all { length gathered.seats.items ≡ seats_of shared.lock }
     requires reader { reader.press ≡ shared.press }
     ensures told { IfOk result (Tells shared.config shared.lock gathered) }
     ensures ok { OnOk result (gathered.stopped ≡ false) }
-    ensures err { IfErr result (λ fault. (fault ≡ StormFault.Threads) × (gathered.stopped ≡ true)) }
+    ensures err { IfErr result (λ fault. ((fault ≡ StormFault.Threads) × (gathered.stopped ≡ true))
+        ⊎ ((fault ≡ StormFault.Memory) × (gathered.stopped ≡ false))) }
 {
     let Gathered {
         seats,
@@ -63,12 +67,14 @@ fn close<R: Wait>(
         return Err(StormFault::Threads);
     }
     let maps = count_maps(&history);
+    let legal = is_legal(alloc, checked, &history)?;
     Ok(Tally {
         history,
         counts,
         unrecorded,
         maps,
         newest,
+        legal,
         held,
     })
 }
@@ -77,8 +83,8 @@ fn close<R: Wait>(
 /// which is worker i, and seat i. Before each call its worker asks the gate and yields until the gate lets it
 /// pass; a worker that asked 1000000 times in vain before one call makes no more of them, and is held. After
 /// each call the gate is told. It waits until all workers have ended. Then one reader, told of all that was published,
-/// reads the newest MAP, and the press is ended. Where a thread was not started, there is
-/// no tally.
+/// reads the newest MAP, the press is ended, and the history is audited. Where a thread was not started, there is
+/// no tally, and none where memory ran out, for the audit too.
 pub fn storm_with<R: Threads + Wait + Sync, G: Gate>(
     rt: &R,
     alloc: Global,
@@ -89,6 +95,9 @@ pub fn storm_with<R: Threads + Wait + Sync, G: Gate>(
     ensures tally { IfOk result (IsTally checked (calls_each scripts.items)) }
     ensures count { IsErrOf result StormFault.ScriptCount
         ↔ ((vec_len scripts ≡ 0) ⊎ (MAX_SCRIPTS < vec_len scripts)) }
+
+    // No audit finds a history of threads illegal.
+    ensures legal { IfOk result (λ tally. tally.legal ≡ true) }
 
     // The gate let each worker pass before each call that it made, and held it before the next one, if there is one.
     ensures gated { IfOk result (IsGatedTally (G.lets_pass gate.now) (G.holds_back gate.now) checked
@@ -108,5 +117,5 @@ pub fn storm_with<R: Threads + Wait + Sync, G: Gate>(
         unreachable!()
     };
     let gathered = run_workers(rt, &shared, checked, gate, seats, scripts, rooms);
-    close(rt, shared, reader, gathered)
+    close(rt, alloc, &checked, shared, reader, gathered)
 }

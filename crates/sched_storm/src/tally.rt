@@ -1,9 +1,12 @@
 //! What a storm tells, and why there is none.
 
-ghost use Rattle.std.specs.Prelude.{◌≡◌, [], ◌∷◌, length};
+ghost use Rattle.std.specs.Prelude.{◌≡◌, ◌≤◌, ◌↔◌, true, [], ◌∷◌, length, IfOk, IfErr};
 ghost use Rattle.sched_history.specs.Facts.{maps_of};
+ghost use Rattle.sched_history.specs.History.{IsLegal};
 
-use sched_history::{Entry, Reply};
+use minislots::Checked;
+use sched_history::{AuditFault, Entry, Reply, audit};
+use std::alloc::Global;
 use thiserror::Error;
 use ticket_core::MAX_SEATS;
 
@@ -20,6 +23,8 @@ pub struct Tally {
     pub maps: u64,
     /// The version that one reader, told of all that was published, reads at the end, if any.
     pub newest: Option<u64>,
+    /// Whether an audit finds the history legal.
+    pub legal: bool,
     /// The least of the workers that their gates held, if any.
     pub held: Option<usize>,
 }
@@ -33,7 +38,7 @@ pub enum StormFault {
     /// A thread was not started.
     #[error("no thread")]
     Threads,
-    /// There was no memory for the scheduler, its seats, its reader or the workers.
+    /// There was no memory for the scheduler, its seats, its reader, the workers or the audit of the history.
     #[error("out of memory")]
     Memory,
 }
@@ -57,4 +62,21 @@ pub fn count_maps(history: &[Entry]) -> u64
         maps += count_map(entry);
     }
     maps
+}
+
+/// Whether an audit finds a history legal, which has no more entries than its configuration records.
+pub fn is_legal(alloc: Global, checked: &Checked, history: &[Entry]) -> Result<bool, StormFault>
+    requires within { length history.now ≤ checked.now.calls }
+    ensures ok { IfOk result (λ legal. (legal ≡ true) ↔ IsLegal checked.now history.now) }
+    ensures err { IfErr result (λ fault. fault ≡ StormFault.Memory) }
+{
+    // So it is short enough for an audit.
+    if history.len() > checked.calls() as usize {
+        unreachable!()
+    }
+    match audit(alloc, checked, history) {
+        Ok(()) => Ok(true),
+        Err(AuditFault::Illegal(_)) => Ok(false),
+        Err(AuditFault::Memory) => Err(StormFault::Memory),
+    }
 }

@@ -86,8 +86,8 @@ fn one_thread_gets_the_replies_of_16(rt: HostRuntime) -> Result<(), Fail> {
         tally.history.len()
     );
     assert!(rt;
-        tally.unrecorded == 0 && tally.held.is_none(),
-        "all calls are recorded"
+        tally.unrecorded == 0 && tally.held.is_none() && tally.legal,
+        "all calls are recorded, and legal"
     );
     assert!(rt;
         tally.counts[..16].iter().all(|count| *count == 200),

@@ -26,14 +26,15 @@ pub fn tally_of<R: Threads + Wait + AllocGlobal + Sync>(
     Ok(storm_with(rt, rt.alloc(), config, scripts, gate)?)
 }
 
-/// The tally has these counts of the first two workers, unrecorded calls and MAPs, this worker was held, and the
-/// version read last is that of the last MAP.
+/// The tally has these counts of the first two workers, unrecorded calls and MAPs, this worker was held, the
+/// version read last is that of the last MAP, and the history is legal.
 pub fn has_counts<R: Abort + AllocGlobal>(rt: &R, tally: &Tally, expected: &str) {
     let (zero, one) = (tally.counts[0], tally.counts[1]);
     assert!(rt;
         tally.newest.unwrap_or(0) == tally.maps,
         "the newest version"
     );
+    assert!(rt; tally.legal, "the verdict");
     is_shown(
         rt,
         (zero, one, tally.unrecorded, tally.maps, tally.held),

@@ -2,7 +2,7 @@
 use Rattle.std.proofs.Common.{◌≤◌, vec_len, arith, rules}
 use Rattle.sched_history.specs.declared.call.TheConstants.{MAX_SCRIPTS}
 use Rattle.sched_storm.proofs.StormLaws.{opened_own, opened_length, gathered_own, gathered_all}
-use Rattle.sched_storm.proofs.StormLaws.{is_gated_tally, is_tally}
+use Rattle.sched_storm.proofs.StormLaws.{is_gated_tally, is_tally, legal_tally}
 use Rattle.sched_storm.proofs.storm.storm_with.Goals as goal
 
 pub run_workers-gathered-requires-clause-ready : goal.run_workers-gathered-requires-clause-ready
@@ -60,6 +60,11 @@ returns-clause-gated g c =
     (g.G.Gate.lets_pass c.args.gate.now) (g.G.Gate.holds_back c.args.gate.now) c.args.scripts c.len-workers.ensures
     c.run_workers-gathered.result c.run_workers-gathered.ensures.worked new.shared.config new.ensures.config
     c.close.result c.close.ensures.told c.close.ensures.ok
+
+pub returns-clause-legal : goal.returns-clause-legal
+returns-clause-legal g c =
+    legal_tally c.in-Ok-open.shared.config c.in-Ok-open.shared.lock c.run_workers-gathered.result c.close.result
+    c.close.ensures.told
 
 pub returns-in_default-clause-count : goal.returns-in_default-clause-count
 returns-in_default-clause-count g c =
