@@ -1,5 +1,5 @@
 //! What a build does at the desk besides publishing.
-ghost use Rattle.std.specs.Prelude.{◌≡◌, ◌≤◌, ◌↔◌, Ok, Some, length, IfOk, OnErr, IsErrOf};
+ghost use Rattle.std.specs.Prelude.{◌≡◌, ◌+◌, ◌≤◌, ◌↔◌, Ok, Some, length, IfOk, OnErr, IsErrOf};
 ghost use Rattle.map_codec.specs.WireMap.{spelling, IsWellFormed};
 ghost use Rattle.map_snapshot.specs.declared.printed.TheConstants.{MAX_BYTES};
 ghost use Rattle.map_snapshot.specs.Maps.{map_in};
@@ -11,10 +11,9 @@ ghost use Rattle.shared_sched.specs.Build.{Appends, ShowsPlan, desk_with};
 ghost use Rattle.shared_sched.specs.Calls.{HasCalled};
 ghost use Rattle.shared_sched.specs.Desk.{ShowsHistory};
 
-use crate::desk::Desk;
 use crate::kept::Kept;
 use map_codec::{WireMap, encode};
-use map_snapshot::{MAX_BYTES, Press, Printed};
+use map_snapshot::{MAX_BYTES, Printed};
 use minislots::Stamp;
 use sched_history::{Call, PlanFault, Planned, Refusal, Reply, Scheduler};
 
@@ -38,7 +37,7 @@ fn print(version: u64, map: &WireMap) -> Printed
 /// of it yet. After a fault nothing is changed. It takes no handle.
 pub fn prepare(
     scheduler: &mut Scheduler,
-    press: &mut Press,
+    press: &mut Kept,
     maps: u64,
     now: u64,
 ) -> Result<Planned, PlanFault>
@@ -70,23 +69,17 @@ pub fn prepare(
 
 /// Records a planned build, whose MAP the press has published already. It takes no memory, no handle, and cannot fail.
 pub fn commit(
-    scheduler: Box<Scheduler>,
-    press: Press,
+    scheduler: &mut Scheduler,
+    press: &Kept,
     maps: u64,
     stamp: Stamp,
     planned: Planned,
-) -> (Desk, Reply)
-    requires fits { IsPlanAfter scheduler.value.config scheduler.value.history planned }
-    requires shown { ShowsPlan scheduler.value press maps (spelling planned.map.wire) }
-    ensures called { HasCalled (desk_with scheduler.value press) stamp (Call.Build planned.clock) result.0
-        (Ok result.1) }
+) -> Reply
+    requires fits { IsPlanAfter scheduler.old.config scheduler.old.history planned }
+    requires shown { ShowsPlan scheduler.old press.now maps (spelling planned.map.wire) }
+    ensures called { HasCalled (desk_with scheduler.old press.now) stamp (Call.Build planned.clock)
+        (desk_with scheduler.new press.now) (Ok result) }
+    ensures shows { ShowsHistory scheduler.new press.now (maps + 1) }
 {
-    let mut scheduler = scheduler;
-    let reply = scheduler.commit(stamp, planned);
-    let desk = Desk {
-        scheduler,
-        press: Kept::new(press),
-        maps: maps + 1,
-    };
-    (desk, reply)
+    scheduler.commit(stamp, planned)
 }

@@ -7,6 +7,7 @@ ghost use Rattle.shared_sched.specs.Desk.{published};
 
 use crate::counting::count_each;
 use crate::desk::Desk;
+use crate::recorder::Recorder;
 use crate::shared::Shared;
 use map_snapshot::Press;
 use sched_history::Entry;
@@ -40,12 +41,11 @@ impl Shared {
             config: _,
             told: _,
         } = self;
-        let Desk {
+        let Recorder {
             scheduler,
             press,
             maps: _,
-        } = lock.close(seats);
-        let scheduler = Box::into_inner(scheduler);
+        } = lock.close(seats).into_recorder();
         let history = scheduler.into_history();
         let counts = count_each(&history);
         Closed {

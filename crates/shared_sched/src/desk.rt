@@ -1,12 +1,13 @@
-//! The scheduler with its press, as a journal.
-ghost use Rattle.std.specs.Prelude.{◌≡◌, [], length, option_map, slice_get};
-ghost use Rattle.shared_sched.specs.Desk.{HasFewCalls, fixed_of, history_of, maker_of, published};
-ghost use Rattle.shared_sched.specs.Build.{desk_with};
+//! The desk that the holder of the lock has, as a journal.
+ghost use Rattle.std.specs.Prelude.{◌≡◌, IfOk, IfErr, length, option_map, slice_get};
+ghost use Rattle.shared_sched.specs.Calls.{HasCalled};
+ghost use Rattle.shared_sched.specs.Desk.{fixed_of, history_of, maker_of, published};
 
-use crate::kept::Kept;
-use map_snapshot::{Press, Told};
+use crate::recorder::Recorder;
+use map_snapshot::Told;
 use minislots::{Config, Stamp};
-use sched_history::{Entry, Scheduler};
+use sched_history::{Call, Entry, Reply, Unrecorded};
+use std::alloc::Global;
 use std::marker::Model;
 use std::sync::Wait;
 use ticket_lock::Journal;
@@ -17,22 +18,16 @@ use ticket_lock::Journal;
 #[must_use]
 #[derive(Drop)]
 pub struct Desk {
-    // On the heap, since each turn at the lock moves the desk several times.
-    pub(crate) scheduler: Box<Scheduler>,
-    pub(crate) press: Kept,
-    // How many MAPs the history has.
-    pub(crate) maps: u64,
+    // One pointer, since each turn at the lock moves the desk several times.
+    pub(crate) recorder: Box<Recorder>,
 }
 
 impl Model for Desk {
-    ghost use Rattle.shared_sched.specs.Desk.{DeskState, ShowsHistory};
-    ghost use Rattle.shared_sched.specs.Build.{desk_with};
+    ghost use Rattle.shared_sched.specs.Desk.{DeskState};
 
     ghost Value = { DeskState };
 
-    ghost view = { λ d. desk_with d.scheduler.value d.press };
-
-    ghost invariant = { λ d. ShowsHistory d.scheduler.value d.press d.maps };
+    ghost view = { λ d. d.recorder.value };
 }
 
 /// What does not change of a desk: its configuration, and which press it has. No value of it is made.
@@ -62,28 +57,33 @@ impl Journal for Desk {
     ghost stamp = { maker_of };
 
     fn len(&self) -> usize {
-        self.scheduler.history().len()
+        self.recorder.entries().len()
     }
 
     fn stamp_at(&self, i: usize) -> Option<Stamp> {
-        let entry = self.scheduler.history().get(i)?;
+        let entry = self.recorder.entries().get(i)?;
         Some(entry.stamp)
     }
 }
 
 impl Desk {
-    // A desk that has recorded no call, with a press that has published nothing.
-    pub(crate) fn new(scheduler: Box<Scheduler>, press: Press) -> Desk
-        requires empty { scheduler.value.history ≡ [] }
-        requires few { HasFewCalls scheduler.value.config }
-        requires unread { (press.list ≡ []) × (press.waiting ≡ []) }
-        ensures made { result ≡ desk_with scheduler.value press }
+    // A desk with this scheduler and its press. Where memory is refused they come back.
+    pub(crate) fn new(alloc: Global, recorder: Recorder) -> Result<Desk, Recorder>
+        ensures made { IfOk result (λ desk. desk ≡ recorder) }
+        ensures given_back { IfErr result (λ r. r ≡ recorder) }
     {
-        Desk {
-            scheduler,
-            press: Kept::new(press),
-            maps: 0,
+        match Box::new(alloc, recorder) {
+            Ok(recorder) => Ok(Desk { recorder }),
+            Err(refused) => Err(refused.value),
         }
+    }
+
+    // What it has.
+    pub(crate) fn into_recorder(self) -> Recorder
+        ensures { result ≡ self }
+    {
+        let Desk { recorder } = self;
+        Box::into_inner(recorder)
     }
 
     /// Tells what was published: the encodings of the history's MAPs. It takes no memory, and waits for nobody.
@@ -91,16 +91,18 @@ impl Desk {
         ensures same { self.new ≡ self.old }
         ensures told { result ≡ record { press = self.old.press; list = published self.old.history } }
     {
-        self.press.tell()
+        self.recorder.tell()
     }
 
-    // Ends its press.
-    pub(crate) fn end<R: Wait>(self, rt: &R) {
-        let Desk {
-            scheduler: _,
-            press,
-            maps: _,
-        } = self;
-        press.into_press().end(rt);
+    // Makes a call and records it, with this stamp. A build's MAP is published before the build is recorded.
+    pub(crate) fn call<R: Wait>(
+        &mut self,
+        rt: &R,
+        stamp: Stamp,
+        call: Call,
+    ) -> Result<Reply, Unrecorded>
+        ensures called { HasCalled self.old stamp call self.new result }
+    {
+        self.recorder.call(rt, stamp, call)
     }
 }

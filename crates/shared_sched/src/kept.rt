@@ -1,9 +1,13 @@
 //! The press of a desk.
-ghost use Rattle.std.specs.Prelude.{◌≡◌};
+ghost use Rattle.std.specs.Prelude.{◌≡◌, ◌+◌, ◌≤◌, ◌++◌, [], ◌∷◌, map, length, OnOk, OnErr};
+ghost use Rattle.map_snapshot.specs.declared.printed.TheConstants.{MAX_BYTES};
+ghost use Rattle.map_snapshot.specs.Maps.{map_in};
 
-use map_snapshot::{Press, Told};
+use map_snapshot::{Press, Printed, Told};
+use std::alloc::AllocError;
 use std::marker::Model;
 use std::mem::ManuallyDrop;
+use std::sync::Wait;
 
 /// A press that is with a desk, and so with a lock and its seats. A press has no `Drop`. A seat has one, since a thread
 /// may be let go with what it gives back, and a seat may only where the value of its lock may: so this press may too,
@@ -21,6 +25,20 @@ impl Model for Kept {
     ghost Value = { Printing };
 
     ghost view = { λ k. manually_drop_value k.press };
+}
+
+/// That a press has ended, with what it told before. `Kept::end` alone makes one.
+#[derive(Drop)]
+pub struct Ended {
+    told: Told,
+}
+
+impl Model for Ended {
+    ghost use Rattle.logbook.specs.Pages.{Book};
+
+    ghost Value = { Book };
+
+    ghost view = { λ e. e.told.press };
 }
 
 impl Kept {
@@ -47,5 +65,36 @@ impl Kept {
         ensures told { result ≡ record { press = self.old.press; list = self.old.list } }
     {
         self.press.tell()
+    }
+
+    // Makes room for the MAP at the press.
+    pub fn append(&mut self, printed: Printed) -> Result<(), AllocError>
+        requires settled { self.old.waiting ≡ [] }
+        requires next { printed.version ≡ length self.old.list + 1 }
+        requires fits { printed.len ≤ MAX_BYTES }
+        ensures ok { OnOk result (self.new ≡ record self.old { waiting = printed ∷ [] }) }
+        ensures err { OnErr result (self.new ≡ self.old) }
+    {
+        self.press.append(printed)
+    }
+
+    // Shows readers the MAP that was appended, if one was.
+    pub fn publish<R: Wait>(&mut self, rt: &R)
+        ensures published { self.new ≡ record self.old {
+          list = self.old.list ++ map map_in self.old.waiting;
+          waiting = [];
+        } }
+    {
+        self.press.publish(rt);
+    }
+
+    // Ends the press.
+    pub fn end<R: Wait>(self, rt: &R) -> Ended
+        ensures ended { result ≡ self.press }
+    {
+        let mut press = self.into_press();
+        let told = press.tell();
+        press.end(rt);
+        Ended { told }
     }
 }

@@ -11,6 +11,7 @@ mod fault;
 mod kept;
 mod laws;
 mod opening;
+mod recorder;
 mod shared;
 
 pub use closing::Closed;

@@ -1,5 +1,5 @@
 //! How a shared scheduler is opened.
-ghost use Rattle.std.specs.Prelude.{◌≡◌, ◌⊎◌, ◌<◌, ◌≤◌, ◌↔◌, [], replicate, IfOk, IsErrOf};
+ghost use Rattle.std.specs.Prelude.{◌≡◌, ◌⊎◌, ◌<◌, ◌≤◌, ◌↔◌, [], replicate, IfOk, IfErr, IsErrOf};
 ghost use Rattle.map_snapshot.specs.declared.opening.TheConstants.{MAX_READERS};
 ghost use Rattle.map_snapshot.specs.Maps.{unread};
 ghost use Rattle.ticket_core.specs.declared.TheConstants.{MAX_SEATS};
@@ -8,14 +8,67 @@ ghost use Rattle.shared_sched.specs.Desk.{fixed_of, history_of, empty_desk};
 
 use crate::desk::Desk;
 use crate::fault::OpenFault;
+use crate::kept::Ended;
+use crate::recorder::Recorder;
 use crate::shared::Shared;
-use map_snapshot::{MAX_READERS, Reader, open_press};
+use map_snapshot::{MAX_READERS, Press, Reader, open_press};
 use minislots::Checked;
 use sched_history::Scheduler;
 use std::alloc::Global;
 use std::sync::Wait;
 use ticket_core::MAX_SEATS;
 use ticket_lock::{Seat, TicketLock};
+
+// A lock round a desk with this scheduler and its press. After a fault they come back.
+fn lay(
+    alloc: Global,
+    recorder: Recorder,
+    seats: usize,
+) -> Result<(TicketLock<Desk>, Vec<Seat<Desk>>), Recorder>
+    requires count { (1 ≤ seats) × (seats ≤ MAX_SEATS) }
+    ensures opened { IfOk result (λ r. Opens fixed_of history_of recorder seats 0 r.0 r.1.items) }
+    ensures given_back { IfErr result (λ r. r ≡ recorder) }
+{
+    let desk = Desk::new(alloc, recorder)?;
+    match TicketLock::open(alloc, desk, seats, 0) {
+        Ok(opened) => Ok(opened),
+        Err((_, desk)) => Err(desk.into_recorder()),
+    }
+}
+
+// Shares a scheduler that has recorded no call, with a press that has published nothing. After a fault the press has
+// ended.
+fn share<R: Wait>(
+    rt: &R,
+    alloc: Global,
+    checked: Checked,
+    scheduler: Scheduler,
+    press: Press,
+    seats: usize,
+) -> Result<(Shared, Vec<Seat<Desk>>), Ended>
+    requires new { scheduler ≡ record { config = checked; history = [] } }
+    requires unread { (press.list ≡ []) × (press.waiting ≡ []) }
+    requires count { (1 ≤ seats) × (seats ≤ MAX_SEATS) }
+    ensures config { IfOk result (λ r. r.0.config ≡ checked) }
+    ensures press { IfOk result (λ r. r.0.press ≡ press.press) }
+    ensures opened { IfOk result (λ r.
+        Opens fixed_of history_of (empty_desk checked press.press) seats 0 r.0.lock r.1.items) }
+    ensures ended { IfErr result (λ ended. ended ≡ press.press) }
+{
+    let mut recorder = Recorder::new(scheduler, press);
+    let told = recorder.tell();
+    match lay(alloc, recorder, seats) {
+        Ok((lock, row)) => {
+            let shared = Shared {
+                lock,
+                config: checked,
+                told,
+            };
+            Ok((shared, row))
+        }
+        Err(recorder) => Err(recorder.end(rt)),
+    }
+}
 
 /// Opens a scheduler of this configuration with this many seats, 1 to 64, and readers, at most 16, and an empty
 /// history. The seats are numbered by their places in the vector, and the first ticket is 0. The readers are of the
@@ -45,26 +98,11 @@ pub fn open<R: Wait>(
     let Ok(scheduler) = Scheduler::open(alloc, checked) else {
         return Err(OpenFault::Memory);
     };
-    let Ok(scheduler) = Box::new(alloc, scheduler) else {
-        return Err(OpenFault::Memory);
-    };
     let Ok((press, readers)) = open_press(rt, alloc, readers) else {
         return Err(OpenFault::Memory);
     };
-    let mut desk = Desk::new(scheduler, press);
-    let told = desk.tell();
-    match TicketLock::open(alloc, desk, seats, 0) {
-        Ok((lock, row)) => {
-            let shared = Shared {
-                lock,
-                config: checked,
-                told,
-            };
-            Ok((shared, row, readers))
-        }
-        Err((_, desk)) => {
-            desk.end(rt);
-            Err(OpenFault::Memory)
-        }
+    match share(rt, alloc, checked, scheduler, press, seats) {
+        Ok((shared, row)) => Ok((shared, row, readers)),
+        Err(_ended) => Err(OpenFault::Memory),
     }
 }

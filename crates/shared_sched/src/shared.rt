@@ -73,7 +73,8 @@ impl Shared {
         requires entered { IsEntered held desk }
         ensures answered { AnswersHeld self.now.config held call result.0 result.1 }
     {
-        let (desk, answer) = desk.call(rt, held.stamp(), call);
+        let mut desk = desk;
+        let answer = desk.call(rt, held.stamp(), call);
         let seat = self.lock.leave(held, desk);
         (seat, answer)
     }

@@ -20,7 +20,7 @@ pub count_each-counts-requires : goal.count_each-counts-requires
 count_each-counts-requires c = record {
   seats = subst (All (λ (e : Entry). (maker_of e).seat < MAX_SEATS))
       (sym (c.deref.ensures.value ∙ c.into_history-history.ensures.value
-      ∙ ap (λ (m : Machine). m.history) c.into_inner-scheduler.ensures ∙ ap history_of c.scheduler.view_is))
+      ∙ ap history_of (c.scheduler.view_is ∙ c.into_recorder.ensures)))
       (seats_few c.self.inside.config c.self.inside.lock c.self.invariant.0 c.args.seats.items c.close.result
       c.close.ensures.closed);
 }
@@ -28,9 +28,9 @@ count_each-counts-requires c = record {
 pub returns : goal.returns
 returns c =
     let x = c.close.result in
-    let inside : c.into_inner-scheduler.result ≡ record { config = x.config; history = x.history } =
-    c.into_inner-scheduler.ensures
-    ∙ ap (λ (d : DeskState). record { config = d.config; history = d.history }) c.scheduler.view_is in
+    let desk = c.scheduler.view_is ∙ c.into_recorder.ensures in
+    let inside : c.scheduler.inside.scheduler ≡ record { config = x.config; history = x.history } =
+    ap (λ (d : DeskState). record { config = d.config; history = d.history }) desk in
     let items : c.into_history-history.result.items ≡ x.history =
     c.into_history-history.ensures.value ∙ ap (λ (m : Machine). m.history) inside in
     let fixed : fixed_of x ≡ record { config = c.self.inside.config; press = c.self.inside.told.press } =
@@ -57,10 +57,9 @@ returns c =
       closed = subst (λ (y : SharedDesk × List Entry). ClosesTo y.0.config y.0.lock c.args.seats.items y.1 counts)
           (λ i. (c.self.view_is i, sym items i)) told;
       press = ap (λ (p : Printing). p.press) c.into_press.ensures
-          ∙ ap (λ (d : DeskState). d.press) c.scheduler.view_is ∙ ap (λ (f : FixedDesk). f.press) fixed
+          ∙ ap (λ (d : DeskState). d.press) desk ∙ ap (λ (f : FixedDesk). f.press) fixed
           ∙ ap (λ (m : SharedDesk). m.press) c.self.view_is;
       published = ap (λ (p : Printing). p.list) c.into_press.ensures ∙ c.scheduler.invariant.shown
-          ∙ ap published (sym (c.into_history-history.ensures.value
-          ∙ ap (λ (m : Machine). m.history) c.into_inner-scheduler.ensures));
+          ∙ ap published (sym c.into_history-history.ensures.value);
       none_waits = ap (λ (p : Printing). p.waiting) c.into_press.ensures ∙ c.scheduler.invariant.settled;
     }
