@@ -31,6 +31,7 @@ pub const WIDE: Config = Config {
     data_end: 0,
     channel: 3,
     ucd_count: 1,
+    phy: 0,
 };
 
 // The microseconds of one frame.

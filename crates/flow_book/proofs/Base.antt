@@ -26,6 +26,7 @@ base = record {
   data_end = 0;
   channel = 3;
   ucd_count = 1;
+  phy = 0;
 }
 
 -- it is lawful

@@ -8,12 +8,12 @@ use Rattle.std.proofs.lemmas.List.Elements.{filter-append}
 use Rattle.std.proofs.lemmas.Option.{slice_get-get_or}
 use Rattle.minislots.specs.declared.config.Config.{Config}
 use Rattle.map_codec.specs.declared.element.Element.{Element}
-use Rattle.map_codec.specs.declared.element.iuc.TheConstants.{LONG_DATA_GRANT}
 use Rattle.flow_book.specs.declared.spec.FlowSpec.TheVariants.{BestEffort}
 use Rattle.flow_book.specs.Flows.{LiveFlow, flow_of, outstanding}
 use Rattle.flow_book.specs.Book.{BookView}
 use Rattle.map_build.specs.declared.draft.Draft.{Draft}
-use Rattle.map_build.specs.FrameMap.{pending}
+use Rattle.map_build.specs.UsageCodes.{long_iuc}
+use Rattle.map_build.specs.FrameMap.{pending_of, pending}
 use Rattle.map_build.specs.Draft.{Puts, PutsPending}
 use Rattle.map_build.proofs.Standings.{found-in}
 
@@ -22,16 +22,12 @@ pending-push : (c : Config) (flows : List LiveFlow) (f : LiveFlow) →
     pending c (flows ++ f ∷ []) ≡ pending c flows ++ pending c (f ∷ [])
 pending-push c flows f = rw (filter-append, map-append) refl
 
--- the pending grant of a flow
-abbrev pending_of : Config → LiveFlow → Element
-pending_of c f = record { sid = f.sid; iuc = LONG_DATA_GRANT; offset = c.frame }
-
 pending-some : (c : Config) (f : LiveFlow) → 0 < outstanding f → pending c (f ∷ []) ≡ pending_of c f ∷ []
 pending-some c f waits = let test : nat_lt 0 (outstanding f) ≡ true = grind (arith, nat_tests) in rw test refl
 
 -- a flow with bytes outstanding has a pending grant
 pub PutsPending-some : (sid left : ℕ) (old new : Draft) → old.offset ≡ old.book.config.frame → 0 < left →
-    Puts sid LONG_DATA_GRANT 0 0 old new →
+    Puts sid (long_iuc old.book.config) 0 0 old new →
     (o : Option LiveFlow) → ((f : LiveFlow) → o ≡ Some f → f.sid ≡ sid) → IfSome o (λ f. left ≡ outstanding f) →
     IfSome o (λ f. PutsPending (f ∷ []) old new)
 PutsPending-some sid left old new end waits puts None named is = tt

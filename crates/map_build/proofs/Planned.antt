@@ -8,14 +8,13 @@ use Rattle.minislots.specs.declared.config.Config.{Config}
 use Rattle.minislots.specs.Config.{IsLawful, HasBounds}
 use Rattle.minislots.proofs.Bounds.{bounds_of}
 use Rattle.map_codec.specs.declared.element.Element.{Element}
-use Rattle.map_codec.specs.declared.element.iuc.TheConstants.{LONG_DATA_GRANT}
 use Rattle.map_codec.specs.WireMap.{IsWellFormed, FitsHeader}
 use Rattle.flow_book.specs.Flows.{LiveFlow, outstanding}
 use Rattle.periodic.specs.declared.placement.Spot.{Spot}
 use Rattle.map_build.specs.declared.draft.Draft.{Draft}
 use Rattle.map_build.specs.declared.frame_map.FrameMap.{FrameMap}
 use Rattle.map_build.specs.Plan.{Allocation, end_of, flow_after, flows_after, allocation_of, IsPlan}
-use Rattle.map_build.specs.FrameMap.{element_of, null_element, pending, elements_of, bytes_of_plan, IsLawfulMap}
+use Rattle.map_build.specs.FrameMap.{element_of, null_element, pending_of, pending, elements_of, bytes_of_plan, IsLawfulMap}
 use Rattle.map_build.specs.FrameMap.{map_with, IsLawfulFrame}
 use Rattle.map_build.specs.Spots.{IsInFrame, AreInFrame, IsFlowSid, HaveFlowSids, AreOfChannel}
 use Rattle.map_build.specs.Draft.{Ends}
@@ -114,10 +113,6 @@ sids-short (f ∷ flows) all = (omega (arith, all.0.1), sids-short flows all.1)
 spot-sids-short : (spots : List Spot) → HaveFlowSids spots → HaveSpotSids spots
 spot-sids-short [] all = tt
 spot-sids-short (s ∷ spots) all = (omega (arith, all.0.1), spot-sids-short spots all.1)
-
--- the pending grant of a flow
-abbrev pending_of : Config → LiveFlow → Element
-pending_of c f = record { sid = f.sid; iuc = LONG_DATA_GRANT; offset = c.frame }
 
 few-pending : (c : Config) (flows : List LiveFlow) → length (pending c flows) ≤ length flows
 few-pending c flows =

@@ -1,11 +1,12 @@
 -- Steps of a draft: an element more of it is an allocation more.
 use Rattle.std.proofs.Common.{◌≡◌, ℕ, ◌-◌, Bool, true, false, [], ◌∷◌, ◌++◌, if◌then◌else◌, refl, sym, ap, ◌∙◌, arith}
-use Rattle.map_codec.specs.declared.element.iuc.TheConstants.{REQUEST, LONG_DATA_GRANT}
+use Rattle.map_codec.specs.declared.element.iuc.TheConstants.{REQUEST}
 use Rattle.flow_book.specs.Book.{BookView, room_of}
 use Rattle.periodic.specs.declared.placement.Spot.{Spot}
 use Rattle.map_build.specs.declared.draft.Draft.{Draft}
 use Rattle.map_build.specs.Plan.{Allocation, Poll, UnsolicitedGrant, grants_in, grants_to, allocation_of}
-use Rattle.map_build.specs.FrameMap.{element_of, bytes_for, data_iuc}
+use Rattle.map_build.specs.UsageCodes.{long_iuc, unsolicited_iuc}
+use Rattle.map_build.specs.FrameMap.{element_of, bytes_for}
 use Rattle.map_build.specs.Draft.{Puts}
 use Rattle.map_build.specs.Walk.{Takes, idle_to}
 use Rattle.map_build.proofs.FlowsAfter.{flows_after-none}
@@ -28,13 +29,14 @@ module _ (sid iuc slots : ℕ) (old new : Draft) (puts : Puts sid iuc slots 0 ol
   }
 
 -- the idle up to a minislot
-pub Takes-idle : (stop : ℕ) (old new : Draft) → Puts 0 LONG_DATA_GRANT (stop - old.offset) 0 old new →
+pub Takes-idle : (stop : ℕ) (old new : Draft) → Puts 0 (long_iuc old.book.config) (stop - old.offset) 0 old new →
     Takes (idle_to old stop) old new
-Takes-idle stop old new puts = Takes-other 0 LONG_DATA_GRANT (stop - old.offset) old new puts (idle_to old stop) refl
-    refl refl refl (λ other. refl)
+Takes-idle stop old new puts =
+    Takes-other 0 (long_iuc old.book.config) (stop - old.offset) old new puts (idle_to old stop) refl refl refl refl
+    (λ other. refl)
 
 spot-takes : (poll : Bool) (sid iuc offset slots : ℕ) (old new : Draft) →
-    iuc ≡ (if poll then REQUEST else data_iuc old.book.config slots) → offset ≡ old.offset →
+    iuc ≡ (if poll then REQUEST else unsolicited_iuc old.book.config slots) → offset ≡ old.offset →
     Puts sid iuc slots 0 old new →
     Takes (allocation_of (record { sid = sid; poll = poll; offset = offset; slots = slots })) old new
 spot-takes true sid iuc offset slots old new code here puts =
@@ -46,6 +48,6 @@ spot-takes false sid iuc offset slots old new code here puts =
 
 -- the poll or unsolicited grant of a spot
 pub Takes-spot : (s : Spot) (iuc : ℕ) (old new : Draft) →
-    iuc ≡ (if s.poll then REQUEST else data_iuc old.book.config s.slots) → s.offset ≡ old.offset →
+    iuc ≡ (if s.poll then REQUEST else unsolicited_iuc old.book.config s.slots) → s.offset ≡ old.offset →
     Puts s.sid iuc s.slots 0 old new → Takes (allocation_of s) old new
 Takes-spot s iuc old new code here puts = spot-takes s.poll s.sid iuc s.offset s.slots old new code here puts

@@ -3,6 +3,8 @@ use Rattle.std.proofs.Common.{◌≡◌, ℕ, zero, suc, ◌^◌, ◌<◌, ◌�
 use Rattle.std.proofs.Common.{filter, length, nat_le, if◌then◌else◌, ◌==◌, refl, ◌∙◌, arith, append_assoc}
 use Rattle.std.proofs.lemmas.Bool.Decides.{nat_tests}
 use Rattle.map_codec.specs.declared.element.iuc.TheConstants.{SHORT_DATA_GRANT, LONG_DATA_GRANT}
+use Rattle.map_codec.specs.declared.element.iuc.TheConstants.{ADVANCED_SHORT_DATA_GRANT, ADVANCED_LONG_DATA_GRANT}
+use Rattle.map_codec.specs.declared.element.iuc.TheConstants.{ADVANCED_UNSOLICITED_GRANT}
 use Rattle.std.specs.List.{AllByRecursion, Contains}
 use Rattle.std.proofs.lemmas.List.{append-nil}
 use Rattle.std.proofs.lemmas.List.Sums.{sum_by-cons, sum_by_push, sum_by-append}
@@ -16,7 +18,8 @@ use Rattle.periodic.specs.declared.placement.Spot.{Spot}
 use Rattle.map_build.specs.EachAfter.{EachAfter}
 use Rattle.map_build.specs.Plan.{Purpose, Poll, UnsolicitedGrant, DataGrant, Idle, Allocation, end_of, flows_after}
 use Rattle.map_build.specs.Plan.{Stands, StandsByItsRule}
-use Rattle.map_build.specs.FrameMap.{element_for, element_of, data_iuc, request_region, null_element, elements_of}
+use Rattle.map_build.specs.UsageCodes.{short_iuc, long_iuc, data_iuc, unsolicited_iuc}
+use Rattle.map_build.specs.FrameMap.{element_for, element_of, pending_of, request_region, null_element, elements_of}
 
 -- the offsets do not descend, from this one on
 abbrev pub Climbs : ℕ → List Element → Type 0
@@ -39,27 +42,38 @@ element_for-offset c offset slots (UnsolicitedGrant sid) = refl
 element_for-offset c offset slots (DataGrant sid bytes) = refl
 element_for-offset c offset slots Idle = refl
 
--- one of two numbers between bounds is between them
-either : (b : Bool) (x y low high : ℕ) → low ≤ x → x ≤ high → low ≤ y → y ≤ high →
-    (low ≤ (if b then x else y)) × ((if b then x else y) ≤ high)
-either true x y low high a b c d = (a, b)
-either false x y low high a b c d = (c, d)
+-- a usage code in range that is not a Null's
+abbrev Allocates : ℕ → Type 0
+Allocates iuc = (iuc < 15) × ((iuc == 7) ≡ false)
 
--- the usage code of a data grant is that of a short or a long one
-data_iuc-cases : (c : Config) (slots : ℕ) → (5 ≤ data_iuc c slots) × (data_iuc c slots ≤ 6)
-data_iuc-cases c slots =
-    either (nat_le slots c.short_max) SHORT_DATA_GRANT LONG_DATA_GRANT 5 6 (omega arith) (omega arith) (omega arith)
-    (omega arith)
+-- one of two codes is one where both are
+either : (b : Bool) (x y : ℕ) → Allocates x → Allocates y → Allocates (if b then x else y)
+either true x y a b = a
+either false x y a b = b
 
--- which is below that of a Null, as those of all allocations are
-element_for-iuc : (c : Config) (offset slots : ℕ) (purpose : Purpose) → (element_for c offset slots purpose).iuc < 7
-element_for-iuc c offset slots (Poll sid) = omega arith
-element_for-iuc c offset slots (UnsolicitedGrant sid) = omega (arith, data_iuc-cases c slots)
-element_for-iuc c offset slots (DataGrant sid bytes) = omega (arith, data_iuc-cases c slots)
-element_for-iuc c offset slots Idle = omega arith
+-- the code of a short data grant is one
+short_iuc-allocates : (c : Config) → Allocates (short_iuc c)
+short_iuc-allocates c =
+    either (c.phy == 1) ADVANCED_SHORT_DATA_GRANT SHORT_DATA_GRANT (omega arith, refl) (omega arith, refl)
 
-not_null : (iuc : ℕ) → iuc < 7 → (iuc == 7) ≡ false
-not_null iuc h = grind (arith, nat_tests)
+-- that of a long one is
+long_iuc-allocates : (c : Config) → Allocates (long_iuc c)
+long_iuc-allocates c =
+    either (c.phy == 1) ADVANCED_LONG_DATA_GRANT LONG_DATA_GRANT (omega arith, refl) (omega arith, refl)
+
+-- so that of a data grant is
+data_iuc-allocates : (c : Config) (slots : ℕ) → Allocates (data_iuc c slots)
+data_iuc-allocates c slots =
+    either (nat_le slots c.short_max) (short_iuc c) (long_iuc c) (short_iuc-allocates c) (long_iuc-allocates c)
+
+-- as those of all allocations are
+element_for-iuc : (c : Config) (offset slots : ℕ) (purpose : Purpose) →
+    Allocates (element_for c offset slots purpose).iuc
+element_for-iuc c offset slots (Poll sid) = (omega arith, refl)
+element_for-iuc c offset slots (UnsolicitedGrant sid) =
+    either (c.phy == 1) ADVANCED_UNSOLICITED_GRANT (data_iuc c slots) (omega arith, refl) (data_iuc-allocates c slots)
+element_for-iuc c offset slots (DataGrant sid bytes) = data_iuc-allocates c slots
+element_for-iuc c offset slots Idle = long_iuc-allocates c
 
 -- no allocation's element is a Null
 nulls-plan : (c : Config) (plan : List Allocation) (rest : List Element) → nulls (map (element_of c) plan ++ rest)
@@ -67,7 +81,7 @@ nulls-plan : (c : Config) (plan : List Allocation) (rest : List Element) → nul
 nulls-plan c [] rest = refl
 nulls-plan c (a ∷ plan) rest =
     sum_by-cons _ (element_of c a) (map (element_of c) plan ++ rest)
-    ∙ (rw (not_null (element_of c a).iuc (element_for-iuc c a.offset a.slots a.purpose))
+    ∙ (rw (element_for-iuc c a.offset a.slots a.purpose).1
     (omega (arith, nulls-plan c plan rest)))
 
 -- where the offsets of what comes behind the plan do not descend, those of the whole do not
@@ -126,7 +140,7 @@ module _ (c : Config) (flows : List LiveFlow) (spots : List Spot) (start : ℕ)
   in_range-plan before (a ∷ plan) rest each within ranges = (
     record {
       sid = element_for-sid before a.offset a.slots a.purpose each.0.purpose;
-      iuc = omega (arith, element_for-iuc c a.offset a.slots a.purpose);
+      iuc = (element_for-iuc c a.offset a.slots a.purpose).0;
       offset = omega (
         arith,
         element_for-offset c a.offset a.slots a.purpose,
@@ -137,10 +151,6 @@ module _ (c : Config) (flows : List LiveFlow) (spots : List Spot) (start : ℕ)
     in_range-plan (before ++ a ∷ []) plan rest each.1 (rw append_assoc within) ranges,
   )
 
--- the pending grant of a flow
-abbrev pending_of : Config → LiveFlow → Element
-pending_of c f = record { sid = f.sid; iuc = LONG_DATA_GRANT; offset = c.frame }
-
 -- pending grants do not descend
 climbs-pending : (c : Config) (flows : List LiveFlow) (low : ℕ) → low ≤ c.frame → Climbs low (map (pending_of c) flows)
 climbs-pending c [] low below = tt
@@ -149,15 +159,16 @@ climbs-pending c (f ∷ flows) low below = (below, climbs-pending c flows c.fram
 -- none is a Null
 nulls-pending : (c : Config) (flows : List LiveFlow) → nulls (map (pending_of c) flows) ≡ 0
 nulls-pending c [] = refl
-nulls-pending c (f ∷ flows) = sum_by-cons _ (pending_of c f) (map (pending_of c) flows)
-    ∙ omega (arith, nulls-pending c flows)
+nulls-pending c (f ∷ flows) =
+    sum_by-cons _ (pending_of c f) (map (pending_of c) flows)
+    ∙ (rw (long_iuc-allocates c).1 (omega (arith, nulls-pending c flows)))
 
 -- each is in range
 in_range-pending : (c : Config) (flows : List LiveFlow) → c.frame < 2 ^ 14 → HaveSids flows →
     AllByRecursion IsInRange (map (pending_of c) flows)
 in_range-pending c [] below sids = tt
 in_range-pending c (f ∷ flows) below sids =
-    (record { sid = sids.0; iuc = omega arith; offset = below }, in_range-pending c flows below sids.1)
+    (record { sid = sids.0; iuc = (long_iuc-allocates c).0; offset = below }, in_range-pending c flows below sids.1)
 
 -- the elements of a MAP with a plan: in range, in order, with one Null
 pub record AreEncodable (es : List Element) : Type 0 where

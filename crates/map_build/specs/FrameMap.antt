@@ -1,28 +1,25 @@
 -- The lawful MAP of a frame.
-use Rattle.std.specs.Prelude.{◌≡◌, ℕ, nat_le, nat_lt, List, ◌∷◌, ◌++◌, map, filter, if◌then◌else◌}
+use Rattle.std.specs.Prelude.{◌≡◌, ℕ, nat_lt, List, ◌∷◌, ◌++◌, map, filter}
 use Rattle.minislots.specs.declared.config.Config.{Config}
 use Rattle.minislots.specs.Units.{wire_of}
 use Rattle.map_codec.specs.declared.element.Element.{Element}
-use Rattle.map_codec.specs.declared.element.iuc.TheConstants.{REQUEST, SHORT_DATA_GRANT, LONG_DATA_GRANT, NULL}
+use Rattle.map_codec.specs.declared.element.iuc.TheConstants.{REQUEST, NULL}
 use Rattle.flow_book.specs.Flows.{LiveFlow, outstanding}
 use Rattle.periodic.specs.declared.placement.Spot.{Spot}
 use Rattle.map_build.specs.declared.frame_map.FrameMap.{FrameMap}
+use Rattle.map_build.specs.UsageCodes.{long_iuc, data_iuc, unsolicited_iuc}
 use Rattle.map_build.specs.Plan.{Purpose, Poll, UnsolicitedGrant, DataGrant, Idle, Allocation, flows_after, IsPlan}
 
 -- all modems
 abbrev pub broadcast : ℕ
 broadcast = 16383
 
--- the usage code of a data grant, or of an unsolicited one, of so many minislots
-abbrev pub data_iuc : Config → ℕ → ℕ
-data_iuc c slots = if nat_le slots c.short_max then SHORT_DATA_GRANT else LONG_DATA_GRANT
-
 -- the element of an allocation
 abbrev pub element_for : Config → ℕ → ℕ → Purpose → Element
 element_for c offset slots (Poll sid) = record { sid = sid; iuc = REQUEST; offset = offset }
-element_for c offset slots (UnsolicitedGrant sid) = record { sid = sid; iuc = data_iuc c slots; offset = offset }
+element_for c offset slots (UnsolicitedGrant sid) = record { sid = sid; iuc = unsolicited_iuc c slots; offset = offset }
 element_for c offset slots (DataGrant sid bytes) = record { sid = sid; iuc = data_iuc c slots; offset = offset }
-element_for c offset slots Idle = record { sid = 0; iuc = LONG_DATA_GRANT; offset = offset }
+element_for c offset slots Idle = record { sid = 0; iuc = long_iuc c; offset = offset }
 
 abbrev pub element_of : Config → Allocation → Element
 element_of c a = element_for c a.offset a.slots a.purpose
@@ -42,11 +39,13 @@ request_region = record { sid = broadcast; iuc = REQUEST; offset = 0 }
 abbrev pub null_element : Config → Element
 null_element c = record { sid = 0; iuc = NULL; offset = c.frame }
 
+-- the pending grant of a flow
+abbrev pub pending_of : Config → LiveFlow → Element
+pending_of c f = record { sid = f.sid; iuc = long_iuc c; offset = c.frame }
+
 -- a pending grant for each flow with bytes outstanding
 abbrev pub pending : Config → List LiveFlow → List Element
-pending c flows =
-    map (λ f. record { sid = f.sid; iuc = LONG_DATA_GRANT; offset = c.frame })
-    (filter (λ f. nat_lt 0 (outstanding f)) flows)
+pending c flows = map (pending_of c) (filter (λ f. nat_lt 0 (outstanding f)) flows)
 
 -- the elements of the MAP with this plan
 abbrev pub elements_of : Config → List LiveFlow → ℕ → List Allocation → List Element

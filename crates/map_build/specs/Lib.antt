@@ -10,6 +10,7 @@ pub mod EachAfter
 pub mod Plan
 pub mod FrameMap
 pub mod Spots
+pub mod UsageCodes
 pub mod Left
 pub mod Draft
 pub mod Walk

@@ -9,13 +9,14 @@ ghost use Rattle.flow_book.specs.Book.{IsLive, room_of};
 ghost use Rattle.flow_book.specs.Choice.{HasStartedBy};
 ghost use Rattle.periodic.specs.declared.placement.Spot.{Spot};
 ghost use Rattle.map_build.specs.Plan.{most_grants};
-ghost use Rattle.map_build.specs.FrameMap.{data_iuc, map_with};
+ghost use Rattle.map_build.specs.FrameMap.{map_with};
 ghost use Rattle.map_build.specs.Spots.{AreInFrame};
 ghost use Rattle.map_build.specs.Draft.{Puts, PutsPending, Ends};
 ghost use Rattle.map_build.specs.Walk.{HasPlan};
 
 use crate::MAX_DATA_GRANTS;
 use crate::frame_map::{ByteCounts, FrameMap};
+use crate::usage_codes::long_iuc;
 use flow_book::Book;
 use map_codec::{Element, Elements, MAX_ELEMENTS, WireMap, iuc};
 use minislots::{Checked, wire};
@@ -142,7 +143,8 @@ impl Draft {
             (λ f. PutsPending (f ∷ []) self.old self.new)) }
     {
         if self.outstanding_of(sid, place) > 0 {
-            self.put(sid, iuc::LONG_DATA_GRANT, 0)?;
+            let iuc = long_iuc(self.book.config());
+            self.put(sid, iuc, 0)?;
         }
         Ok(())
     }
@@ -187,16 +189,5 @@ fn wire_map(config: &Checked, start: u64, ack: u64, elements: Vec<Element>) -> W
         data_start: config.data_start(),
         data_end: config.data_end(),
         elements: Elements::from_vec(elements),
-    }
-}
-
-/// The usage code of a data grant of so many minislots.
-pub(crate) fn data_iuc(config: &Checked, slots: u64) -> u8
-    ensures { result ≡ data_iuc config.now slots }
-{
-    if slots <= u64::from(config.short_max()) {
-        iuc::SHORT_DATA_GRANT
-    } else {
-        iuc::LONG_DATA_GRANT
     }
 }

@@ -4,6 +4,7 @@
 mod draft;
 mod frame;
 mod frame_map;
+mod usage_codes;
 mod walk;
 
 pub use frame::{plan_frame, plan_with_book};

@@ -9,7 +9,8 @@ ghost use Rattle.map_build.specs.Left.{left_at, AreAhead};
 ghost use Rattle.minislots.specs.declared.config.Config.{Config};
 
 use crate::MAX_DATA_GRANTS;
-use crate::draft::{Draft, NOBODY, data_iuc};
+use crate::draft::{Draft, NOBODY};
+use crate::usage_codes::{data_iuc, long_iuc, unsolicited_iuc};
 use map_codec::iuc;
 use minislots::Checked;
 use periodic::Spot;
@@ -60,7 +61,7 @@ impl Draft {
         let iuc = if spot.poll {
             iuc::REQUEST
         } else {
-            data_iuc(self.book.config(), u64::from(spot.slots))
+            unsolicited_iuc(self.book.config(), u64::from(spot.slots))
         };
         self.put_slots(spot.sid, iuc, spot.slots, 0)?;
         Ok(())
@@ -71,7 +72,8 @@ impl Draft {
         requires { self.old.offset ≤ stop }
         ensures { OnOk result (Takes (idle_to self.old stop) self.old self.new) }
     {
-        self.put_slots(NOBODY, iuc::LONG_DATA_GRANT, stop - self.offset, 0)?;
+        let iuc = long_iuc(self.book.config());
+        self.put_slots(NOBODY, iuc, stop - self.offset, 0)?;
         Ok(())
     }
 

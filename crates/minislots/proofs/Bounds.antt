@@ -51,7 +51,8 @@ bounds_of c h =
     let (frame, (cycle, (requests, (polls, (lead, (short, of_grants)))))) = of_frame in
     let (quantum, (cap, of_history)) = of_grants in
     let (receivers, (calls, (start, of_backoffs))) = of_history in
-    let (ranging_start, (ranging_end, (data_start, (data_end, end)))) = of_backoffs in
+    let (ranging_start, (ranging_end, (data_start, (data_end, of_channel)))) = of_backoffs in
+    let (phy, end) = of_channel in
     record {
       ticks_positive = omega (arith, ticks_within c.ticks ticks);
       ticks_most = (ticks_within c.ticks ticks).1;
@@ -84,4 +85,5 @@ bounds_of c h =
       ranging_end_most = at_most _ _ ranging_end;
       data_start_most = at_most _ _ data_start;
       data_end_most = at_most _ _ data_end;
+      phy_most = at_most _ _ phy;
     }

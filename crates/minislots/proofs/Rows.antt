@@ -2,7 +2,7 @@
 use Rattle.std.proofs.Common.{◌≡◌, refl, Some, None}
 use Rattle.minislots.specs.declared.config.Config.{Config}
 use Rattle.minislots.specs.declared.config.ConfigFault.TheVariants.{Ticks, Frame, Lead}
-use Rattle.minislots.specs.declared.config.ConfigFault.TheVariants.{GrantCap, Start, DataEnd}
+use Rattle.minislots.specs.declared.config.ConfigFault.TheVariants.{GrantCap, Start, DataEnd, Phy}
 use Rattle.minislots.specs.Config.{first_wrong, IsLawful}
 use Rattle.minislots.specs.Units.{slots_floor, slots_of_micros, slots_for, bytes_in, wire_of}
 
@@ -29,6 +29,7 @@ base = record {
   data_end = 0;
   channel = 3;
   ucd_count = 1;
+  phy = 0;
 }
 
 base_is_lawful : IsLawful base
@@ -79,3 +80,15 @@ cap_below_the_quantum = refl
 backoff_end_of_16 : first_wrong (record base { data_end = 16 }) ≡ Some DataEnd
 unfolding first_wrong
 backoff_end_of_16 = refl
+
+phy_of_1 : IsLawful (record base { phy = 1 })
+unfolding first_wrong
+phy_of_1 = refl
+
+phy_of_2 : first_wrong (record base { phy = 2 }) ≡ Some Phy
+unfolding first_wrong
+phy_of_2 = refl
+
+phy_is_the_last_field : first_wrong (record base { data_end = 16; phy = 2 }) ≡ Some DataEnd
+unfolding first_wrong
+phy_is_the_last_field = refl

@@ -7,7 +7,7 @@ use Rattle.minislots.specs.declared.config.ConfigFault.TheVariants.{Ticks, Bytes
 use Rattle.minislots.specs.declared.config.ConfigFault.TheVariants.{Cycle, ReqSlots, PollSlots, Lead}
 use Rattle.minislots.specs.declared.config.ConfigFault.TheVariants.{ShortMax, Quantum, GrantCap}
 use Rattle.minislots.specs.declared.config.ConfigFault.TheVariants.{Receivers, Calls, Start, RangingStart}
-use Rattle.minislots.specs.declared.config.ConfigFault.TheVariants.{RangingEnd, DataStart, DataEnd}
+use Rattle.minislots.specs.declared.config.ConfigFault.TheVariants.{RangingEnd, DataStart, DataEnd, Phy}
 use Rattle.minislots.specs.Units.{slots_for}
 
 -- the number is from low to high
@@ -39,6 +39,7 @@ is_lawful_field c RangingStart = nat_le c.ranging_start 15
 is_lawful_field c RangingEnd = nat_le c.ranging_end 15
 is_lawful_field c DataStart = nat_le c.data_start 15
 is_lawful_field c DataEnd = nat_le c.data_end 15
+is_lawful_field c Phy = nat_le c.phy 1
 
 -- the fields of a burst
 abbrev pub burst_fields : List ConfigFault
@@ -60,11 +61,15 @@ history_fields = Receivers ∷ Calls ∷ Start ∷ []
 abbrev pub backoff_fields : List ConfigFault
 backoff_fields = RangingStart ∷ RangingEnd ∷ DataStart ∷ DataEnd ∷ []
 
+-- the field of the channel's physical layer
+abbrev pub channel_fields : List ConfigFault
+channel_fields = Phy ∷ []
+
 -- the fields that can be wrong, in their order
 abbrev pub fields : List ConfigFault
 fields =
     Ticks ∷ BytesPerSlot ∷ Overhead ∷ Frame ∷ Cycle ∷ ReqSlots ∷ PollSlots ∷ Lead ∷ ShortMax ∷ Quantum
-    ∷ GrantCap ∷ Receivers ∷ Calls ∷ Start ∷ RangingStart ∷ RangingEnd ∷ DataStart ∷ DataEnd ∷ []
+    ∷ GrantCap ∷ Receivers ∷ Calls ∷ Start ∷ RangingStart ∷ RangingEnd ∷ DataStart ∷ DataEnd ∷ Phy ∷ []
 
 -- the first of some fields that is wrong
 abbrev pub first_wrong_of : Config → List ConfigFault → Option ConfigFault
@@ -116,3 +121,4 @@ pub record HasBounds (c : Config) : Type 0 where
   pub ranging_end_most : c.ranging_end ≤ 15
   pub data_start_most : c.data_start ≤ 15
   pub data_end_most : c.data_end ≤ 15
+  pub phy_most : c.phy ≤ 1

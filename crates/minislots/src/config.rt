@@ -55,6 +55,9 @@ pub struct Config {
     pub channel: u8,
     /// The UCD count.
     pub ucd_count: u8,
+    /// The channel's physical layer, which decides the usage codes of data and unsolicited grants: 0 for a channel
+    /// of TDMA bursts alone, 1 for one with Advanced PHY bursts.
+    pub phy: u8,
 }
 
 /// The first field of a configuration that has no lawful value, in the order of the fields.
@@ -78,6 +81,7 @@ pub enum ConfigFault {
     RangingEnd,
     DataStart,
     DataEnd,
+    Phy,
 }
 
 impl fmt::Display for ConfigFault {

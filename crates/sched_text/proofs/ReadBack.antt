@@ -93,10 +93,11 @@ pub record ConfigFits (c : Config) : Type 0 where
   pub data_end : c.data_end < 2 ^ 8
   pub channel : c.channel < 2 ^ 8
   pub ucd_count : c.ucd_count < 2 ^ 8
+  pub phy : c.phy < 2 ^ 8
 
 -- a configuration is read back
 pub config_of-data : (c : Config) → ConfigFits c → config_of (config_data c) ≡ Some c
-unfolding config_of slots_of sizes_of counts_of windows_of u8_at u32_at u64_at number_at config_data
+unfolding config_of slots_of sizes_of counts_of windows_of phy_of u8_at u32_at u64_at number_at config_data
 config_of-data c fits =
     rw (below-fits (2 ^ 32) c.ticks fits.ticks) (
     rw (below-fits (2 ^ 32) c.bytes_per_slot fits.bytes_per_slot) (
@@ -118,7 +119,8 @@ config_of-data c fits =
     rw (below-fits (2 ^ 8) c.data_end fits.data_end) (
     rw (below-fits (2 ^ 8) c.channel fits.channel) (
     rw (below-fits (2 ^ 8) c.ucd_count fits.ucd_count) (
-    refl))))))))))))))))))))
+    rw (below-fits (2 ^ 8) c.phy fits.phy) (
+    refl)))))))))))))))))))))
 
 -- calls are read back, from any number on
 pub calls_of-data : (n : ℕ) (calls : List Call) → AllByRecursion CallFits calls

@@ -20,7 +20,7 @@ built = record { stamp = record { seat = 0; ticket = 0 }; call = Build 760; repl
 pub the_text_of_one_map : history_text base (built ∷ [])
     ≡ codes "{\"config\":{\"bytes_per_slot\":16,\"calls\":1000,\"channel\":3,\"cycle\":20,\"data_end\":0," ++ (
     codes "\"data_start\":0,\"frame\":40,\"grant_cap\":2000,\"lead\":40,\"overhead\":2," ++ (
-    codes "\"poll_slots\":2,\"quantum\":64,\"ranging_end\":0,\"ranging_start\":0,\"receivers\":1," ++ (
+    codes "\"phy\":0,\"poll_slots\":2,\"quantum\":64,\"ranging_end\":0,\"ranging_start\":0,\"receivers\":1," ++ (
     codes "\"req_slots\":4,\"short_max\":8,\"start\":800,\"ticks\":4,\"ucd_count\":1}," ++ (
     codes "\"entries\":[{\"call\":{\"call\":\"build\",\"now\":760},\"reply\":{\"ack\":800,\"bytes\":[0," ++ (
     codes "0,0],\"hex\":\"03010300000003200000032000000000fffc4000000180040001c028\",\"kind\":\"map\"," ++

@@ -87,7 +87,16 @@ windows_of first last d = do
   end ← u8_at last d
   Some (start, end)
 
--- the configuration that an object stands for: it has every field
+-- what a key that may be missing stands for: 0 where it is
+abbrev pub or_0 : Option Data → Option ℕ → Option ℕ
+or_0 None there = Some 0
+or_0 (Some found) there = there
+
+-- the channel's physical layer
+unfoldable pub phy_of : Data → Option ℕ
+phy_of d = or_0 (get (codes "phy") d) (u8_at (codes "phy") d)
+
+-- the configuration that an object stands for: it has every field but that of the physical layer, which may be missing
 unfoldable pub config_of : Data → Option Config
 config_of d = do
   slots ← slots_of d
@@ -95,6 +104,7 @@ config_of d = do
   counts ← counts_of d
   ranging ← windows_of (codes "ranging_start") (codes "ranging_end") d
   backoff ← windows_of (codes "data_start") (codes "data_end") d
+  phy ← phy_of d
   Some (record {
     ticks = slots.0;
     bytes_per_slot = slots.1;
@@ -116,4 +126,5 @@ config_of d = do
     data_end = backoff.1;
     channel = counts.3;
     ucd_count = counts.4;
+    phy = phy;
   })

@@ -15,12 +15,13 @@ config_data c = object (
     member (codes "data_end") (count c.data_end) (member (codes "data_start") (count c.data_start) (
     member (codes "frame") (count c.frame) (member (codes "grant_cap") (count c.grant_cap) (
     member (codes "lead") (count c.lead) (member (codes "overhead") (count c.overhead) (
-    member (codes "poll_slots") (count c.poll_slots) (member (codes "quantum") (count c.quantum) (
+    member (codes "phy") (count c.phy) (member (codes "poll_slots") (count c.poll_slots) (
+    member (codes "quantum") (count c.quantum) (
     member (codes "ranging_end") (count c.ranging_end) (member (codes "ranging_start") (count c.ranging_start) (
     member (codes "receivers") (count c.receivers) (member (codes "req_slots") (count c.req_slots) (
     member (codes "short_max") (count c.short_max) (member (codes "start") (count c.start) (
     member (codes "ticks") (count c.ticks) (member (codes "ucd_count") (count c.ucd_count) (
-    no_members)))))))))))))))))))))
+    no_members))))))))))))))))))))))
 
 -- an entry: its stamp, its call and its reply
 unfoldable pub entry_data : Entry → Data

@@ -35,6 +35,7 @@ pub const BASE: Config = Config {
     data_end: 0,
     channel: 3,
     ucd_count: 1,
+    phy: 0,
 };
 
 /// The configuration, which is lawful.

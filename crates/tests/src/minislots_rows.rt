@@ -56,6 +56,7 @@ const UNEQUAL: Config = Config {
     ranging_end: 10,
     data_start: 11,
     data_end: 12,
+    phy: 1,
     ..BASE
 };
 
@@ -82,6 +83,7 @@ fn read(checked: &Checked) -> Config {
         data_end: checked.data_end(),
         channel: checked.channel(),
         ucd_count: checked.ucd_count(),
+        phy: checked.phy(),
     }
 }
 
@@ -130,7 +132,11 @@ const FIELDS: &str = r#""ticks":4 -> "ticks":3 => bad config 1
 "ranging_end":0 -> "ranging_end":16 => bad config 16
 "data_start":0 -> "data_start":16 => bad config 17
 "data_end":0 -> "data_end":16 => bad config 18
-"data_end":0 -> "data_end":15 => a script"#;
+"data_end":0 -> "data_end":15 => a script
+"ucd_count":1 -> "ucd_count":1,"phy":2 => bad config 19
+"ucd_count":1 -> "ucd_count":1,"phy":255 => bad config 19
+"ucd_count":1 -> "ucd_count":1,"phy":1 => a script
+"ucd_count":1 -> "ucd_count":1,"phy":0 => a script"#;
 
 #[test]
 fn each_field_has_its_fault(rt: HostRuntime) -> Result<(), Fail> {

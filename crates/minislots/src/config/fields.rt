@@ -3,7 +3,7 @@
 ghost use Rattle.std.specs.Prelude.{◌≡◌, ◌<◌, IsTrue, MatchResult, Some, false};
 ghost use Rattle.minislots.specs.Config.{is_within, is_ticks, is_lawful_field, first_wrong, IsLawful};
 ghost use Rattle.minislots.specs.Config.{burst_fields, frame_fields, grant_fields, history_fields};
-ghost use Rattle.minislots.specs.Config.{backoff_fields, NamesFirstWrong};
+ghost use Rattle.minislots.specs.Config.{backoff_fields, channel_fields, NamesFirstWrong};
 
 use super::{Config, ConfigFault};
 use crate::units::carriers;
@@ -36,7 +36,8 @@ impl Config {
         self.check_frame()?;
         self.check_grants()?;
         self.check_history()?;
-        self.check_backoffs()
+        self.check_backoffs()?;
+        self.check_channel()
     }
 
     // The fields of a burst.
@@ -96,6 +97,13 @@ impl Config {
         require(self.ranging_end <= 15, ConfigFault::RangingEnd)?;
         require(self.data_start <= 15, ConfigFault::DataStart)?;
         require(self.data_end <= 15, ConfigFault::DataEnd)
+    }
+
+    // The field of the channel's physical layer.
+    fn check_channel(&self) -> Result<(), ConfigFault>
+        ensures { NamesFirstWrong self.now channel_fields result }
+    {
+        require(self.phy <= 1, ConfigFault::Phy)
     }
 
     fn has_room_for_requests(&self) -> bool

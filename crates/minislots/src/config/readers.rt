@@ -185,4 +185,13 @@ impl Checked {
     {
         self.config.ucd_count
     }
+
+    /// The channel's physical layer: 0 for TDMA bursts alone, 1 with Advanced PHY bursts.
+    pub fn phy(&self) -> u8
+        ensures value { result ≡ self.now.phy }
+        ensures lawful { IsLawful self.now }
+        ensures most { result ≤ 1 }
+    {
+        self.config.phy
+    }
 }

@@ -7,7 +7,6 @@ use Rattle.minislots.specs.declared.config.Config.{Config}
 use Rattle.minislots.specs.Config.{IsLawful}
 use Rattle.minislots.proofs.Bounds.{bounds_of}
 use Rattle.map_codec.specs.declared.element.Element.{Element}
-use Rattle.map_codec.specs.declared.element.iuc.TheConstants.{LONG_DATA_GRANT}
 use Rattle.flow_book.specs.FlowSpec.{interval_frames, jitter_slots, periodic_slots}
 use Rattle.flow_book.specs.Flows.{LiveFlow, outstanding}
 use Rattle.periodic.specs.declared.placement.Spot.{Spot}
@@ -17,7 +16,7 @@ use Rattle.map_build.specs.EachAfter.{EachAfter}
 use Rattle.map_build.specs.Plan.{Purpose, Poll, UnsolicitedGrant, DataGrant, Idle}
 use Rattle.map_build.specs.Plan.{Allocation, flows_after, Stands, StandsByItsRule}
 use Rattle.map_build.specs.FrameMap.{broadcast, request_region, element_for, element_of}
-use Rattle.map_build.specs.FrameMap.{bytes_for, null_element, pending, map_of}
+use Rattle.map_build.specs.FrameMap.{bytes_for, null_element, pending_of, pending, map_of}
 use Rattle.sched_history.specs.declared.call.Call.{Call}
 use Rattle.sched_history.specs.declared.reply.Reply.{Reply}
 use Rattle.sched_history.specs.declared.reply.Reply.TheVariants as replies
@@ -82,7 +81,7 @@ unaddressed good = cc
 -- pending grants are none, since they lie behind the frame
 timely-pending : (c : Config) (table : List Placed) (start : ℕ) (flows : List LiveFlow) (bs : List ℕ)
     → AllByRecursion (IsTimely c table start)
-    (zip (map (λ f. record { sid = f.sid; iuc = LONG_DATA_GRANT; offset = c.frame }) flows) bs)
+    (zip (map (pending_of c) flows) bs)
 timely-pending c table start [] bs = tt
 timely-pending c table start (f ∷ flows) [] = tt
 timely-pending c table start (f ∷ flows) (b ∷ bs) =

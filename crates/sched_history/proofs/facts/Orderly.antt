@@ -9,7 +9,6 @@ use Rattle.minislots.specs.declared.config.Config.{Config}
 use Rattle.minislots.specs.Config.{IsLawful, HasBounds}
 use Rattle.minislots.proofs.Bounds.{bounds_of}
 use Rattle.map_codec.specs.declared.element.Element.{Element}
-use Rattle.map_codec.specs.declared.element.iuc.TheConstants.{LONG_DATA_GRANT}
 use Rattle.flow_book.specs.declared.TheConstants.{MAX_FLOWS}
 use Rattle.flow_book.specs.FlowSpec.{interval_frames}
 use Rattle.flow_book.specs.Flows.{LiveFlow, outstanding}
@@ -19,7 +18,7 @@ use Rattle.periodic.specs.declared.placement.Spot.{Spot}
 use Rattle.periodic.specs.Placement.{Placed, phase_of, nominal_places, start_at, spot_in, spots_in}
 use Rattle.map_build.specs.declared.frame_map.FrameMap.{FrameMap}
 use Rattle.map_build.specs.Plan.{Allocation, flow_after, flows_after, IsPlan}
-use Rattle.map_build.specs.FrameMap.{element_of, null_element, pending, elements_of}
+use Rattle.map_build.specs.FrameMap.{element_of, null_element, pending_of, pending, elements_of}
 use Rattle.map_build.proofs.WellFormed.{HaveSids, HaveSpotSids}
 use Rattle.sched_history.specs.declared.reply.Entry.{Entry}
 use Rattle.sched_history.specs.Life.{flows_of, table_of}
@@ -61,10 +60,6 @@ spots_in-in_range c k h = all-members (λ (s : Spot). s.sid < 2 ^ 14) (spots_in 
       All-contains (λ (p : Placed). p.sid < 2 ^ 14) (table_of h) flow
           (All-from_recursion (λ (p : Placed). p.sid < 2 ^ 14) (table_of h) (table_of-in_range h)) image.member,
     ))
-
--- the pending grant of a flow
-abbrev pending_of : Config → LiveFlow → Element
-pending_of c f = record { sid = f.sid; iuc = LONG_DATA_GRANT; offset = c.frame }
 
 -- the elements of a plan's MAP: the request region, the allocations, the Null and the pending grants
 length-elements : (c : Config) (flows : List LiveFlow) (spots : List Spot) (start : ℕ) (plan : List Allocation)

@@ -10,7 +10,7 @@ use minislots::Config;
 use std::alloc::AllocError;
 
 // The keys of the fields, in ascending order.
-static FIELDS: [&str; 20] = [
+static FIELDS: [&str; 21] = [
     "bytes_per_slot",
     "calls",
     "channel",
@@ -21,6 +21,7 @@ static FIELDS: [&str; 20] = [
     "grant_cap",
     "lead",
     "overhead",
+    "phy",
     "poll_slots",
     "quantum",
     "ranging_end",
@@ -50,6 +51,7 @@ pub fn put_config(out: &mut Writer, config: &Config) -> Result<(), AllocError>
         config.grant_cap as u64,
         config.lead as u64,
         config.overhead as u64,
+        config.phy as u64,
         config.poll_slots as u64,
         config.quantum as u64,
         config.ranging_end as u64,

@@ -2,9 +2,9 @@
 
 ghost use Rattle.std.specs.Prelude.{◌≡◌};
 ghost use Rattle.serde_json.specs.View.{view};
-ghost use Rattle.sched_text.specs.Fields.{slots_of, sizes_of, counts_of, windows_of, config_of};
+ghost use Rattle.sched_text.specs.Fields.{slots_of, sizes_of, counts_of, windows_of, phy_of, config_of};
 
-use super::field::{number_u8, number_u32, number_u64};
+use super::field::{member, number_u8, number_u32, number_u64};
 use minislots::Config;
 use serde_json::Value;
 
@@ -75,7 +75,19 @@ fn windows_of(value: &Value, first: &str, last: &str) -> Option<(u8, u8)>
     Some((number_u8(value, first)?, number_u8(value, last)?))
 }
 
-/// The configuration that an object stands for: each field is there, and fits its type.
+// The channel's physical layer, which is 0 where the key is missing.
+#[tactic(auto, unfolding(crate::specs::Fields::phy_of))]
+fn phy_of(value: &Value) -> Option<u8>
+    ensures { result ≡ phy_of (view value.now) }
+{
+    match member(value, "phy") {
+        None => Some(0),
+        Some(_) => number_u8(value, "phy"),
+    }
+}
+
+/// The configuration that an object stands for: each field is there, and fits its type. The physical layer may be
+/// missing.
 #[tactic(auto, unfolding(crate::specs::Fields::config_of))]
 pub fn config_of(value: &Value) -> Option<Config>
     ensures { result ≡ config_of (view value.now) }
@@ -85,6 +97,7 @@ pub fn config_of(value: &Value) -> Option<Config>
     let (receivers, calls, start, channel, ucd_count) = counts_of(value)?;
     let (ranging_start, ranging_end) = windows_of(value, "ranging_start", "ranging_end")?;
     let (data_start, data_end) = windows_of(value, "data_start", "data_end")?;
+    let phy = phy_of(value)?;
     Some(Config {
         ticks,
         bytes_per_slot,
@@ -106,5 +119,6 @@ pub fn config_of(value: &Value) -> Option<Config>
         data_end,
         channel,
         ucd_count,
+        phy,
     })
 }

@@ -1,7 +1,8 @@
 //! Histories as texts.
 
-use super::texts::push_part;
+use super::texts::{edited, push_part};
 use std::alloc::{AllocError, Global};
+use std::test::Fail;
 
 /// A call in blocks: a build.
 pub const BUILD: &str = r#"{"call":"build","now":760}
@@ -74,13 +75,21 @@ fn reply_of(alloc: Global, lines: &str) -> Result<String, AllocError> {
     Ok(reply)
 }
 
+// A configuration, as a history has it: with the channel's physical layer, which scripts may leave out.
+fn written(alloc: Global, config: &str) -> Result<String, Fail> {
+    if config.contains(r#""phy":"#) {
+        return Ok(String::from_str(alloc, config)?);
+    }
+    edited(alloc, config, r#""poll_slots""#, r#""phy":0,"poll_slots""#)
+}
+
 /// The text of the history of blocks, whose calls this seat made, one after the other.
 pub fn history_of(
     alloc: Global,
     config: &str,
     blocks: &str,
     seat: u32,
-) -> Result<String, AllocError> {
+) -> Result<String, Fail> {
     let mut entries = String::new(alloc);
     for (ticket, block) in blocks.split("\n\n").enumerate() {
         if let Some((call, lines)) = block.split_once('\n') {
@@ -91,5 +100,6 @@ pub fn history_of(
             push_part(&mut entries, &entry)?;
         }
     }
-    format!(in alloc; "{{\"config\":{config},\"entries\":[{entries}]}}\n")
+    let config = written(alloc, config)?;
+    Ok(format!(in alloc; "{{\"config\":{config},\"entries\":[{entries}]}}\n")?)
 }

@@ -219,4 +219,31 @@ remove 8 => removed
 best_effort 17 3 0 0 => admitted
 ask 0 17 1000 761 => taken
 build 760 => map 0301080000000320000002f800000000fffc4000004540040024400a0045400c00158014000180230001c02800458028
-status 17 => flow 1000 160 840"#;
+status 17 => flow 1000 160 840
+
+long grants on an Advanced PHY channel, and its idles
+"ucd_count":1 -> "ucd_count":1,"phy":1
+build 760 => map 03010300000003200000032000000000fffc4000000280040001c028
+best_effort 17 3 0 0 => admitted
+ask 0 17 100 801 => taken
+build 800 => map 03010400000003480000032000000000fffc4000004680040002800d0001c028
+
+short grants on an Advanced PHY channel
+"ucd_count":1 -> "ucd_count":1,"phy":1
+build 760 => map 03010300000003200000032000000000fffc4000000280040001c028
+best_effort 17 3 0 0 => admitted
+ask 0 17 16 801 => taken
+build 800 => map 03010400000003480000032000000000fffc400000464004000280070001c028
+
+pending grants on an Advanced PHY channel
+"ucd_count":1 -> "ucd_count":1,"phy":1
+build 760 => map 03010300000003200000032000000000fffc4000000280040001c028
+best_effort 17 3 64000 1600 => admitted
+ask 0 17 3000 801 => taken
+build 800 => map 03010400000003480000032000000000fffc4000004680040001c02800468028
+
+unsolicited grants on an Advanced PHY channel
+"ucd_count":1 -> "ucd_count":1,"phy":1
+unsolicited 5 200 10000 800 => admitted 804 4 4
+unsolicited 6 200 10000 800 => admitted 804 19 19
+build 760 => map 03010500000003200000032000000000fffc40000016c004001ac013000280220001c028"#;

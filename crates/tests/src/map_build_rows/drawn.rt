@@ -185,9 +185,9 @@ fn change<R: Abort + AllocGlobal>(rt: &R, pair: &mut Pair, draws: &mut Draws) ->
     }
 }
 
-#[test]
-fn each_map_is_that_of_the_plain_walk(rt: HostRuntime) -> Result<(), Fail> {
-    let config = LONG.check()?;
+// Drawn calls on a channel of this physical layer.
+fn walk<R: Abort + AllocGlobal>(rt: &R, phy: u8) -> Result<(), Fail> {
+    let config = Config { phy, ..LONG }.check()?;
     let mut pair = Pair {
         scheduler: Scheduler::open(rt.alloc(), config)?,
         config,
@@ -197,8 +197,14 @@ fn each_map_is_that_of_the_plain_walk(rt: HostRuntime) -> Result<(), Fail> {
     };
     let mut draws = Draws::from_seed(7);
     for _ in 0..3_000 {
-        change(&rt, &mut pair, &mut draws)?;
+        change(rt, &mut pair, &mut draws)?;
     }
     assert!(rt; pair.next > 800, "no MAP was built");
     Ok(())
+}
+
+#[test]
+fn each_map_is_that_of_the_plain_walk(rt: HostRuntime) -> Result<(), Fail> {
+    walk(&rt, 0)?;
+    walk(&rt, 1)
 }

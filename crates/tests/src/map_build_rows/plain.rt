@@ -90,7 +90,7 @@ impl<'a> PlainFrame<'a> {
         };
         match next {
             Some(sid) => self.grant(sid, start, u32::from(room)),
-            None => self.put(0, iuc::LONG_DATA_GRANT, room, 0),
+            None => self.put(0, self.long_iuc(), room, 0),
         }
     }
 
@@ -105,12 +105,31 @@ impl<'a> PlainFrame<'a> {
         stop
     }
 
+    // The usage code of a long data grant.
+    fn long_iuc(&self) -> u8 {
+        match self.config.phy() {
+            1 => iuc::ADVANCED_LONG_DATA_GRANT,
+            _ => iuc::LONG_DATA_GRANT,
+        }
+    }
+
     // The usage code of a data grant.
     fn iuc_of(&self, slots: u16) -> u8 {
-        if u32::from(slots) <= self.config.short_max() {
-            iuc::SHORT_DATA_GRANT
-        } else {
-            iuc::LONG_DATA_GRANT
+        if u32::from(slots) > self.config.short_max() {
+            return self.long_iuc();
+        }
+        match self.config.phy() {
+            1 => iuc::ADVANCED_SHORT_DATA_GRANT,
+            _ => iuc::SHORT_DATA_GRANT,
+        }
+    }
+
+    // The usage code of a spot.
+    fn iuc_at(&self, spot: Spot) -> u8 {
+        match (spot.poll, self.config.phy()) {
+            (true, _) => iuc::REQUEST,
+            (false, 1) => iuc::ADVANCED_UNSOLICITED_GRANT,
+            (false, _) => self.iuc_of(spot.slots),
         }
     }
 
@@ -118,12 +137,7 @@ impl<'a> PlainFrame<'a> {
     fn put_spot(&mut self) -> Result<(), AllocError> {
         for spot in self.spots {
             if spot.offset == self.offset {
-                let iuc = if spot.poll {
-                    iuc::REQUEST
-                } else {
-                    self.iuc_of(spot.slots)
-                };
-                return self.put(spot.sid, iuc, spot.slots, 0);
+                return self.put(spot.sid, self.iuc_at(*spot), spot.slots, 0);
             }
         }
         Ok(())
@@ -149,7 +163,7 @@ impl<'a> PlainFrame<'a> {
         self.put(0, iuc::NULL, 0, 0)?;
         for sid in 0..8192u16 {
             if self.waits(sid) {
-                self.put(sid, iuc::LONG_DATA_GRANT, 0, 0)?;
+                self.put(sid, self.long_iuc(), 0, 0)?;
             }
         }
         Ok(())

@@ -106,6 +106,8 @@ impl Player for Edited {
 const EDITS: &str = r#""start":800 -> "start":18446744073709551616 => bad script at 0
 "ticks":4, ->  => bad script at 0
 ,"ucd_count":1 ->  => bad script at 0
+"ucd_count":1 -> "ucd_count":1,"phy":256 => bad script at 0
+"ucd_count":1 -> "ucd_count":1,"phy":null => bad script at 0
 "ticks":4 -> "ticks":-4 => bad script at 0
 "ticks":4 -> "ticks":4.0 => bad script at 0
 "ticks":4 -> "ticks":4e0 => bad script at 0

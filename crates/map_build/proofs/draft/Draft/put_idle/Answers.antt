@@ -3,4 +3,6 @@ use Rattle.map_build.proofs.Takings.{Takes-idle}
 use Rattle.map_build.proofs.draft.Draft.put_idle.Goals as goal
 
 pub returns : goal.returns
-returns c = Takes-idle c.args.stop c.args.self.now c.put_slots.new.self c.in_ok-put_slots.ensures
+returns c =
+    Takes-idle c.args.stop c.args.self.now c.put_slots.new.self
+    (rw (c.long_iuc-iuc.ensures, c.config.ensures.value) at c.in_ok-put_slots.ensures)

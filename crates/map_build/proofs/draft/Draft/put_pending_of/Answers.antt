@@ -7,6 +7,6 @@ use Rattle.map_build.proofs.draft.Draft.put_pending_of.Goals as goal
 pub returns-in_ok-put : goal.returns-in_ok-put
 returns-in_ok-put c =
     PutsPending-some c.args.sid c.outstanding_of.result c.args.self.now c.put.new.self c.requires.end
-    (omega arith) c.in_ok-put.ensures
+    (omega arith) (rw (c.long_iuc-iuc.ensures, c.config.ensures.value) at c.in_ok-put.ensures)
     (flow_of c.args.sid c.args.self.now.book.flows) (found-sid c.args.sid c.args.self.now.book.flows)
     c.outstanding_of.ensures

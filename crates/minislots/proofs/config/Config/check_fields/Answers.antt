@@ -15,5 +15,8 @@ returns-in_err-check_grants c = grind (arith, first_wrong_by_groups c.args.self.
 pub returns-in_err-check_history : goal.returns-in_err-check_history
 returns-in_err-check_history c = grind (arith, first_wrong_by_groups c.args.self.now)
 
+pub returns-in_err-check_backoffs : goal.returns-in_err-check_backoffs
+returns-in_err-check_backoffs c = grind (arith, first_wrong_by_groups c.args.self.now)
+
 pub returns : goal.returns
 returns c = grind (arith, first_wrong_by_groups c.args.self.now)

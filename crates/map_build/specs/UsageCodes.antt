@@ -1,0 +1,22 @@
+-- The usage codes of grants, by the channel's physical layer.
+use Rattle.std.specs.Prelude.{ℕ, nat_le, ◌==◌, if◌then◌else◌}
+use Rattle.minislots.specs.declared.config.Config.{Config}
+use Rattle.map_codec.specs.declared.element.iuc.TheConstants.{SHORT_DATA_GRANT, LONG_DATA_GRANT}
+use Rattle.map_codec.specs.declared.element.iuc.TheConstants.{ADVANCED_SHORT_DATA_GRANT, ADVANCED_LONG_DATA_GRANT}
+use Rattle.map_codec.specs.declared.element.iuc.TheConstants.{ADVANCED_UNSOLICITED_GRANT}
+
+-- the usage code of a short data grant
+abbrev pub short_iuc : Config → ℕ
+short_iuc c = if c.phy == 1 then ADVANCED_SHORT_DATA_GRANT else SHORT_DATA_GRANT
+
+-- the usage code of a long data grant, of a pending grant and of an idle
+abbrev pub long_iuc : Config → ℕ
+long_iuc c = if c.phy == 1 then ADVANCED_LONG_DATA_GRANT else LONG_DATA_GRANT
+
+-- the usage code of a data grant of so many minislots
+abbrev pub data_iuc : Config → ℕ → ℕ
+data_iuc c slots = if nat_le slots c.short_max then short_iuc c else long_iuc c
+
+-- the usage code of an unsolicited grant of so many minislots
+abbrev pub unsolicited_iuc : Config → ℕ → ℕ
+unsolicited_iuc c slots = if c.phy == 1 then ADVANCED_UNSOLICITED_GRANT else data_iuc c slots

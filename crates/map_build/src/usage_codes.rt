@@ -1,0 +1,58 @@
+//! The usage codes of grants, by the channel's physical layer.
+
+ghost use Rattle.std.specs.Prelude.{◌≡◌, ◌==◌};
+ghost use Rattle.map_build.specs.UsageCodes.{short_iuc, long_iuc, data_iuc, unsolicited_iuc};
+
+use map_codec::iuc;
+use minislots::Checked;
+
+// Whether the channel's bursts are those of an Advanced PHY.
+fn is_advanced(config: &Checked) -> bool
+    ensures { result ≡ (config.now.phy == 1) }
+{
+    config.phy() == 1
+}
+
+// The usage code of a short data grant.
+fn short_iuc(config: &Checked) -> u8
+    ensures { result ≡ short_iuc config.now }
+{
+    if is_advanced(config) {
+        iuc::ADVANCED_SHORT_DATA_GRANT
+    } else {
+        iuc::SHORT_DATA_GRANT
+    }
+}
+
+/// The usage code of a long data grant, of a pending grant and of an idle.
+pub(crate) fn long_iuc(config: &Checked) -> u8
+    ensures { result ≡ long_iuc config.now }
+{
+    if is_advanced(config) {
+        iuc::ADVANCED_LONG_DATA_GRANT
+    } else {
+        iuc::LONG_DATA_GRANT
+    }
+}
+
+/// The usage code of a data grant of so many minislots.
+pub(crate) fn data_iuc(config: &Checked, slots: u64) -> u8
+    ensures { result ≡ data_iuc config.now slots }
+{
+    if slots <= u64::from(config.short_max()) {
+        short_iuc(config)
+    } else {
+        long_iuc(config)
+    }
+}
+
+/// The usage code of an unsolicited grant of so many minislots.
+pub(crate) fn unsolicited_iuc(config: &Checked, slots: u64) -> u8
+    ensures { result ≡ unsolicited_iuc config.now slots }
+{
+    if is_advanced(config) {
+        iuc::ADVANCED_UNSOLICITED_GRANT
+    } else {
+        data_iuc(config, slots)
+    }
+}
