@@ -23,3 +23,4 @@ field_number fields.RangingStart = 15
 field_number fields.RangingEnd = 16
 field_number fields.DataStart = 17
 field_number fields.DataEnd = 18
+field_number fields.Phy = 19

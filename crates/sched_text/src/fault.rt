@@ -75,5 +75,6 @@ fn number_of(fault: ConfigFault) -> u8
         ConfigFault::RangingEnd => 16,
         ConfigFault::DataStart => 17,
         ConfigFault::DataEnd => 18,
+        ConfigFault::Phy => 19,
     }
 }

@@ -84,12 +84,7 @@ fn written(alloc: Global, config: &str) -> Result<String, Fail> {
 }
 
 /// The text of the history of blocks, whose calls this seat made, one after the other.
-pub fn history_of(
-    alloc: Global,
-    config: &str,
-    blocks: &str,
-    seat: u32,
-) -> Result<String, Fail> {
+pub fn history_of(alloc: Global, config: &str, blocks: &str, seat: u32) -> Result<String, Fail> {
     let mut entries = String::new(alloc);
     for (ticket, block) in blocks.split("\n\n").enumerate() {
         if let Some((call, lines)) = block.split_once('\n') {

@@ -8,4 +8,5 @@ pub returns : goal.returns
 unfolding config_of
 returns c = sym (
     then _ c.in_ok-ticks.ensures (then _ c.in_ok-req_slots.ensures (then _ c.in_ok-receivers.ensures (
-    then _ c.in_ok-ranging_start.ensures (then _ c.in_ok-data_start.ensures refl)))))
+    then _ c.in_ok-ranging_start.ensures (then _ c.in_ok-data_start.ensures (
+    then _ c.in_ok-phy.ensures refl))))))
