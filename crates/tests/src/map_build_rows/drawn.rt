@@ -196,7 +196,7 @@ fn walk<R: Abort + AllocGlobal>(rt: &R, phy: u8) -> Result<(), Fail> {
         next: config.start(),
     };
     let mut draws = Draws::from_seed(7);
-    for _ in 0..3_000 {
+    for _ in 0..1_500 {
         change(rt, &mut pair, &mut draws)?;
     }
     assert!(rt; pair.next > 800, "no MAP was built");

@@ -27,7 +27,7 @@ fn run_ends(
 fn a_failed_write_ends_the_run(rt: HostRuntime) -> Result<(), Fail> {
     let alloc = rt.alloc();
     let script = script_in(alloc, "build 760 => map\nremove 0 => refused")?;
-    for (as_history, len) in [(false, 71), (true, 575)] {
+    for (as_history, len) in [(false, 71), (true, 583)] {
         for kind in [ErrorKind::Other, ErrorKind::Interrupted] {
             for room in [0, 1, 4, 59, 60, 61, len - 1] {
                 let writer = Narrow { room, kind };
