@@ -1,3 +1,4 @@
 pub mod Answered
 pub mod Running
 pub mod RowsStops
+pub mod Verdicts

@@ -1,12 +1,14 @@
-//! The commands of the program, as a library: a script is run, a payload is shown, a storm is run.
+//! The commands of the program, as a library: a script is run, a payload is shown, a history is audited, a storm is run.
 #![tactic(auto)]
 
+mod audit;
 mod fault;
 mod line;
 mod run;
 mod storm;
 mod table;
 
+pub use audit::run_audit;
 pub use fault::RunFault;
 pub use run::run_script;
 pub use storm::run_storm;
