@@ -1,9 +1,10 @@
-//! `mapsched`: the upstream scheduler of one TDMA channel, run on a script, and the table of a MAP.
+//! `mapsched`: the upstream scheduler of one TDMA channel, run on a script, the table of a MAP, and the audit of a
+//! history.
 #![tactic(auto)]
 
 use clap::error::ErrorKind;
 use clap::{Arg, ArgAction, ArgMatches, Command, Error};
-use sched_commands::{RunFault, decode_text, run_script, run_storm};
+use sched_commands::{RunFault, decode_text, run_audit, run_script, run_storm};
 use sched_storm::Open;
 use std::alloc::{AllocError, Global};
 use std::process::ExitCode;
@@ -33,6 +34,13 @@ fn decode_command<'a>(alloc: Global) -> Result<Command<'a>, AllocError> {
         .arg(payload)
 }
 
+// The command that judges a history.
+fn audit_command<'a>(alloc: Global) -> Command<'a> {
+    Command::new(alloc, "audit").about(
+        "Reads a history from standard input and prints whether it is legal",
+    )
+}
+
 // The command that runs scripts at the same time.
 fn storm_command<'a>(alloc: Global) -> Command<'a> {
     Command::new(alloc, "storm").about(
@@ -47,6 +55,7 @@ fn commands<'a>(alloc: Global) -> Result<Command<'a>, AllocError> {
         .subcommand_required(true)
         .subcommand(run_command(alloc)?)?
         .subcommand(decode_command(alloc)?)?
+        .subcommand(audit_command(alloc))?
         .subcommand(storm_command(alloc))
 }
 
@@ -91,7 +100,12 @@ fn show_text(rt: &(impl Print + AllocGlobal), text: &str) -> Result<bool, RunFau
     decode_text(rt.alloc(), text, &mut io::writer(rt))
 }
 
-// The command `storm`: whether no worker was held.
+// The command `audit`: whether the history is legal.
+fn audit_input(rt: &(impl Input + Print + AllocGlobal)) -> Result<bool, RunFault> {
+    run_audit(rt.alloc(), &mut rt.reader(), &mut io::writer(rt))
+}
+
+// The command `storm`: whether no worker was held, and the history is legal.
 fn storm_input<R: Input + Print + AllocGlobal + Threads + Wait + Sync>(
     rt: &R,
 ) -> Result<bool, RunFault> {
@@ -108,6 +122,7 @@ fn main(rt: HostRuntime) -> ExitCode {
     };
     let outcome = match matches.subcommand() {
         Some(("decode", decode)) => show_text(&rt, decode.get_str("HEX").unwrap_or("")),
+        Some(("audit", _)) => audit_input(&rt),
         Some(("storm", _)) => storm_input(&rt),
         Some((_, run)) => run_input(&rt, run.get_flag("history")),
         None => run_input(&rt, false),
