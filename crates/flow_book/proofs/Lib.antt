@@ -10,12 +10,14 @@ pub mod Levels
 pub mod Order
 pub mod Places
 pub mod Profile
+pub mod Queues
 pub mod Removal
 pub mod Rooms
 pub mod RowsBucket
 pub mod RowsCeiling
 pub mod RowsChoice
 pub mod RowsFaults
+pub mod Serving
 pub mod Started
 pub mod Steps
 pub mod Searches

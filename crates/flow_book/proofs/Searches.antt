@@ -27,7 +27,8 @@ rises (f ∷ flows) zero (suc j) d up lt within =
 rises (f ∷ flows) (suc i) (suc j) d up lt within = rises flows i j d up.1 (omega arith) (omega arith)
 
 module _ (items : List Flow) (sid : ℕ) (up : Ascend (map live items)) (d : Flow) where
-  below : (i j : ℕ) → i < j → j < length items → (get_or items i d).sid < (get_or items j d).sid
+  -- flows at higher places have higher SIDs
+  pub below : (i j : ℕ) → i < j → j < length items → (get_or items i d).sid < (get_or items j d).sid
   below i j lt within =
       omega (
         arith,
@@ -37,7 +38,7 @@ module _ (items : List Flow) (sid : ℕ) (up : Ascend (map live items)) (d : Flo
       )
 
   -- the one with the SID is the first
-  found-first : (at : ℕ) → at < length items → (get_or items at d).sid ≡ sid
+  pub found-first : (at : ℕ) → at < length items → (get_or items at d).sid ≡ sid
       → position (λ f. f.sid == sid) items ≡ Some at
   found-first at within same =
       let place : position_or_len (λ (f : Flow). f.sid == sid) items ≡ at =

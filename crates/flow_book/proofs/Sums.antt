@@ -7,10 +7,10 @@ use Rattle.std.proofs.lemmas.List.Sums.{sum_by-append}
 use Rattle.minislots.specs.declared.config.Config.{Config}
 use Rattle.flow_book.specs.declared.flow.Flow.{Flow}
 use Rattle.flow_book.specs.declared.flow.Grant.{Grant}
-use Rattle.flow_book.specs.Flows.{LiveFlow, bytes_of}
-use Rattle.flow_book.specs.Choice.{last_start}
+use Rattle.flow_book.specs.Flows.{LiveFlow, bytes_of, with_grant}
+use Rattle.flow_book.specs.Choice.{last_start, MayGrant, KeepsWith}
 use Rattle.flow_book.specs.Entry.{live, IsSoundFlow, KeepsSums, IsCopy, IsBook}
-use Rattle.flow_book.proofs.Changes.{all-set, placed-sound}
+use Rattle.flow_book.proofs.Changes.{all-set, placed-sound, placed-is_sound, granted-sound}
 use Rattle.flow_book.proofs.Windows.{one_more, bytes-one}
 use Rattle.flow_book.proofs.Places.{StandsAt, all-found}
 
@@ -44,9 +44,10 @@ copy-sums : (c : Config) (f g : Flow) → IsCopy f g → KeepsSums c f → Keeps
 copy-sums c f g is keeps =
     let grants : g.grants.items ≡ f.grants.items = ap (λ (h : LiveFlow). h.grants) is.same in
     let spec : g.spec ≡ f.spec = ap (λ (h : LiveFlow). h.spec) is.same in
+    let sid : g.sid ≡ f.sid = ap (λ (h : LiveFlow). h.sid) is.same in
     record {
       granted = is.granted ∙ keeps.granted ∙ ap bytes_of (sym grants);
-      turn = rw (spec, grants, is.turn) keeps.turn;
+      turn = rw (spec, grants, sid, is.turn) keeps.turn;
       bucket = rw (spec, grants, is.bucket) keeps.bucket;
     }
 
@@ -78,3 +79,14 @@ placed-book c sid items i e f are is same sound keeps = record {
   sound = placed-sound c sid items i e f are.sound is same sound;
   sums = all-set (KeepsSums c) items i e are.sums keeps;
 }
+
+-- and so where that is with a lawful grant more
+pub granted-book : (c : Config) (sid start bytes room : ℕ) (items : List Flow) (i : ℕ) (e f : Flow) → IsBook c items
+    → StandsAt sid items i f → live e ≡ with_grant (record { start = start; bytes = bytes }) (live f)
+    → MayGrant c (live f) start room bytes
+    → (KeepsSums c f → KeepsWith c (live f) start bytes → KeepsSums c e) → IsBook c (set items i e)
+granted-book c sid start bytes room items i e f are is more may sums =
+    let sound = placed-is_sound c sid items i f are.sound is in
+    placed-book c sid items i e f are is (ap (λ (g : LiveFlow). g.sid) more)
+    (rw more (granted-sound c start bytes room (live f) sound may))
+    (sums (placed-sums c sid items i f are is) may.taken.ceiling)

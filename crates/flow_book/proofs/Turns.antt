@@ -1,13 +1,30 @@
--- The number of a flow's turn stands for its rank and the start of its last grant.
-use Rattle.std.proofs.Common.{◌≡◌, ℕ, ◌<◌, ◌≤◌, nat_lt, Option, None, Some, arith}
+-- The number of a flow's turn stands for its rank, the start of its last grant, and its SID.
+use Rattle.std.proofs.Common.{◌≡◌, ℕ, ◌<◌, ◌≤◌, nat_lt, Option, None, Some, true, arith}
 use Rattle.std.proofs.lemmas.Bool.Decides.{nat_tests}
 use Rattle.flow_book.specs.Entry.{IsTurn}
 use Rattle.flow_book.proofs.Order.{goes_first}
 
 -- of two flows the one with the higher SID is served first where its turn is less
-pub turn-first : (r s : ℕ) (a b : Option ℕ) (x y t u : ℕ) → y < x → r ≤ 255 → s ≤ 255 → IsTurn r a t → IsTurn s b u
+pub turn-first : (r s : ℕ) (a b : Option ℕ) (x y t u : ℕ) → y < x → r ≤ 255 → s ≤ 255 → IsTurn r a x t → IsTurn s b y u
     → nat_lt t u ≡ goes_first r a x s b y
-turn-first r s None None x y t u lower p q e f = grind (arith, nat_tests)
-turn-first r s None (Some n) x y t u lower p q e f = grind (arith, nat_tests, f.0, f.1)
-turn-first r s (Some m) None x y t u lower p q e f = grind (arith, nat_tests, e.0, e.1)
-turn-first r s (Some m) (Some n) x y t u lower p q e f = grind (arith, nat_tests, e.0, e.1, f.0, f.1)
+turn-first r s None None x y t u lower p q e f = grind (arith, nat_tests, e.0, e.1, f.0, f.1)
+turn-first r s None (Some n) x y t u lower p q e f = grind (arith, nat_tests, e.0, e.1, f.0, f.1, f.2)
+turn-first r s (Some m) None x y t u lower p q e f = grind (arith, nat_tests, e.0, e.1, e.2, f.0, f.1)
+turn-first r s (Some m) (Some n) x y t u lower p q e f =
+    grind (arith, nat_tests, e.0, e.1, e.2, f.0, f.1, f.2)
+
+-- a flow of a lesser turn is served first
+pub less-first : (r s : ℕ) (a b : Option ℕ) (x y t u : ℕ) → r ≤ 255 → s ≤ 255 → IsTurn r a x t → IsTurn s b y u
+    → t < u → goes_first r a x s b y ≡ true
+less-first r s None None x y t u p q e f less = grind (arith, nat_tests, e.0, e.1, f.0, f.1)
+less-first r s None (Some n) x y t u p q e f less = grind (arith, nat_tests, e.0, e.1, f.0, f.1, f.2)
+less-first r s (Some m) None x y t u p q e f less = grind (arith, nat_tests, e.0, e.1, e.2, f.0, f.1)
+less-first r s (Some m) (Some n) x y t u p q e f less =
+    grind (arith, nat_tests, e.0, e.1, e.2, f.0, f.1, f.2)
+
+-- flows of the same turn have the same SID
+pub turn-sid : (r s : ℕ) (a b : Option ℕ) (x y t : ℕ) → IsTurn r a x t → IsTurn s b y t → x ≡ y
+turn-sid r s None None x y t e f = omega (arith, e.0, e.1, f.0, f.1)
+turn-sid r s None (Some n) x y t e f = omega (arith, e.0, e.1, f.0, f.2)
+turn-sid r s (Some m) None x y t e f = omega (arith, e.0, e.2, f.0, f.1)
+turn-sid r s (Some m) (Some n) x y t e f = omega (arith, e.0, e.2, f.0, f.2)

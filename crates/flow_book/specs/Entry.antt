@@ -18,15 +18,17 @@ live f = record { sid = f.sid; spec = f.spec; asked = f.asked; grants = f.grants
 abbrev pub room_in : Flow → Room
 room_in f = record { sid = f.sid; grants = f.grants.room }
 
--- A number by which flows of this rank, whose last grant starts there, are served: the least first. Flows of higher
--- ranks come before all others, and in a rank the start of the last grant decides, none before any.
-abbrev pub IsTurn : ℕ → Option ℕ → ℕ → Type 0
-IsTurn rank None turn = turn ≡ (255 - rank) * 2 ^ 65
-IsTurn rank (Some start) turn = (start < 2 ^ 64) × (turn ≡ (255 - rank) * 2 ^ 65 + start + 1)
+-- A number by which flows are served: the least first, and no two the same. It stands for the flow's rank, where its
+-- last grant starts, and its SID. Flows of higher ranks come before all others, in a rank the start of the last grant
+-- decides, none before any, and then the SID.
+abbrev pub IsTurn : ℕ → Option ℕ → ℕ → ℕ → Type 0
+IsTurn rank None sid turn = (sid < 2 ^ 16) × (turn ≡ (255 - rank) * 2 ^ 65 * 2 ^ 16 + sid)
+IsTurn rank (Some start) sid turn = (sid < 2 ^ 16) × (start < 2 ^ 64)
+    × (turn ≡ ((255 - rank) * 2 ^ 65 + start + 1) * 2 ^ 16 + sid)
 
 -- the flow knows its turn
 abbrev pub KnowsTurn : Flow → Type 0
-KnowsTurn f = (rank_of f.spec ≤ 255) × IsTurn (rank_of f.spec) (last_start f.grants.items) f.turn
+KnowsTurn f = (rank_of f.spec ≤ 255) × IsTurn (rank_of f.spec) (last_start f.grants.items) f.sid f.turn
 
 -- what a flow keeps beside its grants is theirs: their bytes, its turn after the last one, and the bucket of its rate
 -- and burst that stands for them

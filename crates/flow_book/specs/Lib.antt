@@ -9,3 +9,4 @@ pub mod Sids
 pub mod Choice
 pub mod Book
 pub mod Entry
+pub mod Queue

@@ -1,16 +1,17 @@
 //! The live flows of a channel, in order of SID.
 
 ghost use Rattle.std.specs.Prelude.{◌≡◌, ◌≢◌, ℕ, ◌+◌, ◌<◌, ◌≤◌, ◌^◌, ◌==◌, [], length, IfOk, OnOk, OnErr, IfSome};
-ghost use Rattle.std.specs.Prelude.{IsSomeAnd, map, option_map, slice_get, nat_lt, position, find, option_copied};
+ghost use Rattle.std.specs.Prelude.{IsSomeAnd, MatchOption, map, option_map, slice_get, nat_lt, position, find, option_copied};
 ghost use Rattle.std.specs.List.{AllByRecursion};
 ghost use Rattle.minislots.specs.Units.{slots_for};
 ghost use Rattle.flow_book.specs.Flows.{flow_of, outstanding, with_grant};
-ghost use Rattle.flow_book.specs.Choice.{MayGrant, IsMost, IsNextSid, HasStartedBy};
+ghost use Rattle.flow_book.specs.Choice.{MayGrant, IsMost, IsNext, IsNextSid, NoneEligible, HasStartedBy};
 ghost use Rattle.flow_book.specs.Entry.{live, IsSoundFlow, KeepsSums};
 ghost use Rattle.flow_book.specs.Book.{IsLive, Ascend, KeepsRoom, room_of, new_flow, with_flow, without, changed};
 ghost use Rattle.flow_book.specs.Book.{with_asked};
 
 use crate::flow::{Flow, first_eligible, reserve_each};
+use crate::queue::{Waiting, first_in_turn, follow, place_by_queue, queue_of};
 use crate::spec::FlowSpec;
 use minislots::Checked;
 use std::alloc::{AllocError, Global};
@@ -22,6 +23,9 @@ use std::marker::Model;
 pub struct Book {
     config: Checked,
     flows: Vec<Flow>,
+    // The flows that wait, by their turns, where they are known.
+    queue: Vec<Waiting>,
+    is_queued: bool,
 }
 
 impl Model for Book {
@@ -30,7 +34,8 @@ impl Model for Book {
 
     ghost Value = { BookView };
 
-    ghost use Rattle.flow_book.specs.Entry.{live, room_in, IsBook};
+    ghost use Rattle.flow_book.specs.Entry.{live, room_in};
+    ghost use Rattle.flow_book.specs.Queue.{IsQueuedBook};
 
     ghost view = { λ b. record {
       config = b.config;
@@ -38,7 +43,7 @@ impl Model for Book {
       rooms = map room_in b.flows.items;
     } };
 
-    ghost invariant = { λ b. IsBook b.config b.flows.items };
+    ghost invariant = { λ b. IsQueuedBook b.config b.flows.items b.queue.items b.is_queued };
 }
 
 // The place of the flow with this SID.
@@ -47,6 +52,17 @@ fn place_in(flows: &[Flow], sid: u16) -> Option<usize>
     ensures { result ≡ position (λ f. f.sid == sid) flows.now }
 {
     flows.binary_search_by_key(&sid, |flow| flow.sid).ok()
+}
+
+// The same, which the queue may tell sooner.
+fn place_of(flows: &[Flow], queue: &[Waiting], sid: u16) -> Option<usize>
+    requires { Ascend (map live flows.now) }
+    ensures { result ≡ position (λ f. f.sid == sid) flows.now }
+{
+    match place_by_queue(queue, flows, sid) {
+        Some(place) => Some(place),
+        None => place_in(flows, sid),
+    }
 }
 
 // The place of the first flow with a higher SID.
@@ -65,6 +81,8 @@ impl Book {
         Ok(Book {
             config,
             flows: Vec::new(alloc),
+            queue: Vec::new(alloc),
+            is_queued: false,
         })
     }
 
@@ -145,6 +163,7 @@ impl Book {
         let place = place_above(&self.flows, sid).unwrap_or(self.flows.len());
         let flow = Flow::open(&self.config, sid, spec);
         self.flows.insert(place, flow)?;
+        self.is_queued = false;
         Ok(())
     }
 
@@ -156,6 +175,7 @@ impl Book {
         ensures room { (other : ℕ) → other ≢ sid → room_of other self.new.rooms ≡ room_of other self.old.rooms }
     {
         self.flows.retain(|flow| flow.sid != sid);
+        self.is_queued = false;
     }
 
     /// Adds bytes to what a live flow asked. The sum fits a `u64`.
@@ -166,6 +186,7 @@ impl Book {
     {
         let place = self.place(sid);
         self.flows[place].asked += u64::from(bytes);
+        self.is_queued = false;
     }
 
     /// The most bytes of a data grant to a live flow at minislot `start`, in `room` minislots: at most
@@ -187,8 +208,8 @@ impl Book {
         requires { AllByRecursion (HasStartedBy start) self.now.flows }
         ensures { IsNextSid self.now.config start room self.now.flows result }
     {
-        match first_eligible(&self.flows, &self.config, start, room) {
-            Some(flow) => Some(flow.sid),
+        match self.next_place(start, room) {
+            Some(place) => Some(self.sid_at(place)),
             None => None,
         }
     }
@@ -200,7 +221,10 @@ impl Book {
         ensures kept { KeepsRoom self.old.rooms self.new.rooms }
         ensures same { self.new ≡ record self.old { rooms = self.new.rooms } }
     {
+        self.is_queued = false;
         reserve_each(&mut self.flows, grants);
+        self.queue = queue_of(*self.flows.allocator(), &self.flows)?;
+        self.is_queued = true;
         Ok(())
     }
 
@@ -220,6 +244,7 @@ impl Book {
     {
         let place = self.place(sid);
         self.flows[place].grant(start, bytes);
+        self.is_queued = follow(&mut self.queue, self.is_queued, &self.flows, place);
     }
 
     /// Another book that shows the same configuration and flows. It has no room for grants that
@@ -231,7 +256,24 @@ impl Book {
         Ok(Book {
             config: self.config,
             flows: self.flows.clone()?,
+            queue: Vec::new(*self.flows.allocator()),
+            is_queued: false,
         })
+    }
+
+    // The place of the flow that the data grant of [`Book::eligible`] goes to.
+    fn next_place(&self, start: u64, room: u32) -> Option<usize>
+        requires { AllByRecursion (HasStartedBy start) self.now.flows }
+        ensures { MatchOption result (NoneEligible self.now.config self.now.flows start room) (λ place.
+            IsSomeAnd (slice_get self.now.flows place) (IsNext self.now.config self.now.flows start room)) }
+    {
+        if self.is_queued {
+            return first_in_turn(&self.queue, &self.flows, &self.config, start, room);
+        }
+        match first_eligible(&self.flows, &self.config, start, room) {
+            Some(flow) => place_in(&self.flows, flow.sid),
+            None => None,
+        }
     }
 
     // The live flow with this SID.
@@ -249,7 +291,7 @@ impl Book {
         requires { IsLive sid self.now.flows }
         ensures { position (λ f. f.sid == sid) self.now.flows ≡ Some result }
     {
-        match place_in(&self.flows, sid) {
+        match place_of(&self.flows, &self.queue, sid) {
             Some(place) => place,
             None => unreachable!(),
         }

@@ -29,6 +29,9 @@ pub struct Grant {
 // The turns of a rank: more than there are starts.
 const TURNS: u128 = 1 << 65;
 
+// The SIDs of a turn.
+const SIDS: u128 = 1 << 16;
+
 // A live flow.
 #[derive(Drop)]
 pub(crate) struct Flow {
@@ -39,7 +42,7 @@ pub(crate) struct Flow {
     // The bytes of all data grants.
     granted: u64,
     // Its turn among the flows that may be served: the least is served first.
-    turn: u128,
+    pub(crate) turn: u128,
     // What the data grants leave under the rate ceiling.
     bucket: Bucket,
     // The data grants, in order, for contracts alone.
@@ -73,7 +76,7 @@ impl Flow {
             spec,
             asked: 0,
             granted: 0,
-            turn: first_turn(spec.rank()),
+            turn: turn_of(spec.rank(), None, sid),
             bucket: Bucket::open(config, spec.rate(), spec.burst()),
             grants: GrantList::none(),
         }
@@ -89,7 +92,7 @@ impl Flow {
     }
 
     // Whether the flow waits for bytes.
-    fn waits(&self) -> bool
+    pub(crate) fn waits(&self) -> bool
         requires sum { self.now.granted ≡ granted (live self.now) }
         requires within { granted (live self.now) ≤ self.now.asked }
         ensures { result ≡ nat_lt 0 (outstanding (live self.now)) }
@@ -154,7 +157,7 @@ impl Flow {
             → KeepsWith c (live self.old) start bytes → KeepsSums c self.new }
     {
         self.granted += u64::from(bytes);
-        self.turn = first_turn(self.spec.rank()) + u128::from(start) + 1;
+        self.turn = turn_of(self.spec.rank(), Some(start), self.sid);
         let _ = self.bucket.take(start, bytes);
         self.grants = GrantList::and(&self.grants, &Grant { start, bytes });
     }
@@ -201,10 +204,13 @@ fn both(a: bool, b: bool) -> bool
     a & b
 }
 
-// The turn of a flow of this rank before its first data grant. Each start of a last one comes behind it,
-// and before the turns of the rank below.
-fn first_turn(rank: u8) -> u128
-    ensures { IsTurn rank None result }
+// The turn of a flow of this rank, whose last data grant starts there.
+fn turn_of(rank: u8, last: Option<u64>, sid: u16) -> u128
+    ensures { IsTurn rank last sid result }
 {
-    u128::from(u8::MAX - rank) * TURNS
+    let starts = match last {
+        Some(start) => u128::from(start) + 1,
+        None => 0,
+    };
+    (u128::from(u8::MAX - rank) * TURNS + starts) * SIDS + u128::from(sid)
 }

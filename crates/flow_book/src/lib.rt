@@ -7,6 +7,7 @@ mod bucket;
 mod check;
 mod flow;
 mod granted;
+mod queue;
 mod spec;
 
 pub use book::Book;

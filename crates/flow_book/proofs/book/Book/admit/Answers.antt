@@ -1,5 +1,5 @@
 -- The new flow stands in order of SID, is sound and keeps its sums.
-use Rattle.std.proofs.Common.{◌≡◌, ℕ, ◌∙◌, ap, map, length, nat_lt, position, arith}
+use Rattle.std.proofs.Common.{◌≡◌, ℕ, ◌∙◌, ap, sym, map, length, nat_lt, position, true≢false, arith}
 use Rattle.std.specs.List.{position_or_len}
 use Rattle.minislots.specs.declared.config.Config.{Config}
 use Rattle.flow_book.specs.declared.flow.Flow.{Flow}
@@ -38,10 +38,13 @@ invariant_of-self-2 c =
     let flows = rw (← c.self.view_is) at (returns-clause-ok c) in
     let none = rw (← c.self.view_is) at c.requires in
     record {
-      sound = rw flows (sound-with_flow config (new_flow c.args.sid c.args.spec) (map live items) none
-          (new-sound config c.args.sid c.args.spec) c.self.invariant.sound);
-      sums = rw c.in_ok-insert.ensures.items (all-insert (KeepsSums config) items c.unwrap_or-place.result
-          c.open-flow.result c.self.invariant.sums c.open-flow.ensures.sums);
+      order = λ known. absurd (true≢false (sym known));
+      book = record {
+        sound = rw flows (sound-with_flow config (new_flow c.args.sid c.args.spec) (map live items) none
+            (new-sound config c.args.sid c.args.spec) c.self.invariant.book.sound);
+        sums = rw c.in_ok-insert.ensures.items (all-insert (KeepsSums config) items c.unwrap_or-place.result
+            c.open-flow.result c.self.invariant.book.sums c.open-flow.ensures.sums);
+      };
     }
 
 pub returns-clause-room : goal.returns-clause-room

@@ -1,5 +1,5 @@
 -- The flow in its place asks for more.
-use Rattle.std.proofs.Common.{◌+◌, ap, refl, arith}
+use Rattle.std.proofs.Common.{◌+◌, ap, sym, refl, true≢false, arith}
 use Rattle.std.proofs.Math.Seq.{map-set_same}
 use Rattle.flow_book.specs.declared.flow.Flow.{Flow}
 use Rattle.flow_book.specs.Entry.{live, room_in}
@@ -18,7 +18,7 @@ overflow_add-index_mut c =
     omega arith
 
 -- the flow stands at its place
-stands : (c : goal.After-self-1)
+stands : (c : goal.After-self-2-1)
     → StandsAt c.args.sid c.self.inside.flows.items c.place-place.result c.index_mut.result.now
 stands c =
     placed c.args.sid c.self.inside.flows.items c.place-place.result c.index_mut.result.now
@@ -30,11 +30,14 @@ invariant_of-self c =
     let items = c.self.inside.flows.items in
     let f = c.index_mut.result.now in
     let is = stands c in
-    let sound = placed-is_sound config c.args.sid items c.place-place.result f c.self.invariant.sound is in
-    let keeps = placed-sums config c.args.sid items c.place-place.result f c.self.invariant is in
-    placed-book config c.args.sid items c.place-place.result _ f c.self.invariant is refl
-    (asked-sound config c.from.result (live f) sound)
-    (record { granted = keeps.granted; turn = keeps.turn; bucket = keeps.bucket })
+    let sound = placed-is_sound config c.args.sid items c.place-place.result f c.self.invariant.book.sound is in
+    let keeps = placed-sums config c.args.sid items c.place-place.result f c.self.invariant.book is in
+    record {
+      book = placed-book config c.args.sid items c.place-place.result _ f c.self.invariant.book is refl
+          (asked-sound config c.from.result (live f) sound)
+          (record { granted = keeps.granted; turn = keeps.turn; bucket = keeps.bucket });
+      order = λ known. absurd (true≢false (sym known));
+    }
 
 pub returns : goal.returns
 returns c =
@@ -43,6 +46,6 @@ returns c =
     let e : Flow = record f { asked = f.asked + c.from.result } in
     rw (← c.self.view_is)
     (same-view c.self.inside.config _ _ _ _
-    (placed-changed c.args.sid (with_asked c.args.bytes) items c.place-place.result e f c.self.invariant.sound.ascending
+    (placed-changed c.args.sid (with_asked c.args.bytes) items c.place-place.result e f c.self.invariant.book.sound.ascending
     (stands c) (ap (λ n. with_asked n (live f)) c.from.ensures))
     (map-set_same room_in items c.place-place.result e f (ap room_in c.index_mut.ensures.value)))

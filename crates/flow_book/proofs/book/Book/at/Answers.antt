@@ -17,10 +17,10 @@ pub returns-clause-sound : goal.returns-clause-sound
 returns-clause-sound c =
     rw (← c.self.view_is)
     (placed-is_sound c.self.inside.config c.args.sid c.self.inside.flows.items c.place.result c.index.result.now
-    c.self.invariant.sound (stands c))
+    c.self.invariant.book.sound (stands c))
 
 pub returns-clause-sums : goal.returns-clause-sums
 returns-clause-sums c =
     rw (← c.self.view_is)
     (placed-sums c.self.inside.config c.args.sid c.self.inside.flows.items c.place.result c.index.result.now
-    c.self.invariant (stands c))
+    c.self.invariant.book (stands c))

@@ -1,4 +1,5 @@
 -- A clone of each flow stands for the same flow, with its sums.
+use Rattle.std.proofs.Common.{sym, true≢false}
 use Rattle.flow_book.proofs.Sums.{copies-live, copies-sums}
 use Rattle.flow_book.proofs.book.Book.copy.Goals as goal
 
@@ -11,7 +12,10 @@ pub invariant_of-result : goal.invariant_of-result
 invariant_of-result c =
     let items = c.self.inside.flows.items in
     record {
-      sound = rw (copies-live items c.in_ok-clone.field-0.items c.in_ok-clone.ensures.cases.0) c.self.invariant.sound;
-      sums = copies-sums c.self.inside.config items c.in_ok-clone.field-0.items c.in_ok-clone.ensures.cases.0
-          c.self.invariant.sums;
+      order = λ known. absurd (true≢false (sym known));
+      book = record {
+        sound = rw (copies-live items c.in_ok-clone.field-0.items c.in_ok-clone.ensures.cases.0) c.self.invariant.book.sound;
+        sums = copies-sums c.self.inside.config items c.in_ok-clone.field-0.items c.in_ok-clone.ensures.cases.0
+            c.self.invariant.book.sums;
+      };
     }

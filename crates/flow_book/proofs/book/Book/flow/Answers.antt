@@ -21,4 +21,4 @@ returns-in-None c =
     rw (← c.self.view_is, found-none (λ f. f.sid == c.args.sid) (map live items) _ refl none) refl
 
 pub place_in-requires : goal.place_in-requires
-place_in-requires c = rw c.deref.ensures.value c.self.invariant.sound.ascending
+place_in-requires c = rw c.deref.ensures.value c.self.invariant.book.sound.ascending

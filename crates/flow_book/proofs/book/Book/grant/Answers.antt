@@ -1,10 +1,10 @@
 -- The flow in its place has one grant more, for which there was room.
 use Rattle.std.proofs.Common.{◌∙◌, ap, arith}
 use Rattle.flow_book.specs.Flows.{LiveFlow, with_grant}
-use Rattle.flow_book.specs.Entry.{live}
 use Rattle.flow_book.proofs.Places.{StandsAt, placed}
-use Rattle.flow_book.proofs.Changes.{placed-changed, placed-is_sound, granted-sound}
-use Rattle.flow_book.proofs.Sums.{placed-sums, placed-book}
+use Rattle.flow_book.proofs.Changes.{placed-changed, placed-is_sound}
+use Rattle.flow_book.proofs.Sums.{placed-sums, granted-book}
+use Rattle.flow_book.proofs.Queues.{same-but}
 use Rattle.flow_book.proofs.Rooms.{room-placed, room-replaced, room-others}
 use Rattle.flow_book.proofs.book.Book.grant.Goals as goal
 use Rattle.flow_book.proofs.book.Book.grant.Goals.{After-index_mut}
@@ -28,8 +28,8 @@ grant-requires-clause-asked c =
     let is = found c in
     let may = rw (← c.self.view_is, is.found) at c.requires.lawful in
     let sound =
-    placed-is_sound c.self.inside.config c.args.sid items c.place-place.result f c.self.invariant.sound is in
-    let keeps = placed-sums c.self.inside.config c.args.sid items c.place-place.result f c.self.invariant is in
+    placed-is_sound c.self.inside.config c.args.sid items c.place-place.result f c.self.invariant.book.sound is in
+    let keeps = placed-sums c.self.inside.config c.args.sid items c.place-place.result f c.self.invariant.book is in
     omega (arith, may.asked, sound.within, keeps.granted)
 
 pub grant-requires-clause-since : goal.grant-requires-clause-since
@@ -37,10 +37,34 @@ grant-requires-clause-since c =
     let is = found c in
     let started = rw (← c.self.view_is, is.found) at c.requires.started in
     (placed-sums c.self.inside.config c.args.sid c.self.inside.flows.items c.place-place.result c.index_mut.result.now
-    c.self.invariant is).bucket.since c.args.start started
+    c.self.invariant.book is).bucket.since c.args.start started
+
+pub follow-self-inside-requires-clause-book : goal.follow-self-inside-requires-clause-book
+follow-self-inside-requires-clause-book c =
+    let config = c.self.inside.config in
+    let items = c.self.inside.flows.items in
+    let f = c.index_mut.result.now in
+    let is =
+    placed c.args.sid items c.place-place.result f (rw (← c.self.view_is) at c.place-place.ensures)
+    c.index_mut.ensures.value in
+    let may = rw (← c.self.view_is, is.found) at c.requires.lawful in
+    let started = rw (← c.self.view_is, is.found) at c.requires.started in (
+      config,
+      rw c.deref.ensures.value (granted-book config c.args.sid c.args.start c.args.bytes _ items c.place-place.result
+          c.grant.new.self f c.self.invariant.book is c.grant.ensures.live may
+          (λ keeps kept. c.grant.ensures.sums config keeps started kept)),
+    )
+
+pub follow-self-inside-requires-clause-queue : goal.follow-self-inside-requires-clause-queue
+follow-self-inside-requires-clause-queue c = λ known.
+    let items = c.self.inside.flows.items in (
+      items,
+      rw c.deref.ensures.value (same-but items c.place-place.result c.grant.new.self),
+      c.self.invariant.order known,
+    )
 
 -- and after it
-stands : (c : goal.After-self-1)
+stands : (c : goal.After-self-2-1)
     → StandsAt c.args.sid c.self.inside.flows.items c.place-place.result c.index_mut.result.now
 stands c =
     placed c.args.sid c.self.inside.flows.items c.place-place.result c.index_mut.result.now
@@ -50,23 +74,22 @@ pub invariant_of-self : goal.invariant_of-self
 invariant_of-self c =
     let config = c.self.inside.config in
     let items = c.self.inside.flows.items in
-    let f = c.index_mut.result.now in
     let is = stands c in
     let may = rw (← c.self.view_is, is.found) at c.requires.lawful in
     let started = rw (← c.self.view_is, is.found) at c.requires.started in
-    let sound = placed-is_sound config c.args.sid items c.place-place.result f c.self.invariant.sound is in
-    let keeps = placed-sums config c.args.sid items c.place-place.result f c.self.invariant is in
-    placed-book config c.args.sid items c.place-place.result c.grant.new.self f c.self.invariant is
-    (ap (λ (g : LiveFlow). g.sid) c.grant.ensures.live)
-    (rw c.grant.ensures.live (granted-sound config c.args.start c.args.bytes _ (live f) sound may))
-    (c.grant.ensures.sums config keeps started may.taken.ceiling)
+    record {
+      book = granted-book config c.args.sid c.args.start c.args.bytes _ items c.place-place.result c.grant.new.self
+          c.index_mut.result.now c.self.invariant.book is c.grant.ensures.live may
+          (λ keeps kept. c.grant.ensures.sums config keeps started kept);
+      order = λ known. rw c.deref.ensures.value at (c.follow-self-inside.ensures known);
+    }
 
 pub returns-clause-flows : goal.returns-clause-flows
 returns-clause-flows c =
     rw (← c.self.view_is)
     (placed-changed c.args.sid (with_grant (record { start = c.args.start; bytes = c.args.bytes }))
     c.self.inside.flows.items c.place-place.result c.grant.new.self c.index_mut.result.now
-    c.self.invariant.sound.ascending (stands c) c.grant.ensures.live)
+    c.self.invariant.book.sound.ascending (stands c) c.grant.ensures.live)
 
 pub returns-clause-room : goal.returns-clause-room
 returns-clause-room c =

@@ -20,13 +20,13 @@ pub outstanding-requires-clause-sum : goal.outstanding-requires-clause-sum
 outstanding-requires-clause-sum c =
     let keeps : KeepsSums c.self.inside.config c.index.result.now =
     rw c.index.ensures (All-from_recursion (KeepsSums c.self.inside.config) c.self.inside.flows.items
-    c.self.invariant.sums c.args.index c.index.result.now (inside c)) in
+    c.self.invariant.book.sums c.args.index c.index.result.now (inside c)) in
     keeps.granted
 
 pub outstanding-requires-clause-within : goal.outstanding-requires-clause-within
 outstanding-requires-clause-within c =
     (all-item live c.self.inside.flows.items c.args.index c.index.result.now (inside c) c.index.ensures
-    (IsSoundFlow c.self.inside.config) c.self.invariant.sound.each).within
+    (IsSoundFlow c.self.inside.config) c.self.invariant.book.sound.each).within
 
 pub returns : goal.returns
 returns c =

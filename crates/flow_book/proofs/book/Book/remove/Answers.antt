@@ -1,5 +1,5 @@
 -- The flows of other SIDs are left.
-use Rattle.std.proofs.Common.{◌≡◌, ◌∙◌, ap, map, filter, not, ◌==◌, rules}
+use Rattle.std.proofs.Common.{◌≡◌, ◌∙◌, ap, map, filter, not, ◌==◌, sym, true≢false, rules}
 use Rattle.std.proofs.lemmas.Fn.{filter_same}
 use Rattle.flow_book.specs.declared.flow.Flow.{Flow}
 use Rattle.flow_book.specs.Flows.{LiveFlow}
@@ -10,7 +10,7 @@ use Rattle.flow_book.proofs.Removal.{map-filter, sound-filter, all-filter, room-
 use Rattle.flow_book.proofs.book.Book.remove.Goals as goal
 
 -- the flows of other SIDs
-left : (c : goal.After-retain)
+left : (c : goal.After-self-1)
     → c.retain.new.self.items ≡ filter (λ (f : Flow). not (f.sid == c.args.sid)) c.self.inside.flows.items
 left c = filter_same _ _ _ (λ x b f' k. search rules) _ _ c.retain.ensures.filtered
 
@@ -19,10 +19,14 @@ invariant_of-self c =
     let items = c.self.inside.flows.items in
     let sound : IsSoundBook c.self.inside.config (map live (filter (λ (f : Flow). not (f.sid == c.args.sid)) items)) =
     rw (map-filter live (λ (f : LiveFlow). not (f.sid == c.args.sid)) items)
-    (sound-filter c.self.inside.config (λ f. not (f.sid == c.args.sid)) (map live items) c.self.invariant.sound) in
+    (sound-filter c.self.inside.config (λ f. not (f.sid == c.args.sid)) (map live items) c.self.invariant.book.sound) in
     rw (left c) (record {
-      sound = sound;
-      sums = all-filter (KeepsSums c.self.inside.config) (λ f. not (f.sid == c.args.sid)) items c.self.invariant.sums;
+      book = record {
+        sound = sound;
+        sums = all-filter (KeepsSums c.self.inside.config) (λ f. not (f.sid == c.args.sid)) items
+            c.self.invariant.book.sums;
+      };
+      order = λ known. absurd (true≢false (sym known));
     })
 
 pub returns-clause-removed : goal.returns-clause-removed

@@ -1,33 +1,62 @@
 -- The flows are written back with the room of each.
-use Rattle.std.proofs.Common.{◌≡◌, ◌++◌, length, map, take, drop, refl, arith}
-use Rattle.flow_book.specs.Entry.{live, room_in}
-use Rattle.flow_book.specs.Book.{KeepsRoom}
+use Rattle.std.proofs.Common.{◌≡◌, ◌++◌, sym, map, take, drop, length, true≢false, arith}
+use Rattle.flow_book.specs.Entry.{live, IsBook}
 use Rattle.flow_book.proofs.Rooms.{room-live, written-back}
 use Rattle.flow_book.proofs.book.Book.reserve.Goals as goal
 
--- all of them are written back
-written : (c : goal.After-self-1) → take c.self.inside.flows.len
-    (c.reserve_each.new.flows ++ drop (length c.reserve_each.new.flows) c.self.inside.flows.items) ≡ c.reserve_each.new.flows
-written c = written-back c.self.inside.flows.len c.reserve_each.new.flows _ (omega (arith, c.self.inside.flows.ok.0))
-
-same : (c : goal.After-self-1) → map live c.reserve_each.new.flows ≡ map live c.self.inside.flows.items
-same c = rw c.deref_mut.ensures.value at c.reserve_each.ensures.same
+pub queue_of-requires : goal.queue_of-requires
+queue_of-requires c =
+    let new = c.reserve_each.new.flows in
+    let len = c.self.inside.flows.len in
+    let written : take len (new ++ drop (length new) c.self.inside.flows.items) ≡ new =
+    written-back len new _ (omega (arith, c.self.inside.flows.ok.0)) in
+    let same : map live new ≡ map live c.self.inside.flows.items =
+    rw c.deref_mut.ensures.value at c.reserve_each.ensures.same in
+    let book : IsBook c.self.inside.config new = record {
+      sound = rw same c.self.invariant.book.sound;
+      sums = c.reserve_each.ensures.sums c.self.inside.config
+          (rw c.deref_mut.ensures.value c.self.invariant.book.sums);
+    } in
+    (c.self.inside.config, rw (c.deref.ensures.value, written) book)
 
 pub invariant_of-self : goal.invariant_of-self
-invariant_of-self c = rw (written c) (record {
-  sound = rw (same c) c.self.invariant.sound;
-  sums = c.reserve_each.ensures.sums c.self.inside.config (rw c.deref_mut.ensures.value c.self.invariant.sums);
-})
+invariant_of-self c =
+    let new = c.reserve_each.new.flows in
+    let len = c.self.inside.flows.len in
+    let written : take len (new ++ drop (length new) c.self.inside.flows.items) ≡ new =
+    written-back len new _ (omega (arith, c.self.inside.flows.ok.0)) in
+    let same : map live new ≡ map live c.self.inside.flows.items =
+    rw c.deref_mut.ensures.value at c.reserve_each.ensures.same in
+    rw written (record {
+      book = record {
+        sound = rw same c.self.invariant.book.sound;
+        sums = c.reserve_each.ensures.sums c.self.inside.config
+            (rw c.deref_mut.ensures.value c.self.invariant.book.sums);
+      };
+      order = λ known. absurd (true≢false (sym known));
+    })
+
+pub invariant_of-self-2 : goal.invariant_of-self-2
+invariant_of-self-2 c =
+    let new = c.reserve_each.new.flows in
+    let len = c.self.inside.flows.len in
+    let written : take len (new ++ drop (length new) c.self.inside.flows.items) ≡ new =
+    written-back len new _ (omega (arith, c.self.inside.flows.ok.0)) in
+    let same : map live new ≡ map live c.self.inside.flows.items =
+    rw c.deref_mut.ensures.value at c.reserve_each.ensures.same in
+    rw written (record {
+      book = record {
+        sound = rw same c.self.invariant.book.sound;
+        sums = c.reserve_each.ensures.sums c.self.inside.config
+            (rw c.deref_mut.ensures.value c.self.invariant.book.sums);
+      };
+      order = λ known. rw (c.deref.ensures.value, written) at c.in_ok-self-inside.ensures;
+    })
 
 pub returns-clause-room : goal.returns-clause-room
 returns-clause-room c =
-    rw (written c) (room-live c.reserve_each.new.flows c.args.grants c.reserve_each.ensures.room)
-
-pub returns-clause-kept : goal.returns-clause-kept
-returns-clause-kept c =
-    let kept : KeepsRoom (map room_in c.self.inside.flows.items) (map room_in c.reserve_each.new.flows) =
-    rw c.deref_mut.ensures.value at c.reserve_each.ensures.kept in
-    rw (← c.self.view_is, written c) kept
-
-pub returns-clause-same : goal.returns-clause-same
-returns-clause-same c = rw (← c.self.view_is, written c, same c) refl
+    let new = c.reserve_each.new.flows in
+    let len = c.self.inside.flows.len in
+    let written : take len (new ++ drop (length new) c.self.inside.flows.items) ≡ new =
+    written-back len new _ (omega (arith, c.self.inside.flows.ok.0)) in
+    rw written (room-live new c.args.grants c.reserve_each.ensures.room)

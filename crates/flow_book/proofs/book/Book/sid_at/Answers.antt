@@ -14,4 +14,4 @@ returns-clause-found c =
     let at : live flow ≡ get_or (map live items) c.args.index (live flow) =
     ap live c.index.ensures ∙ sym (get_or-map live items c.args.index flow) in
     rw (← c.self.view_is) (ap (λ (f : LiveFlow). flow_of f.sid (map live items)) at
-    ∙ flow_of-at (map live items) c.args.index (live flow) c.self.invariant.sound.ascending within)
+    ∙ flow_of-at (map live items) c.args.index (live flow) c.self.invariant.book.sound.ascending within)

@@ -18,8 +18,8 @@ returns-clause-sums c = λ channel keeps started kept.
     omega (arith, keeps.granted, c.from.ensures) in
     let items = c.and-self.ensures.0 in
     let last = ap last_start items ∙ last-more f.grants.items (record { start = c.args.start; bytes = c.args.bytes }) in
-    let turn : IsTurn (rank_of f.spec) (Some c.args.start) (c.first_turn.result + c.from-2.result + 1) =
-    (omega arith, omega (arith, c.first_turn.ensures, c.rank.ensures, c.from-2.ensures)) in
+    let turn : IsTurn (rank_of f.spec) (Some c.args.start) f.sid c.turn_of-self.result =
+    rw c.rank.ensures at c.turn_of-self.ensures in
     record {
       granted = bytes ∙ sym (ap bytes_of items ∙ bytes-added f.grants.items c.args.start c.args.bytes);
       turn = (keeps.turn.0, rw last turn);

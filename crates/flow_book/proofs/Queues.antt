@@ -1,0 +1,274 @@
+-- The queue of the flows that wait, as flows are put into it and taken out.
+use Rattle.std.proofs.Common.{◌≡◌, ◌≢◌, refl, sym, ap, ◌∙◌, subst, ℕ, zero, suc, ◌<◌, ◌==◌, ◌⊎◌, inl, inr, false}
+use Rattle.std.proofs.Common.{nat_lt, List, [], ◌∷◌, find, length, get_or, remove, slice_get}
+use Rattle.std.proofs.Common.{Some, None, option_map, Bool, position, set, ◌≤◌, arith}
+use Rattle.std.specs.List.{AllByRecursion, position_or_len}
+use Rattle.std.proofs.lemmas.Grind.{common_steps}
+use Rattle.std.proofs.lemmas.List.Sums.{fails_before_first}
+use Rattle.std.proofs.lemmas.Bool.{cond_both, cases_eq, cases_lt}
+use Rattle.std.proofs.lemmas.Bool.Decides.{nat_tests}
+use Rattle.std.proofs.lemmas.List.Elements.{All-from_recursion, recursion_from_All}
+use Rattle.std.proofs.lemmas.Option.{slice_get_within, slice_get-get_or}
+use Rattle.minislots.specs.declared.config.Config.{Config}
+use Rattle.flow_book.specs.declared.flow.Flow.{Flow}
+use Rattle.flow_book.specs.declared.queue.Waiting.{Waiting}
+use Rattle.flow_book.specs.FlowSpec.{rank_of}
+use Rattle.flow_book.specs.Choice.{last_start}
+use Rattle.flow_book.specs.Flows.{outstanding}
+use Rattle.flow_book.specs.Entry.{live, IsBook, KeepsSums, KnowsTurn}
+use Rattle.flow_book.specs.Sids.{AscendBy, put_in}
+use Rattle.flow_book.specs.Queue.{IsAt, IsIn, IsQueue, IsQueueAmong, AreSameBut}
+use Rattle.flow_book.proofs.Insertion.{all-put_in, ascends-put_in}
+use Rattle.flow_book.proofs.Searches.{below}
+use Rattle.flow_book.proofs.Turns.{turn-sid}
+
+-- the queue with one more
+abbrev pub with-one : Waiting → List Waiting → List Waiting
+with-one w queue = put_in (λ v. v.turn) w queue
+
+-- the one that is put in is in the queue
+in-new : (w : Waiting) (queue : List Waiting) → IsIn w.place (with-one w queue)
+in-new w [] = inl refl
+in-new w (v ∷ queue) =
+    cond_both (nat_lt w.turn v.turn) (w ∷ v ∷ queue) (v ∷ with-one w queue) (IsIn w.place)
+    (λ low. inl refl) (λ high. inr (in-new w queue))
+
+-- and those that were
+in-old : (place : ℕ) (w : Waiting) (queue : List Waiting) → IsIn place queue → IsIn place (with-one w queue)
+in-old place w [] here = absurd here
+in-old place w (v ∷ queue) (inl here) =
+    cond_both (nat_lt w.turn v.turn) (w ∷ v ∷ queue) (v ∷ with-one w queue) (IsIn place)
+    (λ low. inr (inl here)) (λ high. inl here)
+in-old place w (v ∷ queue) (inr rest) =
+    cond_both (nat_lt w.turn v.turn) (w ∷ v ∷ queue) (v ∷ with-one w queue) (IsIn place)
+    (λ low. inr (inr rest)) (λ high. inr (in-old place w queue rest))
+
+module _ {X : Type 0} where
+  -- what holds of each holds of those that are left where one is taken out
+  pub all-remove : (P : X → Type 0) (xs : List X) (i : ℕ) → AllByRecursion P xs → AllByRecursion P (remove xs i)
+  all-remove P [] zero all = tt
+  all-remove P [] (suc i) all = tt
+  all-remove P (x ∷ xs) zero all = all.1
+  all-remove P (x ∷ xs) (suc i) all = (all.0, all-remove P xs i all.1)
+
+  ascends-remove : (number : X → ℕ) (xs : List X) (i : ℕ) → AscendBy number xs → AscendBy number (remove xs i)
+  ascends-remove number [] zero up = tt
+  ascends-remove number [] (suc i) up = tt
+  ascends-remove number (x ∷ xs) zero up = up.1
+  ascends-remove number (x ∷ xs) (suc i) up =
+      (all-remove (λ y. number x < number y) xs i up.0, ascends-remove number xs i up.1)
+
+  -- two facts of each
+  pub all-both : (P Q R : X → Type 0) (xs : List X) → ((x : X) → P x → Q x → R x) → AllByRecursion P xs
+      → AllByRecursion Q xs → AllByRecursion R xs
+  all-both P Q R [] step ps qs = tt
+  all-both P Q R (x ∷ xs) step ps qs = (step x ps.0 qs.0, all-both P Q R xs step ps.1 qs.1)
+
+-- others than the one that is taken out stay
+in-rest : (place : ℕ) (queue : List Waiting) (i : ℕ) (d : Waiting) → i < length queue → (get_or queue i d).place ≢ place
+    → IsIn place queue → IsIn place (remove queue i)
+in-rest place [] i d lt differ here = absurd here
+in-rest place (w ∷ queue) zero d lt differ (inl here) = absurd (differ here)
+in-rest place (w ∷ queue) zero d lt differ (inr rest) = rest
+in-rest place (w ∷ queue) (suc i) d lt differ (inl here) = inl here
+in-rest place (w ∷ queue) (suc i) d lt differ (inr rest) = inr (in-rest place queue i d (omega arith) differ rest)
+
+some-within : (items : List Flow) (place turn : ℕ) → option_map (λ (f : Flow). f.turn) (slice_get items place) ≡ Some turn
+    → place < length items
+some-within [] place turn at = absurd (cc)
+some-within (f ∷ items) zero turn at = omega arith
+some-within (f ∷ items) (suc place) turn at = omega (arith, some-within items place turn at)
+
+-- where none in the queue has the place none has it
+pub none-at : (place : ℕ) (queue : List Waiting) → position (λ w. w.place == place) queue ≡ None
+    → AllByRecursion (λ w. w.place ≢ place) queue
+none-at place queue none =
+    let p : Waiting → Bool = λ w. w.place == place in
+    let past : length queue ≤ position_or_len p queue = grind (arith, common_steps) in
+    recursion_from_All (λ w. w.place ≢ place) queue (λ k d lt.
+    let fails : ((get_or queue k d).place == place) ≡ false = fails_before_first p queue k d (omega arith) in
+    (λ same. absurd (grind (arith, nat_tests))))
+
+module _ (items : List Flow) where
+  -- its place is one of the flows'
+  pub at-within : (w : Waiting) → IsAt items w → w.place < length items
+  at-within w at = some-within items w.place w.turn at
+
+  -- the flow that waits has this turn
+  pub turn-at : (w : Waiting) (f : Flow) → IsAt items w → slice_get items w.place ≡ Some f → f.turn ≡ w.turn
+  turn-at w f at found =
+      let e : Some f.turn ≡ Some w.turn = ap (option_map (λ (g : Flow). g.turn)) (sym found) ∙ at in cc
+
+  -- at one place there is one turn
+  same-turn : (v w : Waiting) → IsAt items v → IsAt items w → v.place ≡ w.place → v.turn ≡ w.turn
+  same-turn v w at at' same =
+      let e : Some v.turn ≡ Some w.turn =
+      sym at ∙ ap (λ k. option_map (λ (g : Flow). g.turn) (slice_get items k)) same ∙ at' in
+      cc
+
+  later : (w : Waiting) (queue : List Waiting) → IsAt items w → AllByRecursion (IsAt items) queue
+      → AllByRecursion (λ v. w.turn < v.turn) queue → AllByRecursion (λ v. v.place ≢ w.place) queue
+  later w [] at all above = tt
+  later w (v ∷ queue) at all above =
+      ((λ same. absurd (omega (arith, above.0, same-turn v w all.0 at same))), later w queue at all.1 above.1)
+
+  -- no place is twice in the queue
+  pub alone : (queue : List Waiting) (i : ℕ) (d : Waiting) → i < length queue → AllByRecursion (IsAt items) queue
+      → AscendBy (λ w. w.turn) queue → AllByRecursion (λ v. v.place ≢ (get_or queue i d).place) (remove queue i)
+  alone [] i d lt all up = absurd (omega arith)
+  alone (w ∷ queue) zero d lt all up = later w queue all.0 all.1 up.0
+  alone (w ∷ queue) (suc i) d lt all up =
+      let at : IsAt items (get_or queue i d) = All-from_recursion (IsAt items) queue all.1 i d (omega arith) in
+      let above : w.turn < (get_or queue i d).turn =
+      All-from_recursion (λ v. w.turn < v.turn) queue up.0 i d (omega arith) in (
+        (λ same. absurd (omega (arith, above, same-turn w (get_or queue i d) all.0 at same))),
+        alone queue i d (omega arith) all.1 up.1,
+      )
+
+  -- the queue without the one at its i-th place is one of the flows at other places
+  pub taken-out : (queue : List Waiting) (i : ℕ) (d : Waiting) → i < length queue → IsQueue items queue
+      → IsQueueAmong items (λ other. other ≢ (get_or queue i d).place) (remove queue i)
+  taken-out queue i d lt is = record {
+    ascending = ascends-remove (λ w. w.turn) queue i is.ascending;
+    each = all-remove (IsAt items) queue i is.each;
+    among = alone queue i d lt is.each is.ascending;
+    whole = λ place f found other waits. in-rest place queue i d lt (λ same. other (sym same))
+        (is.whole place f found tt waits);
+  }
+
+  -- and so is the queue itself where it has no such place
+  pub none-out : (queue : List Waiting) (place : ℕ) → AllByRecursion (λ w. w.place ≢ place) queue → IsQueue items queue
+      → IsQueueAmong items (λ other. other ≢ place) queue
+  none-out queue place none is = record {
+    ascending = is.ascending;
+    each = is.each;
+    among = none;
+    whole = λ other f found differ waits. is.whole other f found tt waits;
+  }
+
+-- what is known of the flows at other places stays
+pub among-others : (place : ℕ) (old new : List Flow) (queue : List Waiting) → AreSameBut place old new
+    → IsQueueAmong old (λ other. other ≢ place) queue → IsQueueAmong new (λ other. other ≢ place) queue
+among-others place old new queue same is = record {
+  ascending = is.ascending;
+  each = all-both (IsAt old) (λ w. w.place ≢ place) (IsAt new) queue
+      (λ w at other. ap (option_map (λ (f : Flow). f.turn)) (same w.place other) ∙ at) is.each is.among;
+  among = is.among;
+  whole = λ other f found differ waits. is.whole other f (sym (same other differ) ∙ found) differ waits;
+}
+
+-- the flows are the same at each place but where another is put
+pub same-but : (items : List Flow) (place : ℕ) (e : Flow) → AreSameBut place items (set items place e)
+same-but [] zero e other differ = refl
+same-but [] (suc place) e other differ = refl
+same-but (f ∷ items) zero e zero differ = absurd (differ refl)
+same-but (f ∷ items) zero e (suc other) differ = refl
+same-but (f ∷ items) (suc place) e zero differ = refl
+same-but (f ∷ items) (suc place) e (suc other) differ = same-but items place e other (λ same. differ (ap suc same))
+
+none-found : (turn : ℕ) (queue : List Waiting) → AllByRecursion (λ v. v.turn ≢ turn) queue
+    → find (λ v. v.turn == turn) queue ≡ None
+none-found turn [] all = refl
+none-found turn (v ∷ queue) all =
+    let fails : (v.turn == turn) ≡ false = let differ = all.0 in grind (arith, nat_tests) in
+    rw fails (none-found turn queue all.1)
+
+module _ (c : Config) (items : List Flow) (are : IsBook c items) where
+  -- the flow at a place knows its turn
+  pub knows-at : (place : ℕ) (f : Flow) → slice_get items place ≡ Some f → KnowsTurn f
+  knows-at place f found =
+      let within = slice_get_within items place f found in
+      let e : Some (get_or items place f) ≡ Some f = sym (slice_get-get_or items place f within) ∙ found in
+      let is : get_or items place f ≡ f = cc in
+      (subst (KeepsSums c) is (All-from_recursion (KeepsSums c) items are.sums place f within)).turn
+
+  -- flows of one turn are at one place
+  one-place : (i j : ℕ) (f g : Flow) → slice_get items i ≡ Some f → slice_get items j ≡ Some g → f.turn ≡ g.turn → i ≡ j
+  one-place i j f g at at' same =
+      let p = slice_get_within items i f at in
+      let q = slice_get_within items j g at' in
+      let e : Some (get_or items i f) ≡ Some f = sym (slice_get-get_or items i f p) ∙ at in
+      let e' : Some (get_or items j f) ≡ Some g = sym (slice_get-get_or items j f q) ∙ at' in
+      let is : get_or items i f ≡ f = cc in
+      let is' : get_or items j f ≡ g = cc in
+      let knows = knows-at i f at in
+      let knows' = knows-at j g at' in
+      let sids : f.sid ≡ g.sid =
+      turn-sid (rank_of f.spec) (rank_of g.spec) (last_start f.grants.items) (last_start g.grants.items) f.sid g.sid
+      f.turn knows.1 (rw (sym same) at knows'.1) in
+      let mine = ap (λ (h : Flow). h.sid) is in
+      let yours = ap (λ (h : Flow). h.sid) is' in
+      elim (cases_lt i j) [
+        | inl less ↦ absurd (omega (arith, below items f.sid are.sound.ascending f i j less q, mine, yours, sids))
+        | inr more ↦ elim (cases_eq i j) [
+          | inl equal ↦ equal
+          | inr differ ↦ absurd (omega (
+            arith,
+            below items f.sid are.sound.ascending f j i (omega arith) p,
+            mine,
+            yours,
+            sids,
+          ))
+        ]
+      ]
+
+  module _ (some more : ℕ → Type 0) (queue : List Waiting) (place : ℕ) (f : Flow) (here : slice_get items place ≡ Some f)
+      (only : (k : ℕ) → more k → (k ≡ place) ⊎ some k) (keeps : (k : ℕ) → some k → more k)
+      (is : IsQueueAmong items some queue) where
+    all-more : (ws : List Waiting) → AllByRecursion (λ w. some w.place) ws → AllByRecursion (λ w. more w.place) ws
+    all-more [] all = tt
+    all-more (w ∷ ws) all = (keeps w.place all.0, all-more ws all.1)
+
+    all-differ : (some place → ⊥) → (ws : List Waiting) → AllByRecursion (IsAt items) ws
+        → AllByRecursion (λ w. some w.place) ws → AllByRecursion (λ w. w.turn ≢ f.turn) ws
+    all-differ out [] each among = tt
+    all-differ out (w ∷ ws) each among = (
+      (λ same.
+          let within : w.place < length items = at-within items w each.0 in
+          let found = slice_get-get_or items w.place f within in
+          let turn = turn-at items w (get_or items w.place f) each.0 found in
+          let e : w.place ≡ place = one-place w.place place (get_or items w.place f) f found here (turn ∙ same) in
+          out (subst some e among.0)),
+      all-differ out ws each.1 among.1,
+    )
+
+    -- a queue with the flow at one more place
+    pub put-among : (w : Waiting) → w.place ≡ place → w.turn ≡ f.turn → (some place → ⊥) → more place
+        → IsQueueAmong items more (with-one w queue)
+    put-among w at turn out new =
+        let stands : IsAt items w = rw (at, turn, here) refl in
+        let differ = rw (sym turn) at (all-differ out queue is.each is.among) in
+        record {
+          ascending = ascends-put_in (λ v. v.turn) w queue (none-found w.turn queue differ) is.ascending;
+          each = all-put_in (λ v. v.turn) (IsAt items) w queue stands is.each;
+          among = all-put_in (λ v. v.turn) (λ v. more v.place) w queue (rw at new) (all-more queue is.among);
+          whole = λ k g found may waits. elim (only k may) [
+            | inl same ↦ subst (λ n. IsIn n (with-one w queue)) (at ∙ sym same) (in-new w queue)
+            | inr old ↦ in-old k w queue (is.whole k g found old waits)
+          ];
+        }
+
+    -- where it waits for nothing the queue is the same
+    pub pass-among : (0 < outstanding (live f) → ⊥) → IsQueueAmong items more queue
+    pass-among idle = record {
+      ascending = is.ascending;
+      each = is.each;
+      among = all-more queue is.among;
+      whole = λ k g found may waits. elim (only k may) [
+        | inl same ↦ (
+            let e : Some g ≡ Some f = sym found ∙ ap (slice_get items) same ∙ here in
+            let equal : g ≡ f = cc in
+            absurd (idle (subst (λ h. 0 < outstanding (live h)) equal waits)))
+        | inr old ↦ is.whole k g found old waits
+      ];
+    }
+
+-- a queue of the flows at all places is one of all flows
+pub whole-among : (items : List Flow) (some : ℕ → Type 0) (queue : List Waiting)
+    → ((place : ℕ) → place < length items → some place) → IsQueueAmong items some queue → IsQueue items queue
+whole-among items some queue all is = record {
+  ascending = is.ascending;
+  each = is.each;
+  among = all-both (IsAt items) (λ w. some w.place) (λ w. Unit {0}) queue (λ w at may. tt) is.each is.among;
+  whole = λ place f found any waits. is.whole place f found (all place (slice_get_within items place f found)) waits;
+}

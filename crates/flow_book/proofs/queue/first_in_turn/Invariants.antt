@@ -1,0 +1,8 @@
+-- Those gone through may not be served.
+use Rattle.std.proofs.Common.{take}
+use Rattle.std.specs.List.{AllByRecursion}
+use Rattle.flow_book.proofs.Serving.{IsPassed}
+use Rattle.flow_book.proofs.queue.first_in_turn.Given as goal
+
+abbrev pub invariant-loop-waiting : goal.invariant-loop-waiting
+invariant-loop-waiting l = AllByRecursion (IsPassed l.config l.start l.room l.flows) (take l.waiting-index l.queue)

@@ -1,0 +1,42 @@
+-- The flow at its place is put where its turn is.
+use Rattle.std.proofs.Common.{◌≡◌, ◌≢◌, refl, length, nat_lt, arith}
+use Rattle.std.proofs.lemmas.Bool.{cases_eq}
+use Rattle.std.proofs.lemmas.Bool.Decides.{nat_tests}
+use Rattle.std.proofs.lemmas.Option.{slice_get_read}
+use Rattle.flow_book.specs.Flows.{outstanding}
+use Rattle.flow_book.specs.Entry.{live, IsSoundFlow}
+use Rattle.flow_book.proofs.Queues.{among-others, put-among, pass-among}
+use Rattle.flow_book.proofs.Steps.{all-item}
+use Rattle.flow_book.proofs.queue.put_again.Goals as goal
+
+pub waits-requires-clause-within : goal.waits-requires-clause-within
+waits-requires-clause-within c =
+    (all-item live c.args.flows.now c.args.place c.index-flows-place.result c.requires.within c.index-flows-place.is
+    (IsSoundFlow c.requires.book.0) c.requires.book.1.sound.each).within
+
+pub returns-in_ok-put_in_turn : goal.returns-in_ok-put_in_turn
+returns-in_ok-put_in_turn c =
+    let place = c.args.place in
+    let items = c.args.flows.now in
+    let f = c.index-flows-place.result in
+    let before = c.requires.queue in
+    let here = slice_get_read items (length items) place f refl c.requires.within c.index-flows-place.is in
+    let others =
+    among-others place before.0 items c.take_out.new.queue.items before.1 (c.take_out.ensures before.0 before.2) in
+    rw c.in_ok-put_in_turn.ensures (put-among c.requires.book.0 items c.requires.book.1 (λ other. other ≢ place)
+    (λ other. Unit {0}) c.take_out.new.queue.items place f here (λ k may. cases_eq k place) (λ k other. tt) others
+    (record { turn = f.turn; place = place }) refl refl (λ differ. differ refl) tt)
+
+pub returns-else-waits : goal.returns-else-waits
+returns-else-waits c =
+    let place = c.args.place in
+    let items = c.args.flows.now in
+    let f = c.index-flows-place.result in
+    let before = c.requires.queue in
+    let here = slice_get_read items (length items) place f refl c.requires.within c.index-flows-place.is in
+    let others =
+    among-others place before.0 items c.take_out.new.queue.items before.1 (c.take_out.ensures before.0 before.2) in
+    pass-among c.requires.book.0 items c.requires.book.1 (λ other. other ≢ place) (λ other. Unit {0})
+    c.take_out.new.queue.items place f here (λ k may. cases_eq k place) (λ k other. tt) others
+    (λ waits. let e : c.waits.result ≡ nat_lt 0 (outstanding (live f)) = c.waits.ensures in
+    let idle = c.if-waits.false in absurd (grind (arith, nat_tests)))

@@ -1,0 +1,39 @@
+-- The flows that wait for bytes, in the order in which they are served.
+use Rattle.std.specs.Prelude.{◌≡◌, ◌≢◌, ℕ, ◌<◌, ◌⊎◌, Bool, true, List, [], ◌∷◌, Some, option_map, slice_get}
+use Rattle.std.specs.List.{AllByRecursion}
+use Rattle.minislots.specs.declared.config.Config.{Config}
+use Rattle.flow_book.specs.declared.flow.Flow.{Flow}
+use Rattle.flow_book.specs.declared.queue.Waiting.{Waiting}
+use Rattle.flow_book.specs.Flows.{outstanding}
+use Rattle.flow_book.specs.Entry.{live, IsBook}
+use Rattle.flow_book.specs.Sids.{AscendBy}
+
+-- there is a flow at its place, and this is its turn
+abbrev pub IsAt : List Flow → Waiting → Type 0
+IsAt items w = option_map (λ f. f.turn) (slice_get items w.place) ≡ Some w.turn
+
+-- the place is one of those in the queue
+abbrev pub IsIn : ℕ → List Waiting → Type 0
+IsIn place [] = ⊥
+IsIn place (w ∷ queue) = (w.place ≡ place) ⊎ IsIn place queue
+
+-- Of the flows at some places all that wait are in the queue, by their turns, and none from another place
+pub record IsQueueAmong (items : List Flow) (some : ℕ → Type 0) (queue : List Waiting) : Type 0 where
+  pub ascending : AscendBy (λ w. w.turn) queue
+  pub each : AllByRecursion (IsAt items) queue
+  pub among : AllByRecursion (λ w. some w.place) queue
+  pub whole : (place : ℕ) (f : Flow) → slice_get items place ≡ Some f → some place → 0 < outstanding (live f)
+      → IsIn place queue
+
+-- all flows that wait are in the queue, by their turns
+abbrev pub IsQueue : List Flow → List Waiting → Type 0
+IsQueue items queue = IsQueueAmong items (λ place. Unit {0}) queue
+
+-- the flows are the same at each other place
+abbrev pub AreSameBut : ℕ → List Flow → List Flow → Type 0
+AreSameBut place old new = (other : ℕ) → other ≢ place → slice_get new other ≡ slice_get old other
+
+-- What is true of every book: its flows are a book's, and where it is known to have a queue that is theirs
+pub record IsQueuedBook (c : Config) (items : List Flow) (queue : List Waiting) (is_queued : Bool) : Type 0 where
+  pub book : IsBook c items
+  pub order : is_queued ≡ true → IsQueue items queue

@@ -1,0 +1,141 @@
+//! The flows that wait for bytes, in the order in which they are served.
+
+ghost use Rattle.std.specs.Prelude.{◌==◌, nat_lt, position, true, IfSome};
+ghost use Rattle.std.specs.Prelude.{◌≡◌, ◌≢◌, ◌<◌, List, map, length, OnOk, IfOk, IsSomeAnd, MatchOption, slice_get};
+ghost use Rattle.std.specs.List.{AllByRecursion};
+ghost use Rattle.minislots.specs.declared.config.Config.{Config};
+ghost use Rattle.flow_book.specs.declared.flow.Flow.{Flow};
+ghost use Rattle.flow_book.specs.Choice.{HasStartedBy, IsNext, NoneEligible};
+ghost use Rattle.flow_book.specs.Entry.{live, IsBook};
+ghost use Rattle.flow_book.specs.Book.{Ascend};
+ghost use Rattle.flow_book.specs.Sids.{put_in};
+ghost use Rattle.flow_book.specs.Queue.{IsQueue, IsQueueAmong, AreSameBut};
+
+use crate::flow::Flow;
+use minislots::Checked;
+use std::alloc::{AllocError, Global};
+
+// A flow that waits for bytes: its turn, and its place among the flows.
+#[derive(Clone, Copy)]
+pub(crate) struct Waiting {
+    pub(crate) turn: u128,
+    pub(crate) place: usize,
+}
+
+// The place in the queue of the first of a later turn.
+fn first_after(queue: &[Waiting], turn: u128) -> Option<usize>
+    ensures { result ≡ position (λ w. nat_lt turn w.turn) queue.now }
+{
+    queue.iter().position(|waiting| turn < waiting.turn)
+}
+
+// The place in the queue of the flow at this place among the flows.
+fn index_of(queue: &[Waiting], place: usize) -> Option<usize>
+    ensures { result ≡ position (λ w. w.place == place) queue.now }
+{
+    queue.iter().position(|waiting| waiting.place == place)
+}
+
+// The place of the flow with this SID among the flows, where it is in the queue: soon found for one that is served.
+pub(crate) fn place_by_queue(queue: &[Waiting], flows: &[Flow], sid: u16) -> Option<usize>
+    requires { Ascend (map live flows.now) }
+    ensures { IfSome result (λ place. position (λ f. f.sid == sid) flows.now ≡ Some place) }
+{
+    for waiting in queue {
+        if let Some(flow) = flows.get(waiting.place)
+            && flow.sid == sid
+        {
+            return Some(waiting.place);
+        }
+    }
+    None
+}
+
+// Puts one that waits into the queue, before the first of a later turn.
+fn put_in_turn(queue: &mut Vec<Waiting>, waiting: Waiting) -> Result<(), AllocError>
+    ensures { OnOk result (queue.new.items ≡ put_in (λ w. w.turn) waiting queue.old.items) }
+{
+    let index = first_after(queue, waiting.turn).unwrap_or(queue.len());
+    queue.insert(index, waiting)?;
+    Ok(())
+}
+
+// The queue of all flows that wait.
+pub(crate) fn queue_of(alloc: Global, flows: &[Flow]) -> Result<Vec<Waiting>, AllocError>
+    requires { (c : Config) × IsBook c flows.now }
+    ensures { IfOk result (λ queue. IsQueue flows.now queue.items) }
+{
+    let mut queue = Vec::with_capacity(alloc, flows.len())?;
+    for place in 0..flows.len() {
+        let flow = &flows[place];
+        if flow.waits() {
+            let turn = flow.turn;
+            put_in_turn(&mut queue, Waiting { turn, place })?;
+        }
+    }
+    Ok(queue)
+}
+
+// The place of the flow that is served first at this minislot, of those in the queue that may be served.
+pub(crate) fn first_in_turn(
+    queue: &[Waiting],
+    flows: &[Flow],
+    config: &Checked,
+    start: u64,
+    room: u32,
+) -> Option<usize>
+    requires book { IsBook config.now flows.now }
+    requires queue { IsQueue flows.now queue.now }
+    requires started { AllByRecursion (HasStartedBy start) (map live flows.now) }
+    ensures { MatchOption result (NoneEligible config.now (map live flows.now) start room) (λ place.
+        IsSomeAnd (slice_get (map live flows.now) place) (IsNext config.now (map live flows.now) start room)) }
+{
+    for waiting in queue {
+        if flows[waiting.place].is_eligible(config, start, room) {
+            return Some(waiting.place);
+        }
+    }
+    None
+}
+
+// Moves the flow at this place of a book, which has changed, to its turn in the queue, or takes it out.
+fn put_again(queue: &mut Vec<Waiting>, flows: &[Flow], place: usize) -> Result<(), AllocError>
+    requires book { (c : Config) × IsBook c flows.now }
+    requires within { place < length flows.now }
+    requires queue { (before : List Flow) × AreSameBut place before flows.now × IsQueue before queue.old.items }
+    ensures { OnOk result (IsQueue flows.now queue.new.items) }
+{
+    take_out(queue, place);
+    let flow = &flows[place];
+    if flow.waits() {
+        let turn = flow.turn;
+        put_in_turn(queue, Waiting { turn, place })?;
+    }
+    Ok(())
+}
+
+// Takes the flow at this place out of the queue, where it is in it.
+fn take_out(queue: &mut Vec<Waiting>, place: usize)
+    ensures { (items : List Flow) → IsQueue items queue.old.items
+        → IsQueueAmong items (λ other. other ≢ place) queue.new.items }
+{
+    if let Some(index) = index_of(queue, place) {
+        let _ = queue.remove(index);
+    }
+}
+
+// Keeps a queue that is known where the flow at this place of a book has changed, and answers whether it still is.
+pub(crate) fn follow(
+    queue: &mut Vec<Waiting>,
+    is_queued: bool,
+    flows: &[Flow],
+    place: usize,
+) -> bool
+    requires book { (c : Config) × IsBook c flows.now }
+    requires within { place < length flows.now }
+    requires queue { is_queued ≡ true
+        → (before : List Flow) × AreSameBut place before flows.now × IsQueue before queue.old.items }
+    ensures { result ≡ true → IsQueue flows.now queue.new.items }
+{
+    is_queued && put_again(queue, flows, place).is_ok()
+}
