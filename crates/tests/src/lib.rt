@@ -10,6 +10,8 @@ mod map_build_rows;
 #[cfg(test)]
 mod map_codec_rows;
 #[cfg(test)]
+mod map_drawing_rows;
+#[cfg(test)]
 mod map_snapshot_rows;
 #[cfg(test)]
 mod minislots_rows;
