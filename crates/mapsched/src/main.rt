@@ -2,6 +2,9 @@
 //! history.
 #![tactic(auto)]
 
+mod help;
+
+use clap::builder::ValueParser;
 use clap::error::ErrorKind;
 use clap::{Arg, ArgAction, ArgMatches, Command, Error};
 use sched_commands::{RunFault, decode_text, run_audit, run_script, run_storm};
@@ -21,6 +24,7 @@ fn run_command<'a>(alloc: Global) -> Result<Command<'a>, AllocError> {
         .help("Prints the history of the calls in JSON");
     Command::new(alloc, "run")
         .about("Reads a script from standard input and prints one line for each call")
+        .after_help(help::RUN)
         .arg(history)
 }
 
@@ -29,29 +33,46 @@ fn decode_command<'a>(alloc: Global) -> Result<Command<'a>, AllocError> {
     let payload = Arg::new(alloc, "HEX")
         .required(true)
         .help("The payload of a MAP in hexadecimal");
+    let draw = Arg::new(alloc, "draw")
+        .long("draw")
+        .action(ArgAction::SetTrue)
+        .help("Draws the frame too, a character for each minislot");
+    let columns = Arg::new(alloc, "columns")
+        .long("columns")
+        .value_name("N")
+        .value_parser(ValueParser::unsigned(16, 1000))
+        .requires_arg("draw")?
+        .help("Columns of the drawing, or else those of COLUMNS, or 80");
     Command::new(alloc, "decode")
         .about("Shows the payload of a MAP as a table")
-        .arg(payload)
+        .after_help(help::DECODE)
+        .arg(payload)?
+        .arg(draw)?
+        .arg(columns)
 }
 
 // The command that judges a history.
 fn audit_command<'a>(alloc: Global) -> Command<'a> {
-    Command::new(alloc, "audit").about(
-        "Reads a history from standard input and prints whether it is legal",
-    )
+    Command::new(alloc, "audit")
+        .about("Reads a history from standard input and prints whether it is legal")
+        .after_help(help::AUDIT)
 }
 
 // The command that runs scripts at the same time.
 fn storm_command<'a>(alloc: Global) -> Command<'a> {
-    Command::new(alloc, "storm").about(
-        "Reads scripts from standard input, runs them in threads and prints what each recorded",
-    )
+    Command::new(alloc, "storm")
+        .about(
+            "Reads scripts from standard input, runs them in threads and prints what each recorded",
+        )
+        .after_help(help::STORM)
 }
 
 // The commands of the program.
 fn commands<'a>(alloc: Global) -> Result<Command<'a>, AllocError> {
     Command::new(alloc, "mapsched")
         .about("The upstream scheduler of one TDMA channel")
+        .version(help::VERSION)
+        .after_help(help::STATUSES)
         .subcommand_required(true)
         .subcommand(run_command(alloc)?)?
         .subcommand(decode_command(alloc)?)?
@@ -95,9 +116,29 @@ fn run_input(rt: &(impl Input + Print + AllocGlobal), as_history: bool) -> Resul
     Ok(true)
 }
 
+// The columns of the terminal, as far as the environment tells them.
+fn columns_told(rt: &impl Env) -> Option<u16> {
+    let mut digits = [0; 8];
+    let len = rt.var("COLUMNS", &mut digits).ok()?;
+    str::from_utf8(digits.get(..len)?).ok()?.parse().ok()
+}
+
+// The columns of a drawing, where one is asked for.
+fn columns_of(rt: &impl Env, decode: &ArgMatches) -> Option<u16> {
+    if !decode.get_flag("draw") {
+        return None;
+    }
+    decode
+        .get_one("columns")
+        .or_else(|| columns_told(rt))
+        .or(Some(80))
+}
+
 // The command `decode`: whether the text is a payload.
-fn show_text(rt: &(impl Print + AllocGlobal), text: &str) -> Result<bool, RunFault> {
-    decode_text(rt.alloc(), text, &mut io::writer(rt))
+fn show_text(rt: &(impl Print + Env + AllocGlobal), decode: &ArgMatches) -> Result<bool, RunFault> {
+    let text = decode.get_str("HEX").unwrap_or("");
+    let columns = columns_of(rt, decode);
+    decode_text(rt.alloc(), text, columns, &mut io::writer(rt))
 }
 
 // The command `audit`: whether the history is legal.
@@ -121,7 +162,7 @@ fn main(rt: HostRuntime) -> ExitCode {
         Err(error) => return explain(&rt, error),
     };
     let outcome = match matches.subcommand() {
-        Some(("decode", decode)) => show_text(&rt, decode.get_str("HEX").unwrap_or("")),
+        Some(("decode", decode)) => show_text(&rt, decode),
         Some(("audit", _)) => audit_input(&rt),
         Some(("storm", _)) => storm_input(&rt),
         Some((_, run)) => run_input(&rt, run.get_flag("history")),

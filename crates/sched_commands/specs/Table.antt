@@ -15,6 +15,7 @@ use Rattle.map_codec.specs.declared.fault.DecodeFault.TheVariants.{NoNull, Secon
 use Rattle.map_codec.specs.declared.wire_map.WireMap.{WireMap}
 use Rattle.map_codec.specs.WireMap.{spelling, IsWellFormed, IsPayload}
 use Rattle.map_codec.specs.DecodeFault.{fault_of}
+use Rattle.map_drawing.specs.Legend.{drawing_text}
 
 -- a label and a number in decimal
 unfoldable pub labelled : List ℕ → ℕ → List ℕ
@@ -73,6 +74,11 @@ element_lines es = flat_map element_line es
 unfoldable pub table_text : WireMap → List ℕ
 table_text m = counts_line m ++ times_line m ++ element_lines m.elements
 
+-- what is shown of a MAP: its table, and its drawing where one in so many columns is asked for
+abbrev pub shown_text : Option ℕ → WireMap → List ℕ
+shown_text None m = table_text m
+shown_text (Some columns) m = table_text m ++ drawing_text m.elements columns
+
 -- the number of a fault, in the order of the tests
 abbrev pub number_of : DecodeFault → ℕ
 number_of Short = 1
@@ -112,12 +118,12 @@ not_hex_line = codes "fault hex\n"
 abbrev pub IsHexOfPayload : List ℕ → Type 0
 IsHexOfPayload text = IsOkAnd (decode_of text) IsPayload
 
--- the bytes are a MAP's spelling, and what was written is the MAP's table
-pub record PutsTable (bytes : List ℕ) (old new : Option (List ℕ)) : Type 0 where
+-- the bytes are a MAP's spelling, and what was written is what is shown of it
+pub record PutsMap (columns : Option ℕ) (bytes : List ℕ) (old new : Option (List ℕ)) : Type 0 where
   pub map : WireMap
   pub well_formed : IsWellFormed map
   pub spelled : bytes ≡ spelling map
-  pub written : Appends old new (table_text map)
+  pub written : Appends old new (shown_text columns map)
 
 -- the bytes have a fault, and what was written is the fault's line
 pub record PutsFault (bytes : List ℕ) (old new : Option (List ℕ)) : Type 0 where
@@ -125,9 +131,9 @@ pub record PutsFault (bytes : List ℕ) (old new : Option (List ℕ)) : Type 0 w
   pub is_fault : fault_of bytes ≡ Some fault
   pub written : Appends old new (fault_line fault)
 
--- the text is hexadecimal of a MAP's spelling, and what was written is the MAP's table
-abbrev pub ShowsMap : List ℕ → Option (List ℕ) → Option (List ℕ) → Type 0
-ShowsMap text old new = IsOkAnd (decode_of text) (λ bytes. PutsTable bytes old new)
+-- the text is hexadecimal of a MAP's spelling, and what was written is what is shown of it
+abbrev pub ShowsMap : Option ℕ → List ℕ → Option (List ℕ) → Option (List ℕ) → Type 0
+ShowsMap columns text old new = IsOkAnd (decode_of text) (λ bytes. PutsMap columns bytes old new)
 
 -- the text is hexadecimal of bytes with a fault, and what was written is the fault's line; or it is
 -- not hexadecimal, and what was written says so

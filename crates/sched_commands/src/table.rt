@@ -3,16 +3,17 @@
 ghost use Rattle.std.specs.Prelude.{◌≡◌, ◌%◌, ◌≤◌, ◌↔◌, ◌⊎◌, length, OnOk, IfOk, IfErr, IsTrue};
 ghost use Rattle.std.specs.Bool.{MatchBool};
 ghost use Rattle.std.specs.Io.KnownBytes.{Appends};
-ghost use Rattle.map_codec.specs.WireMap.{IsPayload};
+ghost use Rattle.map_codec.specs.WireMap.{IsPayload, IsWellFormed};
 ghost use Rattle.sched_commands.specs.Table.{labelled, backoff_text, at_right, column, name_of, number_of, index_of};
 ghost use Rattle.sched_commands.specs.Table.{counts_line, times_line, element_line, element_lines};
-ghost use Rattle.sched_commands.specs.Table.{table_text, fault_line};
-ghost use Rattle.sched_commands.specs.Table.{IsHexOfPayload, PutsTable, PutsFault, ShowsMap, ShowsFault};
+ghost use Rattle.sched_commands.specs.Table.{table_text, shown_text, fault_line};
+ghost use Rattle.sched_commands.specs.Table.{IsHexOfPayload, PutsMap, PutsFault, ShowsMap, ShowsFault};
 
 use crate::fault::RunFault;
 use hex::FromHexError;
 use itoa::Buffer;
 use map_codec::{DecodeFault, Element, WireMap, decode, iuc};
+use map_drawing::draw_frame;
 use sched_text::{TextFault, put};
 use std::alloc::Global;
 use std::io::Write;
@@ -189,11 +190,40 @@ fn put_fault<W: Write>(writer: &mut W, fault: DecodeFault) -> Result<(), TextFau
     put(writer, b"\n")
 }
 
-// What is shown of bytes: the table of the MAP that they spell, or the line of their fault.
-fn put_decoded<W: Write>(alloc: Global, bytes: &[u8], writer: &mut W) -> Result<bool, RunFault>
+// The table of a MAP, and its drawing where one in so many columns is asked for.
+fn put_map<W: Write>(
+    alloc: Global,
+    map: &WireMap,
+    columns: Option<u16>,
+    writer: &mut W,
+) -> Result<(), RunFault>
+    requires { IsWellFormed map.now }
+    ensures ok { OnOk result (Appends (W.contents writer.old) (W.contents writer.new) (shown_text columns map.now)) }
+    ensures err { IfErr result (λ e. (e ≡ RunFault.Memory) ⊎ (e ≡ RunFault.Output)) }
+    ensures quiet { IfErr result (λ e. e ≡ RunFault.Memory → writer.new ≡ writer.old) }
+{
+    let Some(columns) = columns else {
+        put_table(writer, map)?;
+        return Ok(());
+    };
+    let Ok(drawing) = draw_frame(alloc, map, columns) else {
+        return Err(RunFault::Memory);
+    };
+    put_table(writer, map)?;
+    put(writer, &drawing)?;
+    Ok(())
+}
+
+// What is shown of bytes: the MAP that they spell, or the line of their fault.
+fn put_decoded<W: Write>(
+    alloc: Global,
+    bytes: &[u8],
+    columns: Option<u16>,
+    writer: &mut W,
+) -> Result<bool, RunFault>
     ensures exact { IfOk result (λ is_payload. IsTrue is_payload ↔ IsPayload bytes.now) }
     ensures shown { IfOk result (λ is_payload. MatchBool is_payload
-        (PutsTable bytes.now (W.contents writer.old) (W.contents writer.new))
+        (PutsMap columns bytes.now (W.contents writer.old) (W.contents writer.new))
         (PutsFault bytes.now (W.contents writer.old) (W.contents writer.new))) }
     ensures err { IfErr result (λ e. (e ≡ RunFault.Memory) ⊎ (e ≡ RunFault.Output)) }
     ensures quiet { IfErr result (λ e. e ≡ RunFault.Memory → writer.new ≡ writer.old) }
@@ -201,7 +231,7 @@ fn put_decoded<W: Write>(alloc: Global, bytes: &[u8], writer: &mut W) -> Result<
 {
     match decode(alloc, bytes) {
         Ok(map) => {
-            put_table(writer, &map)?;
+            put_map(alloc, &map, columns, writer)?;
             Ok(true)
         }
         Err(DecodeFault::Memory) => Err(RunFault::Memory),
@@ -213,16 +243,23 @@ fn put_decoded<W: Write>(alloc: Global, bytes: &[u8], writer: &mut W) -> Result<
 }
 
 /// Reads a text as hexadecimal, digits of both cases, and writes the table of the MAP payload that
-/// it is, answering true; or the one line of what is wrong with it, answering false: `fault hex`, or
-/// `fault`, the number of the payload's fault, and the element that the fault names where it names one.
-/// Its faults are want of memory, before anything is written, and a failed write.
-pub fn decode_text<W: Write>(alloc: Global, text: &str, writer: &mut W) -> Result<bool, RunFault>
+/// it is, and behind it the drawing of its frame where one in so many columns is asked for, answering true; or
+/// the one line of what is wrong with it, answering false: `fault hex`, or `fault`, the number of the payload's
+/// fault, and the element that the fault names where it names one. Its faults are want of memory, before anything
+/// is written, and a failed write.
+pub fn decode_text<W: Write>(
+    alloc: Global,
+    text: &str,
+    columns: Option<u16>,
+    writer: &mut W,
+) -> Result<bool, RunFault>
     // True is answered exactly where the text is hexadecimal of a payload.
     ensures exact { IfOk result (λ is_payload. IsTrue is_payload ↔ IsHexOfPayload text.now) }
 
-    // What was written is the payload's table or the fault's line, and nothing else.
+    // What was written is the payload's table, with its drawing where that is asked for, or the fault's line, and
+    // nothing else.
     ensures shown { IfOk result (λ is_payload. MatchBool is_payload
-        (ShowsMap text.now (W.contents writer.old) (W.contents writer.new))
+        (ShowsMap columns text.now (W.contents writer.old) (W.contents writer.new))
         (ShowsFault text.now (W.contents writer.old) (W.contents writer.new))) }
 
     // No other fault ends it; want of memory only before anything is written, and not where the
@@ -232,7 +269,7 @@ pub fn decode_text<W: Write>(alloc: Global, text: &str, writer: &mut W) -> Resul
     ensures odd { length text.now % 2 ≡ 1 → IfErr result (λ e. e ≡ RunFault.Output) }
 {
     match hex::decode(alloc, text) {
-        Ok(bytes) => put_decoded(alloc, &bytes, writer),
+        Ok(bytes) => put_decoded(alloc, &bytes, columns, writer),
         Err(FromHexError::OutOfMemory) => Err(RunFault::Memory),
         Err(_) => {
             put(writer, b"fault hex\n")?;

@@ -1,6 +1,6 @@
 //! Writes that fail.
 
-use super::tables::ONE_MAP;
+use super::tables::{ONE_DRAWING, ONE_MAP};
 use crate::base::fakes::{Failing, Keeping, Narrow};
 use crate::base::texts::{config_of, push_part, script_in, script_of};
 use sched_commands::{RunFault, decode_text, run_script};
@@ -82,16 +82,23 @@ fn a_failed_read_comes_before_a_failed_write(rt: HostRuntime) -> Result<(), Fail
 }
 
 // Where a payload or a fault is shown in a line or a table of so many bytes, each write can fail.
-fn shows_until(rt: &impl Abort, alloc: Global, text: &str, len: usize, answer: bool) {
+fn shows_until(
+    rt: &impl Abort,
+    alloc: Global,
+    text: &str,
+    columns: Option<u16>,
+    len: usize,
+    answer: bool,
+) {
     for kind in [ErrorKind::Interrupted, ErrorKind::BrokenPipe] {
         for room in 0..len {
-            let outcome = decode_text(alloc, text, &mut Narrow { room, kind });
+            let outcome = decode_text(alloc, text, columns, &mut Narrow { room, kind });
             assert!(rt;
                 outcome == Err(RunFault::Output),
                 "{text} after {room} bytes"
             );
         }
-        let outcome = decode_text(alloc, text, &mut Narrow { room: len, kind });
+        let outcome = decode_text(alloc, text, columns, &mut Narrow { room: len, kind });
         assert!(rt; outcome == Ok(answer), "{text}");
     }
 }
@@ -100,9 +107,10 @@ fn shows_until(rt: &impl Abort, alloc: Global, text: &str, len: usize, answer: b
 fn a_failed_write_ends_what_is_shown(rt: HostRuntime) {
     let alloc = rt.alloc();
     let payload = "03010300000003200000032000000000fffc4000000180040001c028";
-    shows_until(&rt, alloc, payload, ONE_MAP.len(), true);
-    shows_until(&rt, alloc, "0g", 10, false);
-    shows_until(&rt, alloc, "", 8, false);
+    shows_until(&rt, alloc, payload, None, ONE_MAP.len(), true);
+    shows_until(&rt, alloc, payload, Some(80), ONE_DRAWING.len(), true);
+    shows_until(&rt, alloc, "0g", None, 10, false);
+    shows_until(&rt, alloc, "", None, 8, false);
 }
 
 // A script of so many questions about a flow that is not live.

@@ -1,0 +1,92 @@
+//! What the help says beside the commands and their options.
+
+/// The version of the program.
+pub const VERSION: &str = "0.1.0";
+
+/// The exit statuses.
+pub const STATUSES: &str = "Exit statuses:
+  0  done
+  1  the text is no payload of a MAP, or the history is illegal
+  2  the command line is wrong
+  3  the input is wrong: `input failed`, `input too long` (above 16777216 bytes),
+     `not json`, `bad script at N` (0: the document or its configuration, else
+     the call, counted from 1), `bad config N` (the field's number in README.md)
+  4  the machine failed: `out of memory`, `output failed`, `no thread`
+
+`mapsched help COMMAND` tells what a command reads and prints, with an example.";
+
+/// The command that runs a script.
+pub const RUN: &str =
+    r#"Reads from standard input, in JSON: {"config": {..}, "calls": [..]}. README.md
+has the fields of the configuration and of each call.
+
+Prints a line for each call, in order: `admitted` (and the places of a periodic
+flow), `removed`, `taken`, `noted`, `map` and the payload in hexadecimal,
+`skipped` and the start of the next frame, `flow` and the bytes asked, granted
+and outstanding; `refused`, a number and a value; or `history full` or `out of
+memory`, where the call was not recorded.
+
+Exit statuses: 0, or 2 for the command line, 3 for the input, 4 for the machine.
+
+Example:
+  ./mapsched run < examples/two_maps.json"#;
+
+/// The command that shows a payload.
+pub const DECODE: &str =
+    "Reads one word: the payload behind the MAC management header, digits of both
+cases.
+
+Prints the channel, the times and a line for each element: SID, usage code,
+offset in minislots, usage. A text that is no payload has one line: `fault hex`,
+or `fault` and a number (1 short, 2 above 240 elements, 3 wrong length, 4 an
+expansion, 5 offsets that descend, 6 no Null, 7 a second Null), for 4, 5 and 7
+with the element, counted from 0.
+
+Usage codes (IUC):
+  1  request: where modems may ask; for one modem, a poll
+  2  request_data: requests, or short data
+  3  initial: initial maintenance
+  4  station: station maintenance
+  5  short: short data grant
+  6  long: long data grant; to SID 0, idle; behind the Null, pending
+  7  null: the end of the frame
+  8  data_ack: data acknowledge
+  9  aphy_short: advanced PHY, short data grant
+ 10  aphy_long: advanced PHY, long data grant
+ 11  aphy_ug: advanced PHY, unsolicited grant
+
+Exit statuses: 0 a payload, 1 none, 2 for the command line, 4 for the machine.
+
+Example:
+  ./mapsched decode --draw 03010300000003200000032000000000fffc4000000180040001c028";
+
+/// The command that runs scripts at the same time.
+pub const STORM: &str =
+    r#"Reads from standard input, in JSON: {"config": {..}, "scripts": [[..], ..]}, 1
+to 16 arrays of calls, each for a thread of its own under the lock.
+
+Prints `seat`, its number and how many of its calls were recorded, for each
+script; `unrecorded` and how many were not; `maps` and how many the history has;
+`newest` and the version of the MAP that a reader reads at the end, or `none`;
+last `audit legal`, the verdict on the history.
+
+Exit statuses: 0, or 2 for the command line, 3 for the input, 4 for the machine.
+
+Example:
+  ./mapsched storm < examples/two_workers.json"#;
+
+/// The command that judges a history.
+pub const AUDIT: &str =
+    r#"Reads from standard input, in JSON, a history as `run --history` prints it:
+{"config": {..}, "entries": [{"seat", "ticket", "call": {..}, "reply": {..}}, ..]}.
+Whoever wrote it, each reply is tried against all that may follow the entries
+before it.
+
+Prints `legal` and the number of entries, or `illegal` and the first entry that
+no lawful scheduler could have answered, counted from 0.
+
+Exit statuses: 0 legal, 1 illegal, 2 for the command line, 3 for the input, 4 for
+the machine.
+
+Example:
+  ./mapsched audit < examples/two_maps_history.json"#;
