@@ -23,8 +23,8 @@ usage_of sid iuc =
     else if iuc == LONG_DATA_GRANT then if sid == 0 then Idle else LongGrant
     else if iuc == NULL then Null
     else if iuc == DATA_ACKNOWLEDGE then DataAcknowledge
-    else if iuc == ADVANCED_SHORT_DATA_GRANT then AdvancedShortGrant
-    else if iuc == ADVANCED_LONG_DATA_GRANT then AdvancedLongGrant
+    else if iuc == ADVANCED_SHORT_DATA_GRANT then if sid == 0 then Idle else AdvancedShortGrant
+    else if iuc == ADVANCED_LONG_DATA_GRANT then if sid == 0 then Idle else AdvancedLongGrant
     else if iuc == ADVANCED_UNSOLICITED_GRANT then AdvancedUnsolicitedGrant
     else Reserved
 

@@ -59,6 +59,8 @@ impl Usage {
             iuc::LONG_DATA_GRANT => Usage::LongGrant,
             iuc::NULL => Usage::Null,
             iuc::DATA_ACKNOWLEDGE => Usage::DataAcknowledge,
+            iuc::ADVANCED_SHORT_DATA_GRANT | iuc::ADVANCED_LONG_DATA_GRANT if sid == 0 =>
+                Usage::Idle,
             iuc::ADVANCED_SHORT_DATA_GRANT => Usage::AdvancedShortGrant,
             iuc::ADVANCED_LONG_DATA_GRANT => Usage::AdvancedLongGrant,
             iuc::ADVANCED_UNSOLICITED_GRANT => Usage::AdvancedUnsolicitedGrant,

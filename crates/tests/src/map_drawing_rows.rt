@@ -103,7 +103,7 @@ fn an_allocation_ends_where_the_next_one_begins(rt: HostRuntime) {
 }
 
 // SIDs, interval usage codes and their words.
-const USAGES: [(u16, u8, &str); 20] = [
+const USAGES: [(u16, u8, &str); 22] = [
     (16383, 1, "request region"),
     (17, 1, "poll"),
     (0, 1, "poll"),
@@ -114,6 +114,8 @@ const USAGES: [(u16, u8, &str); 20] = [
     (17, 6, "long data grant"),
     (0, 5, "idle"),
     (0, 6, "idle"),
+    (0, 9, "idle"),
+    (0, 10, "idle"),
     (0, 7, "null"),
     (17, 8, "data acknowledge"),
     (17, 9, "advanced short data grant"),
