@@ -85,12 +85,13 @@ entries_at-size (tree.object ms) =
     (as_array-size (members_size ms) (get_member (codes "entries") ms) (get_member-size (codes "entries") ms))
 
 -- what holds of each value that is made of a value of which this holds
-holds-bind : {A B : Type 0} (P : A → Type 0) (Q : B → Type 0) (r : Result A TextFault) (f : A → Result B TextFault)
+pub holds-bind : {A B : Type 0} (P : A → Type 0) (Q : B → Type 0) (r : Result A TextFault) (f : A → Result B TextFault)
     → IfOk r P → ((x : A) → P x → IfOk (f x) Q) → IfOk (r >>= f) Q
 holds-bind P Q (Ok x) f first next = next x first
 holds-bind P Q (Err fault) f first next = tt
 
-any : {A : Type 0} (r : Result A TextFault) → IfOk r (λ _. Unit {0})
+-- any value will do
+pub any : {A : Type 0} (r : Result A TextFault) → IfOk r (λ _. Unit {0})
 any (Ok x) = tt
 any (Err fault) = tt
 

@@ -17,4 +17,13 @@ pub mod Entries
 pub mod Payload
 pub mod Sizes
 pub mod FewEntries
+pub mod Encodable
+pub mod EndedText
+pub mod Readable
+pub mod Spelled
+pub mod RefusalNumbers
+pub mod HistoryAgain
+pub mod HistoryReadable
+pub mod HistoryDepth
+pub mod ReadAgain
 pub mod HistoryOutcome

@@ -18,27 +18,11 @@ use Rattle.sched_text.specs.Calls.{ask_call, heard_call, build_call, skip_call, 
 use Rattle.sched_text.specs.Script.{calls_of, script_of}
 use Rattle.sched_text.specs.Json.{flow_data, call_data}
 use Rattle.sched_text.specs.HistoryText.{config_data}
+use Rattle.sched_text.specs.Fits.{FlowFits, CallFits, ConfigFits}
 
 -- a number that fits
-below-fits : (limit n : ℕ) → n < limit → below limit n ≡ Some n
+pub below-fits : (limit n : ℕ) → n < limit → below limit n ≡ Some n
 below-fits limit n fits = rw (lt-ltb n limit fits) refl
-
--- the numbers of a flow fit their types
-abbrev pub FlowFits : FlowSpec → Type 0
-FlowFits (Unsolicited size interval jitter) = (size < 2 ^ 32) × (interval < 2 ^ 32) × (jitter < 2 ^ 32)
-FlowFits (Polled interval jitter rate burst) = (interval < 2 ^ 32) × (jitter < 2 ^ 32) × (rate < 2 ^ 32)
-    × (burst < 2 ^ 32)
-FlowFits (BestEffort priority rate burst) = (priority < 2 ^ 8) × (rate < 2 ^ 32) × (burst < 2 ^ 32)
-
--- the numbers of a call fit their types
-abbrev pub CallFits : Call → Type 0
-CallFits (Admit sid spec) = (sid < 2 ^ 16) × FlowFits spec
-CallFits (Remove sid) = sid < 2 ^ 16
-CallFits (Ask receiver sid bytes heard) = (receiver < 2 ^ 8) × (sid < 2 ^ 16) × (bytes < 2 ^ 32) × (heard < 2 ^ 64)
-CallFits (Heard receiver upto) = (receiver < 2 ^ 8) × (upto < 2 ^ 64)
-CallFits (Build now) = now < 2 ^ 64
-CallFits (Skip now) = now < 2 ^ 64
-CallFits (Status sid) = sid < 2 ^ 16
 
 -- a flow is read back
 pub flow_of-data : (spec : FlowSpec) → FlowFits spec → flow_of (flow_data spec) ≡ Some spec
@@ -70,30 +54,6 @@ call_of-data (Heard receiver upto) fits = rw (below-fits (2 ^ 8) receiver fits.0
 call_of-data (Build now) fits = rw (below-fits (2 ^ 64) now fits) refl
 call_of-data (Skip now) fits = rw (below-fits (2 ^ 64) now fits) refl
 call_of-data (Status sid) fits = rw (below-fits (2 ^ 16) sid fits) refl
-
--- the numbers of a configuration fit their types
-pub record ConfigFits (c : Config) : Type 0 where
-  pub ticks : c.ticks < 2 ^ 32
-  pub bytes_per_slot : c.bytes_per_slot < 2 ^ 32
-  pub overhead : c.overhead < 2 ^ 32
-  pub frame : c.frame < 2 ^ 32
-  pub cycle : c.cycle < 2 ^ 32
-  pub req_slots : c.req_slots < 2 ^ 32
-  pub poll_slots : c.poll_slots < 2 ^ 32
-  pub lead : c.lead < 2 ^ 32
-  pub short_max : c.short_max < 2 ^ 32
-  pub quantum : c.quantum < 2 ^ 32
-  pub grant_cap : c.grant_cap < 2 ^ 32
-  pub receivers : c.receivers < 2 ^ 8
-  pub calls : c.calls < 2 ^ 32
-  pub start : c.start < 2 ^ 64
-  pub ranging_start : c.ranging_start < 2 ^ 8
-  pub ranging_end : c.ranging_end < 2 ^ 8
-  pub data_start : c.data_start < 2 ^ 8
-  pub data_end : c.data_end < 2 ^ 8
-  pub channel : c.channel < 2 ^ 8
-  pub ucd_count : c.ucd_count < 2 ^ 8
-  pub phy : c.phy < 2 ^ 8
 
 -- a configuration is read back
 pub config_of-data : (c : Config) → ConfigFits c → config_of (config_data c) ≡ Some c

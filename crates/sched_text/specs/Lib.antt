@@ -12,3 +12,4 @@ pub mod Fault
 pub mod Refusals
 pub mod Replies
 pub mod Recorded
+pub mod Fits

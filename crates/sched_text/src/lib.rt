@@ -16,5 +16,5 @@ pub use history::put_history;
 pub use line::{put_line, put_number};
 pub use lines::LineBuffer;
 pub use output::put;
-pub use recorded::read_history;
+pub use recorded::{every_history, read_history};
 pub use script::{read_script, read_storm};

@@ -15,7 +15,7 @@ use crate::script::config::config_of;
 use crate::script::field::member;
 use entry::entry_of;
 use minislots::Config;
-pub use reading::read_history;
+pub use reading::{every_history, read_history};
 use sched_history::Entry;
 use serde_json::Value;
 use std::alloc::Global;

@@ -1,8 +1,11 @@
 //! The history in the bytes of a reader.
 
 ghost use Rattle.std.specs.Prelude.{◌≤◌, vec_len, Ok, IfOk, IfErr};
+ghost use Rattle.std.specs.List.{AllByRecursion};
+ghost use Rattle.sched_history.specs.Machine.{IsEncodable};
 ghost use Rattle.sched_history.specs.declared.reply.TheConstants.{MAX_ENTRIES};
 ghost use Rattle.sched_text.specs.Script.{Gives};
+ghost use Rattle.sched_text.specs.Fits.{IsReadAgain};
 ghost use Rattle.sched_text.specs.Recorded.{history_in, GivesHistory, StopsHistory};
 
 use super::{Recorded, history_of};
@@ -26,13 +29,14 @@ fn history_in(alloc: Global, bytes: &[u8]) -> Result<(Checked, Vec<Entry>), Text
 
 /// The configuration and the entries of the history in a reader, of which all bytes are read. The faults come in
 /// the order of [`TextFault`]: a fault of shape at any entry comes before a wrong configuration. Nothing says that
-/// an entry may follow those before it.
+/// an entry may follow those before it, but its MAP has bytes where it has one.
 pub fn read_history<R: Read>(
     alloc: Global,
     reader: &mut R,
 ) -> Result<(Checked, Vec<Entry>), TextFault>
     ensures ok { IfOk result (λ r. GivesHistory (R.remaining reader.old) (R.remaining reader.new)
         (Ok (record { config = r.0; entries = r.1.items }))) }
+    ensures encodable { IfOk result (λ r. AllByRecursion (λ e. IsEncodable e.reply) r.1.items) }
     ensures few { IfOk result (λ r. vec_len r.1 ≤ MAX_ENTRIES) }
     ensures stops { IfErr result
         (StopsHistory (R.remaining reader.old) (R.remaining reader.new)) }
@@ -40,3 +44,9 @@ pub fn read_history<R: Read>(
     let bytes = read_all(alloc, reader)?;
     history_in(alloc, &bytes)
 }
+
+/// The law of the text of a history. What is written of a history under a lawful configuration stands for that
+/// history, where it has at most 16777216 bytes and the numbers fit the types of their fields.
+pub fn every_history()
+    ensures { IsReadAgain }
+{}

@@ -7,6 +7,7 @@ use Rattle.sched_history.specs.declared.reply.Entry.{Entry}
 use Rattle.sched_history.specs.declared.reply.TheConstants.{MAX_ENTRIES}
 use Rattle.sched_text.specs.declared.fault.TextFault.{TextFault}
 use Rattle.sched_text.specs.Input.{ReadsAll}
+use Rattle.sched_text.proofs.Encodable.{encodable_entries}
 use Rattle.sched_text.proofs.FewEntries.{few_entries}
 use Rattle.sched_text.proofs.HistoryOutcome.{gives_history, stops_history}
 use Rattle.sched_text.proofs.recorded.reading.read_history.Goals as goal
@@ -23,6 +24,11 @@ returns-clause-ok g c =
     let all : ReadsAll old new c.deref.result.now = rw c.deref.ensures.value c.in_ok-bytes.ensures.ok in
     gives_history (λ r. record { config = r.0; entries = r.1.items }) old new c.deref.result.now
     c.history_in.result all c.history_in.ensures
+
+pub returns-clause-encodable : goal.returns-clause-encodable
+returns-clause-encodable g c =
+    encodable_entries (λ r. record { config = r.0; entries = r.1.items }) c.history_in.result c.deref.result.now
+    c.history_in.ensures
 
 pub returns-clause-few : goal.returns-clause-few
 returns-clause-few g c =
