@@ -23,6 +23,7 @@ pub mod Readable
 pub mod Spelled
 pub mod RefusalNumbers
 pub mod HistoryAgain
+pub mod CallReadable
 pub mod HistoryReadable
 pub mod HistoryDepth
 pub mod ReadAgain
