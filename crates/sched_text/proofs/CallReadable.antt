@@ -158,32 +158,36 @@ config_readable c fits = (
                       of_word c.overhead fits.overhead,
                       (
                         refl,
-                        of_word c.poll_slots fits.poll_slots,
+                        of_byte c.phy fits.phy,
                         (
                           refl,
-                          of_word c.quantum fits.quantum,
+                          of_word c.poll_slots fits.poll_slots,
                           (
                             refl,
-                            of_byte c.ranging_end fits.ranging_end,
+                            of_word c.quantum fits.quantum,
                             (
                               refl,
-                              of_byte c.ranging_start fits.ranging_start,
+                              of_byte c.ranging_end fits.ranging_end,
                               (
                                 refl,
-                                of_byte c.receivers fits.receivers,
+                                of_byte c.ranging_start fits.ranging_start,
                                 (
                                   refl,
-                                  of_word c.req_slots fits.req_slots,
+                                  of_byte c.receivers fits.receivers,
                                   (
                                     refl,
-                                    of_word c.short_max fits.short_max,
+                                    of_word c.req_slots fits.req_slots,
                                     (
                                       refl,
-                                      fits.start,
+                                      of_word c.short_max fits.short_max,
                                       (
                                         refl,
-                                        of_word c.ticks fits.ticks,
-                                        (refl, of_byte c.ucd_count fits.ucd_count, tt),
+                                        fits.start,
+                                        (
+                                          refl,
+                                          of_word c.ticks fits.ticks,
+                                          (refl, of_byte c.ucd_count fits.ucd_count, tt),
+                                        ),
                                       ),
                                     ),
                                   ),
