@@ -3,10 +3,12 @@ pub mod Calls
 pub mod Fields
 pub mod JsonTokens
 pub mod Outcome
+pub mod Plain
 pub mod RowsFaults
 pub mod RowsHistory
 pub mod RowsLines
 pub mod Told
+pub mod Usual
 pub mod Written
 pub mod Profile
 pub mod StormCalls

@@ -2,6 +2,8 @@ pub mod Fields
 pub mod Calls
 pub mod Script
 pub mod Input
+pub mod Plain
+pub mod Usual
 pub mod Outcome
 pub mod StormScript
 pub mod Line

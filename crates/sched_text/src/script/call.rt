@@ -1,18 +1,17 @@
 //! One call of a script.
 
 ghost use Rattle.std.specs.Prelude.{◌≡◌};
-ghost use Rattle.serde_json.specs.View.{view};
 ghost use Rattle.sched_text.specs.Calls.{admit_call, remove_call, ask_call, heard_call, build_call, skip_call};
 ghost use Rattle.sched_text.specs.Calls.{status_call, call_of};
 
 use super::field::{member, number_u8, number_u16, number_u32, number_u64, text};
 use super::flow::flow_of;
+use super::tree::Tree;
 use sched_history::Call;
-use serde_json::Value;
 
 #[tactic(auto, unfolding(crate::specs::Calls::admit_call))]
-fn admit_call(value: &Value) -> Option<Call>
-    ensures { result ≡ admit_call (view value.now) }
+fn admit_call<T: Tree>(value: &T) -> Option<Call>
+    ensures { result ≡ admit_call (T.shown value.now) }
 {
     let (Some(sid), Some(flow)) = (
         number_u16(value, "sid"),
@@ -24,15 +23,15 @@ fn admit_call(value: &Value) -> Option<Call>
 }
 
 #[tactic(auto, unfolding(crate::specs::Calls::remove_call))]
-fn remove_call(value: &Value) -> Option<Call>
-    ensures { result ≡ remove_call (view value.now) }
+fn remove_call<T: Tree>(value: &T) -> Option<Call>
+    ensures { result ≡ remove_call (T.shown value.now) }
 {
     Some(Call::Remove(number_u16(value, "sid")?))
 }
 
 #[tactic(auto, unfolding(crate::specs::Calls::ask_call))]
-fn ask_call(value: &Value) -> Option<Call>
-    ensures { result ≡ ask_call (view value.now) }
+fn ask_call<T: Tree>(value: &T) -> Option<Call>
+    ensures { result ≡ ask_call (T.shown value.now) }
 {
     let (Some(receiver), Some(sid), Some(bytes), Some(heard)) = (
         number_u8(value, "receiver"),
@@ -51,8 +50,8 @@ fn ask_call(value: &Value) -> Option<Call>
 }
 
 #[tactic(auto, unfolding(crate::specs::Calls::heard_call))]
-fn heard_call(value: &Value) -> Option<Call>
-    ensures { result ≡ heard_call (view value.now) }
+fn heard_call<T: Tree>(value: &T) -> Option<Call>
+    ensures { result ≡ heard_call (T.shown value.now) }
 {
     let (Some(receiver), Some(upto)) = (number_u8(value, "receiver"), number_u64(value, "upto"))
     else {
@@ -62,8 +61,8 @@ fn heard_call(value: &Value) -> Option<Call>
 }
 
 #[tactic(auto, unfolding(crate::specs::Calls::build_call))]
-fn build_call(value: &Value) -> Option<Call>
-    ensures { result ≡ build_call (view value.now) }
+fn build_call<T: Tree>(value: &T) -> Option<Call>
+    ensures { result ≡ build_call (T.shown value.now) }
 {
     Some(Call::Build {
         now: number_u64(value, "now")?,
@@ -71,8 +70,8 @@ fn build_call(value: &Value) -> Option<Call>
 }
 
 #[tactic(auto, unfolding(crate::specs::Calls::skip_call))]
-fn skip_call(value: &Value) -> Option<Call>
-    ensures { result ≡ skip_call (view value.now) }
+fn skip_call<T: Tree>(value: &T) -> Option<Call>
+    ensures { result ≡ skip_call (T.shown value.now) }
 {
     Some(Call::Skip {
         now: number_u64(value, "now")?,
@@ -80,16 +79,16 @@ fn skip_call(value: &Value) -> Option<Call>
 }
 
 #[tactic(auto, unfolding(crate::specs::Calls::status_call))]
-fn status_call(value: &Value) -> Option<Call>
-    ensures { result ≡ status_call (view value.now) }
+fn status_call<T: Tree>(value: &T) -> Option<Call>
+    ensures { result ≡ status_call (T.shown value.now) }
 {
     Some(Call::Status(number_u16(value, "sid")?))
 }
 
 /// The call that an object stands for, by its name.
 #[tactic(auto, unfolding(crate::specs::Calls::call_of))]
-pub fn call_of(value: &Value) -> Option<Call>
-    ensures { result ≡ call_of (view value.now) }
+pub fn call_of<T: Tree>(value: &T) -> Option<Call>
+    ensures { result ≡ call_of (T.shown value.now) }
 {
     match text(value, "call")? {
         "admit" => admit_call(value),

@@ -1,17 +1,16 @@
 //! The configuration in a script.
 
 ghost use Rattle.std.specs.Prelude.{◌≡◌};
-ghost use Rattle.serde_json.specs.View.{view};
 ghost use Rattle.sched_text.specs.Fields.{slots_of, sizes_of, counts_of, windows_of, phy_of, config_of};
 
 use super::field::{member, number_u8, number_u32, number_u64};
+use super::tree::Tree;
 use minislots::Config;
-use serde_json::Value;
 
 // The minislots, and the frames that they make.
 #[tactic(auto, unfolding(crate::specs::Fields::slots_of))]
-fn slots_of(value: &Value) -> Option<(u32, u32, u32, u32, u32)>
-    ensures { result ≡ slots_of (view value.now) }
+fn slots_of<T: Tree>(value: &T) -> Option<(u32, u32, u32, u32, u32)>
+    ensures { result ≡ slots_of (T.shown value.now) }
 {
     let (Some(ticks), Some(bytes_per_slot), Some(overhead), Some(frame), Some(cycle)) = (
         number_u32(value, "ticks"),
@@ -27,8 +26,8 @@ fn slots_of(value: &Value) -> Option<(u32, u32, u32, u32, u32)>
 
 // The sizes of regions and grants, and the time ahead.
 #[tactic(auto, unfolding(crate::specs::Fields::sizes_of))]
-fn sizes_of(value: &Value) -> Option<(u32, u32, u32, u32, u32, u32)>
-    ensures { result ≡ sizes_of (view value.now) }
+fn sizes_of<T: Tree>(value: &T) -> Option<(u32, u32, u32, u32, u32, u32)>
+    ensures { result ≡ sizes_of (T.shown value.now) }
 {
     let (
         Some(req_slots),
@@ -52,8 +51,8 @@ fn sizes_of(value: &Value) -> Option<(u32, u32, u32, u32, u32, u32)>
 
 // The receivers, the calls, the first minislot, the channel and the UCD count.
 #[tactic(auto, unfolding(crate::specs::Fields::counts_of))]
-fn counts_of(value: &Value) -> Option<(u8, u32, u64, u8, u8)>
-    ensures { result ≡ counts_of (view value.now) }
+fn counts_of<T: Tree>(value: &T) -> Option<(u8, u32, u64, u8, u8)>
+    ensures { result ≡ counts_of (T.shown value.now) }
 {
     let (Some(receivers), Some(calls), Some(start), Some(channel), Some(ucd_count)) = (
         number_u8(value, "receivers"),
@@ -69,16 +68,16 @@ fn counts_of(value: &Value) -> Option<(u8, u32, u64, u8, u8)>
 
 // The first and the last backoff window, under these keys.
 #[tactic(auto, unfolding(crate::specs::Fields::windows_of))]
-fn windows_of(value: &Value, first: &str, last: &str) -> Option<(u8, u8)>
-    ensures { result ≡ windows_of first.now last.now (view value.now) }
+fn windows_of<T: Tree>(value: &T, first: &str, last: &str) -> Option<(u8, u8)>
+    ensures { result ≡ windows_of first.now last.now (T.shown value.now) }
 {
     Some((number_u8(value, first)?, number_u8(value, last)?))
 }
 
 // The channel's physical layer, which is 0 where the key is missing.
 #[tactic(auto, unfolding(crate::specs::Fields::phy_of))]
-fn phy_of(value: &Value) -> Option<u8>
-    ensures { result ≡ phy_of (view value.now) }
+fn phy_of<T: Tree>(value: &T) -> Option<u8>
+    ensures { result ≡ phy_of (T.shown value.now) }
 {
     match member(value, "phy") {
         None => Some(0),
@@ -89,8 +88,8 @@ fn phy_of(value: &Value) -> Option<u8>
 /// The configuration that an object stands for: each field is there, and fits its type. The physical layer may be
 /// missing.
 #[tactic(auto, unfolding(crate::specs::Fields::config_of))]
-pub fn config_of(value: &Value) -> Option<Config>
-    ensures { result ≡ config_of (view value.now) }
+pub fn config_of<T: Tree>(value: &T) -> Option<Config>
+    ensures { result ≡ config_of (T.shown value.now) }
 {
     let (ticks, bytes_per_slot, overhead, frame, cycle) = slots_of(value)?;
     let (req_slots, poll_slots, lead, short_max, quantum, grant_cap) = sizes_of(value)?;

@@ -1,16 +1,15 @@
 //! The parameters of a flow in a script.
 
 ghost use Rattle.std.specs.Prelude.{◌≡◌};
-ghost use Rattle.serde_json.specs.View.{view};
 ghost use Rattle.sched_text.specs.Calls.{unsolicited_of, polled_of, best_effort_of, flow_of};
 
 use super::field::{number_u8, number_u32, text};
+use super::tree::Tree;
 use flow_book::FlowSpec;
-use serde_json::Value;
 
 #[tactic(auto, unfolding(crate::specs::Calls::unsolicited_of))]
-fn unsolicited_of(value: &Value) -> Option<FlowSpec>
-    ensures { result ≡ unsolicited_of (view value.now) }
+fn unsolicited_of<T: Tree>(value: &T) -> Option<FlowSpec>
+    ensures { result ≡ unsolicited_of (T.shown value.now) }
 {
     let (Some(size), Some(interval_us), Some(jitter_us)) = (
         number_u32(value, "size"),
@@ -27,8 +26,8 @@ fn unsolicited_of(value: &Value) -> Option<FlowSpec>
 }
 
 #[tactic(auto, unfolding(crate::specs::Calls::polled_of))]
-fn polled_of(value: &Value) -> Option<FlowSpec>
-    ensures { result ≡ polled_of (view value.now) }
+fn polled_of<T: Tree>(value: &T) -> Option<FlowSpec>
+    ensures { result ≡ polled_of (T.shown value.now) }
 {
     let (Some(interval_us), Some(jitter_us), Some(rate), Some(burst)) = (
         number_u32(value, "interval_us"),
@@ -47,8 +46,8 @@ fn polled_of(value: &Value) -> Option<FlowSpec>
 }
 
 #[tactic(auto, unfolding(crate::specs::Calls::best_effort_of))]
-fn best_effort_of(value: &Value) -> Option<FlowSpec>
-    ensures { result ≡ best_effort_of (view value.now) }
+fn best_effort_of<T: Tree>(value: &T) -> Option<FlowSpec>
+    ensures { result ≡ best_effort_of (T.shown value.now) }
 {
     let (Some(priority), Some(rate), Some(burst)) = (
         number_u8(value, "priority"),
@@ -66,8 +65,8 @@ fn best_effort_of(value: &Value) -> Option<FlowSpec>
 
 /// The flow that an object stands for, by its kind. Its values may be ones that are refused.
 #[tactic(auto, unfolding(crate::specs::Calls::flow_of))]
-pub fn flow_of(value: &Value) -> Option<FlowSpec>
-    ensures { result ≡ flow_of (view value.now) }
+pub fn flow_of<T: Tree>(value: &T) -> Option<FlowSpec>
+    ensures { result ≡ flow_of (T.shown value.now) }
 {
     match text(value, "kind")? {
         "unsolicited" => unsolicited_of(value),

@@ -1,9 +1,12 @@
 //! The script in the bytes of a reader.
 
 ghost use Rattle.std.specs.Prelude.{IfOk, IfErr};
-ghost use Rattle.sched_text.specs.Script.{Gives};
+ghost use Rattle.sched_text.specs.Script.{Gives, scenario_of};
+ghost use Rattle.sched_text.specs.Usual.{script_text};
 ghost use Rattle.sched_text.specs.Outcome.{text_outcome, StandsFor, StopsScript};
 
+use super::plain::Stop;
+use super::usual::read_usual;
 use super::{Script, script_of};
 use crate::fault::TextFault;
 use crate::input::{parse, read_all};
@@ -12,14 +15,27 @@ use sched_history::Call;
 use std::alloc::Global;
 use std::io::Read;
 
+// The script that a text stands for. One that is not in the usual form is read as a tree, which tells its fault.
+fn script_of_text(alloc: Global, bytes: &[u8]) -> Result<Script, TextFault>
+    ensures { Gives scenario_of result (script_text bytes.now) }
+{
+    match read_usual(alloc, bytes) {
+        Ok(script) => Ok(script),
+        Err(Stop::Memory) => Err(TextFault::Memory),
+        Err(Stop::Unusual) => {
+            let value = parse(alloc, bytes)?;
+            script_of(alloc, &value)
+        }
+    }
+}
+
 // The script that a text stands for, where its configuration is lawful.
-#[tactic(auto, unfolding(crate::specs::Outcome::text_outcome))]
+#[tactic(auto, using(crate::proofs::Usual::tested_behind))]
 fn script_in(alloc: Global, bytes: &[u8]) -> Result<(Checked, Vec<Call>), TextFault>
     ensures { Gives (λ r. record { config = r.0; calls = r.1.items }) result
         (text_outcome bytes.now) }
 {
-    let value = parse(alloc, bytes)?;
-    let Script { config, calls } = script_of(alloc, &value)?;
+    let Script { config, calls } = script_of_text(alloc, bytes)?;
     let config = config.check()?;
     Ok((config, calls))
 }

@@ -5,4 +5,4 @@ use Rattle.sched_text.proofs.script.field.number_u16.Goals as goal
 
 pub returns : goal.returns
 unfolding u16_at
-returns c = search rules
+returns g c = search rules

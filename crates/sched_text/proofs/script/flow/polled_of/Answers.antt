@@ -6,6 +6,6 @@ use Rattle.sched_text.proofs.script.flow.polled_of.Goals as goal
 
 pub returns : goal.returns
 unfolding polled_of
-returns c =
+returns g c =
     let read = c.in-Some-Some-Some-Some in
     sym (then _ read.ensures (then _ read.ensures' (then _ read.ensures'' (then _ read.ensures''' refl))))
