@@ -188,3 +188,47 @@ fn the_first_fault_is_answered(rt: HostRuntime) -> Result<(), Fail> {
         EARLIER,
     )
 }
+
+// Other texts of the same script: with a key twice or escaped, and with values of every kind under other keys.
+const RETOLD: &str = r#"{"config" -> {"calls":[],"config" => the same
+{"config" -> {"config":{},"config" => the same
+{"config" -> {"config":null,"config" => the same
+{"config" -> {"other":{"within":{"text":"one","number":1}},"config" => the same
+{"config" -> {"other":[1.5,null,true,{}],"config" => the same
+"calls":[ -> "calls":[{}],"calls":[ => the same
+"calls":[ -> "calls":{},"calls":[ => the same
+"sid":18 -> "sid":1,"sid":18 => the same
+"sid":18 -> "sid":-1,"sid":18 => the same
+"sid":18 -> "other":18446744073709551616,"sid":18 => the same
+"sid":18 -> "other":"\u0073","sid":18 => the same
+"sid":18 -> "\u0073id":18 => the same"#;
+
+// Tells whether an edited script has the same calls.
+#[derive(Drop)]
+struct Retold {
+    text: String,
+}
+
+// The calls of a script, as text.
+fn calls_in(alloc: Global, text: &str) -> Result<String, Fail> {
+    let (_, calls) = read_script(alloc, &mut text.as_bytes())?;
+    Ok(shown(alloc, calls)?)
+}
+
+impl Player for Retold {
+    fn answer(&mut self, alloc: Global, row: &str) -> Result<String, Fail> {
+        let (old, new) = row.split_once(" -> ").ok_or("a row has an edit")?;
+        let text = edited(alloc, &self.text, old, new)?;
+        let calls = calls_in(alloc, &text)?;
+        if calls == calls_in(alloc, &self.text)? {
+            return Ok(String::from_str(alloc, "the same")?);
+        }
+        Ok(calls)
+    }
+}
+
+#[test]
+fn a_script_in_another_form_is_the_same(rt: HostRuntime) -> Result<(), Fail> {
+    let text = script_in(rt.alloc(), CALLS)?;
+    play(&rt, rt.alloc(), &mut Retold { text }, RETOLD)
+}
