@@ -5,7 +5,8 @@ ghost use Rattle.map_snapshot.specs.declared.printed.TheConstants.{MAX_BYTES};
 ghost use Rattle.map_snapshot.specs.Maps.{IsNewest};
 ghost use Rattle.map_snapshot.specs.Rules.{word_of};
 
-use crate::list::{Count, Seen, add};
+use crate::counts::Counts;
+use crate::list::{Seen, add};
 use crate::printed::Printed;
 use std::alloc::Global;
 use std::marker::Model;
@@ -16,7 +17,7 @@ use std::sync::Arc;
 #[derive(Drop)]
 pub struct Addition {
     printed: Printed,
-    count: Arc<Count, Global>,
+    counts: Arc<Counts, Global>,
     seen: Seen,
 }
 
@@ -31,19 +32,19 @@ impl Model for Addition {
 
     ghost view = { λ a. record { press = a.seen.book; printed = a.printed } };
 
-    ghost invariant = { λ a. (arc_value a.count ≡ word_of a.seen.book) × (a.printed.len ≤ MAX_BYTES) };
+    ghost invariant = { λ a. ((arc_value a.counts).list ≡ word_of a.seen.book) × (a.printed.len ≤ MAX_BYTES) };
 }
 
 impl Addition {
     // The map, for the press whose word it is.
-    pub(crate) fn new(printed: Printed, count: Arc<Count, Global>, seen: Seen) -> Addition
-        requires own { arc_value count ≡ word_of seen.book }
+    pub(crate) fn new(printed: Printed, counts: Arc<Counts, Global>, seen: Seen) -> Addition
+        requires own { (arc_value counts).list ≡ word_of seen.book }
         requires fits { printed.len ≤ MAX_BYTES }
         ensures made { result ≡ record { press = seen.book; printed = printed } }
     {
         Addition {
             printed,
-            count,
+            counts,
             seen,
         }
     }
@@ -56,12 +57,16 @@ impl Addition {
     }
 
     // Adds the map to the list where it comes next: the list as it was seen then, and whether the map was added.
+    // Readers learn of its version before they are shown it.
     pub(crate) fn add(&self) -> (Seen, bool)
         ensures press { result.0.book ≡ self.now.press }
         ensures added { IsTrue result.1 → IsNewest (Some self.now.printed) result.0.log }
     {
         let mut seen = self.seen.again();
-        let added = add(&self.count, &mut seen, &self.printed);
+        let added = add(&self.counts.list, &mut seen, &self.printed);
+        if added {
+            self.counts.latest.raise(self.printed.version);
+        }
         (seen, added)
     }
 }

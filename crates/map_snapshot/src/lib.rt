@@ -2,8 +2,10 @@
 #![tactic(auto)]
 
 mod addition;
+mod counts;
 mod ends;
 mod fault;
+mod latest;
 mod laws;
 mod list;
 mod opening;

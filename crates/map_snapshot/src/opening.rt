@@ -4,6 +4,7 @@ ghost use Rattle.map_snapshot.specs.declared.opening.TheConstants.{MAX_READERS};
 ghost use Rattle.map_snapshot.specs.declared.fault.PressFault.TheVariants.{ReaderCount, Memory};
 ghost use Rattle.map_snapshot.specs.Maps.{unread};
 
+use crate::counts::Counts;
 use crate::ends::{Same, Shows, Takes, Writer};
 use crate::fault::PressFault;
 use crate::list::Seen;
@@ -24,14 +25,14 @@ fn lay<R: Wait>(rt: &R, alloc: Global, places: usize) -> Result<Press, AllocErro
     ensures new { IfOk result (λ p. (p.list ≡ []) × (p.waiting ≡ [])) }
 {
     let (seen, mut pen, _unused) = Seen::open(Start::alone(), 0, 0);
-    let count = Arc::new(alloc, Word::tracked(0, &mut pen))?;
+    let counts = Arc::new(alloc, Counts::new(alloc, Word::tracked(0, &mut pen))?)?;
     let first = Sheet::blank(seen.again());
     let second = Sheet::blank(seen);
     let writer = Writer::new(alloc, first, second, places)?;
     let (writer, shown) = writer.publish_as::<Shows, R>(rt);
     let Ok(()) = shown else { unreachable!() };
     settle(rt, &writer);
-    Ok(Press { writer, count })
+    Ok(Press { writer, counts })
 }
 
 impl Press {
@@ -41,12 +42,14 @@ impl Press {
         ensures same { self.new ≡ self.old }
         ensures made { IfOk result (λ r. r ≡ unread self.old.press) }
     {
+        let latest = self.counts.latest.another()?;
         let mut end = self.writer.factory().reader()?;
         end.learn::<Takes>(self.writer.tell::<Same>());
         let known = self.tell();
         Ok(Reader {
             end: Some(end),
             known,
+            latest,
         })
     }
 }

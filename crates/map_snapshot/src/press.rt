@@ -4,8 +4,8 @@ ghost use Rattle.map_snapshot.specs.declared.printed.TheConstants.{MAX_BYTES};
 ghost use Rattle.map_snapshot.specs.Maps.{map_in, IsNewest};
 
 use crate::addition::Addition;
+use crate::counts::Counts;
 use crate::ends::{Shows, Writer};
-use crate::list::Count;
 use crate::printed::{MAX_BYTES, Printed};
 use crate::told::Told;
 use core::mem::replace_with;
@@ -17,7 +17,7 @@ use std::sync::{Arc, Wait};
 #[must_use]
 pub struct Press {
     pub(crate) writer: Writer,
-    pub(crate) count: Arc<Count, Global>,
+    pub(crate) counts: Arc<Counts, Global>,
 }
 
 impl Model for Press {
@@ -37,7 +37,7 @@ impl Model for Press {
 
     ghost invariant = { λ p. (p.writer.desk.shown.value.listed ≡ true)
         × (name_in p.writer.desk.place ≡ Some (word_of p.writer.desk.shown.value.press))
-        × (arc_value p.count ≡ word_of p.writer.desk.shown.value.press)
+        × ((arc_value p.counts).list ≡ word_of p.writer.desk.shown.value.press)
         × MayWait p.writer.desk.shown.value.press p.writer.desk.shown.value.list (drop p.writer.behind p.writer.log.items) };
 }
 
@@ -64,14 +64,14 @@ fn show<R: Wait>(press: Press, rt: &R) -> (Press, ())
       waiting = [];
     } }
 {
-    let Press { writer, count } = press;
+    let Press { writer, counts } = press;
     let before = writer.published().seen().again();
     let (writer, shown) = writer.publish_as::<Shows, R>(rt);
     let Ok(()) = shown else { unreachable!() };
     settle(rt, &writer);
     let mut both = writer.published().seen().again();
     both.learn(&before);
-    (Press { writer, count }, ())
+    (Press { writer, counts }, ())
 }
 
 impl Press {
@@ -86,7 +86,7 @@ impl Press {
         ensures err { OnErr result (self.new ≡ self.old) }
     {
         let seen = self.writer.published().seen().again();
-        let addition = Addition::new(printed, Arc::try_clone(&self.count)?, seen);
+        let addition = Addition::new(printed, Arc::try_clone(&self.counts)?, seen);
         match self.writer.append(addition) {
             Ok(()) => Ok(()),
             Err(_) => Err(AllocError),
@@ -117,7 +117,7 @@ impl Press {
     /// Ends the press. Its readers keep what they know. It takes no memory, and may wait for readers that are in
     /// the middle of a read.
     pub fn end<R: Wait>(self, rt: &R) {
-        let Press { writer, count: _ } = self;
+        let Press { writer, counts: _ } = self;
         writer.take(rt);
     }
 }

@@ -5,6 +5,7 @@ ghost use Rattle.map_snapshot.specs.Maps.{IsNewest};
 
 use crate::ends;
 use crate::ends::Finds;
+use crate::latest::Latest;
 use crate::printed::Printed;
 use crate::told::Told;
 use std::marker::Model;
@@ -15,6 +16,7 @@ pub struct Reader {
     // It is there between two reads.
     pub(crate) end: Option<ends::Reader>,
     pub(crate) known: Told,
+    pub(crate) latest: Latest,
 }
 
 impl Model for Reader {
@@ -31,7 +33,10 @@ impl Model for Reader {
 }
 
 impl Reader {
-    // Takes in what readers take now, where it is newer than what the reader knows.
+    // Takes in what readers take now, where it is newer than what the reader knows. Not a part of its callers: most
+    // reads find nothing newer.
+    #[cold]
+    #[inline(never)]
     #[tactic(auto, using(crate::proofs::Beginnings::prefix_self))]
     fn read(&mut self)
         ensures press { self.new.press ≡ self.old.press }
@@ -52,12 +57,15 @@ impl Reader {
     /// The newest map of the list that the reader then knows, or none where that is empty. The list begins with the
     /// one before, so the map is never older than one read before, nor than one that the reader was told of. Its
     /// length is at most `MAX_BYTES`. It takes no memory and no lock, and waits for nobody.
+    #[inline(always)]
     pub fn newest(&mut self) -> Option<Printed>
         ensures press { self.new.press ≡ self.old.press }
         ensures grows { IsPrefix self.old.list self.new.list }
         ensures newest { IsNewest result self.new.list }
     {
-        self.read();
+        if self.latest.is_past(self.known.version()) {
+            self.read();
+        }
         self.known.newest()
     }
 

@@ -99,8 +99,8 @@ impl Absorb<Addition> for Sheet {
     ghost never_fails = { Unit {0} };
 
     fn absorb_first(&mut self, operation: &Addition, _other: &Sheet) -> Result<(), AllocError> {
-        let (seen, listed) = operation.add();
         self.printed = Some(operation.printed());
+        let (seen, listed) = operation.add();
         self.seen = seen;
         self.listed = listed;
         Ok(())

@@ -34,12 +34,36 @@ fn version_of(newest: &Option<Printed>) -> u64
     }
 }
 
+// Puts a copy of what is printed in the place of what was.
+fn replace(old: &mut Option<Printed>, new: &Option<Printed>)
+    ensures same { old.new ≡ new.now }
+{
+    let Some(new) = new else {
+        *old = None;
+        return;
+    };
+    let Some(kept) = old else {
+        *old = Some(*new);
+        return;
+    };
+    kept.version = new.version;
+    kept.len = new.len;
+    kept.bytes.copy_from_slice(&new.bytes);
+}
+
 impl Told {
     // The newest of the maps.
+    #[inline(always)]
     pub(crate) fn newest(&self) -> Option<Printed>
         ensures newest { IsNewest result self.now.list }
     {
         self.printed
+    }
+
+    // The version of the newest, or 0 where there is none.
+    #[inline(always)]
+    pub(crate) fn version(&self) -> u64 {
+        version_of(&self.printed)
     }
 
     // Takes in another list of the same press, with its newest: of the two, each a beginning of what the press has
@@ -55,7 +79,7 @@ impl Told {
         let mut both = seen.again();
         both.learn(&self.seen);
         if version_of(printed) > version_of(&self.printed) {
-            self.printed = *printed;
+            replace(&mut self.printed, printed);
             self.seen = seen.again();
         }
     }
