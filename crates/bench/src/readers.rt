@@ -18,7 +18,7 @@ pub const READS: usize = 300_000;
 /// How often a map is published while readers read.
 #[derive(Clone, Copy)]
 pub enum Pace {
-    /// Once, when they begin.
+    /// Before they begin, and then no more.
     Once,
     /// A thousand times a second.
     Thousand,
@@ -84,12 +84,12 @@ fn publish<R: Wait>(rt: &R, press: &mut Press, version: u64) -> bool
     true
 }
 
-// Publishes until all readers have read.
+// Publishes all maps but the first, until all readers have read.
 fn publish_all<R: Wait + Clock>(rt: &R, press: &mut Press, pace: Pace, ended: &AtomicBool)
-    requires new { (press.old.list ≡ []) × (press.old.waiting ≡ []) }
+    requires first { (length press.old.list ≡ 1) × (press.old.waiting ≡ []) }
 {
-    for before in 0..u64::MAX {
-        if !publish(rt, press, before + 1) || ended.load(SeqCst) || !pace.rest(rt) {
+    for before in 1..u64::MAX {
+        if !pace.rest(rt) || ended.load(SeqCst) || !publish(rt, press, before + 1) {
             return;
         }
     }
@@ -138,12 +138,16 @@ pub fn time_readers<R: Threads + Wait + Clock + CpuClock + Sync>(
     let Ok((mut press, mut readers)) = open_press(rt, alloc, count) else {
         return None;
     };
+    if !publish(rt, &mut press, 1) {
+        press.end(rt);
+        return None;
+    }
     let ended = AtomicBool::new(false);
     let (writer, row, ended) = (&mut press, readers.as_mut_slice(), &ended);
     let (_, took) = thread::join(
         rt,
         move || -> ()
-            requires new { (writer.now.list ≡ []) × (writer.now.waiting ≡ []) }
+            requires first { (length writer.now.list ≡ 1) × (writer.now.waiting ≡ []) }
         { publish_all(rt, writer, pace, ended) },
         move || time_reads(rt, row, ended),
     );
