@@ -24,6 +24,7 @@ pub mod EndedText
 pub mod Readable
 pub mod Spelled
 pub mod RefusalNumbers
+pub mod RefusalFound
 pub mod HistoryAgain
 pub mod CallReadable
 pub mod HistoryReadable

@@ -1,5 +1,5 @@
 -- The refusal that has a number and a value.
-use Rattle.std.specs.Prelude.{ℕ, ◌==◌, List, [], ◌∷◌, ◌++◌, Option, Some, None, find}
+use Rattle.std.specs.Prelude.{◌≡◌, ◌↔◌, ℕ, ◌==◌, List, [], ◌∷◌, ◌++◌, Option, Some, None, find}
 use Rattle.flow_book.specs.declared.spec.FlowFault.{FlowFault}
 use Rattle.flow_book.specs.declared.spec.FlowFault.TheVariants.{Size, IntervalNotWhole, IntervalNotFrames}
 use Rattle.flow_book.specs.declared.spec.FlowFault.TheVariants.{IntervalNotInCycle, Priority, Burst}
@@ -8,7 +8,7 @@ use Rattle.sched_history.specs.declared.reply.Refusal.TheVariants.{BadSid, SidLi
 use Rattle.sched_history.specs.declared.reply.Refusal.TheVariants.{NoPlace, NoFlow, NotAsking, BadReceiver, BadBytes}
 use Rattle.sched_history.specs.declared.reply.Refusal.TheVariants.{Acked, Ahead, Backwards, BadClock, TooEarly, Late}
 use Rattle.sched_history.specs.declared.reply.Refusal.TheVariants.{NotLate}
-use Rattle.sched_text.specs.Line.{fault_number, refusal_number}
+use Rattle.sched_text.specs.Line.{fault_number, refusal_number, refusal_value}
 
 -- the faults in a flow's parameters
 abbrev pub flow_faults : List FlowFault
@@ -40,3 +40,8 @@ refusals_of (Some value) = flow_refusals (fault_with value) ++ slot_refusals val
 -- the refusal that has this number, and this value or none
 unfoldable pub refusal_with : ℕ → Option ℕ → Option Refusal
 refusal_with n value = find (λ refusal. refusal_number refusal == n) (refusals_of value)
+
+-- a refusal is found under its number and its value alone
+abbrev pub IsExactRefusal : Type 0
+IsExactRefusal = (n : ℕ) (value : Option ℕ) (refusal : Refusal)
+    → (refusal_with n value ≡ Some refusal) ↔ ((refusal_number refusal ≡ n) × (refusal_value refusal ≡ value))

@@ -1,12 +1,12 @@
 -- The reply and the entry that a JSON object stands for.
-use Rattle.std.specs.Prelude.{ℕ, ◌^◌, Bool, ◌||◌, if◌then◌else◌, List, [], ◌∷◌, codes, bytes_eq, is_some, is_none}
+use Rattle.std.specs.Prelude.{◌≡◌, ◌↔◌, ℕ, ◌^◌, Bool, ◌||◌, if◌then◌else◌, List, [], ◌∷◌, codes, bytes_eq, is_some, is_none}
 use Rattle.std.specs.Prelude.{Option, Some, None}
 use Rattle.std.specs.Result.{result_ok}
-use Rattle.hex.specs.Hex.{decode_of}
+use Rattle.hex.specs.Hex.{IsBytes, decode_of}
 use Rattle.serde_json.specs.Data.{Data, Items, no_items, item}
 use Rattle.serde_json.specs.Find.{get, as_number, as_u64, as_array}
 use Rattle.map_codec.specs.declared.wire_map.WireMap.{WireMap}
-use Rattle.map_codec.specs.WireMap.{map_in}
+use Rattle.map_codec.specs.WireMap.{map_in, spelling, IsWellFormed}
 use Rattle.map_codec.specs.DecodeFault.{fault_of}
 use Rattle.sched_history.specs.declared.reply.Reply.{Reply}
 use Rattle.sched_history.specs.declared.reply.Reply.TheVariants.{Admitted, Removed, Taken, Noted, Built, Skipped, Flow}
@@ -57,6 +57,11 @@ admitted_reply d =
 -- the MAP of which these bytes are the payload
 unfoldable pub map_of : List ℕ → Option WireMap
 map_of bytes = if is_none (fault_of bytes) then Some (map_in bytes) else None
+
+-- bytes are read as a MAP exactly where they are its spelling
+abbrev pub IsExactMap : Type 0
+IsExactMap = (bytes : List ℕ) → IsBytes bytes → (m : WireMap)
+    → (map_of bytes ≡ Some m) ↔ (IsWellFormed m × (bytes ≡ spelling m))
 
 -- the MAP whose payload stands under this key in hexadecimal, digits of both cases
 unfoldable pub map_at : List ℕ → Data → Option WireMap

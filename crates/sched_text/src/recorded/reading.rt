@@ -6,6 +6,8 @@ ghost use Rattle.sched_history.specs.Machine.{IsEncodable};
 ghost use Rattle.sched_history.specs.declared.reply.TheConstants.{MAX_ENTRIES};
 ghost use Rattle.sched_text.specs.Script.{Gives};
 ghost use Rattle.sched_text.specs.Fits.{IsReadAgain};
+ghost use Rattle.sched_text.specs.Refusals.{IsExactRefusal};
+ghost use Rattle.sched_text.specs.Replies.{IsExactMap};
 ghost use Rattle.sched_text.specs.Recorded.{history_in, GivesHistory, StopsHistory};
 
 use super::{Recorded, history_of};
@@ -45,8 +47,11 @@ pub fn read_history<R: Read>(
     history_in(alloc, &bytes)
 }
 
-/// The law of the text of a history. What is written of a history under a lawful configuration stands for that
-/// history, where it has at most 16777216 bytes and the numbers fit the types of their fields.
+/// The laws of the text of a history. What is written of a history under a lawful configuration stands for that
+/// history, where it has at most 16777216 bytes and the numbers fit the types of their fields. Bytes are read as a MAP
+/// exactly where they are its spelling, and a refusal is found under its number and its value alone.
 pub fn every_history()
-    ensures { IsReadAgain }
+    ensures read_again { IsReadAgain }
+    ensures exact_map { IsExactMap }
+    ensures exact_refusal { IsExactRefusal }
 {}
