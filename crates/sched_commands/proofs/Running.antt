@@ -18,7 +18,7 @@ use Rattle.sched_commands.specs.Answer.{MayGet, recorded, recorded_entries, Make
 use Rattle.sched_text.specs.Line.{line_of}
 use Rattle.sched_text.proofs.Written.{Appends-out}
 use Rattle.sched_text.specs.HistoryText.{history_text}
-use Rattle.sched_commands.specs.Run.{AnswersEach}
+use Rattle.sched_commands.specs.Run.{HistoryFits, AnswersEach}
 use Rattle.sched_commands.proofs.Answered.{MayGetEach-push, recorded_entries-push, IsLegal-answered}
 
 -- from one state of the scheduler and the writer these calls led to others, and the lines of their answers were written
@@ -120,16 +120,18 @@ Runs-whole old new calls n before after all runs =
       answers = runs.answers;
       each = makes.each;
       legal = MakesCalls-legal old new calls runs.answers makes;
+      fits = λ text. absurd (let no : false ≡ true = text in cc);
       written = runs.written;
     }
 
 -- all calls, with the text of their history
 pub history-written : (old new : Machine) (calls : List Call) (answers : List Answer) (before after : Option (List ℕ))
-    → MakesCalls old new calls answers → Appends before after (history_text old.config new.history)
-    → AnswersEach true old.config calls before after
-history-written old new calls answers before after makes written = record {
+    → MakesCalls old new calls answers → HistoryFits old.config new.history
+    → Appends before after (history_text old.config new.history) → AnswersEach true old.config calls before after
+history-written old new calls answers before after makes fits written = record {
   answers = answers;
   each = makes.each;
   legal = MakesCalls-legal old new calls answers makes;
+  fits = λ text. rw (ap (λ (m : Machine). m.history) makes.state) at fits;
   written = rw (ap (λ (m : Machine). m.history) makes.state) at written;
 }

@@ -4,5 +4,6 @@ pub mod Answer
 pub mod Run
 pub mod Table
 pub mod Verdict
+pub mod Judged
 pub mod StormLines
 pub mod StormRun

@@ -54,8 +54,9 @@ fn put_verdict<W: Write>(writer: &mut W, verdict: Verdict) -> Result<bool, TextF
 }
 
 /// Reads a history, a configuration and entries in JSON, to the reader's end, and audits it. Writes `legal` and the
-/// number of its entries, or `illegal` and the first entry, counted from 0, whose reply the scheduler may not give after
-/// the entries before it. Answers whether it is legal. Nothing is written before another fault than one of output.
+/// number of its entries, or `illegal` and the first entry, counted from 0, whose reply the scheduler may not give
+/// after the entries before it. Answers whether it is legal. Nothing is written before another fault than one of
+/// output.
 pub fn run_audit<R: Read, W: Write>(
     alloc: Global,
     reader: &mut R,

@@ -1,8 +1,11 @@
-//! The commands of the program, as a library: a script is run, a payload is shown, a history is audited, a storm is run.
+//! The commands of the program, as a library: a script is run, a payload is shown, a history is audited, a storm is
+//! run.
 #![tactic(auto)]
 
 mod audit;
 mod fault;
+mod fits;
+mod laws;
 mod line;
 mod run;
 mod storm;
@@ -10,6 +13,7 @@ mod table;
 
 pub use audit::run_audit;
 pub use fault::RunFault;
+pub use laws::judges_runs_legal;
 pub use run::run_script;
 pub use storm::run_storm;
 pub use table::decode_text;

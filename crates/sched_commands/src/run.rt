@@ -6,6 +6,7 @@ ghost use Rattle.sched_commands.specs.Answer.{MakesCall, MakesCalls};
 ghost use Rattle.sched_commands.specs.Run.{AnswersEach, Ran, Stops};
 
 use crate::fault::RunFault;
+use crate::fits::history_fits;
 use minislots::{Checked, Stamp};
 use sched_history::{Call, Reply, Scheduler, Unrecorded};
 use sched_text::{LineBuffer, TextFault, put_history, read_script};
@@ -72,6 +73,7 @@ fn run_history<W: Write>(
     ensures quiet { IfErr result (λ e. e ≢ TextFault.Output → writer.new ≡ writer.old) }
 {
     make_calls(scheduler, calls);
+    history_fits(config, scheduler.history());
     put_history(alloc, writer, &config.config(), scheduler.history())
 }
 

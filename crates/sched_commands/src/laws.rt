@@ -1,0 +1,12 @@
+//! What the commands mean for one another.
+ghost use Rattle.std.specs.Prelude.{◌≤◌, ℕ, true, List, [], Option, Some, length};
+ghost use Rattle.sched_text.specs.declared.input.TheConstants.{MAX_INPUT};
+ghost use Rattle.sched_commands.specs.Run.{Ran};
+ghost use Rattle.sched_commands.specs.Judged.{IsJudgedLegal};
+
+/// What a run wrote as its history is legal to every audit that reads it to its end, where it has no more bytes than an
+/// input may have: then only a failed read, a failed write or want of memory ends an audit of it.
+pub fn judges_runs_legal()
+    ensures legal { (unread left : Option (List ℕ)) (text : List ℕ) → Ran true unread left (Some []) (Some text)
+        → length text ≤ MAX_INPUT → IsJudgedLegal text }
+{}
