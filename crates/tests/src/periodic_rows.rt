@@ -1,7 +1,7 @@
 //! Worked placements, and the spots of their frames.
 
 mod lists;
-mod slow;
+pub mod slow;
 
 use crate::base::{BASE, is_shown, shown};
 use flow_book::FlowSpec;

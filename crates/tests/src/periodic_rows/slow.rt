@@ -196,3 +196,64 @@ pub fn place(
     }
     Ok(None)
 }
+
+// Whether a start is lawful in the frame at this place of the cycle, where the nominal time is at this offset.
+fn is_start(
+    flows: &[SlowFlow],
+    config: &Checked,
+    wanted: Wanted,
+    place: u64,
+    offset: u64,
+    start: u64,
+) -> bool {
+    let end = start.saturating_add(wanted.slots);
+    offset <= start
+        && start <= offset.saturating_add(wanted.jitter)
+        && end <= u64::from(config.frame())
+        && are_free(flows, config, place, start, end)
+}
+
+// Whether the starts are lawful, one for each nominal frame of the cycle.
+fn are_starts(
+    flows: &[SlowFlow],
+    config: &Checked,
+    wanted: Wanted,
+    phase: u64,
+    offset: u64,
+    starts: &[u16],
+) -> bool
+    requires { 0 < wanted.interval }
+{
+    let mut left = starts.iter();
+    for place in 0..u64::from(config.cycle()) {
+        if place % wanted.interval == phase {
+            let Some(start) = left.next() else {
+                return false;
+            };
+            if !is_start(flows, config, wanted, place, offset, u64::from(*start)) {
+                return false;
+            }
+        }
+    }
+    left.next().is_none()
+}
+
+/// Whether the definition takes a placement for a new flow beside those that stand, its first nominal time at or
+/// after `next`.
+pub fn is_lawful(
+    flows: &[SlowFlow],
+    config: &Checked,
+    spec: FlowSpec,
+    next: u64,
+    reference: u64,
+    starts: &[u16],
+) -> bool {
+    let wanted = wanted_of(config, &spec);
+    let frame = u64::from(config.frame());
+    let (phase, offset) = (reference / frame % wanted.interval, reference % frame);
+    let end = next.saturating_add(wanted.interval.saturating_mul(frame));
+    next <= reference
+        && reference < end
+        && u64::from(config.req_slots()) <= offset
+        && are_starts(flows, config, wanted, phase, offset, starts)
+}
