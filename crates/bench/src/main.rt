@@ -1,8 +1,11 @@
 //! `bench`: what the parts of the scheduler cost on this machine. With no word it prints nothing.
 #![tactic(auto)]
 
+mod drawing;
 mod frames;
+mod held;
 mod locked;
+mod longest;
 mod mutexed;
 mod readers;
 mod run;
@@ -43,8 +46,9 @@ fn main(rt: HostRuntime) -> ExitCode {
         "storm" => status_of(table::print_storm(&rt, rt.alloc())),
         "readers" => status_of(table::print_readers(&rt, rt.alloc())),
         "frames" => status_of(table::print_frames(&rt, rt.alloc())),
+        "longest" => status_of(table::print_longest(&rt, rt.alloc())),
         _ => {
-            let _ = rt.eprintln("usage: bench [lock|frames|readers|storm]");
+            let _ = rt.eprintln("usage: bench [lock|frames|longest|readers|storm]");
             ExitCode::from(2)
         }
     }

@@ -1,6 +1,7 @@
 //! How long a run took.
 
 use crate::tally::Added;
+use std::io;
 use std::time::{Clock, CpuClock, Duration, Instant};
 
 /// Threads that take turns at once, how many each takes, and what each turn adds.
@@ -46,9 +47,17 @@ pub fn now<R: Clock + CpuClock>(rt: &R) -> Option<Moment> {
     }
 }
 
-// The nanoseconds of a time.
-fn nanos_of(time: Duration) -> u64 {
+/// The nanoseconds of a time.
+pub fn nanos_of(time: Duration) -> u64 {
     u64::try_from(time.as_nanos()).unwrap_or(u64::MAX)
+}
+
+/// The nanoseconds from one instant to another, or none at all where one was not told.
+pub fn nanos_between(start: io::Result<Instant>, end: io::Result<Instant>) -> u64 {
+    match (start, end) {
+        (Ok(start), Ok(end)) => nanos_of(end.duration_since(start)),
+        (_, _) => 0,
+    }
 }
 
 /// The times between two moments, of a run that did what it was to do. None of any other.

@@ -1,12 +1,14 @@
 //! The tables of figures.
 
 use crate::frames::{time_admission, time_build};
+use crate::held::time_held;
 use crate::locked::time_lock;
+use crate::longest::{Longest, time_calls};
 use crate::mutexed::time_mutex;
 use crate::readers::{Pace, READS, time_readers};
 use crate::run::{Load, Took};
 use crate::rwlocked::time_rwlock;
-use crate::storms::{CALLS, time_bare, time_storm};
+use crate::storms::{CALLS, Span, time_bare, time_storm};
 use crate::tally::{Added, Desk, Tally, Turning};
 use std::alloc::Global;
 use std::io;
@@ -150,53 +152,112 @@ pub fn print_frames<R: Clock + CpuClock + Print>(rt: &R, alloc: Global) -> Optio
     print_call(rt, "93 grants and 40 polls", middle(builds))
 }
 
+// Prints the longest calls, each with its nanoseconds by the clock and of the processor.
+fn print_calls<R: Print>(rt: &R, longest: &Longest) -> Option<()> {
+    shown(rt.println("     call  what       answer         by the clock   processor"))?;
+    for long in &longest.calls {
+        shown(print!(rt; "{:>9}  {:<10} {:<12}", long.number, long.call, long.answer))?;
+        shown(println!(rt; " {:>14} {:>11}", long.took.wall, long.took.used))?;
+    }
+    Some(())
+}
+
+/// Prints the longest of a million mixed calls on one scheduler, by the clock and by processor time.
+pub fn print_longest<R: Clock + CpuClock + Print>(rt: &R, alloc: Global) -> Option<()> {
+    let (by_clock, by_processor) = time_calls(rt, alloc)?;
+    print_calls(rt, &by_clock)?;
+    print_calls(rt, &by_processor)
+}
+
 // Calls per second.
 fn rate(nanos: u64, calls: usize) -> u64 {
     (calls as u64).saturating_mul(1_000_000_000) / nanos.max(1)
 }
 
-// Calls per second of a scheduler without a lock.
-fn bare_rate<R: Clock + CpuClock>(rt: &R, alloc: Global) -> Option<u64> {
-    let mut nanos = [0u64; RUNS];
-    for i in 0..RUNS {
-        nanos[i] = time_bare(rt, alloc)?.wall;
+// Calls per second of runs of so many calls: the middle one with what comes before and after them, and by themselves.
+fn rates_of(runs: [Span; RUNS], calls: usize) -> Span {
+    let (mut whole, mut alone) = ([0u64; RUNS], [0u64; RUNS]);
+    for (i, run) in runs.iter().enumerate() {
+        whole[i] = run.whole;
+        alone[i] = run.calls;
     }
-    Some(rate(middle(nanos), CALLS))
+    Span {
+        whole: rate(middle(whole), calls),
+        calls: rate(middle(alone), calls),
+    }
+}
+
+// What no run took.
+const NONE: Span = Span { whole: 0, calls: 0 };
+
+// Calls per second of a scheduler without a lock.
+fn bare_rates<R: Clock + CpuClock>(rt: &R, alloc: Global) -> Option<Span> {
+    let mut runs = [NONE; RUNS];
+    for i in 0..RUNS {
+        runs[i] = time_bare(rt, alloc)?;
+    }
+    Some(rates_of(runs, CALLS))
 }
 
 // Calls per second of a storm of so many workers.
-fn storm_rate<R: Threads + Wait + Sync + Clock + CpuClock>(
+fn storm_rates<R: Threads + Wait + Sync + Clock + CpuClock>(
+    rt: &R,
+    alloc: Global,
+    workers: usize,
+) -> Option<Span> {
+    let mut runs = [NONE; RUNS];
+    for i in 0..RUNS {
+        runs[i] = time_storm(rt, alloc, workers)?;
+    }
+    Some(rates_of(runs, workers.saturating_mul(CALLS)))
+}
+
+// Prints a number of calls per second, and it as a multiple of another.
+fn print_rate<R: Print>(rt: &R, calls: u64, bare: u64) -> Option<()> {
+    shown(print!(rt; " {calls:>16}"))?;
+    print_parts(rt, 3, calls.saturating_mul(1000) / bare.max(1), 1000, 3)
+}
+
+// Of a thousand parts of the time of all workers of a storm those under the lock, the middle one of some runs.
+fn held_share<R: Threads + Wait + Sync + Clock + CpuClock>(
     rt: &R,
     alloc: Global,
     workers: usize,
 ) -> Option<u64> {
-    let mut nanos = [0u64; RUNS];
+    let mut parts = [0u64; RUNS];
     for i in 0..RUNS {
-        nanos[i] = time_storm(rt, alloc, workers)?.wall;
+        let shares = time_held(rt, alloc, workers)?;
+        let all = shares.took.wall.saturating_mul(workers as u64);
+        parts[i] = shares.held.saturating_mul(1000) / all.max(1);
     }
-    Some(rate(middle(nanos), workers.saturating_mul(CALLS)))
+    Some(middle(parts))
 }
 
-// Prints the rest of a row of the storms.
-fn print_rate<R: Print>(rt: &R, calls: u64, bare: u64) -> Option<()> {
-    shown(print!(rt; " {calls:>16}"))?;
-    print_parts(rt, 3, calls.saturating_mul(1000) / bare.max(1), 1000, 3)?;
-    shown(rt.println(""))
+// Prints the rates of a row of the storms.
+fn print_rates<R: Print>(rt: &R, rates: Span, bare: Span) -> Option<()> {
+    print_rate(rt, rates.whole, bare.whole)?;
+    print_rate(rt, rates.calls, bare.calls)
 }
 
-/// Prints the calls per second of a scheduler without a lock, and of storms, as multiples of the first.
+/// Prints the calls per second of a scheduler without a lock, and of storms, as multiples of the first: of the whole,
+/// with the opening, the close and the audit of the history, and of the calls alone; and of the time of all workers the
+/// part that they are under the lock, by one call of sixteen that is timed.
 pub fn print_storm<R: Threads + Wait + Sync + Clock + CpuClock + Print>(
     rt: &R,
     alloc: Global,
 ) -> Option<()> {
-    shown(rt.println("workers calls per second   ratio"))?;
-    let bare = bare_rate(rt, alloc)?;
+    shown(rt.println("workers calls per second   ratio      calls alone   ratio  under the lock"))?;
+    let bare = bare_rates(rt, alloc)?;
     shown(rt.print("no lock"))?;
-    print_rate(rt, bare, bare)?;
+    print_rates(rt, bare, bare)?;
+    shown(rt.println(""))?;
     for workers in [1, 2, 4, 8] {
-        let calls = storm_rate(rt, alloc, workers)?;
+        let rates = storm_rates(rt, alloc, workers)?;
+        let held = held_share(rt, alloc, workers)?;
         shown(print!(rt; "{workers:>7}"))?;
-        print_rate(rt, calls, bare)?;
+        print_rates(rt, rates, bare)?;
+        print_parts(rt, 11, held, 1000, 3)?;
+        shown(rt.println(""))?;
     }
     Some(())
 }

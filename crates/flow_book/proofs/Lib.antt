@@ -18,6 +18,7 @@ pub mod RowsCeiling
 pub mod RowsChoice
 pub mod RowsFaults
 pub mod Serving
+pub mod Sinking
 pub mod Started
 pub mod Steps
 pub mod Searches

@@ -64,7 +64,8 @@ found-place p xs found =
     grind (arith, nat_tests)
 
 -- and none is found where none has a place
-pub found-none : {X : Type 0} (p : X → Bool) (xs : List X) (o : Option X) → find p xs ≡ o → position p xs ≡ None → o ≡ None
+pub found-none : {X : Type 0} (p : X → Bool) (xs : List X) (o : Option X) → find p xs ≡ o → position p xs ≡ None
+    → o ≡ None
 found-none p xs None is none = refl
 found-none p xs (Some x) is none = let stands = found-place p xs (rw is refl) in absurd (cc)
 

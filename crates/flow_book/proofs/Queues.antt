@@ -1,9 +1,10 @@
 -- The queue of the flows that wait, as flows are put into it and taken out.
 use Rattle.std.proofs.Common.{◌≡◌, ◌≢◌, refl, sym, ap, ◌∙◌, subst, ℕ, zero, suc, ◌<◌, ◌==◌, ◌⊎◌, inl, inr, false}
 use Rattle.std.proofs.Common.{nat_lt, List, [], ◌∷◌, find, length, get_or, remove, slice_get}
-use Rattle.std.proofs.Common.{Some, None, option_map, Bool, position, set, ◌≤◌, arith}
+use Rattle.std.proofs.Common.{Some, None, option_map, Bool, true, position, set, ◌≤◌, arith}
 use Rattle.std.specs.List.{AllByRecursion, position_or_len}
 use Rattle.std.proofs.lemmas.Grind.{common_steps}
+use Rattle.std.proofs.lemmas.List.Quantifiers.{position-Some}
 use Rattle.std.proofs.lemmas.List.Sums.{fails_before_first}
 use Rattle.std.proofs.lemmas.Bool.{cond_both, cases_eq, cases_lt}
 use Rattle.std.proofs.lemmas.Bool.Decides.{nat_tests}
@@ -73,7 +74,8 @@ in-rest place (w ∷ queue) zero d lt differ (inr rest) = rest
 in-rest place (w ∷ queue) (suc i) d lt differ (inl here) = inl here
 in-rest place (w ∷ queue) (suc i) d lt differ (inr rest) = inr (in-rest place queue i d (omega arith) differ rest)
 
-some-within : (items : List Flow) (place turn : ℕ) → option_map (λ (f : Flow). f.turn) (slice_get items place) ≡ Some turn
+some-within : (items : List Flow) (place turn : ℕ)
+    → option_map (λ (f : Flow). f.turn) (slice_get items place) ≡ Some turn
     → place < length items
 some-within [] place turn at = absurd (cc)
 some-within (f ∷ items) zero turn at = omega arith
@@ -146,6 +148,15 @@ module _ (items : List Flow) where
     whole = λ other f found differ waits. is.whole other f found tt waits;
   }
 
+  -- nor without the one that has it
+  pub taken-at : (queue : List Waiting) (place i : ℕ) (d : Waiting) → position (λ w. w.place == place) queue ≡ Some i
+      → IsQueue items queue → IsQueueAmong items (λ other. other ≢ place) (remove queue i)
+  taken-at queue place i d at is =
+      let found = position-Some (λ w. w.place == place) queue i d at in
+      let passes : ((get_or queue i d).place == place) ≡ true = found.1 in
+      let e : (get_or queue i d).place ≡ place = grind (arith, nat_tests) in
+      rw (sym e) (taken-out queue i d found.0 is)
+
 -- what is known of the flows at other places stays
 pub among-others : (place : ℕ) (old new : List Flow) (queue : List Waiting) → AreSameBut place old new
     → IsQueueAmong old (λ other. other ≢ place) queue → IsQueueAmong new (λ other. other ≢ place) queue
@@ -212,7 +223,8 @@ module _ (c : Config) (items : List Flow) (are : IsBook c items) where
         ]
       ]
 
-  module _ (some more : ℕ → Type 0) (queue : List Waiting) (place : ℕ) (f : Flow) (here : slice_get items place ≡ Some f)
+  module _ (some more : ℕ → Type 0) (queue : List Waiting) (place : ℕ) (f : Flow)
+      (here : slice_get items place ≡ Some f)
       (only : (k : ℕ) → more k → (k ≡ place) ⊎ some k) (keeps : (k : ℕ) → some k → more k)
       (is : IsQueueAmong items some queue) where
     all-more : (ws : List Waiting) → AllByRecursion (λ w. some w.place) ws → AllByRecursion (λ w. more w.place) ws

@@ -16,15 +16,16 @@ use Rattle.flow_book.specs.declared.flow.Flow.{Flow}
 use Rattle.flow_book.specs.Flows.{LiveFlow}
 use Rattle.flow_book.specs.Entry.{live}
 use Rattle.flow_book.specs.Book.{Ascend}
+use Rattle.flow_book.specs.Sids.{AscendBy}
 
--- in order of SID a flow before another has a lower one
-rises : (flows : List LiveFlow) (i j : ℕ) (d : LiveFlow) → Ascend flows → i < j → j < length flows
-    → (get_or flows i d).sid < (get_or flows j d).sid
-rises [] i j d up lt within = absurd (omega arith)
-rises (f ∷ flows) i zero d up lt within = absurd (omega arith)
-rises (f ∷ flows) zero (suc j) d up lt within =
-    All-from_recursion (λ g. f.sid < g.sid) flows up.0 j d (omega arith)
-rises (f ∷ flows) (suc i) (suc j) d up lt within = rises flows i j d up.1 (omega arith) (omega arith)
+-- where numbers ascend one before another is lower
+pub rises : {X : Type 0} (number : X → ℕ) (xs : List X) (i j : ℕ) (d : X) → AscendBy number xs → i < j → j < length xs
+    → number (get_or xs i d) < number (get_or xs j d)
+rises number [] i j d up lt within = absurd (omega arith)
+rises number (x ∷ xs) i zero d up lt within = absurd (omega arith)
+rises number (x ∷ xs) zero (suc j) d up lt within =
+    All-from_recursion (λ y. number x < number y) xs up.0 j d (omega arith)
+rises number (x ∷ xs) (suc i) (suc j) d up lt within = rises number xs i j d up.1 (omega arith) (omega arith)
 
 module _ (items : List Flow) (sid : ℕ) (up : Ascend (map live items)) (d : Flow) where
   -- flows at higher places have higher SIDs
@@ -32,7 +33,7 @@ module _ (items : List Flow) (sid : ℕ) (up : Ascend (map live items)) (d : Flo
   below i j lt within =
       omega (
         arith,
-        rises (map live items) i j (live d) up lt (omega (arith, length-map items live)),
+        rises (λ (g : LiveFlow). g.sid) (map live items) i j (live d) up lt (omega (arith, length-map items live)),
         ap (λ (g : LiveFlow). g.sid) (get_or-map live items i d),
         ap (λ (g : LiveFlow). g.sid) (get_or-map live items j d),
       )

@@ -64,7 +64,8 @@ turns-before f g mine yours less =
 module _ (c : Config) (start room : ℕ) (items : List Flow) (are : IsBook c items) where
   -- a place in the queue that may be served is not passed
   behind : (k : ℕ) (g : Flow) (front : List Waiting) (w : Waiting) (back : List Waiting) → slice_get items k ≡ Some g
-      → IsEligible c start room (live g) → AllByRecursion (IsPassed c start room items) front → IsIn k (front ++ w ∷ back)
+      → IsEligible c start room (live g) → AllByRecursion (IsPassed c start room items) front
+      → IsIn k (front ++ w ∷ back)
       → (w.place ≡ k) ⊎ IsIn k back
   behind k g [] w back found may passed (inl here) = inl here
   behind k g [] w back found may passed (inr rest) = inr rest
@@ -74,7 +75,8 @@ module _ (c : Config) (start room : ℕ) (items : List Flow) (are : IsBook c ite
 
   -- behind flows that may not be served one that may is served first
   pub first-next : (front : List Waiting) (w : Waiting) (back : List Waiting) (f : Flow)
-      → slice_get items w.place ≡ Some f → IsQueue items (front ++ w ∷ back) → AllByRecursion (IsPassed c start room items) front
+      → slice_get items w.place ≡ Some f → IsQueue items (front ++ w ∷ back)
+      → AllByRecursion (IsPassed c start room items) front
       → IsEligible c start room (live f) → IsNext c (map live items) start room (live f)
   first-next front w back f here is passed may = record {
     live = contains-at items w.place f here;
@@ -87,7 +89,8 @@ module _ (c : Config) (start room : ℕ) (items : List Flow) (are : IsBook c ite
               inl (ap live equal))
           | inr rest ↦
               (let both =
-              all-both (IsAt items) (λ v. w.turn < v.turn) (λ v. IsAt items v × (w.turn < v.turn)) back (λ v p q. (p, q))
+              all-both (IsAt items) (λ v. w.turn < v.turn) (λ v. IsAt items v × (w.turn < v.turn)) back
+              (λ v p q. (p, q))
               (all-back (IsAt items) front w back is.each) (above-back front w back is.ascending) in
               let v = pick (λ v. IsAt items v × (w.turn < v.turn)) k back rest both in
               let mine = turn-at items w f (all-here (IsAt items) front w back is.each) here in

@@ -23,7 +23,8 @@ flows-later early later [] le all = tt
 flows-later early later (f ∷ flows) le all =
     (started-later early later f.grants le all.0, flows-later early later flows le all.1)
 
-started-option : (later sid : ℕ) (flows : List LiveFlow) (o : Option LiveFlow) → AllByRecursion (HasStartedBy later) flows
+started-option : (later sid : ℕ) (flows : List LiveFlow) (o : Option LiveFlow)
+    → AllByRecursion (HasStartedBy later) flows
     → flow_of sid flows ≡ o → IfSome o (HasStartedBy later)
 started-option later sid flows None all is = tt
 started-option later sid flows (Some f) all is = all-found (HasStartedBy later) (λ g. g.sid == sid) flows f all is

@@ -38,7 +38,8 @@ window-last grants start n i le =
     ∙ ap (λ b. bytes_of (drop i grants) + b) (bytes-one start n)
 
 -- a grant starts where it did
-pub start-inside : (grants more : List Grant) (i : ℕ) → i < length grants → start_of (grants ++ more) i ≡ start_of grants i
+pub start-inside : (grants more : List Grant) (i : ℕ) → i < length grants
+    → start_of (grants ++ more) i ≡ start_of grants i
 start-inside grants more i lt = ap (λ (g : Grant). g.start) (get_or_append_left grants more _ i lt)
 
 -- and the one more where it starts

@@ -6,7 +6,7 @@ use Rattle.flow_book.specs.declared.flow.Flow.{Flow}
 use Rattle.flow_book.specs.declared.queue.Waiting.{Waiting}
 use Rattle.flow_book.specs.Flows.{outstanding}
 use Rattle.flow_book.specs.Entry.{live, IsBook}
-use Rattle.flow_book.specs.Sids.{AscendBy}
+use Rattle.flow_book.specs.Sids.{AscendBy, put_in}
 
 -- there is a flow at its place, and this is its turn
 abbrev pub IsAt : List Flow → Waiting → Type 0
@@ -28,6 +28,12 @@ pub record IsQueueAmong (items : List Flow) (some : ℕ → Type 0) (queue : Lis
 -- all flows that wait are in the queue, by their turns
 abbrev pub IsQueue : List Flow → List Waiting → Type 0
 IsQueue items queue = IsQueueAmong items (λ place. Unit {0}) queue
+
+-- One was moved to its turn among those of the other places
+pub record IsMoved (items : List Flow) (w : Waiting) (queue : List Waiting) : Type 0 where
+  pub others : List Waiting
+  pub among : IsQueueAmong items (λ other. other ≢ w.place) others
+  pub is : queue ≡ put_in (λ v. v.turn) w others
 
 -- the flows are the same at each other place
 abbrev pub AreSameBut : ℕ → List Flow → List Flow → Type 0

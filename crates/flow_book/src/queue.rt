@@ -1,15 +1,15 @@
 //! The flows that wait for bytes, in the order in which they are served.
 
 ghost use Rattle.std.specs.Prelude.{◌==◌, nat_lt, position, true, IfSome};
-ghost use Rattle.std.specs.Prelude.{◌≡◌, ◌≢◌, ◌<◌, List, map, length, OnOk, IfOk, IsSomeAnd, MatchOption, slice_get};
-ghost use Rattle.std.specs.List.{AllByRecursion};
+ghost use Rattle.std.specs.Prelude.{ℕ, ◌≡◌, ◌≢◌, ◌<◌, ◌≤◌, List, remove, slice_index_or, map, length, OnOk, IfOk, IsSomeAnd, MatchOption, slice_get};
+ghost use Rattle.std.specs.List.{AllByRecursion, position_or_len};
 ghost use Rattle.minislots.specs.declared.config.Config.{Config};
 ghost use Rattle.flow_book.specs.declared.flow.Flow.{Flow};
 ghost use Rattle.flow_book.specs.Choice.{HasStartedBy, IsNext, NoneEligible};
 ghost use Rattle.flow_book.specs.Entry.{live, IsBook};
 ghost use Rattle.flow_book.specs.Book.{Ascend};
-ghost use Rattle.flow_book.specs.Sids.{put_in};
-ghost use Rattle.flow_book.specs.Queue.{IsQueue, IsQueueAmong, AreSameBut};
+ghost use Rattle.flow_book.specs.Sids.{AscendBy, put_in};
+ghost use Rattle.flow_book.specs.Queue.{IsQueue, IsQueueAmong, IsMoved, AreSameBut};
 
 use crate::flow::Flow;
 use minislots::Checked;
@@ -22,11 +22,13 @@ pub(crate) struct Waiting {
     pub(crate) place: usize,
 }
 
-// The place in the queue of the first of a later turn.
-fn first_after(queue: &[Waiting], turn: u128) -> Option<usize>
-    ensures { result ≡ position (λ w. nat_lt turn w.turn) queue.now }
+// The place in the queue of the first of a later turn, or its end.
+fn place_after(queue: &[Waiting], turn: u128) -> usize
+    requires { AscendBy (λ w. w.turn) queue.now }
+    ensures place { result ≡ position_or_len (λ w. nat_lt turn w.turn) queue.now }
+    ensures within { result ≤ length queue.now }
 {
-    queue.iter().position(|waiting| turn < waiting.turn)
+    queue.partition_point(|waiting| waiting.turn <= turn)
 }
 
 // The place in the queue of the flow at this place among the flows.
@@ -53,9 +55,10 @@ pub(crate) fn place_by_queue(queue: &[Waiting], flows: &[Flow], sid: u16) -> Opt
 
 // Puts one that waits into the queue, before the first of a later turn.
 fn put_in_turn(queue: &mut Vec<Waiting>, waiting: Waiting) -> Result<(), AllocError>
+    requires { AscendBy (λ w. w.turn) queue.old.items }
     ensures { OnOk result (queue.new.items ≡ put_in (λ w. w.turn) waiting queue.old.items) }
 {
-    let index = first_after(queue, waiting.turn).unwrap_or(queue.len());
+    let index = place_after(queue, waiting.turn);
     queue.insert(index, waiting)?;
     Ok(())
 }
@@ -98,6 +101,38 @@ pub(crate) fn first_in_turn(
     None
 }
 
+// Moves the one at this place in the queue, of a turn no earlier than before, behind those of turns no later.
+fn move_back(queue: &mut [Waiting], index: usize, waiting: Waiting)
+    requires within { index < length queue.old }
+    requires before { (k : ℕ) (d : Waiting) → k < index → (slice_index_or queue.old k d).turn ≤ waiting.turn }
+    ensures moved { queue.new ≡ put_in (λ w. w.turn) waiting (remove queue.old index) }
+    ensures len { length queue.new ≡ length queue.old }
+{
+    let mut at = index;
+    while at + 1 < queue.len() && queue[at + 1].turn <= waiting.turn {
+        queue[at] = queue[at + 1];
+        at += 1;
+    }
+    queue[at] = waiting;
+}
+
+// Moves the one of this place to its turn in the queue: most often it comes later than before, and moves back.
+fn move_to_turn(queue: &mut Vec<Waiting>, waiting: Waiting) -> Result<(), AllocError>
+    requires { (items : List Flow) × IsQueue items queue.old.items }
+    ensures { OnOk result ((items : List Flow) → IsQueue items queue.old.items
+        → IsMoved items waiting queue.new.items) }
+{
+    if let Some(index) = index_of(queue, waiting.place) {
+        if queue[index].turn <= waiting.turn {
+            move_back(queue, index, waiting);
+            return Ok(());
+        }
+    }
+    take_out(queue, waiting.place);
+    put_in_turn(queue, waiting)?;
+    Ok(())
+}
+
 // Moves the flow at this place of a book, which has changed, to its turn in the queue, or takes it out.
 fn put_again(queue: &mut Vec<Waiting>, flows: &[Flow], place: usize) -> Result<(), AllocError>
     requires book { (c : Config) × IsBook c flows.now }
@@ -105,12 +140,13 @@ fn put_again(queue: &mut Vec<Waiting>, flows: &[Flow], place: usize) -> Result<(
     requires queue { (before : List Flow) × AreSameBut place before flows.now × IsQueue before queue.old.items }
     ensures { OnOk result (IsQueue flows.now queue.new.items) }
 {
-    take_out(queue, place);
     let flow = &flows[place];
     if flow.waits() {
         let turn = flow.turn;
-        put_in_turn(queue, Waiting { turn, place })?;
+        move_to_turn(queue, Waiting { turn, place })?;
+        return Ok(());
     }
+    take_out(queue, place);
     Ok(())
 }
 

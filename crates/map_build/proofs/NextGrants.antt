@@ -45,7 +45,8 @@ pub amount-fits : (c : Config) (flows : List LiveFlow) (start room bytes : ℕ) 
 amount-fits c flows start room bytes None is = absurd is
 amount-fits c flows start room bytes (Some f) is = is.1.allowed.taken.fits
 
-started-option : (later sid : ℕ) (flows : List LiveFlow) (o : Option LiveFlow) → AllByRecursion (HasStartedBy later) flows →
+started-option : (later sid : ℕ) (flows : List LiveFlow) (o : Option LiveFlow)
+    → AllByRecursion (HasStartedBy later) flows →
     flow_of sid flows ≡ o → IfSome o (HasStartedBy later)
 started-option later sid flows None all is = tt
 started-option later sid flows (Some f) all is =

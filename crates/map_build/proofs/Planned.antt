@@ -14,7 +14,8 @@ use Rattle.periodic.specs.declared.placement.Spot.{Spot}
 use Rattle.map_build.specs.declared.draft.Draft.{Draft}
 use Rattle.map_build.specs.declared.frame_map.FrameMap.{FrameMap}
 use Rattle.map_build.specs.Plan.{Allocation, end_of, flow_after, flows_after, allocation_of, IsPlan}
-use Rattle.map_build.specs.FrameMap.{element_of, null_element, pending_of, pending, elements_of, bytes_of_plan, IsLawfulMap}
+use Rattle.map_build.specs.FrameMap.{element_of, null_element, pending_of, pending, elements_of, bytes_of_plan}
+use Rattle.map_build.specs.FrameMap.{IsLawfulMap}
 use Rattle.map_build.specs.FrameMap.{map_with, IsLawfulFrame}
 use Rattle.map_build.specs.Spots.{IsInFrame, AreInFrame, IsFlowSid, HaveFlowSids, AreOfChannel}
 use Rattle.map_build.specs.Draft.{Ends}

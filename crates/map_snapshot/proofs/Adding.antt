@@ -1,5 +1,6 @@
 -- The step that adds a map keeps the rule of the list.
-use Rattle.std.proofs.Common.{◌≡◌, ℕ, ◌+◌, ◌<◌, ◌==◌, Bool, true, false, List, [], ◌∷◌, ◌++◌, length, refl, ap, sym, subst, arith, inl, length-append, None}
+use Rattle.std.proofs.Common.{◌≡◌, ℕ, ◌+◌, ◌<◌, ◌==◌, Bool, true, false, List, [], ◌∷◌, ◌++◌, length, refl, ap, sym}
+use Rattle.std.proofs.Common.{subst, arith, inl, length-append, None}
 use Rattle.std.proofs.lemmas.List.{append-nil}
 use Rattle.std.proofs.lemmas.Bool.Decides.{nat_tests}
 use prog.Atomic.{either}
@@ -17,11 +18,13 @@ abbrev pub moved : Maps → Maps → Unit {0} → Type 0
 moved xs ys n = Unit {0}
 
 adds_goes : (log v : Maps) (e : List ℕ) (old : ℕ) (b : Bool) → (length log == old) ≡ b
-    → Goes CountsList shown moved 0 (v, (no_nib, None)) (λ n. either (n == old) (old + 1) n) (Added (step 0 old (old + 1) e) (v, (no_nib, None)))
+    → Goes CountsList shown moved 0 (v, (no_nib, None)) (λ n. either (n == old) (old + 1) n)
+    (Added (step 0 old (old + 1) e) (v, (no_nib, None)))
     ((length log, true) ∷ (0, true) ∷ []) log
 adds_goes log v e old true is =
     let here : length log ≡ old = grind (arith, nat_tests) in
-    let n : either (length log == old) (old + 1) (length log) ≡ length (log ++ e ∷ []) = rw is (omega (arith, length-append log (e ∷ []))) in (
+    let n : either (length log == old) (old + 1) (length log) ≡ length (log ++ e ∷ []) = rw is
+    (omega (arith, length-append log (e ∷ []))) in (
       keeps,
       e ∷ [],
       None,
@@ -44,8 +47,11 @@ adds_goes log v e old false is =
 
 -- whatever the list is, the exchange adds the map where the list is as long as expected, and else nothing
 pub adds_moves : (v : Maps) (e : List ℕ) (old new : ℕ) → new ≡ old + 1
-    → Moves CountsList shown moved 0 (v, (no_nib, None)) (λ n. either (n == old) new n) (Added (step 0 old new e) (v, (no_nib, None)))
+    → Moves CountsList shown moved 0 (v, (no_nib, None)) (λ n. either (n == old) new n)
+    (Added (step 0 old new e) (v, (no_nib, None)))
 adds_moves v e old new is cs log counts pre away =
     let After : ℕ → List Cell → Type 0 = λ m c. (0 < length c) × ((cell c 0).1 ≡ true)
-    × Goes CountsList shown moved 0 (v, (no_nib, None)) (λ n. either (n == old) m n) (Added (step 0 old m e) (v, (no_nib, None))) c log in
-    subst (λ m. After m cs) (sym is) (subst (After (old + 1)) (sym counts) (omega arith, refl, adds_goes log v e old (length log == old) refl))
+    × Goes CountsList shown moved 0 (v, (no_nib, None)) (λ n. either (n == old) m n)
+    (Added (step 0 old m e) (v, (no_nib, None))) c log in
+    subst (λ m. After m cs) (sym is) (subst (After (old + 1)) (sym counts)
+    (omega arith, refl, adds_goes log v e old (length log == old) refl))

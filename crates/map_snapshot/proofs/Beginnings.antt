@@ -1,5 +1,6 @@
 -- Beginnings of one list.
-use Rattle.std.proofs.Common.{◌≡◌, ◌+◌, ◌≤◌, List, [], ◌∷◌, ◌++◌, length, refl, ap, sym, ◌∙◌, arith, length-append, append_assoc}
+use Rattle.std.proofs.Common.{◌≡◌, ◌+◌, ◌≤◌, List, [], ◌∷◌, ◌++◌, length, refl, ap, sym, ◌∙◌, arith, length-append}
+use Rattle.std.proofs.Common.{append_assoc}
 use Rattle.std.proofs.lemmas.List.{append-nil}
 use mathlib.Core.List.{IsPrefix}
 
@@ -8,7 +9,8 @@ pub prefix_self : {A : Type 0} (xs : List A) → IsPrefix xs xs
 prefix_self xs = ([], append-nil xs)
 
 -- of two beginnings of one list the shorter begins the longer
-pub prefix_shorter : {A : Type 0} (xs ys zs : List A) → IsPrefix xs zs → IsPrefix ys zs → length xs ≤ length ys → IsPrefix xs ys
+pub prefix_shorter : {A : Type 0} (xs ys zs : List A) → IsPrefix xs zs → IsPrefix ys zs → length xs ≤ length ys
+    → IsPrefix xs ys
 prefix_shorter [] ys zs p q le = (ys, refl)
 prefix_shorter (x ∷ xs) [] zs p q le = absurd (omega arith)
 prefix_shorter (x ∷ xs) (y ∷ ys) [] p q le = absurd (cc (p.1))
@@ -29,7 +31,8 @@ prefix_same (x ∷ xs) (y ∷ ys) (z ∷ zs) p q eq =
     cc (heads, rest)
 
 -- where two beginnings of one list are longer by one, the longer is the shorter with its last member behind
-pub prefix_grown : {A : Type 0} (xs front zs : List A) (y : A) → IsPrefix xs zs → IsPrefix (front ++ y ∷ []) zs → length (front ++ y ∷ []) ≡ length xs + 1
+pub prefix_grown : {A : Type 0} (xs front zs : List A) (y : A) → IsPrefix xs zs → IsPrefix (front ++ y ∷ []) zs
+    → length (front ++ y ∷ []) ≡ length xs + 1
     → front ++ y ∷ [] ≡ xs ++ y ∷ []
 prefix_grown xs front zs y p q eq =
     let long : length (front ++ y ∷ []) ≡ length front + 1 = length-append front (y ∷ []) in

@@ -1,5 +1,6 @@
 -- What follows where a list of maps only grows.
-use Rattle.std.proofs.Common.{◌≡◌, ℕ, zero, suc, ◌+◌, ◌≤◌, List, [], ◌∷◌, ◌++◌, length, Some, slice_get, refl, ap, sym, ◌∙◌, subst, arith, length-append, append_assoc}
+use Rattle.std.proofs.Common.{◌≡◌, ℕ, zero, suc, ◌+◌, ◌≤◌, List, [], ◌∷◌, ◌++◌, length, Some, slice_get, refl, ap, sym}
+use Rattle.std.proofs.Common.{◌∙◌, subst, arith, length-append, append_assoc}
 use mathlib.Core.List.{IsPrefix}
 use Rattle.map_snapshot.specs.Maps.{map_in}
 use Rattle.map_snapshot.specs.Laws.{NeverFalls, StaysRead, StandsAtItsVersion}
@@ -8,14 +9,16 @@ prefix_length : {A : Type 0} (xs ys : List A) → IsPrefix xs ys → length xs �
 prefix_length xs ys p = omega (arith, sym (ap length p.1) ∙ length-append xs p.0)
 
 -- what stands behind so many members
-get_behind : {A : Type 0} (xs : List A) (y : A) (ys : List A) (k : ℕ) → length xs ≡ k → slice_get (xs ++ y ∷ ys) k ≡ Some y
+get_behind : {A : Type 0} (xs : List A) (y : A) (ys : List A) (k : ℕ) → length xs ≡ k
+    → slice_get (xs ++ y ∷ ys) k ≡ Some y
 get_behind [] y ys zero len = refl
 get_behind [] y ys (suc k) len = absurd (omega (arith, len))
 get_behind (x ∷ xs) y ys zero len = absurd (omega (arith, len))
 get_behind (x ∷ xs) y ys (suc k) len = get_behind xs y ys k (omega (arith, len))
 
 pub never_falls : NeverFalls
-never_falls list longer p q begins first then = omega (arith, prefix_length list longer begins, first.version, then.version)
+never_falls list longer p q begins first then = omega
+    (arith, prefix_length list longer begins, first.version, then.version)
 
 pub stays_read : StaysRead
 stays_read [] longer begins none = refl
@@ -25,6 +28,7 @@ pub stands : StandsAtItsVersion
 stands list longer p k begins first version =
     let whole : longer ≡ first.before ++ map_in p ∷ begins.0 =
     sym begins.1 ∙ (ap (λ l. l ++ begins.0) first.list_is ∙ append_assoc first.before (map_in p ∷ []) begins.0) in
-    let count : length list ≡ length first.before + 1 = ap length first.list_is ∙ length-append first.before (map_in p ∷ []) in
+    let count : length list ≡ length first.before + 1 = ap length first.list_is ∙ length-append first.before
+    (map_in p ∷ []) in
     subst (λ l. slice_get l k ≡ Some (map_in p)) (sym whole)
     (get_behind first.before (map_in p) begins.0 k (omega (arith, count, first.version, version)))

@@ -49,7 +49,8 @@ printed_of a = a.printed
 
 -- nothing was appended, or one map, which comes next in the list of this press
 abbrev pub MayWait : Book → List (List ℕ) → List Coming → Type 0
-MayWait press list waiting = (waiting ≡ []) ⊎ ((a : Coming) × (waiting ≡ a ∷ []) × (a.press ≡ press) × (a.printed.version ≡ length list + 1))
+MayWait press list waiting = (waiting ≡ []) ⊎
+    ((a : Coming) × (waiting ≡ a ∷ []) × (a.press ≡ press) × (a.printed.version ≡ length list + 1))
 
 -- what is known where nothing was published yet
 abbrev pub unread : Book → Known

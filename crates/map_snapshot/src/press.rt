@@ -38,7 +38,8 @@ impl Model for Press {
     ghost invariant = { λ p. (p.writer.desk.shown.value.listed ≡ true)
         × (name_in p.writer.desk.place ≡ Some (word_of p.writer.desk.shown.value.press))
         × ((arc_value p.counts).list ≡ word_of p.writer.desk.shown.value.press)
-        × MayWait p.writer.desk.shown.value.press p.writer.desk.shown.value.list (drop p.writer.behind p.writer.log.items) };
+        × MayWait p.writer.desk.shown.value.press p.writer.desk.shown.value.list
+        (drop p.writer.behind p.writer.log.items) };
 }
 
 // Waits until what readers take is in the list: that it then is, is proved. That it is at the first look is argued

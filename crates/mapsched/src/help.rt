@@ -24,7 +24,10 @@ Prints a line for each call, in order: `admitted` (and the places of a periodic
 flow), `removed`, `taken`, `noted`, `map` and the payload in hexadecimal,
 `skipped` and the start of the next frame, `flow` and the bytes asked, granted
 and outstanding; `refused`, a number and a value; or `history full` or `out of
-memory`, where the call was not recorded.
+memory`, where the call was not recorded. With --explain the meaning of a refusal
+stands behind it:
+  refused 12 800  # too far: the next frame starts at 800, and what is heard lies
+  before it
 
 Exit statuses: 0, or 2 for the command line, 3 for the input, 4 for the machine.
 
@@ -90,3 +93,19 @@ the machine.
 
 Example:
   ./mapsched audit < examples/two_maps_history.json"#;
+
+/// The command that tells what is wrong in a file.
+pub const CHECK: &str =
+    r#"Reads from standard input a script, the script of a storm or a history: by its
+member `calls`, `scripts` or `entries`.
+
+Prints one line, `good script`, `good script of a storm` or `good history`, or
+the fault by which `run`, `storm` or `audit` would end; then where the fault is
+and what is expected there, or what the file has; and the keys that nobody reads.
+Whether calls are refused, `run --explain` tells, and whether a history is legal,
+`audit`.
+
+Exit statuses: 0 good, 2 for the command line, 3 for the input, 4 for the machine.
+
+Example:
+  ./mapsched check < examples/two_maps.json"#;

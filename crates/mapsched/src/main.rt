@@ -1,14 +1,18 @@
-//! `mapsched`: the upstream scheduler of one TDMA channel, run on a script, the table of a MAP, and the audit of a
-//! history.
+//! `mapsched`: the upstream scheduler of one TDMA channel, run on a script, the picture of its frames, the table of a
+//! MAP, and the audit of a history.
 #![tactic(auto)]
 
+mod draw;
 mod help;
 
 use clap::builder::ValueParser;
 use clap::error::ErrorKind;
 use clap::{Arg, ArgAction, ArgMatches, Command, Error};
-use sched_commands::{RunFault, decode_text, run_audit, run_script, run_storm};
+use draw::{draw_command, draw_input};
+use sched_check::run_check;
+use sched_commands::{RunFault, decode_text, run_audit, run_explained, run_script, run_storm};
 use sched_storm::Open;
+use sched_text::Watched;
 use std::alloc::{AllocError, Global};
 use std::process::ExitCode;
 use std::rt::Env;
@@ -16,68 +20,89 @@ use std::sync::Wait;
 use std::thread::Threads;
 use std::{env, io};
 
+// A command, and what its help says before and behind its words.
+fn command<'a>(alloc: Global, name: &'a str, about: &'a str, after: &'a str) -> Command<'a> {
+    Command::new(alloc, name).about(about).after_help(after)
+}
+
+// An option that is given or not.
+fn flag<'a>(alloc: Global, name: &'a str, help: &'a str) -> Arg<'a> {
+    let option = Arg::new(alloc, name).long(name);
+    option.action(ArgAction::SetTrue).help(help)
+}
+
 // The command that runs a script.
 fn run_command<'a>(alloc: Global) -> Result<Command<'a>, AllocError> {
-    let history = Arg::new(alloc, "history")
-        .long("history")
-        .action(ArgAction::SetTrue)
-        .help("Prints the history of the calls in JSON");
-    Command::new(alloc, "run")
-        .about("Reads a script from standard input and prints one line for each call")
-        .after_help(help::RUN)
-        .arg(history)
+    let about = "Reads a script from standard input and prints one line for each call";
+    let history = flag(alloc, "history", "Prints the history of the calls in JSON");
+    let explain = flag(alloc, "explain", "Tells behind each refusal what it means");
+    let explain = explain.conflicts_with("history")?;
+    command(alloc, "run", about, help::RUN)
+        .arg(history)?
+        .arg(explain)
+}
+
+// The payload of the command `decode`.
+fn payload_word<'a>(alloc: Global) -> Arg<'a> {
+    Arg::new(alloc, "HEX")
+        .required(true)
+        .help("The payload of a MAP in hexadecimal")
+}
+
+// The columns of a drawing.
+fn columns_option<'a>(alloc: Global) -> Result<Arg<'a>, AllocError> {
+    let columns = Arg::new(alloc, "columns").long("columns").value_name("N");
+    columns
+        .value_parser(ValueParser::unsigned(16, 1000))
+        .help("Columns of the drawing, or else those of COLUMNS, or 80")
+        .requires_arg("draw")
 }
 
 // The command that shows a payload.
 fn decode_command<'a>(alloc: Global) -> Result<Command<'a>, AllocError> {
-    let payload = Arg::new(alloc, "HEX")
-        .required(true)
-        .help("The payload of a MAP in hexadecimal");
-    let draw = Arg::new(alloc, "draw")
-        .long("draw")
-        .action(ArgAction::SetTrue)
-        .help("Draws the frame too, a character for each minislot");
-    let columns = Arg::new(alloc, "columns")
-        .long("columns")
-        .value_name("N")
-        .value_parser(ValueParser::unsigned(16, 1000))
-        .requires_arg("draw")?
-        .help("Columns of the drawing, or else those of COLUMNS, or 80");
-    Command::new(alloc, "decode")
-        .about("Shows the payload of a MAP as a table")
-        .after_help(help::DECODE)
-        .arg(payload)?
+    let about = "Shows the payload of a MAP as a table";
+    let draw = flag(
+        alloc,
+        "draw",
+        "Draws the frame too, a character for each minislot",
+    );
+    command(alloc, "decode", about, help::DECODE)
+        .arg(payload_word(alloc))?
         .arg(draw)?
-        .arg(columns)
+        .arg(columns_option(alloc)?)
 }
 
 // The command that judges a history.
 fn audit_command<'a>(alloc: Global) -> Command<'a> {
-    Command::new(alloc, "audit")
-        .about("Reads a history from standard input and prints whether it is legal")
-        .after_help(help::AUDIT)
+    let about = "Reads a history from standard input and prints whether it is legal";
+    command(alloc, "audit", about, help::AUDIT)
+}
+
+// The command that tells what is wrong in a file.
+fn check_command<'a>(alloc: Global) -> Command<'a> {
+    let about = "Reads a file from standard input and tells what is wrong in it, or what it has";
+    command(alloc, "check", about, help::CHECK)
 }
 
 // The command that runs scripts at the same time.
 fn storm_command<'a>(alloc: Global) -> Command<'a> {
-    Command::new(alloc, "storm")
-        .about(
-            "Reads scripts from standard input, runs them in threads and prints what each recorded",
-        )
-        .after_help(help::STORM)
+    let about =
+        "Reads scripts from standard input, runs them in threads and prints what each recorded";
+    command(alloc, "storm", about, help::STORM)
 }
 
 // The commands of the program.
 fn commands<'a>(alloc: Global) -> Result<Command<'a>, AllocError> {
-    Command::new(alloc, "mapsched")
-        .about("The upstream scheduler of one TDMA channel")
+    let about = "The upstream scheduler of one TDMA channel";
+    command(alloc, "mapsched", about, help::STATUSES)
         .version(help::VERSION)
-        .after_help(help::STATUSES)
         .subcommand_required(true)
         .subcommand(run_command(alloc)?)?
         .subcommand(decode_command(alloc)?)?
+        .subcommand(draw_command(alloc))?
         .subcommand(audit_command(alloc))?
-        .subcommand(storm_command(alloc))
+        .subcommand(storm_command(alloc))?
+        .subcommand(check_command(alloc))
 }
 
 // The words of the command line.
@@ -109,9 +134,19 @@ fn explain(rt: &(impl Print + Eprint), error: Error) -> ExitCode {
 fn run_input(rt: &(impl Input + Print + AllocGlobal), as_history: bool) -> Result<bool, RunFault> {
     run_script(
         rt.alloc(),
-        &mut rt.reader(),
-        &mut io::writer(rt),
+        &mut Watched::new(rt.reader()),
+        &mut Watched::new(io::writer(rt)),
         as_history,
+    )?;
+    Ok(true)
+}
+
+// The command `run --explain`.
+fn explain_input(rt: &(impl Input + Print + AllocGlobal)) -> Result<bool, RunFault> {
+    run_explained(
+        rt.alloc(),
+        &mut Watched::new(rt.reader()),
+        &mut Watched::new(io::writer(rt)),
     )?;
     Ok(true)
 }
@@ -138,19 +173,43 @@ fn columns_of(rt: &impl Env, decode: &ArgMatches) -> Option<u16> {
 fn show_text(rt: &(impl Print + Env + AllocGlobal), decode: &ArgMatches) -> Result<bool, RunFault> {
     let text = decode.get_str("HEX").unwrap_or("");
     let columns = columns_of(rt, decode);
-    decode_text(rt.alloc(), text, columns, &mut io::writer(rt))
+    decode_text(rt.alloc(), text, columns, &mut Watched::new(io::writer(rt)))
 }
 
 // The command `audit`: whether the history is legal.
 fn audit_input(rt: &(impl Input + Print + AllocGlobal)) -> Result<bool, RunFault> {
-    run_audit(rt.alloc(), &mut rt.reader(), &mut io::writer(rt))
+    run_audit(
+        rt.alloc(),
+        &mut Watched::new(rt.reader()),
+        &mut Watched::new(io::writer(rt)),
+    )
+}
+
+// The command `check`: ends as the command for such a file would, by what is found.
+fn check_input(rt: &(impl Input + Print + Eprint + AllocGlobal)) -> ExitCode {
+    let checked = run_check(
+        rt.alloc(),
+        &mut Watched::new(rt.reader()),
+        &mut Watched::new(io::writer(rt)),
+    );
+    match checked {
+        Ok(None) => ExitCode::SUCCESS,
+        Ok(Some(fault)) => ExitCode::from(fault.status()),
+        Err(fault) => fail(rt, fault),
+    }
 }
 
 // The command `storm`: whether no worker was held, and the history is legal.
 fn storm_input<R: Input + Print + AllocGlobal + Threads + Wait + Sync>(
     rt: &R,
 ) -> Result<bool, RunFault> {
-    run_storm(rt, rt.alloc(), &mut rt.reader(), &mut io::writer(rt), &Open)
+    run_storm(
+        rt,
+        rt.alloc(),
+        &mut Watched::new(rt.reader()),
+        &mut Watched::new(io::writer(rt)),
+        &Open,
+    )
 }
 
 fn main(rt: HostRuntime) -> ExitCode {
@@ -163,8 +222,11 @@ fn main(rt: HostRuntime) -> ExitCode {
     };
     let outcome = match matches.subcommand() {
         Some(("decode", decode)) => show_text(&rt, decode),
+        Some(("draw", _)) => draw_input(&rt),
         Some(("audit", _)) => audit_input(&rt),
+        Some(("check", _)) => return check_input(&rt),
         Some(("storm", _)) => storm_input(&rt),
+        Some((_, run)) if run.get_flag("explain") => explain_input(&rt),
         Some((_, run)) => run_input(&rt, run.get_flag("history")),
         None => run_input(&rt, false),
     };

@@ -1,17 +1,20 @@
 -- Starts that are handed in, gone through with the nominal frames of the cycle.
-use Rattle.std.proofs.Common.{◌≡◌, refl, sym, ap, ℕ, zero, suc, ◌+◌, ◌-◌, ◌*◌, ◌<◌, ◌≤◌, Bool, true, false, List, []}
+use Rattle.std.proofs.Common.{◌≡◌, refl, sym, ap, ℕ, suc, ◌+◌, ◌-◌, ◌*◌, ◌<◌, ◌≤◌, Bool, true, false, List, []}
 use Rattle.std.proofs.Common.{◌∷◌, filter, drop, get_or, length, subst, arith}
 use Rattle.std.proofs.lemmas.Bool.{cond-true, cond-false}
 use Rattle.std.proofs.lemmas.List.{drop_more, drop_all}
 use Rattle.minislots.specs.declared.config.Config.{Config}
+use Rattle.minislots.specs.Config.{IsLawful}
 use Rattle.flow_book.specs.declared.spec.FlowSpec.{FlowSpec}
-use Rattle.flow_book.specs.FlowSpec.{interval_frames, jitter_slots, periodic_slots}
+use Rattle.flow_book.specs.FlowSpec.{interval_frames}
+use Rattle.periodic.specs.declared.bits.Bits.{Bits}
 use Rattle.periodic.specs.declared.placement.Placement.{Placement}
-use Rattle.periodic.specs.declared.adopt.Nominal.{Nominal}
-use Rattle.periodic.specs.Placement.{count_from, Placed, spots_in, phase_of, offset_of, EachPlace, HasLawfulStarts}
-use Rattle.periodic.specs.Placement.{IsPlacement}
-use Rattle.periodic.specs.Adoption.{AreStartsAt, AreNominalOf}
-use Rattle.periodic.proofs.Choosing.{same-starts}
+use Rattle.periodic.specs.declared.search.Wanted.{Wanted}
+use Rattle.periodic.specs.Placement.{count_from, Placed, phase_of, offset_of, EachPlace, IsPlacement}
+use Rattle.periodic.specs.Rows.{AreRowsOf}
+use Rattle.periodic.specs.Search.{IsWantedOf, AreStarts}
+use Rattle.periodic.specs.Table.{AreSound}
+use Rattle.periodic.proofs.Choosing.{starts-of-lawful, lawful-of-starts}
 
 -- the frames from this place on, of so many, that pass
 abbrev pub passing_from : (ℕ → Bool) → ℕ → ℕ → List ℕ
@@ -91,45 +94,29 @@ pub gone-long : (P : ℕ → ℕ → Type 0) (p : ℕ → Bool) (all count : ℕ
 gone-long P p all count starts some gone each =
     rw (no-frames p all, drop_more starts count 0 some) at (gone.needs each)
 
-module _ (c : Config) (table : List Placed) (spec : FlowSpec) (p : Placement) (n : Nominal)
-    (are : AreNominalOf c spec p n) where
-  phase-is : n.phase ≡ phase_of c spec p
-  phase-is = rw (are.phase, are.interval) refl
+module _ (c : Config) (table : List Placed) (rows : List Bits) (spec : FlowSpec) (p : Placement) (next : ℕ) (w : Wanted)
+    (lawful : IsLawful c) (sound : AreSound c table) (are : AreRowsOf c table rows) (some : 0 < w.slots)
+    (wanted : IsWantedOf c spec w) (phase offset : ℕ) (at : phase_of c spec p ≡ phase) (from : offset_of c p ≡ offset)
+  where
+    -- a placement that keeps to its window, with starts that are lawful in the rows, is lawful
+    pub placement-judged : next ≤ p.reference → p.reference - next < w.interval * c.frame → c.req_slots ≤ offset
+        → AreStarts c rows w phase offset p.starts → IsPlacement c table spec next p
+    placement-judged late within after each =
+        let frames : w.interval * c.frame ≡ interval_frames c spec * c.frame = ap (λ m. m * c.frame) wanted.interval in
+        record {
+          not_before = late;
+          first = omega arith;
+          after_requests = subst (λ m. c.req_slots ≤ m) (sym from) after;
+          starts = lawful-of-starts c table rows spec next w lawful sound are some wanted p phase offset at from each;
+        }
 
-  -- starts at the nominal times are those of the placement
-  pub starts-judged : AreStartsAt c table n p.starts → HasLawfulStarts c spec p (λ place. spots_in c place table)
-  starts-judged each =
-      same-starts c table p.starts n.jitter (jitter_slots c spec) n.slots (periodic_slots c spec)
-      n.interval (interval_frames c spec) n.phase (phase_of c spec p) n.offset (offset_of c p)
-      are.jitter are.slots are.interval phase-is are.offset each
-
-  -- and the other way round
-  pub judged-starts : HasLawfulStarts c spec p (λ place. spots_in c place table) → AreStartsAt c table n p.starts
-  judged-starts each =
-      same-starts c table p.starts (jitter_slots c spec) n.jitter (periodic_slots c spec) n.slots
-      (interval_frames c spec) n.interval (phase_of c spec p) n.phase (offset_of c p) n.offset
-      (sym are.jitter) (sym are.slots) (sym are.interval) (sym phase-is) (sym are.offset) each
-
-  -- a placement that keeps to its window, with such starts, is lawful
-  pub placement-judged : (next : ℕ) → next ≤ p.reference → p.reference - next < n.interval * c.frame
-      → c.req_slots ≤ n.offset → AreStartsAt c table n p.starts → IsPlacement c table spec next p
-  placement-judged next from within after each =
-      let frames : n.interval * c.frame ≡ interval_frames c spec * c.frame = ap (λ m. m * c.frame) are.interval in
-      record {
-        not_before = from;
-        first = omega arith;
-        after_requests = subst (λ m. c.req_slots ≤ m) are.offset after;
-        starts = starts-judged each;
-      }
-
-  -- and a lawful one does
-  pub judged-placement : (next : ℕ) → IsPlacement c table spec next p → (next ≤ p.reference)
-      × (p.reference - next < n.interval * c.frame) × (c.req_slots ≤ n.offset) × AreStartsAt c table n p.starts
-  judged-placement next is =
-      let frames : n.interval * c.frame ≡ interval_frames c spec * c.frame = ap (λ m. m * c.frame) are.interval in
-      let some : 0 < interval_frames c spec * c.frame = omega (arith, is.not_before, is.first) in (
-        is.not_before,
-        omega (arith, is.not_before, is.first),
-        subst (λ m. c.req_slots ≤ m) (sym are.offset) is.after_requests,
-        judged-starts is.starts,
-      )
+    -- and a lawful one does
+    pub judged-placement : IsPlacement c table spec next p → (next ≤ p.reference)
+        × (p.reference - next < w.interval * c.frame) × (c.req_slots ≤ offset) × AreStarts c rows w phase offset p.starts
+    judged-placement is =
+        let frames : w.interval * c.frame ≡ interval_frames c spec * c.frame = ap (λ m. m * c.frame) wanted.interval in (
+          is.not_before,
+          omega (arith, is.not_before, is.first),
+          subst (λ m. c.req_slots ≤ m) from is.after_requests,
+          starts-of-lawful c table rows spec next w lawful sound are some wanted p phase offset at from is,
+        )

@@ -11,7 +11,7 @@ use Rattle.periodic.specs.declared.placement.Placement.{Placement}
 use Rattle.periodic.specs.declared.search.Wanted.{Wanted}
 use Rattle.periodic.specs.declared.search.Found.{Found}
 use Rattle.periodic.specs.Placement.{Placed, phase_of, offset_of, nominal_places, spots_in, IsLawfulStart, EachPlace}
-use Rattle.periodic.specs.Placement.{IsPlacement, NoPlacement}
+use Rattle.periodic.specs.Placement.{HasLawfulStarts, IsPlacement, NoPlacement}
 use Rattle.periodic.specs.Choice.{IsChosen}
 use Rattle.periodic.specs.Table.{AreSound}
 use Rattle.periodic.specs.Rows.{row_at, AreRowsOf}
@@ -91,6 +91,15 @@ module _ (c : Config) (table : List Placed) (rows : List Bits) (spec : FlowSpec)
       (interval_frames c spec) w.interval
       (phase_of c spec p) phase (offset_of c p) offset
       (sym wanted.jitter) (sym wanted.slots) (sym wanted.interval) at from is.starts)
+
+  -- and the other way round
+  pub lawful-of-starts : (p : Placement) (phase offset : ℕ) → phase_of c spec p ≡ phase → offset_of c p ≡ offset
+      → AreStarts c rows w phase offset p.starts → HasLawfulStarts c spec p (λ place. spots_in c place table)
+  lawful-of-starts p phase offset at from each =
+      same-starts c table p.starts w.jitter (jitter_slots c spec) w.slots (periodic_slots c spec)
+      w.interval (interval_frames c spec) phase (phase_of c spec p) offset (offset_of c p)
+      wanted.jitter wanted.slots wanted.interval (sym at) (sym from)
+      (starts-lawful c table rows lawful sound are w some p.starts phase offset each)
 
   -- where no phase has lawful starts no placement is lawful
   pub none-lawful : 0 < w.interval → 0 < c.frame

@@ -1,18 +1,35 @@
 -- The fields of placed flows, one after another.
-use Rattle.std.proofs.Common.{◌≡◌, ◌∙◌, ap, sym, ℕ, ◌+◌, ◌<◌, List, [], ◌∷◌, ◌++◌, length, set, take, map, Some, None}
-use Rattle.std.specs.List.{cons_option}
+use Rattle.std.proofs.Common.{◌≡◌, ◌∙◌, ap, sym, ℕ, ◌+◌, ◌<◌, List, [], ◌∷◌, ◌++◌, length, get_or, set, take, map}
+use Rattle.std.proofs.Common.{Some, None}
+use Rattle.std.specs.List.{AllByRecursion, cons_option}
 use Rattle.std.proofs.lemmas.List.{take_more_set, append-nil, length-map}
-use Rattle.std.proofs.lemmas.List.Elements.{filter_map-append}
+use Rattle.std.proofs.lemmas.List.Elements.{All-from_recursion, filter_map-append}
 use Rattle.minislots.specs.declared.config.Config.{Config}
+use Rattle.flow_book.proofs.Steps.{all-item}
+use Rattle.periodic.specs.declared.bits.Bits.{Bits}
 use Rattle.periodic.specs.declared.placement.Spot.{Spot}
 use Rattle.periodic.specs.declared.spots.PlacedFlow.{PlacedFlow}
 use Rattle.periodic.specs.Placement.{Placed, spot_in, spots_in}
-use Rattle.periodic.specs.Table.{AreSound}
-use Rattle.periodic.specs.Fields.{placed_of, AreSoundFlows}
+use Rattle.periodic.specs.Table.{IsSoundPlaced}
+use Rattle.periodic.specs.Fields.{placed_of, KeepsTimes, IsSoundFlow, AreSoundFlows, AreSoundFields}
 
 -- the flows of a sound table are sound
-pub sound-flows : (c : Config) (flows : List PlacedFlow) → AreSound c (map placed_of flows) → AreSoundFlows c flows
-sound-flows c flows are = record { each = are.each; most = rw length-map at are.most }
+pub sound-flows : (c : Config) (flows : List PlacedFlow) (rows : List Bits) → AreSoundFields c flows rows
+    → AreSoundFlows c flows
+sound-flows c flows rows are = record {
+  each = are.sound.each;
+  times = are.times;
+  most = rw length-map at are.sound.most;
+}
+
+-- one of them is
+pub sound-flow : (c : Config) (flows : List PlacedFlow) (i : ℕ) (f : PlacedFlow) → i < length flows
+    → f ≡ get_or flows i f → AllByRecursion (IsSoundPlaced c) (map placed_of flows)
+    → AllByRecursion (KeepsTimes c) flows → IsSoundFlow c f
+sound-flow c flows i f within is each times = record {
+  sound = all-item placed_of flows i f within is (IsSoundPlaced c) each;
+  times = rw is (All-from_recursion (KeepsTimes c) flows times i f within);
+}
 
 -- one more spot is written
 pub spots-more : (c : Config) (place : ℕ) (placed : List Placed) (f : Placed) (spots : List Spot) (count : ℕ) (s : Spot)

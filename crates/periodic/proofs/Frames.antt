@@ -81,6 +81,13 @@ spots_at c placed place = filter_map
     f.placement.starts))
     placed
 
+-- in a frame a flow has the spot of the frame's place in the cycle
+pub spot_in-place : (c : Config) (k : ℕ) (f : Placed) → spot_in c (k % c.cycle) f ≡ spot_in c k f
+spot_in-place c k f =
+    ap (λ n. option_map (spot_at c f)
+    (start_at n (nominal_places c (interval_frames c f.spec) (phase_of c f.spec f.placement)) f.placement.starts))
+    (mod-mod k c.cycle)
+
 -- a frame has the spots of its place in the cycle
 pub spots_in-place : (c : Config) (k : ℕ) (placed : List Placed) → spots_in c (k % c.cycle) placed ≡ spots_in c k placed
 spots_in-place c k placed = ap (spots_at c placed) (mod-mod k c.cycle)
@@ -170,13 +177,12 @@ pub record IsFrameOf (c : Config) (k : ℕ) (placed : List Placed) (spots : List
   pub in_turn : FollowInTurn spots
   pub within : AllByRecursion (IsWithinFrame c) spots
 
--- what the frame's place in the cycle has, sorted, is the frame
+-- what the flows take of it, sorted, is the frame
 pub frame-sorted : (c : Config) (k : ℕ) (placed : List Placed) (xs ys : List Spot) → IsLawful c → AreSound c placed
-    → xs ≡ spots_in c (k % c.cycle) placed → IsPermutation xs ys → IsNonDecreasingBy (λ s. s.offset) ys
+    → xs ≡ spots_in c k placed → IsPermutation xs ys → IsNonDecreasingBy (λ s. s.offset) ys
     → IsFrameOf c k placed ys
 frame-sorted c k placed xs ys lawful sound is moved up =
-    let same : xs ≡ spots_in c k placed = is ∙ spots_in-place c k placed in
-    let moved' : IsPermutation (spots_in c k placed) ys = rw (← same) moved in
+    let moved' : IsPermutation (spots_in c k placed) ys = rw (← is) moved in
     let within = within-permuted c (spots_in c k placed) ys moved' (spots-within c k placed lawful sound.each) in
     record {
       permuted = moved';

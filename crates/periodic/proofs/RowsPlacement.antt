@@ -125,7 +125,13 @@ a_poll_starts_late_by_its_jitter = record {
   starts = (behind, (alone, (behind, (alone, tt))));
 } where
   behind : IsLawfulStart base 4 2 15 (voice_at 5 4 ∷ []) 19
-  behind = record { after_nominal = lit≤ tt; within_jitter = lit≤ tt; within_frame = lit≤ tt; free = (inr (lit≤ tt), tt) }
+  behind = record {
+    after_nominal = lit≤ tt;
+    within_jitter = lit≤ tt;
+    within_frame = lit≤ tt;
+    free =
+        (inr (lit≤ tt), tt);
+  }
 
   alone : IsLawfulStart base 4 2 15 [] 15
   alone = record { after_nominal = lit≤ tt; within_jitter = lit≤ tt; within_frame = lit≤ tt; free = tt }

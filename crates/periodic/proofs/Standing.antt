@@ -1,7 +1,8 @@
 -- Where a flow stands in the fields of a table.
 use Rattle.std.proofs.Common.{◌≡◌, sym, ap, ◌∙◌, subst, ℕ, ◌≤◌, Bool, true, false, cond, not, ◌==◌, nat_lt}
-use Rattle.std.proofs.Common.{List, map, length, get_or, slice_get, find, position, Option, Some, None, option_map, unwrap_or, arith}
-use Rattle.std.specs.List.{insert, position_or_len}
+use Rattle.std.proofs.Common.{List, map, length, get_or, slice_get, find, position, Option, Some, None, option_map}
+use Rattle.std.proofs.Common.{unwrap_or, arith}
+use Rattle.std.specs.List.{AllByRecursion, insert, position_or_len}
 use Rattle.std.proofs.lemmas.List.Edits.{get_or-insert_at}
 use Rattle.std.proofs.lemmas.List.Folds.{find_at}
 use Rattle.std.proofs.lemmas.List.Quantifiers.{position-Some}
@@ -9,6 +10,7 @@ use Rattle.std.proofs.lemmas.List.Sums.{prefix_len-le-length}
 use Rattle.std.proofs.lemmas.Option.{slice_get-get_or}
 use Rattle.flow_book.proofs.Insertion.{insert-put_in}
 use Rattle.flow_book.proofs.Places.{find-map, position-map, found-place, place-or_len}
+use Rattle.flow_book.proofs.Sums.{all-insert}
 use Rattle.minislots.specs.declared.config.Config.{Config}
 use Rattle.flow_book.specs.declared.spec.FlowSpec.{FlowSpec}
 use Rattle.periodic.specs.declared.bits.Bits.{Bits}
@@ -16,7 +18,7 @@ use Rattle.periodic.specs.declared.spots.PlacedFlow.{PlacedFlow}
 use Rattle.periodic.specs.Placement.{Placed, spot_in}
 use Rattle.periodic.specs.Table.{IsPlaced, placed_at, with_placed, without, AreSound}
 use Rattle.periodic.specs.Rows.{row_at, IsMarked}
-use Rattle.periodic.specs.Fields.{placed_of, placement_at, AreSoundFields}
+use Rattle.periodic.specs.Fields.{placed_of, placement_at, KeepsTimes, AreSoundFields}
 use Rattle.periodic.proofs.Occupied.{tells-with, tells-without}
 use Rattle.periodic.proofs.Removing.{sound-filter}
 
@@ -28,28 +30,37 @@ above-place sid items given above len place same found long is =
     is ∙ rw (found, same, long) (place-or_len (λ (f : PlacedFlow). nat_lt sid f.sid) items)
 
 module _ (items new : List PlacedFlow) (place sid : ℕ) (spec : FlowSpec) (reference : ℕ) (starts kept : List ℕ)
-    (same : kept ≡ starts) (at : place ≡ position_or_len (λ f. nat_lt sid f.sid) items) where
-  -- the fields of the flow that is added
-  abbrev fields : PlacedFlow
-  fields = record { sid = sid; spec = spec; placement = record { reference = reference; starts = kept } }
-
-  fields-are : placed_of fields ≡ placed_at sid spec (placement_at reference starts)
-  fields-are = ap (λ ss. placed_at sid spec (placement_at reference ss)) same
+    (same : kept ≡ starts) (at : place ≡ position_or_len (λ f. nat_lt sid f.sid) items) (g : PlacedFlow)
+    (made : placed_of g ≡ placed_at sid spec (placement_at reference kept)) where
+  made-as : placed_of g ≡ placed_at sid spec (placement_at reference starts)
+  made-as = made ∙ ap (λ ss. placed_at sid spec (placement_at reference ss)) same
 
   -- a flow that is inserted before the first of a higher SID is put in, in order
-  pub put-in : new ≡ insert items place fields
+  pub put-in : new ≡ insert items place g
       → map placed_of new ≡ with_placed (placed_at sid spec (placement_at reference starts)) (map placed_of items)
   put-in is =
-      rw (is, at) (insert-put_in placed_of (λ f. f.sid) fields items)
-      ∙ ap (λ f. with_placed f (map placed_of items)) fields-are
+      let before : place ≡ position_or_len (λ f. nat_lt g.sid f.sid) items =
+      at ∙ ap (λ n. position_or_len (λ (f : PlacedFlow). nat_lt n f.sid) items)
+      (sym (ap (λ (f : Placed). f.sid) made)) in
+      rw (is, before) (insert-put_in placed_of (λ f. f.sid) g items)
+      ∙ ap (λ f. with_placed f (map placed_of items)) made-as
 
   -- and stands there
-  pub flow-at : (f : PlacedFlow) → new ≡ insert items place fields → f ≡ get_or new place f
-      → placed_of f ≡ placed_at sid spec (placement_at reference starts)
+  pub flow-at : (f : PlacedFlow) → new ≡ insert items place g → f ≡ get_or new place f → f ≡ g
   flow-at f is here =
       let within : place ≤ length items =
-      omega (arith, at, prefix_len-le-length (λ (g : PlacedFlow). not (nat_lt sid g.sid)) items) in
-      ap placed_of (here ∙ ap (λ fs. get_or fs place f) is ∙ get_or-insert_at items place fields f within) ∙ fields-are
+      omega (arith, at, prefix_len-le-length (λ (h : PlacedFlow). not (nat_lt sid h.sid)) items) in
+      here ∙ ap (λ fs. get_or fs place f) is ∙ get_or-insert_at items place g f within
+
+  -- as it was made
+  pub placed-at : (f : PlacedFlow) → new ≡ insert items place g → f ≡ get_or new place f
+      → placed_of f ≡ placed_at sid spec (placement_at reference starts)
+  placed-at f is here = ap placed_of (flow-at f is here) ∙ made-as
+
+  -- all keep what follows from their placements
+  pub times-with : (c : Config) → new ≡ insert items place g → AllByRecursion (KeepsTimes c) items → KeepsTimes c g
+      → AllByRecursion (KeepsTimes c) new
+  times-with c is times more = rw is (all-insert (KeepsTimes c) items place g times more)
 
 some-place : (b : Bool) (m i : ℕ) → cond b (Some m) None ≡ Some i → m ≡ i
 some-place true m i h = cc
@@ -88,9 +99,11 @@ module _ (c : Config) (items new : List PlacedFlow) (rows marked : List Bits) (f
   -- with one flow more, whose minislots are marked as taken, the fields are sound
   pub fields-with : map placed_of new ≡ with_placed f (map placed_of items)
       → AreSound c (with_placed f (map placed_of items))
+      → AllByRecursion (KeepsTimes c) new
       → ((k : ℕ) → IsMarked (spot_in c k f) 1 (row_at c rows k) (row_at c marked k)) → AreSoundFields c new marked
-  fields-with is sound marks = record {
+  fields-with is sound times marks = record {
     sound = rw is sound;
+    times = times;
     told = record {
       long = long;
       each = λ k. rw is (tells-with c k f (map placed_of items) (row_at c rows k) (row_at c marked k) (are.told.each k)
@@ -101,9 +114,11 @@ module _ (c : Config) (items new : List PlacedFlow) (rows marked : List Bits) (f
   -- without one flow, whose minislots are marked as free, too
   pub fields-without : (sid : ℕ) → map placed_of new ≡ without sid (map placed_of items)
       → find (λ g. g.sid == sid) (map placed_of items) ≡ Some f
+      → AllByRecursion (KeepsTimes c) new
       → ((k : ℕ) → IsMarked (spot_in c k f) 0 (row_at c rows k) (row_at c marked k)) → AreSoundFields c new marked
-  fields-without sid is found marks = record {
+  fields-without sid is found times marks = record {
     sound = rw is (sound-filter c (λ g. not (g.sid == sid)) (map placed_of items) are.sound);
+    times = times;
     told = record {
       long = long;
       each = λ k. rw is (tells-without c k sid f (map placed_of items) (row_at c rows k) (row_at c marked k) found

@@ -1,12 +1,14 @@
 -- What the fields of a placed flow stand for.
-use Rattle.std.specs.Prelude.{ℕ, ◌≤◌, List, map, length}
+use Rattle.std.specs.Prelude.{◌≡◌, ℕ, ◌≤◌, List, map, length}
 use Rattle.std.specs.List.{AllByRecursion}
 use Rattle.minislots.specs.declared.config.Config.{Config}
+use Rattle.minislots.specs.Config.{IsLawful}
+use Rattle.flow_book.specs.FlowSpec.{interval_frames, periodic_slots}
 use Rattle.periodic.specs.declared.TheConstants.{MAX_PERIODIC_FLOWS}
 use Rattle.periodic.specs.declared.placement.Placement.{Placement}
 use Rattle.periodic.specs.declared.bits.Bits.{Bits}
 use Rattle.periodic.specs.declared.spots.PlacedFlow.{PlacedFlow}
-use Rattle.periodic.specs.Placement.{Placed}
+use Rattle.periodic.specs.Placement.{Placed, phase_of}
 use Rattle.periodic.specs.Table.{IsSoundPlaced, AreSound}
 use Rattle.periodic.specs.Rows.{AreRowsOf}
 
@@ -22,12 +24,26 @@ placed_of f = record { sid = f.sid; spec = f.spec; placement = f.placement }
 abbrev pub placed_in : List PlacedFlow → List Placed
 placed_in flows = map placed_of flows
 
+-- What a placed flow keeps beside its placement follows from both, on a lawful channel
+pub record KeepsTimes (c : Config) (f : PlacedFlow) : Type 0 where
+  pub lawful : IsLawful c
+  pub interval : f.interval ≡ interval_frames c f.spec
+  pub phase : f.phase ≡ phase_of c f.spec f.placement
+  pub slots : f.slots ≡ periodic_slots c f.spec
+
+-- A flow that is soundly placed, and what is kept beside its placement
+pub record IsSoundFlow (c : Config) (f : PlacedFlow) : Type 0 where
+  pub sound : IsSoundPlaced c (placed_of f)
+  pub times : KeepsTimes c f
+
 -- Flows soundly placed, as many as a table may have
 pub record AreSoundFlows (c : Config) (flows : List PlacedFlow) : Type 0 where
   pub each : AllByRecursion (IsSoundPlaced c) (placed_in flows)
+  pub times : AllByRecursion (KeepsTimes c) flows
   pub most : length flows ≤ MAX_PERIODIC_FLOWS
 
 -- What is true of the fields of every table
 pub record AreSoundFields (c : Config) (flows : List PlacedFlow) (rows : List Bits) : Type 0 where
   pub sound : AreSound c (placed_in flows)
+  pub times : AllByRecursion (KeepsTimes c) flows
   pub told : AreRowsOf c (placed_in flows) rows

@@ -9,4 +9,3 @@ pub mod Bits
 pub mod Rows
 pub mod Fields
 pub mod Search
-pub mod Adoption

@@ -76,7 +76,7 @@ impl Bits {
         ensures inside { (m : ℕ) → m < 1024 → start ≤ m → m < end → bit_of self.new.words m ≡ bit_for taken }
         ensures outside { (m : ℕ) → (m < start) ⊎ (end ≤ m) → bit_of self.new.words m ≡ bit_of self.old.words m }
     {
-        for place in 0..WORDS {
+        for place in start / 64..(end / 64 + 1).min(WORDS) {
             let bits = bits_between(place, start, end);
             self.words[place as usize] = written(self.words[place as usize], bits, taken);
         }

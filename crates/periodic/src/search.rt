@@ -20,9 +20,9 @@ use minislots::Checked;
 // What is looked for: the frames of an interval, and the minislots of the jitter and of a grant or poll.
 #[derive(Clone, Copy)]
 pub(crate) struct Wanted {
-    interval: u64,
-    jitter: u64,
-    slots: u64,
+    pub(crate) interval: u64,
+    pub(crate) jitter: u64,
+    pub(crate) slots: u64,
 }
 
 // One start for each of the first nominal frames of the cycle.

@@ -2,14 +2,15 @@
 
 ghost use Rattle.std.specs.Prelude.{◌≡◌, ℕ, ◌<◌, ◌≤◌, ◌+◌, ◌%◌, take, drop, length, true, None};
 ghost use Rattle.std.specs.List.Sorted.{IsPermutation, IsNonDecreasingBy};
+ghost use Rattle.minislots.specs.declared.config.Config.{Config};
 ghost use Rattle.minislots.specs.Config.{IsLawful};
 ghost use Rattle.flow_book.specs.FlowSpec.{is_periodic, is_polled, interval_frames, jitter_slots, periodic_slots};
 ghost use Rattle.flow_book.specs.FlowSpec.{first_fault};
-ghost use Rattle.periodic.specs.Placement.{phase_of, spot_in, spots_in};
+ghost use Rattle.periodic.specs.Placement.{spot_in, spots_in};
 ghost use Rattle.periodic.specs.Bits.{bit_for};
 ghost use Rattle.periodic.specs.Rows.{row_at, IsMarked};
-ghost use Rattle.periodic.specs.Table.{IsSoundPlaced};
-ghost use Rattle.periodic.specs.Fields.{placed_of, placed_in, AreSoundFlows};
+ghost use Rattle.periodic.specs.Table.{placed_at};
+ghost use Rattle.periodic.specs.Fields.{placed_of, placed_in, KeepsTimes, IsSoundFlow, AreSoundFlows};
 
 use crate::MAX_PERIODIC_FLOWS;
 use crate::bits::Bits;
@@ -17,20 +18,18 @@ use crate::placement::{Placement, Spot};
 use flow_book::FlowSpec;
 use minislots::Checked;
 
-// What stands in a list of spots before one is written.
-pub(crate) const NO_SPOT: Spot = Spot {
-    sid: 0,
-    poll: false,
-    offset: 0,
-    slots: 0,
-};
-
-// A periodic flow with its placement.
+// A periodic flow with its placement, and what follows from both, so that a frame is told without a division by the
+// channel's numbers.
 #[derive(Drop)]
 pub(crate) struct PlacedFlow {
     pub(crate) sid: u16,
     pub(crate) spec: FlowSpec,
     pub(crate) placement: Placement,
+    // The frames of its interval, and in which of them it has its nominal times.
+    interval: u64,
+    phase: u64,
+    // The minislots of one grant or poll.
+    slots: u16,
 }
 
 // The frames of a periodic flow's interval, which divide the cycle.
@@ -89,52 +88,60 @@ pub(crate) fn slots(config: &Checked, spec: &FlowSpec) -> u64
 }
 
 impl PlacedFlow {
-    // The frame of the flow's interval in which it has its nominal times.
-    fn phase(&self, config: &Checked, interval: u64) -> u64
-        requires positive { 0 < interval }
-        requires value { interval ≡ interval_frames config.now self.now.spec }
-        ensures { result ≡ phase_of config.now self.now.spec self.now.placement }
+    // The flow with this placement.
+    pub(crate) fn at(config: &Checked, sid: u16, spec: FlowSpec, placement: Placement) -> PlacedFlow
+        requires periodic { is_periodic spec ≡ true }
+        requires no_fault { first_fault config.now spec ≡ None }
+        ensures placed { placed_of result ≡ placed_at sid spec placement }
+        ensures times { KeepsTimes config.now result }
     {
-        self.placement.reference / u64::from(config.frame()) % interval
+        let interval = interval(config, &spec);
+        PlacedFlow {
+            sid,
+            spec,
+            interval,
+            phase: placement.reference / u64::from(config.frame()) % interval,
+            slots: slots(config, &spec) as u16,
+            placement,
+        }
     }
 
     // What the flow takes of the frame at this place of the cycle.
-    fn spot(&self, config: &Checked, place: u64) -> Option<Spot>
-        requires sound { IsSoundPlaced config.now (placed_of self.now) }
-        requires within { place < config.now.cycle }
-        ensures { result ≡ spot_in config.now place (placed_of self.now) }
+    fn spot(&self, place: u64) -> Option<Spot>
+        requires sound { (c : Config) × IsSoundFlow c self.now × (place < c.cycle) }
+        ensures { (c : Config) → IsSoundFlow c self.now → place < c.cycle
+            → result ≡ spot_in c place (placed_of self.now) }
     {
-        let interval = interval(config, &self.spec);
-        if place % interval != self.phase(config, interval) {
+        if place % self.interval != self.phase {
             return None;
         }
         let starts = self.placement.starts.as_slice();
         Some(Spot {
             sid: self.sid,
             poll: is_polled(&self.spec),
-            offset: starts[(place / interval) as usize],
-            slots: slots(config, &self.spec) as u16,
+            offset: starts[(place / self.interval) as usize],
+            slots: self.slots,
         })
     }
 }
 
-// Writes what the flows take of the frame at this place of the cycle, in their order, and answers how
-// many spots these are.
+// Writes what the flows take of frame `k`, in their order, and answers how many spots these are.
 pub(crate) fn fill(
     flows: &[PlacedFlow],
     config: &Checked,
-    place: u64,
+    k: u64,
     spots: &mut [Spot; MAX_PERIODIC_FLOWS],
 ) -> usize
     requires sound { AreSoundFlows config.now flows.now }
-    requires within { place < config.now.cycle }
-    ensures spots { take result spots.new ≡ spots_in config.now place (placed_in flows.now) }
+    ensures spots { take result spots.new ≡ spots_in config.now k (placed_in flows.now) }
     ensures rest { drop result spots.new ≡ drop result spots.old }
     ensures most { result ≤ length flows.now }
+    ensures lawful { IsLawful config.now }
 {
+    let place = k % u64::from(config.cycle());
     let mut count = 0;
     for flow in flows {
-        if let Some(spot) = flow.spot(config, place) {
+        if let Some(spot) = flow.spot(place) {
             spots[count] = spot;
             count += 1;
         }
@@ -144,14 +151,14 @@ pub(crate) fn fill(
 
 // Marks what a flow takes of each frame of the cycle as taken, or as free.
 pub(crate) fn mark(rows: &mut [Bits], config: &Checked, flow: &PlacedFlow, taken: bool)
-    requires sound { IsSoundPlaced config.now (placed_of flow.now) }
+    requires sound { IsSoundFlow config.now flow.now }
     requires long { length rows.old ≡ config.now.cycle }
     ensures long { length rows.new ≡ config.now.cycle }
     ensures marked { (k : ℕ) → IsMarked (spot_in config.now k (placed_of flow.now)) (bit_for taken)
         (row_at config.now rows.old k) (row_at config.now rows.new k) }
 {
     for place in 0..u64::from(config.cycle()) {
-        if let Some(spot) = flow.spot(config, place) {
+        if let Some(spot) = flow.spot(place) {
             let start = u64::from(spot.offset);
             rows[place as usize].mark(start, start + u64::from(spot.slots), taken);
         }

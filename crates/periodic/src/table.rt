@@ -153,7 +153,7 @@ impl Table {
         ensures memory { OnErr result (IsPlacement self.old.config self.old.placed spec.now next placement.now) }
         ensures err { OnErr result (self.new ≡ self.old) }
     {
-        if !is_lawful(&self.flows, &self.config, spec, next, placement) {
+        if !self.takes(spec, next, placement) {
             return Ok(false);
         }
         self.add(sid, *spec, placement.reference, placement.starts.as_slice())?;
@@ -184,8 +184,7 @@ impl Table {
         ensures ascending { FollowInTurn (take result spots.new) }
         ensures within { AllByRecursion (IsWithinFrame self.now.config) (take result spots.new) }
     {
-        let place = k % u64::from(self.config.cycle());
-        let count = fill(&self.flows, &self.config, place, spots);
+        let count = fill(&self.flows, &self.config, k, spots);
         sort(&mut spots[..count]);
         count
     }
@@ -202,6 +201,17 @@ impl Table {
         ensures absent { IfNone result (NoPlacement self.now.config self.now.placed spec.now next) }
     {
         choose(&self.rows, &self.config, spec, next)
+    }
+
+    // Whether the placement is lawful for these parameters from `next` on, beside those that stand.
+    fn takes(&self, spec: &FlowSpec, next: u64, placement: &Placement) -> bool
+        requires periodic { is_periodic spec.now ≡ true }
+        requires no_fault { first_fault self.now.config spec.now ≡ None }
+        ensures lawful { result ≡ true → IsPlacement self.now.config self.now.placed spec.now next placement.now }
+        ensures unlawful { result ≡ false
+            → IsPlacement self.now.config self.now.placed spec.now next placement.now → ⊥ }
+    {
+        is_lawful(&self.rows, &self.config, spec, next, placement)
     }
 
     // Adds a flow with a placement that is lawful beside those that stand, in order of SID.
@@ -229,14 +239,11 @@ impl Table {
         let kept = Vec::from_slice(alloc, starts)?;
         let answered = Vec::from_slice(alloc, starts)?;
         let place = place_above(&self.flows, sid).unwrap_or(self.flows.len());
-        let flow = PlacedFlow {
-            sid,
-            spec,
-            placement: Placement {
-                reference,
-                starts: Starts::from_vec(kept),
-            },
+        let placement = Placement {
+            reference,
+            starts: Starts::from_vec(kept),
         };
+        let flow = PlacedFlow::at(&self.config, sid, spec, placement);
         self.flows.insert(place, flow)?;
         mark(&mut self.rows, &self.config, &self.flows[place], true);
         Ok(Placement {

@@ -5,7 +5,7 @@ use Rattle.std.proofs.lemmas.List.{take_more}
 
 module _ {X : Type 0} (P : X → Type 0) where
   -- it holds of one member more at the end
-  all-push : (xs : List X) (x : X) → AllByRecursion P xs → P x → AllByRecursion P (xs ++ x ∷ [])
+  pub all-push : (xs : List X) (x : X) → AllByRecursion P xs → P x → AllByRecursion P (xs ++ x ∷ [])
   all-push [] x all one = (one, tt)
   all-push (y ∷ ys) x all one = (all.0, all-push ys x all.1 one)
 

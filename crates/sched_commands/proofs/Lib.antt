@@ -4,3 +4,4 @@ pub mod RowsStops
 pub mod Verdicts
 pub mod Fitting
 pub mod Judging
+pub mod Drawing

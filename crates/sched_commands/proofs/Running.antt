@@ -16,16 +16,20 @@ use Rattle.sched_history.specs.Machine.{Machine, MayLackMemory}
 use Rattle.sched_text.specs.Line.{Answer}
 use Rattle.sched_commands.specs.Answer.{MayGet, recorded, recorded_entries, MakesCall, MakesCalls}
 use Rattle.sched_text.specs.Line.{line_of}
+use Rattle.sched_text.specs.Meaning.{explained_line}
 use Rattle.sched_text.proofs.Written.{Appends-out}
 use Rattle.sched_text.specs.HistoryText.{history_text}
 use Rattle.sched_commands.specs.Run.{HistoryFits, AnswersEach}
+use Rattle.sched_commands.specs.Explained.{ExplainsEach}
 use Rattle.sched_commands.proofs.Answered.{MayGetEach-push, recorded_entries-push, IsLegal-answered}
 
--- from one state of the scheduler and the writer these calls led to others, and the lines of their answers were written
-pub record Runs (old new : Machine) (calls : List Call) (before after : Option (List ℕ)) : Type 0 where
+-- from one state of the scheduler and the writer these calls led to others, and such lines of their answers were
+-- written
+pub record Runs (line : Answer → List ℕ) (old new : Machine) (calls : List Call)
+    (before after : Option (List ℕ)) : Type 0 where
   pub answers : List Answer
   pub makes : MakesCalls old new calls answers
-  pub written : Appends before after (flat_map line_of answers)
+  pub written : Appends before after (flat_map line answers)
 
 -- the entry of a call with its reply
 abbrev pub entry_of : ℕ → Call → Reply → Entry
@@ -83,16 +87,16 @@ MakesCalls-push old mid new calls i d answers answer below makes one =
     })
 
 -- one call more, and its line
-pub Runs-push : (old mid new : Machine) (calls : List Call) (i : ℕ) (d : Call) (answer : Answer)
-    (before between after : Option (List ℕ)) → i < length calls
-    → Runs old mid (take i calls) before between → MakesCall mid new i (get_or calls i d) answer
-    → Appends between after (line_of answer)
-    → Runs old new (take (i + 1) calls) before after
-Runs-push old mid new calls i d answer before between after below runs one line = record {
+pub Runs-push : (line : Answer → List ℕ) (old mid new : Machine) (calls : List Call) (i : ℕ) (d : Call)
+    (answer : Answer) (before between after : Option (List ℕ)) → i < length calls
+    → Runs line old mid (take i calls) before between → MakesCall mid new i (get_or calls i d) answer
+    → Appends between after (line answer)
+    → Runs line old new (take (i + 1) calls) before after
+Runs-push line old mid new calls i d answer before between after below runs one more = record {
   answers = runs.answers ++ answer ∷ [];
   makes = MakesCalls-push old mid new calls i d runs.answers answer below runs.makes one;
   written = rw (flat_map-append, append-nil)
-      (Appends-trans before between after (flat_map line_of runs.answers) (line_of answer) runs.written line);
+      (Appends-trans before between after (flat_map line runs.answers) (line answer) runs.written more);
 }
 
 -- what all calls make is a legal history
@@ -101,18 +105,19 @@ pub MakesCalls-legal : (old new : Machine) (calls : List Call) (answers : List A
 MakesCalls-legal old new calls answers makes = IsLegal-answered old.config [] 0 calls answers tt makes.each
 
 -- the lines that waited are written
-pub Runs-written : (old new : Machine) (calls : List Call) (before between after : Option (List ℕ)) (waiting : List ℕ)
-    → Runs old new calls before (append_known between waiting) → Appends between after waiting
-    → Runs old new calls before after
-Runs-written old new calls before between after waiting runs out = record {
+pub Runs-written : (line : Answer → List ℕ) (old new : Machine) (calls : List Call)
+    (before between after : Option (List ℕ)) (waiting : List ℕ)
+    → Runs line old new calls before (append_known between waiting) → Appends between after waiting
+    → Runs line old new calls before after
+Runs-written line old new calls before between after waiting runs out = record {
   answers = runs.answers;
   makes = runs.makes;
-  written = Appends-out before between after waiting (flat_map line_of runs.answers) runs.written out;
+  written = Appends-out before between after waiting (flat_map line runs.answers) runs.written out;
 }
 
 -- all calls, with their lines
 pub Runs-whole : (old new : Machine) (calls : List Call) (n : ℕ) (before after : Option (List ℕ))
-    → length calls ≤ n → Runs old new (take n calls) before after
+    → length calls ≤ n → Runs line_of old new (take n calls) before after
     → AnswersEach false old.config calls before after
 Runs-whole old new calls n before after all runs =
     let makes : MakesCalls old new calls runs.answers = rw (take_all n calls all) at runs.makes in
@@ -121,6 +126,19 @@ Runs-whole old new calls n before after all runs =
       each = makes.each;
       legal = MakesCalls-legal old new calls runs.answers makes;
       fits = λ text. absurd (let no : false ≡ true = text in cc);
+      written = runs.written;
+    }
+
+-- all calls, with their explained lines
+pub Runs-explained : (old new : Machine) (calls : List Call) (n : ℕ) (before after : Option (List ℕ))
+    → length calls ≤ n → Runs explained_line old new (take n calls) before after
+    → ExplainsEach old.config calls before after
+Runs-explained old new calls n before after all runs =
+    let makes : MakesCalls old new calls runs.answers = rw (take_all n calls all) at runs.makes in
+    record {
+      answers = runs.answers;
+      each = makes.each;
+      legal = MakesCalls-legal old new calls runs.answers makes;
       written = runs.written;
     }
 

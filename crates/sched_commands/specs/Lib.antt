@@ -2,6 +2,8 @@ pub mod Line
 pub mod Fault
 pub mod Answer
 pub mod Run
+pub mod Drawing
+pub mod Explained
 pub mod Table
 pub mod Verdict
 pub mod Judged

@@ -3,15 +3,15 @@
 ghost use Rattle.std.specs.Prelude.{◌≡◌, ◌≢◌, ◌≤◌, length, IfOk, OnOk, IfErr};
 ghost use Rattle.std.specs.Io.KnownBytes.{Appends};
 ghost use Rattle.sched_history.specs.declared.reply.TheConstants.{MAX_ENTRIES};
+ghost use Rattle.sched_text.specs.Watched.{FailsBy};
 ghost use Rattle.sched_commands.specs.Verdict.{IsVerdict, is_legal, verdict_line, Audited, StopsAudit};
 
 use crate::fault::RunFault;
 use crate::line::put_named;
 use minislots::Checked;
 use sched_history::{AuditFault, Entry, audit};
-use sched_text::{TextFault, read_history};
+use sched_text::{Sink, Source, TextFault, read_history};
 use std::alloc::Global;
-use std::io::{Read, Write};
 
 /// What an audit says of a history.
 #[derive(Clone, Copy)]
@@ -36,10 +36,11 @@ fn judge(alloc: Global, config: &Checked, entries: &[Entry]) -> Result<Verdict, 
 }
 
 // Writes the line of a verdict, and tells whether it is that of a legal history.
-fn put_verdict<W: Write>(writer: &mut W, verdict: Verdict) -> Result<bool, TextFault>
+fn put_verdict<W: Sink>(writer: &mut W, verdict: Verdict) -> Result<bool, TextFault>
     ensures ok { OnOk result (Appends (W.contents writer.old) (W.contents writer.new) (verdict_line verdict)) }
     ensures legal { IfOk result (λ legal. legal ≡ is_legal verdict) }
     ensures err { IfErr result (λ e. e ≡ TextFault.Output) }
+    ensures failed { FailsBy TextFault.Output result (W.has_failed writer.old) (W.has_failed writer.new) }
 {
     match verdict {
         Verdict::Legal(entries) => {
@@ -57,7 +58,7 @@ fn put_verdict<W: Write>(writer: &mut W, verdict: Verdict) -> Result<bool, TextF
 /// number of its entries, or `illegal` and the first entry, counted from 0, whose reply the scheduler may not give
 /// after the entries before it. Answers whether it is legal. Nothing is written before another fault than one of
 /// output.
-pub fn run_audit<R: Read, W: Write>(
+pub fn run_audit<R: Source, W: Sink>(
     alloc: Global,
     reader: &mut R,
     writer: &mut W,
@@ -69,6 +70,10 @@ pub fn run_audit<R: Read, W: Write>(
     // Each fault comes under its own condition, the first one in their order.
     ensures stops { IfErr result (StopsAudit (R.remaining reader.old) (R.remaining reader.new)) }
     ensures quiet { IfErr result (λ e. e ≢ RunFault.Output → writer.new ≡ writer.old) }
+
+    // A failed read or write is told where one has failed, and where all went well none did.
+    ensures failed_read { FailsBy RunFault.Input result (R.has_failed reader.old) (R.has_failed reader.new) }
+    ensures failed_write { FailsBy RunFault.Output result (W.has_failed writer.old) (W.has_failed writer.new) }
 {
     let (config, entries) = read_history(alloc, reader)?;
     let verdict = judge(alloc, &config, &entries)?;

@@ -1,8 +1,10 @@
-//! The commands of the program, as a library: a script is run, a payload is shown, a history is audited, a storm is
-//! run.
+//! The commands of the program, as a library: a script is run, or its frames are drawn, a payload is shown, a history
+//! is audited, a storm is run.
 #![tactic(auto)]
 
 mod audit;
+mod draw;
+mod explain;
 mod fault;
 mod fits;
 mod laws;
@@ -12,6 +14,8 @@ mod storm;
 mod table;
 
 pub use audit::run_audit;
+pub use draw::draw_script;
+pub use explain::run_explained;
 pub use fault::RunFault;
 pub use laws::judges_runs_legal;
 pub use run::run_script;

@@ -2,16 +2,17 @@
 
 ghost use Rattle.std.specs.Prelude.{◌≡◌, OnOk, IfErr};
 ghost use Rattle.std.specs.Io.KnownBytes.{Appends};
+ghost use Rattle.sched_text.specs.Watched.{FailsBy};
 ghost use Rattle.sched_commands.specs.Line.{number_line};
 
-use sched_text::{TextFault, put, put_number};
-use std::io::Write;
+use sched_text::{Sink, TextFault, put, put_number};
 
 /// The line of a number under this name.
 #[tactic(auto, unfolding(crate::specs::Line::number_line))]
-pub fn put_named<W: Write>(writer: &mut W, name: &[u8], number: u64) -> Result<(), TextFault>
+pub fn put_named<W: Sink>(writer: &mut W, name: &[u8], number: u64) -> Result<(), TextFault>
     ensures ok { OnOk result (Appends (W.contents writer.old) (W.contents writer.new) (number_line name.now number)) }
     ensures err { IfErr result (λ e. e ≡ TextFault.Output) }
+    ensures failed { FailsBy TextFault.Output result (W.has_failed writer.old) (W.has_failed writer.new) }
 {
     put(writer, name)?;
     put_number(writer, number)?;

@@ -2,6 +2,7 @@
 
 ghost use Rattle.std.specs.Prelude.{◌≡◌, ◌≢◌, ◌⊎◌, [], true, false, List, OnOk, IfErr};
 ghost use Rattle.sched_text.specs.Line.{Answer, HasLine};
+ghost use Rattle.sched_text.specs.Watched.{FailsBy};
 ghost use Rattle.sched_commands.specs.Answer.{MakesCall, MakesCalls};
 ghost use Rattle.sched_commands.specs.Run.{AnswersEach, Ran, Stops};
 
@@ -9,12 +10,15 @@ use crate::fault::RunFault;
 use crate::fits::history_fits;
 use minislots::{Checked, Stamp};
 use sched_history::{Call, Reply, Scheduler, Unrecorded};
-use sched_text::{LineBuffer, TextFault, put_history, read_script};
+use sched_text::{LineBuffer, Sink, Source, TextFault, put_history, read_script};
 use std::alloc::Global;
-use std::io::{Read, Write};
 
 // Makes the call at this place of a script. The one seat of a run has the number 0.
-fn make_call(scheduler: &mut Scheduler, place: usize, call: Call) -> Result<Reply, Unrecorded>
+pub(crate) fn make_call(
+    scheduler: &mut Scheduler,
+    place: usize,
+    call: Call,
+) -> Result<Reply, Unrecorded>
     ensures made { MakesCall scheduler.old scheduler.new place call result }
     ensures line { HasLine result }
 {
@@ -26,7 +30,7 @@ fn make_call(scheduler: &mut Scheduler, place: usize, call: Call) -> Result<Repl
 }
 
 // Makes the calls of a script one after the other, and writes the line of each answer, many lines at a time.
-fn run_calls<W: Write>(
+fn run_calls<W: Sink>(
     scheduler: &mut Scheduler,
     calls: &[Call],
     writer: &mut W,
@@ -36,6 +40,7 @@ fn run_calls<W: Write>(
     ensures ok { OnOk result (AnswersEach false scheduler.old.config calls.now
         (W.contents writer.old) (W.contents writer.new)) }
     ensures err { IfErr result (λ e. e ≡ TextFault.Output) }
+    ensures failed { FailsBy TextFault.Output result (W.has_failed writer.old) (W.has_failed writer.new) }
 {
     let mut lines = LineBuffer::new();
     for (place, call) in calls.iter().enumerate() {
@@ -57,7 +62,7 @@ fn make_calls(scheduler: &mut Scheduler, calls: &[Call])
 
 // Makes the calls of a script one after the other, and writes the text of their history. Nothing is
 // written before memory runs out.
-fn run_history<W: Write>(
+fn run_history<W: Sink>(
     alloc: Global,
     scheduler: &mut Scheduler,
     config: &Checked,
@@ -70,6 +75,7 @@ fn run_history<W: Write>(
     ensures ok { OnOk result (AnswersEach true scheduler.old.config calls.now
         (W.contents writer.old) (W.contents writer.new)) }
     ensures err { IfErr result (λ e. (e ≡ TextFault.Memory) ⊎ (e ≡ TextFault.Output)) }
+    ensures failed { FailsBy TextFault.Output result (W.has_failed writer.old) (W.has_failed writer.new) }
     ensures quiet { IfErr result (λ e. e ≢ TextFault.Output → writer.new ≡ writer.old) }
 {
     make_calls(scheduler, calls);
@@ -79,7 +85,7 @@ fn run_history<W: Write>(
 
 // Makes the calls of a script one after the other, and writes the lines of their answers or the text of their history.
 // Nothing is written before memory runs out.
-fn answer_calls<W: Write>(
+fn answer_calls<W: Sink>(
     alloc: Global,
     scheduler: &mut Scheduler,
     config: &Checked,
@@ -93,6 +99,7 @@ fn answer_calls<W: Write>(
     ensures ok { OnOk result (AnswersEach as_history scheduler.old.config calls.now
         (W.contents writer.old) (W.contents writer.new)) }
     ensures err { IfErr result (λ e. (e ≡ TextFault.Memory) ⊎ (e ≡ TextFault.Output)) }
+    ensures failed { FailsBy TextFault.Output result (W.has_failed writer.old) (W.has_failed writer.new) }
     ensures quiet { IfErr result (λ e. e ≢ TextFault.Output → writer.new ≡ writer.old) }
 {
     if as_history {
@@ -106,7 +113,7 @@ fn answer_calls<W: Write>(
 /// the other on a new scheduler. The call at place i, from 0, has the stamp of seat 0 and ticket i.
 /// Writes one line for the answer to each call, and then only a fault of output comes after a line was
 /// written; or with `as_history` the history of the recorded calls in JSON, in one line.
-pub fn run_script<R: Read, W: Write>(
+pub fn run_script<R: Source, W: Sink>(
     alloc: Global,
     reader: &mut R,
     writer: &mut W,
@@ -119,6 +126,10 @@ pub fn run_script<R: Read, W: Write>(
     // Each fault comes under its own condition, the first one in their order.
     ensures stops { IfErr result (Stops (R.remaining reader.old) (R.remaining reader.new)) }
     ensures quiet { IfErr result (λ e. e ≢ RunFault.Output → writer.new ≡ writer.old) }
+
+    // A failed read or write is told where one has failed, and where all went well none did.
+    ensures failed_read { FailsBy RunFault.Input result (R.has_failed reader.old) (R.has_failed reader.new) }
+    ensures failed_write { FailsBy RunFault.Output result (W.has_failed writer.old) (W.has_failed writer.new) }
 {
     let (config, calls) = read_script(alloc, reader)?;
     let Ok(mut scheduler) = Scheduler::open(alloc, config) else {

@@ -1,6 +1,7 @@
 //! A storm from its script to the lines of its tally.
 
 ghost use Rattle.std.specs.Prelude.{◌≡◌, ◌≢◌, ◌↔◌, true, None, IfOk, IfErr};
+ghost use Rattle.sched_text.specs.Watched.{FailsBy};
 ghost use Rattle.sched_commands.specs.StormRun.{Stormed, StopsStorm};
 
 mod line;
@@ -8,9 +9,8 @@ mod line;
 use crate::fault::RunFault;
 use line::put_tally;
 use sched_storm::{Gate, StormFault, Tally, storm_with};
-use sched_text::read_storm;
+use sched_text::{Sink, Source, read_storm};
 use std::alloc::Global;
-use std::io::{Read, Write};
 use std::sync::Wait;
 use std::thread::Threads;
 
@@ -26,7 +26,7 @@ fn went_well(tally: &Tally) -> bool
 /// the number of calls that were not recorded, that of the MAPs, the version that was read last, the least of the
 /// workers that the gate held, if any, and what the audit says. Answers whether no worker was held and the history is
 /// legal. Nothing is written before another fault than one of output.
-pub fn run_storm<R: Threads + Wait + Sync, I: Read, W: Write, G: Gate>(
+pub fn run_storm<R: Threads + Wait + Sync, I: Source, W: Sink, G: Gate>(
     rt: &R,
     alloc: Global,
     reader: &mut I,
@@ -40,6 +40,10 @@ pub fn run_storm<R: Threads + Wait + Sync, I: Read, W: Write, G: Gate>(
     // Each fault comes under its own condition, the first one in their order.
     ensures stops { IfErr result (StopsStorm (I.remaining reader.old) (I.remaining reader.new)) }
     ensures quiet { IfErr result (λ e. e ≢ RunFault.Output → writer.new ≡ writer.old) }
+
+    // A failed read or write is told where one has failed, and where all went well none did.
+    ensures failed_read { FailsBy RunFault.Input result (I.has_failed reader.old) (I.has_failed reader.new) }
+    ensures failed_write { FailsBy RunFault.Output result (W.has_failed writer.old) (W.has_failed writer.new) }
 {
     let (config, scripts) = read_storm(alloc, reader)?;
     let workers = scripts.len();

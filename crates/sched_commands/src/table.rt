@@ -4,6 +4,7 @@ ghost use Rattle.std.specs.Prelude.{◌≡◌, ◌%◌, ◌≤◌, ◌↔◌, �
 ghost use Rattle.std.specs.Bool.{MatchBool};
 ghost use Rattle.std.specs.Io.KnownBytes.{Appends};
 ghost use Rattle.map_codec.specs.WireMap.{IsPayload, IsWellFormed};
+ghost use Rattle.sched_text.specs.Watched.{FailsBy};
 ghost use Rattle.sched_commands.specs.Table.{labelled, backoff_text, at_right, column, name_of, number_of, index_of};
 ghost use Rattle.sched_commands.specs.Table.{counts_line, times_line, element_line, element_lines};
 ghost use Rattle.sched_commands.specs.Table.{table_text, shown_text, fault_line};
@@ -14,18 +15,18 @@ use hex::FromHexError;
 use itoa::Buffer;
 use map_codec::{DecodeFault, Element, WireMap, decode, iuc};
 use map_drawing::draw_frame;
-use sched_text::{TextFault, put};
+use sched_text::{Sink, TextFault, put};
 use std::alloc::Global;
-use std::io::Write;
 
 // As many spaces as the widest column has places.
 const SPACES: [u8; 5] = [b' '; 5];
 
 // A label, and a number in decimal.
 #[tactic(auto, unfolding(crate::specs::Table::labelled))]
-fn put_labelled<W: Write>(writer: &mut W, label: &[u8], number: u64) -> Result<(), TextFault>
+fn put_labelled<W: Sink>(writer: &mut W, label: &[u8], number: u64) -> Result<(), TextFault>
     ensures ok { OnOk result (Appends (W.contents writer.old) (W.contents writer.new) (labelled label.now number)) }
     ensures err { IfErr result (λ e. e ≡ TextFault.Output) }
+    ensures failed { FailsBy TextFault.Output result (W.has_failed writer.old) (W.has_failed writer.new) }
 {
     let mut buffer = Buffer::new();
     put(writer, label)?;
@@ -34,10 +35,11 @@ fn put_labelled<W: Write>(writer: &mut W, label: &[u8], number: u64) -> Result<(
 
 // A number in decimal at the right of so many places.
 #[tactic(auto, unfolding(crate::specs::Table::at_right))]
-fn put_at_right<W: Write>(writer: &mut W, places: usize, number: u16) -> Result<(), TextFault>
+fn put_at_right<W: Sink>(writer: &mut W, places: usize, number: u16) -> Result<(), TextFault>
     requires { places ≤ 5 }
     ensures ok { OnOk result (Appends (W.contents writer.old) (W.contents writer.new) (at_right places number)) }
     ensures err { IfErr result (λ e. e ≡ TextFault.Output) }
+    ensures failed { FailsBy TextFault.Output result (W.has_failed writer.old) (W.has_failed writer.new) }
 {
     let mut buffer = Buffer::new();
     let digits = buffer.format(number).as_bytes();
@@ -47,10 +49,11 @@ fn put_at_right<W: Write>(writer: &mut W, places: usize, number: u16) -> Result<
 
 // A column: a number at the right of so many places, and a space.
 #[tactic(auto, unfolding(crate::specs::Table::column))]
-fn put_column<W: Write>(writer: &mut W, places: usize, number: u16) -> Result<(), TextFault>
+fn put_column<W: Sink>(writer: &mut W, places: usize, number: u16) -> Result<(), TextFault>
     requires { places ≤ 5 }
     ensures ok { OnOk result (Appends (W.contents writer.old) (W.contents writer.new) (column places number)) }
     ensures err { IfErr result (λ e. e ≡ TextFault.Output) }
+    ensures failed { FailsBy TextFault.Output result (W.has_failed writer.old) (W.has_failed writer.new) }
 {
     put_at_right(writer, places, number)?;
     put(writer, b" ")
@@ -79,9 +82,10 @@ fn name_of(code: u8) -> &'static [u8]
 
 // The first line of a table: the channel, the UCD count and the number of elements.
 #[tactic(auto, unfolding(crate::specs::Table::counts_line))]
-fn put_counts<W: Write>(writer: &mut W, map: &WireMap) -> Result<(), TextFault>
+fn put_counts<W: Sink>(writer: &mut W, map: &WireMap) -> Result<(), TextFault>
     ensures ok { OnOk result (Appends (W.contents writer.old) (W.contents writer.new) (counts_line map.now)) }
     ensures err { IfErr result (λ e. e ≡ TextFault.Output) }
+    ensures failed { FailsBy TextFault.Output result (W.has_failed writer.old) (W.has_failed writer.new) }
 {
     put_labelled(writer, b"channel ", u64::from(map.channel))?;
     put_labelled(writer, b" ucd ", u64::from(map.ucd_count))?;
@@ -92,10 +96,11 @@ fn put_counts<W: Write>(writer: &mut W, map: &WireMap) -> Result<(), TextFault>
 
 // A backoff window: a label, its start and its end.
 #[tactic(auto, unfolding(crate::specs::Table::backoff_text))]
-fn put_backoff<W: Write>(writer: &mut W, label: &[u8], start: u8, end: u8) -> Result<(), TextFault>
+fn put_backoff<W: Sink>(writer: &mut W, label: &[u8], start: u8, end: u8) -> Result<(), TextFault>
     ensures ok { OnOk result (Appends (W.contents writer.old) (W.contents writer.new)
         (backoff_text label.now start end)) }
     ensures err { IfErr result (λ e. e ≡ TextFault.Output) }
+    ensures failed { FailsBy TextFault.Output result (W.has_failed writer.old) (W.has_failed writer.new) }
 {
     put_labelled(writer, label, u64::from(start))?;
     put_labelled(writer, b" ", u64::from(end))
@@ -103,9 +108,10 @@ fn put_backoff<W: Write>(writer: &mut W, label: &[u8], start: u8, end: u8) -> Re
 
 // The second line of a table: alloc start, acknowledge time and the two backoff windows.
 #[tactic(auto, unfolding(crate::specs::Table::times_line))]
-fn put_times<W: Write>(writer: &mut W, map: &WireMap) -> Result<(), TextFault>
+fn put_times<W: Sink>(writer: &mut W, map: &WireMap) -> Result<(), TextFault>
     ensures ok { OnOk result (Appends (W.contents writer.old) (W.contents writer.new) (times_line map.now)) }
     ensures err { IfErr result (λ e. e ≡ TextFault.Output) }
+    ensures failed { FailsBy TextFault.Output result (W.has_failed writer.old) (W.has_failed writer.new) }
 {
     put_labelled(writer, b"start ", u64::from(map.alloc_start))?;
     put_labelled(writer, b" ack ", u64::from(map.ack))?;
@@ -116,9 +122,10 @@ fn put_times<W: Write>(writer: &mut W, map: &WireMap) -> Result<(), TextFault>
 
 // The line of an element: SID, IUC, offset and the IUC's name.
 #[tactic(auto, unfolding(crate::specs::Table::element_line))]
-fn put_element<W: Write>(writer: &mut W, element: &Element) -> Result<(), TextFault>
+fn put_element<W: Sink>(writer: &mut W, element: &Element) -> Result<(), TextFault>
     ensures ok { OnOk result (Appends (W.contents writer.old) (W.contents writer.new) (element_line element.now)) }
     ensures err { IfErr result (λ e. e ≡ TextFault.Output) }
+    ensures failed { FailsBy TextFault.Output result (W.has_failed writer.old) (W.has_failed writer.new) }
 {
     put_column(writer, 5, element.sid)?;
     put_column(writer, 2, u16::from(element.iuc))?;
@@ -128,9 +135,10 @@ fn put_element<W: Write>(writer: &mut W, element: &Element) -> Result<(), TextFa
 }
 
 // The lines of elements.
-fn put_elements<W: Write>(writer: &mut W, elements: &[Element]) -> Result<(), TextFault>
+fn put_elements<W: Sink>(writer: &mut W, elements: &[Element]) -> Result<(), TextFault>
     ensures ok { OnOk result (Appends (W.contents writer.old) (W.contents writer.new) (element_lines elements.now)) }
     ensures err { IfErr result (λ e. e ≡ TextFault.Output) }
+    ensures failed { FailsBy TextFault.Output result (W.has_failed writer.old) (W.has_failed writer.new) }
 {
     for element in elements {
         put_element(writer, element)?;
@@ -140,9 +148,10 @@ fn put_elements<W: Write>(writer: &mut W, elements: &[Element]) -> Result<(), Te
 
 // The table of a MAP.
 #[tactic(auto, unfolding(crate::specs::Table::table_text))]
-fn put_table<W: Write>(writer: &mut W, map: &WireMap) -> Result<(), TextFault>
+fn put_table<W: Sink>(writer: &mut W, map: &WireMap) -> Result<(), TextFault>
     ensures ok { OnOk result (Appends (W.contents writer.old) (W.contents writer.new) (table_text map.now)) }
     ensures err { IfErr result (λ e. e ≡ TextFault.Output) }
+    ensures failed { FailsBy TextFault.Output result (W.has_failed writer.old) (W.has_failed writer.new) }
 {
     put_counts(writer, map)?;
     put_times(writer, map)?;
@@ -179,9 +188,10 @@ fn index_of(fault: DecodeFault) -> Option<usize>
 
 // The line of a fault.
 #[tactic(auto, unfolding(crate::specs::Table::fault_line))]
-fn put_fault<W: Write>(writer: &mut W, fault: DecodeFault) -> Result<(), TextFault>
+fn put_fault<W: Sink>(writer: &mut W, fault: DecodeFault) -> Result<(), TextFault>
     ensures ok { OnOk result (Appends (W.contents writer.old) (W.contents writer.new) (fault_line fault)) }
     ensures err { IfErr result (λ e. e ≡ TextFault.Output) }
+    ensures failed { FailsBy TextFault.Output result (W.has_failed writer.old) (W.has_failed writer.new) }
 {
     put_labelled(writer, b"fault ", number_of(fault))?;
     if let Some(i) = index_of(fault) {
@@ -191,7 +201,7 @@ fn put_fault<W: Write>(writer: &mut W, fault: DecodeFault) -> Result<(), TextFau
 }
 
 // The table of a MAP, and its drawing where one in so many columns is asked for.
-fn put_map<W: Write>(
+fn put_map<W: Sink>(
     alloc: Global,
     map: &WireMap,
     columns: Option<u16>,
@@ -200,6 +210,7 @@ fn put_map<W: Write>(
     requires { IsWellFormed map.now }
     ensures ok { OnOk result (Appends (W.contents writer.old) (W.contents writer.new) (shown_text columns map.now)) }
     ensures err { IfErr result (λ e. (e ≡ RunFault.Memory) ⊎ (e ≡ RunFault.Output)) }
+    ensures failed { FailsBy RunFault.Output result (W.has_failed writer.old) (W.has_failed writer.new) }
     ensures quiet { IfErr result (λ e. e ≡ RunFault.Memory → writer.new ≡ writer.old) }
 {
     let Some(columns) = columns else {
@@ -215,7 +226,7 @@ fn put_map<W: Write>(
 }
 
 // What is shown of bytes: the MAP that they spell, or the line of their fault.
-fn put_decoded<W: Write>(
+fn put_decoded<W: Sink>(
     alloc: Global,
     bytes: &[u8],
     columns: Option<u16>,
@@ -226,6 +237,7 @@ fn put_decoded<W: Write>(
         (PutsMap columns bytes.now (W.contents writer.old) (W.contents writer.new))
         (PutsFault bytes.now (W.contents writer.old) (W.contents writer.new))) }
     ensures err { IfErr result (λ e. (e ≡ RunFault.Memory) ⊎ (e ≡ RunFault.Output)) }
+    ensures failed { FailsBy RunFault.Output result (W.has_failed writer.old) (W.has_failed writer.new) }
     ensures quiet { IfErr result (λ e. e ≡ RunFault.Memory → writer.new ≡ writer.old) }
     ensures payload { IfErr result (λ e. e ≡ RunFault.Memory → IsPayload bytes.now) }
 {
@@ -247,7 +259,7 @@ fn put_decoded<W: Write>(
 /// the one line of what is wrong with it, answering false: `fault hex`, or `fault`, the number of the payload's
 /// fault, and the element that the fault names where it names one. Its faults are want of memory, before anything
 /// is written, and a failed write.
-pub fn decode_text<W: Write>(
+pub fn decode_text<W: Sink>(
     alloc: Global,
     text: &str,
     columns: Option<u16>,
@@ -265,6 +277,7 @@ pub fn decode_text<W: Write>(
     // No other fault ends it; want of memory only before anything is written, and not where the
     // digits are odd in number.
     ensures err { IfErr result (λ e. (e ≡ RunFault.Memory) ⊎ (e ≡ RunFault.Output)) }
+    ensures failed { FailsBy RunFault.Output result (W.has_failed writer.old) (W.has_failed writer.new) }
     ensures quiet { IfErr result (λ e. e ≡ RunFault.Memory → writer.new ≡ writer.old) }
     ensures odd { length text.now % 2 ≡ 1 → IfErr result (λ e. e ≡ RunFault.Output) }
 {

@@ -28,13 +28,14 @@ module _ {J : Type 0} (Fits : Standing FixedDesk Entry → List Call → J → T
   IsOwn s = s.lock ≡ lock
 
   -- these seats and scripts are left, and each of the others has its job
-  pub record Starting (seats : List (Standing FixedDesk Entry)) (scripts : List (Vec Call)) (jobs : List J) : Type 0 where
-    pub given_seats : List (Standing FixedDesk Entry)
-    pub given_scripts : List (Vec Call)
-    pub seats_are : all_seats ≡ seats ++ given_seats
-    pub scripts_are : all_scripts ≡ scripts ++ given_scripts
-    pub jobs_are : EachOf Fits given_seats (calls_each given_scripts) (reverse jobs)
-    pub own : Every (λ s. s.lock ≡ lock) seats
+  pub record Starting (seats : List (Standing FixedDesk Entry)) (scripts : List (Vec Call)) (jobs : List J) : Type 0
+    where
+      pub given_seats : List (Standing FixedDesk Entry)
+      pub given_scripts : List (Vec Call)
+      pub seats_are : all_seats ≡ seats ++ given_seats
+      pub scripts_are : all_scripts ≡ scripts ++ given_scripts
+      pub jobs_are : EachOf Fits given_seats (calls_each given_scripts) (reverse jobs)
+      pub own : Every (λ s. s.lock ≡ lock) seats
 
   -- no job yet
   pub Starting-none : Every (λ s. s.lock ≡ lock) all_seats → (jobs : List J) → jobs ≡ []

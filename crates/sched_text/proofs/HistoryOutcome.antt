@@ -44,7 +44,8 @@ faults-history_of d =
     faults-bind (entries_of 1 items) (λ entries. Ok (record { config = config; entries = entries }))
     (faults-entries_of 1 items) (λ entries. tt)))
 
-faults-history_in : (bytes : List ℕ) → IfErr (history_in bytes) IsOfText
+-- what the text of a history has is a fault of a text
+pub faults-history_in : (bytes : List ℕ) → IfErr (history_in bytes) IsOfText
 unfolding history_in
 faults-history_in bytes =
     faults-bind (value_of bytes) (λ d. history_of d >>= (λ history. unless_wrong (first_wrong history.config) history))

@@ -4,11 +4,13 @@ pub mod Fields
 pub mod JsonTokens
 pub mod Outcome
 pub mod Plain
+pub mod Each
 pub mod RowsFaults
 pub mod RowsHistory
 pub mod RowsLines
 pub mod Told
 pub mod Usual
+pub mod Documents
 pub mod Written
 pub mod Profile
 pub mod StormCalls

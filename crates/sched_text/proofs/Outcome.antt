@@ -1,6 +1,6 @@
 -- Which faults a text can have, and what is known once all bytes of a reader were read.
 use Rattle.std.proofs.Common.{◌≡◌, ℕ, ◌+◌, ◌≤◌, Bool, true, false, cond, List, ◌∷◌, length, Option, Some, None, Result}
-use Rattle.std.proofs.Common.{Ok, Err, refl, subst, ◌∙◌}
+use Rattle.std.proofs.Common.{Ok, Err, refl, sym, subst, ◌∙◌}
 use Rattle.std.specs.Prelude.{◌≢◌, IfOk, IfErr, ok_or, option_and_then, codes}
 use Rattle.std.specs.Str.{is_utf8}
 use Rattle.std.proofs.lemmas.Bool.{le-ltb}
@@ -18,6 +18,7 @@ use Rattle.sched_text.specs.Fields.{config_of}
 use Rattle.sched_text.specs.Calls.{call_of}
 use Rattle.sched_text.specs.Script.{◌>>=◌, Gives, Scenario, calls_of, script_of}
 use Rattle.sched_text.specs.Input.{value_of, ReadsAll}
+use Rattle.sched_text.specs.Watched.{FailsBy}
 use Rattle.sched_text.specs.Outcome.{unless_wrong, text_outcome, outcome_of, StandsFor, HasFault, StopsScript}
 
 -- a fault that stands in the text
@@ -88,6 +89,15 @@ faults-text_outcome bytes =
     faults-bind (script_of d) (λ scenario. unless_wrong (first_wrong scenario.config) scenario) (faults-script_of d)
     (λ scenario.
     faults-unless_wrong (first_wrong scenario.config) scenario))
+
+-- a failed read is no fault that was found in a text
+pub unfailed : {X Y : Type 0} (view : X → Y) (result : Result X TextFault) (there : Result Y TextFault)
+    → IfErr there IsOfText → Gives view result there → (before after : Bool) → after ≡ before
+    → FailsBy Input result before after
+unfailed view (Ok x) there faults gives before after same = same
+unfailed view (Err fault) there faults gives before after same = λ is.
+    let given : there ≡ Err fault = gives (λ memory. let contra : Input ≡ Memory = sym is ∙ memory in cc) in
+    absurd (subst IsOfText is (subst (λ r. IfErr r IsOfText) given faults))
 
 -- of bytes that are not too many, what the text stands for decides
 pub outcome_of-short : (bytes : List ℕ) → length bytes ≤ MAX_INPUT → outcome_of bytes ≡ text_outcome bytes

@@ -8,14 +8,15 @@ use Rattle.std.proofs.lemmas.List.{map-append}
 use Rattle.std.proofs.lemmas.Slice.Eq.{bytes_eq-Decides}
 use Rattle.json.specs.Token.{Token}
 use Rattle.json.specs.Json as json
-use Rattle.json.specs.Json.{Parse, parse_map, read_key, members, value}
-use Rattle.json.proofs.Grammar.{value_is, value-begin_object, members_more, members_end}
-use Rattle.serde_json.specs.Data.{Data, unsigned, number, string, object, Members, no_members, put}
+use Rattle.json.specs.Json.{Parse, parse_map, read_key, items, members, value}
+use Rattle.json.proofs.Grammar.{value_is, value-begin_array, value-begin_object, members_more, members_end}
+use Rattle.serde_json.specs.Data.{Data, unsigned, number, string, array, object, Items, Members, no_members, put}
 use Rattle.serde_json.specs.Find.{get_member}
-use Rattle.serde_json.specs.Read.{number_of, number_from, of_json, of_members, converted}
+use Rattle.serde_json.specs.Read.{number_of, number_from, of_json, of_items, of_members, converted}
+use Rattle.serde_json.specs.View.{items_of}
 use Rattle.serde_json.proofs.Views.{get_member-put, get_member-put_other}
 use Rattle.sched_text.specs.Plain.{put_all, data_of, members_of}
-use Rattle.sched_text.specs.declared.script.plain.Plain.{Plain, Number, Text, Object, the_lemmas}
+use Rattle.sched_text.specs.declared.script.plain.Plain.{Plain, Number, Text, Array, Object, the_lemmas}
 
 abbrev Member : Type 0
 Member = Bor (List ℕ) × Plain
@@ -51,6 +52,9 @@ get_member-push name ms m = ap (get_member name) (members_of-push ms m)
 
 pub data_of-Object : (v : Vec Member Global) → data_of (Object v) ≡ object (members_of v.items)
 data_of-Object v = search (rules, the_lemmas)
+
+pub data_of-Array : (v : Vec Plain Global) → data_of (Array v) ≡ array (items_of (map data_of v.items))
+data_of-Array v = search (rules, the_lemmas)
 
 data_of-Number : (n : ℕ) → data_of (Number n) ≡ number (unsigned n)
 data_of-Number n = search (rules, the_lemmas)
@@ -119,6 +123,17 @@ module _ (p : Parse json.Json) (n : ℕ) (old : Members) (ts r : List Token) whe
   members_over enough end = ap (converted (λ ms. of_members ms old)) (members_end p n ts r enough end)
 
 module _ (depth : ℕ) (ts r : List Token) where
+  -- an array of items
+  pub array_read : (s : List Token) (ds : Items) → 0 < depth → ts ≡ Token.begin_array ∷ s
+      → converted of_items (items (value (depth - 1)) (length s) s) ≡ Some (ds, r)
+      → converted of_json (value depth ts) ≡ Some (array ds, r)
+  array_read s ds some is reads =
+      let inside = items (value (depth - 1)) (length s) s in
+      ap (converted of_json) (ap (value depth) is ∙ value-begin_array depth s some)
+      ∙ converted-parse_map of_json json.array (λ js. option_map array (of_items js)) (λ js. refl) inside
+      ∙ converted-option_map of_items array inside
+      ∙ ap (parse_map array) reads
+
   pub text_read : (s : Bor (List ℕ)) → ts ≡ Token.string s.now ∷ r
       → converted of_json (value depth ts) ≡ Some (data_of (Text s), r)
   text_read s is = ap (converted of_json) (ap (value depth) is ∙ value_is depth (Token.string s.now ∷ r))

@@ -52,7 +52,8 @@ faults-storm_of d =
     faults-bind (scripts_of 0 arrays) (λ scripts. Ok (record { config = config; scripts = scripts }))
     (faults-scripts_of 0 arrays) (λ scripts. tt))))
 
-faults-storm_text : (bytes : List ℕ) → IfErr (storm_text bytes) IsOfText
+-- what the text of a storm has is a fault of a text
+pub faults-storm_text : (bytes : List ℕ) → IfErr (storm_text bytes) IsOfText
 unfolding storm_text
 faults-storm_text bytes =
     faults-bind (value_of bytes) (λ d. storm_of d >>= (λ storm. unless_wrong (first_wrong storm.config) storm))

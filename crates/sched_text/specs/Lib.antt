@@ -3,10 +3,12 @@ pub mod Calls
 pub mod Script
 pub mod Input
 pub mod Plain
+pub mod Listed
 pub mod Usual
 pub mod Outcome
 pub mod StormScript
 pub mod Line
+pub mod Meaning
 pub mod Json
 pub mod Tokens
 pub mod HistoryText
@@ -15,3 +17,4 @@ pub mod Refusals
 pub mod Replies
 pub mod Recorded
 pub mod Fits
+pub mod Watched

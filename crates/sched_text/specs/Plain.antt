@@ -1,7 +1,8 @@
--- The data that a value of whole numbers, texts and objects stands for.
+-- The data that a value of whole numbers, texts, arrays and objects stands for.
 use Rattle.std.specs.Prelude.{ℕ, List, [], ◌∷◌, map}
 use Rattle.std.specs.Borrow.{Bor}
-use Rattle.serde_json.specs.Data.{Data, number, unsigned, string, object, Members, no_members, put}
+use Rattle.serde_json.specs.Data.{Data, number, unsigned, string, array, object, Members, no_members, put}
+use Rattle.serde_json.specs.View.{items_of}
 use Rattle.sched_text.specs.declared.script.plain.Plain.{Plain, fold-Plain}
 use Rattle.sched_text.specs.declared.script.plain.Plain.TheOpen.{Plain-F}
 
@@ -14,6 +15,7 @@ put_all (m ∷ ms) found = put_all ms (put m.0.now m.1 found)
 abbrev pub step_of : Plain-F Data → Data
 step_of (Plain-F.Number n) = number (unsigned n)
 step_of (Plain-F.Text s) = string s.now
+step_of (Plain-F.Array v) = array (items_of v.items)
 step_of (Plain-F.Object v) = object (put_all v.items no_members)
 
 abbrev pub data_of : Plain → Data

@@ -26,7 +26,7 @@ pub enum TextFault {
     #[error("bad script at {0}")]
     Shape(u64),
     /// This field of the configuration has no lawful value.
-    #[error("bad config {}", number_of(*.0))]
+    #[error("bad config {}", field_number(*.0))]
     Config(ConfigFault),
     /// Memory ran out.
     #[error("out of memory")]
@@ -53,7 +53,7 @@ impl From<ConfigFault> for TextFault {
 }
 
 /// The number of a field, in the order of the fields.
-fn number_of(fault: ConfigFault) -> u8
+pub fn field_number(fault: ConfigFault) -> u8
     ensures { result ≡ field_number fault }
 {
     match fault {

@@ -7,6 +7,7 @@ ghost use Rattle.json.specs.Token.{key};
 ghost use Rattle.sched_history.specs.Machine.{IsEncodable};
 ghost use Rattle.sched_text.specs.HistoryText.{entry_data, entries_data, history_data, history_text};
 ghost use Rattle.sched_text.specs.Tokens.{tokens_of};
+ghost use Rattle.sched_text.specs.Watched.{FailsBy};
 
 mod call;
 mod config;
@@ -15,6 +16,7 @@ mod reply;
 
 use crate::fault::TextFault;
 use crate::output::put;
+use crate::watched::Sink;
 use call::put_call;
 use config::put_config;
 use count::put_counts;
@@ -23,7 +25,6 @@ use minislots::Config;
 use reply::put_reply;
 use sched_history::Entry;
 use std::alloc::{AllocError, Global};
-use std::io::Write;
 
 // The keys of a stamp.
 static STAMP: [&str; 2] = ["seat", "ticket"];
@@ -94,7 +95,7 @@ fn history_text(alloc: Global, config: &Config, entries: &[Entry]) -> Result<Vec
 }
 
 /// Writes the text of a history. Nothing is written before memory runs out.
-pub fn put_history<W: Write>(
+pub fn put_history<W: Sink>(
     alloc: Global,
     writer: &mut W,
     config: &Config,
@@ -105,6 +106,7 @@ pub fn put_history<W: Write>(
         (history_text config.now entries.now)) }
     ensures quiet { IfErr result (λ e. e ≢ TextFault.Output → writer.new ≡ writer.old) }
     ensures err { IfErr result (λ e. (e ≡ TextFault.Memory) ⊎ (e ≡ TextFault.Output)) }
+    ensures failed { FailsBy TextFault.Output result (W.has_failed writer.old) (W.has_failed writer.new) }
 {
     let text = history_text(alloc, config, entries)?;
     put(writer, &text)

@@ -3,12 +3,13 @@
 ghost use Rattle.std.specs.Prelude.{IfOk, IfErr};
 ghost use Rattle.serde_json.specs.View.{view};
 ghost use Rattle.sched_text.specs.Script.{Gives};
+ghost use Rattle.sched_text.specs.Watched.{FailsBy};
 ghost use Rattle.sched_text.specs.Input.{value_of, ReadsAll, StopsReading};
 
 use crate::fault::TextFault;
+use crate::watched::Source;
 use serde_json::Value;
 use std::alloc::Global;
-use std::io::Read;
 
 /// The most bytes of an input.
 pub const MAX_INPUT: usize = 16_777_216;
@@ -18,16 +19,17 @@ const PIECE: usize = 65_536;
 
 /// All bytes that the reader has. A read that fails ends it, one that was interrupted among them,
 /// and so does the first byte too many, after which nothing more is read.
-pub fn read_all<R: Read>(alloc: Global, reader: &mut R) -> Result<Vec<u8>, TextFault>
+pub fn read_all<R: Source>(alloc: Global, reader: &mut R) -> Result<Vec<u8>, TextFault>
     ensures ok { IfOk result (λ bytes.
         ReadsAll (R.remaining reader.old) (R.remaining reader.new) bytes.items) }
     ensures stops { IfErr result
         (StopsReading (R.remaining reader.old) (R.remaining reader.new)) }
+    ensures failed { FailsBy TextFault.Input result (R.has_failed reader.old) (R.has_failed reader.new) }
 {
     let mut bytes = Vec::new(alloc);
     let mut piece = [0; PIECE];
     loop {
-        let Ok(len) = reader.read(&mut piece) else {
+        let Ok(len) = reader.read_some(&mut piece) else {
             return Err(TextFault::Input);
         };
         if len == 0 {

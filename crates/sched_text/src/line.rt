@@ -6,23 +6,25 @@ ghost use Rattle.std.specs.Io.KnownBytes.{Appends};
 ghost use Rattle.map_codec.specs.WireMap.{IsWellFormed, spelling};
 ghost use Rattle.hex.specs.Hex.{encode_lower};
 ghost use Rattle.sched_text.specs.Line.{number_text, numbers_text, fault_number, refusal_number, refusal_value};
-ghost use Rattle.sched_text.specs.Line.{value_text, reply_text, line_of, HasLine};
+ghost use Rattle.sched_text.specs.Line.{value_text, reply_text, answer_text, line_of, HasLine};
 ghost use Rattle.sched_history.specs.Machine.{IsEncodable};
+ghost use Rattle.sched_text.specs.Watched.{FailsBy};
 
 use crate::fault::TextFault;
 use crate::output::put;
+use crate::watched::Sink;
 use flow_book::FlowFault;
 use itoa::Buffer;
 use map_codec::{MAX_BYTES, WireMap, encode};
 use periodic::Placement;
 use sched_history::{Refusal, Reply, Unrecorded};
-use std::io::Write;
 
 /// A space, and a number in decimal.
 #[tactic(auto, unfolding(crate::specs::Line::number_text))]
-pub fn put_number<W: Write>(writer: &mut W, number: u64) -> Result<(), TextFault>
+pub fn put_number<W: Sink>(writer: &mut W, number: u64) -> Result<(), TextFault>
     ensures ok { OnOk result (Appends (W.contents writer.old) (W.contents writer.new) (number_text number)) }
     ensures err { IfErr result (λ e. e ≡ TextFault.Output) }
+    ensures failed { FailsBy TextFault.Output result (W.has_failed writer.old) (W.has_failed writer.new) }
 {
     let mut buffer = Buffer::new();
     put(writer, b" ")?;
@@ -30,9 +32,10 @@ pub fn put_number<W: Write>(writer: &mut W, number: u64) -> Result<(), TextFault
 }
 
 // Numbers, each after a space.
-fn put_numbers<W: Write>(writer: &mut W, numbers: &[u16]) -> Result<(), TextFault>
+fn put_numbers<W: Sink>(writer: &mut W, numbers: &[u16]) -> Result<(), TextFault>
     ensures ok { OnOk result (Appends (W.contents writer.old) (W.contents writer.new) (numbers_text numbers.now)) }
     ensures err { IfErr result (λ e. e ≡ TextFault.Output) }
+    ensures failed { FailsBy TextFault.Output result (W.has_failed writer.old) (W.has_failed writer.new) }
 {
     for number in numbers {
         put_number(writer, u64::from(*number))?;
@@ -41,10 +44,11 @@ fn put_numbers<W: Write>(writer: &mut W, numbers: &[u16]) -> Result<(), TextFaul
 }
 
 // A word, and numbers behind it.
-fn put_words<W: Write>(writer: &mut W, word: &[u8], numbers: &[u64]) -> Result<(), TextFault>
+fn put_words<W: Sink>(writer: &mut W, word: &[u8], numbers: &[u64]) -> Result<(), TextFault>
     ensures ok { OnOk result (Appends (W.contents writer.old) (W.contents writer.new)
         (word.now ++ numbers_text numbers.now)) }
     ensures err { IfErr result (λ e. e ≡ TextFault.Output) }
+    ensures failed { FailsBy TextFault.Output result (W.has_failed writer.old) (W.has_failed writer.new) }
 {
     put(writer, word)?;
     for number in numbers {
@@ -107,10 +111,11 @@ pub fn refusal_value(refusal: Refusal) -> Option<u64>
     }
 }
 
-fn put_refusal<W: Write>(writer: &mut W, refusal: Refusal) -> Result<(), TextFault>
+fn put_refusal<W: Sink>(writer: &mut W, refusal: Refusal) -> Result<(), TextFault>
     ensures ok { OnOk result (Appends (W.contents writer.old) (W.contents writer.new)
         (reply_text (Reply.Refused refusal))) }
     ensures err { IfErr result (λ e. e ≡ TextFault.Output) }
+    ensures failed { FailsBy TextFault.Output result (W.has_failed writer.old) (W.has_failed writer.new) }
 {
     let number = refusal_number(refusal);
     match refusal_value(refusal) {
@@ -119,20 +124,22 @@ fn put_refusal<W: Write>(writer: &mut W, refusal: Refusal) -> Result<(), TextFau
     }
 }
 
-fn put_placement<W: Write>(writer: &mut W, placement: &Placement) -> Result<(), TextFault>
+fn put_placement<W: Sink>(writer: &mut W, placement: &Placement) -> Result<(), TextFault>
     ensures ok { OnOk result (Appends (W.contents writer.old) (W.contents writer.new)
         (reply_text (Reply.Admitted (Some placement.now)))) }
     ensures err { IfErr result (λ e. e ≡ TextFault.Output) }
+    ensures failed { FailsBy TextFault.Output result (W.has_failed writer.old) (W.has_failed writer.new) }
 {
     put_words(writer, b"admitted", &[placement.reference])?;
     put_numbers(writer, placement.starts.as_slice())
 }
 
 // The lower-case hexadecimal of these bytes.
-fn put_hex<W: Write>(writer: &mut W, bytes: &[u8]) -> Result<(), TextFault>
+fn put_hex<W: Sink>(writer: &mut W, bytes: &[u8]) -> Result<(), TextFault>
     requires { length bytes.now ≤ 976 }
     ensures ok { OnOk result (Appends (W.contents writer.old) (W.contents writer.new) (encode_lower bytes.now)) }
     ensures err { IfErr result (λ e. e ≡ TextFault.Output) }
+    ensures failed { FailsBy TextFault.Output result (W.has_failed writer.old) (W.has_failed writer.new) }
 {
     let mut text = [0u8; 2 * MAX_BYTES];
     let text = &mut text[..2 * bytes.len()];
@@ -141,11 +148,12 @@ fn put_hex<W: Write>(writer: &mut W, bytes: &[u8]) -> Result<(), TextFault>
 }
 
 // A word, and the payload of a MAP in lower-case hexadecimal.
-fn put_payload<W: Write>(writer: &mut W, word: &[u8], map: &WireMap) -> Result<(), TextFault>
+fn put_payload<W: Sink>(writer: &mut W, word: &[u8], map: &WireMap) -> Result<(), TextFault>
     requires { IsWellFormed map.now }
     ensures ok { OnOk result (Appends (W.contents writer.old) (W.contents writer.new)
         (word.now ++ encode_lower (spelling map.now))) }
     ensures err { IfErr result (λ e. e ≡ TextFault.Output) }
+    ensures failed { FailsBy TextFault.Output result (W.has_failed writer.old) (W.has_failed writer.new) }
 {
     let mut payload = [0u8; MAX_BYTES];
     let len = encode(map, &mut payload);
@@ -153,10 +161,11 @@ fn put_payload<W: Write>(writer: &mut W, word: &[u8], map: &WireMap) -> Result<(
     put_hex(writer, &payload[..len])
 }
 
-fn put_reply<W: Write>(writer: &mut W, reply: &Reply) -> Result<(), TextFault>
+fn put_reply<W: Sink>(writer: &mut W, reply: &Reply) -> Result<(), TextFault>
     requires { IsEncodable reply.now }
     ensures ok { OnOk result (Appends (W.contents writer.old) (W.contents writer.new) (reply_text reply.now)) }
     ensures err { IfErr result (λ e. e ≡ TextFault.Output) }
+    ensures failed { FailsBy TextFault.Output result (W.has_failed writer.old) (W.has_failed writer.new) }
 {
     match reply {
         Reply::Admitted(None) => put(writer, b"admitted"),
@@ -175,22 +184,34 @@ fn put_reply<W: Write>(writer: &mut W, reply: &Reply) -> Result<(), TextFault>
     }
 }
 
+// The text of the answer to a call: its reply, or why it was not recorded.
+pub(crate) fn put_answer<W: Sink>(
+    writer: &mut W,
+    answer: &Result<Reply, Unrecorded>,
+) -> Result<(), TextFault>
+    requires { HasLine answer.now }
+    ensures ok { OnOk result (Appends (W.contents writer.old) (W.contents writer.new) (answer_text answer.now)) }
+    ensures err { IfErr result (λ e. e ≡ TextFault.Output) }
+    ensures failed { FailsBy TextFault.Output result (W.has_failed writer.old) (W.has_failed writer.new) }
+{
+    match answer {
+        Ok(reply) => put_reply(writer, reply),
+        Err(Unrecorded::HistoryFull) => put(writer, b"history full"),
+        Err(Unrecorded::Memory) => put(writer, b"out of memory"),
+    }
+}
+
 /// The line of the answer to a call: its reply, or why it was not recorded.
 #[tactic(auto, unfolding(crate::specs::Line::line_of))]
-pub fn put_line<W: Write>(
+pub fn put_line<W: Sink>(
     writer: &mut W,
     answer: &Result<Reply, Unrecorded>,
 ) -> Result<(), TextFault>
     requires { HasLine answer.now }
     ensures ok { OnOk result (Appends (W.contents writer.old) (W.contents writer.new) (line_of answer.now)) }
     ensures err { IfErr result (λ e. e ≡ TextFault.Output) }
+    ensures failed { FailsBy TextFault.Output result (W.has_failed writer.old) (W.has_failed writer.new) }
 {
-    match answer {
-        Ok(reply) => {
-            put_reply(writer, reply)?;
-            put(writer, b"\n")
-        }
-        Err(Unrecorded::HistoryFull) => put(writer, b"history full\n"),
-        Err(Unrecorded::Memory) => put(writer, b"out of memory\n"),
-    }
+    put_answer(writer, answer)?;
+    put(writer, b"\n")
 }

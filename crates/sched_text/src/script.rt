@@ -8,11 +8,11 @@ pub(crate) mod call;
 pub(crate) mod config;
 pub(crate) mod field;
 mod flow;
-mod plain;
+pub(crate) mod plain;
 mod reading;
 mod storms;
-mod tree;
-mod usual;
+pub(crate) mod tree;
+pub(crate) mod usual;
 
 use crate::fault::TextFault;
 use call::call_of;

@@ -22,6 +22,8 @@ mod readme_rows;
 #[cfg(test)]
 mod refused_rows;
 #[cfg(test)]
+mod sched_check_rows;
+#[cfg(test)]
 mod sched_commands_rows;
 #[cfg(test)]
 mod sched_history_rows;

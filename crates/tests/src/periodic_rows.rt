@@ -1,7 +1,7 @@
 //! Worked placements, and the spots of their frames.
 
 mod lists;
-pub mod slow;
+mod slow;
 
 use crate::base::{BASE, is_shown, shown};
 use flow_book::FlowSpec;

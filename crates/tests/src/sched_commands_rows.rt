@@ -1,10 +1,10 @@
-//! The commands of the program: scripts and storms that are run, payloads that are shown, and histories that are
-//! audited.
+//! The commands of the program under readers, writers and gates that the program itself does not have. Texts with their
+//! lines are tried on the program, in checks/worked_texts.
 
 mod audits;
-mod changes;
-mod faults;
-mod runs;
+mod drawings;
+mod drawn;
+mod explained;
 mod storms;
 mod tables;
 mod writers;

@@ -1,7 +1,6 @@
 //! Worked histories of the scheduler, call by call.
 
 mod audits;
-mod changes;
 
 use crate::base::crowds::{CROWDS, GRANTS};
 use crate::base::runs::RUNS;

@@ -1,9 +1,11 @@
-//! Scripts and histories as they are read, with their faults, and histories as they are written.
+//! Scripts and histories as they are read and written. The faults of texts are tried on the program itself, in
+//! checks/worked_texts.
 
 mod faults;
 mod histories;
 mod lines;
+mod meanings;
 mod readers;
 mod recorded;
-pub mod scripts;
+mod scripts;
 mod storms;

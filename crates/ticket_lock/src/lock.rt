@@ -2,7 +2,8 @@
 //! 1. A seat draws its ticket, t, by a fetch-and-add on `next`. Tickets are served in the order of the draws.
 //! 2. It looks at a word of its own, word t mod 64 of a row, until that is t. At most 64 tickets are in flight.
 //! 3. The holder of t leaves by one store, of t + 1 into word (t + 1) mod 64, which one seat at most looks at.
-//! 4. A seat that has looked often yields, and then sleeps on its word; whoever serves its ticket wakes it.
+//! 4. A seat whose turn is far sleeps on its word, and is woken ahead of its turn. One that is near looks, yields,
+//!    and sleeps at last. Whoever serves its ticket wakes it.
 //! 5. The words count modulo 2^64. The value goes in and out of a slot that is the holder's alone.
 ghost use Rattle.std.specs.Prelude.{◌≡◌, ◌+◌, ℕ, Option, Some, [], ◌∷◌, IfOk, IfErr};
 ghost use Rattle.ticket_lock.specs.Calls.{Draws, Enters, MayLeave, Leaves};
@@ -42,11 +43,20 @@ impl<T: Journal> Model for TicketLock<T> {
         × (l.table.shared.table_id.slots ≡ 1) × (1 ≤ l.table.shared.key.seats) };
 }
 
-// How often a waiting seat looks before it lets other threads run.
+// A turn is near where no more than so many come before it. A seat whose turn is not near sleeps.
+const NEAR: u64 = 7;
+
+// It is woken where so many turns come before its own, and again for its own.
+const AHEAD: u64 = 3;
+
+// How often a seat looks before it asks whether its turn is near.
+const FIRST_LOOKS: u32 = 16;
+
+// How often one whose turn is near looks before it lets other threads run.
 const LOOKS: u32 = 100;
 
-// How often it lets them run, with a look after each, before it sleeps.
-const YIELDS: u32 = 200;
+// How often it lets them run, with a look after each, before it sleeps too.
+const YIELDS: u32 = 100;
 
 // The bit of the word that a seat with this ticket waits on.
 fn bit_of(ticket: u64) -> u64 {
@@ -104,8 +114,7 @@ impl<T: Journal> TicketLock<T> {
                 Ok(inside) => return self.take(inside),
                 Err(back) => waiting = back,
             }
-            self.pause(rt, waiting.number(), looks);
-            looks = looks.saturating_add(1);
+            looks = self.pause(rt, waiting.number(), looks);
         }
         unreachable!()
     }
@@ -182,15 +191,27 @@ impl<T: Journal> TicketLock<T> {
         (held, value)
     }
 
-    // What passes between two looks of a seat with this ticket, after so many of them.
-    fn pause<R: Wait>(&self, rt: &R, ticket: u64, looks: u32) {
+    // What passes between two looks of a seat with this ticket, after so many since it last slept. It tells how many
+    // there are then. What is near once stays near.
+    fn pause<R: Wait>(&self, rt: &R, ticket: u64, looks: u32) -> u32 {
+        let is_far = looks == FIRST_LOOKS && !self.is_near(ticket);
+        if is_far || looks >= LOOKS + YIELDS {
+            self.sleep(rt, ticket);
+            return 0;
+        }
         if looks < LOOKS {
             hint::spin_loop();
-        } else if looks < LOOKS + YIELDS {
-            thread::yield_now();
         } else {
-            self.sleep(rt, ticket);
+            thread::yield_now();
         }
+        looks.saturating_add(1)
+    }
+
+    // Whether the turn of a seat that waits with this ticket is near: whether the ticket so many before its own was
+    // served. It is read without a seat, as a sleeper's word is: it changes no word and tells no seat anything.
+    fn is_near(&self, ticket: u64) -> bool {
+        let before = ticket.wrapping_sub(NEAR);
+        self.table.shared.peek(place_of(before)) == before
     }
 
     // Sleeps on the ticket's word while it has what it has before its turn: the ticket 64 before it.
@@ -200,6 +221,7 @@ impl<T: Journal> TicketLock<T> {
     // one order: if the store comes first, the seat does not sleep; if not, the bit is set when it is read,
     // and the word is woken after the store. Nobody else waits on that word, so the wake is the sleeper's.
     // A wake that comes before the seat is asleep comes after the store, so the seat does not sleep then.
+    // A seat that is woken before its turn looks, and may sleep again in the same way.
     fn sleep<R: Wait>(&self, rt: &R, ticket: u64) {
         let bit = bit_of(ticket);
         self.asleep.fetch_add(bit, SeqCst);
@@ -210,10 +232,16 @@ impl<T: Journal> TicketLock<T> {
         self.asleep.fetch_sub(bit, SeqCst);
     }
 
-    // Wakes the seat with this ticket, if it sleeps.
+    // Wakes the seat with this ticket, which is served, and one ahead of its turn, if they sleep.
     fn wake(&self, ticket: u64) {
-        if self.asleep.load(SeqCst) & bit_of(ticket) != 0 {
-            self.table.shared.wake_one(place_of(ticket));
+        let asleep = self.asleep.load(SeqCst);
+        if asleep == 0 {
+            return;
+        }
+        for ticket in [ticket, ticket.wrapping_add(AHEAD)] {
+            if asleep & bit_of(ticket) != 0 {
+                self.table.shared.wake_one(place_of(ticket));
+            }
         }
     }
 }

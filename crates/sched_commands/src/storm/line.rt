@@ -2,20 +2,21 @@
 
 ghost use Rattle.std.specs.Prelude.{◌≡◌, ◌≤◌, OnOk, IfErr};
 ghost use Rattle.std.specs.Io.KnownBytes.{Appends};
+ghost use Rattle.sched_text.specs.Watched.{FailsBy};
 ghost use Rattle.sched_commands.specs.StormLines.{seat_line, seat_lines};
 ghost use Rattle.sched_commands.specs.StormLines.{newest_line, held_line, audit_line, tally_text};
 
 use crate::line::put_named;
 use sched_storm::Tally;
-use sched_text::{TextFault, put, put_number};
-use std::io::Write;
+use sched_text::{Sink, TextFault, put, put_number};
 use ticket_core::MAX_SEATS;
 
 // The line of a seat: its number and its count.
 #[tactic(auto, unfolding(crate::specs::StormLines::seat_line))]
-fn put_seat<W: Write>(writer: &mut W, number: u64, count: u64) -> Result<(), TextFault>
+fn put_seat<W: Sink>(writer: &mut W, number: u64, count: u64) -> Result<(), TextFault>
     ensures ok { OnOk result (Appends (W.contents writer.old) (W.contents writer.new) (seat_line number count)) }
     ensures err { IfErr result (λ e. e ≡ TextFault.Output) }
+    ensures failed { FailsBy TextFault.Output result (W.has_failed writer.old) (W.has_failed writer.new) }
 {
     put(writer, b"seat")?;
     put_number(writer, number)?;
@@ -24,7 +25,7 @@ fn put_seat<W: Write>(writer: &mut W, number: u64, count: u64) -> Result<(), Tex
 }
 
 // The lines of the first so many seats.
-fn put_seats<W: Write>(
+fn put_seats<W: Sink>(
     writer: &mut W,
     counts: &[u64; MAX_SEATS],
     workers: usize,
@@ -32,6 +33,7 @@ fn put_seats<W: Write>(
     requires { workers ≤ 64 }
     ensures ok { OnOk result (Appends (W.contents writer.old) (W.contents writer.new) (seat_lines counts.now workers)) }
     ensures err { IfErr result (λ e. e ≡ TextFault.Output) }
+    ensures failed { FailsBy TextFault.Output result (W.has_failed writer.old) (W.has_failed writer.new) }
 {
     for number in 0..workers {
         put_seat(writer, number as u64, counts[number])?;
@@ -40,9 +42,10 @@ fn put_seats<W: Write>(
 }
 
 // The line of the version that was read last, or of none.
-fn put_newest<W: Write>(writer: &mut W, newest: Option<u64>) -> Result<(), TextFault>
+fn put_newest<W: Sink>(writer: &mut W, newest: Option<u64>) -> Result<(), TextFault>
     ensures ok { OnOk result (Appends (W.contents writer.old) (W.contents writer.new) (newest_line newest)) }
     ensures err { IfErr result (λ e. e ≡ TextFault.Output) }
+    ensures failed { FailsBy TextFault.Output result (W.has_failed writer.old) (W.has_failed writer.new) }
 {
     match newest {
         Some(version) => put_named(writer, b"newest", version),
@@ -51,9 +54,10 @@ fn put_newest<W: Write>(writer: &mut W, newest: Option<u64>) -> Result<(), TextF
 }
 
 // The line of the worker that was held, if any.
-fn put_held<W: Write>(writer: &mut W, held: Option<usize>) -> Result<(), TextFault>
+fn put_held<W: Sink>(writer: &mut W, held: Option<usize>) -> Result<(), TextFault>
     ensures ok { OnOk result (Appends (W.contents writer.old) (W.contents writer.new) (held_line held)) }
     ensures err { IfErr result (λ e. e ≡ TextFault.Output) }
+    ensures failed { FailsBy TextFault.Output result (W.has_failed writer.old) (W.has_failed writer.new) }
 {
     match held {
         Some(worker) => put_named(writer, b"held", worker as u64),
@@ -62,9 +66,10 @@ fn put_held<W: Write>(writer: &mut W, held: Option<usize>) -> Result<(), TextFau
 }
 
 // The line of the audit.
-fn put_audit<W: Write>(writer: &mut W, legal: bool) -> Result<(), TextFault>
+fn put_audit<W: Sink>(writer: &mut W, legal: bool) -> Result<(), TextFault>
     ensures ok { OnOk result (Appends (W.contents writer.old) (W.contents writer.new) (audit_line legal)) }
     ensures err { IfErr result (λ e. e ≡ TextFault.Output) }
+    ensures failed { FailsBy TextFault.Output result (W.has_failed writer.old) (W.has_failed writer.new) }
 {
     put(
         writer,
@@ -78,10 +83,11 @@ fn put_audit<W: Write>(writer: &mut W, legal: bool) -> Result<(), TextFault>
 
 /// The lines of a tally of so many workers.
 #[tactic(auto, unfolding(crate::specs::StormLines::tally_text))]
-pub fn put_tally<W: Write>(writer: &mut W, workers: usize, tally: &Tally) -> Result<(), TextFault>
+pub fn put_tally<W: Sink>(writer: &mut W, workers: usize, tally: &Tally) -> Result<(), TextFault>
     requires { workers ≤ 64 }
     ensures ok { OnOk result (Appends (W.contents writer.old) (W.contents writer.new) (tally_text workers tally.now)) }
     ensures err { IfErr result (λ e. e ≡ TextFault.Output) }
+    ensures failed { FailsBy TextFault.Output result (W.has_failed writer.old) (W.has_failed writer.new) }
 {
     put_seats(writer, &tally.counts, workers)?;
     put_named(writer, b"unrecorded", tally.unrecorded)?;

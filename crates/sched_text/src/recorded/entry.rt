@@ -1,22 +1,22 @@
 //! One entry of a history.
 
 ghost use Rattle.std.specs.Prelude.{◌≡◌, IfOk};
-ghost use Rattle.serde_json.specs.View.{view};
 ghost use Rattle.sched_text.specs.Replies.{entry_of};
 
 use super::reply::reply_of;
 use crate::script::call::call_of;
 use crate::script::field::{member, number_u32, number_u64};
+use crate::script::tree::Tree;
+use crate::script::usual::Listed;
 use minislots::Stamp;
 use sched_history::Entry;
-use serde_json::Value;
 use std::alloc::{AllocError, Global};
 
 /// The entry that an object stands for: its stamp, its call as in a script, and its reply. Nothing says that the
 /// reply may follow.
 #[tactic(auto, unfolding(crate::specs::Replies::entry_of))]
-pub fn entry_of(alloc: Global, value: &Value) -> Result<Option<Entry>, AllocError>
-    ensures { IfOk result (λ entry. entry ≡ entry_of (view value.now)) }
+pub fn entry_of<T: Tree>(alloc: Global, value: &T) -> Result<Option<Entry>, AllocError>
+    ensures { IfOk result (λ entry. entry ≡ entry_of (T.shown value.now)) }
 {
     let (Some(seat), Some(ticket), Some(call), Some(replied)) = (
         number_u32(value, "seat"),
@@ -31,4 +31,12 @@ pub fn entry_of(alloc: Global, value: &Value) -> Result<Option<Entry>, AllocErro
     };
     let stamp = Stamp { seat, ticket };
     Ok(Some(Entry { stamp, call, reply }))
+}
+
+impl Listed for Entry {
+    ghost stands_for = { entry_of };
+
+    fn read<T: Tree>(alloc: Global, value: &T) -> Result<Option<Entry>, AllocError> {
+        entry_of(alloc, value)
+    }
 }

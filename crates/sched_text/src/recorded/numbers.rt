@@ -1,33 +1,33 @@
 //! Whole numbers in the arrays of a JSON object.
 
-ghost use Rattle.std.specs.Prelude.{◌≡◌, ◌^◌, IfOk, option_map};
-ghost use Rattle.serde_json.specs.View.{view, items_view};
+ghost use Rattle.std.specs.Prelude.{◌≡◌, ◌^◌, map, IfOk, option_map};
+ghost use Rattle.serde_json.specs.View.{items_of};
 ghost use Rattle.sched_text.specs.Replies.{number_below, numbers_of, numbers_at};
 
 use crate::script::field::member;
-use serde_json::Value;
+use crate::script::tree::Tree;
 use std::alloc::{AllocError, Global};
 
 // The number that a value is, where it fits.
 #[tactic(auto, unfolding(crate::specs::Replies::number_below))]
-fn number_u16(value: &Value) -> Option<u16>
-    ensures { result ≡ number_below (2 ^ 16) (view value.now) }
+fn number_u16<T: Tree>(value: &T) -> Option<u16>
+    ensures { result ≡ number_below (2 ^ 16) (T.shown value.now) }
 {
-    u16::try_from(value.as_u64()?).ok()
+    u16::try_from(value.whole()?).ok()
 }
 
 // The number that a value is, where it fits.
 #[tactic(auto, unfolding(crate::specs::Replies::number_below))]
-fn number_u32(value: &Value) -> Option<u32>
-    ensures { result ≡ number_below (2 ^ 32) (view value.now) }
+fn number_u32<T: Tree>(value: &T) -> Option<u32>
+    ensures { result ≡ number_below (2 ^ 32) (T.shown value.now) }
 {
-    u32::try_from(value.as_u64()?).ok()
+    u32::try_from(value.whole()?).ok()
 }
 
 // The numbers that values are, where each fits.
-fn each_u16(alloc: Global, values: &[Value]) -> Result<Option<Vec<u16>>, AllocError>
+fn each_u16<T: Tree>(alloc: Global, values: &[T]) -> Result<Option<Vec<u16>>, AllocError>
     ensures { IfOk result (λ numbers.
-        option_map (λ v. v.items) numbers ≡ numbers_of (2 ^ 16) (items_view values.now)) }
+        option_map (λ v. v.items) numbers ≡ numbers_of (2 ^ 16) (items_of (map T.shown values.now))) }
 {
     let mut numbers = Vec::with_capacity(alloc, values.len())?;
     for value in values {
@@ -40,9 +40,9 @@ fn each_u16(alloc: Global, values: &[Value]) -> Result<Option<Vec<u16>>, AllocEr
 }
 
 // The numbers that values are, where each fits.
-fn each_u32(alloc: Global, values: &[Value]) -> Result<Option<Vec<u32>>, AllocError>
+fn each_u32<T: Tree>(alloc: Global, values: &[T]) -> Result<Option<Vec<u32>>, AllocError>
     ensures { IfOk result (λ numbers.
-        option_map (λ v. v.items) numbers ≡ numbers_of (2 ^ 32) (items_view values.now)) }
+        option_map (λ v. v.items) numbers ≡ numbers_of (2 ^ 32) (items_of (map T.shown values.now))) }
 {
     let mut numbers = Vec::with_capacity(alloc, values.len())?;
     for value in values {
@@ -56,11 +56,15 @@ fn each_u32(alloc: Global, values: &[Value]) -> Result<Option<Vec<u32>>, AllocEr
 
 /// The numbers of the array under this key, where each fits.
 #[tactic(auto, unfolding(crate::specs::Replies::numbers_at))]
-pub fn numbers_u16(alloc: Global, value: &Value, key: &str) -> Result<Option<Vec<u16>>, AllocError>
+pub fn numbers_u16<T: Tree>(
+    alloc: Global,
+    value: &T,
+    key: &str,
+) -> Result<Option<Vec<u16>>, AllocError>
     ensures { IfOk result (λ numbers.
-        option_map (λ v. v.items) numbers ≡ numbers_at (2 ^ 16) key.now (view value.now)) }
+        option_map (λ v. v.items) numbers ≡ numbers_at (2 ^ 16) key.now (T.shown value.now)) }
 {
-    match member(value, key).and_then(Value::as_array) {
+    match member(value, key).and_then(Tree::items) {
         Some(values) => each_u16(alloc, values),
         None => Ok(None),
     }
@@ -68,11 +72,15 @@ pub fn numbers_u16(alloc: Global, value: &Value, key: &str) -> Result<Option<Vec
 
 /// The numbers of the array under this key, where each fits.
 #[tactic(auto, unfolding(crate::specs::Replies::numbers_at))]
-pub fn numbers_u32(alloc: Global, value: &Value, key: &str) -> Result<Option<Vec<u32>>, AllocError>
+pub fn numbers_u32<T: Tree>(
+    alloc: Global,
+    value: &T,
+    key: &str,
+) -> Result<Option<Vec<u32>>, AllocError>
     ensures { IfOk result (λ numbers.
-        option_map (λ v. v.items) numbers ≡ numbers_at (2 ^ 32) key.now (view value.now)) }
+        option_map (λ v. v.items) numbers ≡ numbers_at (2 ^ 32) key.now (T.shown value.now)) }
 {
-    match member(value, key).and_then(Value::as_array) {
+    match member(value, key).and_then(Tree::items) {
         Some(values) => each_u32(alloc, values),
         None => Ok(None),
     }

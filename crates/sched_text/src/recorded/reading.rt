@@ -8,23 +8,40 @@ ghost use Rattle.sched_text.specs.Script.{Gives};
 ghost use Rattle.sched_text.specs.Fits.{IsReadAgain};
 ghost use Rattle.sched_text.specs.Refusals.{IsExactRefusal};
 ghost use Rattle.sched_text.specs.Replies.{IsExactMap};
-ghost use Rattle.sched_text.specs.Recorded.{history_in, GivesHistory, StopsHistory};
+ghost use Rattle.sched_text.specs.Recorded.{history_in, history_with, GivesHistory, StopsHistory};
+ghost use Rattle.sched_text.specs.Usual.{recorded_text};
+ghost use Rattle.sched_text.specs.Watched.{FailsBy};
 
 use super::{Recorded, history_of};
 use crate::fault::TextFault;
 use crate::input::{parse, read_all};
+use crate::script::plain::Stop;
+use crate::script::usual::read_usual;
+use crate::watched::Source;
 use minislots::Checked;
 use sched_history::Entry;
 use std::alloc::Global;
-use std::io::Read;
+
+// The history that a text stands for. One that is not in the usual form is read as a tree, which tells its fault.
+fn history_of_text(alloc: Global, bytes: &[u8]) -> Result<Recorded, TextFault>
+    ensures { Gives history_with result (recorded_text bytes.now) }
+{
+    match read_usual(alloc, bytes, "entries") {
+        Ok((config, entries)) => Ok(Recorded { config, entries }),
+        Err(Stop::Memory) => Err(TextFault::Memory),
+        Err(Stop::Unusual) => {
+            let value = parse(alloc, bytes)?;
+            history_of(alloc, &value)
+        }
+    }
+}
 
 // The history that a text stands for, where its configuration is lawful.
-#[tactic(auto, unfolding(crate::specs::Recorded::history_in))]
+#[tactic(auto, using(crate::proofs::Documents::history_tested_behind))]
 fn history_in(alloc: Global, bytes: &[u8]) -> Result<(Checked, Vec<Entry>), TextFault>
     ensures { Gives (λ r. record { config = r.0; entries = r.1.items }) result (history_in bytes.now) }
 {
-    let value = parse(alloc, bytes)?;
-    let Recorded { config, entries } = history_of(alloc, &value)?;
+    let Recorded { config, entries } = history_of_text(alloc, bytes)?;
     let config = config.check()?;
     Ok((config, entries))
 }
@@ -32,7 +49,7 @@ fn history_in(alloc: Global, bytes: &[u8]) -> Result<(Checked, Vec<Entry>), Text
 /// The configuration and the entries of the history in a reader, of which all bytes are read. The faults come in
 /// the order of [`TextFault`]: a fault of shape at any entry comes before a wrong configuration. Nothing says that
 /// an entry may follow those before it, but its MAP has bytes where it has one.
-pub fn read_history<R: Read>(
+pub fn read_history<R: Source>(
     alloc: Global,
     reader: &mut R,
 ) -> Result<(Checked, Vec<Entry>), TextFault>
@@ -42,6 +59,7 @@ pub fn read_history<R: Read>(
     ensures few { IfOk result (λ r. vec_len r.1 ≤ MAX_ENTRIES) }
     ensures stops { IfErr result
         (StopsHistory (R.remaining reader.old) (R.remaining reader.new)) }
+    ensures failed { FailsBy TextFault.Input result (R.has_failed reader.old) (R.has_failed reader.new) }
 {
     let bytes = read_all(alloc, reader)?;
     history_in(alloc, &bytes)

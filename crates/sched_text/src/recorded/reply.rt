@@ -1,24 +1,23 @@
 //! One reply of a history.
 
 ghost use Rattle.std.specs.Prelude.{◌≡◌, IfOk, Some};
-ghost use Rattle.serde_json.specs.View.{view};
 ghost use Rattle.sched_text.specs.Replies.{placed_reply, admitted_reply, map_of, map_at, map_reply, skipped_reply};
 ghost use Rattle.sched_text.specs.Replies.{flow_reply, u64_if, refused_reply, reply_of};
 
 use super::numbers::{numbers_u16, numbers_u32};
 use super::refusal::refusal_with;
 use crate::script::field::{member, number_u64, text};
+use crate::script::tree::Tree;
 use hex::FromHexError;
 use map_build::{ByteCounts, FrameMap};
 use map_codec::{DecodeFault, WireMap, decode};
 use periodic::{Placement, Starts};
 use sched_history::Reply;
-use serde_json::Value;
 use std::alloc::{AllocError, Global};
 
 #[tactic(auto, unfolding(crate::specs::Replies::placed_reply))]
-fn placed_reply(alloc: Global, value: &Value) -> Result<Option<Reply>, AllocError>
-    ensures { IfOk result (λ reply. reply ≡ placed_reply (view value.now)) }
+fn placed_reply<T: Tree>(alloc: Global, value: &T) -> Result<Option<Reply>, AllocError>
+    ensures { IfOk result (λ reply. reply ≡ placed_reply (T.shown value.now)) }
 {
     let Some(reference) = number_u64(value, "reference") else {
         return Ok(None);
@@ -33,8 +32,8 @@ fn placed_reply(alloc: Global, value: &Value) -> Result<Option<Reply>, AllocErro
 }
 
 #[tactic(auto, unfolding(crate::specs::Replies::admitted_reply))]
-fn admitted_reply(alloc: Global, value: &Value) -> Result<Option<Reply>, AllocError>
-    ensures { IfOk result (λ reply. reply ≡ admitted_reply (view value.now)) }
+fn admitted_reply<T: Tree>(alloc: Global, value: &T) -> Result<Option<Reply>, AllocError>
+    ensures { IfOk result (λ reply. reply ≡ admitted_reply (T.shown value.now)) }
 {
     if member(value, "reference").is_some() || member(value, "starts").is_some() {
         placed_reply(alloc, value)
@@ -57,8 +56,8 @@ fn map_of(alloc: Global, bytes: &[u8]) -> Result<Option<WireMap>, AllocError>
 
 // The MAP whose payload stands under this key in hexadecimal, digits of both cases.
 #[tactic(auto, unfolding(crate::specs::Replies::map_at))]
-fn map_at(alloc: Global, value: &Value, key: &str) -> Result<Option<WireMap>, AllocError>
-    ensures { IfOk result (λ map. map ≡ map_at key.now (view value.now)) }
+fn map_at<T: Tree>(alloc: Global, value: &T, key: &str) -> Result<Option<WireMap>, AllocError>
+    ensures { IfOk result (λ map. map ≡ map_at key.now (T.shown value.now)) }
 {
     let Some(digits) = text(value, key) else {
         return Ok(None);
@@ -71,8 +70,8 @@ fn map_at(alloc: Global, value: &Value, key: &str) -> Result<Option<WireMap>, Al
 }
 
 #[tactic(auto, unfolding(crate::specs::Replies::map_reply))]
-fn map_reply(alloc: Global, value: &Value) -> Result<Option<Reply>, AllocError>
-    ensures { IfOk result (λ reply. reply ≡ map_reply (view value.now)) }
+fn map_reply<T: Tree>(alloc: Global, value: &T) -> Result<Option<Reply>, AllocError>
+    ensures { IfOk result (λ reply. reply ≡ map_reply (T.shown value.now)) }
 {
     let (Some(start), Some(ack)) = (number_u64(value, "start"), number_u64(value, "ack")) else {
         return Ok(None);
@@ -92,15 +91,15 @@ fn map_reply(alloc: Global, value: &Value) -> Result<Option<Reply>, AllocError>
 }
 
 #[tactic(auto, unfolding(crate::specs::Replies::skipped_reply))]
-fn skipped_reply(value: &Value) -> Option<Reply>
-    ensures { result ≡ skipped_reply (view value.now) }
+fn skipped_reply<T: Tree>(value: &T) -> Option<Reply>
+    ensures { result ≡ skipped_reply (T.shown value.now) }
 {
     Some(Reply::Skipped(number_u64(value, "next")?))
 }
 
 #[tactic(auto, unfolding(crate::specs::Replies::flow_reply))]
-fn flow_reply(value: &Value) -> Option<Reply>
-    ensures { result ≡ flow_reply (view value.now) }
+fn flow_reply<T: Tree>(value: &T) -> Option<Reply>
+    ensures { result ≡ flow_reply (T.shown value.now) }
 {
     let (Some(asked), Some(granted), Some(outstanding)) = (
         number_u64(value, "asked"),
@@ -118,8 +117,8 @@ fn flow_reply(value: &Value) -> Option<Reply>
 
 // The number under this key where something stands there, which then is a number.
 #[tactic(auto, unfolding(crate::specs::Replies::u64_if))]
-fn u64_if(value: &Value, key: &str) -> Option<Option<u64>>
-    ensures { result ≡ u64_if key.now (view value.now) }
+fn u64_if<T: Tree>(value: &T, key: &str) -> Option<Option<u64>>
+    ensures { result ≡ u64_if key.now (T.shown value.now) }
 {
     if member(value, key).is_none() {
         return Some(None);
@@ -128,8 +127,8 @@ fn u64_if(value: &Value, key: &str) -> Option<Option<u64>>
 }
 
 #[tactic(auto, unfolding(crate::specs::Replies::refused_reply))]
-fn refused_reply(value: &Value) -> Option<Reply>
-    ensures { result ≡ refused_reply (view value.now) }
+fn refused_reply<T: Tree>(value: &T) -> Option<Reply>
+    ensures { result ≡ refused_reply (T.shown value.now) }
 {
     let number = number_u64(value, "number")?;
     let refusal = refusal_with(number, u64_if(value, "value")?)?;
@@ -138,8 +137,8 @@ fn refused_reply(value: &Value) -> Option<Reply>
 
 /// The reply that an object stands for, by its kind. Takes memory for a placement and for a MAP.
 #[tactic(auto, unfolding(crate::specs::Replies::reply_of))]
-pub fn reply_of(alloc: Global, value: &Value) -> Result<Option<Reply>, AllocError>
-    ensures { IfOk result (λ reply. reply ≡ reply_of (view value.now)) }
+pub fn reply_of<T: Tree>(alloc: Global, value: &T) -> Result<Option<Reply>, AllocError>
+    ensures { IfOk result (λ reply. reply ≡ reply_of (T.shown value.now)) }
 {
     let Some(kind) = text(value, "kind") else {
         return Ok(None);

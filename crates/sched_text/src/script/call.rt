@@ -7,7 +7,9 @@ ghost use Rattle.sched_text.specs.Calls.{status_call, call_of};
 use super::field::{member, number_u8, number_u16, number_u32, number_u64, text};
 use super::flow::flow_of;
 use super::tree::Tree;
+use super::usual::Listed;
 use sched_history::Call;
+use std::alloc::{AllocError, Global};
 
 #[tactic(auto, unfolding(crate::specs::Calls::admit_call))]
 fn admit_call<T: Tree>(value: &T) -> Option<Call>
@@ -99,5 +101,13 @@ pub fn call_of<T: Tree>(value: &T) -> Option<Call>
         "skip" => skip_call(value),
         "status" => status_call(value),
         _ => None,
+    }
+}
+
+impl Listed for Call {
+    ghost stands_for = { call_of };
+
+    fn read<T: Tree>(_alloc: Global, value: &T) -> Result<Option<Call>, AllocError> {
+        Ok(call_of(value))
     }
 }

@@ -1,10 +1,11 @@
-//! Values of whole numbers, texts and objects alone, read straight from the tokens of a text that they borrow.
+//! Values of whole numbers, texts, arrays and objects alone, read straight from the tokens of a text that they borrow.
 
-ghost use Rattle.std.specs.Prelude.{◌≡◌, ◌<◌, Some, IfOk, OnOk, IfSome, option_map, length};
-ghost use Rattle.json.specs.Json.{value, members};
+ghost use Rattle.std.specs.Prelude.{◌≡◌, ◌<◌, map, Some, IfOk, OnOk, IfSome, option_map, length};
+ghost use Rattle.json.specs.Json.{value, items, members};
 ghost use Rattle.serde_json.specs.Data.{unsigned, no_members};
 ghost use Rattle.serde_json.specs.Find.{get_member};
-ghost use Rattle.serde_json.specs.Read.{number_of, of_json, of_members, converted};
+ghost use Rattle.serde_json.specs.Read.{number_of, of_json, of_items, of_members, converted};
+ghost use Rattle.serde_json.specs.View.{items_of};
 ghost use Rattle.sched_text.specs.Plain.{data_of, members_of};
 
 use super::tree::Tree;
@@ -12,11 +13,12 @@ use fast_float::Numeral;
 use json::{Invalid, Reader, Token};
 use std::alloc::{AllocError, AllocFailed, Global};
 
-/// A value of whole numbers, texts and objects alone.
+/// A value of whole numbers, texts, arrays and objects alone.
 #[derive(Drop)]
 pub enum Plain<'a> {
     Number(u64),
     Text(&'a str),
+    Array(Vec<Plain<'a>>),
     Object(Vec<(&'a str, Plain<'a>)>),
 }
 
@@ -70,6 +72,13 @@ impl<'a> Tree for Plain<'a> {
             _ => None,
         }
     }
+
+    fn items(&self) -> Option<&[Plain<'a>]> {
+        match self {
+            Plain::Array(items) => Some(items.as_slice()),
+            _ => None,
+        }
+    }
 }
 
 // The last value under this key.
@@ -112,6 +121,12 @@ pub fn read_plain<'a>(
     match reader.next().ok_or(Stop::Unusual)? {
         Token::String(text) => Ok(Plain::Text(text)),
         Token::Number(text) => Ok(Plain::Number(whole_of(text).ok_or(Stop::Unusual)?)),
+        Token::BeginArray => {
+            if depth == 0 {
+                return Err(Stop::Unusual);
+            }
+            Ok(Plain::Array(read_items(alloc, reader, depth - 1)?))
+        }
         Token::BeginObject => {
             if depth == 0 {
                 return Err(Stop::Unusual);
@@ -120,6 +135,26 @@ pub fn read_plain<'a>(
         }
         _ => Err(Stop::Unusual),
     }
+}
+
+// The items of an array whose bracket was taken, and the bracket that closes it.
+#[cycle(read)]
+fn read_items<'a>(
+    alloc: Global,
+    reader: &mut Reader<'a>,
+    depth: usize,
+) -> Result<Vec<Plain<'a>>, Stop>
+    ensures are { IfOk result
+        (λ v. converted of_items (items (value depth) (length reader.old) reader.old)
+        ≡ Some (items_of (map data_of v.items), reader.new)) }
+    ensures shorter { OnOk result (length reader.new < length reader.old) }
+{
+    let mut found = Vec::new(alloc);
+    'items: while !reader.take_end_array() {
+        let item = read_plain(alloc, reader, depth)?;
+        found.push(item)?;
+    }
+    Ok(found)
 }
 
 // The members of an object whose brace was taken, and the brace that closes it.
@@ -135,7 +170,7 @@ fn read_members<'a>(
         ≡ Some (members_of v.items, reader.new)) }
     ensures shorter { OnOk result (length reader.new < length reader.old) }
 {
-    let mut found = Vec::with_capacity(alloc, 8)?;
+    let mut found = Vec::new(alloc);
     'members: while let Some(key) = reader.next_key()? {
         let member = read_plain(alloc, reader, depth)?;
         found.push((key, member))?;

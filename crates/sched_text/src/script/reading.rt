@@ -3,6 +3,7 @@
 ghost use Rattle.std.specs.Prelude.{IfOk, IfErr};
 ghost use Rattle.sched_text.specs.Script.{Gives, scenario_of};
 ghost use Rattle.sched_text.specs.Usual.{script_text};
+ghost use Rattle.sched_text.specs.Watched.{FailsBy};
 ghost use Rattle.sched_text.specs.Outcome.{text_outcome, StandsFor, StopsScript};
 
 use super::plain::Stop;
@@ -10,17 +11,17 @@ use super::usual::read_usual;
 use super::{Script, script_of};
 use crate::fault::TextFault;
 use crate::input::{parse, read_all};
+use crate::watched::Source;
 use minislots::Checked;
 use sched_history::Call;
 use std::alloc::Global;
-use std::io::Read;
 
 // The script that a text stands for. One that is not in the usual form is read as a tree, which tells its fault.
 fn script_of_text(alloc: Global, bytes: &[u8]) -> Result<Script, TextFault>
     ensures { Gives scenario_of result (script_text bytes.now) }
 {
-    match read_usual(alloc, bytes) {
-        Ok(script) => Ok(script),
+    match read_usual(alloc, bytes, "calls") {
+        Ok((config, calls)) => Ok(Script { config, calls }),
         Err(Stop::Memory) => Err(TextFault::Memory),
         Err(Stop::Unusual) => {
             let value = parse(alloc, bytes)?;
@@ -30,7 +31,7 @@ fn script_of_text(alloc: Global, bytes: &[u8]) -> Result<Script, TextFault>
 }
 
 // The script that a text stands for, where its configuration is lawful.
-#[tactic(auto, using(crate::proofs::Usual::tested_behind))]
+#[tactic(auto, using(crate::proofs::Documents::script_tested_behind))]
 fn script_in(alloc: Global, bytes: &[u8]) -> Result<(Checked, Vec<Call>), TextFault>
     ensures { Gives (λ r. record { config = r.0; calls = r.1.items }) result
         (text_outcome bytes.now) }
@@ -43,7 +44,7 @@ fn script_in(alloc: Global, bytes: &[u8]) -> Result<(Checked, Vec<Call>), TextFa
 /// The configuration and the calls of the script in a reader, of which all bytes are read. The
 /// faults come in the order of [`TextFault`]: a fault of shape at any call comes before a wrong
 /// configuration.
-pub fn read_script<R: Read>(
+pub fn read_script<R: Source>(
     alloc: Global,
     reader: &mut R,
 ) -> Result<(Checked, Vec<Call>), TextFault>
@@ -51,6 +52,7 @@ pub fn read_script<R: Read>(
         (record { config = r.0; calls = r.1.items })) }
     ensures stops { IfErr result
         (StopsScript (R.remaining reader.old) (R.remaining reader.new)) }
+    ensures failed { FailsBy TextFault.Input result (R.has_failed reader.old) (R.has_failed reader.new) }
 {
     let bytes = read_all(alloc, reader)?;
     script_in(alloc, &bytes)

@@ -5,6 +5,7 @@ ghost use Rattle.sched_history.specs.declared.call.TheConstants.{MAX_SCRIPTS};
 ghost use Rattle.serde_json.specs.View.{view, items_view};
 ghost use Rattle.sched_text.specs.Script.{Gives};
 ghost use Rattle.sched_text.specs.StormScript.{calls_each, are_arrays, are_scripts, scripts_of, storm_of, storm_text};
+ghost use Rattle.sched_text.specs.Watched.{FailsBy};
 ghost use Rattle.sched_text.specs.StormScript.{GivesStorm, StopsStormScript};
 
 use super::calls_after;
@@ -12,11 +13,11 @@ use super::config::config_of;
 use super::field::member;
 use crate::fault::TextFault;
 use crate::input::{parse, read_all};
+use crate::watched::Source;
 use minislots::{Checked, Config};
 use sched_history::{Call, MAX_SCRIPTS};
 use serde_json::Value;
 use std::alloc::Global;
-use std::io::Read;
 
 /// The script of a storm as it was read: its configuration may have a wrong field.
 #[derive(Drop)]
@@ -122,7 +123,7 @@ fn storm_in(alloc: Global, bytes: &[u8]) -> Result<(Checked, Vec<Vec<Call>>), Te
 
 /// The configuration and the scripts of the storm in a reader, of which all bytes are read. The faults come in
 /// the order of [`TextFault`]: a fault of shape at any call comes before a wrong configuration.
-pub fn read_storm<R: Read>(
+pub fn read_storm<R: Source>(
     alloc: Global,
     reader: &mut R,
 ) -> Result<(Checked, Vec<Vec<Call>>), TextFault>
@@ -132,6 +133,7 @@ pub fn read_storm<R: Read>(
     ensures few { IfOk result (λ r. vec_len r.1 ≤ MAX_SCRIPTS) }
     ensures stops { IfErr result
         (StopsStormScript (R.remaining reader.old) (R.remaining reader.new)) }
+    ensures failed { FailsBy TextFault.Input result (R.has_failed reader.old) (R.has_failed reader.new) }
 {
     let bytes = read_all(alloc, reader)?;
     storm_in(alloc, &bytes)

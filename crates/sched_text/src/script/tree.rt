@@ -1,14 +1,14 @@
 //! JSON values that can be looked into, however they are kept.
 
-ghost use Rattle.std.specs.Prelude.{◌≡◌, option_map, option_and_then};
+ghost use Rattle.std.specs.Prelude.{◌≡◌, map, option_map, option_and_then};
 ghost use Rattle.serde_json.specs.Data.{Data};
-ghost use Rattle.serde_json.specs.Find.{get, as_str, as_number, as_u64};
-ghost use Rattle.serde_json.specs.View.{view};
+ghost use Rattle.serde_json.specs.Find.{get, as_str, as_array, as_number, as_u64};
+ghost use Rattle.serde_json.specs.View.{view, items_of};
 
 use serde_json::Value;
 
 /// A JSON value that can be looked into.
-pub trait Tree {
+pub trait Tree: Sized {
     ghost shown: { Self → Data };
 
     /// The value under this key, where there is one.
@@ -22,6 +22,10 @@ pub trait Tree {
     /// The whole number, where the value is one that is not below 0 and fits.
     fn whole(&self) -> Option<u64>
         ensures { result ≡ option_and_then as_u64 (as_number (shown self.now)) };
+
+    /// The items, where the value is an array.
+    fn items(&self) -> Option<&[Self]>
+        ensures { option_map (λ vs. items_of (map shown vs.now)) result ≡ as_array (shown self.now) };
 }
 
 impl Tree for Value {
@@ -37,5 +41,9 @@ impl Tree for Value {
 
     fn whole(&self) -> Option<u64> {
         self.as_u64()
+    }
+
+    fn items(&self) -> Option<&[Value]> {
+        Some(self.as_array()?.as_slice())
     }
 }

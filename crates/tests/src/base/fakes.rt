@@ -4,22 +4,19 @@ use std::alloc::Global;
 use std::io;
 use std::io::{ErrorKind, Read, Write};
 
-/// Gives at most so many of its bytes at a time. Behind so many reads it fails, or ends where it has no error.
+/// Gives at most so many of its bytes at a time, and fails behind so many reads.
 #[derive(Drop)]
 pub struct Failing<'a> {
     pub rest: &'a [u8],
     pub step: usize,
     pub reads_left: usize,
-    pub error: Option<ErrorKind>,
+    pub kind: ErrorKind,
 }
 
 impl Read for Failing<'_> {
     fn read(&mut self, buf: &mut [u8]) -> io::Result<usize> {
         if self.reads_left == 0 {
-            return match self.error {
-                Some(kind) => Err(io::Error::new(kind, "fails here")),
-                None => Ok(0),
-            };
+            return Err(io::Error::new(self.kind, "fails here"));
         }
         self.reads_left -= 1;
         let len = self.rest.len().min(buf.len()).min(self.step);

@@ -55,17 +55,6 @@ pub const REPLIES: &str = r#"{"call":"build","now":760}
 {"bytes":10,"call":"ask","heard":839,"receiver":0,"sid":9}
 {"kind":"refused","number":11,"value":840}"#;
 
-/// The calls of blocks, as the text of an array's items.
-pub fn calls_of(alloc: Global, blocks: &str) -> Result<String, AllocError> {
-    let mut calls = String::new(alloc);
-    for block in blocks.split("\n\n") {
-        if let Some((call, _)) = block.split_once('\n') {
-            push_part(&mut calls, call)?;
-        }
-    }
-    Ok(calls)
-}
-
 // The reply of a block, whose lines are joined.
 fn reply_of(alloc: Global, lines: &str) -> Result<String, AllocError> {
     let mut reply = String::new(alloc);

@@ -12,7 +12,7 @@ use flow_book::FlowSpec;
 use map_snapshot::Reader;
 use minislots::Stamp;
 use sched_history::{Call, Reply, Scheduler, Unrecorded};
-use sched_text::put_line;
+use sched_text::{Watched, put_line};
 use shared_sched::{Closed, Desk, OpenFault, Shared, open};
 use std::alloc::AllocGlobal;
 use std::process::Abort;
@@ -66,7 +66,7 @@ fn has_line(rt: &impl Abort, answer: Result<Reply, Unrecorded>, expected: &str)
         rest: expected.as_bytes(),
         is_same: true,
     };
-    let is_put = put_line(&mut line, &answer).is_ok();
+    let is_put = put_line(&mut Watched::new(&mut line), &answer).is_ok();
     assert!(rt;
         is_put && line.is_same && line.rest.is_empty(),
         "{expected}"

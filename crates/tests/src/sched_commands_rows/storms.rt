@@ -1,9 +1,9 @@
-//! Storms of whole scripts, with the lines of their tallies.
+//! Storms in which a worker is held, with the lines of their tallies.
 
-use crate::base::texts::{config_of, push_part, storm_of};
+use crate::base::texts::{config_of, storm_of};
 use crate::sched_storm_rows::gates::Shut;
-use sched_commands::{RunFault, run_storm};
-use sched_storm::{Gate, Open};
+use sched_commands::run_storm;
+use sched_storm::Gate;
 use std::alloc::AllocGlobal;
 use std::process::Abort;
 use std::sync::Wait;
@@ -13,61 +13,25 @@ use std::thread::Threads;
 // A build, and a question for a flow that is not live.
 const PAIR: &str = r#"[{"call":"build","now":760}],[{"call":"status","sid":17}]"#;
 
-// A storm of these scripts under this gate answers so, and writes this.
+// A storm of these scripts under this gate, which holds a worker, writes this.
 fn storms<R: Threads + Wait + Abort + AllocGlobal + Sync>(
     rt: &R,
     scripts: &str,
     gate: &impl Gate,
-    answer: Result<bool, RunFault>,
     expected: &str,
 ) -> Result<(), Fail> {
     let text = storm_of(rt.alloc(), &config_of(rt.alloc(), "")?, scripts)?;
     let mut written = Vec::new(rt.alloc());
     let found = run_storm(rt, rt.alloc(), &mut text.as_bytes(), &mut written, gate);
-    assert!(rt; found == answer, "{scripts}");
+    assert!(rt; found == Ok(false), "{scripts}");
     assert!(rt; written.as_slice() == expected.as_bytes(), "{scripts}");
     Ok(())
 }
 
 #[test]
-fn a_storm_has_its_lines(rt: HostRuntime) -> Result<(), Fail> {
-    storms(
-        &rt,
-        PAIR,
-        &Open,
-        Ok(true),
-        "seat 0 1\nseat 1 1\nunrecorded 0\nmaps 1\nnewest 1\naudit legal\n",
-    )?;
-    storms(
-        &rt,
-        "[]",
-        &Open,
-        Ok(true),
-        "seat 0 0\nunrecorded 0\nmaps 0\nnewest none\naudit legal\n",
-    )
-}
-
-#[test]
 fn a_worker_that_is_held_has_a_line(rt: HostRuntime) -> Result<(), Fail> {
     let lines = "seat 0 0\nseat 1 1\nunrecorded 0\nmaps 0\nnewest none\nheld 0\naudit legal\n";
-    storms(&rt, PAIR, &Shut { worker: 0 }, Ok(false), lines)?;
+    storms(&rt, PAIR, &Shut { worker: 0 }, lines)?;
     let lines = "seat 0 1\nseat 1 0\nunrecorded 0\nmaps 1\nnewest 1\nheld 1\naudit legal\n";
-    storms(&rt, PAIR, &Shut { worker: 1 }, Ok(false), lines)
-}
-
-#[test]
-fn a_fault_writes_nothing(rt: HostRuntime) -> Result<(), Fail> {
-    let mut many = String::new(rt.alloc());
-    for _ in 0..17 {
-        push_part(&mut many, "[]")?;
-    }
-    storms(&rt, "", &Open, Err(RunFault::Shape(0)), "")?;
-    storms(&rt, &many, &Open, Err(RunFault::Shape(0)), "")?;
-    storms(
-        &rt,
-        r#"[],[{"call":"dance"}]"#,
-        &Open,
-        Err(RunFault::Shape(1)),
-        "",
-    )
+    storms(&rt, PAIR, &Shut { worker: 1 }, lines)
 }

@@ -4,6 +4,7 @@ use super::tables::{ONE_DRAWING, ONE_MAP};
 use crate::base::fakes::{Failing, Keeping, Narrow};
 use crate::base::texts::{config_of, push_part, script_in, script_of};
 use sched_commands::{RunFault, decode_text, run_script};
+use sched_text::Watched;
 use std::alloc::{AllocError, Global};
 use std::io::ErrorKind;
 use std::process::Abort;
@@ -18,8 +19,12 @@ fn run_ends(
     writer: Narrow,
     expected: Result<(), RunFault>,
 ) {
-    let mut writer = writer;
-    let found = run_script(alloc, &mut script.as_bytes(), &mut writer, as_history);
+    let found = run_script(
+        alloc,
+        &mut script.as_bytes(),
+        &mut Watched::new(writer),
+        as_history,
+    );
     assert!(rt; found == expected, "with a history: {as_history}");
 }
 
@@ -55,17 +60,22 @@ fn a_failed_write_ends_the_run(rt: HostRuntime) -> Result<(), Fail> {
 
 // What a run answers whose reads fail behind so many, and whose writes all do.
 fn both_fail(alloc: Global, script: &str, reads_left: usize) -> Result<(), RunFault> {
-    let mut reader = Failing {
+    let reader = Failing {
         rest: script.as_bytes(),
         step: 1,
         reads_left,
-        error: Some(ErrorKind::Other),
+        kind: ErrorKind::Other,
     };
-    let mut writer = Narrow {
+    let writer = Narrow {
         room: 0,
         kind: ErrorKind::Other,
     };
-    run_script(alloc, &mut reader, &mut writer, false)
+    run_script(
+        alloc,
+        &mut Watched::new(reader),
+        &mut Watched::new(writer),
+        false,
+    )
 }
 
 #[test]
@@ -81,6 +91,16 @@ fn a_failed_read_comes_before_a_failed_write(rt: HostRuntime) -> Result<(), Fail
     Ok(())
 }
 
+// What is answered where this writer is shown a text.
+fn shown_to(
+    alloc: Global,
+    text: &str,
+    columns: Option<u16>,
+    writer: Narrow,
+) -> Result<bool, RunFault> {
+    decode_text(alloc, text, columns, &mut Watched::new(writer))
+}
+
 // Where a payload or a fault is shown in a line or a table of so many bytes, each write can fail.
 fn shows_until(
     rt: &impl Abort,
@@ -92,13 +112,13 @@ fn shows_until(
 ) {
     for kind in [ErrorKind::Interrupted, ErrorKind::BrokenPipe] {
         for room in 0..len {
-            let outcome = decode_text(alloc, text, columns, &mut Narrow { room, kind });
+            let outcome = shown_to(alloc, text, columns, Narrow { room, kind });
             assert!(rt;
                 outcome == Err(RunFault::Output),
                 "{text} after {room} bytes"
             );
         }
-        let outcome = decode_text(alloc, text, columns, &mut Narrow { room: len, kind });
+        let outcome = shown_to(alloc, text, columns, Narrow { room: len, kind });
         assert!(rt; outcome == Ok(answer), "{text}");
     }
 }
@@ -151,7 +171,12 @@ fn a_write_that_fails_after_others_leaves_a_front_of_the_lines(
         (5, 13_900),
     ] {
         let mut writer = Keeping::new(alloc, 3000, writes);
-        let outcome = run_script(alloc, &mut script.as_bytes(), &mut writer, false);
+        let outcome = run_script(
+            alloc,
+            &mut script.as_bytes(),
+            &mut Watched::new(&mut writer),
+            false,
+        );
         assert!(rt;
             lines.as_bytes().starts_with(&writer.taken),
             "after {writes} writes"

@@ -3,7 +3,7 @@
 use crate::base::fakes::Keeping;
 use periodic::{Placement, Starts};
 use sched_history::{Reply, Unrecorded};
-use sched_text::{LineBuffer, TextFault};
+use sched_text::{LineBuffer, TextFault, Watched};
 use std::alloc::{AllocError, Global};
 use std::process::Abort;
 use std::test::Fail;
@@ -49,14 +49,15 @@ fn text_of(alloc: Global, len: usize) -> Result<String, AllocError> {
 
 // Writes these lines.
 fn write_lines(alloc: Global, writer: &mut Keeping, len: usize) -> Result<(), TextFault> {
+    let mut writer = Watched::new(writer);
     let mut lines = LineBuffer::new();
     let admitted = Reply::Admitted(Some(placement_of(alloc, len)?));
-    lines.put_line(writer, &Ok(admitted))?;
-    lines.put_line(writer, &Err(Unrecorded::HistoryFull))?;
-    lines.put_line(writer, &Err(Unrecorded::HistoryFull))?;
-    lines.put_line(writer, &Err(Unrecorded::Memory))?;
-    lines.put_line(writer, &Err(Unrecorded::HistoryFull))?;
-    lines.write_out(writer)
+    lines.put_line(&mut writer, &Ok(admitted))?;
+    lines.put_line(&mut writer, &Err(Unrecorded::HistoryFull))?;
+    lines.put_line(&mut writer, &Err(Unrecorded::HistoryFull))?;
+    lines.put_line(&mut writer, &Err(Unrecorded::Memory))?;
+    lines.put_line(&mut writer, &Err(Unrecorded::HistoryFull))?;
+    lines.write_out(&mut writer)
 }
 
 // A writer that takes so many bytes at a time gets the lines.

@@ -10,7 +10,8 @@ use Rattle.flow_book.proofs.Steps.{taken-item, all-item, lower-item, next-lower,
 use Rattle.flow_book.proofs.Steps.{both-true, both-false}
 use Rattle.flow_book.proofs.flow.first_eligible.Goals as goal
 use Rattle.flow_book.proofs.flow.first_eligible.Goals.{then-both+then-is_eligible, else-both}
-use Rattle.flow_book.proofs.flow.first_eligible.Goals.{else-both-via-then-both+else-is_eligible, else-both-via-else-both}
+use Rattle.flow_book.proofs.flow.first_eligible.Goals.{else-both-via-then-both+else-is_eligible}
+use Rattle.flow_book.proofs.flow.first_eligible.Goals.{else-both-via-else-both}
 
 pub is_eligible-requires-clause-sound : goal.is_eligible-requires-clause-sound
 is_eligible-requires-clause-sound c =

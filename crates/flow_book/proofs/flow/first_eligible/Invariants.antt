@@ -7,6 +7,7 @@ use Rattle.flow_book.proofs.flow.first_eligible.Given as goal
 
 abbrev pub invariant-loop-flow : goal.invariant-loop-flow
 invariant-loop-flow l = record {
-  next : IsNextOf l.config l.start l.room (map live (take l.flow-index l.flows)) (option_map live (option_copied l.next));
+  next : IsNextOf l.config l.start l.room (map live (take l.flow-index l.flows))
+      (option_map live (option_copied l.next));
   known : IfSome l.next (λ n. KnowsTurn n.now);
 }

@@ -1,5 +1,6 @@
 -- Each that is gone through is asked whether its flow may be served.
-use Rattle.std.proofs.Common.{◌≡◌, ℕ, ◌+◌, ◌<◌, refl, sym, ap, ◌∙◌, subst, take, drop, ◌++◌, ◌∷◌, length, get_or, slice_get}
+use Rattle.std.proofs.Common.{◌≡◌, ℕ, ◌+◌, ◌<◌, refl, sym, ap, ◌∙◌, subst, take, drop, ◌++◌, ◌∷◌, length, get_or}
+use Rattle.std.proofs.Common.{slice_get}
 use Rattle.std.proofs.Common.{List, Some, true, false, arith}
 use Rattle.std.specs.List.{AllByRecursion}
 use Rattle.std.proofs.lemmas.List.{take_more, drop_more, take-append-drop, take_all}
@@ -94,6 +95,7 @@ pub returns : goal.returns
 returns c =
     let queue = c.args.queue.now in
     let P = IsPassed c.args.config.now c.args.start c.args.room c.args.flows.now in
-    let all : take c.loop-waiting.waiting-index queue ≡ queue = take_all _ _ (omega (arith, c.loop-waiting-test.false)) in
+    let all : take c.loop-waiting.waiting-index queue ≡ queue = take_all _ _
+    (omega (arith, c.loop-waiting-test.false)) in
     none-next c.args.config.now c.args.start c.args.room c.args.flows.now c.requires.book queue c.requires.queue
     (subst (AllByRecursion P) all c.loop-waiting.invariant)

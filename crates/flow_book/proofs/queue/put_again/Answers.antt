@@ -14,21 +14,21 @@ waits-requires-clause-within c =
     (all-item live c.args.flows.now c.args.place c.index-flows-place.result c.requires.within c.index-flows-place.is
     (IsSoundFlow c.requires.book.0) c.requires.book.1.sound.each).within
 
-pub returns-in_ok-put_in_turn : goal.returns-in_ok-put_in_turn
-returns-in_ok-put_in_turn c =
+pub returns-then-waits : goal.returns-then-waits
+returns-then-waits c =
     let place = c.args.place in
     let items = c.args.flows.now in
     let f = c.index-flows-place.result in
     let before = c.requires.queue in
     let here = slice_get_read items (length items) place f refl c.requires.within c.index-flows-place.is in
-    let others =
-    among-others place before.0 items c.take_out.new.queue.items before.1 (c.take_out.ensures before.0 before.2) in
-    rw c.in_ok-put_in_turn.ensures (put-among c.requires.book.0 items c.requires.book.1 (λ other. other ≢ place)
-    (λ other. Unit {0}) c.take_out.new.queue.items place f here (λ k may. cases_eq k place) (λ k other. tt) others
+    let moved = c.in_ok-move_to_turn.ensures before.0 before.2 in
+    let others = among-others place before.0 items moved.others before.1 moved.among in
+    rw moved.is (put-among c.requires.book.0 items c.requires.book.1 (λ other. other ≢ place) (λ other. Unit {0})
+    moved.others place f here (λ k may. cases_eq k place) (λ k other. tt) others
     (record { turn = f.turn; place = place }) refl refl (λ differ. differ refl) tt)
 
-pub returns-else-waits : goal.returns-else-waits
-returns-else-waits c =
+pub returns : goal.returns
+returns c =
     let place = c.args.place in
     let items = c.args.flows.now in
     let f = c.index-flows-place.result in

@@ -1,21 +1,20 @@
 -- Before the first of a later turn it stands in order.
-use Rattle.std.proofs.Common.{◌≡◌, ◌∙◌, ap, sym, map-id, insert, length, nat_lt, position, arith}
+use Rattle.std.proofs.Common.{◌≡◌, ◌∙◌, ap, sym, map-id, insert, nat_lt}
 use Rattle.std.specs.List.{position_or_len}
 use Rattle.flow_book.specs.declared.queue.Waiting.{Waiting}
 use Rattle.flow_book.specs.Sids.{put_in}
-use Rattle.flow_book.proofs.Places.{place-or_len}
 use Rattle.flow_book.proofs.Insertion.{insert-put_in}
 use Rattle.flow_book.proofs.queue.put_in_turn.Goals as goal
+
+pub place_after-index-requires : goal.place_after-index-requires
+place_after-index-requires c = rw c.deref.ensures.value c.requires
 
 pub returns : goal.returns
 returns c =
     let queue = c.args.queue.now.items in
     let w = c.args.waiting in
-    let after : c.first_after.result ≡ position (λ v. nat_lt w.turn v.turn) queue =
-    rw c.deref.ensures.value at c.first_after.ensures in
-    let len : c.len.result ≡ length queue = omega (arith, c.args.queue.now.ok.0, c.len.ensures) in
-    let index : c.unwrap_or-index.result ≡ position_or_len (λ v. nat_lt w.turn v.turn) queue =
-    c.unwrap_or-index.ensures ∙ rw (after, len) (place-or_len (λ v. nat_lt w.turn v.turn) queue) in
+    let index : c.place_after-index.result ≡ position_or_len (λ v. nat_lt w.turn v.turn) queue =
+    rw c.deref.ensures.value at c.place_after-index.ensures.place in
     let put = insert-put_in (λ (v : Waiting). v) (λ v. v.turn) w queue in
     rw (c.in_ok-insert.ensures.items, index)
     (sym (map-id (insert queue (position_or_len (λ v. nat_lt w.turn v.turn) queue) w)) ∙ put

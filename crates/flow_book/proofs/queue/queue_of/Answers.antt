@@ -12,8 +12,12 @@ use Rattle.flow_book.proofs.queue.queue_of.Goals.{then-waits+in_ok-put_in_turn, 
 
 pub waits-requires-clause-within : goal.waits-requires-clause-within
 waits-requires-clause-within c =
-    (all-item live c.args.flows.now c.loop-place.place c.index-flows-place.result (omega (arith, c.loop-place-test.true))
+    (all-item live c.args.flows.now c.loop-place.place c.index-flows-place.result
+    (omega (arith, c.loop-place-test.true))
     c.index-flows-place.is (IsSoundFlow c.requires.0) c.requires.1.sound.each).within
+
+pub put_in_turn-requires : goal.put_in_turn-requires
+put_in_turn-requires c = c.loop-place.invariant.ascending
 
 -- the places up to this one are this one and those before it
 only : (i k : ℕ) → k < i + 1 → (k ≡ i) ⊎ (k < i)
@@ -27,7 +31,8 @@ loop-place-preserved c =
     let items = c.args.flows.now in
     let i = c.loop-place.place in
     let f = c.index-flows-place.result in
-    let here = slice_get_read items (length items) i f refl (omega (arith, c.loop-place-test.true)) c.index-flows-place.is in
+    let here = slice_get_read items (length items) i f refl (omega (arith, c.loop-place-test.true))
+    c.index-flows-place.is in
     elim c.if-waits.branch [
       | then-waits+in_ok-put_in_turn w ↦ rw (w.queue-is, w.in_ok-put_in_turn.ensures)
           (put-among c.requires.0 items c.requires.1 (λ k. k < i) (λ k. k < i + 1) c.loop-place.queue.items i f here

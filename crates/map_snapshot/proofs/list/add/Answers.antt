@@ -11,5 +11,6 @@ compare_exchange-found-requires c =
       sym (ap (λ w. w.book) own),
       pen.0 ∙ sym (ap (λ w. w.book) own),
       offer.0,
-      rw (ap (λ w. w.key) own, pen.1, offer.1, offer.3) (adds_moves c.args.seen.now.log _ c.in-Some.before _ (omega arith)),
+      rw (ap (λ w. w.key) own, pen.1, offer.1, offer.3)
+          (adds_moves c.args.seen.now.log _ c.in-Some.before _ (omega arith)),
     )

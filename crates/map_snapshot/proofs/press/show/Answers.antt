@@ -19,9 +19,15 @@ returns g c =
     let both = c.learn.new.self.log in
     let values = at_ok _ _ c.publish_as-writer.ensures.values c.in-Ok.is in
     let begins : IsPrefix shown.list both =
-    subst (λ l. IsPrefix l both) (ap (λ s. s.log) c.again-before.ensures ∙ (c.seen.ensures.seen.1 ∙ ap (λ (s : Page). s.list) c.published.ensures)) c.learn.ensures.3 in
+    subst (λ l. IsPrefix l both) (ap (λ s. s.log) c.again-before.ensures
+    ∙ (c.seen.ensures.seen.1 ∙ ap (λ (s : Page). s.list) c.published.ensures)) c.learn.ensures.3 in
     let ends : IsPrefix next.list both =
-    subst (λ l. IsPrefix l both) (ap (λ s. s.log) c.again-both.ensures ∙ (c.seen-2.ensures.seen.1 ∙ ap (λ (s : Page). s.list) c.published-2.ensures)) c.learn.ensures.2 in
+    subst (λ l. IsPrefix l both) (ap (λ s. s.log) c.again-both.ensures
+    ∙ (c.seen-2.ensures.seen.1 ∙ ap (λ (s : Page). s.list) c.published-2.ensures)) c.learn.ensures.2 in
     let waits = ap (λ (p : Printing). p.waiting) c.press.view_is ∙ c.requires.waits.1 in
-    let shows = shown_press shown next (drop writer.behind writer.log.items) (drop after.behind after.log.items) both c.requires.waits.0 c.press.invariant.3 waits values.0 values.1 c.settle.ensures.newest begins ends in
-    record { shown = shows ∙ ap (λ (p : Printing). record p { list = p.list ++ map map_in p.waiting; waiting = [] }) c.press.view_is }
+    let shows = shown_press shown next (drop writer.behind writer.log.items) (drop after.behind after.log.items) both
+    c.requires.waits.0 c.press.invariant.3 waits values.0 values.1 c.settle.ensures.newest begins ends in
+    record {
+      shown = shows ∙ ap (λ (p : Printing). record p { list = p.list ++ map map_in p.waiting; waiting = [] })
+          c.press.view_is;
+    }

@@ -22,7 +22,8 @@ returns-in_err-row-clause-blocked c =
     let place = c.loop-place.place in
     let here = row-here config rows place _ c.requires.long (omega arith) in
     let next = subst
-    (λ words. IsNextOffset config (HasStartAt config c.args.wanted words) c.args.offset c.in_err-row.field-0.0) (sym here) c.in_err-row.ensures.blocked in
+    (λ words. IsNextOffset config (HasStartAt config c.args.wanted words) c.args.offset c.in_err-row.field-0.0)
+    (sym here) c.in_err-row.ensures.blocked in
     let blocked : IsNextOffset config (HaveStartsAt config rows c.args.wanted c.args.phase) c.args.offset
     c.in_err-row.field-0.0 = record {
       later = next.later;

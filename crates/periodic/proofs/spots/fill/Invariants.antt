@@ -6,7 +6,7 @@ use Rattle.periodic.proofs.spots.fill.Given as goal
 
 abbrev pub invariant-loop-flow : goal.invariant-loop-flow
 invariant-loop-flow l = record {
-  spots : take l.count l.spots ≡ spots_in l.config l.place (map placed_of (take l.flow-index l.flows));
+  spots : take l.count l.spots ≡ spots_in l.config l.k (map placed_of (take l.flow-index l.flows));
   rest : drop l.count l.spots ≡ drop l.count l.fn.spots;
   most : l.count ≤ l.flow-index;
 }

@@ -10,6 +10,11 @@ use Rattle.periodic.proofs.Marking.{spot-marked, marked-more, marked-same, marke
 use Rattle.periodic.proofs.spots.mark.Goals as goal
 use Rattle.periodic.proofs.spots.mark.Goals.{in-Some, in_default}
 
+pub spot-requires : goal.spot-requires
+spot-requires c = record {
+  sound = (c.args.config.now, c.requires.sound, omega (arith, c.cycle.ensures.value));
+}
+
 pub loop-place-preserved : goal.loop-place-preserved
 loop-place-preserved c =
     let config = c.args.config.now in
@@ -18,10 +23,12 @@ loop-place-preserved c =
     let old = c.args.rows.now in
     let rows = c.loop-place.rows in
     let place = c.loop-place.place in
+    let below : place < config.cycle = omega (arith, c.cycle.ensures.value) in
+    let here = c.spot.ensures config c.requires.sound below in
     elim c.match-spot.branch [
       | in-Some w ↦ (
           let s = w.in-Some.spot in
-          let spot : spot_in config place f ≡ Some s = sym c.spot.ensures ∙ w.in-Some.is in
+          let spot : spot_in config place f ≡ Some s = sym here ∙ w.in-Some.is in
           let within : place < length rows = omega (arith, c.loop-place.invariant.long) in
           let end : w.from-start.result + w.from.result ≡ s.offset + s.slots =
           omega (arith, w.from-start.ensures, w.from.ensures) in
@@ -29,12 +36,11 @@ loop-place-preserved c =
           (w.from-start.result + w.from.result) (get_or rows place _).words w.mark.new.self.words spot
           w.from-start.ensures end
           w.mark.ensures.inside w.mark.ensures.outside in
-          let below : place < config.cycle = omega (arith, within, c.loop-place.invariant.long) in
           rw w.rows-is (marked-more config f bit old rows place w.mark.new.self below c.loop-place.invariant
           (subst (λ (b : Bits). IsMarked (spot_in config place f) bit b.words w.mark.new.self.words)
           (get_or_default rows place _ no_bits within) marked)))
       | in_default w ↦ (
-          let spot : spot_in config place f ≡ None = sym c.spot.ensures ∙ w.in_default.is in
+          let spot : spot_in config place f ≡ None = sym here ∙ w.in_default.is in
           rw w.rows-is (marked-same config f bit old rows place c.loop-place.invariant spot))
     ]
 

@@ -9,7 +9,7 @@ use Rattle.sched_commands.proofs.storm.run_storm.Goals as goal
 pub returns-clause-ok : goal.returns-clause-ok
 returns-clause-ok g c =
     let scripts = c.in_ok-config.scripts in
-    let contents = g.W.Write.contents in
+    let contents = g.W.Sink.contents in
     let workers : c.len-workers.result ≡ length (calls_each scripts.items)
     = c.len-workers.ensures ∙ scripts.ok.0 ∙ sym (length-map scripts.items (λ v. v.items)) in
     record {

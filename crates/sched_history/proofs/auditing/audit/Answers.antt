@@ -30,7 +30,8 @@ returns-in-Ok-false-clause-illegal c = λ i is.
       entry = e;
       stands = slice_get_read h (length h) index e refl (omega arith) c.index-entries-index.is;
       legal_before = subst (λ n. IsLegal n (take index h)) config c.loop-index.invariant.kept.legal;
-      no_step = subst (λ n. IsStep n (take index h) e.call e.reply → ⊥) config (c.in-Ok-false.ensures.no_step c.in-Ok-false.field-0-test);
+      no_step = subst (λ n. IsStep n (take index h) e.call e.reply → ⊥) config
+          (c.in-Ok-false.ensures.no_step c.in-Ok-false.field-0-test);
     } in
     subst (λ n. IsFirstIllegal c.args.config.now h n) (ap named is) first
 

@@ -1,5 +1,5 @@
--- There is a tally exactly where no worker was stopped and memory was there for the audit. What the reader read is of as
--- many MAPs as the history has, and the verdict is that of the history.
+-- There is a tally exactly where no worker was stopped and memory was there for the audit. What the reader read is of
+-- as many MAPs as the history has, and the verdict is that of the history.
 use Rattle.std.proofs.Common.{◌≡◌, true, length, ap, sym, subst, ◌∙◌, refl, rules}
 use Rattle.std.specs.Prelude.{◌↔◌}
 use Rattle.std.proofs.lemmas.List.{length-map}

@@ -4,6 +4,6 @@ use Rattle.std.proofs.lemmas.Grind.{common_steps}
 use Rattle.sched_text.specs.Line.{line_of}
 use Rattle.sched_text.proofs.line.put_line.Goals as goal
 
-pub returns-in_ok-put_reply-in-Ok-clause-ok : goal.returns-in_ok-put_reply-in-Ok-clause-ok
+pub returns-clause-ok : goal.returns-clause-ok
 unfolding line_of
-returns-in_ok-put_reply-in-Ok-clause-ok g c = grind (arith, common_steps)
+returns-clause-ok g c = grind (arith, common_steps)

@@ -1,5 +1,5 @@
 -- One more write.
-use Rattle.std.proofs.Common.{◌-◌, length, drop, arith}
+use Rattle.std.proofs.Common.{◌-◌, ◌∙◌, length, drop, arith}
 use Rattle.std.proofs.lemmas.List.{length-take, length-drop}
 use Rattle.sched_text.proofs.Written.{Appends-part}
 use Rattle.sched_text.proofs.output.put.Goals as goal
@@ -14,4 +14,5 @@ loop-at-preserved g c = record {
   );
   written = Appends-part _ _ _ c.args.bytes.now c.loop-at.at c.in-Ok.n c.loop-at.invariant.written
       c.in-Ok.ensures.bytes;
+  unfailed = c.in-Ok.ensures.failed ∙ c.loop-at.invariant.unfailed;
 }

@@ -46,6 +46,7 @@ returns c =
     let e : Flow = record f { asked = f.asked + c.from.result } in
     rw (← c.self.view_is)
     (same-view c.self.inside.config _ _ _ _
-    (placed-changed c.args.sid (with_asked c.args.bytes) items c.place-place.result e f c.self.invariant.book.sound.ascending
+    (placed-changed c.args.sid (with_asked c.args.bytes) items c.place-place.result e f
+    c.self.invariant.book.sound.ascending
     (stands c) (ap (λ n. with_asked n (live f)) c.from.ensures))
     (map-set_same room_in items c.place-place.result e f (ap room_in c.index_mut.ensures.value)))

@@ -14,7 +14,8 @@ invariant_of-result c =
     record {
       order = λ known. absurd (true≢false (sym known));
       book = record {
-        sound = rw (copies-live items c.in_ok-clone.field-0.items c.in_ok-clone.ensures.cases.0) c.self.invariant.book.sound;
+        sound = rw (copies-live items c.in_ok-clone.field-0.items c.in_ok-clone.ensures.cases.0)
+            c.self.invariant.book.sound;
         sums = copies-sums c.self.inside.config items c.in_ok-clone.field-0.items c.in_ok-clone.ensures.cases.0
             c.self.invariant.book.sums;
       };

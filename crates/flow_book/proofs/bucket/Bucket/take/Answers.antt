@@ -11,7 +11,8 @@ returns-then-level-wanted-clause-exact c = λ channel rate burst grants stands s
     omega (arith, c.level_at-level.ensures.value) in (
       (λ no'. absurd cc),
       (λ kept.
-          let has = has-more channel rate burst c.args.self.now grants stands c.args.slot c.args.bytes started some kept in
+          let has = has-more channel rate burst c.args.self.now grants stands c.args.slot c.args.bytes started some
+          kept in
           absurd (omega arith)),
     )
 

@@ -12,7 +12,13 @@ returns c =
     ≡ (if c.args.spot.poll then REQUEST else unsolicited_iuc c.args.self.now.book.config c.args.spot.slots) =
     elim c.if-spot.branch [
       | then-spot w ↦ rw (w.iuc-is, w.if-spot.true) refl
-      | else-spot w ↦ rw (w.iuc-is, w.if-spot.false, w.unsolicited_iuc-iuc.ensures, w.config.ensures.value, w.from.ensures)
+      | else-spot w ↦ rw (
+        w.iuc-is,
+        w.if-spot.false,
+        w.unsolicited_iuc-iuc.ensures,
+        w.config.ensures.value,
+        w.from.ensures,
+      )
           refl
     ] in
     Takes-spot c.args.spot c.if-spot.iuc c.args.self.now c.put_slots.new.self code c.requires.here

@@ -1,4 +1,4 @@
--- One word more is written.
+-- One word more is written, and those before the first and after the last have no minislot that is marked.
 use Rattle.std.proofs.Common.{◌∙◌, inl, inr, arith}
 use Rattle.std.proofs.lemmas.List.{length-set}
 use Rattle.periodic.specs.Bits.{bit_for}
@@ -20,3 +20,6 @@ loop-place-preserved c =
             | inr above ↦ c.bits_between-bits.ensures.above i lt above
           ]));
     }
+
+pub returns-clause-inside : goal.returns-clause-inside
+returns-clause-inside c = λ m most from lt. c.loop-place.invariant.written.inside m (omega arith) from lt

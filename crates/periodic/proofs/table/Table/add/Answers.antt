@@ -2,26 +2,37 @@
 use Rattle.std.proofs.Common.{◌≡◌, ◌∙◌, sym, subst, map, length, arith}
 use Rattle.std.proofs.lemmas.List.{take_at}
 use Rattle.periodic.specs.Table.{IsSoundPlaced, placed_at, with_placed}
-use Rattle.periodic.specs.Fields.{placed_of, placement_at}
+use Rattle.periodic.specs.Fields.{placed_of, placement_at, KeepsTimes}
 use Rattle.periodic.proofs.Adding.{new-sound, sound-with}
-use Rattle.periodic.proofs.Standing.{above-place, put-in, flow-at, marked-for, fields-with}
+use Rattle.periodic.proofs.Standing.{above-place, put-in, flow-at, placed-at, times-with, marked-for, fields-with}
 use Rattle.periodic.proofs.table.Table.add.Goals as goal
+
+pub at-flow-requires-clause-no_fault : goal.at-flow-requires-clause-no_fault
+at-flow-requires-clause-no_fault c = rw (← c.self.view_is) at c.requires.no_fault
 
 pub mark-requires-clause-sound : goal.mark-requires-clause-sound
 mark-requires-clause-sound c =
     let a = c.args in
     let inside = c.self.inside in
     let place = above-place a.sid inside.flows.items c.deref.result.now c.place_above.result c.len.result
-    c.unwrap_or-place.result c.deref.ensures.value c.place_above.ensures (omega (arith, inside.flows.ok.0))
+    c.unwrap_or-place.result c.deref.ensures.value c.place_above.ensures (omega (arith, c.self.inside.flows.ok.0))
     c.unwrap_or-place.ensures in
-    let here = flow-at inside.flows.items c.insert.new.self.items c.unwrap_or-place.result a.sid a.spec a.reference
-    a.starts.now c.from_vec.result (c.from_vec.ensures ∙ c.in_ok-kept.ensures.items) place c.index.result.now
+    let starts = c.from_vec.ensures ∙ c.in_ok-kept.ensures.items in
+    let made = c.at-flow.ensures.placed in
+    let flow = flow-at inside.flows.items c.insert.new.self.items c.unwrap_or-place.result a.sid a.spec a.reference
+    a.starts.now c.from_vec.result starts place c.at-flow.result made c.index.result.now
+    c.in_ok-insert.ensures.items c.index.ensures in
+    let here = placed-at inside.flows.items c.insert.new.self.items c.unwrap_or-place.result a.sid a.spec a.reference
+    a.starts.now c.from_vec.result starts place c.at-flow.result made c.index.result.now
     c.in_ok-insert.ensures.items c.index.ensures in
     let lawful = rw (← c.self.view_is) at c.requires.lawful in
-    subst (IsSoundPlaced inside.config) (sym here)
-    (new-sound inside.config (map placed_of inside.flows.items) a.sid a.spec lawful.0
-    (placement_at a.reference a.starts.now) c.requires.sid_positive c.requires.sid_most c.requires.periodic
-    (rw (← c.self.view_is) at c.requires.no_fault) lawful.1)
+    record {
+      sound = subst (IsSoundPlaced inside.config) (sym here)
+          (new-sound inside.config (map placed_of inside.flows.items) a.sid a.spec lawful.0
+          (placement_at a.reference a.starts.now) c.requires.sid_positive c.requires.sid_most c.requires.periodic
+          (rw (← c.self.view_is) at c.requires.no_fault) lawful.1);
+      times = subst (KeepsTimes inside.config) (sym flow) c.at-flow.ensures.times;
+    }
 
 inserted : (c : goal.After-from_vec-2) → map placed_of c.insert.new.self.items
     ≡ with_placed (placed_at c.args.sid c.args.spec (placement_at c.args.reference c.args.starts.now))
@@ -33,7 +44,8 @@ inserted c =
     c.unwrap_or-place.result c.deref.ensures.value c.place_above.ensures (omega (arith, c.self.inside.flows.ok.0))
     c.unwrap_or-place.ensures in
     put-in items c.insert.new.self.items c.unwrap_or-place.result a.sid a.spec a.reference a.starts.now
-    c.from_vec.result (c.from_vec.ensures ∙ c.in_ok-kept.ensures.items) place c.in_ok-insert.ensures.items
+    c.from_vec.result (c.from_vec.ensures ∙ c.in_ok-kept.ensures.items) place c.at-flow.result
+    c.at-flow.ensures.placed c.in_ok-insert.ensures.items
 
 pub returns-clause-placed : goal.returns-clause-placed
 returns-clause-placed c =
@@ -47,10 +59,11 @@ invariant_of-self-2 c =
     let placed = map placed_of inside.flows.items in
     let added = placed_at a.sid a.spec (placement_at a.reference a.starts.now) in
     let place = above-place a.sid inside.flows.items c.deref.result.now c.place_above.result c.len.result
-    c.unwrap_or-place.result c.deref.ensures.value c.place_above.ensures (omega (arith, inside.flows.ok.0))
+    c.unwrap_or-place.result c.deref.ensures.value c.place_above.ensures (omega (arith, c.self.inside.flows.ok.0))
     c.unwrap_or-place.ensures in
-    let here = flow-at inside.flows.items c.insert.new.self.items c.unwrap_or-place.result a.sid a.spec a.reference
-    a.starts.now c.from_vec.result (c.from_vec.ensures ∙ c.in_ok-kept.ensures.items) place c.index.result.now
+    let starts = c.from_vec.ensures ∙ c.in_ok-kept.ensures.items in
+    let here = placed-at inside.flows.items c.insert.new.self.items c.unwrap_or-place.result a.sid a.spec a.reference
+    a.starts.now c.from_vec.result starts place c.at-flow.result c.at-flow.ensures.placed c.index.result.now
     c.in_ok-insert.ensures.items c.index.ensures in
     let lawful = rw (← c.self.view_is) at c.requires.lawful in
     let long : length c.mark.new.rows ≡ inside.rows.len =
@@ -62,5 +75,8 @@ invariant_of-self-2 c =
     c.requires.sid_positive c.requires.sid_most c.requires.periodic (rw (← c.self.view_is) at c.requires.no_fault)
     (rw (← c.self.view_is) at c.requires.room) (rw (← c.self.view_is) at c.requires.is_new) lawful.1
     c.self.invariant.sound)
+    (times-with inside.flows.items c.insert.new.self.items c.unwrap_or-place.result a.sid a.spec a.reference
+    a.starts.now c.from_vec.result starts place c.at-flow.result c.at-flow.ensures.placed inside.config
+    c.in_ok-insert.ensures.items c.self.invariant.times c.at-flow.ensures.times)
     (λ k. marked-for inside.config k 1 c.index.result.now added c.deref_mut.result.now inside.rows.items c.mark.new.rows
     here c.deref_mut.ensures.value (c.mark.ensures.marked k)))

@@ -3,7 +3,4 @@ use Rattle.std.proofs.Common.{refl}
 use Rattle.periodic.proofs.table.Table.adopt.Goals as goal
 
 pub add-requires-clause-lawful : goal.add-requires-clause-lawful
-add-requires-clause-lawful c = (
-  c.args.next,
-  rw (c.as_slice.ensures, ← c.self.view_is, ← c.deref.ensures.value) (c.if-not-is_lawful.ensures.lawful refl),
-)
+add-requires-clause-lawful c = (c.args.next, rw c.as_slice.ensures (c.if-not-takes.ensures.lawful refl))

@@ -1,5 +1,5 @@
 -- The spots of the frame's place in the cycle, sorted.
-use Rattle.std.proofs.Common.{◌≡◌, ◌∙◌, ap, ◌%◌, ◌≤◌, List, ◌++◌, length, take, map, arith}
+use Rattle.std.proofs.Common.{◌≡◌, ◌∙◌, ◌≤◌, List, ◌++◌, length, take, map, arith}
 use Rattle.std.proofs.lemmas.List.{take_at, length-take-le, length-map}
 use Rattle.periodic.specs.declared.placement.Spot.{Spot}
 use Rattle.periodic.specs.declared.TheConstants.{MAX_PERIODIC_FLOWS}
@@ -8,9 +8,12 @@ use Rattle.periodic.proofs.Fields.{sound-flows}
 use Rattle.periodic.proofs.Frames.{IsFrameOf, frame-sorted}
 use Rattle.periodic.proofs.table.Table.in_frame.Goals as goal
 
-pub fill-count-requires-clause-sound : goal.fill-count-requires-clause-sound
-fill-count-requires-clause-sound c =
-    rw c.deref.ensures.value (sound-flows c.self.inside.config c.self.inside.flows.items c.self.invariant.sound)
+pub fill-count-requires : goal.fill-count-requires
+fill-count-requires c =
+    record {
+      sound = rw c.deref.ensures.value
+          (sound-flows c.self.inside.config c.self.inside.flows.items c.self.inside.rows.items c.self.invariant);
+    }
 
 -- the front of the array is the frame
 in-order : (c : goal.After-sort) (rest : List Spot)
@@ -22,14 +25,12 @@ in-order c rest =
     rw (length-map c.self.inside.flows.items placed_of) at c.self.invariant.sound.most in
     let long : length c.sort.new.spots ≡ c.fill-count.result = c.sort.auto.spots
     ∙ length-take-le c.fill-count.result c.fill-count.new.spots (omega arith) in
-    let place : c.args.k % c.from.result ≡ c.args.k % config.cycle =
-    ap (λ n. c.args.k % n) (c.from.ensures ∙ c.cycle.ensures.value) in
-    let written = c.fill-count.ensures.spots in
+    let written = rw c.deref.ensures.value at c.fill-count.ensures.spots in
     rw (← c.self.view_is, take_at c.sort.new.spots rest c.fill-count.result long)
     (frame-sorted config c.args.k (map placed_of c.self.inside.flows.items)
     (take c.fill-count.result c.fill-count.new.spots)
     c.sort.new.spots
-    c.cycle.ensures.lawful c.self.invariant.sound (rw (place, c.deref.ensures.value) at written)
+    c.fill-count.ensures.lawful c.self.invariant.sound written
     c.sort.ensures.permutation c.sort.ensures.sorted)
 
 pub returns-clause-spots : goal.returns-clause-spots

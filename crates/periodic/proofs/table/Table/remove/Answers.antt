@@ -4,22 +4,30 @@ use Rattle.std.proofs.Common.{None, arith, rules}
 use Rattle.std.proofs.lemmas.List.{take_at}
 use Rattle.std.proofs.lemmas.Fn.{filter_same}
 use Rattle.std.proofs.lemmas.List.Quantifiers.{position-Some}
-use Rattle.flow_book.proofs.Removal.{map-filter}
-use Rattle.flow_book.proofs.Steps.{all-item}
+use Rattle.std.specs.List.{AllByRecursion}
+use Rattle.flow_book.proofs.Removal.{map-filter, all-filter}
 use Rattle.periodic.specs.declared.spots.PlacedFlow.{PlacedFlow}
 use Rattle.periodic.specs.Placement.{Placed}
-use Rattle.periodic.specs.Table.{IsSoundPlaced, without}
-use Rattle.periodic.specs.Fields.{placed_of}
+use Rattle.periodic.specs.Table.{without}
+use Rattle.periodic.specs.Fields.{placed_of, KeepsTimes}
+use Rattle.periodic.proofs.Fields.{sound-flow}
 use Rattle.periodic.proofs.Standing.{flow-found, has-place, marked-for, fields-without}
 use Rattle.periodic.proofs.table.Table.remove.Goals as goal
+
+kept : (c : goal.After-retain) → c.retain.new.self.items
+    ≡ filter (λ (f : PlacedFlow). not (f.sid == c.args.sid)) c.self.inside.flows.items
+kept c = filter_same _ _ _ (λ x b f' k. search rules) _ _ c.retain.ensures.filtered
 
 left : (c : goal.After-retain) → map placed_of c.retain.new.self.items
     ≡ without c.args.sid (map placed_of c.self.inside.flows.items)
 left c =
-    let items = c.self.inside.flows.items in
-    let kept : c.retain.new.self.items ≡ filter (λ (f : PlacedFlow). not (f.sid == c.args.sid)) items =
-    filter_same _ _ _ (λ x b f' k. search rules) _ _ c.retain.ensures.filtered in
-    ap (map placed_of) kept ∙ map-filter placed_of (λ (f : Placed). not (f.sid == c.args.sid)) items
+    ap (map placed_of) (kept c)
+    ∙ map-filter placed_of (λ (f : Placed). not (f.sid == c.args.sid)) c.self.inside.flows.items
+
+times : (c : goal.After-retain) → AllByRecursion (KeepsTimes c.self.inside.config) c.retain.new.self.items
+times c =
+    rw (kept c) (all-filter (KeepsTimes c.self.inside.config) (λ (f : PlacedFlow). not (f.sid == c.args.sid))
+    c.self.inside.flows.items c.self.invariant.times)
 
 pub returns-in_default : goal.returns-in_default
 returns-in_default c =
@@ -34,8 +42,8 @@ mark-requires-clause-sound c =
     let stands : position p items ≡ Some c.in-Some.place =
     rw c.deref.ensures.value at (sym c.place_of.ensures ∙ c.in-Some.is) in
     let within = (position-Some p items c.in-Some.place c.index.result.now stands).0 in
-    all-item placed_of items c.in-Some.place c.index.result.now within c.index.ensures
-    (IsSoundPlaced c.self.inside.config) c.self.invariant.sound.each
+    sound-flow c.self.inside.config items c.in-Some.place c.index.result.now within c.index.ensures
+    c.self.invariant.sound.each c.self.invariant.times
 
 pub invariant_of-self : goal.invariant_of-self
 invariant_of-self c =
@@ -48,7 +56,7 @@ invariant_of-self c =
     rw (take_at c.mark.new.rows _ inside.rows.len long)
     (fields-without inside.config inside.flows.items c.retain.new.self.items inside.rows.items c.mark.new.rows
     (placed_of flow) c.self.invariant c.mark.ensures.long c.args.sid (left c)
-    (flow-found c.args.sid inside.flows.items c.in-Some.place flow stands c.index.ensures)
+    (flow-found c.args.sid inside.flows.items c.in-Some.place flow stands c.index.ensures) (times c)
     (λ k. marked-for inside.config k 0 flow (placed_of flow) c.deref_mut.result.now inside.rows.items c.mark.new.rows
     refl c.deref_mut.ensures.value (c.mark.ensures.marked k)))
 

@@ -22,7 +22,8 @@ returns-clause-fits c =
     let m = c.args.self.now in
     let room : length m.history < m.config.calls =
     above m.config.calls (length m.history) (sym c.if-is_full.ensures.value) in
-    let opens = IsOpenTo-inside a m c.self.view_is (Build c.args.now) c.self.invariant room (sym c.in_default.ensures) in
+    let opens = IsOpenTo-inside a m c.self.view_is (Build c.args.now) c.self.invariant room
+    (sym c.in_default.ensures) in
     elim c.match-plan.branch [
       | in-Ok w ↦ rw w.result-is
           (IsPlanAfter-build m.config m.history w.in-Ok.planned room

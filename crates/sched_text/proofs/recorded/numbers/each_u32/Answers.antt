@@ -4,22 +4,23 @@ use Rattle.sched_text.proofs.Numbers.{numbers_left-none, numbers_left-number, nu
 use Rattle.sched_text.proofs.recorded.numbers.each_u32.Goals as goal
 
 pub returns-in_default : goal.returns-in_default
-returns-in_default c =
+returns-in_default g c =
     let at = c.loop-value in
     sym (at.invariant.0
-    ∙ numbers_left-none (2 ^ 32) c.args.values.now at.numbers.items at.value-index c.value-item.result
-    c.loop-value-test.true c.value-item.is (sym c.in_default.ensures))
+    ∙ numbers_left-none g.T.Tree.shown (2 ^ 32) c.args.values.now at.numbers.items at.value-index
+    c.value-item.result c.loop-value-test.true c.value-item.is (sym c.in_default.ensures))
 
 pub loop-value-preserved : goal.loop-value-preserved
-loop-value-preserved c =
+loop-value-preserved g c =
     let at = c.loop-value in
-    let step = numbers_left-number (2 ^ 32) c.args.values.now at.numbers.items at.value-index c.value-item.result
-    c.in-Some.number c.loop-value-test.true c.value-item.is (sym c.in-Some.ensures) in
+    let step = numbers_left-number g.T.Tree.shown (2 ^ 32) c.args.values.now at.numbers.items at.value-index
+    c.value-item.result c.in-Some.number c.loop-value-test.true c.value-item.is (sym c.in-Some.ensures) in
     let pushed = c.push_reserved.ensures in
     (rw pushed.items (at.invariant.0 ∙ step), omega (arith, pushed.len), omega (arith, pushed.capacity))
 
 pub returns : goal.returns
-returns c =
+returns g c =
     let at = c.loop-value in
     sym (at.invariant.0
-    ∙ numbers_left-end (2 ^ 32) c.args.values.now at.numbers.items at.value-index c.loop-value-test.false)
+    ∙ numbers_left-end g.T.Tree.shown (2 ^ 32) c.args.values.now at.numbers.items at.value-index
+    c.loop-value-test.false)

@@ -9,7 +9,8 @@ use Rattle.sched_text.specs.declared.fault.TextFault.{TextFault}
 use Rattle.sched_text.specs.Input.{ReadsAll}
 use Rattle.sched_text.proofs.Encodable.{encodable_entries}
 use Rattle.sched_text.proofs.FewEntries.{few_entries}
-use Rattle.sched_text.proofs.HistoryOutcome.{gives_history, stops_history}
+use Rattle.sched_text.proofs.HistoryOutcome.{gives_history, stops_history, faults-history_in}
+use Rattle.sched_text.proofs.Outcome.{unfailed}
 use Rattle.sched_text.proofs.recorded.reading.read_history.Goals as goal
 
 counted : (result : Result (Config × Vec Entry) TextFault) → IfOk result (λ r. length r.1.items ≤ MAX_ENTRIES)
@@ -19,8 +20,8 @@ counted (Err fault) few = tt
 
 pub returns-clause-ok : goal.returns-clause-ok
 returns-clause-ok g c =
-    let old = g.R.Read.remaining c.args.reader.now in
-    let new = g.R.Read.remaining c.read_all.new.reader in
+    let old = g.R.Source.remaining c.args.reader.now in
+    let new = g.R.Source.remaining c.read_all.new.reader in
     let all : ReadsAll old new c.deref.result.now = rw c.deref.ensures.value c.in_ok-bytes.ensures.ok in
     gives_history (λ r. record { config = r.0; entries = r.1.items }) old new c.deref.result.now
     c.history_in.result all c.history_in.ensures
@@ -32,16 +33,21 @@ returns-clause-encodable g c =
 
 pub returns-clause-few : goal.returns-clause-few
 returns-clause-few g c =
-    let old = g.R.Read.remaining c.args.reader.now in
-    let new = g.R.Read.remaining c.read_all.new.reader in
+    let old = g.R.Source.remaining c.args.reader.now in
+    let new = g.R.Source.remaining c.read_all.new.reader in
     let all : ReadsAll old new c.deref.result.now = rw c.deref.ensures.value c.in_ok-bytes.ensures.ok in
     counted c.history_in.result (few_entries (λ r. record { config = r.0; entries = r.1.items }) c.history_in.result
     c.deref.result.now all.short c.history_in.ensures)
 
 pub returns-clause-stops : goal.returns-clause-stops
 returns-clause-stops g c =
-    let old = g.R.Read.remaining c.args.reader.now in
-    let new = g.R.Read.remaining c.read_all.new.reader in
+    let old = g.R.Source.remaining c.args.reader.now in
+    let new = g.R.Source.remaining c.read_all.new.reader in
     let all : ReadsAll old new c.deref.result.now = rw c.deref.ensures.value c.in_ok-bytes.ensures.ok in
     stops_history (λ r. record { config = r.0; entries = r.1.items }) old new c.deref.result.now
     c.history_in.result all c.history_in.ensures
+
+pub returns-clause-failed : goal.returns-clause-failed
+returns-clause-failed g c =
+    unfailed (λ r. record { config = r.0; entries = r.1.items }) c.history_in.result _ (faults-history_in _)
+    c.history_in.ensures _ _ c.in_ok-bytes.ensures.failed

@@ -6,6 +6,6 @@ use Rattle.sched_text.proofs.recorded.reply.flow_reply.Goals as goal
 
 pub returns : goal.returns
 unfolding flow_reply
-returns c =
+returns g c =
     let read = c.in-Some-Some-Some in
     sym (then _ read.ensures (then _ read.ensures' (then _ read.ensures'' refl)))

@@ -1,13 +1,17 @@
 -- Each token is one of the grammar's turns, and what it gives is put among the members before it.
-use Rattle.std.proofs.Common.{◌≡◌, ◌-◌, ◌<◌, [], ◌∷◌, length, Some, None, sym, ap, ◌∙◌, arith, rules}
+use Rattle.std.proofs.Common.{◌≡◌, ◌-◌, ◌<◌, [], ◌∷◌, ◌++◌, length, map, Some, None, refl, sym, ap, ◌∙◌, arith}
 use Rattle.json.specs.Token.{Token}
-use Rattle.json.specs.Json.{read_key, members, value}
+use Rattle.std.proofs.lemmas.List.{map-append}
+use Rattle.json.specs.Json.{read_key, after_end_array, members, value}
 use Rattle.json.specs.Reads.{token_of}
 use Rattle.json.proofs.Grammar.{read_key-shorter}
-use Rattle.serde_json.specs.Data.{unsigned, no_members, put}
+use Rattle.serde_json.specs.Data.{unsigned, put}
 use Rattle.serde_json.specs.Read.{number_of, of_members, converted}
+use Rattle.serde_json.specs.View.{items_of}
 use Rattle.sched_text.specs.Plain.{data_of, members_of}
-use Rattle.sched_text.proofs.Plain.{members_of-push, member_read, members_over, text_read, number_read, object_read}
+use Rattle.sched_text.proofs.Plain.{members_of-push, member_read, members_over, data_of-Array, text_read, number_read}
+use Rattle.sched_text.proofs.Plain.{array_read, object_read}
+use Rattle.sched_text.proofs.Each.{ThingsLeft-none, ThingsLeft-more, items_over}
 use Rattle.sched_text.proofs.script.plain.+read.Goals as goal
 
 pub read_plain-returns-in-String-clause-is : goal.read_plain-returns-in-String-clause-is
@@ -33,6 +37,39 @@ read_plain-returns-in_ok-read_members-in-BeginObject-clause-is t c =
     let found = c.in_ok-read_members-in-BeginObject in
     object_read c.args.depth c.args.reader.now c.read_members.new.reader c.next.new.self found.field-0 (omega arith) is
     found.ensures.are
+
+pub read_plain-returns-in_ok-read_items-in-BeginArray-clause-is :
+    goal.read_plain-returns-in_ok-read_items-in-BeginArray-clause-is
+read_plain-returns-in_ok-read_items-in-BeginArray-clause-is t c =
+    let first : c.args.reader.now ≡ token_of c.in_ok-text.field-0 ∷ c.next.new.self = grind arith in
+    let is : c.args.reader.now ≡ Token.begin_array ∷ c.next.new.self = grind (arith, first) in
+    let found = c.in_ok-read_items-in-BeginArray in
+    array_read c.args.depth c.args.reader.now c.read_items.new.reader c.next.new.self
+    (items_of (map data_of found.field-0.items)) (omega arith) is found.ensures.are
+    ∙ ap (λ d. Some (d, c.read_items.new.reader)) (sym (data_of-Array found.field-0))
+
+pub read_items-items-init : goal.read_items-items-init
+read_items-items-init t c = ThingsLeft-none (λ d. Some d) (value c.args.depth) c.args.reader.now
+    (map data_of c.new-found.result.items) (ap (map data_of) c.new-found.ensures.items)
+
+pub read_items-items-preserved : goal.read_items-items-preserved
+read_items-items-preserved t c =
+    let l = c.items in
+    let going : (after_end_array l.reader ≡ None) × (c.take_end_array.new.self ≡ l.reader) = grind arith in
+    let r = c.read_plain.new.reader in
+    let v = c.in_ok-item.item in
+    let shorter : length r < length l.reader = rw (← going.1) c.in_ok-item.ensures.shorter in
+    let pushed : map data_of c.push.new.self.items ≡ map data_of l.found.items ++ data_of v ∷ [] =
+    ap (map data_of) c.in_ok-push.ensures.items ∙ map-append data_of l.found.items (v ∷ []) in
+    ThingsLeft-more (λ d. Some d) (value c.args.depth) c.args.reader.now l.reader r (map data_of l.found.items)
+    (map data_of c.push.new.self.items) (data_of v) (data_of v) l.invariant going.0
+    (rw (← going.1) c.in_ok-item.ensures.is) shorter refl pushed
+
+pub read_items-returns-clause-are : goal.read_items-returns-clause-are
+read_items-returns-clause-are t c =
+    let l = c.items in
+    items_over (value c.args.depth) c.args.reader.now l.reader c.take_end_array.new.self (map data_of l.found.items)
+    l.invariant (grind arith)
 
 pub read_members-members-preserved : goal.read_members-members-preserved
 read_members-members-preserved t c =

@@ -1,5 +1,5 @@
 -- Each turn puts a value among the members before it.
-use Rattle.std.proofs.Common.{◌≡◌, ◌-◌, ◌<◌, length, None, Some, refl, ◌∙◌, arith}
+use Rattle.std.proofs.Common.{◌≡◌, ◌-◌, length, Some, refl, ◌∙◌, arith}
 use Rattle.json.specs.Json.{read_key, value}
 use Rattle.json.proofs.Grammar.{read_key-shorter}
 use Rattle.serde_json.specs.Data.{no_members, put}
@@ -8,10 +8,14 @@ use Rattle.sched_text.proofs.Usual.{none_in}
 use Rattle.sched_text.proofs.script.usual.read_parts.Goals as goal
 
 pub members-init : goal.members-init
-members-init c = (length c.args.reader.now, omega arith, (no_members, refl, none_in _ no_members refl refl))
+members-init g c = (
+  length c.args.reader.now,
+  omega arith,
+  (no_members, refl, none_in g.X.Listed.stands_for c.args.name.now _ no_members refl refl),
+)
 
 pub members-preserved : goal.members-preserved
-members-preserved c =
+members-preserved g c =
     let p = value c.args.depth in
     let l = c.members in
     let n = l.invariant.0 in
@@ -33,7 +37,7 @@ members-preserved c =
     )
 
 pub returns : goal.returns
-returns c =
+returns g c =
     let l = c.members in
     let found = l.invariant.2 in
     record {

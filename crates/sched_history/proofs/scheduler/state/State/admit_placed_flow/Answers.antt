@@ -54,7 +54,8 @@ returns-in-Ok-clause-answered c = λ h opens.
     record {
       twice = ap (λ k. replies.Admitted (Some k)) done.twice;
       config = ap (λ n. n.config) done.same;
-      answers = answers-periodic s.config h spec (replies.Admitted (Some p)) c.requires.periodic (inl (p, lawful, refl));
+      answers = answers-periodic s.config h spec (replies.Admitted (Some p)) c.requires.periodic
+          (inl (p, lawful, refl));
       encodable = tt;
       is_after = λ stamp. IsStateAfter-placed s h opens.is_after stamp sid spec p c.admit_periodic.new.self done.same
           (life_of-dead sid h admits.fresh) good.0 good.1 done.book_config done.flows done.table_config done.placed;

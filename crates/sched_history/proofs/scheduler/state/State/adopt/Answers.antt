@@ -53,7 +53,8 @@ returns-clause-follows c = λ is h opens.
     placement-after s h spec p opens.is_after (taken.lawful c.if-not-branch.false) in
     record {
       config = refl;
-      answers = answers-periodic s.config h spec (replies.Admitted (Some p)) c.requires.periodic (inl (p, lawful, refl));
+      answers = answers-periodic s.config h spec (replies.Admitted (Some p)) c.requires.periodic
+          (inl (p, lawful, refl));
       is_after = λ stamp. IsStateAfter-placed s h opens.is_after stamp sid spec p
           (record s { book = c.admit.new.self; table = c.adopt.new.self }) refl
           (life_of-dead sid h admits.fresh) good.0 good.1 c.in_ok-admit.ensures.config c.in_ok-admit.ensures.ok

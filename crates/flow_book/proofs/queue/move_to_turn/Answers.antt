@@ -1,0 +1,47 @@
+-- It moves behind those that are no later, or is taken out and put in again.
+use Rattle.std.proofs.Common.{◌≡◌, ◌==◌, sym, ap, ◌∙◌, position, remove, Some, length, arith}
+use Rattle.std.proofs.lemmas.List.{take_at, get_or_default}
+use Rattle.std.proofs.lemmas.List.Quantifiers.{position-Some}
+use Rattle.flow_book.specs.declared.queue.Waiting.{Waiting}
+use Rattle.flow_book.proofs.Queues.{taken-at}
+use Rattle.flow_book.proofs.Searches.{rises}
+use Rattle.flow_book.proofs.queue.move_to_turn.Goals as goal
+
+-- its place in the queue
+stands : (c : goal.After-deref_mut) → position (λ (w : Waiting). w.place == c.args.waiting.place) c.args.queue.now.items
+    ≡ Some c.in-Some.index
+stands c = sym (rw c.deref.ensures.value at c.in-Some.ensures)
+
+pub move_back-requires-clause-before : goal.move_back-requires-clause-before
+move_back-requires-clause-before c = λ k d early.
+    let queue = c.args.queue.now.items in
+    let within = (position-Some (λ (w : Waiting). w.place == c.args.waiting.place) queue c.in-Some.index d (stands c)).0 in
+    let less = rises (λ (w : Waiting). w.turn) queue k c.in-Some.index d c.requires.1.ascending early within in
+    let here = ap (λ (w : Waiting). w.turn) c.index.ensures in
+    let same =
+    ap (λ (w : Waiting). w.turn) (get_or_default queue c.in-Some.index d c.index.result.now within) in
+    rw c.deref_mut.ensures.value (omega (arith, less, here, same, c.if-index-waiting.true))
+
+pub returns-then-index-waiting : goal.returns-then-index-waiting
+returns-then-index-waiting c = λ items is.
+    let queue = c.args.queue.now.items in
+    let at : position (λ (w : Waiting). w.place == c.args.waiting.place) queue ≡ Some c.in-Some.index =
+    sym (rw c.deref.ensures.value at c.in-Some.ensures) in
+    let moved = rw c.deref_mut.ensures.value at c.move_back.ensures.moved in
+    let long : length c.move_back.new.queue ≡ c.args.queue.now.len =
+    omega (arith, c.move_back.ensures.len, ap length c.deref_mut.ensures.value, c.args.queue.now.ok.0) in
+    record {
+      others = remove queue c.in-Some.index;
+      among = taken-at items queue c.args.waiting.place c.in-Some.index c.index.result.now at is;
+      is = take_at c.move_back.new.queue _ c.args.queue.now.len long ∙ moved;
+    }
+
+pub put_in_turn-requires : goal.put_in_turn-requires
+put_in_turn-requires c = (c.take_out.ensures c.requires.0 c.requires.1).ascending
+
+pub returns : goal.returns
+returns c = λ items is. record {
+  others = c.take_out.new.queue.items;
+  among = c.take_out.ensures items is;
+  is = c.in_ok-put_in_turn.ensures;
+}

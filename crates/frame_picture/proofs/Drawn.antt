@@ -1,0 +1,49 @@
+-- What is drawn piece by piece.
+use Rattle.std.proofs.Common.{◌≡◌, ℕ, ◌+◌, List, [], ◌∷◌, ◌++◌, length, map, flat_map, Option, None, Some, refl, sym}
+use Rattle.std.proofs.Common.{ap, ◌∙◌, append_assoc, append-nil, arith}
+use Rattle.std.specs.List.{range_with_len}
+use Rattle.std.specs.Io.KnownBytes.{Appends, append_known}
+use Rattle.std.proofs.KnownBytes.{Appends-trans}
+use Rattle.std.proofs.lemmas.Grind.{flat_map-append}
+use Rattle.std.proofs.lemmas.List.FromFn.{map-range_with_len_more}
+use Rattle.map_build.specs.declared.frame_map.FrameMap.{FrameMap}
+use Rattle.map_drawing.proofs.Ranges.{flat_map_next}
+use Rattle.frame_picture.specs.declared.bar.Bar.{Bar}
+use Rattle.frame_picture.specs.Bars.{bar_text}
+use Rattle.frame_picture.specs.Picture.{row_text, rows_text}
+
+module _ (a b c : Option (List ℕ)) where
+  -- one bar more
+  pub bars_more : (f : ℕ → Bar) (n : ℕ) → Appends a b (flat_map bar_text (map f (range_with_len 0 n)))
+      → Appends b c (bar_text (f n)) → Appends a c (flat_map bar_text (map f (range_with_len 0 (n + 1))))
+  bars_more f n before one =
+      rw (map-range_with_len_more f 0 n n (omega arith), flat_map-append, append-nil)
+      (Appends-trans a b c (flat_map bar_text (map f (range_with_len 0 n))) (bar_text (f n)) before one)
+
+  -- what one number more makes
+  pub text_more : (f : ℕ → List ℕ) (n : ℕ) → Appends a b (flat_map f (range_with_len 0 n)) → Appends b c (f n)
+      → Appends a c (flat_map f (range_with_len 0 (n + 1)))
+  text_more f n before one =
+      rw (flat_map_next f n) (Appends-trans a b c (flat_map f (range_with_len 0 n)) (f n) before one)
+
+-- the rows of MAPs, and then of others
+pub rows_text-append : (units row : ℕ) (ms ns : List FrameMap)
+    → rows_text units row (ms ++ ns) ≡ rows_text units row ms ++ rows_text units (row + length ms) ns
+rows_text-append units row [] ns =
+    let same : row + 0 ≡ row = omega arith in rw same refl
+rows_text-append units row (m ∷ ms) ns =
+    let same : row + 1 + length ms ≡ row + length (m ∷ ms) = omega arith in
+    ap (λ (t : List ℕ). row_text units row m ++ t)
+    (rows_text-append units (row + 1) ms ns
+    ∙ ap (λ (k : ℕ). rows_text units (row + 1) ms ++ rows_text units k ns) same)
+    ∙ sym (append_assoc (row_text units row m) (rows_text units (row + 1) ms)
+    (rows_text units (row + length (m ∷ ms)) ns))
+
+-- a text that waits behind nothing, and is written
+pub Appends-whole : (a b c : Option (List ℕ)) (waiting text : List ℕ)
+    → Appends (append_known a []) (append_known b waiting) text → Appends b c waiting → Appends a c text
+Appends-whole None b c waiting text drawn out = tt
+Appends-whole (Some xs) None c waiting text drawn out = absurd drawn
+Appends-whole (Some xs) (Some ys) None waiting text drawn out = absurd out
+Appends-whole (Some xs) (Some ys) (Some zs) waiting text drawn out =
+    out ∙ drawn ∙ ap (λ (t : List ℕ). t ++ text) (append-nil xs)

@@ -1,0 +1,3 @@
+pub mod Drawn
+pub mod MapLaws
+pub mod Under

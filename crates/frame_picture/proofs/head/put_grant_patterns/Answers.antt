@@ -1,0 +1,15 @@
+-- Line by line.
+use Rattle.std.proofs.KnownBytes.{Appends-trans}
+use Rattle.sched_text.proofs.Written.{where_ok}
+use Rattle.frame_picture.specs.Head.{grant_patterns}
+use Rattle.frame_picture.proofs.head.put_grant_patterns.Goals as goal
+
+pub returns-clause-ok : goal.returns-clause-ok
+unfolding grant_patterns
+returns-clause-ok g c =
+    where_ok c.put-6.result (λ last.
+    Appends-trans _ _ _ _ _ c.in_ok-put.ensures.ok
+    (Appends-trans _ _ _ _ _ c.in_ok-put-2.ensures.ok
+    (Appends-trans _ _ _ _ _ c.in_ok-put-3.ensures.ok
+    (Appends-trans _ _ _ _ _ c.in_ok-put-4.ensures.ok
+    (Appends-trans _ _ _ _ _ c.in_ok-put-5.ensures.ok last))))) c.put-6.ensures.ok

@@ -1,0 +1,14 @@
+-- Line by line.
+use Rattle.std.proofs.KnownBytes.{Appends-trans}
+use Rattle.sched_text.proofs.Written.{where_ok}
+use Rattle.frame_picture.specs.Head.{style_text}
+use Rattle.frame_picture.proofs.head.put_style.Goals as goal
+
+pub returns-clause-ok : goal.returns-clause-ok
+unfolding style_text
+returns-clause-ok g c =
+    where_ok c.put-5.result (λ last.
+    Appends-trans _ _ _ _ _ c.in_ok-put.ensures.ok
+    (Appends-trans _ _ _ _ _ c.in_ok-put-2.ensures.ok
+    (Appends-trans _ _ _ _ _ c.in_ok-put-3.ensures.ok
+    (Appends-trans _ _ _ _ _ c.in_ok-put-4.ensures.ok last)))) c.put-5.ensures.ok

@@ -1,0 +1,90 @@
+-- The text of a bar.
+use Rattle.std.specs.Prelude.{ℕ, ◌+◌, Bool, true, false, nat_le, nat_lt, if◌then◌else◌, List, [], ◌++◌, codes, decimal}
+use Rattle.std.specs.Prelude.{flat_map}
+use Rattle.map_codec.specs.declared.element.Element.{Element}
+use Rattle.map_drawing.specs.declared.usage.Usage.{Usage}
+use Rattle.map_drawing.specs.declared.usage.Usage.TheVariants.{RequestRegion, Poll, RequestData, InitialMaintenance}
+use Rattle.map_drawing.specs.declared.usage.Usage.TheVariants.{StationMaintenance, ShortGrant, LongGrant, Idle, Null}
+use Rattle.map_drawing.specs.declared.usage.Usage.TheVariants.{DataAcknowledge, AdvancedShortGrant, AdvancedLongGrant}
+use Rattle.map_drawing.specs.declared.usage.Usage.TheVariants.{AdvancedUnsolicitedGrant, Reserved}
+use Rattle.map_drawing.specs.Usage.{words_of}
+use Rattle.frame_picture.specs.declared.bar.Bar.{Bar}
+use Rattle.frame_picture.specs.Bar.{bars_of}
+
+-- a label and a number in decimal
+unfoldable pub labelled : List ℕ → ℕ → List ℕ
+labelled label n = label ++ decimal n
+
+-- the name of the colour and the pattern of a usage
+unfoldable pub look_of : Usage → List ℕ
+look_of RequestRegion = codes "region"
+look_of Poll = codes "poll"
+look_of RequestData = codes "other"
+look_of InitialMaintenance = codes "other"
+look_of StationMaintenance = codes "other"
+look_of ShortGrant = codes "short"
+look_of LongGrant = codes "long"
+look_of Idle = codes "idle"
+look_of Null = codes "other"
+look_of DataAcknowledge = codes "other"
+look_of AdvancedShortGrant = codes "short"
+look_of AdvancedLongGrant = codes "long"
+look_of AdvancedUnsolicitedGrant = codes "unsolicited"
+look_of Reserved = codes "other"
+
+-- a bar bears its SID where that is not the one of all modems or of none
+unfoldable pub is_named : Usage → Bool
+is_named RequestRegion = false
+is_named Poll = true
+is_named RequestData = true
+is_named InitialMaintenance = true
+is_named StationMaintenance = true
+is_named ShortGrant = true
+is_named LongGrant = true
+is_named Idle = false
+is_named Null = true
+is_named DataAcknowledge = true
+is_named AdvancedShortGrant = true
+is_named AdvancedLongGrant = true
+is_named AdvancedUnsolicitedGrant = true
+is_named Reserved = true
+
+-- how many units an SID takes in a bar
+unfoldable pub name_width : ℕ → ℕ
+name_width sid =
+    if nat_lt sid 10 then 12
+    else if nat_lt sid 100 then 20
+    else if nat_lt sid 1000 then 28
+    else if nat_lt sid 10000 then 36
+    else 44
+
+-- the box of a bar
+unfoldable pub box_text : Bar → List ℕ
+box_text b =
+    codes "<rect class='" ++ (look_of b.usage ++ (labelled (codes "' x='") b.x
+    ++ (labelled (codes "' width='") b.width ++ codes "' height='20'>")))
+
+-- what a bar says of its allocation
+unfoldable pub title_text : Bar → List ℕ
+title_text b =
+    labelled (codes "<title>SID ") b.allocation.sid ++ (codes ", " ++ (words_of b.usage
+    ++ (labelled (codes ", offset ") b.allocation.offset ++ (labelled (codes ", length ") b.allocation.length
+    ++ (labelled (codes ", bytes requested ") b.bytes ++ codes "</title></rect>\n")))))
+
+-- the SID on a bar that is wide enough
+unfoldable pub name_text : Bar → List ℕ
+name_text b =
+    if is_named b.usage then
+    if nat_le (name_width b.allocation.sid) b.width then
+    labelled (codes "<text class='sid' x='") (b.x + 4)
+    ++ (labelled (codes "' y='15'>") b.allocation.sid ++ codes "</text>\n")
+    else []
+    else []
+
+-- a bar
+unfoldable pub bar_text : Bar → List ℕ
+bar_text b = box_text b ++ (title_text b ++ name_text b)
+
+-- the bars of a MAP with these elements and byte counts
+abbrev pub bars_text : ℕ → List Element → List ℕ → List ℕ
+bars_text units es bytes = flat_map bar_text (bars_of units es bytes)

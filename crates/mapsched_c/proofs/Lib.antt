@@ -1,0 +1,5 @@
+pub mod Found
+pub mod AsBox
+pub mod Room
+pub mod Reading
+pub mod Elements

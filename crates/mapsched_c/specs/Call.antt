@@ -1,0 +1,82 @@
+-- A call in plain numbers.
+use Rattle.std.specs.Prelude.{◌==◌, Option, None, Some, option_map, if◌then◌else◌}
+use Rattle.flow_book.specs.declared.spec.FlowSpec.{FlowSpec}
+use Rattle.flow_book.specs.declared.spec.FlowSpec.TheVariants.{Unsolicited, Polled, BestEffort}
+use Rattle.sched_history.specs.declared.call.Call.{Call}
+use Rattle.sched_history.specs.declared.call.Call.TheVariants.{Admit, Remove, Ask, Heard, Build, Skip, Status}
+use Rattle.mapsched_c.specs.declared.call.PlainCall.{PlainCall}
+use Rattle.mapsched_c.specs.declared.call.kind.TheConstants.{ADMIT, REMOVE, ASK, HEARD, BUILD, SKIP, STATUS}
+use Rattle.mapsched_c.specs.declared.call.flow.TheConstants.{UNSOLICITED, POLLED, BEST_EFFORT}
+
+-- the flow of these numbers, where there is such a kind
+abbrev pub flow_of : PlainCall → Option FlowSpec
+flow_of c = if c.flow == UNSOLICITED then Some (Unsolicited c.size c.interval_us c.jitter_us)
+    else if c.flow == POLLED then Some (Polled c.interval_us c.jitter_us c.rate c.burst)
+    else if c.flow == BEST_EFFORT then Some (BestEffort c.priority c.rate c.burst)
+    else None
+
+-- the call of these numbers, where there is such a kind
+abbrev pub call_of : PlainCall → Option Call
+call_of c = if c.kind == ADMIT then option_map (Admit c.sid) (flow_of c)
+    else if c.kind == REMOVE then Some (Remove c.sid)
+    else if c.kind == ASK then Some (Ask c.receiver c.sid c.bytes c.minislot)
+    else if c.kind == HEARD then Some (Heard c.receiver c.minislot)
+    else if c.kind == BUILD then Some (Build c.minislot)
+    else if c.kind == SKIP then Some (Skip c.minislot)
+    else if c.kind == STATUS then Some (Status c.sid)
+    else None
+
+-- all numbers 0
+abbrev pub nothing_called : PlainCall
+nothing_called = record {
+  kind = 0;
+  flow = 0;
+  size = 0;
+  interval_us = 0;
+  jitter_us = 0;
+  rate = 0;
+  burst = 0;
+  bytes = 0;
+  minislot = 0;
+  sid = 0;
+  receiver = 0;
+  priority = 0;
+}
+
+-- the numbers of a flow
+abbrev pub plain_flow : FlowSpec → PlainCall
+plain_flow (Unsolicited size interval jitter) = record nothing_called {
+  flow = UNSOLICITED;
+  size = size;
+  interval_us = interval;
+  jitter_us = jitter;
+}
+plain_flow (Polled interval jitter rate burst) = record nothing_called {
+  flow = POLLED;
+  interval_us = interval;
+  jitter_us = jitter;
+  rate = rate;
+  burst = burst;
+}
+plain_flow (BestEffort priority rate burst) = record nothing_called {
+  flow = BEST_EFFORT;
+  priority = priority;
+  rate = rate;
+  burst = burst;
+}
+
+-- the numbers of a call: those that its kind has not are 0
+abbrev pub plain_call : Call → PlainCall
+plain_call (Admit sid spec) = record (plain_flow spec) { kind = ADMIT; sid = sid }
+plain_call (Remove sid) = record nothing_called { kind = REMOVE; sid = sid }
+plain_call (Ask receiver sid bytes heard) = record nothing_called {
+  kind = ASK;
+  receiver = receiver;
+  sid = sid;
+  bytes = bytes;
+  minislot = heard;
+}
+plain_call (Heard receiver upto) = record nothing_called { kind = HEARD; receiver = receiver; minislot = upto }
+plain_call (Build now) = record nothing_called { kind = BUILD; minislot = now }
+plain_call (Skip now) = record nothing_called { kind = SKIP; minislot = now }
+plain_call (Status sid) = record nothing_called { kind = STATUS; sid = sid }

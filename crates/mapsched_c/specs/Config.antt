@@ -1,0 +1,50 @@
+-- A configuration in plain numbers, and what an opening answers.
+use Rattle.std.specs.Prelude.{◌≡◌, ℕ, ◌+◌, ◌⊎◌, [], Option, None, Some, MatchOption}
+use Rattle.minislots.specs.declared.config.Config.{Config}
+use Rattle.minislots.specs.Config.{first_wrong}
+use Rattle.sched_history.specs.Machine.{Machine}
+use Rattle.sched_text.specs.Fault.{field_number}
+use Rattle.mapsched_c.specs.declared.config.PlainConfig.{PlainConfig}
+use Rattle.mapsched_c.specs.declared.status.TheConstants.{OK, FULL, OUT_OF_MEMORY, BAD_CONFIG}
+
+-- the configuration of these numbers
+abbrev pub config_of : PlainConfig → Config
+config_of c = record {
+  ticks = c.ticks;
+  bytes_per_slot = c.bytes_per_slot;
+  overhead = c.overhead;
+  frame = c.frame;
+  cycle = c.cycle;
+  req_slots = c.req_slots;
+  poll_slots = c.poll_slots;
+  lead = c.lead;
+  short_max = c.short_max;
+  quantum = c.quantum;
+  grant_cap = c.grant_cap;
+  receivers = c.receivers;
+  calls = c.calls;
+  start = c.start;
+  ranging_start = c.ranging_start;
+  ranging_end = c.ranging_end;
+  data_start = c.data_start;
+  data_end = c.data_end;
+  channel = c.channel;
+  ucd_count = c.ucd_count;
+  phy = c.phy;
+}
+
+-- the status is that of the configuration: lawful, or its first wrong field
+abbrev pub ChecksConfig : Config → ℕ → Type 0
+ChecksConfig c status = MatchOption (first_wrong c) (status ≡ OK) (λ fault. status ≡ BAD_CONFIG + field_number fault)
+
+-- a lawful configuration makes a scheduler without entries, or memory ran out and there is none
+abbrev pub OpensLawful : Option Machine → Config → ℕ → Type 0
+OpensLawful new c status =
+    ((status ≡ OK) × (new ≡ Some (record { config = c; history = [] }))) ⊎ ((status ≡ OUT_OF_MEMORY) × (new ≡ None))
+
+-- what an opening answers, and what is in the handle then: a handle that is full, and a wrong configuration, change
+-- nothing
+abbrev pub Opens : Option Machine → Option Machine → Config → ℕ → Type 0
+Opens (Some m) new c status = (status ≡ FULL) × (new ≡ Some m)
+Opens None new c status = MatchOption (first_wrong c) (OpensLawful new c status)
+    (λ fault. (status ≡ BAD_CONFIG + field_number fault) × (new ≡ None))

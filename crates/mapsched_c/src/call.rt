@@ -1,0 +1,216 @@
+//! A call in plain numbers.
+
+ghost use Rattle.std.specs.Prelude.{◌≡◌, Some};
+ghost use Rattle.mapsched_c.specs.Call.{call_of, flow_of, plain_call};
+
+use flow_book::FlowSpec;
+use sched_history::Call;
+
+/// The kinds of calls.
+pub mod kind {
+    pub const ADMIT: u32 = 0;
+
+    pub const REMOVE: u32 = 1;
+
+    pub const ASK: u32 = 2;
+
+    pub const HEARD: u32 = 3;
+
+    pub const BUILD: u32 = 4;
+
+    pub const SKIP: u32 = 5;
+
+    pub const STATUS: u32 = 6;
+}
+
+/// The kinds of flows.
+pub mod flow {
+    pub const UNSOLICITED: u32 = 0;
+
+    pub const POLLED: u32 = 1;
+
+    pub const BEST_EFFORT: u32 = 2;
+}
+
+/// A call by its kind. Each kind reads only the numbers that it has.
+#[repr(C)]
+#[derive(Clone, Copy)]
+pub struct PlainCall {
+    pub kind: u32,
+    /// An admission's kind of flow.
+    pub flow: u32,
+    pub size: u32,
+    pub interval_us: u32,
+    pub jitter_us: u32,
+    pub rate: u32,
+    pub burst: u32,
+    /// A request's bytes.
+    pub bytes: u32,
+    /// The minislot at which it is made or was heard, or up to which all was heard.
+    pub minislot: u64,
+    pub sid: u16,
+    pub receiver: u8,
+    pub priority: u8,
+}
+
+// A call of which every number is 0.
+const NOTHING: PlainCall = PlainCall {
+    kind: 0,
+    flow: 0,
+    size: 0,
+    interval_us: 0,
+    jitter_us: 0,
+    rate: 0,
+    burst: 0,
+    bytes: 0,
+    minislot: 0,
+    sid: 0,
+    receiver: 0,
+    priority: 0,
+};
+
+impl PlainCall {
+    // The flow that is admitted, where there is such a kind.
+    fn flow(&self) -> Option<FlowSpec>
+        ensures { result ≡ flow_of self.now }
+    {
+        match self.flow {
+            flow::UNSOLICITED => Some(FlowSpec::Unsolicited {
+                size: self.size,
+                interval_us: self.interval_us,
+                jitter_us: self.jitter_us,
+            }),
+            flow::POLLED => Some(FlowSpec::Polled {
+                interval_us: self.interval_us,
+                jitter_us: self.jitter_us,
+                rate: self.rate,
+                burst: self.burst,
+            }),
+            flow::BEST_EFFORT => Some(FlowSpec::BestEffort {
+                priority: self.priority,
+                rate: self.rate,
+                burst: self.burst,
+            }),
+            _ => None,
+        }
+    }
+
+    // The call of these numbers, where there is such a kind.
+    pub(crate) fn call(&self) -> Option<Call>
+        ensures { result ≡ call_of self.now }
+    {
+        Some(match self.kind {
+            kind::ADMIT => Call::Admit(self.sid, self.flow()?),
+            kind::REMOVE => Call::Remove(self.sid),
+            kind::ASK => Call::Ask {
+                receiver: self.receiver,
+                sid: self.sid,
+                bytes: self.bytes,
+                heard: self.minislot,
+            },
+            kind::HEARD => Call::Heard {
+                receiver: self.receiver,
+                upto: self.minislot,
+            },
+            kind::BUILD => Call::Build { now: self.minislot },
+            kind::SKIP => Call::Skip { now: self.minislot },
+            kind::STATUS => Call::Status(self.sid),
+            _ => return None,
+        })
+    }
+
+    // The numbers of an admission.
+    fn of_admission(sid: u16, spec: FlowSpec) -> PlainCall
+        ensures { result ≡ plain_call (Call.Admit sid spec) }
+    {
+        match spec {
+            FlowSpec::Unsolicited {
+                size,
+                interval_us,
+                jitter_us,
+            } => PlainCall {
+                flow: flow::UNSOLICITED,
+                sid,
+                size,
+                interval_us,
+                jitter_us,
+                ..NOTHING
+            },
+            FlowSpec::Polled {
+                interval_us,
+                jitter_us,
+                rate,
+                burst,
+            } => PlainCall {
+                flow: flow::POLLED,
+                sid,
+                interval_us,
+                jitter_us,
+                rate,
+                burst,
+                ..NOTHING
+            },
+            FlowSpec::BestEffort {
+                priority,
+                rate,
+                burst,
+            } => PlainCall {
+                flow: flow::BEST_EFFORT,
+                sid,
+                priority,
+                rate,
+                burst,
+                ..NOTHING
+            },
+        }
+    }
+
+    // The numbers of a call: those that its kind has not are 0.
+    pub(crate) fn of(call: Call) -> PlainCall
+        ensures value { result ≡ plain_call call }
+        ensures read { call_of result ≡ Some call }
+    {
+        match call {
+            Call::Admit(sid, spec) => PlainCall::of_admission(sid, spec),
+            Call::Remove(sid) => PlainCall {
+                kind: kind::REMOVE,
+                sid,
+                ..NOTHING
+            },
+            Call::Ask {
+                receiver,
+                sid,
+                bytes,
+                heard,
+            } => PlainCall {
+                kind: kind::ASK,
+                receiver,
+                sid,
+                bytes,
+                minislot: heard,
+                ..NOTHING
+            },
+            Call::Heard { receiver, upto } => PlainCall {
+                kind: kind::HEARD,
+                receiver,
+                minislot: upto,
+                ..NOTHING
+            },
+            Call::Build { now } => PlainCall {
+                kind: kind::BUILD,
+                minislot: now,
+                ..NOTHING
+            },
+            Call::Skip { now } => PlainCall {
+                kind: kind::SKIP,
+                minislot: now,
+                ..NOTHING
+            },
+            Call::Status(sid) => PlainCall {
+                kind: kind::STATUS,
+                sid,
+                ..NOTHING
+            },
+        }
+    }
+}

@@ -1,0 +1,120 @@
+//! What the static library exports, by the header's names.
+
+ghost use Rattle.std.specs.Prelude.{◌≡◌, None};
+ghost use Rattle.mapsched_c.specs.Answer.{Answers};
+ghost use Rattle.mapsched_c.specs.Call.{call_of};
+ghost use Rattle.mapsched_c.specs.Config.{config_of, ChecksConfig, Opens};
+ghost use Rattle.mapsched_c.specs.Entry.{count_over, entry_at, entry_over, entry_status, handle_status, stamp_of};
+
+use crate::call::PlainCall;
+use crate::channel::Channel;
+use crate::config::PlainConfig;
+use crate::entry::{PlainEntry, PlainStamp, put_entry};
+use crate::handle::Handle;
+use crate::reply::PlainReply;
+use crate::status;
+use sched_text::field_number;
+use std::alloc::Global;
+
+/// Whether a configuration is lawful: `OK`, or `BAD_CONFIG` and the number of its first wrong field.
+#[unsafe(no_mangle)]
+pub extern "C" fn mapsched_check(config: &PlainConfig) -> u32
+    ensures { ChecksConfig (config_of config.now) result }
+{
+    match config.config().check() {
+        Ok(_) => status::OK,
+        Err(fault) => status::BAD_CONFIG + u32::from(field_number(fault)),
+    }
+}
+
+/// Opens a scheduler into an empty handle. A handle that is full, and a wrong configuration, stay as they are.
+#[unsafe(no_mangle)]
+pub extern "C" fn mapsched_open(alloc: Global, scheduler: &mut Handle, config: &PlainConfig) -> u32
+    ensures { Opens scheduler.old.place.machine scheduler.new.place.machine (config_of config.now) result }
+{
+    if scheduler.is_full() {
+        return status::FULL;
+    }
+    let checked = match config.config().check() {
+        Ok(checked) => checked,
+        Err(fault) => return status::BAD_CONFIG + u32::from(field_number(fault)),
+    };
+    let Ok(channel) = Channel::open(alloc, checked) else {
+        return status::OUT_OF_MEMORY;
+    };
+    let Ok(channel) = Box::new(alloc, channel) else {
+        return status::OUT_OF_MEMORY;
+    };
+    scheduler.put(channel);
+    status::OK
+}
+
+/// Answers a call, records it with its stamp, and writes its reply. A call that is not recorded changes nothing.
+#[unsafe(no_mangle)]
+pub extern "C" fn mapsched_call(
+    alloc: Global,
+    scheduler: &mut Handle,
+    stamp: &PlainStamp,
+    call: &PlainCall,
+    reply: &mut PlainReply,
+) -> u32
+    ensures answer { Answers scheduler.old.place.machine scheduler.new.place.machine (stamp_of stamp.now)
+        (call_of call.now) result reply.old reply.new }
+{
+    let Some(mut channel) = scheduler.take(alloc) else {
+        return status::EMPTY;
+    };
+    let answered = match call.call() {
+        Some(call) => channel.answer(stamp.stamp(), call, reply),
+        None => status::BAD_CALL,
+    };
+    scheduler.put(channel);
+    answered
+}
+
+/// Tells how many calls are recorded.
+#[unsafe(no_mangle)]
+pub extern "C" fn mapsched_count(alloc: Global, scheduler: &mut Handle, count: &mut usize) -> u32
+    ensures status { result ≡ handle_status scheduler.old.place.machine }
+    ensures count { count.new ≡ count_over count.old scheduler.old.place.machine }
+    ensures same { scheduler.new.place.machine ≡ scheduler.old.place.machine }
+{
+    let Some(channel) = scheduler.take(alloc) else {
+        return status::EMPTY;
+    };
+    *count = channel.entries().len();
+    scheduler.put(channel);
+    status::OK
+}
+
+/// Writes the entry of the history at this place, from 0.
+#[unsafe(no_mangle)]
+pub extern "C" fn mapsched_entry(
+    alloc: Global,
+    scheduler: &mut Handle,
+    place: usize,
+    entry: &mut PlainEntry,
+) -> u32
+    ensures status { result ≡ entry_status scheduler.old.place.machine place }
+    ensures entry { entry.new ≡ entry_over entry.old (entry_at scheduler.old.place.machine place) }
+    ensures same { scheduler.new.place.machine ≡ scheduler.old.place.machine }
+{
+    let Some(channel) = scheduler.take(alloc) else {
+        return status::EMPTY;
+    };
+    let answered = put_entry(channel.entries(), place, entry);
+    scheduler.put(channel);
+    answered
+}
+
+/// Frees the scheduler, and leaves the handle empty.
+#[unsafe(no_mangle)]
+pub extern "C" fn mapsched_close(alloc: Global, scheduler: &mut Handle) -> u32
+    ensures status { result ≡ handle_status scheduler.old.place.machine }
+    ensures closed { scheduler.new.place.machine ≡ None }
+{
+    match scheduler.take(alloc) {
+        Some(_channel) => status::OK,
+        None => status::EMPTY,
+    }
+}

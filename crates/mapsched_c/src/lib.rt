@@ -1,0 +1,14 @@
+//! The scheduler from C and C++: a static library, whose header is `include/mapsched.h`.
+#![tactic(auto)]
+
+mod call;
+mod channel;
+mod config;
+mod entry;
+mod exports;
+mod handle;
+mod maps;
+mod place;
+mod reply;
+mod status;
+mod texts;

@@ -1,0 +1,30 @@
+//! What every export answers, with the header's numbers.
+
+/// Done; of a call: it was recorded.
+pub const OK: u32 = 0;
+/// The handle has no scheduler.
+pub const EMPTY: u32 = 1;
+/// The handle has a scheduler already.
+pub const FULL: u32 = 2;
+/// There is no such kind of call, or of flow. Nothing was recorded.
+pub const BAD_CALL: u32 = 3;
+/// The history has as many entries as the configuration allows.
+pub const HISTORY_FULL: u32 = 4;
+/// Memory ran out.
+pub const OUT_OF_MEMORY: u32 = 5;
+/// The history has no entry of this number.
+pub const NO_ENTRY: u32 = 6;
+/// The room is shorter than the text, whose length is told.
+pub const NO_ROOM: u32 = 7;
+/// An entry of a history may not follow those before it.
+pub const ILLEGAL: u32 = 8;
+/// A text is longer than 16777216 bytes.
+pub const TOO_LONG: u32 = 9;
+/// A text is not JSON in UTF-8.
+pub const NOT_JSON: u32 = 10;
+/// A text is no history.
+pub const NO_HISTORY: u32 = 11;
+/// To this the number of the first fault of a payload is added, from 1.
+pub const BAD_PAYLOAD: u32 = 200;
+/// To this the number of the first wrong field of a configuration is added, from 1.
+pub const BAD_CONFIG: u32 = 100;

@@ -1,0 +1,3 @@
+pub mod HistoryTold
+pub mod FaultFound
+pub mod Agreement

@@ -1,0 +1,12 @@
+-- The fault that is found in a file.
+use Rattle.std.specs.Prelude.{Option, Some, None}
+use Rattle.sched_text.specs.declared.fault.TextFault.{TextFault}
+use Rattle.sched_check.specs.declared.finding.Finding.{Finding}
+use Rattle.sched_check.specs.declared.finding.Finding.TheVariants.{Script, Storm, History, Fault}
+
+-- the fault, where one is found
+abbrev pub fault_found : Finding → Option TextFault
+fault_found (Script config calls) = None
+fault_found (Storm config scripts) = None
+fault_found (History config entries) = None
+fault_found (Fault fault) = Some fault

@@ -1,0 +1,6 @@
+pub mod Kind
+pub mod Found
+pub mod Finding
+pub mod Check
+pub mod Report
+pub mod Agree

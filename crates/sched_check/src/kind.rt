@@ -1,0 +1,42 @@
+//! The kinds of file that the program reads.
+
+ghost use Rattle.std.specs.Prelude.{◌≡◌, IsTrue};
+ghost use Rattle.serde_json.specs.View.{view};
+ghost use Rattle.sched_text.specs.Replies.{has};
+ghost use Rattle.sched_check.specs.Kind.{kind_in};
+
+use serde_json::Value;
+
+/// A kind of file that the program reads.
+#[derive(Clone, Copy, Debug, PartialEq, Eq)]
+pub enum Kind {
+    /// The script of a run.
+    Script,
+    /// The script of a storm.
+    Storm,
+    /// A history.
+    History,
+}
+
+// Whether something stands under this key.
+fn has(value: &Value, key: &str) -> bool
+    ensures { result ≡ has key.now (view value.now) }
+{
+    value.get(key).is_some()
+}
+
+/// The kind of file that a document seems to be, by its members: one with `calls` is a script, else one with `scripts`
+/// that of a storm, else one with `entries` a history. What has none of them is taken for a script.
+pub fn kind_in(value: &Value) -> Kind
+    ensures { result ≡ kind_in (view value.now) }
+{
+    if has(value, "calls") {
+        Kind::Script
+    } else if has(value, "scripts") {
+        Kind::Storm
+    } else if has(value, "entries") {
+        Kind::History
+    } else {
+        Kind::Script
+    }
+}

@@ -1,0 +1,13 @@
+//! What a check means for the commands.
+
+ghost use Rattle.std.specs.Prelude.{ℕ, List, Option, Some};
+ghost use Rattle.sched_commands.specs.declared.fault.RunFault.{RunFault};
+ghost use Rattle.sched_check.specs.Check.{Checks};
+ghost use Rattle.sched_check.specs.Agree.{AgreesWithCommands};
+
+/// What a check finds in a text agrees with every run, storm or audit of the same text, by the kind of file that it
+/// seems to be.
+pub fn agrees_with_commands()
+    ensures agrees { (text : List ℕ) (left before after : Option (List ℕ)) (found : Option RunFault)
+        → Checks (Some text) left before after found → AgreesWithCommands text found }
+{}

@@ -1,0 +1,13 @@
+//! What the program finds in a file that it is to read: a script, the script of a storm or a history. The fault that
+//! the command for such a file would end by, or what the file has, and words on it.
+#![tactic(auto)]
+
+mod check;
+mod finding;
+mod kind;
+mod laws;
+mod report;
+mod words;
+
+pub use check::run_check;
+pub use laws::agrees_with_commands;

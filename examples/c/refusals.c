@@ -1,0 +1,122 @@
+/* Every status, in turn, and what each leaves as it was; a history read back entry by entry. Prints nothing. */
+#include <mapsched.h>
+#include <stdio.h>
+#include <string.h>
+
+static struct mapsched_config lawful(void) {
+  struct mapsched_config config = {.ticks = 4,
+                                   .bytes_per_slot = 16,
+                                   .overhead = 2,
+                                   .frame = 40,
+                                   .cycle = 20,
+                                   .req_slots = 4,
+                                   .poll_slots = 2,
+                                   .lead = 40,
+                                   .short_max = 8,
+                                   .quantum = 64,
+                                   .grant_cap = 2000,
+                                   .calls = 3,
+                                   .start = 800,
+                                   .receivers = 1,
+                                   .channel = 3,
+                                   .ucd_count = 1};
+  return config;
+}
+
+static int failures = 0;
+
+static void want(int line, int holds) {
+  if (holds) return;
+  failures++;
+  fprintf(stderr, "refusals.c:%d\n", line);
+}
+#define WANT(holds) want(__LINE__, holds)
+
+int main(void) {
+  struct mapsched_config config = lawful(), wrong = lawful();
+  struct mapsched_scheduler scheduler = {0};
+  struct mapsched_stamp stamp = {.ticket = 7, .seat = 2};
+  struct mapsched_call voice = {.kind = MAPSCHED_ADMIT,
+                                .flow = MAPSCHED_UNSOLICITED,
+                                .sid = 5,
+                                .size = 64,
+                                .interval_us = 20000,
+                                .jitter_us = 1000};
+  struct mapsched_call unknown = {.kind = 7}, strange = {.kind = MAPSCHED_ADMIT, .flow = 3};
+  struct mapsched_call bytes = {.kind = MAPSCHED_STATUS, .sid = 9};
+  struct mapsched_call build = {.kind = MAPSCHED_BUILD, .minislot = 760};
+  struct mapsched_reply reply, before;
+  struct mapsched_entry entry;
+  struct mapsched_map map;
+  static uint8_t text[10000];
+  uintptr_t count = 99, length = 0, place = 99;
+
+  memset(&reply, 0xa5, sizeof reply);
+  memset(&entry, 0xa5, sizeof entry);
+  before = reply;
+
+  wrong.ticks = 3;
+  WANT(mapsched_check(&config) == MAPSCHED_OK);
+  WANT(mapsched_check(&wrong) == MAPSCHED_BAD_CONFIG + 1 && strcmp(mapsched_status_text(101), "ticks") == 0);
+  wrong = lawful();
+  wrong.phy = 2;
+  WANT(mapsched_check(&wrong) == MAPSCHED_BAD_CONFIG + 19 && strcmp(mapsched_status_text(119), "phy") == 0);
+
+  WANT(mapsched_call(&scheduler, &stamp, &build, &reply) == MAPSCHED_EMPTY);
+  WANT(mapsched_count(&scheduler, &count) == MAPSCHED_EMPTY && count == 99);
+  WANT(mapsched_entry(&scheduler, 0, &entry) == MAPSCHED_EMPTY);
+  WANT(mapsched_close(&scheduler) == MAPSCHED_EMPTY);
+  WANT(mapsched_open(&scheduler, &wrong) == MAPSCHED_BAD_CONFIG + 19 && !scheduler.full);
+  WANT(mapsched_open(&scheduler, &config) == MAPSCHED_OK);
+  WANT(mapsched_open(&scheduler, &config) == MAPSCHED_FULL);
+
+  WANT(mapsched_call(&scheduler, &stamp, &unknown, &reply) == MAPSCHED_BAD_CALL);
+  WANT(mapsched_call(&scheduler, &stamp, &strange, &reply) == MAPSCHED_BAD_CALL);
+  WANT(memcmp(&reply, &before, sizeof reply) == 0);
+  WANT(mapsched_count(&scheduler, &count) == MAPSCHED_OK && count == 0);
+
+  WANT(mapsched_call(&scheduler, &stamp, &voice, &reply) == MAPSCHED_OK && reply.kind == MAPSCHED_PLACED);
+  WANT(reply.value >= 800 && reply.starts_count == 1 && reply.starts[1] == 0xa5a5);
+  WANT(mapsched_call(&scheduler, &stamp, &bytes, &reply) == MAPSCHED_OK && reply.kind == MAPSCHED_REFUSED);
+  WANT(reply.refusal == 7 && reply.value == 0);
+  WANT(mapsched_call(&scheduler, &stamp, &build, &reply) == MAPSCHED_OK && reply.kind == MAPSCHED_BUILT);
+  WANT(reply.value == 800 && reply.length > 16 && reply.payload[0] == 3 && reply.payload[reply.length] == 0xa5);
+  before = reply;
+  WANT(mapsched_call(&scheduler, &stamp, &build, &reply) == MAPSCHED_HISTORY_FULL);
+  WANT(memcmp(&reply, &before, sizeof reply) == 0);
+
+  WANT(mapsched_count(&scheduler, &count) == MAPSCHED_OK && count == 3);
+  WANT(mapsched_entry(&scheduler, 3, &entry) == MAPSCHED_NO_ENTRY && entry.call.kind == 0xa5a5a5a5);
+  WANT(mapsched_entry(&scheduler, 0, &entry) == MAPSCHED_OK && entry.stamp.ticket == 7 && entry.stamp.seat == 2);
+  WANT(memcmp(&entry.call, &voice, sizeof voice) == 0 && entry.reply.kind == MAPSCHED_PLACED);
+  WANT(mapsched_entry(&scheduler, 2, &entry) == MAPSCHED_OK && entry.reply.kind == MAPSCHED_BUILT);
+  WANT(entry.reply.length == reply.length && memcmp(entry.reply.payload, reply.payload, reply.length) == 0);
+
+  memset(&map, 0xa5, sizeof map);
+  WANT(mapsched_decode(reply.payload, reply.length, &map, &place) == MAPSCHED_OK && place == 99);
+  WANT(map.channel == 3 && map.ucd_count == 1 && map.alloc_start == 800 && map.ack == 800 && map.count == 4);
+  WANT(map.elements[0].sid == 0x3fff && map.elements[0].iuc == 1 && map.elements[0].offset == 0);
+  WANT(map.elements[1].sid == 5 && map.elements[3].iuc == 7 && map.elements[3].offset == 40);
+  WANT(map.elements[4].sid == 0xa5a5);
+  WANT(mapsched_decode(reply.payload, 15, &map, &place) == MAPSCHED_BAD_PAYLOAD + 1 && place == 99);
+  WANT(mapsched_decode(reply.payload, reply.length - 1, &map, &place) == MAPSCHED_BAD_PAYLOAD + 3);
+  reply.payload[18] |= 0xc0;
+  reply.payload[17] |= 0x03;
+  WANT(mapsched_decode(reply.payload, reply.length, &map, &place) == MAPSCHED_BAD_PAYLOAD + 4 && place == 0);
+  WANT(map.count == 4 && strcmp(mapsched_status_text(204), "an expansion") == 0);
+
+  WANT(mapsched_history(&scheduler, text, 10, &length) == MAPSCHED_NO_ROOM && length > 10 && text[0] == 0);
+  WANT(mapsched_history(&scheduler, text, sizeof text, &length) == MAPSCHED_OK && text[length - 1] == '\n');
+  WANT(text[length] == 0 && mapsched_audit(text, length, &place) == MAPSCHED_OK && place == 3);
+  WANT(mapsched_audit(text, length - 2, &place) == MAPSCHED_NOT_JSON && place == 3);
+  WANT(mapsched_audit((const uint8_t *)"{}", 2, &place) == MAPSCHED_NO_HISTORY && place == 0);
+  /* The acknowledge time of the MAP, in the last entry. */
+  *strstr(strstr((char *)text, "\"ack\":800"), "800") = '9';
+  WANT(mapsched_audit(text, length, &place) == MAPSCHED_ILLEGAL && place == 2);
+
+  WANT(mapsched_close(&scheduler) == MAPSCHED_OK && !scheduler.full);
+  WANT(mapsched_close(&scheduler) == MAPSCHED_EMPTY);
+  WANT(strcmp(mapsched_status_text(12), "unknown status") == 0);
+  WANT(strcmp(mapsched_status_text(100), "unknown status") == 0);
+  return failures != 0;
+}

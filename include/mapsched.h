@@ -1,0 +1,176 @@
+/*
+ * mapsched: the upstream scheduler of one TDMA channel of a cable modem termination system (DOCSIS 3.0), from C11
+ * and C++17. docs/C.md says who owns what, what is proved and what the caller owes.
+ *
+ * Every function answers one of enum mapsched_status. Where it is not MAPSCHED_OK nothing has changed, what the
+ * pointers lead to included, but for what the status says is told. No pointer is null.
+ */
+#ifndef MAPSCHED_H
+#define MAPSCHED_H
+
+#include <stdint.h>
+
+#ifdef __cplusplus
+extern "C" {
+#endif
+
+#define MAPSCHED_MAX_STARTS 64
+#define MAPSCHED_MAX_BYTES 976
+#define MAPSCHED_MAX_ELEMENTS 240
+
+enum mapsched_status {
+  MAPSCHED_OK = 0,
+  MAPSCHED_EMPTY = 1,         /* the handle has no scheduler */
+  MAPSCHED_FULL = 2,          /* the handle has a scheduler already */
+  MAPSCHED_BAD_CALL = 3,      /* no such kind of call, or of flow */
+  MAPSCHED_HISTORY_FULL = 4,  /* as many calls are recorded as the configuration allows */
+  MAPSCHED_OUT_OF_MEMORY = 5,
+  MAPSCHED_NO_ENTRY = 6,      /* the history has no entry of this number */
+  MAPSCHED_NO_ROOM = 7,       /* the room is shorter than the text, whose length is told */
+  MAPSCHED_ILLEGAL = 8,       /* an entry may not follow those before it: its place is told */
+  MAPSCHED_TOO_LONG = 9,      /* a text is longer than 16777216 bytes */
+  MAPSCHED_NOT_JSON = 10,     /* a text is not JSON in UTF-8 */
+  MAPSCHED_NO_HISTORY = 11,   /* a text is no history: the place of the entry is told, from 1, or 0 */
+  MAPSCHED_BAD_CONFIG = 100,  /* and the number of the first wrong field: 101 to 119, in the order of README's table */
+  MAPSCHED_BAD_PAYLOAD = 200  /* and the number of the first fault: 201 to 207, in the order of README's list */
+};
+
+/* The configuration of a channel. README's table has the values that are lawful. */
+struct mapsched_config {
+  uint32_t ticks, bytes_per_slot, overhead, frame, cycle, req_slots, poll_slots, lead, short_max, quantum, grant_cap;
+  uint32_t calls;
+  uint64_t start;
+  uint8_t receivers, ranging_start, ranging_end, data_start, data_end, channel, ucd_count, phy;
+};
+
+enum mapsched_call_kind {
+  MAPSCHED_ADMIT = 0,
+  MAPSCHED_REMOVE = 1,
+  MAPSCHED_ASK = 2,
+  MAPSCHED_HEARD = 3,
+  MAPSCHED_BUILD = 4,
+  MAPSCHED_SKIP = 5,
+  MAPSCHED_STATUS = 6
+};
+
+enum mapsched_flow_kind { MAPSCHED_UNSOLICITED = 0, MAPSCHED_POLLED = 1, MAPSCHED_BEST_EFFORT = 2 };
+
+/* A call by its kind. A kind reads only its own numbers; in a history the others are 0. */
+struct mapsched_call {
+  uint32_t kind;                                      /* enum mapsched_call_kind */
+  uint32_t flow;                                      /* of an admission: enum mapsched_flow_kind */
+  uint32_t size, interval_us, jitter_us, rate, burst; /* of an admission: bytes, microseconds, bits per second */
+  uint32_t bytes;                                     /* of a request */
+  uint64_t minislot;                                  /* when it was heard, up to when all was, or now */
+  uint16_t sid;
+  uint8_t receiver, priority;
+};
+
+/* Who made a call: a seat and its ticket, which are recorded as they are handed in. */
+struct mapsched_stamp {
+  uint64_t ticket;
+  uint32_t seat;
+};
+
+enum mapsched_reply_kind {
+  MAPSCHED_ADMITTED = 0, /* a best effort flow */
+  MAPSCHED_PLACED = 1,   /* a periodic flow: value is its first nominal minislot, starts its starts */
+  MAPSCHED_REMOVED = 2,
+  MAPSCHED_TAKEN = 3,
+  MAPSCHED_NOTED = 4,
+  MAPSCHED_BUILT = 5,    /* value is the start of the frame, payload the MAP */
+  MAPSCHED_SKIPPED = 6,  /* value is the start of the next frame */
+  MAPSCHED_BYTES = 7,    /* asked, granted, outstanding */
+  MAPSCHED_REFUSED = 8   /* refusal is its number in README's table, value its value or 0 */
+};
+
+/* A reply by its kind. Numbers that the kind has not are 0; starts and payload keep what stood behind their end. */
+struct mapsched_reply {
+  uint32_t kind; /* enum mapsched_reply_kind */
+  uint32_t refusal;
+  uint32_t starts_count;
+  uint32_t length;
+  uint64_t value;
+  uint64_t asked, granted, outstanding;
+  uint16_t starts[MAPSCHED_MAX_STARTS];
+  uint8_t payload[MAPSCHED_MAX_BYTES];
+};
+
+struct mapsched_entry {
+  struct mapsched_stamp stamp;
+  struct mapsched_call call;
+  struct mapsched_reply reply;
+};
+
+/* A scheduler of one thread, or none: `= {0}` in C and `{}` in C++. Its members are the library's. */
+struct mapsched_scheduler {
+  uint32_t full;
+  void *at;
+};
+
+/* Whether a configuration is lawful. */
+uint32_t mapsched_check(const struct mapsched_config *config);
+
+/* Opens a scheduler into an empty handle. */
+uint32_t mapsched_open(struct mapsched_scheduler *scheduler, const struct mapsched_config *config);
+
+/* Makes a call, which is recorded, and writes its reply. A refusal is a reply. */
+uint32_t mapsched_call(struct mapsched_scheduler *scheduler, const struct mapsched_stamp *stamp,
+                       const struct mapsched_call *call, struct mapsched_reply *reply);
+
+/* How many calls are recorded. */
+uint32_t mapsched_count(struct mapsched_scheduler *scheduler, uintptr_t *count);
+
+/* The recorded call of this number, from 0. */
+uint32_t mapsched_entry(struct mapsched_scheduler *scheduler, uintptr_t place, struct mapsched_entry *entry);
+
+/* Writes the text of the history, as `mapsched run --history` does, and tells its length. */
+uint32_t mapsched_history(struct mapsched_scheduler *scheduler, uint8_t *room, uintptr_t room_length,
+                          uintptr_t *length);
+
+/* Audits the text of a history, and tells how many entries a legal one has. */
+uint32_t mapsched_audit(const uint8_t *text, uintptr_t length, uintptr_t *place);
+
+/* An information element of a MAP. */
+struct mapsched_element {
+  uint16_t sid, offset;
+  uint8_t iuc;
+};
+
+/* The fields of a MAP's payload and its elements, so many as are counted; the others keep what stood there. */
+struct mapsched_map {
+  uint32_t alloc_start, ack, count;
+  uint8_t channel, ucd_count, reserved, ranging_start, ranging_end, data_start, data_end;
+  struct mapsched_element elements[MAPSCHED_MAX_ELEMENTS];
+};
+
+/* Reads the payload of a MAP. Of the faults 4, 5 and 7 the element is told, from 0. */
+uint32_t mapsched_decode(const uint8_t *payload, uintptr_t length, struct mapsched_map *map, uintptr_t *element);
+
+/* Frees the scheduler. */
+uint32_t mapsched_close(struct mapsched_scheduler *scheduler);
+
+/* What a status says, in English. */
+static inline const char *mapsched_status_text(uint32_t status) {
+  static const char *const texts[] = {"ok",           "no scheduler",    "a scheduler already", "no such call",
+                                      "history full", "out of memory",   "no such entry",       "no room",
+                                      "illegal",      "text too long",   "not json",            "no history"};
+  static const char *const fields[] = {"ticks",         "bytes_per_slot", "overhead",   "frame",     "cycle",
+                                       "req_slots",     "poll_slots",     "lead",       "short_max", "quantum",
+                                       "grant_cap",     "receivers",      "calls",      "start",     "ranging_start",
+                                       "ranging_end",   "data_start",     "data_end",   "phy"};
+  static const char *const faults[] = {"too short",  "too many elements", "wrong length", "an expansion",
+                                       "a descent", "no null",           "a second null"};
+  if (status <= MAPSCHED_NO_HISTORY) return texts[status];
+  if (status > MAPSCHED_BAD_CONFIG && status <= MAPSCHED_BAD_CONFIG + 19)
+    return fields[status - MAPSCHED_BAD_CONFIG - 1];
+  if (status > MAPSCHED_BAD_PAYLOAD && status <= MAPSCHED_BAD_PAYLOAD + 7)
+    return faults[status - MAPSCHED_BAD_PAYLOAD - 1];
+  return "unknown status";
+}
+
+#ifdef __cplusplus
+}
+#endif
+
+#endif
