@@ -2,8 +2,8 @@
 //! 1. A seat draws its ticket, t, by a fetch-and-add on `next`. Tickets are served in the order of the draws.
 //! 2. It looks at a word of its own, word t mod 64 of a row, until that is t. At most 64 tickets are in flight.
 //! 3. The holder of t leaves by one store, of t + 1 into word (t + 1) mod 64, which one seat at most looks at.
-//! 4. A seat whose turn is far sleeps on its word, and is woken ahead of its turn. One that is near looks, yields,
-//!    and sleeps at last. Whoever serves its ticket wakes it.
+//! 4. A seat whose turn is far sleeps on its word. One that is near looks, and sleeps at last. Whoever serves its
+//!    ticket wakes it.
 //! 5. The words count modulo 2^64. The value goes in and out of a slot that is the holder's alone.
 ghost use Rattle.std.specs.Prelude.{◌≡◌, ◌+◌, ℕ, Option, Some, [], ◌∷◌, IfOk, IfErr};
 ghost use Rattle.ticket_lock.specs.Calls.{Draws, Enters, MayLeave, Leaves};
@@ -12,11 +12,11 @@ use crate::board::{Board, NEXT, Place, Steps, place_of};
 use crate::journal::Journal;
 use crate::plays::{Draw, Leave, Look};
 use crate::seat::{Held, Inside, Seat, Ticket};
+use std::hint;
 use std::marker::Model;
 use std::sync::Wait;
 use std::sync::atomic::AtomicU64;
 use std::sync::atomic::Ordering::SeqCst;
-use std::{hint, thread};
 use ticket_core::GRANTS;
 
 /// A value that one seat at a time holds, in the order of their tickets. Threads share it by a reference.
@@ -44,19 +44,14 @@ impl<T: Journal> Model for TicketLock<T> {
 }
 
 // A turn is near where no more than so many come before it. A seat whose turn is not near sleeps.
-const NEAR: u64 = 7;
-
-// It is woken where so many turns come before its own, and again for its own.
-const AHEAD: u64 = 3;
+const NEAR: u64 = 3;
 
 // How often a seat looks before it asks whether its turn is near.
 const FIRST_LOOKS: u32 = 16;
 
-// How often one whose turn is near looks before it lets other threads run.
-const LOOKS: u32 = 100;
-
-// How often it lets them run, with a look after each, before it sleeps too.
-const YIELDS: u32 = 100;
+// How often one whose turn is near looks before it sleeps too. It never yields: where other processes keep the cores
+// busy, a thread that yields waits for the whole slice of one of them.
+const LOOKS: u32 = 4000;
 
 // The bit of the word that a seat with this ticket waits on.
 fn bit_of(ticket: u64) -> u64 {
@@ -102,7 +97,7 @@ impl<T: Journal> TicketLock<T> {
         }
     }
 
-    /// Looks, yields or sleeps until the ticket is served, and enters.
+    /// Looks or sleeps until the ticket is served, and enters.
     pub fn enter<R: Wait>(&self, rt: &R, ticket: Ticket<T>) -> (Held<T>, T)
         requires own { ticket.lock ≡ self.now }
         ensures entered { Enters T.stamp T.head T.entries ticket result.0 result.1 }
@@ -195,15 +190,11 @@ impl<T: Journal> TicketLock<T> {
     // there are then. What is near once stays near.
     fn pause<R: Wait>(&self, rt: &R, ticket: u64, looks: u32) -> u32 {
         let is_far = looks == FIRST_LOOKS && !self.is_near(ticket);
-        if is_far || looks >= LOOKS + YIELDS {
+        if is_far || looks >= LOOKS {
             self.sleep(rt, ticket);
             return 0;
         }
-        if looks < LOOKS {
-            hint::spin_loop();
-        } else {
-            thread::yield_now();
-        }
+        hint::spin_loop();
         looks.saturating_add(1)
     }
 
@@ -221,7 +212,6 @@ impl<T: Journal> TicketLock<T> {
     // one order: if the store comes first, the seat does not sleep; if not, the bit is set when it is read,
     // and the word is woken after the store. Nobody else waits on that word, so the wake is the sleeper's.
     // A wake that comes before the seat is asleep comes after the store, so the seat does not sleep then.
-    // A seat that is woken before its turn looks, and may sleep again in the same way.
     fn sleep<R: Wait>(&self, rt: &R, ticket: u64) {
         let bit = bit_of(ticket);
         self.asleep.fetch_add(bit, SeqCst);
@@ -232,16 +222,10 @@ impl<T: Journal> TicketLock<T> {
         self.asleep.fetch_sub(bit, SeqCst);
     }
 
-    // Wakes the seat with this ticket, which is served, and one ahead of its turn, if they sleep.
+    // Wakes the seat with this ticket, which is served, if it sleeps.
     fn wake(&self, ticket: u64) {
-        let asleep = self.asleep.load(SeqCst);
-        if asleep == 0 {
-            return;
-        }
-        for ticket in [ticket, ticket.wrapping_add(AHEAD)] {
-            if asleep & bit_of(ticket) != 0 {
-                self.table.shared.wake_one(place_of(ticket));
-            }
+        if self.asleep.load(SeqCst) & bit_of(ticket) != 0 {
+            self.table.shared.wake_one(place_of(ticket));
         }
     }
 }
