@@ -8,7 +8,7 @@ use Rattle.minislots.specs.Config.{is_lawful_field, fields, first_wrong_of, firs
 use Rattle.minislots.specs.Config.{IsLawful, HasBounds, is_ticks, is_within}
 
 -- a list of fields that are all lawful
-abbrev AreLawful : Config → List ConfigFault → Type 0
+abbrev pub AreLawful : Config → List ConfigFault → Type 0
 AreLawful c [] = Unit {0}
 AreLawful c (field ∷ some) = (is_lawful_field c field ≡ true) × AreLawful c some
 
@@ -17,14 +17,16 @@ not_found : {X : Type 0} (b : Bool) (x : X) (rest : Option X) → cond (not b) (
 not_found true x rest h = (refl, h)
 not_found false x rest h = absurd (cc)
 
-are_lawful : (c : Config) (some : List ConfigFault) → first_wrong_of c some ≡ None → AreLawful c some
+-- where none of some fields is wrong, each is lawful
+pub are_lawful : (c : Config) (some : List ConfigFault) → first_wrong_of c some ≡ None → AreLawful c some
 are_lawful c [] h = tt
 are_lawful c (field ∷ some) h =
     let both : (is_lawful_field c field ≡ true) × (first_wrong_of c some ≡ None) =
     not_found (is_lawful_field c field) field (first_wrong_of c some) h in
     (both.0, are_lawful c some both.1)
 
-within : (low high n : ℕ) → is_within low high n ≡ true → (low ≤ n) × (n ≤ high)
+-- what the test of a range says
+pub within : (low high n : ℕ) → is_within low high n ≡ true → (low ≤ n) × (n ≤ high)
 within low high n h = grind (arith, nat_tests)
 
 ticks_within : (n : ℕ) → is_ticks n ≡ true → (2 ≤ n) × (n ≤ 128)

@@ -1,4 +1,5 @@
 pub mod Bounds
 pub mod Groups
+pub mod Ranges
 mod Rows
 pub mod UnitLaws

@@ -4,8 +4,10 @@ ghost use Rattle.std.specs.Prelude.{◌≡◌, IfOk, OnOk, IfErr};
 ghost use Rattle.minislots.specs.Config.{first_wrong, IsLawful};
 
 mod fields;
+mod ranges;
 mod readers;
 
+pub use ranges::FieldRule;
 use std::fmt;
 use std::marker::Model;
 use thiserror::Error;

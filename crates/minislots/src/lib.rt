@@ -6,6 +6,6 @@ mod config;
 mod stamp;
 mod units;
 
-pub use config::{Checked, Config, ConfigFault};
+pub use config::{Checked, Config, ConfigFault, FieldRule};
 pub use stamp::Stamp;
 pub use units::wire;
