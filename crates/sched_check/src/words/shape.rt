@@ -90,19 +90,23 @@ fn tell_reply(
     let Some(form) = reply_form(kind) else {
         return tell_name(alloc, words, place, "kind", kind, &REPLIES);
     };
-    let before = words.len();
     tell_members(alloc, words, place, form, value)?;
-    if words.len() != before {
-        return Ok(());
-    }
-    match kind {
-        "refused" => writeln!(
-            words,
-            "{place}: no refusal has this number, with this value or none"
-        ),
-        "admitted" => writeln!(
+    let is_alone = value.get("reference").is_some() != value.get("starts").is_some();
+    if kind == "admitted" && is_alone {
+        writeln!(
             words,
             "{place}: \"reference\" and \"starts\" stand together or not at all"
+        )?;
+    }
+    Ok(())
+}
+
+// What is wrong with an entry of which each member is what it must be: a refusal that there is not.
+fn tell_refusal(words: &mut String, place: Place, value: &Value) -> Result<(), AllocError> {
+    match object(value, "reply").and_then(|reply| text(reply, "kind")) {
+        Some("refused") => writeln!(
+            words,
+            "{place}: no refusal has this number, with this value or none"
         ),
         _ => Ok(()),
     }
@@ -115,7 +119,7 @@ pub fn tell_entry(
     number: u64,
     value: &Value,
 ) -> Result<(), AllocError> {
-    let place = Place::Entry(number);
+    let (place, before) = (Place::Entry(number), words.len());
     if !is_object(alloc, words, place, value)? {
         return Ok(());
     }
@@ -123,10 +127,13 @@ pub fn tell_entry(
     if let Some(call) = object(value, "call") {
         tell_call(alloc, words, Place::EntryCall(number), call)?;
     }
-    match object(value, "reply") {
-        Some(reply) => tell_reply(alloc, words, Place::Reply(number), reply),
-        None => Ok(()),
+    if let Some(reply) = object(value, "reply") {
+        tell_reply(alloc, words, Place::Reply(number), reply)?;
     }
+    if words.len() == before {
+        tell_refusal(words, Place::Reply(number), value)?;
+    }
+    Ok(())
 }
 
 /// The members of the document of a file of this kind.

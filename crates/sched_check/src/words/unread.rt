@@ -1,6 +1,8 @@
 //! Keys that nobody reads.
 
-use super::form::{Form, Member, call_form, config_form, entry_form, flow_form, reply_form};
+use super::form::{
+    Form, Member, call_form, config_form, entry_form, flow_form, kind_form, named_form, reply_form,
+};
 use super::nearest::nearest;
 use super::place::Place;
 use super::shape::document_form;
@@ -89,15 +91,41 @@ impl Unread {
         Ok(())
     }
 
+    // Those of an object without a name that may be meant for the key of its name.
+    fn tell_meant(
+        &mut self,
+        alloc: Global,
+        place: Place,
+        form: Form,
+        value: Option<&Value>,
+    ) -> Result<(), AllocError> {
+        let Some(Value::Object(members)) = value else {
+            return Ok(());
+        };
+        let names = keys_of(alloc, form)?;
+        for key in members.keys() {
+            let is_near = nearest(alloc, key, names.as_slice())?.is_some();
+            if is_near && !is_among(key, form.wanted) {
+                self.tell(alloc, place, key, form)?;
+            }
+        }
+        Ok(())
+    }
+
     // Those of a call and its flow.
     fn tell_call(&mut self, alloc: Global, place: Place, call: &Value) -> Result<(), AllocError> {
-        let name = call.get("call").and_then(Value::as_str);
-        self.tell_object(alloc, place, name.and_then(call_form), Some(call))?;
+        match call.get("call").and_then(Value::as_str) {
+            Some(name) => self.tell_object(alloc, place, call_form(name), Some(call))?,
+            None => self.tell_meant(alloc, place, named_form(), Some(call))?,
+        }
         let flow = call.get("flow");
         let kind = flow
             .and_then(|flow| flow.get("kind"))
             .and_then(Value::as_str);
-        self.tell_object(alloc, place.flow(), kind.and_then(flow_form), flow)
+        match kind {
+            Some(kind) => self.tell_object(alloc, place.flow(), flow_form(kind), flow),
+            None => self.tell_meant(alloc, place.flow(), kind_form(), flow),
+        }
     }
 
     // Those of an entry, its call and its reply.
