@@ -10,7 +10,8 @@ pub const STATUSES: &str = "Exit statuses:
   2  the command line is wrong
   3  the input is wrong: `input failed`, `input too long` (above 16777216 bytes),
      `not json`, `bad script at N` (0: the document or its configuration, else
-     the call, counted from 1), `bad config N` (the field's number in README.md)
+     the call or entry, from 1), `bad config N` (the field's number in README.md);
+     `mapsched check` tells where the fault is, and what was expected there
   4  the machine failed: `out of memory`, `output failed`, `no thread`
 
 `mapsched help COMMAND` tells what a command reads and prints, with an example.";

@@ -93,7 +93,6 @@ fn what_is_wrong(alloc: Global, before: &[u8], byte: u8) -> Result<&'static str,
         (Some(end), _) if ends_value(end) && starts_value(byte) => {
             "a comma or a colon is missing before this"
         }
-        (_, b'"') => "this text has no end, or a byte that must be escaped",
         _ => "this is no JSON",
     })
 }
