@@ -1,19 +1,9 @@
 //! What is wrong with a field of a configuration, and the values that it may have.
 
-use minislots::ConfigFault;
+use minislots::{Config, ConfigFault, FieldRule};
 use serde_json::Value;
 use std::alloc::AllocError;
 use std::fmt::Write;
-
-/// The fields on which the range of another depends.
-#[derive(Clone, Copy)]
-struct Frame {
-    frame: u32,
-    req_slots: u32,
-    overhead: u32,
-    bytes_per_slot: u32,
-    quantum: u32,
-}
 
 // The key of a field.
 fn key_of(field: ConfigFault) -> &'static str {
@@ -42,68 +32,64 @@ fn key_of(field: ConfigFault) -> &'static str {
 
 // What else a field must be, or why its range is this.
 fn rule_of(field: ConfigFault) -> &'static str {
+    match field.rule() {
+        FieldRule::PowerOfTwo => ", a power of two",
+        FieldRule::WholeFrames => ", a multiple of the frame",
+        FieldRule::Any => reason_of(field),
+    }
+}
+
+// Why the range of a field is this, where another field decides it.
+fn reason_of(field: ConfigFault) -> &'static str {
     match field {
-        ConfigFault::Ticks => ", a power of two",
         ConfigFault::ReqSlots => ", so that a burst of one minislot fits behind it in the frame",
         ConfigFault::PollSlots => ", what the request region leaves of the frame",
         ConfigFault::Lead => ", so that it and two frames are at most 4096 minislots",
         ConfigFault::ShortMax => ", at most the frame",
         ConfigFault::Quantum => ", so that its burst fits behind the request region",
         ConfigFault::GrantCap => ", at least the quantum",
-        ConfigFault::Start => ", a multiple of the frame",
         _ => "",
     }
 }
 
-// The most bytes of a quantum whose burst fits behind the request region.
-fn most_bytes(config: Frame) -> u32 {
-    let used = config.req_slots.saturating_add(config.overhead);
-    let carried = config.frame.saturating_sub(used);
-    carried.saturating_mul(config.bytes_per_slot).min(1522)
+// The number under a key.
+fn number(config: &Value, key: &str) -> u64 {
+    config.get(key).and_then(Value::as_u64).unwrap_or(0)
 }
 
-// The least and the greatest value of a field, where those before it are lawful.
-fn range_of(config: Frame, field: ConfigFault) -> (u64, u64) {
-    let (low, high) = match field {
-        ConfigFault::Ticks => (2, 128),
-        ConfigFault::BytesPerSlot => (1, 1024),
-        ConfigFault::Overhead | ConfigFault::Cycle => (1, 64),
-        ConfigFault::Frame => (16, 1024),
-        ConfigFault::ReqSlots => {
-            let behind = config.overhead.saturating_add(1);
-            (1, config.frame.saturating_sub(behind))
-        }
-        ConfigFault::PollSlots => (1, config.frame.saturating_sub(config.req_slots)),
-        ConfigFault::Lead => (0, 4096u32.saturating_sub(config.frame.saturating_mul(2))),
-        ConfigFault::ShortMax => (0, config.frame),
-        ConfigFault::Quantum => (64, most_bytes(config)),
-        ConfigFault::GrantCap => (config.quantum, 1_048_560),
-        ConfigFault::Receivers => (1, 16),
-        ConfigFault::Calls => (1, 1 << 24),
-        ConfigFault::Start => return (0, 1 << 60),
-        ConfigFault::RangingStart | ConfigFault::RangingEnd => (0, 15),
-        ConfigFault::DataStart | ConfigFault::DataEnd => (0, 15),
-        ConfigFault::Phy => (0, 1),
-    };
-    (u64::from(low), u64::from(high))
+// The number under a key, or 0 where it is too great.
+fn short(config: &Value, key: &str) -> u32 {
+    u32::try_from(number(config, key)).unwrap_or(0)
 }
 
-// The number under a key, or 0 where it does not fit.
-fn number(config: &Value, key: &str) -> u32 {
-    let Some(number) = config.get(key).and_then(Value::as_u64) else {
-        return 0;
-    };
-    u32::try_from(number).unwrap_or(0)
+fn byte(config: &Value, key: &str) -> u8 {
+    u8::try_from(number(config, key)).unwrap_or(0)
 }
 
-// The fields on which the range of another depends.
-fn frame_in(config: &Value) -> Frame {
-    Frame {
-        frame: number(config, "frame"),
-        req_slots: number(config, "req_slots"),
-        overhead: number(config, "overhead"),
-        bytes_per_slot: number(config, "bytes_per_slot"),
-        quantum: number(config, "quantum"),
+// The configuration that an object stands for, of which the shape was tested.
+fn config_in(config: &Value) -> Config {
+    Config {
+        ticks: short(config, "ticks"),
+        bytes_per_slot: short(config, "bytes_per_slot"),
+        overhead: short(config, "overhead"),
+        frame: short(config, "frame"),
+        cycle: short(config, "cycle"),
+        req_slots: short(config, "req_slots"),
+        poll_slots: short(config, "poll_slots"),
+        lead: short(config, "lead"),
+        short_max: short(config, "short_max"),
+        quantum: short(config, "quantum"),
+        grant_cap: short(config, "grant_cap"),
+        receivers: byte(config, "receivers"),
+        calls: short(config, "calls"),
+        start: number(config, "start"),
+        ranging_start: byte(config, "ranging_start"),
+        ranging_end: byte(config, "ranging_end"),
+        data_start: byte(config, "data_start"),
+        data_end: byte(config, "data_end"),
+        channel: byte(config, "channel"),
+        ucd_count: byte(config, "ucd_count"),
+        phy: byte(config, "phy"),
     }
 }
 
@@ -116,12 +102,15 @@ pub fn tell_field(
     let Some(value) = document.get("config") else {
         return Ok(());
     };
-    let key = key_of(field);
-    let found = value.get(key).and_then(Value::as_u64).unwrap_or(0);
-    write!(words, "config: \"{key}\" is {found}, and not ")?;
-    let rule = rule_of(field);
-    match range_of(frame_in(value), field) {
-        (low, high) if low <= high => writeln!(words, "from {low} to {high}{rule}"),
-        _ => writeln!(words, "lawful, as no value is{rule}"),
+    let (key, rule) = (key_of(field), rule_of(field));
+    let found = number(value, key);
+    let (low, high) = config_in(value).range_of(field);
+    write!(words, "config: \"{key}\" is {found}, and ")?;
+    if low <= high {
+        return writeln!(words, "not from {low} to {high}{rule}");
     }
+    writeln!(
+        words,
+        "no value is lawful with the fields before it: at least {low}, and at most {high}{rule}"
+    )
 }
