@@ -1,8 +1,10 @@
--- The scripts and the histories in documents that were read thing by thing.
-use Rattle.std.proofs.Common.{◌≡◌, ℕ, ◌+◌, List, [], ◌∷◌, Option, Some, None, option_and_then, Result, Ok, Err}
-use Rattle.std.proofs.Common.{refl, sym, ap, ◌∙◌}
-use Rattle.std.specs.Prelude.{codes, ok_or}
-use Rattle.serde_json.specs.Data.{Data, Items, no_items, item}
+-- The scripts, the histories and the storms in documents that were read item by item.
+use Rattle.std.proofs.Common.{◌≡◌, ℕ, ◌+◌, ◌<◌, ◌≤◌, true, List, [], ◌∷◌, length, Vec, Global, Some}
+use Rattle.std.proofs.Common.{Result, Ok, Err, refl, sym, ap, ◌∙◌, arith}
+use Rattle.std.specs.Prelude.{codes, option_and_then}
+use Rattle.serde_json.specs.Data.{Data}
+use Rattle.serde_json.specs.Find.{as_array}
+use Rattle.serde_json.specs.View.{items_of}
 use Rattle.minislots.specs.Config.{first_wrong}
 use Rattle.minislots.specs.declared.config.Config.{Config}
 use Rattle.sched_history.specs.declared.call.Call.{Call}
@@ -10,62 +12,104 @@ use Rattle.sched_history.specs.declared.reply.Entry.{Entry}
 use Rattle.sched_text.specs.declared.fault.TextFault.{TextFault}
 use Rattle.sched_text.specs.Calls.{call_of}
 use Rattle.sched_text.specs.Input.{value_of}
-use Rattle.sched_text.specs.Listed.{each_of, IsDocument}
+use Rattle.sched_text.specs.Listed.{StandEach, IsListOf, IsDocument}
 use Rattle.sched_text.specs.Outcome.{unless_wrong, text_outcome}
 use Rattle.sched_text.specs.Recorded.{entries_of, history_of, history_in}
 use Rattle.sched_text.specs.Replies.{entry_of}
 use Rattle.sched_text.specs.Script.{◌>>=◌, calls_of, script_of}
-use Rattle.sched_text.specs.Usual.{script_text, recorded_text}
+use Rattle.sched_text.specs.StormScript.{calls_each, count_of, are_arrays, are_scripts, scripts_of, storm_of, storm_text}
+use Rattle.sched_text.specs.Usual.{script_text, recorded_text, scripts_text}
+use Rattle.sched_text.proofs.StormCalls.{are_scripts-few}
 
-abbrev joined : {X : Type 0} → Option X → Option (List X) → Option (List X)
-joined thing things = option_and_then (λ x. option_and_then (λ xs. Some (x ∷ xs)) things) thing
+abbrev IsCall : Data → Call → Type 0
+IsCall d call = call_of d ≡ Some call
 
-abbrev list_in : {X : Type 0} → List X → Option (List X) → List X
-list_in none None = none
-list_in none (Some xs) = xs
+abbrev IsEntry : Data → Entry → Type 0
+IsEntry d entry = entry_of d ≡ Some entry
 
--- a thing, and those behind it
-found_next : {X : Type 0} (thing : Option X) (things : Option (List X)) (rest : Result (List X) TextFault)
-    (fault : TextFault) (all : List X) → ((xs : List X) → things ≡ Some xs → rest ≡ Ok xs)
-    → joined thing things ≡ Some all → ok_or thing fault >>= (λ x. rest >>= (λ xs. Ok (x ∷ xs))) ≡ Ok all
-found_next None things rest fault all behind is = absurd (cc)
-found_next (Some x) None rest fault all behind is = absurd (cc)
-found_next {X} (Some x) (Some xs) rest fault all behind is =
-    rw (behind xs refl) (ap (λ (o : Option (List X)). Ok (list_in [] o)) is)
+abbrev AreCalls : Data → Vec Call Global → Type 0
+AreCalls d calls = IsListOf IsCall d calls.items
 
 -- calls that were all read
-pub calls_each : (ds : Items) (calls : List Call) → each_of call_of ds ≡ Some calls → (n : ℕ) → calls_of n ds ≡ Ok calls
+calls_in : (ds : List Data) (calls : List Call) → StandEach IsCall ds calls → (n : ℕ) → calls_of n (items_of ds) ≡ Ok calls
 unfolding calls_of
-calls_each no_items calls is n = ap (λ (o : Option (List Call)). Ok (list_in [] o)) is
-calls_each (item d ds) calls is n =
-    found_next (call_of d) (each_of call_of ds) (calls_of (n + 1) ds) _ calls
-    (λ xs e. calls_each ds xs e (n + 1)) is
+calls_in [] [] each n = refl
+calls_in [] (call ∷ calls) each n = absurd each
+calls_in (d ∷ ds) [] each n = absurd each
+calls_in (d ∷ ds) (call ∷ calls) each n = rw each.0 (rw (calls_in ds calls each.1 (n + 1)) refl)
 
 -- entries that were all read
-pub entries_each : (ds : Items) (entries : List Entry) → each_of entry_of ds ≡ Some entries
-    → (n : ℕ) → entries_of n ds ≡ Ok entries
+entries_in : (ds : List Data) (entries : List Entry) → StandEach IsEntry ds entries
+    → (n : ℕ) → entries_of n (items_of ds) ≡ Ok entries
 unfolding entries_of
-entries_each no_items entries is n = ap (λ (o : Option (List Entry)). Ok (list_in [] o)) is
-entries_each (item d ds) entries is n =
-    found_next (entry_of d) (each_of entry_of ds) (entries_of (n + 1) ds) _ entries
-    (λ xs e. entries_each ds xs e (n + 1)) is
+entries_in [] [] each n = refl
+entries_in [] (entry ∷ entries) each n = absurd each
+entries_in (d ∷ ds) [] each n = absurd each
+entries_in (d ∷ ds) (entry ∷ entries) each n = rw each.0 (rw (entries_in ds entries each.1 (n + 1)) refl)
+
+-- scripts that were all read
+scripts_in : (ds : List Data) (scripts : List (Vec Call Global)) → StandEach AreCalls ds scripts
+    → (before : ℕ) → scripts_of before (items_of ds) ≡ Ok (calls_each scripts)
+unfolding scripts_of
+scripts_in [] [] each before = refl
+scripts_in [] (script ∷ scripts) each before = absurd each
+scripts_in (d ∷ ds) [] each before = absurd each
+scripts_in (d ∷ ds) (script ∷ scripts) each before =
+    let array : as_array d ≡ Some (items_of each.0.items) = ap as_array each.0.array_is in
+    rw array (rw (calls_in each.0.items script.items each.0.each (before + 1))
+    (rw (scripts_in ds scripts each.1 (before + length script.items)) refl))
+
+arrays_in : (ds : List Data) (scripts : List (Vec Call Global)) → StandEach AreCalls ds scripts
+    → are_arrays (items_of ds) ≡ true
+arrays_in [] [] each = refl
+arrays_in [] (script ∷ scripts) each = absurd each
+arrays_in (d ∷ ds) [] each = absurd each
+arrays_in (d ∷ ds) (script ∷ scripts) each =
+    let array : as_array d ≡ Some (items_of each.0.items) = ap as_array each.0.array_is in
+    rw array (arrays_in ds scripts each.1)
+
+count_in : (ds : List Data) (scripts : List (Vec Call Global)) → StandEach AreCalls ds scripts
+    → count_of (items_of ds) ≡ length scripts
+count_in [] [] each = refl
+count_in [] (script ∷ scripts) each = absurd each
+count_in (d ∷ ds) [] each = absurd each
+count_in (d ∷ ds) (script ∷ scripts) each = let e = count_in ds scripts each.1 in omega (arith, e)
 
 module _ (bytes : List ℕ) (d : Data) (config : Config) (is : value_of bytes ≡ Ok d) where
   -- a document with calls is a script
-  pub script_in_document : (calls : List Call) → IsDocument call_of (codes "calls") d config calls
-      → script_text bytes ≡ Ok (record { config = config; calls = calls })
+  pub script_in_document : (calls : Vec Call Global) → IsDocument AreCalls (codes "calls") d config calls
+      → script_text bytes ≡ Ok (record { config = config; calls = calls.items })
   unfolding script_of
   script_in_document calls has =
+      let found = ap (option_and_then as_array) has.listed_is ∙ ap as_array has.stands.array_is in
       ap (λ r. r >>= script_of) is
-      ∙ rw has.config_is (rw has.items_are (rw (calls_each has.items calls has.each 1) refl))
+      ∙ rw has.config_is (rw found (rw (calls_in has.stands.items calls.items has.stands.each 1) refl))
 
   -- a document with entries is a history
-  pub history_in_document : (entries : List Entry) → IsDocument entry_of (codes "entries") d config entries
-      → recorded_text bytes ≡ Ok (record { config = config; entries = entries })
+  pub history_in_document : (entries : Vec Entry Global)
+      → IsDocument (λ e es. IsListOf IsEntry e es.items) (codes "entries") d config entries
+      → recorded_text bytes ≡ Ok (record { config = config; entries = entries.items })
   unfolding history_of
   history_in_document entries has =
+      let found = ap (option_and_then as_array) has.listed_is ∙ ap as_array has.stands.array_is in
       ap (λ r. r >>= history_of) is
-      ∙ rw has.config_is (rw has.items_are (rw (entries_each has.items entries has.each 1) refl))
+      ∙ rw has.config_is (rw found (rw (entries_in has.stands.items entries.items has.stands.each 1) refl))
+
+  -- a document with scripts, not none and not too many, is a storm
+  pub storm_in_document : (scripts : Vec (Vec Call Global) Global)
+      → IsDocument (λ e ss. IsListOf AreCalls e ss.items) (codes "scripts") d config scripts
+      → 0 < length scripts.items → length scripts.items ≤ 16
+      → scripts_text bytes ≡ Ok (record { config = config; scripts = calls_each scripts.items })
+  unfolding storm_of
+  storm_in_document scripts has some few =
+      let ds = has.stands.items in
+      let each = has.stands.each in
+      let found = ap (option_and_then as_array) has.listed_is ∙ ap as_array has.stands.array_is in
+      let count = count_in ds scripts.items each in
+      let lawful : are_scripts (items_of ds) ≡ true = sym (are_scripts-few (items_of ds)
+      (omega (arith, count, some)) (omega (arith, count, few))) ∙ arrays_in ds scripts.items each in
+      ap (λ r. r >>= storm_of) is
+      ∙ rw has.config_is (rw found (rw lawful (rw (scripts_in ds scripts.items each 0) refl)))
 
 -- a configuration is tested behind what is read
 then_tested : {A B C : Type 0} (r : Result A TextFault) (f : A → Result B TextFault) (g : B → Result C TextFault)
@@ -86,3 +130,10 @@ pub history_tested_behind : (bytes : List ℕ)
 unfolding history_in
 history_tested_behind bytes = sym (then_tested (value_of bytes) history_of
     (λ history. unless_wrong (first_wrong history.config) history))
+
+-- what a text stands for: its storm, once its configuration is tested
+pub storm_tested_behind : (bytes : List ℕ)
+    → storm_text bytes ≡ scripts_text bytes >>= (λ storm. unless_wrong (first_wrong storm.config) storm)
+unfolding storm_text
+storm_tested_behind bytes = sym (then_tested (value_of bytes) storm_of
+    (λ storm. unless_wrong (first_wrong storm.config) storm))

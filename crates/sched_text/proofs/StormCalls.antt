@@ -111,14 +111,12 @@ unfolding scripts_of
 scripts_then-end scripts before = ap (λ (cs : List (List Call)). Ok cs) (append-nil scripts)
 
 -- arrays that are not none and not too many are scripts
-pub are_scripts-few : (values : List Value) → 0 < length values → length values ≤ 16
-    → are_arrays (items_view values) ≡ are_scripts (items_view values)
+pub are_scripts-few : (ds : Items) → 0 < count_of ds → count_of ds ≤ 16 → are_arrays ds ≡ are_scripts ds
 unfolding are_scripts
-are_scripts-few values some few =
+are_scripts-few ds some few =
     sym (
-    ap (λ n. (nat_lt 0 n && nat_lt n 17) && are_arrays (items_view values)) (count_of-items values)
-    ∙ ap (λ b. (b && nat_lt (length values) 17) && are_arrays (items_view values)) (lt-ltb 0 (length values) some)
-    ∙ ap (λ b. b && are_arrays (items_view values)) (lt-ltb (length values) 17 (omega (arith, few)))
+    ap (λ b. (b && nat_lt (count_of ds) 17) && are_arrays ds) (lt-ltb 0 (count_of ds) some)
+    ∙ ap (λ b. b && are_arrays ds) (lt-ltb (count_of ds) 17 (omega (arith, few)))
     )
 
 -- others are not

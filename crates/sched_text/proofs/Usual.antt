@@ -1,5 +1,5 @@
 -- A document that is read thing by thing and member by member.
-use Rattle.std.proofs.Common.{◌≡◌, ℕ, true, false, List, [], ◌∷◌, length, bytes_eq, Vec, Global}
+use Rattle.std.proofs.Common.{◌≡◌, ℕ, true, false, List, [], ◌∷◌, length, bytes_eq}
 use Rattle.std.proofs.Common.{Option, Some, None, option_map, option_and_then, Result, Ok, Err, refl, sym, ap, ◌∙◌}
 use Rattle.std.proofs.Common.{arith, subst}
 use Rattle.std.proofs.lemmas.Slice.Eq.{bytes_eq-Decides}
@@ -9,26 +9,25 @@ use Rattle.json.specs.Lex.{tokens}
 use Rattle.json.specs.Json as json
 use Rattle.json.specs.Json.{parse_map, members, value}
 use Rattle.json.proofs.Grammar.{value-begin_object}
-use Rattle.serde_json.specs.Data.{Data, array, object, Items, Members, no_members, put}
-use Rattle.serde_json.specs.Find.{get_member, as_array}
+use Rattle.serde_json.specs.Data.{Data, object, Members, no_members, put}
+use Rattle.serde_json.specs.Find.{get_member}
 use Rattle.serde_json.specs.Read.{read, of_json, of_members, converted}
 use Rattle.minislots.specs.declared.config.Config.{Config}
 use Rattle.sched_text.specs.declared.script.plain.Stop.{Stop}
 use Rattle.sched_text.specs.declared.script.usual.Parts.{Parts}
 use Rattle.sched_text.specs.Fields.{config_of}
 use Rattle.sched_text.specs.Input.{value_of}
-use Rattle.sched_text.specs.Listed.{each_of, IsInMembers, IsDocument}
+use Rattle.sched_text.specs.Listed.{IsInMembers, IsDocument}
 use Rattle.sched_text.specs.Usual.{read_tokens}
 use Rattle.sched_text.proofs.Bytes.{value_of-Ok}
 use Rattle.sched_text.proofs.Plain.{converted-parse_map, converted-option_map, read_as, found_at}
 
-module _ {X : Type 0} (f : Data → Option X) (name : List ℕ) where
+module _ {P : Type 0} (stands_for : Data → P → Type 0) (name : List ℕ) where
   abbrev ConfigIn : Option Config → Members → Type 0
   ConfigIn config ms = IfSome config (λ c. option_and_then config_of (get_member (codes "config") ms) ≡ Some c)
 
-  abbrev ListIn : Option (Vec X Global) → Members → Type 0
-  ListIn list ms = IfSome list (λ xs. (ds : Items) × (get_member name ms ≡ Some (array ds))
-      × (each_of f ds ≡ Some xs.items))
+  abbrev ListIn : Option P → Members → Type 0
+  ListIn list ms = IfSome list (λ xs. (d : Data) × (get_member name ms ≡ Some d) × stands_for d xs)
 
   module _ (key : List ℕ) (d : Data) (ms : Members) where
     config_kept : (config : Option Config) → bytes_eq key (codes "config") ≡ false → ConfigIn config ms
@@ -37,7 +36,7 @@ module _ {X : Type 0} (f : Data → Option X) (name : List ℕ) where
     config_kept (Some c) other before = ap (option_and_then config_of) (found_at false key (codes "config") d ms other)
         ∙ before
 
-    list_kept : (list : Option (Vec X Global)) → bytes_eq key name ≡ false → ListIn list ms
+    list_kept : (list : Option P) → bytes_eq key name ≡ false → ListIn list ms
         → ListIn list (put key d ms)
     list_kept None other before = tt
     list_kept (Some xs) other before = (before.0, found_at false key name d ms other ∙ before.1, before.2)
@@ -53,54 +52,54 @@ module _ {X : Type 0} (f : Data → Option X) (name : List ℕ) where
     not_list apart same = ap (λ k. bytes_eq k name) ((bytes_eq-Decides key (codes "config")).0 same) ∙ apart
 
     -- a configuration was read
-    pub config_put : (old : Parts X) (config : Option Config) → bytes_eq (codes "config") name ≡ false
-        → bytes_eq key (codes "config") ≡ true → config ≡ config_of d → IsInMembers f name old ms
-        → IsInMembers f name (record { config = config; list = old.list }) (put key d ms)
+    pub config_put : (old : Parts P) (config : Option Config) → bytes_eq (codes "config") name ≡ false
+        → bytes_eq key (codes "config") ≡ true → config ≡ config_of d → IsInMembers stands_for name old ms
+        → IsInMembers stands_for name (record { config = config; list = old.list }) (put key d ms)
     config_put old config apart same is before = record {
       config = config_here config same is;
       list = list_kept old.list (not_list apart same) before.list;
     }
 
-    -- the things were read
-    pub list_put : (old : Parts X) (xs : Vec X Global) (ds : Items) → bytes_eq key (codes "config") ≡ false
-        → bytes_eq key name ≡ true → d ≡ array ds → each_of f ds ≡ Some xs.items → IsInMembers f name old ms
-        → IsInMembers f name (record { config = old.config; list = Some xs }) (put key d ms)
-    list_put old xs ds not_config same is are before = record {
+    -- the list was read
+    pub list_put : (old : Parts P) (xs : P) → bytes_eq key (codes "config") ≡ false → bytes_eq key name ≡ true
+        → stands_for d xs → IsInMembers stands_for name old ms
+        → IsInMembers stands_for name (record { config = old.config; list = Some xs }) (put key d ms)
+    list_put old xs not_config same stands before = record {
       config = config_kept old.config not_config before.config;
-      list = (ds, found_at true key name d ms same ∙ ap (λ e. Some e) is, are);
+      list = (d, found_at true key name d ms same, stands);
     }
 
     -- another value was read
-    pub other_put : (old : Parts X) → bytes_eq key (codes "config") ≡ false → bytes_eq key name ≡ false
-        → IsInMembers f name old ms → IsInMembers f name old (put key d ms)
+    pub other_put : (old : Parts P) → bytes_eq key (codes "config") ≡ false → bytes_eq key name ≡ false
+        → IsInMembers stands_for name old ms → IsInMembers stands_for name old (put key d ms)
     other_put old not_config not_list before = record {
       config = config_kept old.config not_config before.config;
       list = list_kept old.list not_list before.list;
     }
 
   -- nothing was read
-  pub none_in : (parts : Parts X) (ms : Members) → parts.config ≡ None → parts.list ≡ None → IsInMembers f name parts ms
+  pub none_in : (parts : Parts P) (ms : Members) → parts.config ≡ None → parts.list ≡ None → IsInMembers stands_for name parts ms
   none_in parts ms config list = record { config = rw config tt; list = rw list tt }
 
   -- the parts make a document
-  pub document_in : (parts : Parts X) (ms : Members) (config : Config) (list : Vec X Global)
-      → parts.config ≡ Some config → parts.list ≡ Some list → IsInMembers f name parts ms
-      → IsDocument f name (object ms) config list.items
+  pub document_in : (parts : Parts P) (ms : Members) (config : Config) (list : P)
+      → parts.config ≡ Some config → parts.list ≡ Some list → IsInMembers stands_for name parts ms
+      → IsDocument stands_for name (object ms) config list
   document_in parts ms config list is are there =
       let found : ConfigIn (Some config) ms = subst (λ o. ConfigIn o ms) is there.config in
       let listed : ListIn (Some list) ms = subst (λ o. ListIn o ms) are there.list in
       record {
         config_is = found;
-        items = listed.0;
-        items_are = ap (option_and_then as_array) listed.1;
-        each = listed.2;
+        listed = listed.0;
+        listed_is = listed.1;
+        stands = listed.2;
       }
 
   -- the document that the tokens stand for, that of a text
-  pub document_of_tokens : (bytes text : List ℕ) (reader : List Token) (result : Result (Config × Vec X Global) Stop)
+  pub document_of_tokens : (bytes text : List ℕ) (reader : List Token) (result : Result (Config × P) Stop)
       → text ≡ bytes → IsUtf8 bytes → reader ≡ tokens text
-      → IfOk result (λ r. (d : Data) × (read_tokens reader ≡ Some d) × IsDocument f name d r.0 r.1.items)
-      → IfOk result (λ r. (d : Data) × (value_of bytes ≡ Ok d) × IsDocument f name d r.0 r.1.items)
+      → IfOk result (λ r. (d : Data) × (read_tokens reader ≡ Some d) × IsDocument stands_for name d r.0 r.1)
+      → IfOk result (λ r. (d : Data) × (value_of bytes ≡ Ok d) × IsDocument stands_for name d r.0 r.1)
   document_of_tokens bytes text reader (Ok r) same utf8 is found = (
     found.0,
     value_of-Ok bytes found.0 utf8 (ap read (sym same) ∙ ap read_tokens (sym is) ∙ found.1),

@@ -12,6 +12,7 @@ use Rattle.sched_text.specs.declared.fault.TextFault.{TextFault}
 use Rattle.sched_text.specs.declared.fault.TextFault.TheVariants.{Input, TooLong, NotJson, Shape, Config, Memory}
 use Rattle.sched_text.specs.declared.fault.TextFault.TheVariants.{Output}
 use Rattle.sched_text.specs.declared.input.TheConstants.{MAX_INPUT}
+use Rattle.sched_text.specs.declared.script.storms.StormScript.{StormScript}
 use Rattle.sched_text.specs.Fields.{config_of}
 use Rattle.sched_text.specs.Input.{value_of, ReadsAll, ReadsTooMany}
 use Rattle.sched_text.specs.Script.{◌>>=◌, calls_of}
@@ -25,6 +26,10 @@ pub record Storm : Type 0 where
 -- scripts, as lists of calls
 abbrev pub calls_each : List (Vec Call) → List (List Call)
 calls_each scripts = map (λ v. v.items) scripts
+
+-- what a storm that was read has
+abbrev pub storm_with : StormScript → Storm
+storm_with script = record { config = script.config; scripts = calls_each script.scripts.items }
 
 -- how many values these are, and whether each is an array
 abbrev pub count_of : Items → ℕ

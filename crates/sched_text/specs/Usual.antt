@@ -8,6 +8,7 @@ use Rattle.sched_text.specs.declared.fault.TextFault.{TextFault}
 use Rattle.sched_text.specs.Input.{value_of}
 use Rattle.sched_text.specs.Recorded.{History, history_of}
 use Rattle.sched_text.specs.Script.{◌>>=◌, Scenario, script_of}
+use Rattle.sched_text.specs.StormScript.{Storm, storm_of}
 
 -- the value that a whole list of tokens is
 abbrev pub read_tokens : List Token → Option Data
@@ -20,3 +21,7 @@ script_text bytes = value_of bytes >>= script_of
 -- the history that a text stands for, whatever its configuration
 abbrev pub recorded_text : List ℕ → Result History TextFault
 recorded_text bytes = value_of bytes >>= history_of
+
+-- the storm that a text stands for, whatever its configuration
+abbrev pub scripts_text : List ℕ → Result Storm TextFault
+scripts_text bytes = value_of bytes >>= storm_of

@@ -1,13 +1,15 @@
 //! One entry of a history.
 
-ghost use Rattle.std.specs.Prelude.{◌≡◌, IfOk};
+ghost use Rattle.std.specs.Prelude.{◌≡◌, Some, IfOk};
 ghost use Rattle.sched_text.specs.Replies.{entry_of};
 
 use super::reply::reply_of;
 use crate::script::call::call_of;
 use crate::script::field::{member, number_u32, number_u64};
+use crate::script::plain::{Stop, read_plain};
 use crate::script::tree::Tree;
-use crate::script::usual::Listed;
+use crate::script::usual::FromTokens;
+use json::Reader;
 use minislots::Stamp;
 use sched_history::Entry;
 use std::alloc::{AllocError, Global};
@@ -33,10 +35,11 @@ pub fn entry_of<T: Tree>(alloc: Global, value: &T) -> Result<Option<Entry>, Allo
     Ok(Some(Entry { stamp, call, reply }))
 }
 
-impl Listed for Entry {
-    ghost stands_for = { entry_of };
+impl FromTokens for Entry {
+    ghost stands_for = { λ d entry. entry_of d ≡ Some entry };
 
-    fn read<T: Tree>(alloc: Global, value: &T) -> Result<Option<Entry>, AllocError> {
-        entry_of(alloc, value)
+    fn read(alloc: Global, reader: &mut Reader<'_>, depth: usize) -> Result<Entry, Stop> {
+        let value = read_plain(alloc, reader, depth)?;
+        entry_of(alloc, &value)?.ok_or(Stop::Unusual)
     }
 }

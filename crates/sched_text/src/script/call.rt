@@ -1,15 +1,17 @@
 //! One call of a script.
 
-ghost use Rattle.std.specs.Prelude.{◌≡◌};
+ghost use Rattle.std.specs.Prelude.{◌≡◌, Some};
 ghost use Rattle.sched_text.specs.Calls.{admit_call, remove_call, ask_call, heard_call, build_call, skip_call};
 ghost use Rattle.sched_text.specs.Calls.{status_call, call_of};
 
 use super::field::{member, number_u8, number_u16, number_u32, number_u64, text};
 use super::flow::flow_of;
+use super::plain::{Stop, read_plain};
 use super::tree::Tree;
-use super::usual::Listed;
+use super::usual::FromTokens;
+use json::Reader;
 use sched_history::Call;
-use std::alloc::{AllocError, Global};
+use std::alloc::Global;
 
 #[tactic(auto, unfolding(crate::specs::Calls::admit_call))]
 fn admit_call<T: Tree>(value: &T) -> Option<Call>
@@ -104,10 +106,11 @@ pub fn call_of<T: Tree>(value: &T) -> Option<Call>
     }
 }
 
-impl Listed for Call {
-    ghost stands_for = { call_of };
+impl FromTokens for Call {
+    ghost stands_for = { λ d call. call_of d ≡ Some call };
 
-    fn read<T: Tree>(_alloc: Global, value: &T) -> Result<Option<Call>, AllocError> {
-        Ok(call_of(value))
+    fn read(alloc: Global, reader: &mut Reader<'_>, depth: usize) -> Result<Call, Stop> {
+        let value = read_plain(alloc, reader, depth)?;
+        call_of(&value).ok_or(Stop::Unusual)
     }
 }

@@ -4,13 +4,16 @@ ghost use Rattle.std.specs.Prelude.{◌≡◌, ◌≤◌, ◌<◌, ◌+◌, ◌^
 ghost use Rattle.sched_history.specs.declared.call.TheConstants.{MAX_SCRIPTS};
 ghost use Rattle.serde_json.specs.View.{view, items_view};
 ghost use Rattle.sched_text.specs.Script.{Gives};
-ghost use Rattle.sched_text.specs.StormScript.{calls_each, are_arrays, are_scripts, scripts_of, storm_of, storm_text};
+ghost use Rattle.sched_text.specs.StormScript.{calls_each, are_arrays, are_scripts, scripts_of, storm_with, storm_of};
+ghost use Rattle.sched_text.specs.StormScript.{storm_text, GivesStorm, StopsStormScript};
+ghost use Rattle.sched_text.specs.Usual.{scripts_text};
 ghost use Rattle.sched_text.specs.Watched.{FailsBy};
-ghost use Rattle.sched_text.specs.StormScript.{GivesStorm, StopsStormScript};
 
 use super::calls_after;
 use super::config::config_of;
 use super::field::member;
+use super::plain::Stop;
+use super::usual::read_usual;
 use crate::fault::TextFault;
 use crate::input::{parse, read_all};
 use crate::watched::Source;
@@ -89,8 +92,7 @@ fn scripts_of(alloc: Global, arrays: &[Value]) -> Result<Vec<Vec<Call>>, TextFau
 /// counted from 1 through all scripts in order, is the fault.
 #[tactic(auto, unfolding(crate::specs::StormScript::storm_of))]
 pub fn storm_of(alloc: Global, value: &Value) -> Result<StormScript, TextFault>
-    ensures is { Gives (λ s. record { config = s.config; scripts = calls_each s.scripts.items }) result
-        (storm_of (view value.now)) }
+    ensures is { Gives storm_with result (storm_of (view value.now)) }
     ensures some { IfOk result (λ s. 1 ≤ vec_len s.scripts) }
     ensures few { IfOk result (λ s. vec_len s.scripts ≤ MAX_SCRIPTS) }
 {
@@ -107,16 +109,45 @@ pub fn storm_of(alloc: Global, value: &Value) -> Result<StormScript, TextFault>
     Ok(StormScript { config, scripts })
 }
 
+// The storm that a text in the usual form stands for.
+fn usual_storm(alloc: Global, bytes: &[u8]) -> Result<StormScript, Stop>
+    ensures is { IfOk result (λ s. scripts_text bytes.now ≡ Ok (storm_with s)) }
+    ensures some { IfOk result (λ s. 1 ≤ vec_len s.scripts) }
+    ensures few { IfOk result (λ s. vec_len s.scripts ≤ MAX_SCRIPTS) }
+{
+    let (config, scripts): (Config, Vec<Vec<Call>>) = read_usual(alloc, bytes, "scripts")?;
+    let count = scripts.len();
+    if count == 0 || count > MAX_SCRIPTS {
+        return Err(Stop::Unusual);
+    }
+    Ok(StormScript { config, scripts })
+}
+
+// The storm that a text stands for. One that is not in the usual form is read as a tree, which tells its fault.
+fn storm_of_text(alloc: Global, bytes: &[u8]) -> Result<StormScript, TextFault>
+    ensures is { Gives storm_with result (scripts_text bytes.now) }
+    ensures some { IfOk result (λ s. 1 ≤ vec_len s.scripts) }
+    ensures few { IfOk result (λ s. vec_len s.scripts ≤ MAX_SCRIPTS) }
+{
+    match usual_storm(alloc, bytes) {
+        Ok(script) => Ok(script),
+        Err(Stop::Memory) => Err(TextFault::Memory),
+        Err(Stop::Unusual) => {
+            let value = parse(alloc, bytes)?;
+            storm_of(alloc, &value)
+        }
+    }
+}
+
 // The storm that a text stands for, where its configuration is lawful.
-#[tactic(auto, unfolding(crate::specs::StormScript::storm_text))]
+#[tactic(auto, using(crate::proofs::Documents::storm_tested_behind))]
 fn storm_in(alloc: Global, bytes: &[u8]) -> Result<(Checked, Vec<Vec<Call>>), TextFault>
     ensures is { Gives (λ r. record { config = r.0; scripts = calls_each r.1.items }) result
         (storm_text bytes.now) }
     ensures some { IfOk result (λ r. 1 ≤ vec_len r.1) }
     ensures few { IfOk result (λ r. vec_len r.1 ≤ MAX_SCRIPTS) }
 {
-    let value = parse(alloc, bytes)?;
-    let StormScript { config, scripts } = storm_of(alloc, &value)?;
+    let StormScript { config, scripts } = storm_of_text(alloc, bytes)?;
     let config = config.check()?;
     Ok((config, scripts))
 }

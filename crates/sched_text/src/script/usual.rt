@@ -1,102 +1,98 @@
-//! A document in the usual form, a configuration beside a list of calls or entries, which are read one by one: no
-//! tree of the whole text is made.
+//! A document in the usual form, a configuration beside a list of calls, of entries or of scripts, whose items are read
+//! one by one: no tree of the whole text is made.
 
-ghost use Rattle.std.specs.Prelude.{◌≡◌, ◌≤◌, ◌<◌, false, bytes_eq, codes, Some, Ok, Option, IfOk, OnOk, length};
-ghost use Rattle.json.specs.Json.{parse_map, value, items, members};
-ghost use Rattle.serde_json.specs.Data.{Data, Items, Members, no_members, array, put};
+ghost use Rattle.std.specs.Prelude.{◌≡◌, ◌<◌, List, false, bytes_eq, codes, Some, Ok, IfOk, OnOk, length};
+ghost use Rattle.json.specs.Json.{value, items, members};
+ghost use Rattle.serde_json.specs.Data.{Data, Members, no_members, put};
 ghost use Rattle.serde_json.specs.Read.{of_json, of_items, of_members, converted};
+ghost use Rattle.serde_json.specs.View.{items_of};
 ghost use Rattle.sched_text.specs.Input.{value_of};
-ghost use Rattle.sched_text.specs.Listed.{each_of, IsInMembers, IsDocument};
+ghost use Rattle.sched_text.specs.Listed.{StandEach, IsListOf, IsInMembers, IsDocument};
 ghost use Rattle.sched_text.specs.Usual.{read_tokens};
 
 use super::config::config_of;
 use super::plain::{Stop, read_plain};
-use super::tree::Tree;
 use json::{Reader, Scratch, Token};
 use minislots::Config;
-use std::alloc::{AllocError, Global};
+use std::alloc::Global;
 
 /// How deep a document may nest.
 const MAX_DEPTH: usize = 127;
 
-/// What a document may list: calls, or entries.
-pub trait Listed: Sized + Drop {
-    ghost stands_for: { Data → Option Self };
+/// What is read straight from the tokens of a document: a call, an entry, or a list of such.
+pub trait FromTokens: Sized + Drop {
+    ghost stands_for: { Data → Self → Type 0 };
 
-    /// The thing that a value stands for, where it is one.
-    fn read<T: Tree>(alloc: Global, value: &T) -> Result<Option<Self>, AllocError>
-        ensures { IfOk result (λ thing. thing ≡ stands_for (T.shown value.now)) };
+    /// What the next value of a reader stands for, nested no deeper than this.
+    fn read(alloc: Global, reader: &mut Reader<'_>, depth: usize) -> Result<Self, Stop>
+        ensures is { IfOk result (λ thing. (d : Data)
+            × (converted of_json (value depth reader.old) ≡ Some (d, reader.new)) × stands_for d thing) }
+        ensures shorter { OnOk result (length reader.new < length reader.old) };
 }
 
 /// What was read of a document so far.
 #[derive(Drop)]
-pub struct Parts<X> {
+pub struct Parts<P> {
     /// The last configuration.
     pub config: Option<Config>,
-    /// The last list of things.
-    pub list: Option<Vec<X>>,
+    /// The last list.
+    pub list: Option<P>,
 }
 
 // The things of an array whose bracket was taken, and the bracket that closes it.
-fn read_things<X: Listed>(
+fn read_things<X: FromTokens>(
     alloc: Global,
     reader: &mut Reader<'_>,
     depth: usize,
 ) -> Result<Vec<X>, Stop>
-    ensures are { IfOk result (λ things. parse_map (each_of X.stands_for)
-        (converted of_items (items (value depth) (length reader.old) reader.old))
-        ≡ Some (Some things.items, reader.new)) }
+    ensures are { IfOk result (λ things. (ds : List Data)
+        × (converted of_items (items (value depth) (length reader.old) reader.old) ≡ Some (items_of ds, reader.new))
+        × StandEach X.stands_for ds things.items) }
     ensures shorter { OnOk result (length reader.new < length reader.old) }
 {
     let mut things = Vec::new(alloc);
     'items: while !reader.take_end_array() {
-        let value = read_plain(alloc, reader, depth)?;
-        let thing = X::read(alloc, &value)?.ok_or(Stop::Unusual)?;
+        let thing = X::read(alloc, reader, depth)?;
         things.push(thing)?;
     }
     Ok(things)
 }
 
-// The things of an array.
-fn read_array<X: Listed>(
-    alloc: Global,
-    reader: &mut Reader<'_>,
-    depth: usize,
-) -> Result<Vec<X>, Stop>
-    requires { 0 < depth }
-    ensures are { IfOk result (λ things. (ds : Items)
-        × (converted of_json (value depth reader.old) ≡ Some (array ds, reader.new))
-        × (each_of X.stands_for ds ≡ Some things.items)) }
-    ensures shorter { OnOk result (length reader.new < length reader.old) }
-{
-    let Some(Token::BeginArray) = reader.next() else {
-        return Err(Stop::Unusual);
-    };
-    read_things(alloc, reader, depth - 1)
+impl<X: FromTokens> FromTokens for Vec<X> {
+    ghost stands_for = { λ d things. IsListOf X.stands_for d things.items };
+
+    fn read(alloc: Global, reader: &mut Reader<'_>, depth: usize) -> Result<Vec<X>, Stop> {
+        let Some(Token::BeginArray) = reader.next() else {
+            return Err(Stop::Unusual);
+        };
+        if depth == 0 {
+            return Err(Stop::Unusual);
+        }
+        read_things(alloc, reader, depth - 1)
+    }
 }
 
-// The value under a key of a document that lists its things under this name.
-fn read_part<X: Listed>(
+// The value under a key of a document that has its list under this name.
+fn read_part<P: FromTokens>(
     alloc: Global,
     reader: &mut Reader<'_>,
     depth: usize,
     name: &str,
     key: &str,
-    parts: &mut Parts<X>,
+    parts: &mut Parts<P>,
 ) -> Result<(), Stop>
-    requires some { 0 < depth }
-    requires apart { bytes_eq (codes "config") name.now ≡ false }
+    requires { bytes_eq (codes "config") name.now ≡ false }
     ensures is { OnOk result ((d : Data)
         × (converted of_json (value depth reader.old) ≡ Some (d, reader.new))
-        × ((ms : Members) → IsInMembers X.stands_for name.now parts.old ms
-        → IsInMembers X.stands_for name.now parts.new (put key.now d ms))) }
+        × ((ms : Members) → IsInMembers P.stands_for name.now parts.old ms
+        → IsInMembers P.stands_for name.now parts.new (put key.now d ms))) }
     ensures shorter { OnOk result (length reader.new < length reader.old) }
 {
     if key == "config" {
         let value = read_plain(alloc, reader, depth)?;
         parts.config = config_of(&value);
     } else if key == name {
-        let list = read_array(alloc, reader, depth)?;
+        let list = P::read(alloc, reader, depth)?;
         parts.list = Some(list);
     } else {
         let _other = read_plain(alloc, reader, depth)?;
@@ -105,18 +101,17 @@ fn read_part<X: Listed>(
 }
 
 // The parts of a document whose brace was taken, and the brace that closes it.
-fn read_parts<X: Listed>(
+fn read_parts<P: FromTokens>(
     alloc: Global,
     reader: &mut Reader<'_>,
     depth: usize,
     name: &str,
-) -> Result<Parts<X>, Stop>
-    requires some { 0 < depth }
-    requires apart { bytes_eq (codes "config") name.now ≡ false }
+) -> Result<Parts<P>, Stop>
+    requires { bytes_eq (codes "config") name.now ≡ false }
     ensures are { IfOk result (λ parts. (ms : Members)
         × (converted (λ ms. of_members ms no_members)
         (members (value depth) (length reader.old) reader.old) ≡ Some (ms, reader.new))
-        × IsInMembers X.stands_for name.now parts ms) }
+        × IsInMembers P.stands_for name.now parts ms) }
 {
     let mut parts = Parts {
         config: None,
@@ -129,14 +124,14 @@ fn read_parts<X: Listed>(
 }
 
 // The document that the tokens of a text stand for.
-fn read_document<X: Listed>(
+fn read_document<P: FromTokens>(
     alloc: Global,
     reader: &mut Reader<'_>,
     name: &str,
-) -> Result<(Config, Vec<X>), Stop>
+) -> Result<(Config, P), Stop>
     requires { bytes_eq (codes "config") name.now ≡ false }
     ensures { IfOk result (λ r. (d : Data) × (read_tokens reader.old ≡ Some d)
-        × IsDocument X.stands_for name.now d r.0 r.1.items) }
+        × IsDocument P.stands_for name.now d r.0 r.1) }
 {
     let Some(Token::BeginObject) = reader.next() else {
         return Err(Stop::Unusual);
@@ -151,16 +146,16 @@ fn read_document<X: Listed>(
     Ok((config, list))
 }
 
-/// The configuration and the things of a text in the usual form: an object whose values are whole numbers, texts,
-/// arrays and objects, its things in the array under this name. Any other text, and one with a fault, is not read.
-pub fn read_usual<X: Listed>(
+/// The configuration and the list of a text in the usual form: an object whose values are whole numbers, texts,
+/// arrays and objects, with the list under this name. Any other text, and one with a fault, is not read.
+pub fn read_usual<P: FromTokens>(
     alloc: Global,
     bytes: &[u8],
     name: &str,
-) -> Result<(Config, Vec<X>), Stop>
+) -> Result<(Config, P), Stop>
     requires { bytes_eq (codes "config") name.now ≡ false }
     ensures { IfOk result (λ r. (d : Data) × (value_of bytes.now ≡ Ok d)
-        × IsDocument X.stands_for name.now d r.0 r.1.items) }
+        × IsDocument P.stands_for name.now d r.0 r.1) }
 {
     let Ok(text) = std::str::from_utf8(bytes) else {
         return Err(Stop::Unusual);

@@ -1,5 +1,5 @@
 -- Each token is one of the grammar's turns, and what it gives is put among the members before it.
-use Rattle.std.proofs.Common.{◌≡◌, ◌-◌, ◌<◌, [], ◌∷◌, ◌++◌, length, map, Some, None, refl, sym, ap, ◌∙◌, arith}
+use Rattle.std.proofs.Common.{◌≡◌, ◌-◌, ◌<◌, [], ◌∷◌, ◌++◌, length, map, Some, None, sym, ap, ◌∙◌, arith}
 use Rattle.json.specs.Token.{Token}
 use Rattle.std.proofs.lemmas.List.{map-append}
 use Rattle.json.specs.Json.{read_key, after_end_array, members, value}
@@ -11,7 +11,7 @@ use Rattle.serde_json.specs.View.{items_of}
 use Rattle.sched_text.specs.Plain.{data_of, members_of}
 use Rattle.sched_text.proofs.Plain.{members_of-push, member_read, members_over, data_of-Array, text_read, number_read}
 use Rattle.sched_text.proofs.Plain.{array_read, object_read}
-use Rattle.sched_text.proofs.Each.{ThingsLeft-none, ThingsLeft-more, items_over}
+use Rattle.sched_text.proofs.Each.{ItemsLeft-none, ItemsLeft-more, items_over}
 use Rattle.sched_text.proofs.script.plain.+read.Goals as goal
 
 pub read_plain-returns-in-String-clause-is : goal.read_plain-returns-in-String-clause-is
@@ -49,7 +49,7 @@ read_plain-returns-in_ok-read_items-in-BeginArray-clause-is t c =
     ∙ ap (λ d. Some (d, c.read_items.new.reader)) (sym (data_of-Array found.field-0))
 
 pub read_items-items-init : goal.read_items-items-init
-read_items-items-init t c = ThingsLeft-none (λ d. Some d) (value c.args.depth) c.args.reader.now
+read_items-items-init t c = ItemsLeft-none (value c.args.depth) c.args.reader.now
     (map data_of c.new-found.result.items) (ap (map data_of) c.new-found.ensures.items)
 
 pub read_items-items-preserved : goal.read_items-items-preserved
@@ -61,9 +61,8 @@ read_items-items-preserved t c =
     let shorter : length r < length l.reader = rw (← going.1) c.in_ok-item.ensures.shorter in
     let pushed : map data_of c.push.new.self.items ≡ map data_of l.found.items ++ data_of v ∷ [] =
     ap (map data_of) c.in_ok-push.ensures.items ∙ map-append data_of l.found.items (v ∷ []) in
-    ThingsLeft-more (λ d. Some d) (value c.args.depth) c.args.reader.now l.reader r (map data_of l.found.items)
-    (map data_of c.push.new.self.items) (data_of v) (data_of v) l.invariant going.0
-    (rw (← going.1) c.in_ok-item.ensures.is) shorter refl pushed
+    ItemsLeft-more (value c.args.depth) c.args.reader.now l.reader r (map data_of l.found.items) l.invariant
+    (map data_of c.push.new.self.items) (data_of v) going.0 (rw (← going.1) c.in_ok-item.ensures.is) shorter pushed
 
 pub read_items-returns-clause-are : goal.read_items-returns-clause-are
 read_items-returns-clause-are t c =

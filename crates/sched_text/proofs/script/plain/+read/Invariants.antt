@@ -1,10 +1,10 @@
 -- The members so far stand before those that the tokens left give.
-use Rattle.std.proofs.Common.{◌≡◌, ℕ, ◌+◌, ◌*◌, ◌≤◌, length, map, Some}
+use Rattle.std.proofs.Common.{◌≡◌, ℕ, ◌+◌, ◌*◌, ◌≤◌, length, map}
 use Rattle.json.specs.Json.{members, value}
 use Rattle.serde_json.specs.Data.{no_members}
 use Rattle.serde_json.specs.Read.{of_members, converted}
 use Rattle.sched_text.specs.Plain.{data_of, members_of}
-use Rattle.sched_text.proofs.Each.{ThingsLeft}
+use Rattle.sched_text.proofs.Each.{ItemsLeft}
 use Rattle.sched_text.proofs.script.plain.+read.Given as goal
 
 abbrev pub decreases-read_plain : goal.decreases-read_plain
@@ -15,7 +15,7 @@ decreases-read_items l = 2 * l.depth + 1
 
 abbrev pub invariant-read_items-items : goal.invariant-read_items-items
 invariant-read_items-items l =
-    ThingsLeft (λ d. Some d) (value l.depth) l.initial.reader (map data_of l.found.items) l.reader
+    ItemsLeft (value l.depth) l.initial.reader (map data_of l.found.items) l.reader
 
 abbrev pub decreases-read_items-items : goal.decreases-read_items-items
 decreases-read_items-items l = length l.reader

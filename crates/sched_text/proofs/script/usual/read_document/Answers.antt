@@ -12,6 +12,6 @@ returns g c =
     let end : c.read_parts.new.reader ≡ [] = search rules in (
       object found.0,
       document_read c.args.reader.now c.next.new.self found.0 is (found.1 ∙ ap (λ r. Some (found.0, r)) end),
-      document_in g.X.Listed.stands_for c.args.name.now c.in_ok-parts.parts found.0 c.in-Some-Some.config
+      document_in g.P.FromTokens.stands_for c.args.name.now c.in_ok-parts.parts found.0 c.in-Some-Some.config
           c.in-Some-Some.list c.in-Some-Some.is-0 c.in-Some-Some.is-1 found.2,
     )

@@ -1,7 +1,6 @@
 -- By the key that the value stands under.
-use Rattle.std.proofs.Common.{◌≡◌, true, false, bytes_eq, refl, arith}
+use Rattle.std.proofs.Common.{◌≡◌, true, false, bytes_eq, arith}
 use Rattle.std.specs.Prelude.{codes}
-use Rattle.serde_json.specs.Data.{array}
 use Rattle.sched_text.specs.Fields.{config_of}
 use Rattle.sched_text.specs.Plain.{data_of}
 use Rattle.sched_text.proofs.Usual.{config_put, list_put, other_put}
@@ -9,7 +8,7 @@ use Rattle.sched_text.proofs.script.usual.read_part.Goals as goal
 
 pub returns-in_ok-value-clause-is : goal.returns-in_ok-value-clause-is
 returns-in_ok-value-clause-is g c =
-    let f = g.X.Listed.stands_for in
+    let f = g.P.FromTokens.stands_for in
     let name = c.args.name.now in
     let key = c.args.key.now in
     let d = data_of c.in_ok-value.value in
@@ -17,26 +16,25 @@ returns-in_ok-value-clause-is g c =
     let is : c.config_of-parts.result ≡ config_of d = grind arith in (
       d,
       c.in_ok-value.ensures.is,
-      λ ms. config_put f name key d ms c.args.parts.now c.config_of-parts.result c.requires.apart same is,
+      λ ms. config_put f name key d ms c.args.parts.now c.config_of-parts.result c.requires same is,
     )
 
 pub returns-in_ok-list-clause-is : goal.returns-in_ok-list-clause-is
 returns-in_ok-list-clause-is g c =
-    let f = g.X.Listed.stands_for in
+    let f = g.P.FromTokens.stands_for in
     let name = c.args.name.now in
     let key = c.args.key.now in
-    let found = c.in_ok-list.ensures.are in
+    let found = c.in_ok-list.ensures.is in
     let no_config : bytes_eq key (codes "config") ≡ false = grind arith in
     let same : bytes_eq key name ≡ true = grind arith in (
-      array found.0,
+      found.0,
       found.1,
-      λ ms. list_put f name key (array found.0) ms c.args.parts.now c.in_ok-list.list found.0 no_config same refl
-          found.2,
+      λ ms. list_put f name key found.0 ms c.args.parts.now c.in_ok-list.list no_config same found.2,
     )
 
 pub returns-in_ok-_other-clause-is : goal.returns-in_ok-_other-clause-is
 returns-in_ok-_other-clause-is g c =
-    let f = g.X.Listed.stands_for in
+    let f = g.P.FromTokens.stands_for in
     let name = c.args.name.now in
     let key = c.args.key.now in
     let d = data_of c.in_ok-_other._other in

@@ -11,7 +11,7 @@ pub members-init : goal.members-init
 members-init g c = (
   length c.args.reader.now,
   omega arith,
-  (no_members, refl, none_in g.X.Listed.stands_for c.args.name.now _ no_members refl refl),
+  (no_members, refl, none_in g.P.FromTokens.stands_for c.args.name.now _ no_members refl refl),
 )
 
 pub members-preserved : goal.members-preserved

@@ -11,7 +11,7 @@ invariant-members g l =
     (n : ℕ) × (length l.reader ≤ n) × ((found : Members)
     × (converted (λ ms. of_members ms no_members) (members (value l.depth) (length l.initial.reader) l.initial.reader)
     ≡ converted (λ ms. of_members ms found) (members (value l.depth) n l.reader))
-    × IsInMembers g.X.Listed.stands_for l.name l.parts found)
+    × IsInMembers g.P.FromTokens.stands_for l.name l.parts found)
 
 abbrev pub decreases-members : goal.decreases-members
 decreases-members g l = length l.reader

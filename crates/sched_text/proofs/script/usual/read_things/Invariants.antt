@@ -1,11 +1,14 @@
--- The things so far stand before those of the items that are left.
-use Rattle.std.proofs.Common.{length}
+-- The items so far stand for the things so far, before the items that are left.
+use Rattle.std.proofs.Common.{List, length}
 use Rattle.json.specs.Json.{value}
-use Rattle.sched_text.proofs.Each.{ThingsLeft}
+use Rattle.serde_json.specs.Data.{Data}
+use Rattle.sched_text.specs.Listed.{StandEach}
+use Rattle.sched_text.proofs.Each.{ItemsLeft}
 use Rattle.sched_text.proofs.script.usual.read_things.Given as goal
 
 abbrev pub invariant-items : goal.invariant-items
-invariant-items g l = ThingsLeft g.X.Listed.stands_for (value l.depth) l.initial.reader l.things.items l.reader
+invariant-items g l = (ds : List Data) × ItemsLeft (value l.depth) l.initial.reader ds l.reader
+    × StandEach g.X.FromTokens.stands_for ds l.things.items
 
 abbrev pub decreases-items : goal.decreases-items
 decreases-items g l = length l.reader
