@@ -1,8 +1,9 @@
 // Stands before the C library's calls where the loader is told to load it first (LD_PRELOAD), and lets some of them
 // fail, as words of the environment say. REFUSED=N refuses the N-th request for memory, and REFUSED_FROM=N it and each
-// later one. NARROW=1 has each read and write move at most one byte. FAILED_READ=N and FAILED_WRITE=N let the N-th read
-// of standard input or write to standard output fail, ENDED_READ=N lets the input end there, and FULL_WRITE=N has the
-// N-th write take nothing. Each such failure is marked by a byte in file 3: of memory, a read or a write.
+// later one. NARROW=N has each read and write move at most N bytes, where N is not 0. FAILED_READ=N and FAILED_WRITE=N
+// let the N-th read of standard input or write to standard output fail, with the error of the number ERROR where there
+// is one; ENDED_READ=N lets the input end there, and FULL_WRITE=N has the N-th write take nothing. Each such failure is
+// marked by a byte in file 3: of memory, a read or a write.
 typedef unsigned long size_t;
 
 extern void *__libc_malloc(size_t size);
@@ -45,12 +46,17 @@ void *calloc(size_t count, size_t size) { return is_refused() ? 0 : __libc_callo
 
 void *realloc(void *block, size_t size) { return is_refused() ? 0 : __libc_realloc(block, size); }
 
-static size_t narrowed(size_t size) { return size > 1 && number_of("NARROW") ? 1 : size; }
+static size_t narrowed(size_t size) {
+  size_t most = number_of("NARROW");
+  return most && size > most ? most : size;
+}
+
+static int error_told(void) { return number_of("ERROR") ? number_of("ERROR") : IO_ERROR; }
 
 long read(int file, void *bytes, size_t size) {
   if (file != INPUT) return syscall(READ, file, bytes, size);
   long place = one_more(&reads);
-  if (place == number_of("FAILED_READ")) return fail(IO_ERROR, "r");
+  if (place == number_of("FAILED_READ")) return fail(error_told(), "r");
   if (place == number_of("ENDED_READ")) return fail(0, "r") + 1;
   return syscall(READ, file, bytes, narrowed(size));
 }
@@ -58,7 +64,7 @@ long read(int file, void *bytes, size_t size) {
 long write(int file, const void *bytes, size_t size) {
   if (file != OUTPUT) return syscall(WRITE, file, bytes, size);
   long place = one_more(&writes);
-  if (place == number_of("FAILED_WRITE")) return fail(IO_ERROR, "w");
+  if (place == number_of("FAILED_WRITE")) return fail(error_told(), "w");
   if (place == number_of("FULL_WRITE")) return fail(0, "w") + 1;
   return syscall(WRITE, file, bytes, narrowed(size));
 }

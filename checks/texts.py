@@ -34,7 +34,7 @@ def constant(file, name):
 CONFIG, FORMS = constant("base/texts", "CONFIG"), constant("base/texts", "CALLS")
 RUNS = [constant("base/runs", "RUNS"), constant("base/crowds", "CROWDS"), constant("base/crowds", "GRANTS")]
 REPLIES, BUILD = constant("base/histories", "REPLIES"), constant("base/histories", "BUILD")
-CALLS = constant("sched_text_rows/scripts", "CALLS")
+CALLS = read("checks/rows/calls_of_each_name")
 
 
 def edited(text, old, new):

@@ -1,4 +1,5 @@
-//! Worked rows of the parameters, the order of flows and their amounts.
+//! Worked rows of the order of flows and their amounts. The reasons against parameters are tried on the program, in
+//! checks/worked_texts.
 
 ghost use Rattle.std.specs.Prelude.{◌≡◌, IfOk, IfSome};
 ghost use Rattle.flow_book.specs.Flows.{flow_of, with_grant};
@@ -8,67 +9,11 @@ ghost use Rattle.flow_book.specs.Choice.{HasStartedBy};
 mod lists;
 pub mod slow;
 
-use crate::base::{BASE, Player, is_shown, play, short, shown, word};
+use crate::base::{BASE, is_shown};
 use flow_book::{Book, Bucket, FlowSpec};
-use minislots::Checked;
-use std::alloc::{AllocError, AllocGlobal, Global};
+use std::alloc::{AllocError, AllocGlobal};
 use std::process::Abort;
 use std::test::Fail;
-
-// The parameters in a row: the kind of the flow, and its numbers.
-fn spec_of(row: &str) -> Result<FlowSpec, Fail> {
-    match word(row, 0)? {
-        "unsolicited" => Ok(FlowSpec::Unsolicited {
-            size: short(row, 1)?,
-            interval_us: short(row, 2)?,
-            jitter_us: short(row, 3)?,
-        }),
-        "polled" => Ok(FlowSpec::Polled {
-            interval_us: short(row, 1)?,
-            jitter_us: short(row, 2)?,
-            rate: short(row, 3)?,
-            burst: short(row, 4)?,
-        }),
-        "best_effort" => Ok(FlowSpec::BestEffort {
-            priority: u8::try_from(short(row, 1)?)?,
-            rate: short(row, 2)?,
-            burst: short(row, 3)?,
-        }),
-        _ => Err(Fail::from("no such kind")),
-    }
-}
-
-const SPECS: &str = "unsolicited 200 10000 0 => Ok(())
-unsolicited 200 10010 0 => Err(IntervalNotWhole)
-unsolicited 200 1500 0 => Err(IntervalNotFrames)
-unsolicited 200 30000 0 => Err(IntervalNotInCycle)
-unsolicited 0 10010 0 => Err(Size)
-polled 10010 0 1 63 => Err(IntervalNotWhole)
-polled 5000 0 1 63 => Err(Burst)
-polled 5000 0 1 64 => Ok(())
-best_effort 8 0 0 => Err(Priority)
-best_effort 7 1 63 => Err(Burst)
-best_effort 7 1 64 => Ok(())";
-
-// Checks the parameters in each row.
-#[derive(Drop)]
-struct Specs {
-    config: Checked,
-}
-
-impl Player for Specs {
-    fn answer(&mut self, alloc: Global, row: &str) -> Result<String, Fail> {
-        Ok(shown(alloc, spec_of(row)?.check(&self.config))?)
-    }
-}
-
-#[test]
-fn the_first_reason_against_parameters(rt: HostRuntime) -> Result<(), Fail> {
-    let mut specs = Specs {
-        config: BASE.check()?,
-    };
-    play(&rt, rt.alloc(), &mut specs, SPECS)
-}
 
 const fn best_effort(rate: u32, burst: u32) -> FlowSpec {
     FlowSpec::BestEffort {

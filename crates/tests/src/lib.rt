@@ -22,8 +22,6 @@ mod readme_rows;
 #[cfg(test)]
 mod refused_rows;
 #[cfg(test)]
-mod sched_check_rows;
-#[cfg(test)]
 mod sched_commands_rows;
 #[cfg(test)]
 mod sched_history_rows;

@@ -1,10 +1,6 @@
-//! The commands of the program under readers, writers and gates that the program itself does not have. Texts with their
-//! lines are tried on the program, in checks/worked_texts.
+//! The commands of the program under gates that the program itself does not have, and beside the library. Texts with
+//! their lines are tried on the program, in checks/worked_texts, and reads and writes that fail, in
+//! checks/refused_growth.
 
-mod audits;
-mod drawings;
 mod drawn;
-mod explained;
 mod storms;
-mod tables;
-mod writers;

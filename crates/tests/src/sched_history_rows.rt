@@ -1,9 +1,6 @@
-//! Worked histories of the scheduler, call by call.
+//! Worked histories of the scheduler, and builds by their plans. Runs with the answer to each call are tried on the
+//! program, in checks/worked_texts.
 
-mod audits;
-
-use crate::base::crowds::{CROWDS, GRANTS};
-use crate::base::runs::RUNS;
 use crate::base::texts::{config_of, json_of, script_of};
 use crate::base::{Player, is_shown, play, shown};
 use minislots::{Checked, Stamp};
@@ -11,7 +8,6 @@ use periodic::{Placement, Starts};
 use sched_history::{Call, PlanFault, Reply, Scheduler, Unrecorded};
 use sched_text::{put_line, read_script};
 use std::alloc::Global;
-use std::process::Abort;
 use std::test::Fail;
 
 // A scheduler that makes the call of each row.
@@ -87,25 +83,6 @@ impl Player for Twins {
         let same = called.as_str() == planned.as_str();
         Ok(format!(in alloc; "{same}")?)
     }
-}
-
-// Plays each run on a scheduler of its own.
-fn play_runs(rt: &impl Abort, alloc: Global, runs: &str) -> Result<(), Fail> {
-    for run in runs.split("\n\n") {
-        play(rt, alloc, &mut Machine::open(alloc, run)?, run)?;
-    }
-    Ok(())
-}
-
-#[test]
-fn each_call_has_its_answer(rt: HostRuntime) -> Result<(), Fail> {
-    play_runs(&rt, rt.alloc(), RUNS)
-}
-
-#[test]
-fn there_is_room_for_many_flows_and_many_grants(rt: HostRuntime) -> Result<(), Fail> {
-    play_runs(&rt, rt.alloc(), CROWDS)?;
-    play_runs(&rt, rt.alloc(), GRANTS)
 }
 
 const TWO_BUILDS: &str = "best_effort 17 3 0 0 => admitted

@@ -1,11 +1,7 @@
-//! Scripts and histories as they are read and written. The faults of texts are tried on the program itself, in
-//! checks/worked_texts.
+//! Histories and lines as they are read and written, and scripts of storms as they are read. Scripts and the faults of
+//! texts are tried on the program itself, in checks/worked_texts.
 
 mod faults;
-mod histories;
 mod lines;
-mod meanings;
-mod readers;
 mod recorded;
-mod scripts;
 mod storms;

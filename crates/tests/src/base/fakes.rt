@@ -1,55 +1,8 @@
-//! Readers and writers that fail.
+//! Writers that fail, and one that takes no memory.
 
 use std::alloc::Global;
 use std::io;
-use std::io::{ErrorKind, Read, Write};
-
-/// Gives at most so many of its bytes at a time, and fails behind so many reads.
-#[derive(Drop)]
-pub struct Failing<'a> {
-    pub rest: &'a [u8],
-    pub step: usize,
-    pub reads_left: usize,
-    pub kind: ErrorKind,
-}
-
-impl Read for Failing<'_> {
-    fn read(&mut self, buf: &mut [u8]) -> io::Result<usize> {
-        if self.reads_left == 0 {
-            return Err(io::Error::new(self.kind, "fails here"));
-        }
-        self.reads_left -= 1;
-        let len = self.rest.len().min(buf.len()).min(self.step);
-        let (front, back) = self.rest.split_at(len);
-        buf[..len].copy_from_slice(front);
-        self.rest = back;
-        Ok(len)
-    }
-}
-
-/// Takes one byte at each write, as many as it has room for, and then fails.
-#[derive(Drop)]
-pub struct Narrow {
-    pub room: usize,
-    pub kind: ErrorKind,
-}
-
-impl Write for Narrow {
-    fn write(&mut self, buf: &[u8]) -> io::Result<usize> {
-        if self.room == 0 {
-            return Err(io::Error::new(self.kind, "fails here"));
-        }
-        if buf.is_empty() {
-            return Ok(0);
-        }
-        self.room -= 1;
-        Ok(1)
-    }
-
-    fn flush(&mut self) -> io::Result<()> {
-        Ok(())
-    }
-}
+use std::io::{ErrorKind, Write};
 
 /// Keeps what it takes: so many bytes at most at each write, until it fails after so many writes.
 #[derive(Drop)]

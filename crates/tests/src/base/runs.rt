@@ -37,7 +37,16 @@ unsolicited 5 200 30000 0 => refused 3 4
 unsolicited 5 0 10010 0 => refused 3 1
 best_effort 5 8 0 0 => refused 3 5
 best_effort 5 7 1 63 => refused 3 6
+best_effort 5 8 1 63 => refused 3 5
+polled 5 10010 0 1 63 => refused 3 2
+polled 5 5000 0 1 63 => refused 3 6
 best_effort 5 7 0 0 => admitted
+remove 5 => removed
+best_effort 5 7 1 64 => admitted
+remove 5 => removed
+unsolicited 5 200 10000 0 => admitted 804 4 4
+remove 5 => removed
+polled 5 5000 0 1 64 => admitted 804 4 4 4 4
 
 the higher priority comes first
 build 760 => map 03010300000003200000032000000000fffc4000000180040001c028

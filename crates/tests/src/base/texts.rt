@@ -99,18 +99,6 @@ pub fn script_in(alloc: Global, table: &str) -> Result<String, Fail> {
     Ok(script_of(alloc, &config_of(alloc, table)?, &calls_in(alloc, table)?)?)
 }
 
-/// The lines of a table's answers.
-pub fn lines_in(alloc: Global, table: &str) -> Result<String, AllocError> {
-    let mut lines = String::new(alloc);
-    for line in table.lines() {
-        if let Some((_, answer)) = line.split_once(" => ") {
-            lines.push_str(answer)?;
-            lines.push_str("\n")?;
-        }
-    }
-    Ok(lines)
-}
-
 // The calls of a script in one line, which a comma and a space separate.
 fn script_calls(alloc: Global, line: &str) -> Result<String, Fail> {
     let mut calls = String::new(alloc);

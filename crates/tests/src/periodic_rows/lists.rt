@@ -8,7 +8,7 @@ use flow_book::FlowSpec;
 use minislots::{Checked, Config, Stamp};
 use periodic::Placement;
 use sched_history::{Call, Refusal, Reply, Scheduler, Unrecorded};
-use std::alloc::{AllocError, AllocGlobal, Global};
+use std::alloc::{AllocError, AllocGlobal};
 use std::process::Abort;
 use std::test::Fail;
 
@@ -24,16 +24,6 @@ struct Twins {
     next: u64,
     placed: u32,
     refused: u32,
-}
-
-// Frames of so many minislots of 25 microseconds, with a cycle of so many.
-fn frames(frame: u32, cycle: u32) -> Config {
-    Config {
-        frame,
-        cycle,
-        start: u64::from(frame) * 20,
-        ..BASE
-    }
 }
 
 // Parameters of grants up to so many bytes, or of polls, each frame, each second or each fourth.
@@ -148,44 +138,59 @@ impl Twins {
     }
 }
 
-// So many changes, with grants up to so many bytes: some flows have a place, and some have none.
-fn play<R: Abort + AllocGlobal>(
-    rt: &R,
-    config: Config,
+// Changes on a channel.
+#[derive(Clone, Copy)]
+struct Play {
+    frame: u32,
+    cycle: u32,
     changes: u32,
+    // The most bytes of a grant.
     bytes: u32,
-) -> Result<(), Fail> {
-    let mut twins = Twins::open(rt, config)?;
-    let mut draws = Draws::from_seed(7);
-    for _ in 0..changes {
-        twins.change(rt, &mut draws, bytes)?;
+}
+
+// Short frames, frames across words, and the longest frames.
+const PLAYS: [Play; 3] = [
+    Play {
+        frame: 40,
+        cycle: 8,
+        changes: 600,
+        bytes: 200,
+    },
+    Play {
+        frame: 150,
+        cycle: 4,
+        changes: 400,
+        bytes: 900,
+    },
+    Play {
+        frame: 1024,
+        cycle: 4,
+        changes: 200,
+        bytes: 6_000,
+    },
+];
+
+// Some flows have a place, and some have none.
+#[test]
+fn each_flow_stands_where_the_slow_search_puts_it(rt: HostRuntime) -> Result<(), Fail> {
+    for play in PLAYS {
+        let config = Config {
+            frame: play.frame,
+            cycle: play.cycle,
+            start: u64::from(play.frame) * 20,
+            ..BASE
+        };
+        let mut twins = Twins::open(&rt, config)?;
+        let mut draws = Draws::from_seed(7);
+        for _ in 0..play.changes {
+            twins.change(&rt, &mut draws, play.bytes)?;
+        }
+        let (placed, refused) = (twins.placed, twins.refused);
+        assert!(rt;
+            placed > 20 && refused > 20,
+            "{placed} and {refused} in {}",
+            play.frame
+        );
     }
-    assert!(rt;
-        twins.placed > 20 && twins.refused > 20,
-        "{} and {}",
-        twins.placed,
-        twins.refused
-    );
     Ok(())
-}
-
-#[test]
-fn in_short_frames_each_flow_stands_where_the_slow_search_puts_it(
-    rt: HostRuntime,
-) -> Result<(), Fail> {
-    play(&rt, frames(40, 8), 600, 200)
-}
-
-#[test]
-fn in_frames_across_words_each_flow_stands_where_the_slow_search_puts_it(
-    rt: HostRuntime,
-) -> Result<(), Fail> {
-    play(&rt, frames(150, 4), 400, 900)
-}
-
-#[test]
-fn in_the_longest_frames_each_flow_stands_where_the_slow_search_puts_it(
-    rt: HostRuntime,
-) -> Result<(), Fail> {
-    play(&rt, frames(1024, 4), 200, 6_000)
 }

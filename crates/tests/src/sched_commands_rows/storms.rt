@@ -1,7 +1,7 @@
 //! Storms in which a worker is held, with the lines of their tallies.
 
 use crate::base::texts::{config_of, storm_of};
-use crate::sched_storm_rows::gates::Shut;
+use crate::sched_storm_rows::gates::{Rule, Ruled};
 use sched_commands::run_storm;
 use sched_storm::Gate;
 use std::alloc::AllocGlobal;
@@ -31,7 +31,7 @@ fn storms<R: Threads + Wait + Abort + AllocGlobal + Sync>(
 #[test]
 fn a_worker_that_is_held_has_a_line(rt: HostRuntime) -> Result<(), Fail> {
     let lines = "seat 0 0\nseat 1 1\nunrecorded 0\nmaps 0\nnewest none\nheld 0\naudit legal\n";
-    storms(&rt, PAIR, &Shut { worker: 0 }, lines)?;
+    storms(&rt, PAIR, &Ruled::of(Rule::Shut(0)), lines)?;
     let lines = "seat 0 1\nseat 1 0\nunrecorded 0\nmaps 1\nnewest 1\nheld 1\naudit legal\n";
-    storms(&rt, PAIR, &Shut { worker: 1 }, lines)
+    storms(&rt, PAIR, &Ruled::of(Rule::Shut(1)), lines)
 }

@@ -1,6 +1,6 @@
 //! Storms of a few calls, under gates.
 
-use super::gates::{After, Meeting, Shut};
+use super::gates::{Rule, Ruled};
 use crate::base::texts::storm_in;
 use crate::base::{BASE, checked, is_shown};
 use sched_storm::{Gate, Open, StormFault, Tally, storm_with};
@@ -75,12 +75,12 @@ fn an_open_gate_lets_every_call_pass(rt: HostRuntime) -> Result<(), Fail> {
 fn a_worker_that_never_passes_is_held(rt: HostRuntime) -> Result<(), Fail> {
     has_counts(
         &rt,
-        &tally_of(&rt, PAIR, &Shut { worker: 0 })?,
+        &tally_of(&rt, PAIR, &Ruled::of(Rule::Shut(0)))?,
         "(0, 1, 0, 0, Some(0))",
     );
     has_counts(
         &rt,
-        &tally_of(&rt, PAIR, &Shut { worker: 1 })?,
+        &tally_of(&rt, PAIR, &Ruled::of(Rule::Shut(1)))?,
         "(1, 0, 0, 1, Some(1))",
     );
     Ok(())
@@ -88,10 +88,10 @@ fn a_worker_that_never_passes_is_held(rt: HostRuntime) -> Result<(), Fail> {
 
 #[test]
 fn each_worker_can_wait_for_the_other(rt: HostRuntime) -> Result<(), Fail> {
-    let tally = tally_of(&rt, PAIR, &After::of(0, 1))?;
+    let tally = tally_of(&rt, PAIR, &Ruled::of(Rule::After(0, 1)))?;
     has_counts(&rt, &tally, "(1, 1, 0, 1, None)");
     has_order(&rt, &tally, &[1, 0]);
-    let tally = tally_of(&rt, PAIR, &After::of(1, 0))?;
+    let tally = tally_of(&rt, PAIR, &Ruled::of(Rule::After(1, 0)))?;
     has_counts(&rt, &tally, "(1, 1, 0, 1, None)");
     has_order(&rt, &tally, &[0, 1]);
     Ok(())
@@ -110,7 +110,7 @@ fn beside_a_hundred(alloc: Global) -> Result<String, AllocError> {
 fn each_worker_can_wait_for_the_other_beside_a_third(rt: HostRuntime) -> Result<(), Fail> {
     let table = beside_a_hundred(rt.alloc())?;
     for (worker, other) in [(0, 1), (1, 0)] {
-        let tally = tally_of(&rt, &table, &After::of(worker, other))?;
+        let tally = tally_of(&rt, &table, &Ruled::of(Rule::After(worker, other)))?;
         has_counts(&rt, &tally, "(1, 1, 0, 1, None)");
         is_shown(&rt, (tally.counts[2], tally.history.len()), "(100, 102)");
     }
@@ -119,7 +119,7 @@ fn each_worker_can_wait_for_the_other_beside_a_third(rt: HostRuntime) -> Result<
 
 #[test]
 fn both_workers_are_within_a_gate_at_once(rt: HostRuntime) -> Result<(), Fail> {
-    let gate = Meeting::new();
+    let gate = Ruled::of(Rule::Meeting);
     has_counts(&rt, &tally_of(&rt, PAIR, &gate)?, "(1, 1, 0, 1, None)");
     is_shown(&rt, gate.met(), "(true, true)");
     Ok(())

@@ -2,27 +2,22 @@
 
 use minislots::ConfigFault;
 use sched_text::TextFault;
-use std::alloc::AllocGlobal;
-use std::process::Abort;
-
-// The fault has this text.
-fn says<R: Abort + AllocGlobal>(rt: &R, fault: TextFault, text: &str) {
-    let found = fault.to_string(rt.alloc()).expect(rt, "memory");
-    assert!(rt; found.as_str() == text, "{found} is not {text}");
-}
+use std::test::Fail;
 
 #[test]
-fn faults_of_a_text_have_their_texts(rt: HostRuntime) {
-    says(&rt, TextFault::Input, "input failed");
-    says(&rt, TextFault::TooLong, "input too long");
-    says(&rt, TextFault::NotJson, "not json");
-    says(&rt, TextFault::Shape(2), "bad script at 2");
-    says(&rt, TextFault::Config(ConfigFault::Ticks), "bad config 1");
-    says(
-        &rt,
-        TextFault::Config(ConfigFault::DataEnd),
-        "bad config 18",
-    );
-    says(&rt, TextFault::Memory, "out of memory");
-    says(&rt, TextFault::Output, "output failed");
+fn faults_of_a_text_have_their_texts(rt: HostRuntime) -> Result<(), Fail> {
+    for (fault, text) in [
+        (TextFault::Input, "input failed"),
+        (TextFault::TooLong, "input too long"),
+        (TextFault::NotJson, "not json"),
+        (TextFault::Shape(2), "bad script at 2"),
+        (TextFault::Config(ConfigFault::Ticks), "bad config 1"),
+        (TextFault::Config(ConfigFault::DataEnd), "bad config 18"),
+        (TextFault::Memory, "out of memory"),
+        (TextFault::Output, "output failed"),
+    ] {
+        let found = fault.to_string(rt.alloc())?;
+        assert!(rt; found.as_str() == text, "{found} is not {text}");
+    }
+    Ok(())
 }

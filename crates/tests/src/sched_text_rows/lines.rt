@@ -60,56 +60,40 @@ fn write_lines(alloc: Global, writer: &mut Keeping, len: usize) -> Result<(), Te
     lines.write_out(&mut writer)
 }
 
-// A writer that takes so many bytes at a time gets the lines.
-fn are_written(rt: &impl Abort, alloc: Global, most: usize, len: usize) -> Result<(), Fail> {
-    let mut writer = Keeping::new(alloc, most, usize::MAX);
-    write_lines(alloc, &mut writer, len)?;
-    let expected = text_of(alloc, len)?;
-    assert!(rt;
-        writer.taken.as_slice() == expected.as_bytes(),
-        "{len} bytes, {most} at a time"
-    );
-    Ok(())
-}
-
-#[test]
-fn lines_that_end_at_each_place_of_the_buffer_are_written(rt: HostRuntime) -> Result<(), Fail> {
-    for len in 8130..=8200 {
-        are_written(&rt, rt.alloc(), usize::MAX, len)?;
-    }
-    Ok(())
-}
-
-#[test]
-fn lines_of_any_length_are_written_a_byte_at_a_time(rt: HostRuntime) -> Result<(), Fail> {
-    for len in [12, 13, 8191, 8192, 8193, 20_000] {
-        are_written(&rt, rt.alloc(), 1, len)?;
-        are_written(&rt, rt.alloc(), 100, len)?;
-    }
-    Ok(())
-}
-
-// What a writer took that fails after so many writes is a front of the lines, and all of them if it does not fail.
-fn takes_a_front(rt: &impl Abort, alloc: Global, writes: usize, len: usize) -> Result<bool, Fail> {
-    let mut writer = Keeping::new(alloc, 1000, writes);
+// What a writer took that takes so many bytes at a time, and fails after so many writes, is a front of the lines, and all
+// of them if it does not fail, which is answered.
+fn takes_a_front(
+    rt: &impl Abort,
+    alloc: Global,
+    most: usize,
+    writes: usize,
+    len: usize,
+) -> Result<bool, Fail> {
+    let mut writer = Keeping::new(alloc, most, writes);
     let outcome = write_lines(alloc, &mut writer, len);
     let expected = text_of(alloc, len)?;
+    let is_front = expected.as_bytes().starts_with(&writer.taken);
+    let is_whole = writer.taken.len() == expected.len();
     assert!(rt;
-        expected.as_bytes().starts_with(&writer.taken),
-        "{len} bytes, {writes} writes"
+        is_front && (is_whole && outcome.is_ok() || outcome == Err(TextFault::Output)),
+        "{len} bytes, {most} at a time, {writes} writes"
     );
-    if outcome.is_ok() {
-        assert!(rt;
-            writer.taken.len() == expected.len(),
-            "{len} bytes, {writes} writes"
-        );
-    } else {
-        assert!(rt;
-            outcome == Err(TextFault::Output),
-            "{len} bytes, {writes} writes"
-        );
-    }
     Ok(outcome.is_ok())
+}
+
+#[test]
+fn lines_of_any_length_are_written(rt: HostRuntime) -> Result<(), Fail> {
+    // They end at each place of the buffer.
+    for len in 8130..=8200 {
+        let is_ok = takes_a_front(&rt, rt.alloc(), usize::MAX, usize::MAX, len)?;
+        assert!(rt; is_ok, "{len} bytes");
+    }
+    for len in [12, 13, 8191, 8192, 8193, 20_000] {
+        let bytes = takes_a_front(&rt, rt.alloc(), 1, usize::MAX, len)?;
+        let pieces = takes_a_front(&rt, rt.alloc(), 100, usize::MAX, len)?;
+        assert!(rt; bytes && pieces, "{len} bytes");
+    }
+    Ok(())
 }
 
 #[test]
@@ -117,7 +101,7 @@ fn a_writer_that_fails_took_a_front_of_the_lines(rt: HostRuntime) -> Result<(), 
     // A line that is longer than the buffer is written piece by piece.
     for (len, enough) in [(12, 1), (8192, 10), (8193, 8187)] {
         for writes in [0, 1, 2, 8, 9, 10, 8186, 8187] {
-            let is_ok = takes_a_front(&rt, rt.alloc(), writes, len)?;
+            let is_ok = takes_a_front(&rt, rt.alloc(), 1000, writes, len)?;
             assert!(rt; is_ok == (writes >= enough), "{len} bytes, {writes} writes");
         }
     }
