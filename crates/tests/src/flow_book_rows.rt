@@ -1,5 +1,5 @@
-//! Worked rows of the order of flows and their amounts. The reasons against parameters are tried on the program, in
-//! checks/worked_texts.
+//! Worked rows of flows and of their ceilings. The reasons against parameters, turns and amounts are tried on the program,
+//! in checks/worked_texts.
 
 ghost use Rattle.std.specs.Prelude.{◌≡◌, IfOk, IfSome};
 ghost use Rattle.flow_book.specs.Flows.{flow_of, with_grant};
@@ -40,19 +40,6 @@ fn grant_most(book: &mut Book, sid: u16, start: u64, room: u32) -> Result<u32, A
 }
 
 #[test]
-fn a_rate_ceiling_holds_to_the_byte(rt: HostRuntime) -> Result<(), Fail> {
-    let mut book = Book::open(rt.alloc(), BASE.check()?)?;
-    book.admit(17, best_effort(64_000, 1_600))?;
-    book.ask(17, 3_000);
-    is_shown(&rt, grant_most(&mut book, 17, 844, 36)?, "544");
-    is_shown(&rt, grant_most(&mut book, 17, 884, 36)?, "544");
-    is_shown(&rt, grant_most(&mut book, 17, 924, 36)?, "528");
-    is_shown(&rt, book.eligible(964, 36), "None");
-    is_shown(&rt, (book.asked(17), book.outstanding(17)), "(3000, 1384)");
-    Ok(())
-}
-
-#[test]
 fn a_bucket_has_what_the_ceiling_leaves(rt: HostRuntime) -> Result<(), Fail> {
     let mut bucket = Bucket::open(&BASE.check()?, 64_000, 1_600);
     is_shown(&rt, bucket.level_at(844), "2048000000");
@@ -78,22 +65,7 @@ fn a_bucket_without_a_rate_takes_all(rt: HostRuntime) -> Result<(), Fail> {
 }
 
 #[test]
-fn a_removal_forgets_the_grants(rt: HostRuntime) -> Result<(), Fail> {
-    let mut book = Book::open(rt.alloc(), BASE.check()?)?;
-    book.admit(17, best_effort(64_000, 600))?;
-    book.ask(17, 3_000);
-    is_shown(&rt, grant_most(&mut book, 17, 844, 36)?, "544");
-    book.remove(17);
-    is_shown(&rt, book.is_empty(), "true");
-    book.admit(17, best_effort(64_000, 600))?;
-    is_shown(&rt, book.asked(17), "0");
-    book.ask(17, 544);
-    is_shown(&rt, book.most(17, 884, 36), "544");
-    Ok(())
-}
-
-#[test]
-fn equal_flows_take_turns(rt: HostRuntime) -> Result<(), Fail> {
+fn flows_stand_in_the_order_of_their_sids(rt: HostRuntime) -> Result<(), Fail> {
     let mut book = Book::open(rt.alloc(), BASE.check()?)?;
     book.admit(21, best_effort(0, 0))?;
     book.admit(20, best_effort(0, 0))?;
@@ -102,11 +74,6 @@ fn equal_flows_take_turns(rt: HostRuntime) -> Result<(), Fail> {
         (book.len(), book.sid_at(0), book.sid_at(1)),
         "(2, 20, 21)",
     );
-    book.ask(20, 1_000);
-    book.ask(21, 1_000);
-    is_shown(&rt, book.eligible(844, 36), "Some(20)");
-    is_shown(&rt, grant_most(&mut book, 20, 844, 36)?, "544");
-    is_shown(&rt, book.eligible(884, 36), "Some(21)");
     Ok(())
 }
 

@@ -120,11 +120,12 @@ best_effort 17 3 64000 600 => admitted
 status 17 => flow 0 0 0
 ask 0 17 544 841 => taken
 build 840 => map 03010300000003700000032000000000fffc4000004580040001c028
+status 17 => flow 544 544 0
 
 flows of one priority take turns
 build 760 => map 03010300000003200000032000000000fffc4000000180040001c028
-best_effort 20 3 0 0 => admitted
 best_effort 21 3 0 0 => admitted
+best_effort 20 3 0 0 => admitted
 ask 0 20 1000 801 => taken
 ask 0 21 1000 801 => taken
 build 800 => map 03010500000003480000032000000000fffc4000005180040001c0280051802800558028

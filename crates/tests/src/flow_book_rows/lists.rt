@@ -102,6 +102,11 @@ fn compare(rt: &impl Abort, twins: &Twins, now: u64, room: u32)
     requires { AllByRecursion (HasStartedBy now) twins.now.book.flows }
 {
     assert_eq!(rt; twins.book.len(), twins.slow.len(), "flows at {now}");
+    assert_eq!(rt;
+        twins.book.is_empty(),
+        twins.slow.is_empty(),
+        "flows at {now}"
+    );
     let first = slow::eligible(&twins.slow, twins.book.config(), now, room);
     assert_eq!(rt;
         twins.book.eligible(now, room),
