@@ -9,7 +9,7 @@ use sched_history::Entry;
 use ticket_core::MAX_SEATS;
 
 /// How many entries of the history each seat made, by the seats' numbers.
-pub(crate) fn count_each(history: &[Entry]) -> [u64; MAX_SEATS]
+pub fn count_each(history: &[Entry]) -> [u64; MAX_SEATS]
     requires seats { All (λ e. (maker_of e).seat < MAX_SEATS) history.now }
     ensures counts { CountsEach result history.now }
     ensures total { sum result ≡ length history.now }

@@ -15,6 +15,7 @@ mod recorder;
 mod shared;
 
 pub use closing::Closed;
+pub use counting::count_each;
 pub use desk::{Desk, DeskHead};
 pub use fault::OpenFault;
 pub use laws::one_holder;

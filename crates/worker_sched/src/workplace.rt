@@ -1,0 +1,122 @@
+//! The scheduler that workers share, and its calls.
+ghost use Rattle.std.specs.Prelude.{◌≡◌, ◌+◌, IfOk, IfErr, length};
+ghost use Rattle.ticket_lock.specs.Rule.{Every};
+ghost use Rattle.ticket_lock.specs.Standing.{seats_of};
+ghost use Rattle.shared_sched.specs.Desk.{IsDeskLock, HasPress};
+ghost use Rattle.shared_sched.specs.Calls.{IsEntered, AnswersHeld};
+ghost use Rattle.shared_sched.specs.Closed.{ClosesTo};
+ghost use Rattle.worker_sched.specs.Desk.{no_press};
+ghost use Rattle.worker_sched.specs.Workplace.{AnswersTurn};
+
+use crate::closed::Closed;
+use crate::desk::Desk;
+use minislots::Checked;
+use sched_history::{Call, Reply, Unrecorded};
+use shared_sched::count_each;
+use std::marker::Model;
+use ticket_lock::{Held, Seat, Ticket, TicketLock};
+
+/// A scheduler under a ticket lock, which publishes to nobody. Threads share it by a reference, or an `Arc`, each with
+/// a seat of its own. One that is not closed goes with its history.
+#[must_use]
+pub struct Workplace {
+    pub(crate) lock: TicketLock<Desk>,
+    // What clauses name: the desk has the same configuration.
+    pub(crate) config: Checked,
+    pub(crate) seats: usize,
+}
+
+// Clauses see the configuration, that there is no press, and the lock round the desk.
+impl Model for Workplace {
+    ghost use Rattle.shared_sched.specs.Desk.{SharedDesk, IsDeskLock, HasPress};
+    ghost use Rattle.std.specs.Prelude.{◌≡◌};
+    ghost use Rattle.ticket_lock.specs.Standing.{seats_of};
+    ghost use Rattle.worker_sched.specs.Desk.{no_press};
+
+    ghost Value = { SharedDesk };
+
+    ghost view = { λ w. record { config = w.config; press = no_press; lock = w.lock } };
+
+    ghost invariant = { λ w. IsDeskLock w.config w.lock × HasPress w.config no_press w.lock
+        × (w.seats ≡ seats_of w.lock) };
+}
+
+impl Drop for Workplace {
+    // A workplace that is not closed goes with its scheduler.
+    fn drop(self) {
+        let Workplace {
+            lock,
+            config: _,
+            seats: _,
+        } = self;
+        lock.discard();
+    }
+}
+
+impl Workplace {
+    /// The lock round the desk, at which a seat draws.
+    pub fn lock(&self) -> &TicketLock<Desk>
+        ensures lock { result.now ≡ self.now.lock }
+        ensures desk { IsDeskLock self.now.config self.now.lock }
+        ensures press { HasPress self.now.config no_press self.now.lock }
+    {
+        &self.lock
+    }
+
+    /// How many seats it has.
+    pub fn seats(&self) -> usize
+        ensures { result ≡ seats_of self.now.lock }
+    {
+        self.seats
+    }
+
+    /// Makes a call if the ticket is served: enters, records the call with its reply, and leaves. If it is not, gives
+    /// the ticket back. One look, no wait. A call that is not recorded changes nothing, and ends the turn.
+    #[tactic(auto, using(crate::proofs::Turned::turns))]
+    pub fn turn(
+        &self,
+        ticket: Ticket<Desk>,
+        call: Call,
+    ) -> Result<(Seat<Desk>, Result<Reply, Unrecorded>), Ticket<Desk>>
+        requires own { ticket.lock ≡ self.now.lock }
+        ensures answered { IfOk result (λ r. AnswersTurn self.now.config ticket call r.0 r.1) }
+        ensures given_back { IfErr result (λ t. t ≡ record ticket { looks = ticket.looks + 1 }) }
+    {
+        let (held, desk) = self.lock.try_enter(ticket)?;
+        Ok(self.call_held(held, desk, call))
+    }
+
+    /// Makes a call by the seat that holds the desk, and leaves. The desk is as it was entered.
+    pub fn call_held(
+        &self,
+        held: Held<Desk>,
+        desk: Desk,
+        call: Call,
+    ) -> (Seat<Desk>, Result<Reply, Unrecorded>)
+        requires own { held.lock ≡ self.now.lock }
+        requires entered { IsEntered held desk }
+        ensures answered { AnswersHeld self.now.config held call result.0 result.1 }
+    {
+        let mut desk = desk;
+        let answer = desk.call(held.stamp(), call);
+        let seat = self.lock.leave(held, desk);
+        (seat, answer)
+    }
+
+    /// Takes the workplace apart, and gives its scheduler. All its seats come back, each once, in any order.
+    pub fn close(self, seats: Vec<Seat<Desk>>) -> Closed
+        requires own { Every (λ s. s.lock ≡ self.lock) seats.items }
+        requires all { length seats.items ≡ seats_of self.lock }
+        ensures config { result.scheduler.config ≡ self.config }
+        ensures closed { ClosesTo self.config self.lock seats.items result.scheduler.history result.counts }
+    {
+        let Workplace {
+            lock,
+            config: _,
+            seats: _,
+        } = self;
+        let scheduler = lock.close(seats).into_scheduler();
+        let counts = count_each(scheduler.history());
+        Closed { scheduler, counts }
+    }
+}
