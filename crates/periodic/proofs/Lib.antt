@@ -2,11 +2,12 @@ pub mod RowsPlacement
 pub mod RowsNoPlace
 pub mod Profile
 pub mod Parameters
-pub mod Places
 pub mod Fields
 pub mod Frames
 pub mod Reference
-pub mod EachFrame
+pub mod Greedy
+pub mod Groups
+pub mod Joined
 pub mod Choosing
 pub mod Adopting
 pub mod Adding
