@@ -2,12 +2,11 @@ pub mod RowsPlacement
 pub mod RowsNoPlace
 pub mod Profile
 pub mod Parameters
+pub mod Places
 pub mod Fields
 pub mod Frames
 pub mod Reference
-pub mod Greedy
-pub mod Groups
-pub mod Joined
+pub mod EachFrame
 pub mod Choosing
 pub mod Adopting
 pub mod Adding

@@ -72,7 +72,7 @@ invariant_of-self-2 c =
     (fields-with inside.config inside.flows.items c.insert.new.self.items inside.rows.items c.mark.new.rows added
     c.self.invariant c.mark.ensures.long (inserted c)
     (sound-with inside.config placed a.sid a.spec lawful.0 (placement_at a.reference a.starts.now)
-    c.at-flow.ensures.times.lawful c.requires.sid_positive c.requires.sid_most c.requires.periodic (rw (← c.self.view_is) at c.requires.no_fault)
+    c.requires.sid_positive c.requires.sid_most c.requires.periodic (rw (← c.self.view_is) at c.requires.no_fault)
     (rw (← c.self.view_is) at c.requires.room) (rw (← c.self.view_is) at c.requires.is_new) lawful.1
     c.self.invariant.sound)
     (times-with inside.flows.items c.insert.new.self.items c.unwrap_or-place.result a.sid a.spec a.reference
