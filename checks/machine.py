@@ -21,6 +21,11 @@ def free_memory():
         return 1024 * int(re.search(r"MemAvailable: *(\d+)", it.read())[1])
 
 
+def jobs():
+    """How many works of the prover run at a time: one for each processor, and for each 2.5 GB of free memory."""
+    return max(1, min(len(os.sched_getaffinity(0)), free_memory() // 2_500_000_000))
+
+
 def free_in(folder):
     """The room on the disk of a folder, in bytes, and none where there is no such folder."""
     try:
