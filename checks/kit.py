@@ -34,7 +34,7 @@ def below_of(crate, stands_on):
 
 
 def words_over(built, kit, name, *own):
-    """The words behind `rattle check` or `rattle build` for a library, over the libraries that were built in a folder."""
+    """The words behind `rattle check` or `rattle build` for a library, over those that were built in a folder."""
     stands_on = crates()
     below = {it: f"{built}/crates/{it}/out/rlib" for it in sorted(below_of(name, stands_on))}
     rlibs = {it: f"{below.get(it, f'{kit}/rlibs')}/{it}.rlib" for it in ["std", *stands_on[name]]}
