@@ -1,5 +1,5 @@
-//! Worked rows of flows and of their ceilings. The reasons against parameters, turns and amounts are tried on the program,
-//! in checks/worked_texts.
+//! Worked rows of flows and of their ceilings. The reasons against parameters, turns and amounts are tried on the
+//! program, in checks/worked_texts.
 
 ghost use Rattle.std.specs.Prelude.{◌≡◌, IfOk, IfSome};
 ghost use Rattle.flow_book.specs.Flows.{flow_of, with_grant};

@@ -1,9 +1,8 @@
 //! Worked runs: calls on a fresh scheduler, with the lines of their answers.
 
-/// Runs, each after an empty line: what it shows, edits of the base configuration, and rows. An admission
-/// goes by the kind of its flow: `best_effort` with SID, priority, rate and burst, `polled` with SID,
-/// interval, jitter, rate and burst, `unsolicited` with SID, size, interval and jitter. The other calls
-/// have their numbers in the order of the profile.
+/// Runs, each after an empty line: what it shows, edits of the base configuration, and rows. An admission goes by the
+/// kind of its flow: `best_effort` with SID, priority, rate and burst, `polled` with SID, interval, jitter, rate and
+/// burst, `unsolicited` with SID, size, interval and jitter. The other calls have their numbers in the profile's order.
 pub const RUNS: &str = r#"two maps of one flow
 build 760 => map 03010300000003200000032000000000fffc4000000180040001c028
 best_effort 17 3 0 0 => admitted
@@ -37,16 +36,8 @@ unsolicited 5 200 30000 0 => refused 3 4
 unsolicited 5 0 10010 0 => refused 3 1
 best_effort 5 8 0 0 => refused 3 5
 best_effort 5 7 1 63 => refused 3 6
-best_effort 5 8 1 63 => refused 3 5
-polled 5 10010 0 1 63 => refused 3 2
-polled 5 5000 0 1 63 => refused 3 6
 best_effort 5 7 0 0 => admitted
-remove 5 => removed
-best_effort 5 7 1 64 => admitted
-remove 5 => removed
-unsolicited 5 200 10000 0 => admitted 804 4 4
-remove 5 => removed
-polled 5 5000 0 1 64 => admitted 804 4 4 4 4
+best_effort 6 7 1 64 => admitted
 
 the higher priority comes first
 build 760 => map 03010300000003200000032000000000fffc4000000180040001c028
@@ -120,7 +111,6 @@ best_effort 17 3 64000 600 => admitted
 status 17 => flow 0 0 0
 ask 0 17 544 841 => taken
 build 840 => map 03010300000003700000032000000000fffc4000004580040001c028
-status 17 => flow 544 544 0
 
 flows of one priority take turns
 build 760 => map 03010300000003200000032000000000fffc4000000180040001c028

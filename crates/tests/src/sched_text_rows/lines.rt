@@ -60,8 +60,8 @@ fn write_lines(alloc: Global, writer: &mut Keeping, len: usize) -> Result<(), Te
     lines.write_out(&mut writer)
 }
 
-// What a writer took that takes so many bytes at a time, and fails after so many writes, is a front of the lines, and all
-// of them if it does not fail, which is answered.
+// What a writer took that takes so many bytes at a time, and fails after so many writes, is a front of the lines, and
+// all of them if it does not fail, which is answered.
 fn takes_a_front(
     rt: &impl Abort,
     alloc: Global,
