@@ -145,17 +145,16 @@ module _ (depth : ℕ) (ts r : List Token) where
       ∙ ap (λ o. option_map (λ d. (d, r)) (option_map number o)) reads
       ∙ ap (λ d. Some (d, r)) (sym (data_of-Number n))
 
-  pub object_read : (s : List Token) (v : Vec Member Global) → 0 < depth → ts ≡ Token.begin_object ∷ s
-      → converted (λ ms. of_members ms no_members) (members (value (depth - 1)) (length s) s)
-      ≡ Some (members_of v.items, r)
-      → converted of_json (value depth ts) ≡ Some (data_of (Object v), r)
-  object_read s v some is reads =
+  -- an object of members
+  pub object_read : (s : List Token) (ms : Members) → 0 < depth → ts ≡ Token.begin_object ∷ s
+      → converted (λ js. of_members js no_members) (members (value (depth - 1)) (length s) s) ≡ Some (ms, r)
+      → converted of_json (value depth ts) ≡ Some (object ms, r)
+  object_read s ms some is reads =
       let inside = members (value (depth - 1)) (length s) s in
       ap (converted of_json) (ap (value depth) is ∙ value-begin_object depth s some)
-      ∙ converted-parse_map of_json json.object (λ ms. option_map object (of_members ms no_members)) (λ ms. refl) inside
-      ∙ converted-option_map (λ ms. of_members ms no_members) object inside
+      ∙ converted-parse_map of_json json.object (λ js. option_map object (of_members js no_members)) (λ js. refl) inside
+      ∙ converted-option_map (λ js. of_members js no_members) object inside
       ∙ ap (parse_map object) reads
-      ∙ ap (λ d. Some (d, r)) (sym (data_of-Object v))
 
 -- ---- whole numbers
 

@@ -1,14 +1,13 @@
 -- A document that is read thing by thing and member by member.
 use Rattle.std.proofs.Common.{◌≡◌, ℕ, true, false, List, [], ◌∷◌, length, bytes_eq}
-use Rattle.std.proofs.Common.{Option, Some, None, option_map, option_and_then, Result, Ok, Err, refl, sym, ap, ◌∙◌}
+use Rattle.std.proofs.Common.{Option, Some, None, option_and_then, Result, Ok, Err, sym, ap, ◌∙◌}
 use Rattle.std.proofs.Common.{arith, subst}
 use Rattle.std.proofs.lemmas.Slice.Eq.{bytes_eq-Decides}
 use Rattle.std.specs.Prelude.{codes, IfOk, IfSome, IsUtf8}
 use Rattle.json.specs.Token.{Token}
 use Rattle.json.specs.Lex.{tokens}
 use Rattle.json.specs.Json as json
-use Rattle.json.specs.Json.{parse_map, members, value}
-use Rattle.json.proofs.Grammar.{value-begin_object}
+use Rattle.json.specs.Json.{members, value}
 use Rattle.serde_json.specs.Data.{Data, object, Members, no_members, put}
 use Rattle.serde_json.specs.Find.{get_member}
 use Rattle.serde_json.specs.Read.{read, of_json, of_members, converted}
@@ -20,7 +19,7 @@ use Rattle.sched_text.specs.Input.{value_of}
 use Rattle.sched_text.specs.Listed.{IsInMembers, IsDocument}
 use Rattle.sched_text.specs.Usual.{read_tokens}
 use Rattle.sched_text.proofs.Bytes.{value_of-Ok}
-use Rattle.sched_text.proofs.Plain.{converted-parse_map, converted-option_map, read_as, found_at}
+use Rattle.sched_text.proofs.Plain.{object_read, read_as, found_at}
 
 module _ {P : Type 0} (stands_for : Data → P → Type 0) (name : List ℕ) where
   abbrev ConfigIn : Option Config → Members → Type 0
@@ -112,11 +111,6 @@ pub document_read : (ts s : List Token) (ms : Members) → ts ≡ Token.begin_ob
     → converted (λ members. of_members members no_members) (members (value 126) (length s) s) ≡ Some (ms, [])
     → read_tokens ts ≡ Some (object ms)
 document_read ts s ms is reads =
-    let inside = members (value 126) (length s) s in
-    let all : converted of_json (value 127 ts) ≡ Some (object ms, []) =
-    ap (converted of_json) (ap (value 127) is ∙ value-begin_object 127 s (omega arith))
-    ∙ converted-parse_map of_json json.object (λ js. option_map object (of_members js no_members)) (λ js. refl) inside
-    ∙ converted-option_map (λ js. of_members js no_members) object inside
-    ∙ ap (parse_map object) reads in
+    let all = object_read 127 ts [] s ms (omega arith) is reads in
     let j = read_as of_json (value 127 ts) (object ms) [] all in
     ap (λ o. option_and_then of_json (option_and_then (λ p. json.if_last p.0 p.1) o)) j.1 ∙ j.2

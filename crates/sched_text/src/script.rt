@@ -10,6 +10,7 @@ pub(crate) mod field;
 mod flow;
 pub(crate) mod plain;
 mod reading;
+mod skipped;
 mod storms;
 pub(crate) mod tree;
 pub(crate) mod usual;

@@ -97,7 +97,7 @@ fn find<'v, 'a>(list: &'v Vec<(&'a str, Plain<'a>)>, key: &str) -> Option<&'v Pl
 }
 
 // The whole number that a token writes, where it fits.
-fn whole_of(text: &str) -> Option<u64>
+pub fn whole_of(text: &str) -> Option<u64>
     ensures { IfSome result (λ n. number_of text.now ≡ Some (unsigned n)) }
 {
     let bytes = text.as_bytes();

@@ -12,6 +12,7 @@ ghost use Rattle.sched_text.specs.Usual.{read_tokens};
 
 use super::config::config_of;
 use super::plain::{Stop, read_plain};
+use super::skipped::skip_plain;
 use json::{Reader, Scratch, Token};
 use minislots::Config;
 use std::alloc::Global;
@@ -95,7 +96,7 @@ fn read_part<P: FromTokens>(
         let list = P::read(alloc, reader, depth)?;
         parts.list = Some(list);
     } else {
-        let _other = read_plain(alloc, reader, depth)?;
+        skip_plain(reader, depth)?;
     }
     Ok(())
 }

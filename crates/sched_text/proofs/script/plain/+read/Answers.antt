@@ -9,8 +9,8 @@ use Rattle.serde_json.specs.Data.{unsigned, put}
 use Rattle.serde_json.specs.Read.{number_of, of_members, converted}
 use Rattle.serde_json.specs.View.{items_of}
 use Rattle.sched_text.specs.Plain.{data_of, members_of}
-use Rattle.sched_text.proofs.Plain.{members_of-push, member_read, members_over, data_of-Array, text_read, number_read}
-use Rattle.sched_text.proofs.Plain.{array_read, object_read}
+use Rattle.sched_text.proofs.Plain.{members_of-push, member_read, members_over, data_of-Array, data_of-Object}
+use Rattle.sched_text.proofs.Plain.{text_read, number_read, array_read, object_read}
 use Rattle.sched_text.proofs.Each.{ItemsLeft-none, ItemsLeft-more, items_over}
 use Rattle.sched_text.proofs.script.plain.+read.Goals as goal
 
@@ -35,8 +35,9 @@ read_plain-returns-in_ok-read_members-in-BeginObject-clause-is t c =
     let first : c.args.reader.now ≡ token_of c.in_ok-text.field-0 ∷ c.next.new.self = grind arith in
     let is : c.args.reader.now ≡ Token.begin_object ∷ c.next.new.self = grind (arith, first) in
     let found = c.in_ok-read_members-in-BeginObject in
-    object_read c.args.depth c.args.reader.now c.read_members.new.reader c.next.new.self found.field-0 (omega arith) is
-    found.ensures.are
+    object_read c.args.depth c.args.reader.now c.read_members.new.reader c.next.new.self
+    (members_of found.field-0.items) (omega arith) is found.ensures.are
+    ∙ ap (λ d. Some (d, c.read_members.new.reader)) (sym (data_of-Object found.field-0))
 
 pub read_plain-returns-in_ok-read_items-in-BeginArray-clause-is :
     goal.read_plain-returns-in_ok-read_items-in-BeginArray-clause-is

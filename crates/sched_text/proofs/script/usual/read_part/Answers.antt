@@ -32,12 +32,12 @@ returns-in_ok-list-clause-is g c =
       λ ms. list_put f name key found.0 ms c.args.parts.now c.in_ok-list.list no_config same found.2,
     )
 
-pub returns-in_ok-_other-clause-is : goal.returns-in_ok-_other-clause-is
-returns-in_ok-_other-clause-is g c =
+pub returns-in_ok-skip_plain-clause-is : goal.returns-in_ok-skip_plain-clause-is
+returns-in_ok-skip_plain-clause-is g c =
     let f = g.P.FromTokens.stands_for in
     let name = c.args.name.now in
     let key = c.args.key.now in
-    let d = data_of c.in_ok-_other._other in
+    let found = c.in_ok-skip_plain.ensures.is in
     let no_config : bytes_eq key (codes "config") ≡ false = grind arith in
     let no_list : bytes_eq key name ≡ false = grind arith in
-    (d, c.in_ok-_other.ensures.is, λ ms. other_put f name key d ms c.args.parts.now no_config no_list)
+    (found.0, found.1, λ ms. other_put f name key found.0 ms c.args.parts.now no_config no_list)
