@@ -35,3 +35,5 @@ mod shared_sched_rows;
 mod ticket_core_rows;
 #[cfg(test)]
 mod ticket_lock_rows;
+#[cfg(test)]
+mod worker_sched_rows;
