@@ -51,8 +51,6 @@ pub struct PlainCall {
     pub sid: u16,
     pub receiver: u8,
     pub priority: u8,
-    /// An unsolicited flow's grants in an interval.
-    pub grants: u8,
 }
 
 // A call of which every number is 0.
@@ -69,7 +67,6 @@ const NOTHING: PlainCall = PlainCall {
     sid: 0,
     receiver: 0,
     priority: 0,
-    grants: 0,
 };
 
 impl PlainCall {
@@ -82,7 +79,6 @@ impl PlainCall {
                 size: self.size,
                 interval_us: self.interval_us,
                 jitter_us: self.jitter_us,
-                grants: self.grants,
             }),
             flow::POLLED => Some(FlowSpec::Polled {
                 interval_us: self.interval_us,
@@ -132,14 +128,12 @@ impl PlainCall {
                 size,
                 interval_us,
                 jitter_us,
-                grants,
             } => PlainCall {
                 flow: flow::UNSOLICITED,
                 sid,
                 size,
                 interval_us,
                 jitter_us,
-                grants,
                 ..NOTHING
             },
             FlowSpec::Polled {

@@ -26,8 +26,7 @@ pub enum Refusal {
     BadFlow(FlowFault),
     /// [`flow_book::MAX_FLOWS`] flows are live.
     FlowsFull,
-    /// The grants per interval of the live periodic flows and of this one are more than
-    /// [`periodic::MAX_PERIODIC_GRANTS`].
+    /// [`periodic::MAX_PERIODIC_FLOWS`] periodic flows are live.
     PeriodicFull,
     /// No lawful placement exists.
     NoPlace,

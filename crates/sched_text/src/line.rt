@@ -67,7 +67,6 @@ fn fault_number(fault: FlowFault) -> u64
         FlowFault::IntervalNotInCycle => 4,
         FlowFault::Priority => 5,
         FlowFault::Burst => 6,
-        FlowFault::Grants => 7,
     }
 }
 

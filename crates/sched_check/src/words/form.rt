@@ -93,8 +93,6 @@ static UNSOLICITED: [Member; 4] = [
     ("jitter_us", U32),
 ];
 
-static GRANTS: [Member; 1] = [("grants", U8)];
-
 static POLLED: [Member; 5] = [
     ("kind", Want::Text),
     ("interval_us", U32),
@@ -212,10 +210,7 @@ pub fn call_form(name: &str) -> Option<Form> {
 /// The flow of this kind.
 pub fn flow_form(kind: &str) -> Option<Form> {
     Some(match kind {
-        "unsolicited" => Form {
-            wanted: &UNSOLICITED,
-            allowed: &GRANTS,
-        },
+        "unsolicited" => whole(&UNSOLICITED),
         "polled" => whole(&POLLED),
         "best_effort" => whole(&BEST_EFFORT),
         _ => return None,

@@ -20,8 +20,7 @@ remove {"call":"remove","sid":#}
 status {"call":"status","sid":#}
 best_effort {"call":"admit","sid":#,"flow":{"kind":"best_effort","priority":#,"rate":#,"burst":#}}
 polled {"call":"admit","sid":#,"flow":{"kind":"polled","interval_us":#,"jitter_us":#,"rate":#,"burst":#}}
-unsolicited {"call":"admit","sid":#,"flow":{"kind":"unsolicited","size":#,"interval_us":#,"jitter_us":#}}
-grants {"call":"admit","sid":#,"flow":{"kind":"unsolicited","size":#,"interval_us":#,"jitter_us":#,"grants":#}}"#;
+unsolicited {"call":"admit","sid":#,"flow":{"kind":"unsolicited","size":#,"interval_us":#,"jitter_us":#}}"#;
 
 /// The text with its first such part replaced.
 pub fn edited(alloc: Global, text: &str, old: &str, new: &str) -> Result<String, Fail> {

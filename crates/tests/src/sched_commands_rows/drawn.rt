@@ -58,8 +58,7 @@ fn row_of_flow(alloc: Global, sid: u16, spec: FlowSpec) -> Result<String, AllocE
             size,
             interval_us,
             jitter_us,
-            grants,
-        } => { format!(in alloc; "grants {sid} {size} {interval_us} {jitter_us} {grants}") }
+        } => format!(in alloc; "unsolicited {sid} {size} {interval_us} {jitter_us}"),
         FlowSpec::Polled {
             interval_us,
             jitter_us,
