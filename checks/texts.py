@@ -97,9 +97,11 @@ def history_of(config, blocks):
 VOICE = '{"call":"admit","flow":{"interval_us":10000,"jitter_us":800,"kind":"unsolicited","size":200},"sid":5}'
 
 
-def voice(reference, starts, sid=5):
-    """A block: a voice flow of 15 minislots each ten frames, up to 32 late, is admitted with this placement."""
+def voice(reference, starts, sid=5, grants=None):
+    """A block: a voice flow of 15 minislots each ten frames, up to 32 late, is admitted with this placement. It has so
+    many grants in an interval, or does not say how many, which is one."""
     call = edited(VOICE, '"sid":5', f'"sid":{sid}')
+    call = call if grants is None else edited(call, '"flow":{', f'"flow":{{"grants":{grants},')
     return f'{call}\n{{"kind":"admitted","reference":{reference},"starts":[{starts}]}}'
 
 

@@ -14,7 +14,7 @@
 extern "C" {
 #endif
 
-#define MAPSCHED_MAX_STARTS 64
+#define MAPSCHED_MAX_STARTS 512
 #define MAPSCHED_MAX_BYTES 976
 #define MAPSCHED_MAX_ELEMENTS 240
 
@@ -64,6 +64,7 @@ struct mapsched_call {
   uint64_t minislot;                                  /* when it was heard, up to when all was, or now */
   uint16_t sid;
   uint8_t receiver, priority;
+  uint8_t grants;                                     /* of an unsolicited flow: in an interval, from 1 to 8 */
 };
 
 /* Who made a call: a seat and its ticket, which are recorded as they are handed in. */

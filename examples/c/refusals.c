@@ -1,5 +1,6 @@
 /* Every status, in turn, and what each leaves as it was; a history read back entry by entry. Prints nothing. */
 #include <mapsched.h>
+#include <stddef.h>
 #include <stdio.h>
 #include <string.h>
 
@@ -23,6 +24,9 @@ static struct mapsched_config lawful(void) {
   return config;
 }
 
+/* The bytes of a call up to its last number: what is behind it in the struct is nobody's. */
+enum { NUMBERS = offsetof(struct mapsched_call, grants) + 1 };
+
 static int failures = 0;
 
 static void want(int line, int holds) {
@@ -41,7 +45,8 @@ int main(void) {
                                 .sid = 5,
                                 .size = 64,
                                 .interval_us = 20000,
-                                .jitter_us = 1000};
+                                .jitter_us = 1000,
+                                .grants = 1};
   struct mapsched_call unknown = {.kind = 7}, strange = {.kind = MAPSCHED_ADMIT, .flow = 3};
   struct mapsched_call bytes = {.kind = MAPSCHED_STATUS, .sid = 9};
   struct mapsched_call build = {.kind = MAPSCHED_BUILD, .minislot = 760};
@@ -88,7 +93,7 @@ int main(void) {
   WANT(mapsched_count(&scheduler, &count) == MAPSCHED_OK && count == 3);
   WANT(mapsched_entry(&scheduler, 3, &entry) == MAPSCHED_NO_ENTRY && entry.call.kind == 0xa5a5a5a5);
   WANT(mapsched_entry(&scheduler, 0, &entry) == MAPSCHED_OK && entry.stamp.ticket == 7 && entry.stamp.seat == 2);
-  WANT(memcmp(&entry.call, &voice, sizeof voice) == 0 && entry.reply.kind == MAPSCHED_PLACED);
+  WANT(memcmp(&entry.call, &voice, NUMBERS) == 0 && entry.reply.kind == MAPSCHED_PLACED);
   WANT(mapsched_entry(&scheduler, 2, &entry) == MAPSCHED_OK && entry.reply.kind == MAPSCHED_BUILT);
   WANT(entry.reply.length == reply.length && memcmp(entry.reply.payload, reply.payload, reply.length) == 0);
 
@@ -116,6 +121,18 @@ int main(void) {
 
   WANT(mapsched_close(&scheduler) == MAPSCHED_OK && !scheduler.full);
   WANT(mapsched_close(&scheduler) == MAPSCHED_EMPTY);
+
+  /* No grants in an interval are bad parameters; three have three starts in the one nominal frame of the cycle. */
+  voice.grants = 0;
+  WANT(mapsched_open(&scheduler, &config) == MAPSCHED_OK);
+  WANT(mapsched_call(&scheduler, &stamp, &voice, &reply) == MAPSCHED_OK && reply.kind == MAPSCHED_REFUSED);
+  WANT(reply.refusal == 3 && reply.value == 7);
+  voice.grants = 3;
+  WANT(mapsched_call(&scheduler, &stamp, &voice, &reply) == MAPSCHED_OK && reply.kind == MAPSCHED_PLACED);
+  WANT(reply.value == 804 && reply.starts_count == 3);
+  WANT(reply.starts[0] == 4 && reply.starts[1] == 10 && reply.starts[2] == 16);
+  WANT(mapsched_entry(&scheduler, 1, &entry) == MAPSCHED_OK && memcmp(&entry.call, &voice, NUMBERS) == 0);
+  WANT(mapsched_close(&scheduler) == MAPSCHED_OK);
   WANT(strcmp(mapsched_status_text(12), "unknown status") == 0);
   WANT(strcmp(mapsched_status_text(100), "unknown status") == 0);
   return failures != 0;

@@ -43,6 +43,7 @@ fn spec_of(draw: &mut Draw) -> FlowSpec {
             size: 64 + draw.below(200) as u32,
             interval_us,
             jitter_us,
+            grants: 1,
         },
         1 => FlowSpec::Polled {
             interval_us,

@@ -64,6 +64,7 @@ fn grants_every(frames: u32, jitter_us: u32) -> FlowSpec {
         size: 384,
         interval_us: FRAME_US.saturating_mul(frames),
         jitter_us,
+        grants: 1,
     }
 }
 

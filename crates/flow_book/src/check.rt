@@ -3,6 +3,7 @@
 ghost use Rattle.std.specs.Prelude.{◌≡◌, IfOk, IfErr, [], ◌∷◌, IsTrue, MatchResult, false, if◌then◌else◌};
 ghost use Rattle.flow_book.specs.FlowSpec.{first_fault, first_fault_of, is_periodic, interval_of, interval_faults};
 
+use crate::MAX_GRANTS;
 use crate::spec::{FlowFault, FlowSpec};
 use minislots::Checked;
 
@@ -24,7 +25,8 @@ impl FlowSpec {
         self.check_size(config)?;
         self.check_interval(config)?;
         self.check_priority(config)?;
-        self.check_burst(config)
+        self.check_burst(config)?;
+        self.check_grants(config)
     }
 
     // The size of an unsolicited grant: some bytes, in a burst that fits behind the request region.
@@ -83,6 +85,19 @@ impl FlowSpec {
             !self.takes_requests() || self.rate() == 0 || config.quantum() <= self.burst(),
             FlowFault::Burst,
         )
+    }
+
+    // The grants per interval of an unsolicited flow: one at least, and no more than a flow may have.
+    fn check_grants(&self, config: &Checked) -> Result<(), FlowFault>
+        ensures ok { IfOk result (λ _. first_fault_of config.now self.now (FlowFault.Grants ∷ []) ≡ None) }
+        ensures err { IfErr result (λ e. first_fault_of config.now self.now (FlowFault.Grants ∷ []) ≡ Some e) }
+    {
+        match *self {
+            FlowSpec::Unsolicited { grants, .. } => {
+                require(0 < grants && grants <= MAX_GRANTS, FlowFault::Grants)
+            }
+            _ => Ok(()),
+        }
     }
 
     // The nominal interval of a periodic flow, in microseconds.

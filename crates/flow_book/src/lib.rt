@@ -17,3 +17,6 @@ pub use spec::{FlowFault, FlowSpec};
 
 /// The most flows that are live at a time on one channel.
 pub const MAX_FLOWS: usize = 64;
+
+/// The most grants of an unsolicited flow in one nominal interval.
+pub const MAX_GRANTS: u8 = 8;

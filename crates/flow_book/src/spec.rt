@@ -1,7 +1,7 @@
 //! The parameters of a flow.
 
 ghost use Rattle.std.specs.Prelude.{◌≡◌};
-ghost use Rattle.flow_book.specs.FlowSpec.{takes_requests, rank_of, rate_of, burst_of};
+ghost use Rattle.flow_book.specs.FlowSpec.{takes_requests, rank_of, rate_of, burst_of, grants_of};
 
 use thiserror::Error;
 
@@ -9,12 +9,13 @@ use thiserror::Error;
 /// bytes, intervals and jitters in microseconds, rates in bits per second. A rate of 0 is no ceiling.
 #[derive(Clone, Copy, Debug, PartialEq, Eq)]
 pub enum FlowSpec {
-    /// Unsolicited Grant Service: one grant for so many bytes in each nominal interval, with the
-    /// tolerated jitter.
+    /// Unsolicited Grant Service: so many grants, from 1 to [`MAX_GRANTS`](crate::MAX_GRANTS), for so many bytes each
+    /// in each nominal interval, with the tolerated jitter.
     Unsolicited {
         size: u32,
         interval_us: u32,
         jitter_us: u32,
+        grants: u8,
     },
     /// Real-time polling: one request opportunity in each nominal interval, and data grants under the
     /// rate ceiling for what it asks.
@@ -54,9 +55,24 @@ pub enum FlowFault {
     /// There is a rate ceiling, and the burst is below the quantum.
     #[error("burst")]
     Burst,
+    /// The grants per interval are 0 or above [`MAX_GRANTS`](crate::MAX_GRANTS).
+    #[error("grants")]
+    Grants,
 }
 
 impl FlowSpec {
+    /// The flow's grants per interval: an unsolicited flow's as its parameters say, one poll of a polled flow, and
+    /// none of a best effort flow.
+    pub fn grants(&self) -> u8
+        ensures { result ≡ grants_of self.now }
+    {
+        match *self {
+            FlowSpec::Unsolicited { grants, .. } => grants,
+            FlowSpec::Polled { .. } => 1,
+            FlowSpec::BestEffort { .. } => 0,
+        }
+    }
+
     // Whether the flow asks for bytes and gets data grants for them.
     pub(crate) fn takes_requests(&self) -> bool
         ensures { result ≡ takes_requests self.now }

@@ -1,4 +1,4 @@
--- A worked example of a lawful MAP with unsolicited grants.
+-- Worked examples of lawful MAPs with unsolicited grants.
 use Rattle.std.proofs.Common.{◌≡◌, ℕ, List, [], ◌∷◌, map, refl, inr, lit<, arith}
 use Rattle.map_codec.specs.Element.{word_of}
 use Rattle.flow_book.specs.Flows.{LiveFlow}
@@ -8,6 +8,7 @@ use Rattle.map_build.specs.Plan.{Allocation, UnsolicitedGrant, Idle}
 use Rattle.map_build.specs.FrameMap.{IsLawfulMap}
 use Rattle.flow_book.proofs.Base.{base}
 use Rattle.periodic.proofs.RowsPlacement.{voice, voice_at}
+use Rattle.periodic.proofs.RowsGrants.{double_voice}
 use Rattle.map_build.proofs.FlowsAfter.{allocation}
 use Rattle.map_build.proofs.RowsMaps.{element, base_map}
 
@@ -65,3 +66,44 @@ a_frame_with_unsolicited_grants = (
 pub the_words_of_a_frame_with_unsolicited_grants : map word_of unsolicited_map.wire.elements
     ≡ 0xfffc4000 ∷ 0x00158004 ∷ 0x00198013 ∷ 0x00018022 ∷ 0x0001c028 ∷ []
 the_words_of_a_frame_with_unsolicited_grants = refl
+
+-- the unsolicited flow 5 with two grants in an interval
+abbrev pub double_voices : List LiveFlow
+double_voices = record { sid = 5; spec = double_voice; asked = 0; grants = [] } ∷ []
+
+-- the MAP of a frame with both
+abbrev pub double_map : FrameMap
+double_map =
+    base_map 800 800 (element 0x3fff 1 0 ∷ element 5 6 4 ∷ element 5 6 19 ∷ element 0 6 34 ∷ element 0 7 40 ∷ [])
+    (0 ∷ 0 ∷ 0 ∷ 0 ∷ 0 ∷ [])
+
+-- it is lawful
+pub a_frame_with_two_grants_of_a_flow : IsLawfulMap base double_voices (voice_at 5 4 ∷ voice_at 5 19 ∷ []) 800 800
+    double_map
+a_frame_with_two_grants_of_a_flow = (
+  allocation 4 15 (UnsolicitedGrant 5) ∷ allocation 19 15 (UnsolicitedGrant 5) ∷ allocation 34 6 Idle ∷ [],
+  record {
+    each = (
+      record { some_slots = lit< tt; follows = refl; purpose = (0, lit< tt, refl) },
+      (
+        record { some_slots = lit< tt; follows = refl; purpose = (1, lit< tt, refl) },
+        (
+          record {
+            some_slots = lit< tt;
+            follows = refl;
+            purpose = (refl, inr ((λ e. absurd (omega (arith, e.waits))), tt));
+          },
+          tt,
+        ),
+      ),
+    );
+    whole = refl;
+    due = ((0, lit< tt, refl), ((1, lit< tt, refl), tt));
+  },
+  refl,
+)
+
+-- its elements
+pub the_words_of_a_frame_with_two_grants_of_a_flow : map word_of double_map.wire.elements
+    ≡ 0xfffc4000 ∷ 0x00158004 ∷ 0x00158013 ∷ 0x00018022 ∷ 0x0001c028 ∷ []
+the_words_of_a_frame_with_two_grants_of_a_flow = refl

@@ -1,7 +1,6 @@
 -- The MAP of a plan is well formed: its elements are in range, ascend, and have one Null.
 use Rattle.std.proofs.Common.{◌≡◌, ℕ, zero, suc, ◌^◌, ◌<◌, ◌≤◌, Bool, true, false, nat_lt, List, [], ◌∷◌, ◌++◌, map}
 use Rattle.std.proofs.Common.{filter, length, nat_le, if◌then◌else◌, ◌==◌, refl, ◌∙◌, arith, append_assoc}
-use Rattle.std.proofs.lemmas.Bool.Decides.{nat_tests}
 use Rattle.map_codec.specs.declared.element.iuc.TheConstants.{SHORT_DATA_GRANT, LONG_DATA_GRANT}
 use Rattle.map_codec.specs.declared.element.iuc.TheConstants.{ADVANCED_SHORT_DATA_GRANT, ADVANCED_LONG_DATA_GRANT}
 use Rattle.map_codec.specs.declared.element.iuc.TheConstants.{ADVANCED_UNSOLICITED_GRANT}
@@ -18,7 +17,7 @@ use Rattle.periodic.specs.declared.placement.Spot.{Spot}
 use Rattle.map_build.specs.EachAfter.{EachAfter}
 use Rattle.map_build.specs.Plan.{Purpose, Poll, UnsolicitedGrant, DataGrant, Idle, Allocation, end_of, flows_after}
 use Rattle.map_build.specs.Plan.{Stands, StandsByItsRule}
-use Rattle.map_build.specs.UsageCodes.{short_iuc, long_iuc, data_iuc, unsolicited_iuc}
+use Rattle.map_build.specs.UsageCodes.{short_iuc, long_iuc, data_iuc}
 use Rattle.map_build.specs.FrameMap.{element_for, element_of, pending_of, request_region, null_element, elements_of}
 
 -- the offsets do not descend, from this one on

@@ -12,7 +12,7 @@ ghost use Rattle.map_build.specs.Spots.{AreInFrame, AreOfChannel, HaveFlowSids, 
 use crate::draft::Draft;
 use crate::frame_map::FrameMap;
 use flow_book::Book;
-use periodic::{MAX_PERIODIC_FLOWS, Spot, Table};
+use periodic::{MAX_PERIODIC_GRANTS, Spot, Table};
 use std::alloc::{AllocError, Global};
 
 // What stands in an array of spots before one is written.
@@ -98,7 +98,7 @@ pub fn plan_with_book(
     ensures config { IfOk result (λ both. both.1.config ≡ book.now.config) }
 {
     let start = frame * u64::from(book.config().frame());
-    let mut spots = [NO_SPOT; MAX_PERIODIC_FLOWS];
+    let mut spots = [NO_SPOT; MAX_PERIODIC_GRANTS];
     let count = table.in_frame(frame, &mut spots);
     plan_around(alloc, book, &spots[..count], start, ack)
 }

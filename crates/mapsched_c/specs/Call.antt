@@ -10,7 +10,7 @@ use Rattle.mapsched_c.specs.declared.call.flow.TheConstants.{UNSOLICITED, POLLED
 
 -- the flow of these numbers, where there is such a kind
 abbrev pub flow_of : PlainCall → Option FlowSpec
-flow_of c = if c.flow == UNSOLICITED then Some (Unsolicited c.size c.interval_us c.jitter_us)
+flow_of c = if c.flow == UNSOLICITED then Some (Unsolicited c.size c.interval_us c.jitter_us c.grants)
     else if c.flow == POLLED then Some (Polled c.interval_us c.jitter_us c.rate c.burst)
     else if c.flow == BEST_EFFORT then Some (BestEffort c.priority c.rate c.burst)
     else None
@@ -41,15 +41,17 @@ nothing_called = record {
   sid = 0;
   receiver = 0;
   priority = 0;
+  grants = 0;
 }
 
 -- the numbers of a flow
 abbrev pub plain_flow : FlowSpec → PlainCall
-plain_flow (Unsolicited size interval jitter) = record nothing_called {
+plain_flow (Unsolicited size interval jitter grants) = record nothing_called {
   flow = UNSOLICITED;
   size = size;
   interval_us = interval;
   jitter_us = jitter;
+  grants = grants;
 }
 plain_flow (Polled interval jitter rate burst) = record nothing_called {
   flow = POLLED;

@@ -51,6 +51,8 @@ pub struct PlainCall {
     pub sid: u16,
     pub receiver: u8,
     pub priority: u8,
+    /// An unsolicited flow's grants in an interval.
+    pub grants: u8,
 }
 
 // A call of which every number is 0.
@@ -67,6 +69,7 @@ const NOTHING: PlainCall = PlainCall {
     sid: 0,
     receiver: 0,
     priority: 0,
+    grants: 0,
 };
 
 impl PlainCall {
@@ -79,6 +82,7 @@ impl PlainCall {
                 size: self.size,
                 interval_us: self.interval_us,
                 jitter_us: self.jitter_us,
+                grants: self.grants,
             }),
             flow::POLLED => Some(FlowSpec::Polled {
                 interval_us: self.interval_us,
@@ -128,12 +132,14 @@ impl PlainCall {
                 size,
                 interval_us,
                 jitter_us,
+                grants,
             } => PlainCall {
                 flow: flow::UNSOLICITED,
                 sid,
                 size,
                 interval_us,
                 jitter_us,
+                grants,
                 ..NOTHING
             },
             FlowSpec::Polled {

@@ -34,8 +34,8 @@ pub mod answer {
     pub const REFUSED: u32 = 8;
 }
 
-/// The most starts of a placement: one for each frame of the longest cycle.
-pub const MAX_STARTS: usize = 64;
+/// The most starts of a placement: the most grants of one interval, in each frame of the longest cycle.
+pub const MAX_STARTS: usize = 512;
 
 /// A reply by its kind. The numbers that a kind has not are 0.
 #[repr(C)]

@@ -1,101 +1,108 @@
 -- One flow is added to those placed.
-use Rattle.std.proofs.Common.{◌≡◌, refl, subst, ℕ, ◌<◌, ◌≤◌, true, nat_lt, List, [], ◌∷◌, length, Option, Some}
-use Rattle.std.proofs.Common.{None, arith}
-use Rattle.std.specs.List.{AllByRecursion, cons_option}
+use Rattle.std.proofs.Common.{◌≡◌, ℕ, ◌+◌, ◌%◌, ◌<◌, ◌≤◌, true, nat_lt, List, [], ◌∷◌, ◌++◌, None, arith}
+use Rattle.std.specs.List.{AllByRecursion}
 use Rattle.std.proofs.lemmas.Bool.{cond_both}
-use Rattle.std.proofs.lemmas.Option.{same_Some}
+use Rattle.std.proofs.lemmas.List.Sums.{sum_by-cons}
 use Rattle.minislots.specs.declared.config.Config.{Config}
+use Rattle.minislots.specs.Config.{IsLawful}
 use Rattle.flow_book.specs.declared.spec.FlowSpec.{FlowSpec}
-use Rattle.flow_book.specs.FlowSpec.{is_periodic, first_fault, interval_frames}
-use Rattle.flow_book.proofs.Insertion.{all-put_in, length-put_in, ascends-put_in}
-use Rattle.periodic.specs.declared.TheConstants.{MAX_PERIODIC_FLOWS}
+use Rattle.flow_book.specs.FlowSpec.{is_periodic, grants_of, first_fault}
+use Rattle.flow_book.proofs.Insertion.{all-put_in, ascends-put_in}
+use Rattle.periodic.specs.declared.TheConstants.{MAX_PERIODIC_GRANTS}
 use Rattle.periodic.specs.declared.placement.Placement.{Placement}
 use Rattle.periodic.specs.declared.placement.Spot.{Spot}
-use Rattle.periodic.specs.Placement.{Placed, phase_of, nominal_places, spot_in, spots_in}
+use Rattle.periodic.specs.Placement.{Placed, offset_of, starts_in, spot_at, spots_of, spots_in, AreLawfulStarts}
 use Rattle.periodic.specs.Placement.{IsPlacement}
-use Rattle.periodic.specs.Table.{IsNotPlaced, with_placed, IsApart, AreApart, IsSoundPlaced, AreSound}
-use Rattle.periodic.proofs.EachFrame.{each-weaker}
-use Rattle.periodic.proofs.Frames.{IsStartIn, spot-lawful, spots_in-place, turned}
+use Rattle.periodic.specs.Table.{placed_grants, IsNotPlaced, with_placed, IsApart, AreApart, IsSoundPlaced, AreSound}
+use Rattle.periodic.proofs.Joined.{all-append, all-left, all-right, all-weaker, all-both, all-turned, all-map}
+use Rattle.periodic.proofs.Joined.{turned, apart-append, apart-left, apart-right, apart-between}
+use Rattle.periodic.proofs.Frames.{IsStartIn, starts-here, in-cycle, spots_of-apart, spots_in-place}
 
--- the first spot, if there is one, and the others
-pub all-cons : (P : Spot → Type 0) (o : Option Spot) (spots : List Spot) → ((s : Spot) → o ≡ Some s → P s)
-    → AllByRecursion P spots
-    → AllByRecursion P (cons_option o spots)
-all-cons P None spots here all = all
-all-cons P (Some s) spots here all = (here s refl, all)
-
--- the others
-pub all-rest : (P : Spot → Type 0) (o : Option Spot) (spots : List Spot) → AllByRecursion P (cons_option o spots)
-    → AllByRecursion P spots
-all-rest P None spots all = all
-all-rest P (Some s) spots all = all.1
-
--- the first spot
-pub all-first : (P : Spot → Type 0) (o : Option Spot) (spots : List Spot) (s : Spot) → o ≡ Some s
-    → AllByRecursion P (cons_option o spots) → P s
-all-first P None spots s is all = absurd (cc)
-all-first P (Some t) spots s is all = subst P (same_Some t s is) all.0
-
--- the first spot is apart from the others, and they from one another
-pub apart-cons : (o : Option Spot) (spots : List Spot) → ((s : Spot) → o ≡ Some s → AllByRecursion (IsApart s) spots)
-    → AreApart spots → AreApart (cons_option o spots)
-apart-cons None spots free apart = apart
-apart-cons (Some s) spots free apart = (free s refl, apart)
-
--- the others are apart
-pub apart-rest : (o : Option Spot) (spots : List Spot) → AreApart (cons_option o spots) → AreApart spots
-apart-rest None spots apart = apart
-apart-rest (Some s) spots apart = apart.1
-
--- the first is apart from the others
-pub apart-first : (o : Option Spot) (spots : List Spot) (s : Spot) → o ≡ Some s → AreApart (cons_option o spots)
-    → AllByRecursion (IsApart s) spots
-apart-first None spots s is apart = absurd (cc)
-apart-first (Some t) spots s is apart = subst (λ u. AllByRecursion (IsApart u) spots) (same_Some t s is) apart.0
+-- the grants per interval with one flow more
+pub grants-with : (f : Placed) (placed : List Placed)
+    → placed_grants (with_placed f placed) ≡ grants_of f.spec + placed_grants placed
+grants-with f [] = sum_by-cons (λ (g : Placed). grants_of g.spec) f []
+grants-with f (g ∷ placed) =
+    let own : Placed → ℕ = λ h. grants_of h.spec in
+    let first = sum_by-cons own g placed in
+    cond_both (nat_lt f.sid g.sid) (f ∷ g ∷ placed) (g ∷ with_placed f placed)
+    (λ fs. placed_grants fs ≡ grants_of f.spec + placed_grants (g ∷ placed))
+    (λ low. sum_by-cons own f (g ∷ placed))
+    (λ high. let rest = grants-with f placed in
+    let last = sum_by-cons own g (with_placed f placed) in omega (arith, first, rest, last))
 
 pub all-spots-with : (c : Config) (k : ℕ) (P : Spot → Type 0) (f : Placed) (placed : List Placed)
-    → ((s : Spot) → spot_in c k f ≡ Some s → P s) → AllByRecursion P (spots_in c k placed)
+    → AllByRecursion P (spots_of c k f) → AllByRecursion P (spots_in c k placed)
     → AllByRecursion P (spots_in c k (with_placed f placed))
-all-spots-with c k P f [] here all = all-cons P (spot_in c k f) [] here tt
+all-spots-with c k P f [] here all = all-append P (spots_of c k f) [] here tt
 all-spots-with c k P f (g ∷ placed) here all =
     cond_both (nat_lt f.sid g.sid) (f ∷ g ∷ placed) (g ∷ with_placed f placed)
     (λ fs. AllByRecursion P (spots_in c k fs))
-    (λ low. all-cons P (spot_in c k f) (spots_in c k (g ∷ placed)) here all)
-    (λ high. all-cons P (spot_in c k g) (spots_in c k (with_placed f placed))
-    (λ t is. all-first P (spot_in c k g) (spots_in c k placed) t is all)
-    (all-spots-with c k P f placed here (all-rest P (spot_in c k g) (spots_in c k placed) all)))
+    (λ low. all-append P (spots_of c k f) (spots_in c k (g ∷ placed)) here all)
+    (λ high. all-append P (spots_of c k g) (spots_in c k (with_placed f placed))
+    (all-left P (spots_of c k g) (spots_in c k placed) all)
+    (all-spots-with c k P f placed here (all-right P (spots_of c k g) (spots_in c k placed) all)))
 
-apart-with : (c : Config) (k : ℕ) (f : Placed) (placed : List Placed)
-    → ((s : Spot) → spot_in c k f ≡ Some s → AllByRecursion (IsApart s) (spots_in c k placed))
-    → AreApart (spots_in c k placed) → AreApart (spots_in c k (with_placed f placed))
-apart-with c k f [] free apart = apart-cons (spot_in c k f) [] (λ s is. tt) tt
-apart-with c k f (g ∷ placed) free apart =
+-- each of these spots is apart from all that the placed flows take of a frame
+abbrev pub AreBeside : Config → ℕ → List Placed → List Spot → Type 0
+AreBeside c k placed spots = AllByRecursion (λ s. AllByRecursion (IsApart s) (spots_in c k placed)) spots
+
+apart-with : (c : Config) (k : ℕ) (f : Placed) (placed : List Placed) → AreApart (spots_of c k f)
+    → AreBeside c k placed (spots_of c k f) → AreApart (spots_in c k placed)
+    → AreApart (spots_in c k (with_placed f placed))
+apart-with c k f [] own free apart =
+    apart-append (spots_of c k f) [] own tt free
+apart-with c k f (g ∷ placed) own free apart =
+    let mine = spots_of c k f in
+    let first = spots_of c k g in
+    let rest = spots_in c k placed in
+    let to-first : AllByRecursion (λ s. AllByRecursion (IsApart s) first) mine =
+    all-weaker (λ s. AllByRecursion (IsApart s) (first ++ rest)) (λ s. AllByRecursion (IsApart s) first)
+    (λ s all. all-left (IsApart s) first rest all) mine free in
+    let to-rest : AreBeside c k placed mine =
+    all-weaker (λ s. AllByRecursion (IsApart s) (first ++ rest)) (λ s. AllByRecursion (IsApart s) rest)
+    (λ s all. all-right (IsApart s) first rest all) mine free in
     cond_both (nat_lt f.sid g.sid) (f ∷ g ∷ placed) (g ∷ with_placed f placed) (λ fs. AreApart (spots_in c k fs))
-    (λ low. apart-cons (spot_in c k f) (spots_in c k (g ∷ placed)) free apart)
-    (λ high. apart-cons (spot_in c k g) (spots_in c k (with_placed f placed))
-    (λ t is. all-spots-with c k (IsApart t) f placed
-    (λ s found. turned s t (all-first (IsApart s) (spot_in c k g) (spots_in c k placed) t is (free s found)))
-    (apart-first (spot_in c k g) (spots_in c k placed) t is apart))
-    (apart-with c k f placed (λ s found. all-rest (IsApart s) (spot_in c k g) (spots_in c k placed) (free s found))
-    (apart-rest (spot_in c k g) (spots_in c k placed) apart)))
+    (λ low. apart-append mine (spots_in c k (g ∷ placed)) own apart free)
+    (λ high. apart-append first (spots_in c k (with_placed f placed)) (apart-left first rest apart)
+    (apart-with c k f placed own to-rest (apart-right first rest apart))
+    (all-both (λ t. AllByRecursion (IsApart t) mine) (λ t. AllByRecursion (IsApart t) rest)
+    (λ t. AllByRecursion (IsApart t) (spots_in c k (with_placed f placed)))
+    (λ t new old. all-spots-with c k (IsApart t) f placed new old) first
+    (all-turned IsApart IsApart turned mine first to-first) (apart-between first rest apart)))
 
 module _ (c : Config) (placed : List Placed) (sid : ℕ) (spec : FlowSpec) (next : ℕ) (p : Placement) where
   -- the flow with its placement
   abbrev new : Placed
   new = record { sid = sid; spec = spec; placement = p }
 
-  spot-free : (k : ℕ) → IsPlacement c placed spec next p → (s : Spot) → spot_in c k new ≡ Some s
-      → AllByRecursion (IsApart s) (spots_in c k placed)
-  spot-free k is s found =
-      let (start, same, lawful) = spot-lawful c k new (λ place. spots_in c place placed) s is.starts found in
-      rw (same, ← spots_in-place c k placed) lawful.free
+  spots-free : (k : ℕ) → IsLawful c → IsPlacement c placed spec next p → AreBeside c k placed (spots_of c k new)
+  spots-free k lawful is =
+      let place = k % c.cycle in
+      let starts = starts_in c spec p place in
+      let here = starts-here c place new (λ at. spots_in c at placed) (in-cycle c k lawful) is.starts in
+      let free : AllByRecursion (λ start. AllByRecursion (IsApart (spot_at c new start)) (spots_in c place placed))
+      starts =
+      all-weaker (IsStartIn c new (spots_in c place placed))
+      (λ start. AllByRecursion (IsApart (spot_at c new start)) (spots_in c place placed)) (λ start at. at.free) starts
+      here.each in
+      rw (← spots_in-place c k placed) (all-map (λ s. AllByRecursion (IsApart s) (spots_in c place placed))
+      (spot_at c new) starts free)
 
-  start-alone : (place start : ℕ) → IsStartIn c new (spots_in c place placed) start → IsStartIn c new [] start
-  start-alone place start lawful = record {
-    after_nominal = lawful.after_nominal;
-    within_jitter = lawful.within_jitter;
-    within_frame = lawful.within_frame;
-    free = tt;
+  starts-alone : (place : ℕ) (starts : List ℕ)
+      → AreLawfulStarts c spec (offset_of c p) (spots_in c place placed) starts
+      → AreLawfulStarts c spec (offset_of c p) [] starts
+  starts-alone place starts are = record {
+    count = are.count;
+    in_turn = are.in_turn;
+    each = all-weaker (IsStartIn c new (spots_in c place placed)) (IsStartIn c new [])
+        (λ start lawful. record {
+          after_nominal = lawful.after_nominal;
+          within_jitter = lawful.within_jitter;
+          within_frame = lawful.within_frame;
+          free = tt;
+        })
+        starts are.each;
   }
 
   pub new-sound : 0 < sid → sid ≤ 8191 → is_periodic spec ≡ true → first_fault c spec ≡ None
@@ -106,19 +113,23 @@ module _ (c : Config) (placed : List Placed) (sid : ℕ) (spec : FlowSpec) (next
     periodic = periodic;
     no_fault = none;
     after_requests = is.after_requests;
-    starts = each-weaker (λ place start. IsStartIn c new (spots_in c place placed) start)
-        (λ place start. IsStartIn c new [] start) start-alone
-        (nominal_places c (interval_frames c spec) (phase_of c spec p)) p.starts is.starts;
+    starts = record {
+      count = is.starts.count;
+      each = λ place within nominal.
+          starts-alone place (starts_in c spec p place) (is.starts.each place within nominal);
+    };
   }
 
   -- with a flow of a new SID, lawfully placed, the table is sound
-  pub sound-with : 0 < sid → sid ≤ 8191 → is_periodic spec ≡ true → first_fault c spec ≡ None
-      → length placed < MAX_PERIODIC_FLOWS → IsNotPlaced sid placed
+  pub sound-with : IsLawful c → 0 < sid → sid ≤ 8191 → is_periodic spec ≡ true → first_fault c spec ≡ None
+      → placed_grants placed + grants_of spec ≤ MAX_PERIODIC_GRANTS → IsNotPlaced sid placed
       → IsPlacement c placed spec next p → AreSound c placed
       → AreSound c (with_placed new placed)
-  sound-with some most periodic none few absent is are = record {
+  sound-with lawful some most periodic none few absent is are = record {
     ascending = ascends-put_in (λ f. f.sid) new placed absent are.ascending;
-    most = (let long = length-put_in (λ f. f.sid) new placed in omega arith);
+    most = (let sum = grants-with new placed in omega (arith, few, sum));
     each = all-put_in (λ f. f.sid) (IsSoundPlaced c) new placed (new-sound some most periodic none is) are.each;
-    apart = λ k. apart-with c k new placed (spot-free k is) (are.apart k);
+    apart = λ k. apart-with c k new placed
+        (spots_of-apart c k new (λ place. spots_in c place placed) lawful is.starts) (spots-free k lawful is)
+        (are.apart k);
   }

@@ -1,113 +1,157 @@
 -- The first lawful starts at the least phase and offset are the placement that is taken.
 use Rattle.std.proofs.Common.{◌≡◌, refl, sym, ap, ◌∙◌, subst, ℕ, ◌+◌, ◌*◌, ◌/◌, ◌%◌, ◌<◌, List, inl, inr, arith}
-use Rattle.std.proofs.lemmas.Bool.{cases_lt}
+use Rattle.std.proofs.lemmas.Bool.{cases_lt, eq-eqb}
 use Rattle.minislots.specs.declared.config.Config.{Config}
 use Rattle.minislots.specs.Config.{IsLawful}
 use Rattle.minislots.proofs.Bounds.{bounds_of}
 use Rattle.flow_book.specs.declared.spec.FlowSpec.{FlowSpec}
-use Rattle.flow_book.specs.FlowSpec.{interval_frames, jitter_slots, periodic_slots}
+use Rattle.flow_book.specs.FlowSpec.{interval_frames, jitter_slots, periodic_slots, grants_of}
 use Rattle.periodic.specs.declared.bits.Bits.{Bits}
 use Rattle.periodic.specs.declared.placement.Placement.{Placement}
 use Rattle.periodic.specs.declared.search.Wanted.{Wanted}
 use Rattle.periodic.specs.declared.search.Found.{Found}
-use Rattle.periodic.specs.Placement.{Placed, phase_of, offset_of, nominal_places, spots_in, IsLawfulStart, EachPlace}
-use Rattle.periodic.specs.Placement.{HasLawfulStarts, IsPlacement, NoPlacement}
-use Rattle.periodic.specs.Choice.{IsChosen}
+use Rattle.periodic.specs.Placement.{Placed, phase_of, offset_of, group_at, starts_in, spots_in, IsLawfulStart}
+use Rattle.periodic.specs.Placement.{FollowFrom, AreLawfulStarts, HasLawfulStarts, NoPlacement}
+use Rattle.periodic.specs.Choice.{AreNoLater, IsChosen}
 use Rattle.periodic.specs.Table.{AreSound}
 use Rattle.periodic.specs.Rows.{row_at, AreRowsOf}
-use Rattle.periodic.specs.Search.{IsWantedOf, IsStartOf, AreStarts, NoneBelow, IsFirstFound, IsReference, starts_of}
-use Rattle.periodic.proofs.EachFrame.{each-weaker}
+use Rattle.periodic.specs.Search.{CanBeSought, IsWantedOf, IsStartOf, AreStartsIn, AreStarts, NoneBelow, IsFirstFound}
+use Rattle.periodic.specs.Search.{IsReference, starts_of}
 use Rattle.periodic.proofs.Frames.{spots-within}
+use Rattle.periodic.proofs.Groups.{frame-phase, frame-index, frame-within, frame-of, index-within}
+use Rattle.periodic.proofs.Joined.{all-weaker}
 use Rattle.periodic.proofs.Occupied.{free-part, free-whole}
 
--- lawful starts by what is looked for, one number after another
-abbrev AreStartsBy : Config → List Placed → List ℕ → ℕ → ℕ → ℕ → ℕ → ℕ → Type 0
-AreStartsBy c table starts jitter slots interval phase offset =
-    EachPlace (λ place start. IsLawfulStart c jitter slots offset (spots_in c place table) start)
-    (nominal_places c interval phase) starts
+-- at a nominal frame the placement's starts are the group of its index
+pub starts-at : (c : Config) (spec : FlowSpec) (p : Placement) (place : ℕ)
+    → place % interval_frames c spec ≡ phase_of c spec p
+    → starts_in c spec p place ≡ group_at (grants_of spec) (place / interval_frames c spec) p.starts
+starts-at c spec p place nominal = rw (eq-eqb (place % interval_frames c spec) (phase_of c spec p) nominal) refl
 
--- the same lawful starts, one number after another put for its equal
-pub same-starts : (c : Config) (table : List Placed) (starts : List ℕ) (j j' s s' i i' p p' o o' : ℕ) → j ≡ j' → s ≡ s'
-    → i ≡ i'
-    → p ≡ p' → o ≡ o' → AreStartsBy c table starts j s i p o → AreStartsBy c table starts j' s' i' p' o'
-same-starts c table starts j j' s s' i i' p p' o o' ej es ei ep eo are =
-    subst (λ n. AreStartsBy c table starts n s' i' p' o') ej
-    (subst (λ n. AreStartsBy c table starts j n i' p' o') es
-    (subst (λ n. AreStartsBy c table starts j s n p' o') ei
-    (subst (λ n. AreStartsBy c table starts j s i n o') ep (subst (λ n. AreStartsBy c table starts j s i p n) eo are))))
-
-module _ (c : Config) (table : List Placed) (rows : List Bits) (lawful : IsLawful c) (sound : AreSound c table)
-    (are : AreRowsOf c table rows) (w : Wanted) (some : 0 < w.slots) where
+module _ (c : Config) (table : List Placed) (rows : List Bits) (spec : FlowSpec) (w : Wanted) (lawful : IsLawful c)
+    (sound : AreSound c table) (are : AreRowsOf c table rows) (sought : CanBeSought c w)
+    (wanted : IsWantedOf c spec w) where
   -- a lawful start beside the spots is one in the frame's row
-  start-told : (offset place start : ℕ) → IsLawfulStart c w.jitter w.slots offset (spots_in c place table) start
+  start-told : (offset place start : ℕ)
+      → IsLawfulStart c (jitter_slots c spec) (periodic_slots c spec) offset (spots_in c place table) start
       → IsStartOf c w offset (row_at c rows place) start
   start-told offset place start is = record {
     free = record {
       after = is.after_nominal;
-      within = is.within_frame;
-      clear = λ m from to. (are.each place).clear m (omega (arith, is.within_frame, (bounds_of c lawful).frame_most))
-          (free-part (spots_in c place table) start w.slots m is.free from to);
+      within = omega (arith, is.within_frame, wanted.slots);
+      clear = λ m from to. (are.each place).clear m
+          (omega (arith, to, is.within_frame, wanted.slots, (bounds_of c lawful).frame_most))
+          (free-part (spots_in c place table) start (periodic_slots c spec) m is.free from
+          (omega (arith, to, wanted.slots)));
     };
-    within_jitter = is.within_jitter;
+    within_jitter = omega (arith, is.within_jitter, wanted.jitter);
   }
 
   -- and the other way round
   start-lawful : (offset place start : ℕ) → IsStartOf c w offset (row_at c rows place) start
-      → IsLawfulStart c w.jitter w.slots offset (spots_in c place table) start
+      → IsLawfulStart c (jitter_slots c spec) (periodic_slots c spec) offset (spots_in c place table) start
   start-lawful offset place start is = record {
     after_nominal = is.free.after;
-    within_jitter = is.within_jitter;
-    within_frame = is.free.within;
-    free = free-whole c (spots_in c place table) start w.slots (spots-within c place table lawful sound.each) some
-        (λ m from to. (are.each place).free m (omega (arith, is.free.within, (bounds_of c lawful).frame_most))
-        (is.free.clear m from to));
+    within_jitter = omega (arith, is.within_jitter, wanted.jitter);
+    within_frame = omega (arith, is.free.within, wanted.slots);
+    free = free-whole c (spots_in c place table) start (periodic_slots c spec)
+        (spots-within c place table lawful sound.each) (omega (arith, sought.not_empty, wanted.slots))
+        (λ m from to. (are.each place).free m
+        (omega (arith, to, is.free.within, wanted.slots, (bounds_of c lawful).frame_most))
+        (is.free.clear m from (omega (arith, to, wanted.slots))));
   }
 
-  -- starts beside the spots are starts in the rows
-  starts-told : (starts : List ℕ) (phase offset : ℕ)
-      → AreStartsBy c table starts w.jitter w.slots w.interval phase offset → AreStarts c rows w phase offset starts
-  starts-told starts phase offset each =
-      each-weaker (λ place start. IsLawfulStart c w.jitter w.slots offset (spots_in c place table) start)
-      (λ place start. IsStartOf c w offset (row_at c rows place) start) (start-told offset)
-      (nominal_places c w.interval phase) starts each
+  -- starts beside the spots are starts in the frame's row
+  frame-told : (offset place : ℕ) (starts : List ℕ)
+      → AreLawfulStarts c spec offset (spots_in c place table) starts
+      → AreStartsIn c w offset (row_at c rows place) starts
+  frame-told offset place starts is = record {
+    count = is.count ∙ sym wanted.grants;
+    in_turn = subst (λ n. FollowFrom n offset starts) (sym wanted.slots) is.in_turn;
+    each = all-weaker
+        (IsLawfulStart c (jitter_slots c spec) (periodic_slots c spec) offset (spots_in c place table))
+        (IsStartOf c w offset (row_at c rows place)) (start-told offset place) starts is.each;
+  }
 
   -- and the other way round
-  starts-lawful : (starts : List ℕ) (phase offset : ℕ) → AreStarts c rows w phase offset starts
-      → AreStartsBy c table starts w.jitter w.slots w.interval phase offset
-  starts-lawful starts phase offset each =
-      each-weaker (λ place start. IsStartOf c w offset (row_at c rows place) start)
-      (λ place start. IsLawfulStart c w.jitter w.slots offset (spots_in c place table) start) (start-lawful offset)
-      (nominal_places c w.interval phase) starts each
+  frame-lawful : (offset place : ℕ) (starts : List ℕ) → AreStartsIn c w offset (row_at c rows place) starts
+      → AreLawfulStarts c spec offset (spots_in c place table) starts
+  frame-lawful offset place starts is = record {
+    count = is.count ∙ wanted.grants;
+    in_turn = subst (λ n. FollowFrom n offset starts) wanted.slots is.in_turn;
+    each = all-weaker (IsStartOf c w offset (row_at c rows place))
+        (IsLawfulStart c (jitter_slots c spec) (periodic_slots c spec) offset (spots_in c place table))
+        (start-lawful offset place) starts is.each;
+  }
+
+module _ (c : Config) (table : List Placed) (rows : List Bits) (spec : FlowSpec) (w : Wanted) (lawful : IsLawful c)
+    (sound : AreSound c table) (are : AreRowsOf c table rows) (sought : CanBeSought c w)
+    (wanted : IsWantedOf c spec w) (p : Placement) (phase offset : ℕ) (at : phase_of c spec p ≡ phase)
+    (from : offset_of c p ≡ offset) (lt : phase < w.interval) where
+  -- the group of an index is what the placement has in the frame of that index
+  group-is : (index : ℕ) → starts_in c spec p (phase + index * w.interval) ≡ group_at w.grants index p.starts
+  group-is index =
+      let f = interval_frames c spec in
+      let place = phase + index * w.interval in
+      let here : place % f ≡ phase_of c spec p =
+      ap (λ n. place % n) (sym wanted.interval) ∙ frame-phase w.interval phase lt index ∙ sym at in
+      let count : place / f ≡ index =
+      ap (λ n. place / n) (sym wanted.interval) ∙ frame-index w.interval phase lt index in
+      starts-at c spec p place here ∙ ap (λ n. group_at (grants_of spec) n p.starts) count
+      ∙ ap (λ n. group_at n index p.starts) (sym wanted.grants)
+
+  -- the starts of a lawful placement are lawful at its phase and offset
+  pub starts-of-lawful : HasLawfulStarts c spec p (λ place. spots_in c place table)
+      → AreStarts c rows w phase offset p.starts
+  starts-of-lawful is = record {
+    count = is.count ∙ ap (λ n. c.cycle / n * grants_of spec) (sym wanted.interval)
+        ∙ ap (λ n. c.cycle / w.interval * n) (sym wanted.grants);
+    each = λ index within.
+        let place = phase + index * w.interval in
+        let nominal : place % interval_frames c spec ≡ phase_of c spec p =
+        ap (λ n. place % n) (sym wanted.interval) ∙ frame-phase w.interval phase lt index ∙ sym at in
+        let here = is.each place (frame-within w.interval phase lt c.cycle index sought.divides within) nominal in
+        subst (AreStartsIn c w offset (row_at c rows place)) (group-is index)
+        (frame-told c table rows spec w lawful sound are sought wanted offset place (starts_in c spec p place)
+        (subst (λ o. AreLawfulStarts c spec o (spots_in c place table) (starts_in c spec p place)) from here));
+  }
+
+  -- and the other way round
+  pub lawful-of-starts : AreStarts c rows w phase offset p.starts
+      → HasLawfulStarts c spec p (λ place. spots_in c place table)
+  lawful-of-starts is = record {
+    count = is.count ∙ ap (λ n. c.cycle / n * w.grants) wanted.interval
+        ∙ ap (λ n. c.cycle / interval_frames c spec * n) wanted.grants;
+    each = λ place within nominal.
+        let index = place / w.interval in
+        let here : place % w.interval ≡ phase = ap (λ n. place % n) wanted.interval ∙ nominal ∙ at in
+        let same : place ≡ phase + index * w.interval = frame-of w.interval phase lt place here in
+        let low = index-within w.interval phase lt c.cycle place sought.divides within in
+        let lawful-there = frame-lawful c table rows spec w lawful sound are sought wanted offset
+        (phase + index * w.interval) (group_at w.grants index p.starts)
+        (is.each index low) in
+        let with-starts = subst (AreLawfulStarts c spec offset (spots_in c (phase + index * w.interval) table))
+        (sym (group-is index)) lawful-there in
+        let there = subst (λ k. AreLawfulStarts c spec offset (spots_in c k table) (starts_in c spec p k)) (sym same)
+        with-starts in
+        subst (λ o. AreLawfulStarts c spec o (spots_in c place table) (starts_in c spec p place)) (sym from) there;
+  }
 
 module _ (c : Config) (table : List Placed) (rows : List Bits) (spec : FlowSpec) (next : ℕ) (w : Wanted)
-    (lawful : IsLawful c) (sound : AreSound c table) (are : AreRowsOf c table rows) (some : 0 < w.slots)
+    (lawful : IsLawful c) (sound : AreSound c table) (are : AreRowsOf c table rows) (sought : CanBeSought c w)
     (wanted : IsWantedOf c spec w) where
-  -- the starts of a lawful placement are lawful at its phase and offset
-  pub starts-of-lawful : (p : Placement) (phase offset : ℕ) → phase_of c spec p ≡ phase → offset_of c p ≡ offset
-      → IsPlacement c table spec next p → AreStarts c rows w phase offset p.starts
-  starts-of-lawful p phase offset at from is =
-      starts-told c table rows lawful sound are w some p.starts phase offset
-      (same-starts c table p.starts (jitter_slots c spec) w.jitter (periodic_slots c spec) w.slots
-      (interval_frames c spec) w.interval
-      (phase_of c spec p) phase (offset_of c p) offset
-      (sym wanted.jitter) (sym wanted.slots) (sym wanted.interval) at from is.starts)
-
-  -- and the other way round
-  pub lawful-of-starts : (p : Placement) (phase offset : ℕ) → phase_of c spec p ≡ phase → offset_of c p ≡ offset
-      → AreStarts c rows w phase offset p.starts → HasLawfulStarts c spec p (λ place. spots_in c place table)
-  lawful-of-starts p phase offset at from each =
-      same-starts c table p.starts w.jitter (jitter_slots c spec) w.slots (periodic_slots c spec)
-      w.interval (interval_frames c spec) phase (phase_of c spec p) offset (offset_of c p)
-      wanted.jitter wanted.slots wanted.interval (sym at) (sym from)
-      (starts-lawful c table rows lawful sound are w some p.starts phase offset each)
+  phase-within : (p : Placement) → phase_of c spec p < w.interval
+  phase-within p =
+      let some = sought.interval_positive in omega (arith, wanted.interval, some)
 
   -- where no phase has lawful starts no placement is lawful
-  pub none-lawful : 0 < w.interval → 0 < c.frame
-      → ((phase : ℕ) → phase < w.interval → NoneBelow c rows w phase c.frame)
+  pub none-lawful : 0 < c.frame → ((phase : ℕ) → phase < w.interval → NoneBelow c rows w phase c.frame)
       → NoPlacement c table spec next
-  none-lawful turns frame none p is =
-      none (phase_of c spec p) (omega (arith, wanted.interval)) (offset_of c p) is.after_requests (omega arith) p.starts
-      (starts-of-lawful p (phase_of c spec p) (offset_of c p) refl refl is)
+  none-lawful frame none p is =
+      none (phase_of c spec p) (phase-within p) (offset_of c p) is.after_requests (omega arith) p.starts
+      (starts-of-lawful c table rows spec w lawful sound are sought wanted p (phase_of c spec p) (offset_of c p)
+      refl refl
+      (phase-within p) is.starts)
 
   -- what is found first is chosen
   pub found-chosen : (f : Found) (reference : ℕ) → 0 < c.frame → IsFirstFound c rows w f
@@ -124,26 +168,36 @@ module _ (c : Config) (table : List Placed) (rows : List Bits) (spec : FlowSpec)
               (let first : reference < next + interval_frames c spec * c.frame =
               subst (λ n. reference < next + n * c.frame) wanted.interval is.first in first);
           after_requests = (let after = found.at_phase.after_requests in omega arith);
-          starts =
-              same-starts c table (starts_of f.row) w.jitter (jitter_slots c spec) w.slots
-              (periodic_slots c spec) w.interval
-              (interval_frames c spec) f.phase (phase_of c spec p) f.offset (offset_of c p)
-              wanted.jitter wanted.slots wanted.interval (sym phase) (sym offset)
-              (starts-lawful c table rows lawful sound are w some (starts_of f.row) f.phase f.offset
-              found.at_phase.starts.lawful);
+          starts = lawful-of-starts c table rows spec w lawful sound are sought wanted p f.phase f.offset phase offset
+              found.phase_within found.at_phase.starts.lawful;
         };
         least_phase = λ other may. elim (cases_lt (phase_of c spec other) f.phase) [
           | inl lower ↦ absurd (found.before (phase_of c spec other) lower (offset_of c other) may.after_requests
-              (omega arith)
-              other.starts (starts-of-lawful other (phase_of c spec other) (offset_of c other) refl refl may))
+              (omega arith) other.starts
+              (starts-of-lawful c table rows spec w lawful sound are sought wanted other (phase_of c spec other)
+              (offset_of c other) refl refl (phase-within other) may.starts))
           | inr higher ↦ omega arith
         ];
         least_offset = λ other may same. elim (cases_lt (offset_of c other) f.offset) [
           | inl lower ↦ absurd (found.at_phase.before (offset_of c other) may.after_requests lower other.starts
-              (starts-of-lawful other f.phase (offset_of c other) (same ∙ phase) refl may))
+              (starts-of-lawful c table rows spec w lawful sound are sought wanted other f.phase (offset_of c other)
+              (same ∙ phase) refl found.phase_within may.starts))
           | inr higher ↦ omega arith
         ];
-        least_starts =
-            λ other may same even. found.at_phase.starts.least other.starts
-            (starts-of-lawful other f.phase f.offset (same ∙ phase) (even ∙ offset) may);
+        least_starts = λ other may same even place within nominal.
+            let index = place / w.interval in
+            let low = index-within w.interval f.phase found.phase_within c.cycle place sought.divides within in
+            let turn : place / interval_frames c spec ≡ index = ap (λ n. place / n) (sym wanted.interval) in
+            let mine : starts_in c spec p place ≡ group_at w.grants index p.starts =
+            starts-at c spec p place nominal ∙ ap (λ n. group_at (grants_of spec) n p.starts) turn
+            ∙ ap (λ n. group_at n index p.starts) (sym wanted.grants) in
+            let theirs : starts_in c spec other place ≡ group_at w.grants index other.starts =
+            starts-at c spec other place (nominal ∙ sym same)
+            ∙ ap (λ n. group_at (grants_of spec) n other.starts) turn
+            ∙ ap (λ n. group_at n index other.starts) (sym wanted.grants) in
+            let least = found.at_phase.starts.least other.starts
+            (starts-of-lawful c table rows spec w lawful sound are sought wanted other f.phase f.offset
+            (same ∙ phase) (even ∙ offset) found.phase_within may.starts) index low in
+            subst (λ ss. AreNoLater ss (starts_in c spec other place)) (sym mine)
+            (subst (AreNoLater (group_at w.grants index p.starts)) (sym theirs) least);
       }

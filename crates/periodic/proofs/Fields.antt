@@ -1,25 +1,31 @@
 -- The fields of placed flows, one after another.
-use Rattle.std.proofs.Common.{◌≡◌, ◌∙◌, ap, sym, ℕ, ◌+◌, ◌<◌, List, [], ◌∷◌, ◌++◌, length, get_or, set, take, map}
-use Rattle.std.proofs.Common.{Some, None}
-use Rattle.std.specs.List.{AllByRecursion, cons_option}
-use Rattle.std.proofs.lemmas.List.{take_more_set, append-nil, length-map}
-use Rattle.std.proofs.lemmas.List.Elements.{All-from_recursion, filter_map-append}
+use Rattle.std.proofs.Common.{◌≡◌, ◌∙◌, ap, sym, ℕ, ◌+◌, ◌<◌, ◌≤◌, List, [], ◌∷◌, ◌++◌, length, get_or, take, drop}
+use Rattle.std.proofs.Common.{map, set, ◌-◌, append_assoc, arith}
+use Rattle.std.specs.List.{AllByRecursion}
+use Rattle.std.proofs.lemmas.Grind.{flat_map-append}
+use Rattle.std.proofs.lemmas.List.{append-nil, length-append, length-map, map-append, take-append-drop, take_more}
+use Rattle.std.proofs.lemmas.List.{take_more_set, drop-drop}
+use Rattle.std.proofs.Math.Nat.{mod-eq_of_lt}
+use Rattle.std.proofs.lemmas.List.Elements.{All-from_recursion}
 use Rattle.minislots.specs.declared.config.Config.{Config}
-use Rattle.flow_book.proofs.Steps.{all-item}
+use Rattle.minislots.specs.Config.{IsLawful}
+use Rattle.flow_book.proofs.Steps.{all-item, taken-item}
+use Rattle.periodic.specs.declared.TheConstants.{MAX_PERIODIC_GRANTS}
 use Rattle.periodic.specs.declared.bits.Bits.{Bits}
-use Rattle.periodic.specs.declared.placement.Spot.{Spot}
 use Rattle.periodic.specs.declared.spots.PlacedFlow.{PlacedFlow}
-use Rattle.periodic.specs.Placement.{Placed, spot_in, spots_in}
+use Rattle.periodic.specs.Placement.{Placed, starts_in, spot_at, spots_of, spots_in}
 use Rattle.periodic.specs.Table.{IsSoundPlaced}
 use Rattle.periodic.specs.Fields.{placed_of, KeepsTimes, IsSoundFlow, AreSoundFlows, AreSoundFields}
+use Rattle.periodic.proofs.Frames.{spots-few}
 
 -- the flows of a sound table are sound
-pub sound-flows : (c : Config) (flows : List PlacedFlow) (rows : List Bits) → AreSoundFields c flows rows
+pub sound-flows : (c : Config) (flows : List PlacedFlow) (rows : List Bits) (grants : ℕ)
+    → AreSoundFields c flows rows grants
     → AreSoundFlows c flows
-sound-flows c flows rows are = record {
+sound-flows c flows rows grants are = record {
   each = are.sound.each;
   times = are.times;
-  most = rw length-map at are.sound.most;
+  most = are.sound.most;
 }
 
 -- one of them is
@@ -31,18 +37,64 @@ sound-flow c flows i f within is each times = record {
   times = rw is (All-from_recursion (KeepsTimes c) flows times i f within);
 }
 
--- one more spot is written
-pub spots-more : (c : Config) (place : ℕ) (placed : List Placed) (f : Placed) (spots : List Spot) (count : ℕ) (s : Spot)
-    → count < length spots → take count spots ≡ spots_in c place placed → spot_in c place f ≡ Some s
-    → take (count + 1) (set spots count s) ≡ spots_in c place (placed ++ f ∷ [])
-spots-more c place placed f spots count s lt before is =
-    take_more_set spots count s lt ∙ ap (λ ss. ss ++ s ∷ []) before
-    ∙ sym (filter_map-append (spot_in c place) placed (f ∷ [])
-    ∙ ap (λ o. spots_in c place placed ++ cons_option o []) is)
+-- the spots of one flow more are written behind those before it
+pub spots-more : (c : Config) (k : ℕ) (placed : List Placed) (f : Placed)
+    → spots_in c k (placed ++ f ∷ []) ≡ spots_in c k placed ++ spots_of c k f
+spots-more c k placed f =
+    flat_map-append (spots_of c k) placed (f ∷ []) ∙ ap (λ ss. spots_in c k placed ++ ss) (append-nil (spots_of c k f))
 
--- a flow without a spot there adds none
-pub spots-same : (c : Config) (place : ℕ) (placed : List Placed) (f : Placed) → spot_in c place f ≡ None
-    → spots_in c place (placed ++ f ∷ []) ≡ spots_in c place placed
-spots-same c place placed f is =
-    filter_map-append (spot_in c place) placed (f ∷ []) ∙ ap (λ o. spots_in c place placed ++ cons_option o []) is
-    ∙ append-nil (spots_in c place placed)
+-- the spots of the first flows are no more than those of all
+front-few : (c : Config) (k : ℕ) (flows : List PlacedFlow) (n : ℕ)
+    → length (spots_in c k (map placed_of (take n flows))) ≤ length (spots_in c k (map placed_of flows))
+front-few c k flows n =
+    let front = map placed_of (take n flows) in
+    let back = map placed_of (drop n flows) in
+    let parts : map placed_of flows ≡ front ++ back =
+    sym (ap (map placed_of) (take-append-drop n flows)) ∙ map-append placed_of (take n flows) (drop n flows) in
+    let whole : spots_in c k (map placed_of flows) ≡ spots_in c k front ++ spots_in c k back =
+    ap (spots_in c k) parts ∙ flat_map-append (spots_of c k) front back in
+    let long = length-append (spots_in c k front) (spots_in c k back) in
+    omega (arith, ap length whole, long)
+
+-- there is room for them
+pub spots-room : (c : Config) (k : ℕ) (flows : List PlacedFlow) (i : ℕ) (f : PlacedFlow) → i < length flows
+    → f ≡ get_or flows i f → AreSoundFlows c flows → IsLawful c
+    → length (spots_in c k (map placed_of (take i flows))) + length (spots_of c k (placed_of f)) ≤ MAX_PERIODIC_GRANTS
+spots-room c k flows i f within is are lawful =
+    let taken = taken-item placed_of flows i f within is in
+    let few = spots-few c k (map placed_of flows) lawful are.each in
+    let front = front-few c k flows (i + 1) in
+    let more = ap length (spots-more c k (map placed_of (take i flows)) (placed_of f)) in
+    let both = length-append (spots_in c k (map placed_of (take i flows))) (spots_of c k (placed_of f)) in
+    let same = ap (λ gs. length (spots_in c k gs)) taken in
+    omega (arith, few, front, more, both, same, are.most)
+
+-- one spot more is written behind those before it
+pub put-more : {X : Type 0} (h : ℕ → X) (starts : List ℕ) (i : ℕ) (front spots : List X) (next : ℕ) (s : X)
+    → i < length starts → next < length spots → take next spots ≡ front ++ map h (take i starts)
+    → s ≡ h (get_or starts i 0) → take (next + 1) (set spots next s) ≡ front ++ map h (take (i + 1) starts)
+put-more h starts i front spots next s lt room before is =
+    let one : map h (take (i + 1) starts) ≡ map h (take i starts) ++ s ∷ [] =
+    ap (map h) (take_more starts i 0 lt) ∙ map-append h (take i starts) (get_or starts i 0 ∷ [])
+    ∙ ap (λ x. map h (take i starts) ++ x ∷ []) (sym is) in
+    take_more_set spots next s room ∙ ap (λ xs. xs ++ s ∷ []) before
+    ∙ append_assoc front (map h (take i starts)) (s ∷ []) ∙ ap (λ xs. front ++ xs) (sym one)
+
+-- what is the same from a place on is the same from later ones on
+pub drop-later : {X : Type 0} (xs ys : List X) (n m : ℕ) → n ≤ m → drop n xs ≡ drop n ys → drop m xs ≡ drop m ys
+drop-later xs ys n m le same =
+    let later : n + (m - n) ≡ m = omega arith in
+    ap (λ k. drop k xs) (sym later) ∙ sym (drop-drop (m - n) n xs) ∙ ap (drop (m - n)) same ∙ drop-drop (m - n) n ys
+    ∙ ap (λ k. drop k ys) later
+
+-- what a flow takes of a frame of the cycle is one spot for each start there
+pub spots-here : (c : Config) (place : ℕ) (f : Placed) → place < c.cycle
+    → spots_of c place f ≡ map (spot_at c f) (starts_in c f.spec f.placement place)
+spots-here c place f within =
+    ap (λ n. map (spot_at c f) (starts_in c f.spec f.placement n)) (mod-eq_of_lt within)
+
+-- as many as starts
+pub count-here : (c : Config) (place : ℕ) (f : Placed) → place < c.cycle
+    → length (spots_of c place f) ≡ length (starts_in c f.spec f.placement place)
+count-here c place f within =
+    ap length (spots-here c place f within) ∙ length-map (starts_in c f.spec f.placement place) (spot_at c f)

@@ -1,191 +1,122 @@
 -- The spots of a frame: within it, and apart from one another.
-use Rattle.std.proofs.Common.{◌≡◌, ◌≢◌, refl, sym, ap, ◌∙◌, ℕ, zero, suc, ◌+◌, ◌%◌, ◌<◌, ◌≤◌, ◌==◌, List, [], ◌∷◌}
-use Rattle.std.proofs.Common.{length, get_or, filter_map, Option, Some, None, option_map, subst, inl, inr, arith}
-use Rattle.std.specs.List.{AllByRecursion, cons_option, swap}
-use Rattle.std.specs.List.Sorted.{IsPermutation, IsNonDecreasingBy}
-use Rattle.std.proofs.lemmas.Bool.{cond_both, cases_eq, eqb-true}
-use Rattle.std.proofs.lemmas.List.Edits.{Swapped, swapped_from_swap, length-swap}
-use Rattle.std.proofs.lemmas.List.Elements.{All-from_recursion, recursion_from_All}
-use Rattle.std.proofs.lemmas.List.Sorted.{IsPermutation-keeps, All-permutation}
-use Rattle.std.proofs.lemmas.Option.{same_Some}
+use Rattle.std.proofs.Common.{◌≡◌, ap, ℕ, ◌+◌, ◌%◌, ◌<◌, ◌≤◌, List, [], ◌∷◌}
+use Rattle.std.proofs.Common.{length, map, inl, inr, arith}
+use Rattle.std.specs.List.{AllByRecursion, flat_map}
+use Rattle.std.proofs.lemmas.Bool.{cases_eq, ne_eqb}
+use Rattle.std.proofs.lemmas.List.{length-append, length-map}
+use Rattle.std.proofs.lemmas.List.Sums.{sum_by-cons}
 use Rattle.std.proofs.Math.Nat.{mod-mod}
 use Rattle.minislots.specs.declared.config.Config.{Config}
 use Rattle.minislots.specs.Config.{IsLawful}
-use Rattle.flow_book.specs.FlowSpec.{interval_frames, jitter_slots, periodic_slots}
+use Rattle.minislots.proofs.Bounds.{bounds_of}
+use Rattle.flow_book.specs.FlowSpec.{interval_frames, jitter_slots, periodic_slots, grants_of}
 use Rattle.periodic.specs.declared.placement.Spot.{Spot}
-use Rattle.periodic.specs.Placement.{Placed, phase_of, offset_of, nominal_places, start_at, spot_at, spot_in, spots_in}
-use Rattle.periodic.specs.Placement.{IsLawfulStart, EachPlace, HasLawfulStarts}
-use Rattle.periodic.specs.Table.{IsSoundPlaced, IsWithinFrame, IsApart, AreApart, FollowInTurn, AreSound}
+use Rattle.periodic.specs.Placement.{Placed, phase_of, offset_of, starts_in, spot_at, spots_of, spots_in}
+use Rattle.periodic.specs.Placement.{IsLawfulStart, FollowFrom, HasLawfulStarts}
+use Rattle.periodic.specs.Table.{placed_grants, IsSoundPlaced, IsWithinFrame, IsApart, AreApart}
 use Rattle.periodic.proofs.Parameters.{places_of}
-
--- what holds of each place with its start holds of a start that is found
-pub each-at : (P : ℕ → ℕ → Type 0) (place s : ℕ) (places starts : List ℕ) → EachPlace P places starts
-    → start_at place places starts ≡ Some s → P place s
-each-at P place s [] starts each found = absurd (cc)
-each-at P place s (p ∷ places) [] each found = absurd each
-each-at P place s (p ∷ places) (start ∷ starts) each found =
-    cond_both (p == place) (Some start) (start_at place places starts) (λ o. o ≡ Some s → P place s)
-    (λ same here. subst (λ q. P q s) (eqb-true p place same) (subst (P p) (same_Some start s here) each.0))
-    (λ differ there. each-at P place s places starts each.1 there) found
-
-spot-found : (c : Config) (f : Placed) (o : Option ℕ) (s : Spot) → option_map (spot_at c f) o ≡ Some s
-    → (start : ℕ) × (o ≡ Some start) × (s ≡ spot_at c f start)
-spot-found c f None s found = absurd (cc)
-spot-found c f (Some start) s found = (start, refl, same_Some _ _ (sym found))
+use Rattle.periodic.proofs.Joined.{all-append, all-weaker, all-map}
 
 -- the start is lawful in a frame with these spots
 abbrev pub IsStartIn : Config → Placed → List Spot → ℕ → Type 0
 IsStartIn c f spots start =
     IsLawfulStart c (jitter_slots c f.spec) (periodic_slots c f.spec) (offset_of c f.placement) spots start
 
--- the spot of a flow with lawful starts stands at one of them
-pub spot-lawful : (c : Config) (k : ℕ) (f : Placed) (spots : ℕ → List Spot) (s : Spot)
-    → HasLawfulStarts c f.spec f.placement spots → spot_in c k f ≡ Some s
-    → (start : ℕ) × (s ≡ spot_at c f start) × IsStartIn c f (spots (k % c.cycle)) start
-spot-lawful c k f spots s starts found =
-    let places = nominal_places c (interval_frames c f.spec) (phase_of c f.spec f.placement) in
-    let (start, at, is) = spot-found c f (start_at (k % c.cycle) places f.placement.starts) s found in
-    (start, is, each-at (λ place. IsStartIn c f (spots place)) (k % c.cycle) start places f.placement.starts starts at)
+-- What a flow takes of a frame: lawful starts, one after the other
+pub record AreStartsHere (c : Config) (f : Placed) (spots : List Spot) (starts : List ℕ) : Type 0 where
+  pub each : AllByRecursion (IsStartIn c f spots) starts
+  pub in_turn : FollowFrom (periodic_slots c f.spec) (offset_of c f.placement) starts
+  pub most : length starts ≤ grants_of f.spec
 
--- a spot of a sound flow is within the frame
-pub spot-within : (c : Config) (k : ℕ) (f : Placed) (s : Spot) → IsLawful c → IsSoundPlaced c f → spot_in c k f ≡ Some s
-    → IsWithinFrame c s
-spot-within c k f s lawful sound found =
-    let (start, is, start-lawful) = spot-lawful c k f (λ place. []) s sound.starts found in
+-- the starts of a flow with lawful ones are so in each frame
+pub starts-here : (c : Config) (place : ℕ) (f : Placed) (spots : ℕ → List Spot) → place < c.cycle
+    → HasLawfulStarts c f.spec f.placement spots
+    → AreStartsHere c f (spots place) (starts_in c f.spec f.placement place)
+starts-here c place f spots within starts =
+    elim (cases_eq (place % interval_frames c f.spec) (phase_of c f.spec f.placement)) [
+      | inl nominal ↦ (
+          let here = starts.each place within nominal in
+          record { each = here.each; in_turn = here.in_turn; most = omega (arith, here.count) })
+      | inr differ ↦ rw (ne_eqb (place % interval_frames c f.spec) (phase_of c f.spec f.placement) differ)
+          (record { each = tt; in_turn = tt; most = omega arith })
+    ]
+
+-- the spot at a lawful start of a sound flow is within the frame
+spot-within : (c : Config) (f : Placed) → IsLawful c → IsSoundPlaced c f → (start : ℕ) → IsStartIn c f [] start
+    → IsWithinFrame c (spot_at c f start)
+spot-within c f lawful sound start is =
     let places = places_of c f.spec lawful sound.periodic sound.no_fault in
-    rw is (record {
+    record {
       sid_positive = sound.sid_positive;
       sid_most = sound.sid_most;
-      after_requests = omega (arith, sound.after_requests, start-lawful.after_nominal);
+      after_requests = omega (arith, sound.after_requests, is.after_nominal);
       not_empty = places.not_empty;
-      within_frame = start-lawful.within_frame;
-    })
+      within_frame = is.within_frame;
+    }
 
-cons-within : (c : Config) (k : ℕ) (f : Placed) (o : Option Spot) (rest : List Spot) → IsLawful c → IsSoundPlaced c f
-    → spot_in c k f ≡ o → AllByRecursion (IsWithinFrame c) rest → AllByRecursion (IsWithinFrame c) (cons_option o rest)
-cons-within c k f None rest lawful sound is all = all
-cons-within c k f (Some s) rest lawful sound is all = (spot-within c k f s lawful sound is, all)
+-- the place of a frame is one of the cycle's
+pub in-cycle : (c : Config) (k : ℕ) → IsLawful c → k % c.cycle < c.cycle
+in-cycle c k lawful = let some : 0 < c.cycle = omega (arith, (bounds_of c lawful).cycle_positive) in omega arith
+
+-- what a sound flow takes of a frame is within it
+pub spots_of-within : (c : Config) (k : ℕ) (f : Placed) → IsLawful c → IsSoundPlaced c f
+    → AllByRecursion (IsWithinFrame c) (spots_of c k f)
+spots_of-within c k f lawful sound =
+    let starts = starts_in c f.spec f.placement (k % c.cycle) in
+    let here = starts-here c (k % c.cycle) f (λ place. []) (in-cycle c k lawful) sound.starts in
+    all-map (IsWithinFrame c) (spot_at c f) starts
+    (all-weaker (IsStartIn c f []) (λ start. IsWithinFrame c (spot_at c f start)) (spot-within c f lawful sound) starts
+    here.each)
 
 -- the spots of sound flows are within the frame
 pub spots-within : (c : Config) (k : ℕ) (placed : List Placed) → IsLawful c → AllByRecursion (IsSoundPlaced c) placed
     → AllByRecursion (IsWithinFrame c) (spots_in c k placed)
 spots-within c k [] lawful sound = tt
 spots-within c k (f ∷ placed) lawful sound =
-    cons-within c k f (spot_in c k f) (spots_in c k placed) lawful sound.0 refl (spots-within c k placed lawful sound.1)
+    all-append (IsWithinFrame c) (spots_of c k f) (spots_in c k placed) (spots_of-within c k f lawful sound.0)
+    (spots-within c k placed lawful sound.1)
 
--- what the placed flows take of the frames at this place of the cycle
-abbrev spots_at : Config → List Placed → ℕ → List Spot
-spots_at c placed place = filter_map
-    (λ f. option_map (spot_at c f)
-    (start_at place (nominal_places c (interval_frames c f.spec) (phase_of c f.spec f.placement))
-    f.placement.starts))
-    placed
+after-all : (slots from before : ℕ) (starts : List ℕ) → before ≤ from → FollowFrom slots from starts
+    → AllByRecursion (λ start. before ≤ start) starts
+after-all slots from before [] le turn = tt
+after-all slots from before (s ∷ starts) le turn =
+    (omega (arith, turn.0), after-all slots (s + slots) before starts (omega (arith, turn.0)) turn.1)
 
--- in a frame a flow has the spot of the frame's place in the cycle
-pub spot_in-place : (c : Config) (k : ℕ) (f : Placed) → spot_in c (k % c.cycle) f ≡ spot_in c k f
-spot_in-place c k f =
-    ap (λ n. option_map (spot_at c f)
-    (start_at n (nominal_places c (interval_frames c f.spec) (phase_of c f.spec f.placement)) f.placement.starts))
-    (mod-mod k c.cycle)
+follow-apart : (c : Config) (f : Placed) (from : ℕ) (starts : List ℕ)
+    → FollowFrom (periodic_slots c f.spec) from starts → AreApart (map (spot_at c f) starts)
+follow-apart c f from [] turn = tt
+follow-apart c f from (s ∷ starts) turn =
+    let end = s + periodic_slots c f.spec in (
+      all-map (IsApart (spot_at c f s)) (spot_at c f) starts
+          (all-weaker (λ t. end ≤ t) (λ t. IsApart (spot_at c f s) (spot_at c f t)) (λ t le. inl le) starts
+          (after-all (periodic_slots c f.spec) end end starts (omega arith) turn.1)),
+      follow-apart c f end starts turn.1,
+    )
+
+-- the spots of a flow with lawful starts are apart
+pub spots_of-apart : (c : Config) (k : ℕ) (f : Placed) (spots : ℕ → List Spot) → IsLawful c
+    → HasLawfulStarts c f.spec f.placement spots → AreApart (spots_of c k f)
+spots_of-apart c k f spots lawful starts =
+    follow-apart c f (offset_of c f.placement) (starts_in c f.spec f.placement (k % c.cycle))
+    (starts-here c (k % c.cycle) f spots (in-cycle c k lawful) starts).in_turn
+
+-- in a frame a flow has the spots of the frame's place in the cycle
+pub spots_of-place : (c : Config) (k : ℕ) (f : Placed) → spots_of c (k % c.cycle) f ≡ spots_of c k f
+spots_of-place c k f = ap (λ n. map (spot_at c f) (starts_in c f.spec f.placement n)) (mod-mod k c.cycle)
 
 -- a frame has the spots of its place in the cycle
 pub spots_in-place : (c : Config) (k : ℕ) (placed : List Placed) → spots_in c (k % c.cycle) placed ≡ spots_in c k placed
-spots_in-place c k placed = ap (spots_at c placed) (mod-mod k c.cycle)
+spots_in-place c k placed =
+    ap (λ n. flat_map (λ (f : Placed). map (spot_at c f) (starts_in c f.spec f.placement n)) placed) (mod-mod k c.cycle)
 
--- any two of the first n are apart
-abbrev AreApartAt : ℕ → (ℕ → Spot) → Type 0
-AreApartAt n f = (i j : ℕ) → i < n → j < n → i ≢ j → IsApart (f i) (f j)
-
--- apart either way round
-pub turned : (s t : Spot) → IsApart s t → IsApart t s
-turned s t (inl before) = inr before
-turned s t (inr after) = inl after
-
-apart-at : (d : Spot) (spots : List Spot) → AreApart spots → AreApartAt (length spots) (λ i. get_or spots i d)
-apart-at d [] apart i j lt lt' differ = absurd (omega arith)
-apart-at d (s ∷ spots) apart zero zero lt lt' differ = absurd (differ refl)
-apart-at d (s ∷ spots) apart zero (suc j) lt lt' differ = All-from_recursion (IsApart s) spots apart.0 j d (omega arith)
-apart-at d (s ∷ spots) apart (suc i) zero lt lt' differ =
-    turned s (get_or spots i d) (All-from_recursion (IsApart s) spots apart.0 i d (omega arith))
-apart-at d (s ∷ spots) apart (suc i) (suc j) lt lt' differ =
-    apart-at d spots apart.1 i j (omega arith) (omega arith) (λ e. differ (ap suc e))
-
-swapped-apart : (n a b : ℕ) (f g : ℕ → Spot) → a < n → b < n → Swapped f g a b → AreApartAt n f → AreApartAt n g
-swapped-apart n a b f g at bt swapped apart i j it jt differ = elim (cases_eq i a) [
-  | inl ia ↦ elim (cases_eq j b) [
-    | inl jb ↦ rw (ia, jb, swapped.0, swapped.1) (apart b a bt at (λ e. differ (ia ∙ sym e ∙ sym jb)))
-    | inr jnb ↦ rw (ia, swapped.0, swapped.2 j (λ e. differ (ia ∙ sym e)) jnb) (apart b j bt jt (λ e. jnb (sym e)))
-  ]
-  | inr ina ↦ elim (cases_eq i b) [
-    | inl ib ↦ elim (cases_eq j a) [
-      | inl ja ↦ rw (ib, ja, swapped.0, swapped.1) (apart a b at bt (λ e. differ (ib ∙ sym e ∙ sym ja)))
-      | inr jna ↦ rw (ib, swapped.1, swapped.2 j jna (λ e. differ (ib ∙ sym e))) (apart a j at jt (λ e. jna (sym e)))
-    ]
-    | inr inb ↦ elim (cases_eq j a) [
-      | inl ja ↦ rw (ja, swapped.0, swapped.2 i ina inb) (apart i b it bt inb)
-      | inr jna ↦ elim (cases_eq j b) [
-        | inl jb ↦ rw (jb, swapped.1, swapped.2 i ina inb) (apart i a it at ina)
-        | inr jnb ↦ rw (swapped.2 i ina inb, swapped.2 j jna jnb) (apart i j it jt differ)
-      ]
-    ]
-  ]
-]
-
--- in another order they are apart too
-apart-permuted : (d : Spot) (xs ys : List Spot) → IsPermutation xs ys → AreApart xs
-    → AreApartAt (length ys) (λ i. get_or ys i d)
-apart-permuted d xs ys moved apart =
-    IsPermutation-keeps xs (λ l. AreApartAt (length l) (λ i. get_or l i d)) (apart-at d xs apart)
-    (λ l i j it jt before. rw (length-swap l i j)
-    (swapped-apart (length l) i j (λ k. get_or l k d) (λ k. get_or (swap l i j) k d) it jt
-    (swapped_from_swap l (swap l i j) i j d it jt refl) before))
-    ys moved
-
-in-turn : (spots : List Spot)
-    → ((i j : ℕ) (d : Spot) → i < j → j < length spots
-    → (get_or spots i d).offset + (get_or spots i d).slots ≤ (get_or spots j d).offset) → FollowInTurn spots
-in-turn [] ends = tt
-in-turn (s ∷ spots) ends = (
-  recursion_from_All (λ t. s.offset + s.slots ≤ t.offset) spots
-      (λ k d lt. ends 0 (suc k) d (omega arith) (omega arith)),
-  in-turn
-      spots (λ i j d lt lt'. ends (suc i) (suc j) d (omega arith) (omega arith)),
-)
-
--- spots apart from one another, none empty, by ascending offsets
-pub sorted-in-turn : (c : Config) (xs ys : List Spot) → IsPermutation xs ys → AreApart xs
-    → AllByRecursion (IsWithinFrame c) ys
-    → IsNonDecreasingBy (λ s. s.offset) ys → FollowInTurn ys
-sorted-in-turn c xs ys moved apart within up =
-    in-turn ys (λ i j d lt lt'.
-    let all = All-from_recursion (IsWithinFrame c) ys within j d lt' in
-    elim (apart-permuted d xs ys moved apart i j (omega arith) lt' (λ e. absurd (omega arith))) [
-      | inl before ↦ before
-      | inr after ↦ absurd (omega (arith, up i j d (omega arith) lt', all.not_empty))
-    ])
-
--- in another order they are within the frame too
-pub within-permuted : (c : Config) (xs ys : List Spot) → IsPermutation xs ys → AllByRecursion (IsWithinFrame c) xs
-    → AllByRecursion (IsWithinFrame c) ys
-within-permuted c xs ys moved within =
-    recursion_from_All (IsWithinFrame c) ys
-    (All-permutation (IsWithinFrame c) xs ys moved (All-from_recursion (IsWithinFrame c) xs within))
-
--- The spots of frame k, one after the other
-pub record IsFrameOf (c : Config) (k : ℕ) (placed : List Placed) (spots : List Spot) : Type 0 where
-  pub permuted : IsPermutation (spots_in c k placed) spots
-  pub in_turn : FollowInTurn spots
-  pub within : AllByRecursion (IsWithinFrame c) spots
-
--- what the flows take of it, sorted, is the frame
-pub frame-sorted : (c : Config) (k : ℕ) (placed : List Placed) (xs ys : List Spot) → IsLawful c → AreSound c placed
-    → xs ≡ spots_in c k placed → IsPermutation xs ys → IsNonDecreasingBy (λ s. s.offset) ys
-    → IsFrameOf c k placed ys
-frame-sorted c k placed xs ys lawful sound is moved up =
-    let moved' : IsPermutation (spots_in c k placed) ys = rw (← is) moved in
-    let within = within-permuted c (spots_in c k placed) ys moved' (spots-within c k placed lawful sound.each) in
-    record {
-      permuted = moved';
-      in_turn = sorted-in-turn c (spots_in c k placed) ys moved' (sound.apart k) within up;
-      within = within;
-    }
+-- the spots of a frame are no more than the grants per interval
+pub spots-few : (c : Config) (k : ℕ) (placed : List Placed) → IsLawful c → AllByRecursion (IsSoundPlaced c) placed
+    → length (spots_in c k placed) ≤ placed_grants placed
+spots-few c k [] lawful sound = omega arith
+spots-few c k (f ∷ placed) lawful sound =
+    let here = starts-here c (k % c.cycle) f (λ place. []) (in-cycle c k lawful) sound.0.starts in
+    let rest = spots-few c k placed lawful sound.1 in
+    let joined = length-append (spots_of c k f) (spots_in c k placed) in
+    let mapped = length-map (starts_in c f.spec f.placement (k % c.cycle)) (spot_at c f) in
+    let sum = sum_by-cons (λ (g : Placed). grants_of g.spec) f placed in
+    omega (arith, here.most, rest, joined, mapped, sum)

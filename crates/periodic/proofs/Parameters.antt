@@ -12,7 +12,9 @@ use Rattle.minislots.proofs.Bounds.{bounds_of}
 use Rattle.flow_book.specs.declared.spec.FlowSpec.{FlowSpec}
 use Rattle.flow_book.specs.declared.spec.FlowSpec.TheVariants.{Unsolicited, Polled, BestEffort}
 use Rattle.flow_book.specs.declared.spec.FlowFault.{FlowFault}
-use Rattle.flow_book.specs.FlowSpec.{is_periodic, interval_frames, periodic_slots, has_fault, faults, first_fault}
+use Rattle.flow_book.specs.declared.TheConstants.{MAX_GRANTS}
+use Rattle.flow_book.specs.FlowSpec.{is_periodic, interval_frames, periodic_slots, grants_of, has_fault, faults}
+use Rattle.flow_book.specs.FlowSpec.{first_fault}
 use Rattle.flow_book.specs.FlowSpec.{first_fault_of}
 
 -- What is known of a periodic flow's parameters
@@ -22,6 +24,8 @@ pub record HasPlaces (c : Config) (spec : FlowSpec) : Type 0 where
   pub interval_most : interval_frames c spec ≤ 64
   pub not_empty : 0 < periodic_slots c spec
   pub fits : periodic_slots c spec + c.req_slots ≤ c.frame
+  pub grants_positive : 0 < grants_of spec
+  pub grants_most : grants_of spec ≤ 8
 
 abbrev HaveNone : Config → FlowSpec → List FlowFault → Type 0
 HaveNone c spec [] = Unit {0}
@@ -69,11 +73,18 @@ fits-of frame requests slots size within h =
     let parts = or_parts (size == 0) (nat_lt (frame - requests) slots) h in
     omega (arith, ltb-false (frame - requests) slots parts.1)
 
+grants-of : (grants : ℕ) → ((grants == 0) || nat_lt MAX_GRANTS grants) ≡ false → (0 < grants) × (grants ≤ 8)
+grants-of grants h =
+    let parts = or_parts (grants == 0) (nat_lt MAX_GRANTS grants) h in
+    (grind (arith, nat_tests), omega (arith, ltb-false MAX_GRANTS grants parts.1))
+
 -- a periodic flow's parameters without a fault keep to these
 pub places_of : (c : Config) (spec : FlowSpec) → IsLawful c → is_periodic spec ≡ true → first_fault c spec ≡ None
     → HasPlaces c spec
-places_of c (Unsolicited size interval jitter) lawful periodic none =
-    let (fits, (whole, (frames, (cycle, rest)))) = each-none c (Unsolicited size interval jitter) none in
+places_of c (Unsolicited size interval jitter grants) lawful periodic none =
+    let (fits, (whole, (frames, (cycle, (priority, (burst, (count, rest))))))) =
+    each-none c (Unsolicited size interval jitter grants) none in
+    let some = grants-of grants count in
     let bounds = bounds_of c lawful in
     record {
       interval_positive = whole-frames (slots_floor c interval) c.frame (omega arith) frames;
@@ -81,6 +92,8 @@ places_of c (Unsolicited size interval jitter) lawful periodic none =
       interval_most = most-of c.cycle (slots_floor c interval / c.frame) (omega arith) (omega arith) cycle;
       not_empty = omega arith;
       fits = fits-of c.frame c.req_slots (slots_for c size) size (omega arith) fits;
+      grants_positive = some.0;
+      grants_most = some.1;
     }
 places_of c (Polled interval jitter rate burst) lawful periodic none =
     let (fits, (whole, (frames, (cycle, rest)))) = each-none c (Polled interval jitter rate burst) none in
@@ -91,5 +104,7 @@ places_of c (Polled interval jitter rate burst) lawful periodic none =
       interval_most = most-of c.cycle (slots_floor c interval / c.frame) (omega arith) (omega arith) cycle;
       not_empty = omega arith;
       fits = omega arith;
+      grants_positive = omega arith;
+      grants_most = omega arith;
     }
 places_of c (BestEffort priority rate burst) lawful periodic none = absurd (cc)

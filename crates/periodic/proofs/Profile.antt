@@ -1,7 +1,11 @@
--- The limit in figures, which the definitions name by the constant of the code.
+-- The limits in figures, which the definitions name by the constants of the code.
 use Rattle.std.proofs.Common.{◌≡◌, ℕ, refl}
-use Rattle.periodic.specs.declared.TheConstants.{MAX_PERIODIC_FLOWS}
+use Rattle.periodic.specs.declared.TheConstants.{MAX_PERIODIC_GRANTS, MAX_STARTS}
 
--- the most periodic flows of a table
-pub most_periodic_flows : ◌≡◌ {A = ℕ} MAX_PERIODIC_FLOWS 40
-most_periodic_flows = refl
+-- the most grants per interval of a table
+pub most_periodic_grants : ◌≡◌ {A = ℕ} MAX_PERIODIC_GRANTS 40
+most_periodic_grants = refl
+
+-- the most starts of a placement
+pub most_starts : ◌≡◌ {A = ℕ} MAX_STARTS 512
+most_starts = refl

@@ -15,11 +15,12 @@ use Rattle.minislots.specs.declared.config.Config.{Config}
 use Rattle.flow_book.specs.declared.spec.FlowSpec.{FlowSpec}
 use Rattle.periodic.specs.declared.bits.Bits.{Bits}
 use Rattle.periodic.specs.declared.spots.PlacedFlow.{PlacedFlow}
-use Rattle.periodic.specs.Placement.{Placed, spot_in}
-use Rattle.periodic.specs.Table.{IsPlaced, placed_at, with_placed, without, AreSound}
-use Rattle.periodic.specs.Rows.{row_at, IsMarked}
+use Rattle.periodic.specs.Placement.{Placed, spots_of}
+use Rattle.periodic.specs.Table.{placed_grants, IsPlaced, placed_at, with_placed, without, AreSound}
+use Rattle.periodic.specs.Rows.{row_at, AreMarked}
 use Rattle.periodic.specs.Fields.{placed_of, placement_at, KeepsTimes, AreSoundFields}
-use Rattle.periodic.proofs.Occupied.{tells-with, tells-without}
+use Rattle.periodic.proofs.Occupied.{tells-with}
+use Rattle.periodic.proofs.Vacated.{tells-without}
 use Rattle.periodic.proofs.Removing.{sound-filter}
 
 -- the place of the first flow of a higher SID, or the end
@@ -88,20 +89,21 @@ has-place sid items placed none =
 
 -- what is marked for a flow's fields is marked for the flow
 pub marked-for : (c : Config) (k bit : ℕ) (g : PlacedFlow) (f : Placed) (given rows new : List Bits) → placed_of g ≡ f
-    → given ≡ rows → IsMarked (spot_in c k (placed_of g)) bit (row_at c given k) (row_at c new k)
-    → IsMarked (spot_in c k f) bit (row_at c rows k) (row_at c new k)
+    → given ≡ rows → AreMarked (spots_of c k (placed_of g)) bit (row_at c given k) (row_at c new k)
+    → AreMarked (spots_of c k f) bit (row_at c rows k) (row_at c new k)
 marked-for c k bit g f given rows new is same marked =
-    subst (λ h. IsMarked (spot_in c k h) bit (row_at c rows k) (row_at c new k)) is
-    (subst (λ bs. IsMarked (spot_in c k (placed_of g)) bit (row_at c bs k) (row_at c new k)) same marked)
+    subst (λ h. AreMarked (spots_of c k h) bit (row_at c rows k) (row_at c new k)) is
+    (subst (λ bs. AreMarked (spots_of c k (placed_of g)) bit (row_at c bs k) (row_at c new k)) same marked)
 
 module _ (c : Config) (items new : List PlacedFlow) (rows marked : List Bits) (f : Placed)
-    (are : AreSoundFields c items rows) (long : length marked ≡ c.cycle) where
+    (before grants : ℕ) (are : AreSoundFields c items rows before) (long : length marked ≡ c.cycle) where
   -- with one flow more, whose minislots are marked as taken, the fields are sound
   pub fields-with : map placed_of new ≡ with_placed f (map placed_of items)
       → AreSound c (with_placed f (map placed_of items))
       → AllByRecursion (KeepsTimes c) new
-      → ((k : ℕ) → IsMarked (spot_in c k f) 1 (row_at c rows k) (row_at c marked k)) → AreSoundFields c new marked
-  fields-with is sound times marks = record {
+      → ((k : ℕ) → AreMarked (spots_of c k f) 1 (row_at c rows k) (row_at c marked k))
+      → grants ≡ placed_grants (with_placed f (map placed_of items)) → AreSoundFields c new marked grants
+  fields-with is sound times marks sum = record {
     sound = rw is sound;
     times = times;
     told = record {
@@ -109,14 +111,16 @@ module _ (c : Config) (items new : List PlacedFlow) (rows marked : List Bits) (f
       each = λ k. rw is (tells-with c k f (map placed_of items) (row_at c rows k) (row_at c marked k) (are.told.each k)
           (marks k));
     };
+    summed = rw is sum;
   }
 
   -- without one flow, whose minislots are marked as free, too
   pub fields-without : (sid : ℕ) → map placed_of new ≡ without sid (map placed_of items)
       → find (λ g. g.sid == sid) (map placed_of items) ≡ Some f
       → AllByRecursion (KeepsTimes c) new
-      → ((k : ℕ) → IsMarked (spot_in c k f) 0 (row_at c rows k) (row_at c marked k)) → AreSoundFields c new marked
-  fields-without sid is found times marks = record {
+      → ((k : ℕ) → AreMarked (spots_of c k f) 0 (row_at c rows k) (row_at c marked k))
+      → grants ≡ placed_grants (without sid (map placed_of items)) → AreSoundFields c new marked grants
+  fields-without sid is found times marks sum = record {
     sound = rw is (sound-filter c (λ g. not (g.sid == sid)) (map placed_of items) are.sound);
     times = times;
     told = record {
@@ -124,4 +128,5 @@ module _ (c : Config) (items new : List PlacedFlow) (rows marked : List Bits) (f
       each = λ k. rw is (tells-without c k sid f (map placed_of items) (row_at c rows k) (row_at c marked k) found
           are.sound.ascending (are.sound.apart k) (are.told.each k) (marks k));
     };
+    summed = rw is sum;
   }

@@ -1,15 +1,15 @@
 -- What the fields of a placed flow stand for.
-use Rattle.std.specs.Prelude.{◌≡◌, ℕ, ◌≤◌, List, map, length}
+use Rattle.std.specs.Prelude.{◌≡◌, ℕ, ◌≤◌, List, map}
 use Rattle.std.specs.List.{AllByRecursion}
 use Rattle.minislots.specs.declared.config.Config.{Config}
 use Rattle.minislots.specs.Config.{IsLawful}
-use Rattle.flow_book.specs.FlowSpec.{interval_frames, periodic_slots}
-use Rattle.periodic.specs.declared.TheConstants.{MAX_PERIODIC_FLOWS}
+use Rattle.flow_book.specs.FlowSpec.{interval_frames, periodic_slots, grants_of}
+use Rattle.periodic.specs.declared.TheConstants.{MAX_PERIODIC_GRANTS}
 use Rattle.periodic.specs.declared.placement.Placement.{Placement}
 use Rattle.periodic.specs.declared.bits.Bits.{Bits}
 use Rattle.periodic.specs.declared.spots.PlacedFlow.{PlacedFlow}
 use Rattle.periodic.specs.Placement.{Placed, phase_of}
-use Rattle.periodic.specs.Table.{IsSoundPlaced, AreSound}
+use Rattle.periodic.specs.Table.{placed_grants, IsSoundPlaced, AreSound}
 use Rattle.periodic.specs.Rows.{AreRowsOf}
 
 -- the placement of this reference and these starts
@@ -30,6 +30,7 @@ pub record KeepsTimes (c : Config) (f : PlacedFlow) : Type 0 where
   pub interval : f.interval ≡ interval_frames c f.spec
   pub phase : f.phase ≡ phase_of c f.spec f.placement
   pub slots : f.slots ≡ periodic_slots c f.spec
+  pub grants : f.grants ≡ grants_of f.spec
 
 -- A flow that is soundly placed, and what is kept beside its placement
 pub record IsSoundFlow (c : Config) (f : PlacedFlow) : Type 0 where
@@ -40,10 +41,11 @@ pub record IsSoundFlow (c : Config) (f : PlacedFlow) : Type 0 where
 pub record AreSoundFlows (c : Config) (flows : List PlacedFlow) : Type 0 where
   pub each : AllByRecursion (IsSoundPlaced c) (placed_in flows)
   pub times : AllByRecursion (KeepsTimes c) flows
-  pub most : length flows ≤ MAX_PERIODIC_FLOWS
+  pub most : placed_grants (placed_in flows) ≤ MAX_PERIODIC_GRANTS
 
 -- What is true of the fields of every table
-pub record AreSoundFields (c : Config) (flows : List PlacedFlow) (rows : List Bits) : Type 0 where
+pub record AreSoundFields (c : Config) (flows : List PlacedFlow) (rows : List Bits) (grants : ℕ) : Type 0 where
   pub sound : AreSound c (placed_in flows)
   pub times : AllByRecursion (KeepsTimes c) flows
   pub told : AreRowsOf c (placed_in flows) rows
+  pub summed : grants ≡ placed_grants (placed_in flows)

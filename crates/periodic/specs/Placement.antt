@@ -1,10 +1,10 @@
 -- Lawful placements of periodic flows: nominal intervals and tolerated jitter, in a cycle of frames.
-use Rattle.std.specs.Prelude.{ℕ, zero, suc, ◌+◌, ◌*◌, ◌/◌, ◌%◌, ◌<◌, ◌≤◌, ◌⊎◌, ◌==◌, List, [], ◌∷◌, filter}
-use Rattle.std.specs.Prelude.{filter_map, Option, None, Some, option_map, if◌then◌else◌}
-use Rattle.std.specs.List.{AllByRecursion}
+use Rattle.std.specs.Prelude.{◌≡◌, ℕ, zero, suc, ◌+◌, ◌*◌, ◌/◌, ◌%◌, ◌<◌, ◌≤◌, ◌⊎◌, ◌==◌, List, [], ◌∷◌, map}
+use Rattle.std.specs.Prelude.{length, take, drop, if◌then◌else◌}
+use Rattle.std.specs.List.{AllByRecursion, flat_map}
 use Rattle.minislots.specs.declared.config.Config.{Config}
 use Rattle.flow_book.specs.declared.spec.FlowSpec.{FlowSpec}
-use Rattle.flow_book.specs.FlowSpec.{is_polled, interval_frames, jitter_slots, periodic_slots}
+use Rattle.flow_book.specs.FlowSpec.{is_polled, interval_frames, jitter_slots, periodic_slots, grants_of}
 use Rattle.periodic.specs.declared.placement.Placement.{Placement}
 use Rattle.periodic.specs.declared.placement.Spot.{Spot}
 
@@ -27,15 +27,14 @@ phase_of c spec p = p.reference / c.frame % interval_frames c spec
 abbrev pub offset_of : Config → Placement → ℕ
 offset_of c p = p.reference % c.frame
 
--- the cycle's places, from 0, that are nominal frames at this phase
-abbrev pub nominal_places : Config → ℕ → ℕ → List ℕ
-nominal_places c interval phase = filter (λ place. place % interval == phase) (count_from 0 c.cycle)
+-- the group at this index, from 0, of a list of groups of this size
+abbrev pub group_at : ℕ → ℕ → List ℕ → List ℕ
+group_at size index starts = take size (drop (index * size) starts)
 
--- the start at this place of the cycle, of starts at these places
-abbrev pub start_at : ℕ → List ℕ → List ℕ → Option ℕ
-start_at place [] starts = None
-start_at place (p ∷ places) [] = None
-start_at place (p ∷ places) (start ∷ starts) = if p == place then Some start else start_at place places starts
+-- a placement's starts in the frame at this place of the cycle: none where that is no nominal frame
+abbrev pub starts_in : Config → FlowSpec → Placement → ℕ → List ℕ
+starts_in c spec p place = if place % interval_frames c spec == phase_of c spec p
+    then group_at (grants_of spec) (place / interval_frames c spec) p.starts else []
 
 -- what a placed flow takes of a frame from this start on
 abbrev pub spot_at : Config → Placed → ℕ → Spot
@@ -46,15 +45,13 @@ spot_at c flow start = record {
   slots = periodic_slots c flow.spec;
 }
 
--- what a placed flow takes of frame k: nothing where that is no nominal frame
-abbrev pub spot_in : Config → ℕ → Placed → Option Spot
-spot_in c k flow = option_map (spot_at c flow)
-    (start_at (k % c.cycle) (nominal_places c (interval_frames c flow.spec) (phase_of c flow.spec flow.placement))
-    flow.placement.starts)
+-- what a placed flow takes of frame k
+abbrev pub spots_of : Config → ℕ → Placed → List Spot
+spots_of c k flow = map (spot_at c flow) (starts_in c flow.spec flow.placement (k % c.cycle))
 
 -- what the placed flows take of frame k
 abbrev pub spots_in : Config → ℕ → List Placed → List Spot
-spots_in c k table = filter_map (spot_in c k) table
+spots_in c k table = flat_map (spots_of c k) table
 
 -- none of these spots has one of the minislots
 abbrev pub AreFree : List Spot → ℕ → ℕ → Type 0
@@ -68,18 +65,25 @@ pub record IsLawfulStart (c : Config) (jitter slots offset : ℕ) (spots : List 
   pub within_frame : start + slots ≤ c.frame
   pub free : AreFree spots start slots
 
--- P holds of each place with its start, and there are as many starts as places
-abbrev pub EachPlace : (ℕ → ℕ → Type 0) → List ℕ → List ℕ → Type 0
-EachPlace P [] [] = Unit {0}
-EachPlace P [] (start ∷ starts) = ⊥
-EachPlace P (place ∷ places) [] = ⊥
-EachPlace P (place ∷ places) (start ∷ starts) = P place start × EachPlace P places starts
+-- grants of so many minislots, one after the other from this minislot on
+abbrev pub FollowFrom : ℕ → ℕ → List ℕ → Type 0
+FollowFrom slots from [] = Unit {0}
+FollowFrom slots from (start ∷ starts) = (from ≤ start) × FollowFrom slots (start + slots) starts
 
--- The flow has a lawful start in each nominal frame of the cycle, beside the spots at the frame's place
-abbrev pub HasLawfulStarts : Config → FlowSpec → Placement → (ℕ → List Spot) → Type 0
-HasLawfulStarts c spec p spots = EachPlace
-    (λ place start. IsLawfulStart c (jitter_slots c spec) (periodic_slots c spec) (offset_of c p) (spots place) start)
-    (nominal_places c (interval_frames c spec) (phase_of c spec p)) p.starts
+-- As many starts in a frame as the flow has grants, each lawful beside these spots, ascending and apart from one
+-- another
+pub record AreLawfulStarts (c : Config) (spec : FlowSpec) (offset : ℕ) (spots : List Spot) (starts : List ℕ)
+    : Type 0 where
+  pub count : length starts ≡ grants_of spec
+  pub in_turn : FollowFrom (periodic_slots c spec) offset starts
+  pub each : AllByRecursion (IsLawfulStart c (jitter_slots c spec) (periodic_slots c spec) offset spots) starts
+
+-- The placement has as many starts as all nominal frames of the cycle have grants, lawful in each of these frames
+-- beside the spots at the frame's place
+pub record HasLawfulStarts (c : Config) (spec : FlowSpec) (p : Placement) (spots : ℕ → List Spot) : Type 0 where
+  pub count : length p.starts ≡ c.cycle / interval_frames c spec * grants_of spec
+  pub each : (place : ℕ) → place < c.cycle → place % interval_frames c spec ≡ phase_of c spec p
+      → AreLawfulStarts c spec (offset_of c p) (spots place) (starts_in c spec p place)
 
 -- The placement is lawful for this flow beside those placed, its reference being its first nominal time at or after
 -- next

@@ -1,10 +1,11 @@
 -- The rows of bits of a cycle of frames, and what they say of the spots.
-use Rattle.std.specs.Prelude.{◌≡◌, ℕ, ◌+◌, ◌%◌, ◌<◌, ◌≤◌, ◌⊎◌, List, [], get_or, length, Option, Some}
+use Rattle.std.specs.Prelude.{◌≡◌, ℕ, ◌+◌, ◌%◌, ◌<◌, ◌≤◌, ◌⊎◌, List, [], get_or, length}
+use Rattle.std.specs.List.{AllByRecursion}
 use Rattle.minislots.specs.declared.config.Config.{Config}
 use Rattle.periodic.specs.declared.bits.Bits.{Bits}
 use Rattle.periodic.specs.declared.placement.Spot.{Spot}
 use Rattle.periodic.specs.Bits.{bit_of}
-use Rattle.periodic.specs.Placement.{Placed, spot_in, spots_in, AreFree}
+use Rattle.periodic.specs.Placement.{Placed, spots_of, spots_in, AreFree}
 
 -- a row of no words
 abbrev pub no_bits : Bits
@@ -18,10 +19,6 @@ row_at c rows k = (get_or rows (k % c.cycle) no_bits).words
 abbrev pub IsOutside : ℕ → Spot → Type 0
 IsOutside m s = (m + 1 ≤ s.offset) ⊎ (s.offset + s.slots ≤ m)
 
--- the minislot is not the spot's, if there is one
-abbrev pub IsOutsideOf : Option Spot → ℕ → Type 0
-IsOutsideOf o m = (s : Spot) → o ≡ Some s → IsOutside m s
-
 -- The bits say of each minislot whether one of these spots has it
 pub record TellsOf (spots : List Spot) (words : List ℕ) : Type 0 where
   pub free : (m : ℕ) → m < 1024 → bit_of words m ≡ 0 → AreFree spots m 1
@@ -32,15 +29,18 @@ pub record AreRowsOf (c : Config) (placed : List Placed) (rows : List Bits) : Ty
   pub long : length rows ≡ c.cycle
   pub each : (k : ℕ) → TellsOf (spots_in c k placed) (row_at c rows k)
 
--- The bits of a spot were written, if there is one, and no others
-pub record IsMarked (o : Option Spot) (bit : ℕ) (old new : List ℕ) : Type 0 where
-  pub inside : (s : Spot) → o ≡ Some s → (m : ℕ) → m < 1024 → s.offset ≤ m → m < s.offset + s.slots
-      → bit_of new m ≡ bit
-  pub outside : (m : ℕ) → IsOutsideOf o m → bit_of new m ≡ bit_of old m
+-- the bits of the spot's minislots are this
+abbrev pub HasBits : ℕ → List ℕ → Spot → Type 0
+HasBits bit words s = (m : ℕ) → m < 1024 → s.offset ≤ m → m < s.offset + s.slots → bit_of words m ≡ bit
+
+-- The bits of the spots were written, and no others
+pub record AreMarked (spots : List Spot) (bit : ℕ) (old new : List ℕ) : Type 0 where
+  pub inside : AllByRecursion (HasBits bit new) spots
+  pub outside : (m : ℕ) → AreFree spots m 1 → bit_of new m ≡ bit_of old m
 
 -- A flow's spots were marked in the frames of the cycle before this place, and the others are as they were
 pub record AreMarkedTo (c : Config) (f : Placed) (bit : ℕ) (old new : List Bits) (place : ℕ) : Type 0 where
   pub long : length new ≡ c.cycle
   pub marked : (j : ℕ) → j < place
-      → IsMarked (spot_in c j f) bit (get_or old j no_bits).words (get_or new j no_bits).words
+      → AreMarked (spots_of c j f) bit (get_or old j no_bits).words (get_or new j no_bits).words
   pub rest : (j : ℕ) → place ≤ j → get_or new j no_bits ≡ get_or old j no_bits

@@ -1,24 +1,30 @@
 -- The search for a placement: what is tried, and what it finds.
-use Rattle.std.specs.Prelude.{◌≡◌, ℕ, ◌+◌, ◌<◌, ◌≤◌, ◌*◌, ◌/◌, ◌%◌, List, take}
+use Rattle.std.specs.Prelude.{◌≡◌, ℕ, ◌+◌, ◌<◌, ◌≤◌, ◌*◌, ◌/◌, ◌%◌, List, [], ◌∷◌, take, length}
+use Rattle.std.specs.List.{AllByRecursion}
 use Rattle.minislots.specs.declared.config.Config.{Config}
 use Rattle.flow_book.specs.declared.spec.FlowSpec.{FlowSpec}
-use Rattle.flow_book.specs.FlowSpec.{interval_frames, jitter_slots, periodic_slots}
+use Rattle.flow_book.specs.FlowSpec.{interval_frames, jitter_slots, periodic_slots, grants_of}
 use Rattle.periodic.specs.declared.placement.Placement.{Placement}
 use Rattle.periodic.specs.declared.bits.Bits.{Bits}
 use Rattle.periodic.specs.declared.search.Wanted.{Wanted}
-use Rattle.periodic.specs.declared.search.Row.{Row}
+use Rattle.periodic.specs.declared.row.Row.{Row}
 use Rattle.periodic.specs.declared.search.Found.{Found}
 use Rattle.periodic.specs.declared.search.Chosen.{Chosen}
 use Rattle.periodic.specs.Bits.{IsClear}
 use Rattle.periodic.specs.Rows.{row_at}
-use Rattle.periodic.specs.Placement.{nominal_places, EachPlace}
+use Rattle.periodic.specs.Placement.{group_at, FollowFrom}
 use Rattle.periodic.specs.Choice.{AreNoLater}
 use Rattle.periodic.specs.Fields.{placement_at}
 
--- What is looked for has an interval, is not empty and fits behind the request region
+-- What is looked for has an interval that divides the cycle, some grants, is not empty and fits behind the request
+-- region
 pub record CanBeSought (c : Config) (w : Wanted) : Type 0 where
   pub interval_positive : 0 < w.interval
+  pub divides : c.cycle % w.interval ≡ 0
   pub not_empty : 0 < w.slots
+  pub slots_most : w.slots ≤ 1024
+  pub grants_positive : 0 < w.grants
+  pub grants_most : w.grants ≤ 8
   pub fits : w.slots + c.req_slots ≤ c.frame
 
 -- What is looked for is what these parameters say
@@ -26,6 +32,7 @@ pub record IsWantedOf (c : Config) (spec : FlowSpec) (w : Wanted) : Type 0 where
   pub interval : w.interval ≡ interval_frames c spec
   pub jitter : w.jitter ≡ jitter_slots c spec
   pub slots : w.slots ≡ periodic_slots c spec
+  pub grants : w.grants ≡ grants_of spec
 
 -- A start with so many free minislots behind it in a frame of this length
 pub record IsFreeStart (words : List ℕ) (frame slots from start : ℕ) : Type 0 where
@@ -43,10 +50,22 @@ pub record IsStartOf (c : Config) (w : Wanted) (offset : ℕ) (words : List ℕ)
   pub free : IsFreeStart words c.frame w.slots offset start
   pub within_jitter : start ≤ offset + w.jitter
 
--- The first of these starts
-pub record IsFirstStart (c : Config) (w : Wanted) (offset : ℕ) (words : List ℕ) (start : ℕ) : Type 0 where
-  pub lawful : IsStartOf c w offset words start
-  pub least : (other : ℕ) → IsStartOf c w offset words other → start ≤ other
+-- As many starts in a frame as are wanted, one after the other
+pub record AreStartsIn (c : Config) (w : Wanted) (offset : ℕ) (words starts : List ℕ) : Type 0 where
+  pub count : length starts ≡ w.grants
+  pub in_turn : FollowFrom w.slots offset starts
+  pub each : AllByRecursion (IsStartOf c w offset words) starts
+
+-- each start is the first free one behind those before it, from this minislot on
+abbrev pub AreNextStarts : List ℕ → ℕ → ℕ → ℕ → List ℕ → Type 0
+AreNextStarts words frame slots from [] = Unit {0}
+AreNextStarts words frame slots from (start ∷ starts) =
+    IsNextStart words frame slots from start × AreNextStarts words frame slots (start + slots) starts
+
+-- The first of all such starts in a frame
+pub record AreFirstIn (c : Config) (w : Wanted) (offset : ℕ) (words starts : List ℕ) : Type 0 where
+  pub lawful : AreStartsIn c w offset words starts
+  pub least : (others : List ℕ) → AreStartsIn c w offset words others → AreNoLater starts others
 
 -- The next offset at which P may hold: it does at none from here up to that one
 pub record IsNextOffset (c : Config) (P : ℕ → Type 0) (offset next : ℕ) : Type 0 where
@@ -54,15 +73,15 @@ pub record IsNextOffset (c : Config) (P : ℕ → Type 0) (offset next : ℕ) : 
   pub most : next ≤ c.frame
   pub none : (between : ℕ) → offset ≤ between → between < next → P between → ⊥
 
--- the offsets at which a frame has a start
-abbrev pub HasStartAt : Config → Wanted → List ℕ → ℕ → Type 0
-HasStartAt c w words offset = (start : ℕ) × IsStartOf c w offset words start
+-- the offsets at which a frame has starts
+abbrev pub HasStartsAt : Config → Wanted → List ℕ → ℕ → Type 0
+HasStartsAt c w words offset = (starts : List ℕ) × AreStartsIn c w offset words starts
 
--- lawful starts at a phase and an offset, one for each nominal frame of the cycle
-abbrev pub AreStarts : Config → List Bits → Wanted → ℕ → ℕ → List ℕ → Type 0
-AreStarts c rows w phase offset starts =
-    EachPlace (λ place start. IsStartOf c w offset (row_at c rows place) start) (nominal_places c w.interval phase)
-    starts
+-- Lawful starts at a phase and an offset, in each nominal frame of the cycle
+pub record AreStarts (c : Config) (rows : List Bits) (w : Wanted) (phase offset : ℕ) (starts : List ℕ) : Type 0 where
+  pub count : length starts ≡ c.cycle / w.interval * w.grants
+  pub each : (index : ℕ) → index < c.cycle / w.interval
+      → AreStartsIn c w offset (row_at c rows (phase + index * w.interval)) (group_at w.grants index starts)
 
 -- the offsets at which all frames of a phase have starts
 abbrev pub HaveStartsAt : Config → List Bits → Wanted → ℕ → ℕ → Type 0
@@ -88,7 +107,8 @@ starts_of row = take row.count row.starts
 pub record AreFirstStarts (c : Config) (rows : List Bits) (w : Wanted) (phase offset : ℕ)
     (starts : List ℕ) : Type 0 where
   pub lawful : AreStarts c rows w phase offset starts
-  pub least : (others : List ℕ) → AreStarts c rows w phase offset others → AreNoLater starts others
+  pub least : (others : List ℕ) → AreStarts c rows w phase offset others → (index : ℕ) → index < c.cycle / w.interval
+      → AreNoLater (group_at w.grants index starts) (group_at w.grants index others)
 
 -- The first lawful starts at the least offset of a phase
 pub record IsFirstAtPhase (c : Config) (rows : List Bits) (w : Wanted) (f : Found) : Type 0 where

@@ -1,11 +1,11 @@
 -- What contracts see of a table of placements, and what is true of each.
-use Rattle.std.specs.Prelude.{◌≡◌, ℕ, ◌+◌, ◌<◌, ◌≤◌, ◌⊎◌, true, ◌==◌, List, [], ◌∷◌, length, find, None, IsSome}
+use Rattle.std.specs.Prelude.{◌≡◌, ℕ, ◌+◌, ◌<◌, ◌≤◌, ◌⊎◌, true, ◌==◌, List, [], ◌∷◌, sum_by, find, None, IsSome}
 use Rattle.std.specs.List.{AllByRecursion}
 use Rattle.minislots.specs.declared.config.Config.{Config}
 use Rattle.flow_book.specs.declared.spec.FlowSpec.{FlowSpec}
-use Rattle.periodic.specs.declared.TheConstants.{MAX_PERIODIC_FLOWS}
+use Rattle.periodic.specs.declared.TheConstants.{MAX_PERIODIC_GRANTS}
 use Rattle.periodic.specs.declared.placement.Placement.{Placement}
-use Rattle.flow_book.specs.FlowSpec.{is_periodic, first_fault}
+use Rattle.flow_book.specs.FlowSpec.{is_periodic, grants_of, first_fault}
 use Rattle.flow_book.specs.Sids.{AscendBy, put_in, taken_out}
 use Rattle.periodic.specs.declared.placement.Spot.{Spot}
 use Rattle.periodic.specs.Placement.{Placed, offset_of, spots_in, HasLawfulStarts, IsPlacement}
@@ -18,6 +18,10 @@ pub record TableView : Type 0 where
 -- a flow with its placement
 abbrev pub placed_at : ℕ → FlowSpec → Placement → Placed
 placed_at sid spec p = record { sid = sid; spec = spec; placement = p }
+
+-- the grants per interval of placed flows
+abbrev pub placed_grants : List Placed → ℕ
+placed_grants placed = sum_by (λ f. grants_of f.spec) placed
 
 -- some placement is lawful
 abbrev pub HasPlacement : Config → List Placed → FlowSpec → ℕ → Type 0
@@ -77,6 +81,6 @@ pub record IsSoundPlaced (c : Config) (f : Placed) : Type 0 where
 -- What is true of the placed flows of every table
 pub record AreSound (c : Config) (placed : List Placed) : Type 0 where
   pub ascending : Ascend placed
-  pub most : length placed ≤ MAX_PERIODIC_FLOWS
+  pub most : placed_grants placed ≤ MAX_PERIODIC_GRANTS
   pub each : AllByRecursion (IsSoundPlaced c) placed
   pub apart : (k : ℕ) → AreApart (spots_in c k placed)

@@ -4,13 +4,12 @@ ghost use Rattle.std.specs.Prelude.{◌≡◌, ◌<◌, ◌≤◌, ◌+◌, ◌^
 ghost use Rattle.flow_book.specs.FlowSpec.{is_periodic, first_fault};
 ghost use Rattle.periodic.specs.Placement.{Placed, IsPlacement};
 ghost use Rattle.periodic.specs.Rows.{AreRowsOf};
-ghost use Rattle.periodic.specs.Search.{CanBeSought, IsStartOf, AreStarts};
+ghost use Rattle.periodic.specs.Search.{CanBeSought, IsStartOf, AreStartsIn, AreStarts};
 ghost use Rattle.periodic.specs.Table.{AreSound};
 
 use crate::bits::Bits;
 use crate::placement::Placement;
-use crate::search::Wanted;
-use crate::spots::{interval, jitter, slots};
+use crate::search::{Wanted, wanted_of};
 use flow_book::FlowSpec;
 use minislots::Checked;
 
@@ -35,7 +34,28 @@ fn is_start(bits: &Bits, config: &Checked, wanted: Wanted, offset: u64, start: u
     true
 }
 
-// Whether these are lawful starts at this phase and offset, one for each nominal frame of the cycle.
+// Whether these are lawful starts in such a frame, one after the other; they are as many as are wanted.
+fn are_starts_in(bits: &Bits, config: &Checked, wanted: Wanted, offset: u64, starts: &[u16]) -> bool
+    requires sought { CanBeSought config.now wanted }
+    requires count { length starts.now ≡ wanted.grants }
+    ensures lawful { result ≡ true → AreStartsIn config.now wanted offset bits.now.words starts.now }
+    ensures unlawful { result ≡ false → AreStartsIn config.now wanted offset bits.now.words starts.now → ⊥ }
+{
+    let mut from = offset;
+    for start in starts {
+        let start = u64::from(*start);
+        if start < from {
+            return false;
+        }
+        if !is_start(bits, config, wanted, offset, start) {
+            return false;
+        }
+        from = start + wanted.slots;
+    }
+    true
+}
+
+// Whether these are lawful starts at this phase and offset, in each nominal frame of the cycle.
 fn are_starts(
     rows: &[Bits],
     config: &Checked,
@@ -46,28 +66,24 @@ fn are_starts(
 ) -> bool
     requires long { length rows.now ≡ config.now.cycle }
     requires sought { CanBeSought config.now wanted }
+    requires phase { phase < wanted.interval }
     ensures lawful { result ≡ true → AreStarts config.now rows.now wanted phase offset starts.now }
     ensures unlawful { result ≡ false → AreStarts config.now rows.now wanted phase offset starts.now → ⊥ }
 {
-    let mut count = 0;
-    for place in 0..u64::from(config.cycle()) {
-        if place % wanted.interval == phase {
-            if count >= starts.len() {
-                return false;
-            }
-            if !is_start(
-                &rows[place as usize],
-                config,
-                wanted,
-                offset,
-                u64::from(starts[count]),
-            ) {
-                return false;
-            }
-            count += 1;
+    let frames = u64::from(config.cycle()) / wanted.interval;
+    let count = frames as usize * wanted.grants;
+    if starts.len() != count {
+        return false;
+    }
+    for index in 0..frames {
+        let row = &rows[(phase + index * wanted.interval) as usize];
+        let first = index as usize * wanted.grants;
+        let group = &starts[first..first + wanted.grants];
+        if !are_starts_in(row, config, wanted, offset, group) {
+            return false;
         }
     }
-    count == starts.len()
+    true
 }
 
 // Whether the placement is lawful for this flow beside those whose minislots these rows have, its reference being its
@@ -88,11 +104,7 @@ pub(crate) fn is_lawful(
         → result ≡ false → IsPlacement config.now placed spec.now next placement.now → ⊥ }
 {
     let frame = u64::from(config.frame());
-    let wanted = Wanted {
-        interval: interval(config, spec),
-        jitter: jitter(config, spec),
-        slots: slots(config, spec),
-    };
+    let wanted = wanted_of(config, spec);
     let phase = placement.reference / frame % wanted.interval;
     let offset = placement.reference % frame;
     if placement.reference < next || placement.reference - next >= wanted.interval * frame {

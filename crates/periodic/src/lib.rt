@@ -4,6 +4,7 @@
 mod adopt;
 mod bits;
 mod placement;
+mod row;
 mod search;
 mod spots;
 mod table;
@@ -11,5 +12,8 @@ mod table;
 pub use placement::{PlaceFault, Placement, Spot, Starts};
 pub use table::Table;
 
-/// The most periodic flows of one table, and so the most spots of one frame.
-pub const MAX_PERIODIC_FLOWS: usize = 40;
+/// The most grants per interval of the periodic flows of one table, and so the most spots of one frame.
+pub const MAX_PERIODIC_GRANTS: usize = 40;
+
+/// The most starts of one placement: all grants of a flow in each frame of the longest cycle.
+const MAX_STARTS: usize = 512;

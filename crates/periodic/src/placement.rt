@@ -3,8 +3,8 @@
 use std::marker::Model;
 use thiserror::Error;
 
-/// The starts of a placement: offsets in their frames, one for each nominal frame of the cycle, in
-/// the order of the frames. Contracts see the list.
+/// The starts of a placement: offsets in their frames, as many for each nominal frame of the cycle as the flow has
+/// grants per interval, in the order of the frames, ascending in each. Contracts see the list.
 #[derive(Debug, Drop)]
 pub struct Starts {
     items: Vec<u16>,
@@ -49,11 +49,11 @@ impl Starts {
 pub struct Placement {
     /// The minislot of its first nominal time. It gives the phase and the offset of all others.
     pub reference: u64,
-    /// Where it starts in each nominal frame of the cycle.
+    /// Where its grants start in each nominal frame of the cycle.
     pub starts: Starts,
 }
 
-/// What one flow takes of one frame.
+/// What one grant or poll takes of one frame.
 #[derive(Clone, Copy, Debug, PartialEq, Eq)]
 pub struct Spot {
     /// The flow's SID.

@@ -1,35 +1,55 @@
-//! The search for a placement: the least phase, then the least offset, then the least start in each
+//! The search for a placement: the least phase, then the least offset, then the least starts in each
 //! nominal frame.
 
-ghost use Rattle.std.specs.Prelude.{◌≡◌, ℕ, ◌<◌, ◌≤◌, ◌+◌, ◌^◌, ◌%◌, List, length, true, None, IfSome, IfNone, IfOk};
-ghost use Rattle.std.specs.Prelude.{IfErr};
+ghost use Rattle.std.specs.Prelude.{◌≡◌, ℕ, ◌<◌, ◌≤◌, ◌+◌, ◌*◌, ◌^◌, ◌%◌, List, ◌++◌, length, take, true, None};
+ghost use Rattle.std.specs.Prelude.{IfSome, IfNone, IfOk, IfErr};
+ghost use Rattle.minislots.specs.Config.{IsLawful};
 ghost use Rattle.flow_book.specs.FlowSpec.{is_periodic, first_fault};
+ghost use Rattle.periodic.specs.declared.TheConstants.{MAX_STARTS};
 ghost use Rattle.periodic.specs.Placement.{Placed, NoPlacement};
 ghost use Rattle.periodic.specs.Table.{AreSound};
 ghost use Rattle.periodic.specs.Rows.{AreRowsOf};
 ghost use Rattle.periodic.specs.Choice.{IsChosen};
-ghost use Rattle.periodic.specs.Search.{CanBeSought, IsFreeStart, IsNextStart, IsFirstStart, HasStartAt, IsNextOffset};
+ghost use Rattle.periodic.specs.Search.{CanBeSought, IsWantedOf, IsFreeStart, IsNextStart, AreFirstIn, HasStartsAt};
+ghost use Rattle.periodic.specs.Search.{IsNextOffset};
 ghost use Rattle.periodic.specs.Search.{HaveStartsAt, AreFirstStarts, NoneBelow, NonePhase, IsFirstAtPhase};
 ghost use Rattle.periodic.specs.Search.{IsFirstFound, IsReference, starts_of, chosen_placement};
 
+use crate::MAX_STARTS;
 use crate::bits::Bits;
-use crate::spots::{interval, jitter, slots};
+use crate::row::Row;
+use crate::spots::{grants, interval, jitter, slots};
 use flow_book::FlowSpec;
 use minislots::Checked;
 
-// What is looked for: the frames of an interval, and the minislots of the jitter and of a grant or poll.
+// The most starts of one frame: those of a flow with the most grants.
+const MAX_GROUP: usize = 8;
+
+// What is looked for: the frames of an interval, the minislots of the jitter and of a grant or poll, and how many of
+// these each nominal frame has.
 #[derive(Clone, Copy)]
 pub(crate) struct Wanted {
     pub(crate) interval: u64,
     pub(crate) jitter: u64,
     pub(crate) slots: u64,
+    pub(crate) grants: usize,
 }
 
-// One start for each of the first nominal frames of the cycle.
-#[derive(Clone, Copy)]
-pub(crate) struct Row {
-    starts: [u16; 64],
-    count: usize,
+// What is looked for with these parameters.
+pub(crate) fn wanted_of(config: &Checked, spec: &FlowSpec) -> Wanted
+    requires periodic { is_periodic spec.now ≡ true }
+    requires no_fault { first_fault config.now spec.now ≡ None }
+    ensures value { IsWantedOf config.now spec.now result }
+    ensures sought { CanBeSought config.now result }
+    ensures most { result.interval ≤ 64 }
+    ensures lawful { IsLawful config.now }
+{
+    Wanted {
+        interval: interval(config, spec),
+        jitter: jitter(config, spec),
+        slots: slots(config, spec),
+        grants: grants(config, spec),
+    }
 }
 
 // Where a placement was found.
@@ -50,7 +70,7 @@ pub(crate) struct Chosen {
 impl Chosen {
     // The starts, in the order of the nominal frames.
     pub(crate) fn starts(&self) -> &[u16]
-        requires { self.now.row.count ≤ 64 }
+        requires { self.now.row.count ≤ MAX_STARTS }
         ensures { result.now ≡ starts_of self.now.row }
     {
         &self.row.starts[..self.row.count]
@@ -78,21 +98,34 @@ fn next_start(bits: &Bits, frame: u64, slots: u64, from: u64) -> Option<u64>
     None
 }
 
-// The first start in a frame within the jitter after this offset, or else the next offset that may have one.
-fn start_in(bits: &Bits, config: &Checked, wanted: Wanted, offset: u64) -> Result<u16, u64>
+// The first starts in a frame within the jitter after this offset, as many as are wanted, or else the next offset that
+// may have them.
+fn starts_in(
+    bits: &Bits,
+    config: &Checked,
+    wanted: Wanted,
+    offset: u64,
+) -> Result<[u16; MAX_GROUP], u64>
     requires sought { CanBeSought config.now wanted }
     requires within { offset < config.now.frame }
-    ensures found { IfOk result (IsFirstStart config.now wanted offset bits.now.words) }
-    ensures blocked { IfErr result (IsNextOffset config.now (HasStartAt config.now wanted bits.now.words) offset) }
+    ensures found { IfOk result (λ starts.
+        AreFirstIn config.now wanted offset bits.now.words (take wanted.grants starts)) }
+    ensures blocked { IfErr result (IsNextOffset config.now (HasStartsAt config.now wanted bits.now.words) offset) }
 {
     let frame = u64::from(config.frame());
-    let Some(start) = next_start(bits, frame, wanted.slots, offset) else {
-        return Err(frame);
-    };
-    if start - offset <= wanted.jitter {
-        return Ok(start as u16);
+    let mut starts = [0; MAX_GROUP];
+    let mut from = offset;
+    for index in 0..wanted.grants {
+        let Some(start) = next_start(bits, frame, wanted.slots, from) else {
+            return Err(frame);
+        };
+        if start - offset > wanted.jitter {
+            return Err(start - wanted.jitter);
+        }
+        starts[index] = start as u16;
+        from = start + wanted.slots;
     }
-    Err(start - wanted.jitter)
+    Ok(starts)
 }
 
 // The first starts at this phase and offset, or else the next offset that may have starts in all frames.
@@ -105,20 +138,20 @@ fn starts_at(
 ) -> Result<Row, u64>
     requires long { length rows.now ≡ config.now.cycle }
     requires sought { CanBeSought config.now wanted }
+    requires phase { phase < wanted.interval }
     requires offset { offset < config.now.frame }
     ensures found { IfOk result (λ row. AreFirstStarts config.now rows.now wanted phase offset (starts_of row)) }
-    ensures most { IfOk result (λ row. row.count ≤ 64) }
+    ensures most { IfOk result (λ row. row.count ≤ MAX_STARTS) }
     ensures blocked { IfErr result (IsNextOffset config.now (HaveStartsAt config.now rows.now wanted phase) offset) }
 {
     let mut row = Row {
-        starts: [0; 64],
+        starts: [0; MAX_STARTS],
         count: 0,
     };
-    for place in 0..u64::from(config.cycle()) {
-        if place % wanted.interval == phase {
-            row.starts[row.count] = start_in(&rows[place as usize], config, wanted, offset)?;
-            row.count += 1;
-        }
+    for index in 0..u64::from(config.cycle()) / wanted.interval {
+        let place = phase + index * wanted.interval;
+        let starts = starts_in(&rows[place as usize], config, wanted, offset)?;
+        row.push(&starts[..wanted.grants]);
     }
     Ok(row)
 }
@@ -127,9 +160,10 @@ fn starts_at(
 fn found_at(rows: &[Bits], config: &Checked, wanted: Wanted, phase: u64) -> Option<Found>
     requires long { length rows.now ≡ config.now.cycle }
     requires sought { CanBeSought config.now wanted }
+    requires phase { phase < wanted.interval }
     ensures phase { IfSome result (λ found. found.phase ≡ phase) }
     ensures found { IfSome result (IsFirstAtPhase config.now rows.now wanted) }
-    ensures most { IfSome result (λ found. found.row.count ≤ 64) }
+    ensures most { IfSome result (λ found. found.row.count ≤ MAX_STARTS) }
     ensures absent { IfNone result (NoneBelow config.now rows.now wanted phase config.now.frame) }
 {
     let mut offset = u64::from(config.req_slots());
@@ -147,7 +181,7 @@ fn first_found(rows: &[Bits], config: &Checked, wanted: Wanted) -> Option<Found>
     requires long { length rows.now ≡ config.now.cycle }
     requires sought { CanBeSought config.now wanted }
     ensures found { IfSome result (IsFirstFound config.now rows.now wanted) }
-    ensures most { IfSome result (λ found. found.row.count ≤ 64) }
+    ensures most { IfSome result (λ found. found.row.count ≤ MAX_STARTS) }
     ensures absent { IfNone result (NonePhase config.now rows.now wanted wanted.interval) }
 {
     for phase in 0..wanted.interval {
@@ -173,7 +207,7 @@ fn first_nominal(config: &Checked, interval: u64, next: u64, phase: u64, offset:
     (frames + wait) * frame + offset
 }
 
-// The lawful placement of the least phase, then the least offset, then the least start in each frame, beside the
+// The lawful placement of the least phase, then the least offset, then the least starts in each frame, beside the
 // flows whose minislots these rows have.
 pub(crate) fn choose(rows: &[Bits], config: &Checked, spec: &FlowSpec, next: u64) -> Option<Chosen>
     requires long { length rows.now ≡ config.now.cycle }
@@ -183,15 +217,11 @@ pub(crate) fn choose(rows: &[Bits], config: &Checked, spec: &FlowSpec, next: u64
     requires most { next ≤ 2 ^ 61 }
     ensures chosen { (placed : List Placed) → AreSound config.now placed → AreRowsOf config.now placed rows.now
         → IfSome result (λ chosen. IsChosen config.now placed spec.now next (chosen_placement chosen)) }
-    ensures count { IfSome result (λ chosen. chosen.row.count ≤ 64) }
+    ensures count { IfSome result (λ chosen. chosen.row.count ≤ MAX_STARTS) }
     ensures absent { (placed : List Placed) → AreSound config.now placed → AreRowsOf config.now placed rows.now
         → IfNone result (NoPlacement config.now placed spec.now next) }
 {
-    let wanted = Wanted {
-        interval: interval(config, spec),
-        jitter: jitter(config, spec),
-        slots: slots(config, spec),
-    };
+    let wanted = wanted_of(config, spec);
     let Some(found) = first_found(rows, config, wanted) else {
         return None;
     };

@@ -1,18 +1,19 @@
 //! What the placed flows take of a frame.
 
-ghost use Rattle.std.specs.Prelude.{◌≡◌, ℕ, ◌<◌, ◌≤◌, ◌+◌, ◌%◌, take, drop, length, true, None};
+ghost use Rattle.std.specs.Prelude.{◌≡◌, ℕ, ◌<◌, ◌≤◌, ◌+◌, ◌%◌, ◌++◌, take, drop, length, true, None};
 ghost use Rattle.std.specs.List.Sorted.{IsPermutation, IsNonDecreasingBy};
 ghost use Rattle.minislots.specs.declared.config.Config.{Config};
 ghost use Rattle.minislots.specs.Config.{IsLawful};
 ghost use Rattle.flow_book.specs.FlowSpec.{is_periodic, is_polled, interval_frames, jitter_slots, periodic_slots};
-ghost use Rattle.flow_book.specs.FlowSpec.{first_fault};
-ghost use Rattle.periodic.specs.Placement.{spot_in, spots_in};
+ghost use Rattle.flow_book.specs.FlowSpec.{grants_of, first_fault};
+ghost use Rattle.periodic.specs.declared.TheConstants.{MAX_PERIODIC_GRANTS};
+ghost use Rattle.periodic.specs.Placement.{starts_in, spot_at, spots_of, spots_in};
 ghost use Rattle.periodic.specs.Bits.{bit_for};
-ghost use Rattle.periodic.specs.Rows.{row_at, IsMarked};
+ghost use Rattle.periodic.specs.Rows.{row_at, AreMarked};
 ghost use Rattle.periodic.specs.Table.{placed_at};
 ghost use Rattle.periodic.specs.Fields.{placed_of, placed_in, KeepsTimes, IsSoundFlow, AreSoundFlows};
 
-use crate::MAX_PERIODIC_FLOWS;
+use crate::MAX_PERIODIC_GRANTS;
 use crate::bits::Bits;
 use crate::placement::{Placement, Spot};
 use flow_book::FlowSpec;
@@ -28,8 +29,9 @@ pub(crate) struct PlacedFlow {
     // The frames of its interval, and in which of them it has its nominal times.
     interval: u64,
     phase: u64,
-    // The minislots of one grant or poll.
+    // The minislots of one grant or poll, and how many a nominal frame has.
     slots: u16,
+    pub(crate) grants: usize,
 }
 
 // The frames of a periodic flow's interval, which divide the cycle.
@@ -87,6 +89,18 @@ pub(crate) fn slots(config: &Checked, spec: &FlowSpec) -> u64
     }
 }
 
+// How many grants or polls a periodic flow has in an interval.
+pub(crate) fn grants(config: &Checked, spec: &FlowSpec) -> usize
+    requires periodic { is_periodic spec.now ≡ true }
+    requires no_fault { first_fault config.now spec.now ≡ None }
+    ensures value { result ≡ grants_of spec.now }
+    ensures positive { 0 < result }
+    ensures most { result ≤ 8 }
+{
+    let _lawful = config.frame();
+    usize::from(spec.grants())
+}
+
 impl PlacedFlow {
     // The flow with this placement.
     pub(crate) fn at(config: &Checked, sid: u16, spec: FlowSpec, placement: Placement) -> PlacedFlow
@@ -102,26 +116,65 @@ impl PlacedFlow {
             interval,
             phase: placement.reference / u64::from(config.frame()) % interval,
             slots: slots(config, &spec) as u16,
+            grants: grants(config, &spec),
             placement,
         }
     }
 
-    // What the flow takes of the frame at this place of the cycle.
-    fn spot(&self, place: u64) -> Option<Spot>
+    // Where the flow starts in the frame at this place of the cycle.
+    fn starts(&self, place: u64) -> &[u16]
         requires sound { (c : Config) × IsSoundFlow c self.now × (place < c.cycle) }
         ensures { (c : Config) → IsSoundFlow c self.now → place < c.cycle
-            → result ≡ spot_in c place (placed_of self.now) }
+            → result.now ≡ starts_in c self.now.spec self.now.placement place }
     {
-        if place % self.interval != self.phase {
-            return None;
-        }
         let starts = self.placement.starts.as_slice();
-        Some(Spot {
+        if place % self.interval != self.phase {
+            return &starts[..0];
+        }
+        let first = (place / self.interval) as usize * self.grants;
+        &starts[first..first + self.grants]
+    }
+
+    // What the flow takes from this start on.
+    fn spot(&self, start: u16) -> Spot
+        ensures { (c : Config) → KeepsTimes c self.now → result ≡ spot_at c (placed_of self.now) start }
+    {
+        Spot {
             sid: self.sid,
             poll: is_polled(&self.spec),
-            offset: starts[(place / self.interval) as usize],
+            offset: start,
             slots: self.slots,
-        })
+        }
+    }
+
+    // Writes what the flow takes of the frame at this place behind so many spots, and answers how many there are then.
+    fn put(&self, place: u64, spots: &mut [Spot; MAX_PERIODIC_GRANTS], count: usize) -> usize
+        requires sound { (c : Config) × IsSoundFlow c self.now × (place < c.cycle)
+            × (count + length (spots_of c place (placed_of self.now)) ≤ MAX_PERIODIC_GRANTS) }
+        ensures spots { (c : Config) → IsSoundFlow c self.now → place < c.cycle
+            → take result spots.new ≡ take count spots.old ++ spots_of c place (placed_of self.now) }
+        ensures rest { drop result spots.new ≡ drop result spots.old }
+        ensures more { count ≤ result }
+        ensures most { result ≤ MAX_PERIODIC_GRANTS }
+    {
+        let mut next = count;
+        for start in self.starts(place) {
+            spots[next] = self.spot(*start);
+            next += 1;
+        }
+        next
+    }
+
+    // Marks what the flow takes of the frame at this place as taken, or as free.
+    fn mark(&self, place: u64, bits: &mut Bits, taken: bool)
+        requires sound { (c : Config) × IsSoundFlow c self.now × (place < c.cycle) }
+        ensures { (c : Config) → IsSoundFlow c self.now → place < c.cycle
+            → AreMarked (spots_of c place (placed_of self.now)) (bit_for taken) bits.old.words bits.new.words }
+    {
+        for start in self.starts(place) {
+            let start = u64::from(*start);
+            bits.mark(start, start + u64::from(self.slots), taken);
+        }
     }
 }
 
@@ -130,21 +183,18 @@ pub(crate) fn fill(
     flows: &[PlacedFlow],
     config: &Checked,
     k: u64,
-    spots: &mut [Spot; MAX_PERIODIC_FLOWS],
+    spots: &mut [Spot; MAX_PERIODIC_GRANTS],
 ) -> usize
     requires sound { AreSoundFlows config.now flows.now }
     ensures spots { take result spots.new ≡ spots_in config.now k (placed_in flows.now) }
     ensures rest { drop result spots.new ≡ drop result spots.old }
-    ensures most { result ≤ length flows.now }
+    ensures most { result ≤ MAX_PERIODIC_GRANTS }
     ensures lawful { IsLawful config.now }
 {
     let place = k % u64::from(config.cycle());
     let mut count = 0;
     for flow in flows {
-        if let Some(spot) = flow.spot(place) {
-            spots[count] = spot;
-            count += 1;
-        }
+        count = flow.put(place, spots, count);
     }
     count
 }
@@ -154,14 +204,11 @@ pub(crate) fn mark(rows: &mut [Bits], config: &Checked, flow: &PlacedFlow, taken
     requires sound { IsSoundFlow config.now flow.now }
     requires long { length rows.old ≡ config.now.cycle }
     ensures long { length rows.new ≡ config.now.cycle }
-    ensures marked { (k : ℕ) → IsMarked (spot_in config.now k (placed_of flow.now)) (bit_for taken)
+    ensures marked { (k : ℕ) → AreMarked (spots_of config.now k (placed_of flow.now)) (bit_for taken)
         (row_at config.now rows.old k) (row_at config.now rows.new k) }
 {
     for place in 0..u64::from(config.cycle()) {
-        if let Some(spot) = flow.spot(place) {
-            let start = u64::from(spot.offset);
-            rows[place as usize].mark(start, start + u64::from(spot.slots), taken);
-        }
+        flow.mark(place, &mut rows[place as usize], taken);
     }
 }
 

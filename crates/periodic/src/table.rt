@@ -1,19 +1,19 @@
 //! The placements of a channel's periodic flows in the cycle of frames.
 
-ghost use Rattle.std.specs.Prelude.{◌≡◌, ℕ, ◌<◌, ◌==◌, nat_lt, position, ◌≤◌, ◌^◌, ◌%◌, ◌↔◌, [], length, take, drop};
-ghost use Rattle.std.specs.Prelude.{true, false, None, IfOk, OnErr, IsErrOf, IfSome, IfNone};
+ghost use Rattle.std.specs.Prelude.{◌≡◌, ℕ, ◌+◌, ◌<◌, ◌==◌, nat_lt, position, ◌≤◌, ◌^◌, ◌%◌, ◌↔◌, []};
+ghost use Rattle.std.specs.Prelude.{length, take, drop, true, false, None, IfOk, OnErr, IsErrOf, IfSome, IfNone};
 ghost use Rattle.std.specs.List.{AllByRecursion};
 ghost use Rattle.std.specs.List.Sorted.{IsPermutation};
-ghost use Rattle.flow_book.specs.FlowSpec.{is_periodic, first_fault};
-ghost use Rattle.periodic.specs.declared.TheConstants.{MAX_PERIODIC_FLOWS};
+ghost use Rattle.flow_book.specs.FlowSpec.{is_periodic, grants_of, first_fault};
+ghost use Rattle.periodic.specs.declared.TheConstants.{MAX_PERIODIC_GRANTS, MAX_STARTS};
 ghost use Rattle.periodic.specs.Placement.{spots_in, IsPlacement, NoPlacement};
 ghost use Rattle.periodic.specs.Choice.{IsChosen};
 ghost use Rattle.periodic.specs.Fields.{placement_at};
 ghost use Rattle.periodic.specs.Search.{chosen_placement};
-ghost use Rattle.periodic.specs.Table.{IsPlaced, IsNotPlaced, HasPlacement, placed_at, with_placed, without};
-ghost use Rattle.periodic.specs.Table.{AreSound, IsWithinFrame, FollowInTurn};
+ghost use Rattle.periodic.specs.Table.{placed_grants, IsPlaced, IsNotPlaced, HasPlacement, placed_at, with_placed};
+ghost use Rattle.periodic.specs.Table.{without, AreSound, IsWithinFrame, FollowInTurn};
 
-use crate::MAX_PERIODIC_FLOWS;
+use crate::MAX_PERIODIC_GRANTS;
 use crate::adopt::is_lawful;
 use crate::bits::Bits;
 use crate::placement::{PlaceFault, Placement, Spot, Starts};
@@ -24,14 +24,16 @@ use minislots::Checked;
 use std::alloc::{AllocError, Global};
 use std::marker::Model;
 
-/// The placements of one channel's periodic flows, in order of SID, at most [`MAX_PERIODIC_FLOWS`]. No two of them take
-/// the same minislot of a frame.
+/// The placements of one channel's periodic flows, in order of SID, with at most [`MAX_PERIODIC_GRANTS`] grants per
+/// interval. No two grants or polls take the same minislot of a frame.
 #[derive(Drop)]
 pub struct Table {
     config: Checked,
     flows: Vec<PlacedFlow>,
     // What the flows take of each frame of the cycle.
     rows: Vec<Bits>,
+    // Their grants per interval.
+    grants: usize,
 }
 
 impl Model for Table {
@@ -44,7 +46,7 @@ impl Model for Table {
 
     ghost view = { λ t. record { config = t.config; placed = map placed_of t.flows.items } };
 
-    ghost invariant = { λ t. AreSoundFields t.config t.flows.items t.rows.items };
+    ghost invariant = { λ t. AreSoundFields t.config t.flows.items t.rows.items t.grants };
 }
 
 impl Table {
@@ -59,6 +61,7 @@ impl Table {
             config,
             flows: Vec::new(alloc),
             rows,
+            grants: 0,
         })
     }
 
@@ -78,6 +81,14 @@ impl Table {
         self.flows.len()
     }
 
+    /// The grants per interval of the flows that are placed.
+    pub fn grants(&self) -> usize
+        ensures value { result ≡ placed_grants self.now.placed }
+        ensures sound { AreSound self.now.config self.now.placed }
+    {
+        self.grants
+    }
+
     /// Whether no flow is placed.
     pub fn is_empty(&self) -> bool
         ensures { result ≡ (length self.now.placed == 0) }
@@ -87,15 +98,15 @@ impl Table {
 
     /// Places a periodic flow, from `next` on: a lawful placement beside those that stand, and its
     /// first nominal time at or after `next`. The flow has a new SID from 1 to 8191 and parameters
-    /// without fault, fewer than [`MAX_PERIODIC_FLOWS`] are placed, and `next` is the start of a
-    /// frame, at most 2^61. After a fault nothing has changed.
+    /// without fault, its grants per interval and those of the flows that are placed are at most
+    /// [`MAX_PERIODIC_GRANTS`], and `next` is the start of a frame, at most 2^61. After a fault nothing has changed.
     pub fn place(&mut self, sid: u16, spec: &FlowSpec, next: u64) -> Result<Placement, PlaceFault>
         requires sid_positive { 0 < sid }
         requires sid_most { sid ≤ 8191 }
         requires is_new { IsNotPlaced sid self.old.placed }
         requires periodic { is_periodic spec.now ≡ true }
         requires no_fault { first_fault self.old.config spec.now ≡ None }
-        requires room { length self.old.placed < MAX_PERIODIC_FLOWS }
+        requires room { placed_grants self.old.placed + grants_of spec.now ≤ MAX_PERIODIC_GRANTS }
         requires aligned { next % self.old.config.frame ≡ 0 }
         requires most { next ≤ 2 ^ 61 }
 
@@ -135,7 +146,7 @@ impl Table {
         requires is_new { IsNotPlaced sid self.old.placed }
         requires periodic { is_periodic spec.now ≡ true }
         requires no_fault { first_fault self.old.config spec.now ≡ None }
-        requires room { length self.old.placed < MAX_PERIODIC_FLOWS }
+        requires room { placed_grants self.old.placed + grants_of spec.now ≤ MAX_PERIODIC_GRANTS }
         requires aligned { next % self.old.config.frame ≡ 0 }
         requires most { next ≤ 2 ^ 61 }
 
@@ -169,16 +180,17 @@ impl Table {
             return;
         };
         mark(&mut self.rows, &self.config, &self.flows[place], false);
+        self.grants -= self.flows[place].grants;
         self.flows.retain(|flow| flow.sid != sid);
     }
 
     /// Writes what the placed flows take of frame `k`, in the order of their offsets, and answers how
     /// many spots these are. The rest of the array stays.
-    pub fn in_frame(&self, k: u64, spots: &mut [Spot; MAX_PERIODIC_FLOWS]) -> usize
+    pub fn in_frame(&self, k: u64, spots: &mut [Spot; MAX_PERIODIC_GRANTS]) -> usize
         // Exactly the spots of the frame are written.
         ensures spots { IsPermutation (spots_in self.now.config k self.now.placed) (take result spots.new) }
         ensures rest { drop result spots.new ≡ drop result spots.old }
-        ensures most { result ≤ MAX_PERIODIC_FLOWS }
+        ensures most { result ≤ MAX_PERIODIC_GRANTS }
 
         // They stand one after the other, behind the request region and within the frame.
         ensures ascending { FollowInTurn (take result spots.new) }
@@ -197,7 +209,7 @@ impl Table {
         requires most { next ≤ 2 ^ 61 }
         ensures chosen { IfSome result (λ chosen.
             IsChosen self.now.config self.now.placed spec.now next (chosen_placement chosen)) }
-        ensures count { IfSome result (λ chosen. chosen.row.count ≤ 64) }
+        ensures count { IfSome result (λ chosen. chosen.row.count ≤ MAX_STARTS) }
         ensures absent { IfNone result (NoPlacement self.now.config self.now.placed spec.now next) }
     {
         choose(&self.rows, &self.config, spec, next)
@@ -227,7 +239,7 @@ impl Table {
         requires is_new { IsNotPlaced sid self.old.placed }
         requires periodic { is_periodic spec ≡ true }
         requires no_fault { first_fault self.old.config spec ≡ None }
-        requires room { length self.old.placed < MAX_PERIODIC_FLOWS }
+        requires room { placed_grants self.old.placed + grants_of spec ≤ MAX_PERIODIC_GRANTS }
         requires lawful { (next : ℕ)
             × IsPlacement self.old.config self.old.placed spec next (placement_at reference starts.now) }
         ensures placement { IfOk result (λ p. p ≡ placement_at reference starts.now) }
@@ -244,8 +256,10 @@ impl Table {
             starts: Starts::from_vec(kept),
         };
         let flow = PlacedFlow::at(&self.config, sid, spec, placement);
+        let grants = flow.grants;
         self.flows.insert(place, flow)?;
         mark(&mut self.rows, &self.config, &self.flows[place], true);
+        self.grants += grants;
         Ok(Placement {
             reference,
             starts: Starts::from_vec(answered),

@@ -29,7 +29,8 @@ PlacesOrRefuses c h spec reply =
 
 -- an admission's answer: a best effort flow has no place
 abbrev pub AnswersAdmit : Config → List Entry → FlowSpec → Reply → Type 0
-AnswersAdmit c h (Unsolicited size interval jitter) reply = PlacesOrRefuses c h (Unsolicited size interval jitter) reply
+AnswersAdmit c h (Unsolicited size interval jitter grants) reply =
+    PlacesOrRefuses c h (Unsolicited size interval jitter grants) reply
 AnswersAdmit c h (Polled interval jitter rate burst) reply =
     PlacesOrRefuses c h (Polled interval jitter rate burst) reply
 AnswersAdmit c h (BestEffort priority rate burst) reply = reply ≡ replies.Admitted None

@@ -33,8 +33,8 @@ IsEncodable (replies.Refused refusal) = Unit {0}
 
 -- a place for the flow exists, where it needs one
 abbrev pub IsPlaceable : Config → List Entry → FlowSpec → Type 0
-IsPlaceable c h (Unsolicited size interval jitter) =
-    (p : Placement) × IsPlacement c (table_of h) (Unsolicited size interval jitter) (next_after c h) p
+IsPlaceable c h (Unsolicited size interval jitter grants) =
+    (p : Placement) × IsPlacement c (table_of h) (Unsolicited size interval jitter grants) (next_after c h) p
 IsPlaceable c h (Polled interval jitter rate burst) =
     (p : Placement) × IsPlacement c (table_of h) (Polled interval jitter rate burst) (next_after c h) p
 IsPlaceable c h (BestEffort priority rate burst) = Unit {0}

@@ -1,11 +1,11 @@
 -- The refusals of each call, in the order of their tests.
 use Rattle.std.specs.Prelude.{ℕ, ◌+◌, ◌^◌, Bool, false, not, ◌||◌, ◌&&◌, nat_lt, nat_le, ◌==◌, List, [], ◌∷◌}
-use Rattle.std.specs.Prelude.{length, count_by, Option, None, Some, is_some, option_map, if◌then◌else◌}
+use Rattle.std.specs.Prelude.{length, sum_by, Option, None, Some, is_some, option_map, if◌then◌else◌}
 use Rattle.std.specs.Option.{option_or, option_map_or}
 use Rattle.minislots.specs.declared.config.Config.{Config}
 use Rattle.flow_book.specs.declared.TheConstants.{MAX_FLOWS}
-use Rattle.flow_book.specs.FlowSpec.{is_periodic, takes_requests, first_fault}
-use Rattle.periodic.specs.declared.TheConstants.{MAX_PERIODIC_FLOWS}
+use Rattle.flow_book.specs.FlowSpec.{is_periodic, grants_of, takes_requests, first_fault}
+use Rattle.periodic.specs.declared.TheConstants.{MAX_PERIODIC_GRANTS}
 use Rattle.sched_history.specs.declared.call.Call.{Call}
 use Rattle.sched_history.specs.declared.call.Call.TheVariants.{Admit, Remove, Ask, Heard, Build, Skip, Status}
 use Rattle.sched_history.specs.declared.reply.Refusal.{Refusal}
@@ -46,8 +46,9 @@ is_live sid h = is_some (life_of sid h)
 abbrev pub is_silent : ℕ → List Entry → Bool
 is_silent sid h = option_map_or (λ life. not (takes_requests life.admission.spec)) (life_of sid h) false
 
-abbrev pub periodic_count : List Entry → ℕ
-periodic_count h = count_by (λ f. is_periodic f.spec) (flows_of h)
+-- the grants per interval of the live flows
+abbrev pub periodic_grants : List Entry → ℕ
+periodic_grants h = sum_by (λ f. grants_of f.spec) (flows_of h)
 
 -- the first refusal of a call after a history; that there is no place for a flow is not among these
 abbrev pub refusal_of : Config → List Entry → Call → Option Refusal
@@ -56,7 +57,7 @@ refusal_of c h (Admit sid spec) = first_of (
     refused_if (is_live sid h) SidLive ∷
     option_map BadFlow (first_fault c spec) ∷
     refused_if (nat_le MAX_FLOWS (length (flows_of h))) FlowsFull ∷
-    refused_if (is_periodic spec && nat_le MAX_PERIODIC_FLOWS (periodic_count h)) PeriodicFull ∷ [])
+    refused_if (is_periodic spec && nat_lt MAX_PERIODIC_GRANTS (periodic_grants h + grants_of spec)) PeriodicFull ∷ [])
 refusal_of c h (Remove sid) = first_of (refused_if (bad_sid sid) BadSid ∷ refused_if (not (is_live sid h)) NoFlow ∷ [])
 refusal_of c h (Ask receiver sid bytes heard) = first_of (
     refused_if (bad_sid sid) BadSid ∷

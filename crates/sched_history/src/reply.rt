@@ -26,7 +26,8 @@ pub enum Refusal {
     BadFlow(FlowFault),
     /// [`flow_book::MAX_FLOWS`] flows are live.
     FlowsFull,
-    /// [`periodic::MAX_PERIODIC_FLOWS`] periodic flows are live.
+    /// The grants per interval of the live periodic flows and of this one are more than
+    /// [`periodic::MAX_PERIODIC_GRANTS`].
     PeriodicFull,
     /// No lawful placement exists.
     NoPlace,

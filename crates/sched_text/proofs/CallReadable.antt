@@ -40,18 +40,18 @@ counts_readable limit (n ∷ ns) most fits =
 
 flow_readable : (spec : FlowSpec) → FlowFits spec → IsReadable (flow_data spec)
 unfolding flow_data
-flow_readable (Unsolicited size interval jitter) fits = (
+flow_readable (Unsolicited size interval jitter grants) fits = (
   refl,
   (
     refl,
-    of_word interval fits.1,
+    of_byte grants fits.3,
     (
       refl,
-      of_word jitter fits.2,
+      of_word interval fits.1,
       (
         refl,
-        name (codes "unsolicited") refl,
-        (refl, of_word size fits.0, tt),
+        of_word jitter fits.2,
+        (refl, name (codes "unsolicited") refl, (refl, of_word size fits.0, tt)),
       ),
     ),
   ),

@@ -26,7 +26,7 @@ depth-counts ns = let e = depth-numbers ns in omega (arith, e)
 
 depth-flow : (spec : FlowSpec) → depth (flow_data spec) ≡ 1
 unfolding flow_data
-depth-flow (Unsolicited size interval jitter) = refl
+depth-flow (Unsolicited size interval jitter grants) = refl
 depth-flow (Polled interval jitter rate burst) = refl
 depth-flow (BestEffort priority rate burst) = refl
 

@@ -12,7 +12,7 @@ use Rattle.flow_book.specs.declared.spec.FlowSpec.TheVariants.{Unsolicited, Poll
 use Rattle.sched_history.specs.declared.call.Call.{Call}
 use Rattle.sched_history.specs.declared.call.Call.TheVariants.{Admit, Remove, Ask, Heard, Build, Skip, Status}
 use Rattle.sched_text.specs.Fields.{below, number_at, u8_at, u16_at, u32_at, u64_at, text_at, slots_of, sizes_of}
-use Rattle.sched_text.specs.Fields.{counts_of, windows_of, phy_of, config_of}
+use Rattle.sched_text.specs.Fields.{counts_of, windows_of, u8_or, config_of}
 use Rattle.sched_text.specs.Calls.{unsolicited_of, polled_of, best_effort_of, flow_of, admit_call, remove_call}
 use Rattle.sched_text.specs.Calls.{ask_call, heard_call, build_call, skip_call, status_call, call_of}
 use Rattle.sched_text.specs.Script.{calls_of, script_of}
@@ -26,10 +26,11 @@ below-fits limit n fits = rw (lt-ltb n limit fits) refl
 
 -- a flow is read back
 pub flow_of-data : (spec : FlowSpec) → FlowFits spec → flow_of (flow_data spec) ≡ Some spec
-unfolding flow_of unsolicited_of polled_of best_effort_of u8_at u32_at number_at text_at flow_data
-flow_of-data (Unsolicited size interval jitter) fits =
+unfolding flow_of unsolicited_of polled_of best_effort_of u8_at u8_or u32_at number_at text_at flow_data
+flow_of-data (Unsolicited size interval jitter grants) fits =
     rw (below-fits (2 ^ 32) size fits.0) (
-    rw (below-fits (2 ^ 32) interval fits.1) (rw (below-fits (2 ^ 32) jitter fits.2) refl))
+    rw (below-fits (2 ^ 32) interval fits.1) (rw (below-fits (2 ^ 32) jitter fits.2)
+    (rw (below-fits (2 ^ 8) grants fits.3) refl)))
 flow_of-data (Polled interval jitter rate burst) fits =
     rw (below-fits (2 ^ 32) interval fits.0) (
     rw (below-fits (2 ^ 32) jitter fits.1) (rw (below-fits (2 ^ 32) rate fits.2)
@@ -57,7 +58,7 @@ call_of-data (Status sid) fits = rw (below-fits (2 ^ 16) sid fits) refl
 
 -- a configuration is read back
 pub config_of-data : (c : Config) → ConfigFits c → config_of (config_data c) ≡ Some c
-unfolding config_of slots_of sizes_of counts_of windows_of phy_of u8_at u32_at u64_at number_at config_data
+unfolding config_of slots_of sizes_of counts_of windows_of u8_or u8_at u32_at u64_at number_at config_data
 config_of-data c fits =
     rw (below-fits (2 ^ 32) c.ticks fits.ticks) (
     rw (below-fits (2 ^ 32) c.bytes_per_slot fits.bytes_per_slot) (

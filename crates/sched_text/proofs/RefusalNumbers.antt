@@ -3,7 +3,7 @@ use Rattle.std.proofs.Common.{◌≡◌, ◌<◌, ◌^◌, ℕ, ◌==◌, false,
 use Rattle.std.specs.Prelude.{find}
 use Rattle.flow_book.specs.declared.spec.FlowFault.{FlowFault}
 use Rattle.flow_book.specs.declared.spec.FlowFault.TheVariants.{Size, IntervalNotWhole, IntervalNotFrames}
-use Rattle.flow_book.specs.declared.spec.FlowFault.TheVariants.{IntervalNotInCycle, Priority, Burst}
+use Rattle.flow_book.specs.declared.spec.FlowFault.TheVariants.{IntervalNotInCycle, Priority, Burst, Grants}
 use Rattle.sched_history.specs.declared.reply.Refusal.{Refusal}
 use Rattle.sched_history.specs.declared.reply.Refusal.TheVariants.{BadSid, SidLive, BadFlow, FlowsFull, PeriodicFull}
 use Rattle.sched_history.specs.declared.reply.Refusal.TheVariants.{NoPlace, NoFlow, NotAsking, BadReceiver, BadBytes}
@@ -31,6 +31,7 @@ refusal_with-number (BadFlow IntervalNotFrames) = refl
 refusal_with-number (BadFlow IntervalNotInCycle) = refl
 refusal_with-number (BadFlow Priority) = refl
 refusal_with-number (BadFlow Burst) = refl
+refusal_with-number (BadFlow Grants) = refl
 refusal_with-number FlowsFull = refl
 refusal_with-number PeriodicFull = refl
 refusal_with-number NoPlace = refl

@@ -10,7 +10,7 @@ use Rattle.flow_book.proofs.Base.{base}
 use Rattle.sched_history.specs.declared.call.Call.TheVariants.{Build}
 use Rattle.sched_text.specs.declared.fault.TextFault.{TextFault}
 use Rattle.sched_text.specs.declared.fault.TextFault.TheVariants.{Input, NotJson, Shape, Config, Memory}
-use Rattle.sched_text.specs.Fields.{config_of, slots_of, sizes_of, counts_of, windows_of, phy_of, u8_at, u16_at, u32_at}
+use Rattle.sched_text.specs.Fields.{config_of, slots_of, sizes_of, counts_of, windows_of, u8_or, u8_at, u16_at, u32_at}
 use Rattle.sched_text.specs.Fields.{u64_at, number_at, text_at}
 use Rattle.sched_text.specs.Calls.{call_of, build_call}
 use Rattle.sched_text.specs.Script.{calls_of, script_of}
@@ -41,7 +41,7 @@ whole = document (codes "4") (codes "\"calls\":[" ++ (build ++ codes "]"))
 
 a_script : outcome_of whole ≡ Ok (record { config = base; calls = Build 760 ∷ [] })
 unfolding outcome_of text_outcome value_of script_of calls_of config_of slots_of sizes_of counts_of windows_of
-    phy_of u8_at u16_at u32_at u64_at number_at text_at call_of build_call first_wrong is_utf8 chars encode_utf8
+    u8_or u8_at u16_at u32_at u64_at number_at text_at call_of build_call first_wrong is_utf8 chars encode_utf8
     serde_json_on_literals
 a_script = refl
 
@@ -57,13 +57,13 @@ a_script_has_no_fault new fault stops = elim (script-told whole new fault stops)
 -- a text that is no JSON, and one that is but is no script
 a_broken_text : outcome_of (codes "{") ≡ Err NotJson
 unfolding outcome_of text_outcome value_of script_of calls_of config_of slots_of sizes_of counts_of windows_of
-    phy_of u8_at u16_at u32_at u64_at number_at text_at call_of build_call first_wrong is_utf8 chars encode_utf8
+    u8_or u8_at u16_at u32_at u64_at number_at text_at call_of build_call first_wrong is_utf8 chars encode_utf8
     serde_json_on_literals
 a_broken_text = refl
 
 an_empty_object : outcome_of (codes "{}") ≡ Err (Shape 0)
 unfolding outcome_of text_outcome value_of script_of calls_of config_of slots_of sizes_of counts_of windows_of
-    phy_of u8_at u16_at u32_at u64_at number_at text_at call_of build_call first_wrong is_utf8 chars encode_utf8
+    u8_or u8_at u16_at u32_at u64_at number_at text_at call_of build_call first_wrong is_utf8 chars encode_utf8
     serde_json_on_literals
 an_empty_object = refl
 
@@ -81,7 +81,7 @@ two_broken = document (codes "3") (codes "\"calls\":[" ++ (broken ++ (codes "," 
 
 the_first_broken_call : outcome_of two_broken ≡ Err (Shape 1)
 unfolding outcome_of text_outcome value_of script_of calls_of config_of slots_of sizes_of counts_of windows_of
-    phy_of u8_at u16_at u32_at u64_at number_at text_at call_of build_call first_wrong is_utf8 chars encode_utf8
+    u8_or u8_at u16_at u32_at u64_at number_at text_at call_of build_call first_wrong is_utf8 chars encode_utf8
     serde_json_on_literals
 the_first_broken_call = refl
 
@@ -103,7 +103,7 @@ its_configuration_does_not_stop_it new stops = elim (script-told two_broken new 
 -- the same without a call: now it is the configuration
 a_wrong_configuration : outcome_of (document (codes "3") (codes "\"calls\":[]")) ≡ Err (Config Ticks)
 unfolding outcome_of text_outcome value_of script_of calls_of config_of slots_of sizes_of counts_of windows_of
-    phy_of u8_at u16_at u32_at u64_at number_at text_at call_of build_call first_wrong is_utf8 chars encode_utf8
+    u8_or u8_at u16_at u32_at u64_at number_at text_at call_of build_call first_wrong is_utf8 chars encode_utf8
     serde_json_on_literals
 a_wrong_configuration = refl
 
@@ -113,7 +113,7 @@ storm = document (codes "4") (codes "\"scripts\":[[" ++ (build ++ (codes "],[" +
 
 the_second_call_of_a_storm : storm_outcome storm ≡ Err (Shape 2)
 unfolding storm_outcome storm_text value_of storm_of are_scripts scripts_of calls_of config_of slots_of sizes_of
-    counts_of windows_of phy_of u8_at u16_at u32_at u64_at number_at text_at call_of build_call first_wrong is_utf8 chars
+    counts_of windows_of u8_or u8_at u16_at u32_at u64_at number_at text_at call_of build_call first_wrong is_utf8 chars
     encode_utf8 serde_json_on_literals
 the_second_call_of_a_storm = refl
 

@@ -6,15 +6,16 @@ use Rattle.flow_book.specs.declared.spec.FlowSpec.{FlowSpec}
 use Rattle.flow_book.specs.declared.spec.FlowSpec.TheVariants.{Unsolicited, Polled, BestEffort}
 use Rattle.sched_history.specs.declared.call.Call.{Call}
 use Rattle.sched_history.specs.declared.call.Call.TheVariants.{Admit, Remove, Ask, Heard, Build, Skip, Status}
-use Rattle.sched_text.specs.Fields.{◌>>=◌, u8_at, u16_at, u32_at, u64_at, text_at}
+use Rattle.sched_text.specs.Fields.{◌>>=◌, u8_at, u16_at, u32_at, u64_at, u8_or, text_at}
 
--- a flow of unsolicited grants
+-- a flow of unsolicited grants: one in an interval where their number is missing
 unfoldable pub unsolicited_of : Data → Option FlowSpec
 unsolicited_of d = do
   size ← u32_at (codes "size") d
   interval ← u32_at (codes "interval_us") d
   jitter ← u32_at (codes "jitter_us") d
-  Some (Unsolicited size interval jitter)
+  grants ← u8_or 1 (codes "grants") d
+  Some (Unsolicited size interval jitter grants)
 
 -- a polled flow
 unfoldable pub polled_of : Data → Option FlowSpec

@@ -87,16 +87,17 @@ windows_of first last d = do
   end ← u8_at last d
   Some (start, end)
 
--- what a key that may be missing stands for: 0 where it is
-abbrev pub or_0 : Option Data → Option ℕ → Option ℕ
-or_0 None there = Some 0
-or_0 (Some found) there = there
+-- what a key that may be missing stands for: this number where it is
+abbrev pub or_number : ℕ → Option Data → Option ℕ → Option ℕ
+or_number missing None there = Some missing
+or_number missing (Some found) there = there
 
--- the channel's physical layer
-unfoldable pub phy_of : Data → Option ℕ
-phy_of d = or_0 (get (codes "phy") d) (u8_at (codes "phy") d)
+-- the number under a key that may be missing, where it fits 8 bits
+unfoldable pub u8_or : ℕ → List ℕ → Data → Option ℕ
+u8_or missing key d = or_number missing (get key d) (u8_at key d)
 
--- the configuration that an object stands for: it has every field but that of the physical layer, which may be missing
+-- the configuration that an object stands for: it has every field but that of the physical layer, which is 0 where it is
+-- missing
 unfoldable pub config_of : Data → Option Config
 config_of d = do
   slots ← slots_of d
@@ -104,7 +105,7 @@ config_of d = do
   counts ← counts_of d
   ranging ← windows_of (codes "ranging_start") (codes "ranging_end") d
   backoff ← windows_of (codes "data_start") (codes "data_end") d
-  phy ← phy_of d
+  phy ← u8_or 0 (codes "phy") d
   Some (record {
     ticks = slots.0;
     bytes_per_slot = slots.1;

@@ -21,7 +21,8 @@ use Rattle.sched_text.specs.Recorded.{history_outcome}
 
 -- the numbers of a flow fit their types
 abbrev pub FlowFits : FlowSpec → Type 0
-FlowFits (Unsolicited size interval jitter) = (size < 2 ^ 32) × (interval < 2 ^ 32) × (jitter < 2 ^ 32)
+FlowFits (Unsolicited size interval jitter grants) = (size < 2 ^ 32) × (interval < 2 ^ 32) × (jitter < 2 ^ 32)
+    × (grants < 2 ^ 8)
 FlowFits (Polled interval jitter rate burst) = (interval < 2 ^ 32) × (jitter < 2 ^ 32) × (rate < 2 ^ 32)
     × (burst < 2 ^ 32)
 FlowFits (BestEffort priority rate burst) = (priority < 2 ^ 8) × (rate < 2 ^ 32) × (burst < 2 ^ 32)

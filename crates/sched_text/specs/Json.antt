@@ -26,9 +26,10 @@ counts ns = array (items_of (map count ns))
 
 -- a flow, by its kind
 unfoldable pub flow_data : FlowSpec → Data
-flow_data (Unsolicited size interval jitter) = object (
-    member (codes "interval_us") (count interval) (member (codes "jitter_us") (count jitter) (
-    member (codes "kind") (string (codes "unsolicited")) (member (codes "size") (count size) no_members))))
+flow_data (Unsolicited size interval jitter grants) = object (
+    member (codes "grants") (count grants) (member (codes "interval_us") (count interval) (
+    member (codes "jitter_us") (count jitter) (member (codes "kind") (string (codes "unsolicited")) (
+    member (codes "size") (count size) no_members)))))
 flow_data (Polled interval jitter rate burst) = object (
     member (codes "burst") (count burst) (member (codes "interval_us") (count interval) (
     member (codes "jitter_us") (count jitter) (member (codes "kind") (string (codes "polled")) (

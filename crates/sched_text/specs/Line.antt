@@ -4,7 +4,7 @@ use Rattle.hex.specs.Hex.{encode_lower}
 use Rattle.map_codec.specs.WireMap.{spelling}
 use Rattle.flow_book.specs.declared.spec.FlowFault.{FlowFault}
 use Rattle.flow_book.specs.declared.spec.FlowFault.TheVariants.{Size, IntervalNotWhole, IntervalNotFrames}
-use Rattle.flow_book.specs.declared.spec.FlowFault.TheVariants.{IntervalNotInCycle, Priority, Burst}
+use Rattle.flow_book.specs.declared.spec.FlowFault.TheVariants.{IntervalNotInCycle, Priority, Burst, Grants}
 use Rattle.sched_history.specs.declared.reply.Refusal.{Refusal}
 use Rattle.sched_history.specs.declared.reply.Refusal.TheVariants.{BadSid, SidLive, BadFlow, FlowsFull, PeriodicFull}
 use Rattle.sched_history.specs.declared.reply.Refusal.TheVariants.{NoPlace, NoFlow, NotAsking, BadReceiver, BadBytes}
@@ -37,6 +37,7 @@ fault_number IntervalNotFrames = 3
 fault_number IntervalNotInCycle = 4
 fault_number Priority = 5
 fault_number Burst = 6
+fault_number Grants = 7
 
 -- the number of a refusal
 abbrev pub refusal_number : Refusal → ℕ

@@ -3,8 +3,8 @@ use Rattle.std.specs.Prelude.{ℕ, List, [], ◌∷◌, ◌++◌, codes, decimal
 use Rattle.flow_book.specs.declared.TheConstants.{MAX_FLOWS}
 use Rattle.flow_book.specs.declared.spec.FlowFault.{FlowFault}
 use Rattle.flow_book.specs.declared.spec.FlowFault.TheVariants.{Size, IntervalNotWhole, IntervalNotFrames}
-use Rattle.flow_book.specs.declared.spec.FlowFault.TheVariants.{IntervalNotInCycle, Priority, Burst}
-use Rattle.periodic.specs.declared.TheConstants.{MAX_PERIODIC_FLOWS}
+use Rattle.flow_book.specs.declared.spec.FlowFault.TheVariants.{IntervalNotInCycle, Priority, Burst, Grants}
+use Rattle.periodic.specs.declared.TheConstants.{MAX_PERIODIC_GRANTS}
 use Rattle.sched_history.specs.declared.reply.Refusal.{Refusal}
 use Rattle.sched_history.specs.declared.reply.Refusal.TheVariants.{BadSid, SidLive, BadFlow, FlowsFull, PeriodicFull}
 use Rattle.sched_history.specs.declared.reply.Refusal.TheVariants.{NoPlace, NoFlow, NotAsking, BadReceiver, BadBytes}
@@ -23,6 +23,7 @@ fault_words IntervalNotFrames = codes "bad interval: it is 0 or not whole frames
 fault_words IntervalNotInCycle = codes "bad interval: its frames do not divide the cycle"
 fault_words Priority = codes "bad priority: it is above 7"
 fault_words Burst = codes "bad burst: there is a rate, and the burst is below the quantum"
+fault_words Grants = codes "bad grants: they are 0 or above 8 in an interval"
 
 -- what a refusal means, up to its number where it has one
 abbrev pub words_before : Refusal → List ℕ
@@ -30,7 +31,7 @@ words_before BadSid = codes "bad SID: it is 0 or above 8191"
 words_before SidLive = codes "the SID is live already"
 words_before (BadFlow fault) = fault_words fault
 words_before FlowsFull = codes "no more flows: there are "
-words_before PeriodicFull = codes "no more periodic flows: there are "
+words_before PeriodicFull = codes "too many grants: in an interval those of the periodic flows would be above "
 words_before NoPlace = codes "no place: the live flows leave none in the cycle that is lawful"
 words_before NoFlow = codes "no flow with this SID is live"
 words_before NotAsking = codes "a flow of unsolicited grants does not ask"
@@ -44,13 +45,13 @@ words_before (TooEarly slot) = codes "too early: the next frame starts at "
 words_before (Late slot) = codes "too late: the next frame starts at "
 words_before (NotLate slot) = codes "not late: the next frame starts at "
 
--- the number that it tells: how many flows can be live, or a minislot
+-- the number that it tells: how many flows or grants there can be, or a minislot
 abbrev pub number_told : Refusal → Option ℕ
 number_told BadSid = None
 number_told SidLive = None
 number_told (BadFlow fault) = None
 number_told FlowsFull = Some MAX_FLOWS
-number_told PeriodicFull = Some MAX_PERIODIC_FLOWS
+number_told PeriodicFull = Some MAX_PERIODIC_GRANTS
 number_told NoPlace = None
 number_told NoFlow = None
 number_told NotAsking = None
@@ -70,7 +71,7 @@ words_behind BadSid = []
 words_behind SidLive = []
 words_behind (BadFlow fault) = []
 words_behind FlowsFull = codes " already"
-words_behind PeriodicFull = codes " already"
+words_behind PeriodicFull = []
 words_behind NoPlace = []
 words_behind NoFlow = []
 words_behind NotAsking = []

@@ -67,6 +67,7 @@ fn fault_number(fault: FlowFault) -> u64
         FlowFault::IntervalNotInCycle => 4,
         FlowFault::Priority => 5,
         FlowFault::Burst => 6,
+        FlowFault::Grants => 7,
     }
 }
 

@@ -13,7 +13,7 @@ use crate::output::put;
 use crate::watched::Sink;
 use flow_book::{FlowFault, MAX_FLOWS};
 use itoa::Buffer;
-use periodic::MAX_PERIODIC_FLOWS;
+use periodic::MAX_PERIODIC_GRANTS;
 use sched_history::{Refusal, Reply, Unrecorded};
 
 // What is wrong with a flow's parameters.
@@ -27,6 +27,7 @@ fn fault_words(fault: FlowFault) -> &'static [u8]
         FlowFault::IntervalNotInCycle => b"bad interval: its frames do not divide the cycle",
         FlowFault::Priority => b"bad priority: it is above 7",
         FlowFault::Burst => b"bad burst: there is a rate, and the burst is below the quantum",
+        FlowFault::Grants => b"bad grants: they are 0 or above 8 in an interval",
     }
 }
 
@@ -39,7 +40,9 @@ fn words_before(refusal: Refusal) -> &'static [u8]
         Refusal::SidLive => b"the SID is live already",
         Refusal::BadFlow(fault) => fault_words(fault),
         Refusal::FlowsFull => b"no more flows: there are ",
-        Refusal::PeriodicFull => b"no more periodic flows: there are ",
+        Refusal::PeriodicFull => {
+            b"too many grants: in an interval those of the periodic flows would be above "
+        }
         Refusal::NoPlace => b"no place: the live flows leave none in the cycle that is lawful",
         Refusal::NoFlow => b"no flow with this SID is live",
         Refusal::NotAsking => b"a flow of unsolicited grants does not ask",
@@ -55,13 +58,13 @@ fn words_before(refusal: Refusal) -> &'static [u8]
     }
 }
 
-// The number that it tells: how many flows can be live, or a minislot.
+// The number that it tells: how many flows or grants there can be, or a minislot.
 fn number_told(refusal: Refusal) -> Option<u64>
     ensures { result ≡ number_told refusal }
 {
     match refusal {
         Refusal::FlowsFull => Some(MAX_FLOWS as u64),
-        Refusal::PeriodicFull => Some(MAX_PERIODIC_FLOWS as u64),
+        Refusal::PeriodicFull => Some(MAX_PERIODIC_GRANTS as u64),
         Refusal::Acked(slot)
         | Refusal::Ahead(slot)
         | Refusal::Backwards(slot)
@@ -77,7 +80,7 @@ fn words_behind(refusal: Refusal) -> &'static [u8]
     ensures { result.now ≡ words_behind refusal }
 {
     match refusal {
-        Refusal::FlowsFull | Refusal::PeriodicFull | Refusal::Backwards(_) => b" already",
+        Refusal::FlowsFull | Refusal::Backwards(_) => b" already",
         Refusal::Ahead(_) => b", and what is heard lies before it",
         Refusal::TooEarly(_) => b", and its end is more than 4096 minislots past the clock",
         Refusal::Late(_) => b", and the clock with its lead is past it",

@@ -45,7 +45,7 @@ module _ (c : Config) (h : List Entry) (m : FrameMap) where
       answers
 
   admitted : (spec : FlowSpec) → AnswersAdmit c h spec (replies.Built m) → IsNextMap c h m
-  admitted (Unsolicited size interval jitter) answers = placed (Unsolicited size interval jitter) answers
+  admitted (Unsolicited size interval jitter grants) answers = placed (Unsolicited size interval jitter grants) answers
   admitted (Polled interval jitter rate burst) answers = placed (Polled interval jitter rate burst) answers
   admitted (BestEffort priority rate burst) answers = not_built (replies.Admitted None) refl answers
 

@@ -23,7 +23,8 @@ module _ (c : Config) (h : List Entry) where
   placed spec reply answers = ⊎_elim (λ one. ap map_by one.2) (λ none_there. ap map_by none_there.1) answers
 
   admitted : (spec : FlowSpec) (reply : Reply) → AnswersAdmit c h spec reply → map_by reply ≡ None
-  admitted (Unsolicited size interval jitter) reply answers = placed (Unsolicited size interval jitter) reply answers
+  admitted (Unsolicited size interval jitter grants) reply answers =
+      placed (Unsolicited size interval jitter grants) reply answers
   admitted (Polled interval jitter rate burst) reply answers = placed (Polled interval jitter rate burst) reply answers
   admitted (BestEffort priority rate burst) reply answers = ap map_by answers
 

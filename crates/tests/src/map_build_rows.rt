@@ -61,6 +61,7 @@ const VOICE: FlowSpec = FlowSpec::Unsolicited {
     size: 200,
     interval_us: 10_000,
     jitter_us: 800,
+    grants: 1,
 };
 
 const PLAIN: FlowSpec = FlowSpec::BestEffort {

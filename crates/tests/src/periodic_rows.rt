@@ -15,6 +15,7 @@ const VOICE: FlowSpec = FlowSpec::Unsolicited {
     size: 200,
     interval_us: 10_000,
     jitter_us: 800,
+    grants: 1,
 };
 
 // Polls each five frames.
@@ -64,6 +65,7 @@ fn a_removed_flow_leaves_its_place(rt: HostRuntime) -> Result<(), Fail> {
     stands_at(&rt, &table.place(5, &VOICE, 800)?, "(804, [4, 4])");
     stands_at(&rt, &table.place(6, &VOICE, 800)?, "(804, [19, 19])");
     is_shown(&rt, table.len(), "2");
+    is_shown(&rt, table.grants(), "2");
     has_spots(&rt, &table, 20, "(5, false, 4, 15)(6, false, 19, 15)");
     has_spots(&rt, &table, 21, "");
     table.remove(5);

@@ -93,6 +93,8 @@ static UNSOLICITED: [Member; 4] = [
     ("jitter_us", U32),
 ];
 
+static GRANTS: [Member; 1] = [("grants", U8)];
+
 static POLLED: [Member; 5] = [
     ("kind", Want::Text),
     ("interval_us", U32),
@@ -210,7 +212,10 @@ pub fn call_form(name: &str) -> Option<Form> {
 /// The flow of this kind.
 pub fn flow_form(kind: &str) -> Option<Form> {
     Some(match kind {
-        "unsolicited" => whole(&UNSOLICITED),
+        "unsolicited" => Form {
+            wanted: &UNSOLICITED,
+            allowed: &GRANTS,
+        },
         "polled" => whole(&POLLED),
         "best_effort" => whole(&BEST_EFFORT),
         _ => return None,

@@ -1,17 +1,18 @@
 -- Every poll and unsolicited grant of a legal history is on time.
-use Rattle.std.proofs.Common.{◌≡◌, ℕ, ◌/◌, ◌%◌, true, false, ◌==◌, nat_lt, map, filter, List}
-use Rattle.std.proofs.Common.{[], ◌∷◌, ◌++◌, Some, refl, sym, ◌∙◌, subst, Contains, arith}
+use Rattle.std.proofs.Common.{◌≡◌, ℕ, ◌/◌, ◌%◌, true, false, nat_lt, map, filter, List}
+use Rattle.std.proofs.Common.{[], ◌∷◌, ◌++◌, refl, sym, ◌∙◌, subst, Contains, arith}
 use Rattle.std.specs.List.{AllByRecursion, zip}
-use Rattle.std.proofs.lemmas.Bool.{eqb-true}
+use Rattle.std.proofs.lemmas.List.Elements.{All-contains, All-from_recursion}
 use Rattle.minislots.specs.declared.config.Config.{Config}
 use Rattle.minislots.specs.Config.{IsLawful}
 use Rattle.minislots.proofs.Bounds.{bounds_of}
 use Rattle.map_codec.specs.declared.element.Element.{Element}
-use Rattle.flow_book.specs.FlowSpec.{interval_frames, jitter_slots, periodic_slots}
+use Rattle.flow_book.specs.FlowSpec.{interval_frames}
 use Rattle.flow_book.specs.Flows.{LiveFlow, outstanding}
 use Rattle.periodic.specs.declared.placement.Spot.{Spot}
-use Rattle.periodic.specs.Placement.{Placed, count_from, phase_of, offset_of, nominal_places}
-use Rattle.periodic.specs.Placement.{start_at, spot_in, spots_in, IsLawfulStart}
+use Rattle.periodic.specs.Placement.{Placed, phase_of, starts_in, spot_at, spots_of, spots_in}
+use Rattle.periodic.proofs.Frames.{IsStartIn, starts-here, in-cycle}
+use Rattle.periodic.proofs.Joined.{all-map}
 use Rattle.map_build.specs.EachAfter.{EachAfter}
 use Rattle.map_build.specs.Plan.{Purpose, Poll, UnsolicitedGrant, DataGrant, Idle}
 use Rattle.map_build.specs.Plan.{Allocation, flows_after, Stands, StandsByItsRule}
@@ -28,48 +29,53 @@ use Rattle.sched_history.specs.History.{IsNextMap, IsStep, IsLegal}
 use Rattle.sched_history.specs.Facts.{IsPeriodic, IsOnTime, KeepsTimes}
 use Rattle.sched_history.proofs.steps.LegalHistories.{IsNextMap-from_step, EachAfter-from_legal}
 use Rattle.sched_history.proofs.steps.LegalBounds.{next_after-aligned}
-use Rattle.sched_history.proofs.lists.Members.{IsImage, Contains-filter_map}
-use Rattle.sched_history.proofs.placements.NominalTimes.{Spots, spot_says, reference_past, start_at-place}
-use Rattle.sched_history.proofs.placements.NominalTimes.{kept-pass, interval_divides, place_rest}
+use Rattle.sched_history.proofs.lists.Members.{all-members, all-flat_map}
+use Rattle.sched_history.proofs.placements.NominalTimes.{reference_past, interval_divides, place_rest, nominal-start}
 use Rattle.sched_history.proofs.placements.PlacedLives.{WasPlaced, table_placed}
 
 -- a spot of a placed flow, in a frame that starts there, is on time
 module _ (c : Config) (conf : IsLawful c) (table : List Placed) (start : ℕ) (aligned : start % c.frame ≡ 0)
     (each : (flow : Placed) → Contains table flow → WasPlaced c start flow.spec flow.placement) where
-  spot_on_time : (s : Spot) (e : Element) → Contains (spots_in c (start / c.frame) table) s → e.sid ≡ s.sid
-      → e.offset ≡ s.offset
-      → (flow : Placed) × IsOnTime c table start e flow
-  spot_on_time s e member sid offset =
-      let image : IsImage (spot_in c (start / c.frame)) table (Some s) =
-      Contains-filter_map (spot_in c (start / c.frame)) table s member in
-      let flow : Placed = image.origin in
-      let was : WasPlaced c start flow.spec flow.placement = each flow image.member in
+  -- what is said of a spot
+  abbrev IsSpotOnTime : Spot → Type 0
+  IsSpotOnTime s = (e : Element) → e.sid ≡ s.sid → e.offset ≡ s.offset → (flow : Placed) × IsOnTime c table start e flow
+
+  flow_on_time : (flow : Placed) → Contains table flow
+      → AllByRecursion IsSpotOnTime (spots_of c (start / c.frame) flow)
+  flow_on_time flow live =
+      let k : ℕ = start / c.frame in
+      let was : WasPlaced c start flow.spec flow.placement = each flow live in
       let interval : ℕ = interval_frames c flow.spec in
-      let phase : ℕ = phase_of c flow.spec flow.placement in
-      let places : List ℕ = nominal_places c interval phase in
-      let says : Spots flow (start_at (start / c.frame % c.cycle) places flow.placement.starts) s =
-      spot_says c flow (start_at (start / c.frame % c.cycle) places flow.placement.starts) s image.same in
-      let here = start_at-place
-      (λ place at. IsLawfulStart c (jitter_slots c flow.spec) (periodic_slots c flow.spec) (offset_of c flow.placement)
-      (spots_in c place was.table) at)
-      (λ place. place % interval == phase ≡ true)
-      (start / c.frame % c.cycle) places flow.placement.starts says.start was.lawful.starts
-      (kept-pass (λ place. place % interval == phase) (count_from 0 c.cycle)) says.found in
-      let nominal : start / c.frame % interval ≡ phase =
-      sym (place_rest (start / c.frame) c.cycle interval (interval_divides c flow.spec was.faultless was.periodic))
-      ∙ eqb-true (start / c.frame % c.cycle % interval) phase here.1 in (
+      let starts : List ℕ = starts_in c flow.spec flow.placement (k % c.cycle) in
+      let here = starts-here c (k % c.cycle) flow (λ place. spots_in c place was.table) (in-cycle c k conf)
+      was.lawful.starts in
+      let lawful : ℕ → Type 0 = IsStartIn c flow (spots_in c (k % c.cycle) was.table) in
+      all-map IsSpotOnTime (spot_at c flow) starts
+      (all-members (λ at. IsSpotOnTime (spot_at c flow at)) starts (λ at member e sid offset.
+      let is = All-contains lawful starts at (All-from_recursion lawful starts here.each) member in
+      let nominal : k % interval ≡ phase_of c flow.spec flow.placement =
+      sym (place_rest k c.cycle interval (interval_divides c flow.spec was.faultless was.periodic))
+      ∙ nominal-start c flow.spec flow.placement (k % c.cycle) at member in (
         flow,
         record {
-          live = image.member;
-          own = sym says.sid ∙ sym sid;
+          live = live;
+          own = sym sid;
           nominal = nominal;
           from_reference = reference_past c.frame interval flow.placement.reference was.since start
               (omega (arith, (bounds_of c conf).frame_least)) aligned was.past was.lawful.not_before was.lawful.first
               nominal;
-          not_early = omega (arith, here.0.after_nominal, says.offset, offset);
-          within_jitter = omega (arith, here.0.within_jitter, says.offset, offset);
+          not_early = omega (arith, is.after_nominal, offset);
+          within_jitter = omega (arith, is.within_jitter, offset);
         },
-      )
+      )))
+
+  spot_on_time : (s : Spot) (e : Element) → Contains (spots_in c (start / c.frame) table) s → e.sid ≡ s.sid
+      → e.offset ≡ s.offset
+      → (flow : Placed) × IsOnTime c table start e flow
+  spot_on_time s e member sid offset =
+      let spots : List Spot = spots_in c (start / c.frame) table in
+      let all = all-flat_map IsSpotOnTime (spots_of c (start / c.frame)) table flow_on_time in
+      All-contains IsSpotOnTime spots s (All-from_recursion IsSpotOnTime spots all) member e sid offset
 
 -- what is said of an element with its bytes in a MAP that starts there
 abbrev IsTimely : Config → List Placed → ℕ → Element × ℕ → Type 0

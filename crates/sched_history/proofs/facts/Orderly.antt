@@ -1,6 +1,6 @@
 -- Every MAP of a legal history is orderly: at most 240 elements, and a front of disjoint ascending allocations.
 use Rattle.std.proofs.Common.{ℕ, ◌/◌, ◌%◌, ◌<◌, ◌≤◌, ◌^◌, nat_lt, filter, map, length, List}
-use Rattle.std.proofs.Common.{[], ◌∷◌, ◌++◌, Some, sym, ap, subst, length-append, arith}
+use Rattle.std.proofs.Common.{[], ◌∷◌, ◌++◌, sym, ap, subst, length-append, arith}
 use Rattle.std.specs.List.{AllByRecursion}
 use Rattle.std.proofs.lemmas.List.{length-map}
 use Rattle.std.proofs.lemmas.List.Elements.{All-contains, All-from_recursion}
@@ -8,14 +8,13 @@ use Rattle.std.proofs.lemmas.List.Sums.{length-filter, count_by-le-length}
 use Rattle.minislots.specs.declared.config.Config.{Config}
 use Rattle.minislots.specs.Config.{IsLawful, HasBounds}
 use Rattle.minislots.proofs.Bounds.{bounds_of}
-use Rattle.map_codec.specs.declared.element.Element.{Element}
 use Rattle.flow_book.specs.declared.TheConstants.{MAX_FLOWS}
-use Rattle.flow_book.specs.FlowSpec.{interval_frames}
 use Rattle.flow_book.specs.Flows.{LiveFlow, outstanding}
 use Rattle.flow_book.proofs.Order.{all-push}
-use Rattle.periodic.specs.declared.TheConstants.{MAX_PERIODIC_FLOWS}
+use Rattle.periodic.specs.declared.TheConstants.{MAX_PERIODIC_GRANTS}
 use Rattle.periodic.specs.declared.placement.Spot.{Spot}
-use Rattle.periodic.specs.Placement.{Placed, phase_of, nominal_places, start_at, spot_in, spots_in}
+use Rattle.periodic.specs.Placement.{Placed, starts_in, spot_at, spots_of, spots_in}
+use Rattle.periodic.proofs.Joined.{all-map}
 use Rattle.map_build.specs.declared.frame_map.FrameMap.{FrameMap}
 use Rattle.map_build.specs.Plan.{Allocation, flow_after, flows_after, IsPlan}
 use Rattle.map_build.specs.FrameMap.{element_of, null_element, pending_of, pending, elements_of}
@@ -29,11 +28,10 @@ use Rattle.sched_history.proofs.steps.LegalHistories.{Builds, Skips, Stays, chan
 use Rattle.sched_history.proofs.time.NextFrames.{maps_of-built, maps_of-unbuilt}
 use Rattle.sched_history.proofs.lists.Numbered.{filter_map-below}
 use Rattle.sched_history.proofs.lives.Finding.{sids-range, flow_at, flow_at-sid, placed_at, placed_at-sid}
-use Rattle.sched_history.proofs.lists.Members.{IsImage, Contains-filter_map, all-members, length-filter_map}
-use Rattle.sched_history.proofs.placements.NominalTimes.{spot_says}
+use Rattle.sched_history.proofs.lists.Members.{all-members, all-flat_map}
 use Rattle.sched_history.proofs.plans.Fronts.{HasFront-plan}
 use Rattle.sched_history.proofs.plans.PlanCounts.{length-plan, length-bytes_of_plan}
-use Rattle.sched_history.proofs.placements.PlacedFew.{table_few}
+use Rattle.sched_history.proofs.placements.SpotsFew.{spots-few}
 use Rattle.sched_history.proofs.steps.LegalBounds.{flows_of-few}
 
 -- the SIDs of the live flows fit an element
@@ -49,21 +47,17 @@ table_of-in_range h =
 
 -- and those of their spots
 pub spots_in-in_range : (c : Config) (k : ℕ) (h : List Entry) → HaveSpotSids (spots_in c k (table_of h))
-spots_in-in_range c k h = all-members (λ (s : Spot). s.sid < 2 ^ 14) (spots_in c k (table_of h)) (λ s member.
-    let image : IsImage (spot_in c k) (table_of h) (Some s) = Contains-filter_map (spot_in c k) (table_of h) s member in
-    let flow : Placed = image.origin in
-    let says = spot_says c flow (start_at (k % c.cycle) (nominal_places c (interval_frames c flow.spec)
-    (phase_of c flow.spec flow.placement)) flow.placement.starts) s image.same in
-    omega (
-      arith,
-      says.sid,
-      All-contains (λ (p : Placed). p.sid < 2 ^ 14) (table_of h) flow
-          (All-from_recursion (λ (p : Placed). p.sid < 2 ^ 14) (table_of h) (table_of-in_range h)) image.member,
-    ))
+spots_in-in_range c k h =
+    let fits : Spot → Type 0 = λ s. s.sid < 2 ^ 14 in
+    all-flat_map fits (spots_of c k) (table_of h) (λ flow member.
+    let sid : flow.sid < 2 ^ 14 = All-contains (λ (p : Placed). p.sid < 2 ^ 14) (table_of h) flow
+    (All-from_recursion (λ (p : Placed). p.sid < 2 ^ 14) (table_of h) (table_of-in_range h)) member in
+    let starts : List ℕ = starts_in c flow.spec flow.placement (k % c.cycle) in
+    all-map fits (spot_at c flow) starts (all-members (λ start. flow.sid < 2 ^ 14) starts (λ start here. sid)))
 
 -- the elements of a plan's MAP: the request region, the allocations, the Null and the pending grants
 length-elements : (c : Config) (flows : List LiveFlow) (spots : List Spot) (start : ℕ) (plan : List Allocation)
-    → IsPlan c flows spots start plan → length flows ≤ MAX_FLOWS → length spots ≤ MAX_PERIODIC_FLOWS
+    → IsPlan c flows spots start plan → length flows ≤ MAX_FLOWS → length spots ≤ MAX_PERIODIC_GRANTS
     → length (elements_of c flows start plan) ≤ 240
 length-elements c flows spots start plan is few few_spots =
     let after : List LiveFlow = flows_after start plan flows in
@@ -94,11 +88,7 @@ module _ (c : Config) (conf : IsLawful c) where
       let bounds : HasBounds c = bounds_of c conf in
       subst (IsOrderly c) (sym next.2) (record {
         within = length-elements c (flows_of h) spots (next_after c h) next.0 next.1 (flows_of-few c conf h legal)
-            (omega (
-              arith,
-              length-filter_map (spot_in c (next_after c h / c.frame)) (table_of h),
-              table_few c conf h legal,
-            ));
+            (spots-few c conf (next_after c h / c.frame) h legal);
         counted = length-bytes_of_plan c (flows_of h) (next_after c h) next.0;
         front = HasFront-plan c (flows_of h) spots (next_after c h) next.0
             (omega (arith, bounds.frame_most)) bounds.requests_positive

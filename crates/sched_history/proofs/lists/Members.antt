@@ -1,7 +1,8 @@
 -- Members of lists, of images of lists, and of what is chosen from lists.
-use Rattle.std.proofs.Common.{◌≡◌, ℕ, zero, suc, ◌<◌, ◌≤◌, map, List, [], ◌∷◌, length, get_or}
+use Rattle.std.proofs.Common.{◌≡◌, ℕ, zero, suc, ◌<◌, map, List, [], ◌∷◌, length, get_or}
 use Rattle.std.proofs.Common.{Option, None, Some, refl, ap, ◌∙◌, Contains, arith}
-use Rattle.std.specs.List.{AllByRecursion, filter_map, cons_option}
+use Rattle.std.specs.List.{AllByRecursion, filter_map, flat_map, cons_option}
+use Rattle.periodic.proofs.Joined.{all-append}
 
 -- the first member of a list
 pub Contains-first : {X : Type 0} (x : X) (xs : List X) → Contains (x ∷ xs) x
@@ -63,11 +64,9 @@ pub all-chosen : {X Y : Type 0} (P : Y → Type 0) (f : X → Option Y) (xs : Li
 all-chosen P f xs each = all-members P (filter_map f xs) (λ y member. let image : IsImage f xs (Some y) =
     Contains-filter_map f xs y member in each image.origin y image.same)
 
-length_chosen : {Y : Type 0} (o : Option Y) (ys : List Y) → length (cons_option o ys) ≤ suc (length ys)
-length_chosen None ys = omega arith
-length_chosen (Some y) ys = omega arith
-
--- no more is chosen than there is
-pub length-filter_map : {X Y : Type 0} (f : X → Option Y) (xs : List X) → length (filter_map f xs) ≤ length xs
-length-filter_map f [] = omega arith
-length-filter_map f (x ∷ xs) = omega (arith, length_chosen (f x) (filter_map f xs), length-filter_map f xs)
+-- what holds of all that each stands for holds of all these joined
+pub all-flat_map : {X Y : Type 0} (P : Y → Type 0) (f : X → List Y) (xs : List X)
+    → ((x : X) → Contains xs x → AllByRecursion P (f x)) → AllByRecursion P (flat_map f xs)
+all-flat_map P f [] each = tt
+all-flat_map P f (x ∷ xs) each = all-append P (f x) (flat_map f xs) (each x (Contains-first x xs))
+    (all-flat_map P f xs (λ y member. each y (Contains-later x xs y member)))

@@ -1,17 +1,18 @@
--- In a legal history the live periodic flows are those that are placed.
-use Rattle.std.proofs.Common.{◌≡◌, ℕ, suc, ◌+◌, Bool, true, false, ◌==◌, cond, List, [], ◌∷◌, ◌++◌}
-use Rattle.std.proofs.Common.{length, Option, None, Some, refl, sym, ap, ◌∙◌, arith, inl, inr}
-use Rattle.std.specs.Prelude.{is_some, count_by, if◌then◌else◌}
+-- In a legal history the live periodic flows are those that are placed, with the same grants per interval.
+use Rattle.std.proofs.Common.{◌≡◌, ℕ, ◌+◌, Bool, true, false, ◌==◌, List, [], ◌∷◌, ◌++◌}
+use Rattle.std.proofs.Common.{Option, None, Some, refl, sym, ap, ◌∙◌, arith, inl, inr}
+use Rattle.std.specs.Prelude.{is_some, sum_by, if◌then◌else◌}
 use Rattle.std.specs.List.{AllByRecursion, filter_map, cons_option}
 use Rattle.std.proofs.lemmas.List.Sums.{sum_by-cons}
 use Rattle.std.specs.Option.{option_or, option_map, option_and_then, MatchOption}
 use Rattle.minislots.specs.declared.config.Config.{Config}
 use Rattle.flow_book.specs.declared.spec.FlowSpec.{FlowSpec}
 use Rattle.flow_book.specs.declared.spec.FlowSpec.TheVariants.{Unsolicited, Polled, BestEffort}
-use Rattle.flow_book.specs.FlowSpec.{is_periodic}
+use Rattle.flow_book.specs.FlowSpec.{is_periodic, grants_of}
 use Rattle.flow_book.specs.Flows.{LiveFlow}
 use Rattle.periodic.specs.declared.placement.Placement.{Placement}
 use Rattle.periodic.specs.Placement.{Placed}
+use Rattle.periodic.specs.Table.{placed_grants}
 use Rattle.map_build.specs.EachAfter.{EachAfter}
 use Rattle.sched_history.specs.declared.scheduler.state.State.{State}
 use Rattle.sched_history.specs.declared.call.Call.{Call}
@@ -23,7 +24,7 @@ use Rattle.sched_history.specs.declared.reply.Entry.{Entry}
 use Rattle.sched_history.specs.Latest.{Found, latest}
 use Rattle.sched_history.specs.Life.{Admission, Turn, Begins, Ends, turn_by, turn_of, Life, life_after}
 use Rattle.sched_history.specs.Life.{life_of, flow_in_life, placed_in_life, sids, table_of}
-use Rattle.sched_history.specs.Refusal.{refusal_of, periodic_count}
+use Rattle.sched_history.specs.Refusal.{refusal_of, periodic_grants}
 use Rattle.sched_history.specs.History.{AnswersAdmit, PlacesOrRefuses, IsStep, IsLegal}
 use Rattle.sched_history.specs.State.{IsStateAfter}
 use Rattle.sched_history.proofs.lives.Finding.{flow_at, placed_at}
@@ -45,8 +46,8 @@ unplaced-pairs (Some placement) is = absurd cc
 
 admitted-pairs : (c : Config) (h : List Entry) (spec : FlowSpec) (placement : Option Placement)
     → AnswersAdmit c h spec (replies.Admitted placement) → is_some placement ≡ is_periodic spec
-admitted-pairs c h (Unsolicited size interval jitter) placement answers =
-    placed-pairs c h (Unsolicited size interval jitter) placement answers
+admitted-pairs c h (Unsolicited size interval jitter grants) placement answers =
+    placed-pairs c h (Unsolicited size interval jitter grants) placement answers
 admitted-pairs c h (Polled interval jitter rate burst) placement answers =
     placed-pairs c h (Polled interval jitter rate burst) placement answers
 admitted-pairs c h (BestEffort priority rate burst) placement answers = unplaced-pairs placement answers
@@ -143,44 +144,44 @@ pub life_of-pairs : (c : Config) (h : List Entry) (sid : ℕ) (life : Life) → 
 life_of-pairs c h sid life legal is = life-pairs (latest (turn_of sid) h) life
     (λ found here. latest-all (turn_of sid) IsPairedTurn h found (each-turn-pairs c sid [] h legal) here) is
 
-counted-placed : (sid : ℕ) (life : Life) (placement : Option Placement) (periodic : Bool)
-    → is_some placement ≡ periodic → (n m : ℕ)
-    → n ≡ m → cond (is_some placement) (suc n) n ≡ cond periodic 1 0 + m
-counted-placed sid life None periodic paired n m same = rw (← paired) (omega arith)
-counted-placed sid life (Some placement) periodic paired n m same = rw (← paired) (omega arith)
+no_grants : (spec : FlowSpec) → is_periodic spec ≡ false → grants_of spec ≡ 0
+no_grants (Unsolicited size interval jitter grants) aperiodic = absurd cc
+no_grants (Polled interval jitter rate burst) aperiodic = absurd cc
+no_grants (BestEffort priority rate burst) aperiodic = refl
 
-length-placed : (sid : ℕ) (spec : FlowSpec) (placement : Option Placement) (ps : List Placed)
-    → length (cons_option (option_map (λ p. record { sid = sid; spec = spec; placement = p }) placement) ps)
-    ≡ cond (is_some placement)
-    (suc (length ps)) (length ps)
-length-placed sid spec None ps = refl
-length-placed sid spec (Some p) ps = refl
+-- a life's flow has grants where it has a place
+grants-placed : (sid : ℕ) (spec : FlowSpec) (placement : Option Placement) → is_some placement ≡ is_periodic spec
+    → (ps : List Placed)
+    → placed_grants (cons_option (option_map (λ p. record { sid = sid; spec = spec; placement = p }) placement) ps)
+    ≡ grants_of spec + placed_grants ps
+grants-placed sid spec None paired ps = let none = no_grants spec (sym paired) in omega (arith, none)
+grants-placed sid spec (Some p) paired ps =
+    sum_by-cons (λ (f : Placed). grants_of f.spec) (record { sid = sid; spec = spec; placement = p }) ps
 
--- a life adds one to both counts, or to neither
-counted : (sid : ℕ) (o : Option Life) → ((life : Life) → o ≡ Some life → IsPaired life.admission)
-    → (ps : List Placed) (fs : List LiveFlow) → length ps ≡ count_by (λ f. is_periodic f.spec) fs
-    → length (cons_option (option_and_then (placed_in_life sid) o) ps) ≡ count_by (λ f. is_periodic f.spec)
+-- a life adds its grants to both sums
+summed : (sid : ℕ) (o : Option Life) → ((life : Life) → o ≡ Some life → IsPaired life.admission)
+    → (ps : List Placed) (fs : List LiveFlow) → placed_grants ps ≡ sum_by (λ f. grants_of f.spec) fs
+    → placed_grants (cons_option (option_and_then (placed_in_life sid) o) ps) ≡ sum_by (λ f. grants_of f.spec)
     (cons_option (option_map (flow_in_life sid) o) fs)
-counted sid None paired ps fs same = same
-counted sid (Some life) paired ps fs same =
-    length-placed sid life.admission.spec life.admission.placement ps
-    ∙ counted-placed sid life life.admission.placement (is_periodic life.admission.spec) (paired life refl) (length ps)
-    (count_by (λ f. is_periodic f.spec) fs) same
-    ∙ sym (sum_by-cons (λ (f : LiveFlow). cond (is_periodic f.spec) 1 0) (flow_in_life sid life) fs)
+summed sid None paired ps fs same = same
+summed sid (Some life) paired ps fs same =
+    let placed = grants-placed sid life.admission.spec life.admission.placement (paired life refl) ps in
+    let live = sum_by-cons (λ (f : LiveFlow). grants_of f.spec) (flow_in_life sid life) fs in
+    omega (arith, placed, live, same)
 
-counted_all : (h : List Entry) (xs : List ℕ) →
+summed_all : (h : List Entry) (xs : List ℕ) →
     ((sid : ℕ) (life : Life) → life_of sid h ≡ Some life → IsPaired life.admission)
-    → length (filter_map (placed_at h) xs) ≡ count_by (λ f. is_periodic f.spec) (filter_map (flow_at h) xs)
-counted_all h [] paired = refl
-counted_all h (x ∷ xs) paired =
-    counted x (life_of x h) (paired x) (filter_map (placed_at h) xs) (filter_map (flow_at h) xs)
-    (counted_all h xs paired)
+    → placed_grants (filter_map (placed_at h) xs) ≡ sum_by (λ f. grants_of f.spec) (filter_map (flow_at h) xs)
+summed_all h [] paired = refl
+summed_all h (x ∷ xs) paired =
+    summed x (life_of x h) (paired x) (filter_map (placed_at h) xs) (filter_map (flow_at h) xs)
+    (summed_all h xs paired)
 
--- as many flows are placed as live flows are periodic
-pub length-table_of : (c : Config) (h : List Entry) → IsLegal c h → length (table_of h) ≡ periodic_count h
-length-table_of c h legal = counted_all h sids (λ sid life. life_of-pairs c h sid life legal)
+-- the placed flows have the grants per interval of the live ones
+pub grants-table_of : (c : Config) (h : List Entry) → IsLegal c h → placed_grants (table_of h) ≡ periodic_grants h
+grants-table_of c h legal = summed_all h sids (λ sid life. life_of-pairs c h sid life legal)
 
--- as many flows are placed by a scheduler as its live flows are periodic
-pub length-placed_by : (s : State) (h : List Entry) → IsStateAfter s h → IsLegal s.config h
-    → length s.table.placed ≡ periodic_count h
-length-placed_by s h is_after legal = ap length is_after.placed ∙ length-table_of s.config h legal
+-- so have the flows that a scheduler places
+pub grants-placed_by : (s : State) (h : List Entry) → IsStateAfter s h → IsLegal s.config h
+    → placed_grants s.table.placed ≡ periodic_grants h
+grants-placed_by s h is_after legal = ap placed_grants is_after.placed ∙ grants-table_of s.config h legal

@@ -1,19 +1,18 @@
 -- The nominal times of a placed flow: in which frames it has them, and from which on.
 use Rattle.std.proofs.Common.{◌≡◌, ℕ, zero, suc, ◌+◌, ◌*◌, ◌/◌, ◌%◌, ◌<◌, ◌≤◌, Bool, true, false, not, ◌&&◌}
-use Rattle.std.proofs.Common.{if◌then◌else◌, ◌==◌, List, [], ◌∷◌, filter, find, Option, None}
-use Rattle.std.proofs.Common.{Some, refl, sym, ap, subst, inl, inr, mul_comm, mul-add, arith}
+use Rattle.std.proofs.Common.{if◌then◌else◌, ◌==◌, List, [], ◌∷◌, find, None, Some, Contains, refl, inl, inr}
+use Rattle.std.proofs.Common.{mul_comm, mul-add, arith}
 use Rattle.std.specs.List.{AllByRecursion}
-use Rattle.std.specs.Option.{option_map}
 use Rattle.std.proofs.Math.Nat.{mul-le-mul_left, mod-mod_of_dvd}
 use Rattle.std.proofs.lemmas.Nat.Gcd.{dvd_of_mod-eq-zero}
-use Rattle.std.proofs.lemmas.Bool.{cases_lt}
+use Rattle.std.proofs.lemmas.Bool.{cases_lt, cases_eq, ne_eqb}
 use Rattle.std.proofs.lemmas.Bool.Decides.{nat_tests}
 use Rattle.minislots.specs.declared.config.Config.{Config}
 use Rattle.flow_book.specs.declared.spec.FlowSpec.{FlowSpec}
-use Rattle.flow_book.specs.FlowSpec.{is_polled, is_periodic, interval_frames, periodic_slots}
+use Rattle.flow_book.specs.FlowSpec.{is_periodic, interval_frames}
 use Rattle.flow_book.specs.FlowSpec.{has_fault, faults, first_fault}
-use Rattle.periodic.specs.declared.placement.Spot.{Spot}
-use Rattle.periodic.specs.Placement.{Placed, start_at, EachPlace}
+use Rattle.periodic.specs.declared.placement.Placement.{Placement}
+use Rattle.periodic.specs.Placement.{phase_of, starts_in}
 
 -- of numbers that leave the same on division the greater is greater by the divisor
 pub same_rest : (f m n : ℕ) → m % f ≡ n % f → 0 < f → m < n → m + f ≤ n
@@ -45,38 +44,6 @@ reference_past w f reference since start some aligned le low high nominal =
       | inr behind ↦ omega (arith, mul-le-mul_left {m = reference / w} {n = start / w} w behind)
     ]
 
-start_here : (P : ℕ → ℕ → Type 0) (Q : ℕ → Type 0) (p place s start : ℕ) (rest : Option ℕ) (same : Bool)
-    → p == place ≡ same → P p s → Q p
-    → (rest ≡ Some start → P place start × Q place) → (if same then Some s else rest) ≡ Some start
-    → P place start × Q place
-start_here P Q p place s start rest true test here known later is =
-    let e : p ≡ place = grind (arith, nat_tests) in
-    let t : s ≡ start = cc in
-    (subst (λ k. P k start) e (subst (P p) t here), subst Q e known)
-start_here P Q p place s start rest false test here known later is = later is
-
--- the start at a place is that of one of the places, and what holds of each place holds of it
-pub start_at-place : (P : ℕ → ℕ → Type 0) (Q : ℕ → Type 0) (place : ℕ) (places starts : List ℕ) (start : ℕ)
-    → EachPlace P places starts
-    → AllByRecursion Q places
-    → start_at place places starts ≡ Some start → P place start × Q place
-start_at-place P Q place [] starts start each all at = absurd (cc)
-start_at-place P Q place (p ∷ places) [] start each all at = absurd each
-start_at-place P Q place (p ∷ places) (s ∷ starts) start each all at =
-    start_here P Q p place s start (start_at place places starts) (p == place) refl each.0 all.0
-    (start_at-place P Q place places starts start each.1 all.1) at
-
-kept_if : {X : Type 0} (test : X → Bool) (x : X) (xs : List X) (b : Bool) → test x ≡ b
-    → AllByRecursion (λ x. test x ≡ true) xs
-    → AllByRecursion (λ x. test x ≡ true) (if b then x ∷ xs else xs)
-kept_if test x xs true is all = (is, all)
-kept_if test x xs false is all = all
-
--- what a filter keeps passes its test
-pub kept-pass : {X : Type 0} (test : X → Bool) (xs : List X) → AllByRecursion (λ x. test x ≡ true) (filter test xs)
-kept-pass test [] = tt
-kept-pass test (x ∷ xs) = kept_if test x (filter test xs) (test x) refl (kept-pass test xs)
-
 unfound_if : {X : Type 0} (test : X → Bool) (x : X) (xs : List X) (b : Bool) → test x ≡ b
     → (if b then Some x else find test xs) ≡ None
     → (test x ≡ false) × (find test xs ≡ None)
@@ -107,28 +74,17 @@ interval_divides c spec none periodic = divides_if (is_periodic spec) (c.cycle %
 pub place_rest : (k cycle interval : ℕ) → cycle % interval ≡ 0 → k % cycle % interval ≡ k % interval
 place_rest k cycle interval whole = mod-mod_of_dvd interval k (dvd_of_mod-eq-zero interval whole)
 
--- what a spot of a placed flow says, of the start that the flow has in that frame
-pub record Spots (flow : Placed) (starts : Option ℕ) (s : Spot) : Type 0 where
-  pub start : ℕ
-  pub found : starts ≡ Some start
-  pub sid : s.sid ≡ flow.sid
-  pub offset : s.offset ≡ start
+no-member : {X : Type 0} (x : X) → Contains [] x → ⊥
+no-member x (k, within, at) = absurd (omega arith)
 
--- the spot of a placed flow with this start
-abbrev pub spot_at : Config → Placed → ℕ → Spot
-spot_at c flow start =
-    record { sid = flow.sid; poll = is_polled flow.spec; offset = start; slots = periodic_slots c flow.spec }
-
--- where it has a spot there it has such a start
-pub spot_says : (c : Config) (flow : Placed) (found : Option ℕ) (s : Spot) → option_map (spot_at c flow) found ≡ Some s
-    → Spots flow found s
-spot_says c flow None s is = absurd (cc)
-spot_says c flow (Some start) s is =
-    let same : spot_at c flow start ≡ s = cc in
-    record {
-      start = start;
-      found = refl;
-      sid = sym (ap (λ (s : Spot). s.sid) same);
-      offset =
-          sym (ap (λ (s : Spot). s.offset) same);
-    }
+-- a frame in which a placement has a start is one of its nominal frames
+pub nominal-start : (c : Config) (spec : FlowSpec) (p : Placement) (place start : ℕ)
+    → Contains (starts_in c spec p place) start → place % interval_frames c spec ≡ phase_of c spec p
+nominal-start c spec p place start member =
+    elim (cases_eq (place % interval_frames c spec) (phase_of c spec p)) [
+      | inl nominal ↦ nominal
+      | inr differ ↦ (
+          let none : Contains [] start =
+          rw (ne_eqb (place % interval_frames c spec) (phase_of c spec p) differ) at member in
+          absurd (no-member start none))
+    ]

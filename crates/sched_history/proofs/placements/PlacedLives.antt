@@ -83,8 +83,8 @@ placed_by c h spec placement p periodic is (inr refused) = absurd (cc)
 pub answered_place : (c : Config) (h : List Entry) (spec : FlowSpec) (placement : Option Placement) (p : Placement)
     → placement ≡ Some p
     → AnswersAdmit c h spec (replies.Admitted placement) → IsPlacedNow c h spec p
-answered_place c h (Unsolicited size interval jitter) placement p is answers =
-    placed_by c h (Unsolicited size interval jitter) placement p refl is answers
+answered_place c h (Unsolicited size interval jitter grants) placement p is answers =
+    placed_by c h (Unsolicited size interval jitter grants) placement p refl is answers
 answered_place c h (Polled interval jitter rate burst) placement p is answers =
     placed_by c h (Polled interval jitter rate burst) placement p refl is answers
 answered_place c h (BestEffort priority rate burst) placement p is answers = absurd (cc)

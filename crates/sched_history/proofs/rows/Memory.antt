@@ -34,10 +34,10 @@ module _ (c : Config) (h : List Entry) where
   a_status_lacks_no_memory sid lacks = lacks.takes
 
   -- nor an admission of a periodic flow for which there is no place
-  pub an_admission_without_a_place_lacks_no_memory : (sid size interval jitter : ℕ)
-      → NoPlacement c (table_of h) (Unsolicited size interval jitter) (next_after c h)
-      → MayLackMemory c h (Admit sid (Unsolicited size interval jitter)) → ⊥
-  an_admission_without_a_place_lacks_no_memory sid size interval jitter never lacks =
+  pub an_admission_without_a_place_lacks_no_memory : (sid size interval jitter grants : ℕ)
+      → NoPlacement c (table_of h) (Unsolicited size interval jitter grants) (next_after c h)
+      → MayLackMemory c h (Admit sid (Unsolicited size interval jitter grants)) → ⊥
+  an_admission_without_a_place_lacks_no_memory sid size interval jitter grants never lacks =
       never lacks.takes.0 lacks.takes.1
 
   pub a_polled_admission_without_a_place_lacks_no_memory : (sid interval jitter rate burst : ℕ)

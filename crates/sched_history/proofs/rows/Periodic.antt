@@ -1,12 +1,15 @@
--- A worked history of two unsolicited flows and the MAP of their grants.
+-- Worked histories of unsolicited flows and the MAPs of their grants.
 use Rattle.std.proofs.Common.{◌≡◌, ◌≢◌, ℕ, List, [], ◌∷◌, None, Some, refl, sym, inl, lit<, lit≤}
 use Rattle.std.proofs.lemmas.Bool.{ne_eqb}
 use Rattle.flow_book.specs.FlowSpec.{first_fault}
 use Rattle.flow_book.proofs.Base.{base}
+use Rattle.periodic.specs.Placement.{Placed}
 use Rattle.periodic.proofs.RowsPlacement.{voice, placement, first_placed, second_placed}
+use Rattle.periodic.proofs.RowsGrants.{double_voice, two_grants_of_a_frame_stand_one_behind_the_other}
 use Rattle.periodic.proofs.RowsPlacement.{the_first_flow_stands_behind_the_requests}
 use Rattle.periodic.proofs.RowsPlacement.{the_second_flow_stands_behind_the_first}
 use Rattle.map_build.proofs.RowsUnsolicited.{voices, unsolicited_map, a_frame_with_unsolicited_grants}
+use Rattle.map_build.proofs.RowsUnsolicited.{double_voices, double_map, a_frame_with_two_grants_of_a_flow}
 use Rattle.sched_history.specs.declared.call.Call.TheVariants.{Admit, Build, Status}
 use Rattle.sched_history.specs.declared.reply.Reply.TheVariants.{Admitted, Built, Flow}
 use Rattle.sched_history.specs.declared.reply.Entry.{Entry}
@@ -89,3 +92,42 @@ two_unsolicited_flows_and_their_map = (
 pub an_unsolicited_flow_shows_zeros : IsStep base (first ∷ second ∷ entry 2 (Build 760) (Built unsolicited_map) ∷ [])
     (Status 5) (Flow 0 0 0)
 an_unsolicited_flow_shows_zeros = refl
+
+-- a flow with two grants in each interval, where it stands, its admission and its life
+abbrev double_placed : Placed
+double_placed = record { sid = 5; spec = double_voice; placement = placement 804 (4 ∷ 19 ∷ 4 ∷ 19 ∷ []) }
+
+abbrev double : Entry
+double = entry 0 (Admit 5 double_voice) (Admitted (Some (placement 804 (4 ∷ 19 ∷ 4 ∷ 19 ∷ []))))
+
+abbrev double_life : Life
+double_life = record {
+  admission = record { spec = double_voice; placement = Some (placement 804 (4 ∷ 19 ∷ 4 ∷ 19 ∷ [])) };
+  since = [];
+}
+
+-- no other SID has one
+others_of_double : (sid : ℕ) → sid ≢ 5 → life_of sid (double ∷ []) ≡ None
+others_of_double sid other = rw (ne_eqb 5 sid (λ e. other (sym e)))
+
+-- it is admitted with the starts of both grants in each of its frames
+pub a_flow_with_two_grants_is_admitted : IsStep base [] (Admit 5 double_voice)
+    (Admitted (Some (placement 804 (4 ∷ 19 ∷ 4 ∷ 19 ∷ []))))
+unfolding first_fault
+a_flow_with_two_grants_is_admitted = rw (flows_of-none [] (λ sid. refl))
+    (inl (
+      placement 804 (4 ∷ 19 ∷ 4 ∷ 19 ∷ []),
+      (rw (table_of-none [] (λ sid. refl)) two_grants_of_a_frame_stand_one_behind_the_other),
+      refl,
+    ))
+
+-- the MAP has both
+pub the_map_of_a_flow_with_two_grants_may_follow : IsStep base (double ∷ []) (Build 760) (Built double_map)
+the_map_of_a_flow_with_two_grants_may_follow = (
+  double_map,
+  IsNextMap-from_lawful base (double ∷ []) double_voices (double_placed ∷ []) double_map
+      (flows_of-one (double ∷ []) 5 double_life (lit≤ tt) (lit≤ tt) refl others_of_double)
+      (table_of-one (double ∷ []) 5 double_life double_placed (lit≤ tt) (lit≤ tt) refl refl others_of_double)
+      a_frame_with_two_grants_of_a_flow,
+  refl,
+)

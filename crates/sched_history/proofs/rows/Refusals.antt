@@ -2,7 +2,7 @@
 use Rattle.std.proofs.Common.{[], ◌∷◌, Some, refl}
 use Rattle.flow_book.specs.declared.spec.FlowSpec.TheVariants.{Unsolicited, BestEffort}
 use Rattle.flow_book.specs.declared.spec.FlowFault.TheVariants.{Size, IntervalNotWhole, IntervalNotFrames}
-use Rattle.flow_book.specs.declared.spec.FlowFault.TheVariants.{IntervalNotInCycle, Priority, Burst}
+use Rattle.flow_book.specs.declared.spec.FlowFault.TheVariants.{IntervalNotInCycle, Priority, Burst, Grants}
 use Rattle.flow_book.specs.FlowSpec.{first_fault}
 use Rattle.flow_book.proofs.Base.{base}
 use Rattle.periodic.proofs.RowsPlacement.{voice, placement}
@@ -50,22 +50,22 @@ pub a_request_of_the_most_bytes_is_taken : IsStep base (built ∷ admitted ∷ [
 a_request_of_the_most_bytes_is_taken = refl
 
 -- the first fault of the parameters is the refusal's
-pub an_admission_with_a_part_of_a_minislot_is_refused : IsStep base [] (Admit 5 (Unsolicited 200 10010 0))
+pub an_admission_with_a_part_of_a_minislot_is_refused : IsStep base [] (Admit 5 (Unsolicited 200 10010 0 1))
     (Refused (BadFlow IntervalNotWhole))
 unfolding first_fault
 an_admission_with_a_part_of_a_minislot_is_refused = refl
 
-pub an_admission_with_a_part_of_a_frame_is_refused : IsStep base [] (Admit 5 (Unsolicited 200 1500 0))
+pub an_admission_with_a_part_of_a_frame_is_refused : IsStep base [] (Admit 5 (Unsolicited 200 1500 0 1))
     (Refused (BadFlow IntervalNotFrames))
 unfolding first_fault
 an_admission_with_a_part_of_a_frame_is_refused = refl
 
-pub an_admission_longer_than_the_cycle_is_refused : IsStep base [] (Admit 5 (Unsolicited 200 30000 0))
+pub an_admission_longer_than_the_cycle_is_refused : IsStep base [] (Admit 5 (Unsolicited 200 30000 0 1))
     (Refused (BadFlow IntervalNotInCycle))
 unfolding first_fault
 an_admission_longer_than_the_cycle_is_refused = refl
 
-pub an_admission_without_size_is_refused : IsStep base [] (Admit 5 (Unsolicited 0 10010 0)) (Refused (BadFlow Size))
+pub an_admission_without_size_is_refused : IsStep base [] (Admit 5 (Unsolicited 0 10010 0 1)) (Refused (BadFlow Size))
 unfolding first_fault
 an_admission_without_size_is_refused = refl
 
@@ -77,3 +77,14 @@ an_admission_above_the_priorities_is_refused = refl
 pub an_admission_below_the_quantum_is_refused : IsStep base [] (Admit 5 (BestEffort 7 1 63)) (Refused (BadFlow Burst))
 unfolding first_fault
 an_admission_below_the_quantum_is_refused = refl
+
+-- grants per interval are from 1 to 8
+pub an_admission_without_grants_is_refused : IsStep base [] (Admit 5 (Unsolicited 200 10000 0 0))
+    (Refused (BadFlow Grants))
+unfolding first_fault
+an_admission_without_grants_is_refused = refl
+
+pub an_admission_with_nine_grants_is_refused : IsStep base [] (Admit 5 (Unsolicited 200 10000 0 9))
+    (Refused (BadFlow Grants))
+unfolding first_fault
+an_admission_with_nine_grants_is_refused = refl

@@ -1,5 +1,5 @@
 -- A reply that is handed in, beside the answer.
-use Rattle.std.proofs.Common.{◌≡◌, ◌≢◌, ℕ, Bool, true, false, not, List, Option, None, Some, refl, sym, ap, ◌∙◌, arith}
+use Rattle.std.proofs.Common.{◌≡◌, ◌≢◌, ℕ, true, List, Option, None, Some, refl, sym, ap, ◌∙◌, arith}
 use Rattle.std.specs.Option.{MatchOption}
 use Rattle.std.proofs.lemmas.Bool.{cond_both}
 use Rattle.std.proofs.lemmas.Option.{same_Some}
@@ -72,7 +72,7 @@ start-one c slot start other first second =
 
 IsPlain-told : (c : Config) (h : List Entry) (call : Call) (r : Reply) → is_told call ≡ true → Answers c h call r
     → IsPlain r
-IsPlain-told c h (Admit sid (Unsolicited size interval jitter)) r told answers = absurd cc
+IsPlain-told c h (Admit sid (Unsolicited size interval jitter grants)) r told answers = absurd cc
 IsPlain-told c h (Admit sid (Polled interval jitter rate burst)) r told answers = absurd cc
 IsPlain-told c h (Admit sid (BestEffort priority rate burst)) r told answers =
     IsPlain-as r (replies.Admitted None) answers (plain.Admitted, refl)
@@ -87,7 +87,7 @@ IsPlain-told c h (Status sid) r told answers = IsPlain-status sid (life_of sid h
 -- the answer is one
 told-one : (c : Config) (h : List Entry) (call : Call) (r r' : Reply) → is_told call ≡ true → Answers c h call r
     → Answers c h call r' → r ≡ r'
-told-one c h (Admit sid (Unsolicited size interval jitter)) r r' told answers other = absurd cc
+told-one c h (Admit sid (Unsolicited size interval jitter grants)) r r' told answers other = absurd cc
 told-one c h (Admit sid (Polled interval jitter rate burst)) r r' told answers other = absurd cc
 told-one c h (Admit sid (BestEffort priority rate burst)) r r' told answers other = answers ∙ sym other
 told-one c h (Remove sid) r r' told answers other = answers ∙ sym other

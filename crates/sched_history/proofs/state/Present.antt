@@ -157,14 +157,14 @@ module _ (s : State) (h : List Entry) (sid : ℕ) (is_after : IsStateAfter s h) 
 -- a flow without a place is admitted without one
 pub answers-best_effort : (c : Config) (h : List Entry) (spec : FlowSpec) → is_periodic spec ≡ false
     → AnswersAdmit c h spec (replies.Admitted None)
-answers-best_effort c h (Unsolicited size interval jitter) aperiodic = absurd cc
+answers-best_effort c h (Unsolicited size interval jitter grants) aperiodic = absurd cc
 answers-best_effort c h (Polled interval jitter rate burst) aperiodic = absurd cc
 answers-best_effort c h (BestEffort priority rate burst) aperiodic = refl
 
 -- a periodic flow is admitted with its place
 pub answers-periodic : (c : Config) (h : List Entry) (spec : FlowSpec) (reply : Reply) → is_periodic spec ≡ true
     → PlacesOrRefuses c h spec reply → AnswersAdmit c h spec reply
-answers-periodic c h (Unsolicited size interval jitter) reply periodic answers = answers
+answers-periodic c h (Unsolicited size interval jitter grants) reply periodic answers = answers
 answers-periodic c h (Polled interval jitter rate burst) reply periodic answers = answers
 answers-periodic c h (BestEffort priority rate burst) reply periodic answers = absurd cc
 

@@ -1,5 +1,5 @@
 -- MAPs of the same fields.
-use Rattle.std.proofs.Common.{◌≡◌, ◌≢◌, sym, ap, ◌∙◌, List}
+use Rattle.std.proofs.Common.{◌≡◌, sym, ap, ◌∙◌, List}
 use Rattle.map_codec.specs.declared.element.Element.{Element}
 use Rattle.map_codec.specs.declared.wire_map.WireMap.{WireMap}
 use Rattle.sched_history.specs.declared.auditing.sameness.FixedFields.{FixedFields}

@@ -89,8 +89,8 @@ module _ (c : Config) (lawful : IsLawful c) (stamp : Stamp) (h : List Entry) whe
 
   admits : (sid : ℕ) (spec : FlowSpec) (reply : Reply) → AdmitsFlow c h sid spec → AnswersAdmit c h spec reply
       → EntryChange c h (after (calls.Admit sid spec) reply)
-  admits sid (Unsolicited size interval jitter) reply may answers =
-      placed sid (Unsolicited size interval jitter) reply may answers
+  admits sid (Unsolicited size interval jitter grants) reply may answers =
+      placed sid (Unsolicited size interval jitter grants) reply may answers
   admits sid (Polled interval jitter rate burst) reply may answers =
       placed sid (Polled interval jitter rate burst) reply may answers
   admits sid (BestEffort priority rate burst) reply may answers =

@@ -80,8 +80,8 @@ still_place c h spec reply (inr refused) = subst IsStill (sym refused.1) (refl, 
 
 still_admit : (c : Config) (h : List Entry) (spec : FlowSpec) (reply : Reply) → AnswersAdmit c h spec reply
     → IsStill reply
-still_admit c h (Unsolicited size interval jitter) reply answers =
-    still_place c h (Unsolicited size interval jitter) reply answers
+still_admit c h (Unsolicited size interval jitter grants) reply answers =
+    still_place c h (Unsolicited size interval jitter grants) reply answers
 still_admit c h (Polled interval jitter rate burst) reply answers =
     still_place c h (Polled interval jitter rate burst) reply answers
 still_admit c h (BestEffort priority rate burst) reply answers = subst IsStill (sym answers) (refl, refl)

@@ -7,8 +7,8 @@ use Rattle.minislots.specs.declared.config.Config.{Config}
 use Rattle.flow_book.specs.declared.TheConstants.{MAX_FLOWS}
 use Rattle.flow_book.specs.declared.spec.FlowSpec.{FlowSpec}
 use Rattle.flow_book.specs.declared.spec.FlowFault.{FlowFault}
-use Rattle.flow_book.specs.FlowSpec.{is_periodic, first_fault}
-use Rattle.periodic.specs.declared.TheConstants.{MAX_PERIODIC_FLOWS}
+use Rattle.flow_book.specs.FlowSpec.{is_periodic, grants_of, first_fault}
+use Rattle.periodic.specs.declared.TheConstants.{MAX_PERIODIC_GRANTS}
 use Rattle.sched_history.specs.declared.call.Call.TheVariants.{Admit, Remove, Ask, Heard, Build, Skip, Status}
 use Rattle.sched_history.specs.declared.reply.Refusal.{Refusal}
 use Rattle.sched_history.specs.declared.reply.Refusal.TheVariants.{BadSid, BadFlow, NoFlow, NotAsking, BadReceiver}
@@ -17,7 +17,7 @@ use Rattle.sched_history.specs.declared.reply.Entry.{Entry}
 use Rattle.sched_history.specs.Life.{flows_of}
 use Rattle.sched_history.specs.Time.{next_after, progress_of}
 use Rattle.sched_history.specs.Refusal.{refused_if, most_bytes, most_ahead, last_clock, bad_sid}
-use Rattle.sched_history.specs.Refusal.{is_live, is_silent, periodic_count, refusal_of}
+use Rattle.sched_history.specs.Refusal.{is_live, is_silent, periodic_grants, refusal_of}
 
 -- where no test refuses the first does not, nor do the others
 passed : (b : Bool) (refusal : Refusal) (rest : Option Refusal) → option_or (refused_if b refusal) rest ≡ None
@@ -55,7 +55,7 @@ pub record AdmitsFlow (c : Config) (h : List Entry) (sid : ℕ) (spec : FlowSpec
   pub fresh : is_live sid h ≡ false
   pub no_fault : first_fault c spec ≡ None
   pub few : length (flows_of h) < MAX_FLOWS
-  pub few_periodic : is_periodic spec ≡ true → periodic_count h < MAX_PERIODIC_FLOWS
+  pub few_grants : is_periodic spec ≡ true → periodic_grants h + grants_of spec ≤ MAX_PERIODIC_GRANTS
 
 -- an admission that no test refuses passed
 pub passed-admit : (c : Config) (h : List Entry) (sid : ℕ) (spec : FlowSpec) → refusal_of c h (Admit sid spec) ≡ None
@@ -71,8 +71,8 @@ passed-admit c h sid spec e =
       fresh = fresh.0;
       no_fault = fault.0;
       few = above MAX_FLOWS (length (flows_of h)) few.0;
-      few_periodic = λ is. above MAX_PERIODIC_FLOWS (periodic_count h)
-          (both (is_periodic spec) (nat_le MAX_PERIODIC_FLOWS (periodic_count h)) periodic.0 is);
+      few_grants = λ is. within MAX_PERIODIC_GRANTS (periodic_grants h + grants_of spec)
+          (both (is_periodic spec) (nat_lt MAX_PERIODIC_GRANTS (periodic_grants h + grants_of spec)) periodic.0 is);
     }
 
 -- A SID that may be a flow's is live

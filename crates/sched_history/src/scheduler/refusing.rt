@@ -1,18 +1,18 @@
 //! Which calls are refused: the tests in their order, of which the first that holds is answered.
 
-ghost use Rattle.std.specs.Prelude.{◌≡◌, ◌∷◌, [], false, not, nat_lt, nat_le, ◌==◌, ◌||◌, ◌&&◌, option_map};
-ghost use Rattle.flow_book.specs.FlowSpec.{is_periodic, takes_requests};
-ghost use Rattle.periodic.specs.declared.TheConstants.{MAX_PERIODIC_FLOWS};
+ghost use Rattle.std.specs.Prelude.{◌≡◌, ◌≤◌, ◌+◌, ◌∷◌, [], false, not, nat_lt, nat_le, ◌==◌, ◌||◌, ◌&&◌, option_map};
+ghost use Rattle.flow_book.specs.FlowSpec.{is_periodic, grants_of, takes_requests};
+ghost use Rattle.periodic.specs.declared.TheConstants.{MAX_PERIODIC_GRANTS};
 ghost use Rattle.sched_history.specs.Life.{life_of};
 ghost use Rattle.sched_history.specs.Time.{next_after, progress_of};
-ghost use Rattle.sched_history.specs.Refusal.{bad_sid, is_live, is_silent, periodic_count, refused_if};
+ghost use Rattle.sched_history.specs.Refusal.{bad_sid, is_live, is_silent, periodic_grants, refused_if};
 ghost use Rattle.sched_history.specs.Refusal.{first_of, refusal_of, most_bytes};
 
 use super::present::Present;
 use crate::call::Call;
 use crate::reply::Refusal;
 use flow_book::{FlowSpec, MAX_FLOWS};
-use periodic::MAX_PERIODIC_FLOWS;
+use periodic::MAX_PERIODIC_GRANTS;
 
 // The greatest SID of a flow.
 const LAST_SID: u16 = 8191;
@@ -75,11 +75,12 @@ impl<'a> Present<'a> {
         self.state.book.flow(sid)
     }
 
-    // How many live flows are periodic.
-    fn periodic_count(&self) -> usize
-        ensures { result ≡ periodic_count self.now.history }
+    // The grants per interval of the live flows.
+    fn periodic_grants(&self) -> usize
+        ensures value { result ≡ periodic_grants self.now.history }
+        ensures most { result ≤ MAX_PERIODIC_GRANTS }
     {
-        self.state.table.len()
+        self.state.table.grants()
     }
 
     // The refusal of an admission, but that there is no place.
@@ -99,12 +100,13 @@ impl<'a> Present<'a> {
         }
     }
 
-    // The refusal of an admission where too many flows are placed.
+    // The refusal of an admission where the grants per interval would be too many.
     fn refuse_periodic(&self, spec: FlowSpec) -> Option<Refusal>
-        ensures { result ≡ refused_if
-            (is_periodic spec && nat_le MAX_PERIODIC_FLOWS (periodic_count self.now.history)) Refusal.PeriodicFull }
+        ensures { result ≡ refused_if (is_periodic spec
+            && nat_lt MAX_PERIODIC_GRANTS (periodic_grants self.now.history + grants_of spec)) Refusal.PeriodicFull }
     {
-        if is_periodic(spec) && self.periodic_count() >= MAX_PERIODIC_FLOWS {
+        let grants = self.periodic_grants() + usize::from(spec.grants());
+        if is_periodic(spec) && grants > MAX_PERIODIC_GRANTS {
             Some(Refusal::PeriodicFull)
         } else {
             None

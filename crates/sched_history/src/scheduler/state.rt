@@ -4,13 +4,13 @@ ghost use Rattle.std.specs.Prelude.{◌≡◌, ◌≢◌, ◌+◌, ◌/◌, ◌%
 ghost use Rattle.std.specs.Prelude.{List, length, take, find, IfOk, OnErr, OnOk, IfSome, IsErrOf};
 ghost use Rattle.std.specs.List.{AllByRecursion};
 ghost use Rattle.map_codec.specs.WireMap.{IsWellFormed};
-ghost use Rattle.flow_book.specs.FlowSpec.{is_periodic, first_fault};
+ghost use Rattle.flow_book.specs.FlowSpec.{is_periodic, grants_of, first_fault};
 ghost use Rattle.flow_book.specs.Flows.{flow_of};
 ghost use Rattle.flow_book.specs.Choice.{HasStartedBy};
 ghost use Rattle.flow_book.specs.Book.{IsLive, with_flow, new_flow, without};
-ghost use Rattle.periodic.specs.declared.TheConstants.{MAX_PERIODIC_FLOWS};
+ghost use Rattle.periodic.specs.declared.TheConstants.{MAX_PERIODIC_GRANTS};
 ghost use Rattle.periodic.specs.Placement.{IsPlacement, NoPlacement, spots_in};
-ghost use Rattle.periodic.specs.Table.{IsPlaced, with_placed, without as without_placed};
+ghost use Rattle.periodic.specs.Table.{placed_grants, IsPlaced, with_placed, without as without_placed};
 ghost use Rattle.map_build.specs.FrameMap.{IsLawfulMap, IsLawfulFrame};
 ghost use Rattle.map_build.specs.Spots.{AreOfChannel, ArePeriodicOf};
 ghost use Rattle.sched_history.specs.declared.reply.Reply.TheVariants.{Flow};
@@ -136,7 +136,7 @@ impl State {
         requires unplaced { find (λ p. p.sid == sid) self.old.table.placed ≡ None }
         requires periodic { is_periodic spec ≡ true }
         requires no_fault { first_fault self.old.table.config spec ≡ None }
-        requires room { length self.old.table.placed < MAX_PERIODIC_FLOWS }
+        requires room { placed_grants self.old.table.placed + grants_of spec ≤ MAX_PERIODIC_GRANTS }
         requires aligned { self.old.next % self.old.table.config.frame ≡ 0 }
         requires most { self.old.next ≤ 2 ^ 61 }
 

@@ -11,7 +11,7 @@ use sched_history::Call;
 use std::alloc::AllocError;
 
 // The keys of what a flow or a call has beside its name.
-static UNSOLICITED: [&str; 3] = ["interval_us", "jitter_us", "size"];
+static UNSOLICITED: [&str; 4] = ["grants", "interval_us", "jitter_us", "size"];
 
 static POLLED: [&str; 4] = ["burst", "interval_us", "jitter_us", "rate"];
 
@@ -36,9 +36,15 @@ fn put_flow(out: &mut Writer, flow: FlowSpec) -> Result<(), AllocError>
             size,
             interval_us,
             jitter_us,
+            grants,
         } => {
-            let numbers = [interval_us as u64, jitter_us as u64, size as u64];
-            put_named(out, "kind", "unsolicited", 2, &UNSOLICITED, &numbers)
+            let numbers = [
+                grants as u64,
+                interval_us as u64,
+                jitter_us as u64,
+                size as u64,
+            ];
+            put_named(out, "kind", "unsolicited", 3, &UNSOLICITED, &numbers)
         }
         FlowSpec::Polled {
             interval_us,

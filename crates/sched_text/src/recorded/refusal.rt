@@ -18,6 +18,7 @@ fn fault_with(number: u64) -> Option<FlowFault>
         4 => FlowFault::IntervalNotInCycle,
         5 => FlowFault::Priority,
         6 => FlowFault::Burst,
+        7 => FlowFault::Grants,
         _ => return None,
     })
 }

@@ -1,9 +1,9 @@
 //! The configuration in a script.
 
 ghost use Rattle.std.specs.Prelude.{◌≡◌};
-ghost use Rattle.sched_text.specs.Fields.{slots_of, sizes_of, counts_of, windows_of, phy_of, config_of};
+ghost use Rattle.sched_text.specs.Fields.{slots_of, sizes_of, counts_of, windows_of, config_of};
 
-use super::field::{member, number_u8, number_u32, number_u64};
+use super::field::{number_u8, number_u8_or, number_u32, number_u64};
 use super::tree::Tree;
 use minislots::Config;
 
@@ -74,19 +74,8 @@ fn windows_of<T: Tree>(value: &T, first: &str, last: &str) -> Option<(u8, u8)>
     Some((number_u8(value, first)?, number_u8(value, last)?))
 }
 
-// The channel's physical layer, which is 0 where the key is missing.
-#[tactic(auto, unfolding(crate::specs::Fields::phy_of))]
-fn phy_of<T: Tree>(value: &T) -> Option<u8>
-    ensures { result ≡ phy_of (T.shown value.now) }
-{
-    match member(value, "phy") {
-        None => Some(0),
-        Some(_) => number_u8(value, "phy"),
-    }
-}
-
-/// The configuration that an object stands for: each field is there, and fits its type. The physical layer may be
-/// missing.
+/// The configuration that an object stands for: each field is there, and fits its type. The physical layer is 0 where it
+/// is missing.
 #[tactic(auto, unfolding(crate::specs::Fields::config_of))]
 pub fn config_of<T: Tree>(value: &T) -> Option<Config>
     ensures { result ≡ config_of (T.shown value.now) }
@@ -96,7 +85,7 @@ pub fn config_of<T: Tree>(value: &T) -> Option<Config>
     let (receivers, calls, start, channel, ucd_count) = counts_of(value)?;
     let (ranging_start, ranging_end) = windows_of(value, "ranging_start", "ranging_end")?;
     let (data_start, data_end) = windows_of(value, "data_start", "data_end")?;
-    let phy = phy_of(value)?;
+    let phy = number_u8_or(value, "phy", 0)?;
     Some(Config {
         ticks,
         bytes_per_slot,

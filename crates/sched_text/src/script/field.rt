@@ -2,7 +2,7 @@
 
 ghost use Rattle.std.specs.Prelude.{◌≡◌, option_map};
 ghost use Rattle.serde_json.specs.Find.{get};
-ghost use Rattle.sched_text.specs.Fields.{number_at, u8_at, u16_at, u32_at, u64_at, text_at};
+ghost use Rattle.sched_text.specs.Fields.{number_at, u8_at, u16_at, u32_at, u64_at, u8_or, text_at};
 
 use super::tree::Tree;
 
@@ -36,6 +36,17 @@ pub fn number_u8<T: Tree>(value: &T, key: &str) -> Option<u8>
     ensures { result ≡ u8_at key.now (T.shown value.now) }
 {
     u8::try_from(number(value, key)?).ok()
+}
+
+/// The number under this key, where it fits, and this one where the key is missing.
+#[tactic(auto, unfolding(crate::specs::Fields::u8_or))]
+pub fn number_u8_or<T: Tree>(value: &T, key: &str, missing: u8) -> Option<u8>
+    ensures { result ≡ u8_or missing key.now (T.shown value.now) }
+{
+    match member(value, key) {
+        None => Some(missing),
+        Some(_) => number_u8(value, key),
+    }
 }
 
 /// The number under this key, where it fits.

@@ -3,18 +3,20 @@
 ghost use Rattle.std.specs.Prelude.{◌≡◌};
 ghost use Rattle.sched_text.specs.Calls.{unsolicited_of, polled_of, best_effort_of, flow_of};
 
-use super::field::{number_u8, number_u32, text};
+use super::field::{number_u8, number_u8_or, number_u32, text};
 use super::tree::Tree;
 use flow_book::FlowSpec;
 
+// The grants in an interval are one where the key is missing.
 #[tactic(auto, unfolding(crate::specs::Calls::unsolicited_of))]
 fn unsolicited_of<T: Tree>(value: &T) -> Option<FlowSpec>
     ensures { result ≡ unsolicited_of (T.shown value.now) }
 {
-    let (Some(size), Some(interval_us), Some(jitter_us)) = (
+    let (Some(size), Some(interval_us), Some(jitter_us), Some(grants)) = (
         number_u32(value, "size"),
         number_u32(value, "interval_us"),
         number_u32(value, "jitter_us"),
+        number_u8_or(value, "grants", 1),
     ) else {
         return None;
     };
@@ -22,6 +24,7 @@ fn unsolicited_of<T: Tree>(value: &T) -> Option<FlowSpec>
         size,
         interval_us,
         jitter_us,
+        grants,
     })
 }
 

@@ -35,15 +35,17 @@ impl Draws {
         now.saturating_add(u64::from(self.below(30)))
     }
 
-    /// Parameters of some flow: one in eight has no data grants, and some have no ceiling.
+    /// Parameters of some flow: one in eight has one or two unsolicited grants in an interval, and some have no ceiling.
     pub fn spec(&mut self) -> FlowSpec {
-        let rate = [0, 64_000, 300_000, 2_000_000][self.below(4) as usize];
+        let draw = self.below(4) as usize;
+        let rate = [0, 64_000, 300_000, 2_000_000][draw];
         let burst = [600, 1_600, 9_000][self.below(3) as usize];
         match self.below(8) {
             0 => FlowSpec::Unsolicited {
-                size: 200,
+                size: 100,
                 interval_us: 10_000,
-                jitter_us: 0,
+                jitter_us: 225,
+                grants: [1, 2, 1, 2][draw],
             },
             1 | 2 => FlowSpec::Polled {
                 interval_us: 5_000,

@@ -28,7 +28,7 @@ pub const REPLIES: &str = r#"{"call":"build","now":760}
 {"call":"status","sid":17}
 {"asked":100,"granted":100,"kind":"flow","outstanding":0}
 
-{"call":"admit","flow":{"interval_us":10000,"jitter_us":800,"kind":"unsolicited","size":200},"sid":5}
+{"call":"admit","flow":{"grants":1,"interval_us":10000,"jitter_us":800,"kind":"unsolicited","size":200},"sid":5}
 {"kind":"admitted","reference":1204,"starts":[4,4]}
 
 {"call":"admit","flow":{"burst":0,"interval_us":5000,"jitter_us":400,"kind":"polled","rate":0},"sid":9}

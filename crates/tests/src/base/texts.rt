@@ -20,7 +20,8 @@ remove {"call":"remove","sid":#}
 status {"call":"status","sid":#}
 best_effort {"call":"admit","sid":#,"flow":{"kind":"best_effort","priority":#,"rate":#,"burst":#}}
 polled {"call":"admit","sid":#,"flow":{"kind":"polled","interval_us":#,"jitter_us":#,"rate":#,"burst":#}}
-unsolicited {"call":"admit","sid":#,"flow":{"kind":"unsolicited","size":#,"interval_us":#,"jitter_us":#}}"#;
+unsolicited {"call":"admit","sid":#,"flow":{"kind":"unsolicited","size":#,"interval_us":#,"jitter_us":#}}
+grants {"call":"admit","sid":#,"flow":{"kind":"unsolicited","size":#,"interval_us":#,"jitter_us":#,"grants":#}}"#;
 
 /// The text with its first such part replaced.
 pub fn edited(alloc: Global, text: &str, old: &str, new: &str) -> Result<String, Fail> {

@@ -55,8 +55,8 @@ fn frames_between(config: &Checked, spec: &FlowSpec) -> u64
 }
 
 impl PlainPlace {
-    // What the flow takes of a frame: its start in that nominal frame of the cycle, where it is one.
-    fn spot_in(&self, config: &Checked, frame: u64) -> Option<Spot> {
+    // The place of its first start in a frame among all, where that is a nominal frame.
+    fn first_in(&self, config: &Checked, frame: u64) -> Option<usize> {
         let every = frames_between(config, &self.spec);
         let length = u64::from(config.frame().max(1));
         let phase = self.placement.reference / length % every;
@@ -64,22 +64,42 @@ impl PlainPlace {
         if place % every != phase {
             return None;
         }
-        let offset = *self
-            .placement
-            .starts
-            .as_slice()
-            .get((place / every) as usize)?;
+        let grants = u64::from(self.spec.grants());
+        Some((place / every).saturating_mul(grants) as usize)
+    }
+
+    // What the flow takes of a frame from this start on.
+    fn spot_at(&self, config: &Checked, offset: u16) -> Spot {
         let (poll, slots) = match self.spec {
             FlowSpec::Unsolicited { size, .. } => (false, config.slots_for(size)),
             _ => (true, u64::from(config.poll_slots())),
         };
         let slots = u16::try_from(slots).unwrap_or(0);
-        Some(Spot {
+        Spot {
             sid: self.sid,
             poll,
             offset,
             slots,
-        })
+        }
+    }
+
+    // Puts what the flow takes of a frame: one spot for each grant in an interval.
+    fn push_spots(
+        &self,
+        spots: &mut Vec<Spot>,
+        config: &Checked,
+        frame: u64,
+    ) -> Result<(), AllocError> {
+        let Some(first) = self.first_in(config, frame) else {
+            return Ok(());
+        };
+        let starts = self.placement.starts.as_slice();
+        for index in first..first.saturating_add(usize::from(self.spec.grants())) {
+            if let Some(start) = starts.get(index) {
+                spots.push(self.spot_at(config, *start))?;
+            }
+        }
+        Ok(())
     }
 }
 
@@ -138,9 +158,7 @@ impl Pair {
         let mut spots = Vec::new(alloc);
         let frame = self.next / u64::from(self.config.frame().max(1));
         for place in &self.places {
-            if let Some(spot) = place.spot_in(&self.config, frame) {
-                spots.push(spot)?;
-            }
+            place.push_spots(&mut spots, &self.config, frame)?;
         }
         Ok(spots)
     }

@@ -42,7 +42,17 @@ fn spec_of(draws: &mut Draws, frame: u32, bytes: u32) -> FlowSpec {
         size: draws.below(bytes.max(1)).saturating_add(1),
         interval_us,
         jitter_us,
+        grants: draws.below(3) as u8 + 1,
     }
+}
+
+// The grants in an interval of this flow and of these together.
+fn grants_with(flows: &[SlowFlow], spec: &FlowSpec) -> u32 {
+    let mut all = u32::from(spec.grants());
+    for flow in flows {
+        all = all.saturating_add(u32::from(flow.spec.grants()));
+    }
+    all
 }
 
 // The flow stands where the slow reference has it.
@@ -90,14 +100,15 @@ impl Twins {
         Ok(())
     }
 
-    // Admits a flow, where none has its SID.
+    // Admits a flow, where none has its SID and there are not too many grants in an interval.
     fn admit(
         &mut self,
         rt: &(impl Abort + AllocGlobal),
         sid: u16,
         spec: FlowSpec,
     ) -> Result<(), AllocError> {
-        if self.flows.iter().any(|flow| flow.sid == sid) {
+        let is_live = self.flows.iter().any(|flow| flow.sid == sid);
+        if is_live || grants_with(&self.flows, &spec) > 40 {
             return Ok(());
         }
         let found = place(&self.flows, &self.config, rt.alloc(), sid, spec, self.next)?;

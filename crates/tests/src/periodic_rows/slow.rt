@@ -16,10 +16,11 @@ pub struct SlowFlow {
     pub starts: Vec<u16>,
 }
 
-// What is looked for: the frames of an interval, and the minislots of the jitter and of a grant or poll.
+// What is looked for: the frames of an interval, its grants or polls, and the minislots of the jitter and of each.
 #[derive(Clone, Copy)]
 struct Wanted {
     interval: u64,
+    grants: u64,
     jitter: u64,
     slots: u64,
 }
@@ -47,8 +48,10 @@ fn wanted_of(config: &Checked, spec: &FlowSpec) -> Wanted
             size,
             interval_us,
             jitter_us,
+            grants,
         } => Wanted {
             interval: frames_of(config, interval_us),
+            grants: u64::from(grants),
             jitter: config.slots_floor(jitter_us),
             slots: config.slots_for(size),
         },
@@ -58,11 +61,13 @@ fn wanted_of(config: &Checked, spec: &FlowSpec) -> Wanted
             ..
         } => Wanted {
             interval: frames_of(config, interval_us),
+            grants: 1,
             jitter: config.slots_floor(jitter_us),
             slots: u64::from(config.poll_slots()),
         },
         FlowSpec::BestEffort { .. } => Wanted {
             interval: 1,
+            grants: 0,
             jitter: 0,
             slots: 1,
         },
@@ -77,11 +82,17 @@ impl SlowFlow {
         if place % wanted.interval != phase {
             return false;
         }
-        let Some(begin) = self.starts.get((place / wanted.interval) as usize) else {
-            return false;
-        };
-        let begin = u64::from(*begin);
-        begin < end && start < begin.saturating_add(wanted.slots)
+        let first = (place / wanted.interval).saturating_mul(wanted.grants);
+        for index in first..first.saturating_add(wanted.grants) {
+            let Some(begin) = self.starts.get(index as usize) else {
+                return false;
+            };
+            let begin = u64::from(*begin);
+            if begin < end && start < begin.saturating_add(wanted.slots) {
+                return true;
+            }
+        }
+        false
     }
 }
 
@@ -95,16 +106,17 @@ fn are_free(flows: &[SlowFlow], config: &Checked, place: u64, start: u64, end: u
     true
 }
 
-// The first lawful start in the frame at this place of the cycle.
+// The first lawful start from this minislot on in the frame at this place of the cycle, at this offset.
 fn first_start(
     flows: &[SlowFlow],
     config: &Checked,
     wanted: Wanted,
     place: u64,
     offset: u64,
+    from: u64,
 ) -> Option<u16> {
     let frame = u64::from(config.frame());
-    for start in offset..frame {
+    for start in from..frame {
         let end = start.saturating_add(wanted.slots);
         if end > frame || start.saturating_sub(offset) > wanted.jitter {
             return None;
@@ -116,7 +128,27 @@ fn first_start(
     None
 }
 
-// The first lawful starts at this phase and offset, where each nominal frame has one.
+// Puts the first lawful starts in the frame at this place of the cycle, one for each grant, and says whether there are.
+fn push_starts(
+    starts: &mut Vec<u16>,
+    flows: &[SlowFlow],
+    config: &Checked,
+    wanted: Wanted,
+    place: u64,
+    offset: u64,
+) -> Result<bool, AllocError> {
+    let mut from = offset;
+    for _ in 0..wanted.grants {
+        let Some(start) = first_start(flows, config, wanted, place, offset, from) else {
+            return Ok(false);
+        };
+        starts.push(start)?;
+        from = u64::from(start).saturating_add(wanted.slots);
+    }
+    Ok(true)
+}
+
+// The first lawful starts at this phase and offset, where each nominal frame has them.
 fn starts_at(
     flows: &[SlowFlow],
     config: &Checked,
@@ -130,10 +162,9 @@ fn starts_at(
     let mut starts = Vec::new(alloc);
     for place in 0..u64::from(config.cycle()) {
         if place % wanted.interval == phase {
-            let Some(start) = first_start(flows, config, wanted, place, offset) else {
+            if !push_starts(&mut starts, flows, config, wanted, place, offset)? {
                 return Ok(None);
-            };
-            starts.push(start)?;
+            }
         }
     }
     Ok(Some(starts))

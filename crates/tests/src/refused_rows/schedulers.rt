@@ -23,6 +23,7 @@ const VOICE: FlowSpec = FlowSpec::Unsolicited {
     size: 200,
     interval_us: 10_000,
     jitter_us: 800,
+    grants: 1,
 };
 
 const DATA: FlowSpec = FlowSpec::BestEffort {

@@ -58,7 +58,8 @@ fn row_of_flow(alloc: Global, sid: u16, spec: FlowSpec) -> Result<String, AllocE
             size,
             interval_us,
             jitter_us,
-        } => format!(in alloc; "unsolicited {sid} {size} {interval_us} {jitter_us}"),
+            grants,
+        } => { format!(in alloc; "grants {sid} {size} {interval_us} {jitter_us} {grants}") }
         FlowSpec::Polled {
             interval_us,
             jitter_us,

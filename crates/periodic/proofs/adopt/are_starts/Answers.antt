@@ -1,75 +1,71 @@
--- Each nominal frame has its lawful start, or the first that has none says that there are no such starts.
-use Rattle.std.proofs.Common.{◌≡◌, ℕ, ◌<◌, drop, get_or, length, refl, sym, subst, arith}
-use Rattle.std.proofs.lemmas.Bool.{eq-eqb, ne_eqb, eqb-false}
+-- Each nominal frame has its lawful starts, or the first that has none says that these are no such starts.
+use Rattle.std.proofs.Common.{◌≡◌, ◌∙◌, ◌+◌, ◌*◌, ◌/◌, ◌<◌, ap, sym, refl, subst, inl, inr, arith}
+use Rattle.std.proofs.lemmas.Bool.{cases_lt}
+use Rattle.periodic.specs.Placement.{group_at}
 use Rattle.periodic.specs.Rows.{row_at}
-use Rattle.periodic.specs.Search.{IsStartOf}
-use Rattle.periodic.proofs.Places.{is_nominal}
+use Rattle.periodic.specs.Search.{AreStartsIn}
+use Rattle.periodic.proofs.Groups.{frame-within, range-group}
 use Rattle.periodic.proofs.Seeking.{row-here}
-use Rattle.periodic.proofs.Adopting.{IsGoneThrough, gone-first, gone-other, gone-short, gone-wrong, gone-long}
 use Rattle.periodic.proofs.adopt.are_starts.Goals as goal
-use Rattle.periodic.proofs.adopt.are_starts.Goals.{then-place-wanted+else-count-starts+else-not-is_start}
-use Rattle.periodic.proofs.adopt.are_starts.Goals.{else-place-wanted}
 
-pub returns-then-count-starts-clause-unlawful : goal.returns-then-count-starts-clause-unlawful
-returns-then-count-starts-clause-unlawful c = λ is.
-    gone-short (λ place start. IsStartOf c.args.config.now c.args.wanted c.args.offset
-    (row_at c.args.config.now c.args.rows.now place) start)
-    (is_nominal c.args.wanted.interval c.args.phase) c.args.config.now.cycle c.loop-place.place
-    c.args.starts.now (omega arith) c.loop-place.count (omega arith) (eq-eqb _ _ c.if-place-wanted.true)
-    c.loop-place.invariant.gone
+pub returns-then-starts-count-clause-unlawful : goal.returns-then-starts-count-clause-unlawful
+returns-then-starts-count-clause-unlawful c = λ no are.
+    let cycle : c.from.result ≡ c.args.config.now.cycle = c.from.ensures ∙ c.cycle.ensures.value in
+    c.if-starts-count.true (are.count ∙ ap (λ n. n / c.args.wanted.interval * c.args.wanted.grants) (sym cycle))
 
-pub returns-then-not-is_start-clause-unlawful : goal.returns-then-not-is_start-clause-unlawful
-returns-then-not-is_start-clause-unlawful c = λ is.
+pub returns-then-not-are_starts_in-clause-unlawful : goal.returns-then-not-are_starts_in-clause-unlawful
+returns-then-not-are_starts_in-clause-unlawful c = λ no are.
     let config = c.args.config.now in
     let rows = c.args.rows.now in
     let starts = c.args.starts.now in
-    let place = c.loop-place.place in
-    let P : ℕ → ℕ → Type 0 = λ place start. IsStartOf config c.args.wanted c.args.offset
-    (row_at config rows place) start in
-    let here = row-here config rows place _ c.requires.long (omega arith) in
-    let wrong = subst (λ words. IsStartOf config c.args.wanted c.args.offset words
-    (get_or starts c.loop-place.count 0) → ⊥) (sym here) (rw c.from.ensures at (c.if-not-is_start.ensures.unlawful refl)) in
-    gone-wrong P (is_nominal c.args.wanted.interval c.args.phase) config.cycle place starts (omega arith)
-    c.loop-place.count (omega arith) (eq-eqb _ _ c.if-place-wanted.true) wrong c.loop-place.invariant.gone
+    let w = c.args.wanted in
+    let index = c.loop-index.index in
+    let cycle : c.from.result ≡ config.cycle = c.from.ensures ∙ c.cycle.ensures.value in
+    let within : index < config.cycle / w.interval = subst (λ n. index < n / w.interval) cycle (omega arith) in
+    let place = c.args.phase + index * w.interval in
+    let low = frame-within w.interval c.args.phase c.requires.phase config.cycle index c.requires.sought.divides
+    within in
+    let here = row-here config rows place _ c.requires.long low in
+    let range = range-group starts w.grants index (index * w.grants) (index * w.grants + w.grants) refl refl in
+    let there = subst (λ words. AreStartsIn config w c.args.offset words (group_at w.grants index starts)) here
+    (are.each index within) in
+    c.if-not-are_starts_in.ensures.unlawful refl (subst (AreStartsIn config w c.args.offset _) (sym range) there)
 
-pub loop-place-preserved : goal.loop-place-preserved
-loop-place-preserved c =
+pub loop-index-preserved : goal.loop-index-preserved
+loop-index-preserved c = λ i lt.
     let config = c.args.config.now in
     let rows = c.args.rows.now in
     let starts = c.args.starts.now in
-    let place = c.loop-place.place in
-    let P : ℕ → ℕ → Type 0 = λ place start. IsStartOf config c.args.wanted c.args.offset
-    (row_at config rows place) start in
-    let nominal = is_nominal c.args.wanted.interval c.args.phase in
-    elim c.if-place-wanted.branch [
-      | then-place-wanted+else-count-starts+else-not-is_start w ↦ (
-          let here = row-here config rows place _ c.requires.long (omega arith) in
-          let right : P place (get_or starts c.loop-place.count 0) =
-          subst (λ words. IsStartOf config c.args.wanted c.args.offset words (get_or starts c.loop-place.count 0))
-          (sym here) (rw w.from.ensures at (w.if-not-is_start.ensures.lawful refl)) in
-          rw (w.count-is) (record {
-            within = omega arith;
-            gone = gone-first P nominal config.cycle place starts (omega arith) c.loop-place.count (omega arith)
-                (eq-eqb _ _ w.if-place-wanted.true) right c.loop-place.invariant.gone;
-          }))
-      | else-place-wanted w ↦ rw (w.count-is) (record {
-        within = c.loop-place.invariant.within;
-        gone = gone-other P nominal config.cycle place starts (omega arith) (drop c.loop-place.count starts)
-            (ne_eqb _ _ w.if-place-wanted.false) c.loop-place.invariant.gone;
-      })
+    let w = c.args.wanted in
+    let index = c.loop-index.index in
+    let cycle : c.from.result ≡ config.cycle = c.from.ensures ∙ c.cycle.ensures.value in
+    let within : index < config.cycle / w.interval = subst (λ n. index < n / w.interval) cycle (omega arith) in
+    let place = c.args.phase + index * w.interval in
+    let low = frame-within w.interval c.args.phase c.requires.phase config.cycle index c.requires.sought.divides
+    within in
+    let here = row-here config rows place _ c.requires.long low in
+    let range = range-group starts w.grants index (index * w.grants) (index * w.grants + w.grants) refl refl in
+    elim (cases_lt i index) [
+      | inl early ↦ c.loop-index.invariant i early
+      | inr late ↦ (
+          let same : index ≡ i = omega arith in
+          let lawful = subst (AreStartsIn config w c.args.offset _) range
+          (c.if-not-are_starts_in.ensures.lawful refl) in
+          let now = subst (λ words. AreStartsIn config w c.args.offset words (group_at w.grants index starts))
+          (sym here)
+          lawful in
+          subst (λ k. AreStartsIn config w c.args.offset (row_at config rows (c.args.phase + k * w.interval))
+          (group_at w.grants k starts)) same now)
     ]
 
--- every frame is gone through
-pub returns-clause-unlawful : goal.returns-clause-unlawful
-returns-clause-unlawful c = λ differ.
-    let P : ℕ → ℕ → Type 0 = λ place start. IsStartOf c.args.config.now c.args.wanted c.args.offset
-    (row_at c.args.config.now c.args.rows.now place) start in
-    let nominal = is_nominal c.args.wanted.interval c.args.phase in
-    let cycle = c.args.config.now.cycle in
-    let starts = c.args.starts.now in
-    let count = c.loop-place.count in
-    let all : c.loop-place.place ≡ cycle = omega arith in
-    let apart = eqb-false count (length starts) differ in
-    let short : count < length starts = omega (arith, c.loop-place.invariant.within) in
-    gone-long P nominal cycle count starts short
-    (subst (λ n. IsGoneThrough P nominal cycle n starts (drop count starts)) all c.loop-place.invariant.gone)
+pub returns-clause-lawful : goal.returns-clause-lawful
+returns-clause-lawful c = λ yes.
+    let config = c.args.config.now in
+    let w = c.args.wanted in
+    let cycle : c.from.result ≡ config.cycle = c.from.ensures ∙ c.cycle.ensures.value in
+    let all : c.loop-index.index ≡ config.cycle / w.interval =
+    subst (λ n. c.loop-index.index ≡ n / w.interval) cycle (omega arith) in
+    record {
+      count = c.if-starts-count.false ∙ ap (λ n. n / w.interval * w.grants) cycle;
+      each = λ index within. c.loop-index.invariant index (omega (arith, all, within));
+    }

@@ -17,3 +17,11 @@ offsets-preserved c = record {
     | inr late ↦ c.in-Err.ensures.blocked.none offset late to (starts, are)
   ];
 }
+
+pub returns-clause-absent : goal.returns-clause-absent
+returns-clause-absent c = λ offset after below.
+    c.offsets.invariant.below offset after
+    (omega (arith, below, c.offsets-test.false, c.from.ensures, c.frame.ensures.value))
+
+pub returns-in-Ok-clause-most : goal.returns-in-Ok-clause-most
+returns-in-Ok-clause-most c = c.in-Ok.ensures.most

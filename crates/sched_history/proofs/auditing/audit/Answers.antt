@@ -1,5 +1,5 @@
 -- Before any entry nothing is judged; the first entry that may not follow is the one that is named.
-use Rattle.std.proofs.Common.{◌≡◌, ℕ, Result, Ok, Err, take, length, refl, ap, subst, arith}
+use Rattle.std.proofs.Common.{ℕ, Result, Ok, Err, take, length, refl, ap, subst, arith}
 use Rattle.std.proofs.lemmas.Option.{slice_get_read}
 use Rattle.sched_history.specs.declared.reply.AuditFault.{AuditFault}
 use Rattle.sched_history.specs.declared.reply.AuditFault.TheVariants.{Illegal, Memory}

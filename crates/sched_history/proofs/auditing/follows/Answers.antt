@@ -1,5 +1,5 @@
 -- What is kept is that of the history with one entry more.
-use Rattle.std.proofs.Common.{◌≡◌, ◌∙◌, sym, Result, Ok, Err, IfOk}
+use Rattle.std.proofs.Common.{◌∙◌, sym, Result, Ok, Err, IfOk}
 use Rattle.sched_history.proofs.state.Judging.{IsKeptOf-refused, IsOpenTo-kept, IsKeptOf-followed}
 use Rattle.sched_history.proofs.auditing.follows.Goals as goal
 

@@ -13,4 +13,5 @@ returns-clause-times c =
       phase = ap (λ n. reference / n % c.interval-interval.result) frame
           ∙ ap (λ n. reference / c.args.config.now.frame % n) interval;
       slots = c.slots.ensures.value;
+      grants = c.grants.ensures.value;
     }

@@ -1,9 +1,11 @@
 -- The new flow stands in order of SID, its minislots are taken, and the table is sound.
-use Rattle.std.proofs.Common.{◌≡◌, ◌∙◌, sym, subst, map, length, arith}
+use Rattle.std.proofs.Common.{◌≡◌, ◌∙◌, sym, ap, subst, ◌+◌, map, length, arith}
 use Rattle.std.proofs.lemmas.List.{take_at}
-use Rattle.periodic.specs.Table.{IsSoundPlaced, placed_at, with_placed}
+use Rattle.flow_book.specs.FlowSpec.{grants_of}
+use Rattle.periodic.specs.Placement.{Placed}
+use Rattle.periodic.specs.Table.{placed_grants, IsSoundPlaced, placed_at, with_placed}
 use Rattle.periodic.specs.Fields.{placed_of, placement_at, KeepsTimes}
-use Rattle.periodic.proofs.Adding.{new-sound, sound-with}
+use Rattle.periodic.proofs.Adding.{grants-with, new-sound, sound-with}
 use Rattle.periodic.proofs.Standing.{above-place, put-in, flow-at, placed-at, times-with, marked-for, fields-with}
 use Rattle.periodic.proofs.table.Table.add.Goals as goal
 
@@ -52,6 +54,18 @@ returns-clause-placed c =
     let answered : c.from_vec-2.result ≡ c.args.starts.now = c.from_vec-2.ensures ∙ c.in_ok-answered.ensures.items in
     rw (← c.self.view_is, answered) (inserted c)
 
+own : (c : goal.After-from_vec-2) → c.at-flow.result.grants ≡ grants_of c.args.spec
+own c = c.at-flow.ensures.times.grants ∙ ap (λ (f : Placed). grants_of f.spec) c.at-flow.ensures.placed
+
+summed : (c : goal.After-from_vec-2) → c.self.inside.grants + c.at-flow.result.grants
+    ≡ placed_grants (with_placed (placed_at c.args.sid c.args.spec
+    (placement_at c.args.reference c.args.starts.now)) (map placed_of c.self.inside.flows.items))
+summed c =
+    let a = c.args in
+    let placed = map placed_of c.self.inside.flows.items in
+    let more = grants-with (placed_at a.sid a.spec (placement_at a.reference a.starts.now)) placed in
+    omega (arith, c.self.invariant.summed, own c, more)
+
 pub invariant_of-self-2 : goal.invariant_of-self-2
 invariant_of-self-2 c =
     let a = c.args in
@@ -70,13 +84,15 @@ invariant_of-self-2 c =
     omega (arith, c.mark.ensures.long, c.self.invariant.told.long, inside.rows.ok.0) in
     rw (take_at c.mark.new.rows _ inside.rows.len long)
     (fields-with inside.config inside.flows.items c.insert.new.self.items inside.rows.items c.mark.new.rows added
-    c.self.invariant c.mark.ensures.long (inserted c)
+    inside.grants (inside.grants + c.at-flow.result.grants) c.self.invariant c.mark.ensures.long (inserted c)
     (sound-with inside.config placed a.sid a.spec lawful.0 (placement_at a.reference a.starts.now)
-    c.requires.sid_positive c.requires.sid_most c.requires.periodic (rw (← c.self.view_is) at c.requires.no_fault)
+    c.at-flow.ensures.times.lawful c.requires.sid_positive c.requires.sid_most c.requires.periodic
+    (rw (← c.self.view_is) at c.requires.no_fault)
     (rw (← c.self.view_is) at c.requires.room) (rw (← c.self.view_is) at c.requires.is_new) lawful.1
     c.self.invariant.sound)
     (times-with inside.flows.items c.insert.new.self.items c.unwrap_or-place.result a.sid a.spec a.reference
     a.starts.now c.from_vec.result starts place c.at-flow.result c.at-flow.ensures.placed inside.config
     c.in_ok-insert.ensures.items c.self.invariant.times c.at-flow.ensures.times)
     (λ k. marked-for inside.config k 1 c.index.result.now added c.deref_mut.result.now inside.rows.items c.mark.new.rows
-    here c.deref_mut.ensures.value (c.mark.ensures.marked k)))
+    here c.deref_mut.ensures.value (c.mark.ensures.marked k))
+    (summed c))

@@ -1,18 +1,19 @@
 -- The spots of the frame's place in the cycle, sorted.
 use Rattle.std.proofs.Common.{◌≡◌, ◌∙◌, ◌≤◌, List, ◌++◌, length, take, map, arith}
-use Rattle.std.proofs.lemmas.List.{take_at, length-take-le, length-map}
+use Rattle.std.proofs.lemmas.List.{take_at, length-take-le}
 use Rattle.periodic.specs.declared.placement.Spot.{Spot}
-use Rattle.periodic.specs.declared.TheConstants.{MAX_PERIODIC_FLOWS}
+use Rattle.periodic.specs.declared.TheConstants.{MAX_PERIODIC_GRANTS}
 use Rattle.periodic.specs.Fields.{placed_of}
 use Rattle.periodic.proofs.Fields.{sound-flows}
-use Rattle.periodic.proofs.Frames.{IsFrameOf, frame-sorted}
+use Rattle.periodic.proofs.Sorted.{IsFrameOf, frame-sorted}
 use Rattle.periodic.proofs.table.Table.in_frame.Goals as goal
 
 pub fill-count-requires : goal.fill-count-requires
 fill-count-requires c =
     record {
       sound = rw c.deref.ensures.value
-          (sound-flows c.self.inside.config c.self.inside.flows.items c.self.inside.rows.items c.self.invariant);
+          (sound-flows c.self.inside.config c.self.inside.flows.items c.self.inside.rows.items c.self.inside.grants
+          c.self.invariant);
     }
 
 -- the front of the array is the frame
@@ -21,8 +22,7 @@ in-order : (c : goal.After-sort) (rest : List Spot)
     (take c.fill-count.result (c.sort.new.spots ++ rest))
 in-order c rest =
     let config = c.self.inside.config in
-    let few : length c.self.inside.flows.items ≤ MAX_PERIODIC_FLOWS =
-    rw (length-map c.self.inside.flows.items placed_of) at c.self.invariant.sound.most in
+    let few : c.fill-count.result ≤ MAX_PERIODIC_GRANTS = c.fill-count.ensures.most in
     let long : length c.sort.new.spots ≡ c.fill-count.result = c.sort.auto.spots
     ∙ length-take-le c.fill-count.result c.fill-count.new.spots (omega arith) in
     let written = rw c.deref.ensures.value at c.fill-count.ensures.spots in

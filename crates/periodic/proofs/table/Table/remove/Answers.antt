@@ -1,5 +1,5 @@
 -- The flows of other SIDs are left, and the minislots of this one are free.
-use Rattle.std.proofs.Common.{◌≡◌, refl, sym, ◌∙◌, ap, Bool, map, filter, not, ◌==◌, position, length, Some}
+use Rattle.std.proofs.Common.{◌≡◌, ◌-◌, refl, sym, ◌∙◌, ap, Bool, map, filter, not, ◌==◌, position, length, Some}
 use Rattle.std.proofs.Common.{None, arith, rules}
 use Rattle.std.proofs.lemmas.List.{take_at}
 use Rattle.std.proofs.lemmas.Fn.{filter_same}
@@ -12,6 +12,7 @@ use Rattle.periodic.specs.Table.{without}
 use Rattle.periodic.specs.Fields.{placed_of, KeepsTimes}
 use Rattle.periodic.proofs.Fields.{sound-flow}
 use Rattle.periodic.proofs.Standing.{flow-found, has-place, marked-for, fields-without}
+use Rattle.periodic.proofs.Summed.{grants-found}
 use Rattle.periodic.proofs.table.Table.remove.Goals as goal
 
 kept : (c : goal.After-retain) → c.retain.new.self.items
@@ -45,6 +46,15 @@ mark-requires-clause-sound c =
     sound-flow c.self.inside.config items c.in-Some.place c.index.result.now within c.index.ensures
     c.self.invariant.sound.each c.self.invariant.times
 
+pub overflow_sub-self : goal.overflow_sub-self
+overflow_sub-self c =
+    let inside = c.self.inside in
+    let stands : position (λ (f : PlacedFlow). f.sid == c.args.sid) inside.flows.items ≡ Some c.in-Some.place =
+    rw c.deref.ensures.value at (sym c.place_of.ensures ∙ c.in-Some.is) in
+    let sum = grants-found inside.config c.args.sid inside.flows.items c.in-Some.place c.index-2.result.now stands
+    c.index-2.ensures c.self.invariant.sound c.self.invariant.times in
+    omega (arith, sum, c.self.invariant.summed)
+
 pub invariant_of-self : goal.invariant_of-self
 invariant_of-self c =
     let inside = c.self.inside in
@@ -55,10 +65,13 @@ invariant_of-self c =
     omega (arith, c.mark.ensures.long, c.self.invariant.told.long, inside.rows.ok.0) in
     rw (take_at c.mark.new.rows _ inside.rows.len long)
     (fields-without inside.config inside.flows.items c.retain.new.self.items inside.rows.items c.mark.new.rows
-    (placed_of flow) c.self.invariant c.mark.ensures.long c.args.sid (left c)
+    (placed_of flow) inside.grants (inside.grants - c.index-2.result.now.grants) c.self.invariant c.mark.ensures.long
+    c.args.sid (left c)
     (flow-found c.args.sid inside.flows.items c.in-Some.place flow stands c.index.ensures) (times c)
     (λ k. marked-for inside.config k 0 flow (placed_of flow) c.deref_mut.result.now inside.rows.items c.mark.new.rows
-    refl c.deref_mut.ensures.value (c.mark.ensures.marked k)))
+    refl c.deref_mut.ensures.value (c.mark.ensures.marked k))
+    (let sum = grants-found inside.config c.args.sid inside.flows.items c.in-Some.place c.index-2.result.now stands
+    c.index-2.ensures c.self.invariant.sound c.self.invariant.times in omega (arith, sum, c.self.invariant.summed)))
 
 pub returns : goal.returns
 returns c = rw (← c.self.view_is, left c) refl

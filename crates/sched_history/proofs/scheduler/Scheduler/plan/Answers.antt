@@ -1,5 +1,5 @@
 -- A build that no test refuses is planned.
-use Rattle.std.proofs.Common.{◌≡◌, ◌<◌, length, sym, subst}
+use Rattle.std.proofs.Common.{◌<◌, length, sym, subst}
 use Rattle.sched_history.specs.declared.call.Call.TheVariants.{Build}
 use Rattle.sched_history.specs.State.{IsBuildAfter}
 use Rattle.sched_history.proofs.steps.Passed.{above}

@@ -8,7 +8,7 @@ use Rattle.sched_history.specs.Life.{table_of}
 use Rattle.sched_history.specs.Time.{next_after}
 use Rattle.sched_history.proofs.lives.Finding.{good_sid, life_of-dead}
 use Rattle.sched_history.proofs.flows.Refused.{IsQuiet-refused}
-use Rattle.sched_history.proofs.placements.Counts.{length-placed_by}
+use Rattle.sched_history.proofs.placements.Counts.{grants-placed_by}
 use Rattle.sched_history.proofs.steps.Passed.{passed-admit}
 use Rattle.sched_history.proofs.state.Present.{flow_of-fresh, find-fresh, answers-periodic}
 use Rattle.sched_history.proofs.state.Present.{placement-after, no_placement-after}
@@ -36,8 +36,8 @@ admit_periodic-requires-clause-room c =
     let admits = passed-admit s.config c.requires.open.0 c.args.sid c.args.spec opens.unrefused in
     omega (
       arith,
-      length-placed_by s c.requires.open.0 opens.is_after opens.legal,
-      admits.few_periodic c.requires.periodic,
+      grants-placed_by s c.requires.open.0 opens.is_after opens.legal,
+      admits.few_grants c.requires.periodic,
     )
 
 pub returns-in-Ok-clause-answered : goal.returns-in-Ok-clause-answered

@@ -1,18 +1,14 @@
 -- There is no place for a periodic flow.
-use Rattle.std.proofs.Common.{◌≡◌, Some, refl, inl, inr, arith}
-use Rattle.periodic.specs.Placement.{IsPlacement, NoPlacement}
+use Rattle.std.proofs.Common.{refl, inr, arith}
 use Rattle.sched_history.specs.declared.call.Call.TheVariants as calls
 use Rattle.sched_history.specs.declared.reply.Refusal.TheVariants.{NoPlace}
 use Rattle.sched_history.specs.declared.reply.Reply.TheVariants as replies
-use Rattle.sched_history.specs.Life.{table_of}
-use Rattle.sched_history.specs.Time.{next_after}
-use Rattle.sched_history.proofs.lives.Finding.{good_sid, life_of-dead}
 use Rattle.sched_history.proofs.flows.Refused.{IsQuiet-refused}
-use Rattle.sched_history.proofs.placements.Counts.{length-placed_by}
+use Rattle.sched_history.proofs.placements.Counts.{grants-placed_by}
 use Rattle.sched_history.proofs.steps.Passed.{passed-admit}
-use Rattle.sched_history.proofs.state.Present.{flow_of-fresh, find-fresh, answers-periodic}
-use Rattle.sched_history.proofs.state.Present.{placement-after, no_placement-after}
-use Rattle.sched_history.proofs.state.Moves.{IsStateAfter-placed, IsStateAfter-quiet}
+use Rattle.sched_history.proofs.state.Present.{find-fresh, answers-periodic}
+use Rattle.sched_history.proofs.state.Present.{no_placement-after}
+use Rattle.sched_history.proofs.state.Moves.{IsStateAfter-quiet}
 use Rattle.sched_history.proofs.scheduler.state.State.has_no_place.Goals as goal
 
 pub place-requires-clause-is_new : goal.place-requires-clause-is_new
@@ -29,8 +25,8 @@ place-requires-clause-room c =
     let admits = passed-admit s.config c.requires.open.0 c.args.sid c.args.spec opens.unrefused in
     omega (
       arith,
-      length-placed_by s c.requires.open.0 opens.is_after opens.legal,
-      admits.few_periodic c.requires.periodic,
+      grants-placed_by s c.requires.open.0 opens.is_after opens.legal,
+      admits.few_grants c.requires.periodic,
     )
 
 pub returns-clause-follows : goal.returns-clause-follows

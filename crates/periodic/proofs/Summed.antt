@@ -1,0 +1,46 @@
+-- The grants per interval where a flow is taken out.
+use Rattle.std.proofs.Common.{◌≡◌, sym, ap, ◌∙◌, subst, ℕ, ◌+◌, ◌<◌, ◌==◌, List, [], ◌∷◌, map, get_or}
+use Rattle.std.proofs.Common.{find, position, Some, inl, inr, arith}
+use Rattle.std.specs.List.{AllByRecursion}
+use Rattle.std.proofs.lemmas.Bool.Decides.{nat_tests}
+use Rattle.std.proofs.lemmas.List.Sums.{sum_by-cons}
+use Rattle.std.proofs.lemmas.List.Quantifiers.{position-Some}
+use Rattle.minislots.specs.declared.config.Config.{Config}
+use Rattle.flow_book.specs.FlowSpec.{grants_of}
+use Rattle.periodic.specs.declared.spots.PlacedFlow.{PlacedFlow}
+use Rattle.periodic.specs.Placement.{Placed}
+use Rattle.periodic.specs.Table.{placed_grants, without, Ascend, AreSound}
+use Rattle.periodic.specs.Fields.{placed_of, KeepsTimes}
+use Rattle.periodic.proofs.Fields.{sound-flow}
+use Rattle.periodic.proofs.Vacated.{found-cases, without-above}
+use Rattle.periodic.proofs.Standing.{flow-found}
+
+-- the grants of the one that is taken out and those of the others are all
+pub grants-without : (sid : ℕ) (f : Placed) (placed : List Placed) → find (λ g. g.sid == sid) placed ≡ Some f
+    → Ascend placed → grants_of f.spec + placed_grants (without sid placed) ≡ placed_grants placed
+grants-without sid f [] found up = absurd (cc)
+grants-without sid f (g ∷ placed) found up =
+    let own : Placed → ℕ = λ h. grants_of h.spec in
+    let sum = sum_by-cons own g placed in
+    elim (found-cases (g.sid == sid) g f (find (λ h. h.sid == sid) placed) found) [
+      | inl first ↦ (
+          let same : g.sid ≡ sid = grind (arith, nat_tests, first.0) in
+          let left = without-above sid placed (subst (λ n. AllByRecursion (λ h. n < h.sid) placed) same up.0) in
+          rw (first.0, left) (ap (λ (h : Placed). grants_of h.spec + placed_grants placed) (sym first.1) ∙ sym sum))
+      | inr later ↦ (
+          let rest = grants-without sid f placed later.1 up.1 in
+          let kept = sum_by-cons own g (without sid placed) in
+          rw later.0 (omega (arith, sum, rest, kept)))
+    ]
+
+-- so with what the fields of the one keep, at its place
+pub grants-found : (c : Config) (sid : ℕ) (items : List PlacedFlow) (i : ℕ) (f : PlacedFlow)
+    → position (λ g. g.sid == sid) items ≡ Some i → f ≡ get_or items i f → AreSound c (map placed_of items)
+    → AllByRecursion (KeepsTimes c) items
+    → f.grants + placed_grants (without sid (map placed_of items)) ≡ placed_grants (map placed_of items)
+grants-found c sid items i f stands is sound times =
+    let within = (position-Some (λ (g : PlacedFlow). g.sid == sid) items i f stands).0 in
+    let own = (sound-flow c items i f within is sound.each times).times.grants in
+    let rest = grants-without sid (placed_of f) (map placed_of items) (flow-found sid items i f stands is)
+    sound.ascending in
+    omega (arith, own, rest)

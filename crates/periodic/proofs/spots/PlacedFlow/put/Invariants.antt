@@ -1,0 +1,16 @@
+-- The spots at the starts gone through are written.
+use Rattle.std.proofs.Common.{◌≡◌, ◌+◌, ◌<◌, ◌++◌, length, map, take, drop}
+use Rattle.minislots.specs.declared.config.Config.{Config}
+use Rattle.periodic.specs.Placement.{spot_at, starts_in}
+use Rattle.periodic.specs.Fields.{placed_of, IsSoundFlow}
+use Rattle.periodic.proofs.spots.PlacedFlow.put.Given as goal
+
+abbrev pub invariant-loop-start : goal.invariant-loop-start
+invariant-loop-start l = record {
+  long : length l.spots ≡ 40;
+  count : l.next ≡ l.count + l.start-index;
+  spots : (c : Config) → IsSoundFlow c l.self → l.place < c.cycle
+      → take l.next l.spots ≡ take l.count l.fn.spots
+      ++ map (spot_at c (placed_of l.self)) (take l.start-index (starts_in c l.self.spec l.self.placement l.place));
+  rest : drop l.next l.spots ≡ drop l.next l.fn.spots;
+}

@@ -1,0 +1,96 @@
+-- The grants per interval of the live flows, in every legal history.
+use Rattle.std.proofs.Common.{◌≡◌, ℕ, ◌+◌, ◌≤◌, Bool, true, false, not, nat_lt, ◌==◌, if◌then◌else◌}
+use Rattle.std.proofs.Common.{cond, List, [], ◌∷◌, ◌++◌, map, filter, refl, arith}
+use Rattle.std.specs.Prelude.{sum_by}
+use Rattle.std.proofs.lemmas.List.Sums.{sum_by-cons}
+use Rattle.minislots.specs.declared.config.Config.{Config}
+use Rattle.minislots.specs.Config.{IsLawful}
+use Rattle.flow_book.specs.declared.spec.FlowSpec.{FlowSpec}
+use Rattle.flow_book.specs.declared.spec.FlowSpec.TheVariants.{Unsolicited, Polled, BestEffort}
+use Rattle.flow_book.specs.FlowSpec.{is_periodic, grants_of}
+use Rattle.flow_book.specs.Flows.{LiveFlow}
+use Rattle.flow_book.specs.Book.{with_flow, new_flow, with_asked}
+use Rattle.map_build.specs.Plan.{flow_after}
+use Rattle.periodic.specs.declared.TheConstants.{MAX_PERIODIC_GRANTS}
+use Rattle.sched_history.specs.declared.reply.Entry.{Entry}
+use Rattle.sched_history.specs.Life.{flows_of}
+use Rattle.sched_history.specs.Time.{next_after}
+use Rattle.sched_history.specs.Refusal.{periodic_grants}
+use Rattle.sched_history.specs.History.{IsLegal}
+use Rattle.sched_history.proofs.lives.LiveFlows.{flows_of-none}
+use Rattle.sched_history.proofs.steps.LegalHistories.{legal_induction}
+use Rattle.sched_history.proofs.steps.EntryChanges.{EntryChange, Nothing, Asked, Began, Ended}
+use Rattle.sched_history.proofs.steps.EntryChanges.{Described, Skipped, change_of}
+
+module _ {X : Type 0} (own : X → ℕ) where
+  -- members changed in what is not summed
+  sum_by-map : (k : X → X) (xs : List X) → ((x : X) → own (k x) ≡ own x) → sum_by own (map k xs) ≡ sum_by own xs
+  sum_by-map k [] same = refl
+  sum_by-map k (x ∷ xs) same =
+      let rest = sum_by-map k xs same in
+      let here = same x in
+      let new = sum_by-cons own (k x) (map k xs) in
+      let old = sum_by-cons own x xs in
+      omega (arith, rest, here, new, old)
+
+  fewer : (b : Bool) (x : X) (xs : List X) (n : ℕ) → sum_by own xs ≤ n → sum_by own (cond b (x ∷ xs) xs) ≤ own x + n
+  fewer true x xs n few = omega (arith, sum_by-cons own x xs)
+  fewer false x xs n few = omega arith
+
+  -- the sum is no greater over those that are left
+  sum_by-filter : (test : X → Bool) (xs : List X) → sum_by own (filter test xs) ≤ sum_by own xs
+  sum_by-filter test [] = omega arith
+  sum_by-filter test (x ∷ xs) =
+      omega (arith, fewer (test x) x (filter test xs) (sum_by own xs) (sum_by-filter test xs), sum_by-cons own x xs)
+
+  inserted : (b : Bool) (x y : X) (ys rest : List X) → sum_by own rest ≡ own x + sum_by own ys
+      → sum_by own (cond b (x ∷ y ∷ ys) (y ∷ rest)) ≡ own x + sum_by own (y ∷ ys)
+  inserted true x y ys rest more = sum_by-cons own x (y ∷ ys)
+  inserted false x y ys rest more = omega (arith, sum_by-cons own y rest, sum_by-cons own y ys, more)
+
+-- a flow more adds what is its own
+sum_by-with_flow : (own : LiveFlow → ℕ) (f : LiveFlow) (flows : List LiveFlow)
+    → sum_by own (with_flow f flows) ≡ own f + sum_by own flows
+sum_by-with_flow own f [] = sum_by-cons own f []
+sum_by-with_flow own f (g ∷ flows) =
+    inserted own (nat_lt f.sid g.sid) f g flows (with_flow f flows) (sum_by-with_flow own f flows)
+
+asked-spec : (b : Bool) (bytes : ℕ) (f : LiveFlow) → grants_of (cond b (with_asked bytes f) f).spec ≡ grants_of f.spec
+asked-spec true bytes f = refl
+asked-spec false bytes f = refl
+
+few-more : (spec : FlowSpec) (n most : ℕ) → (is_periodic spec ≡ true → n + grants_of spec ≤ most) → n ≤ most
+    → grants_of spec + n ≤ most
+few-more (Unsolicited size interval jitter grants) n most room few = omega (arith, room refl)
+few-more (Polled interval jitter rate burst) n most room few = omega (arith, room refl)
+few-more (BestEffort priority rate burst) n most room few = omega (arith, few)
+
+module _ (c : Config) (lawful : IsLawful c) where
+  few-after : (h new : List Entry) → EntryChange c h new → periodic_grants h ≤ MAX_PERIODIC_GRANTS
+      → periodic_grants new ≤ MAX_PERIODIC_GRANTS
+  few-after h new change few =
+      let own : LiveFlow → ℕ = λ f. grants_of f.spec in
+      elim change [
+        | Nothing flows next ↦ rw flows few
+        | Asked sid bytes most flows next ↦ rw (
+          flows,
+          sum_by-map own (λ f. if f.sid == sid then with_asked bytes f else f) (flows_of h)
+              (λ f. asked-spec (f.sid == sid) bytes f),
+        ) few
+        | Began sid spec may flows next ↦ rw (flows, sum_by-with_flow own (new_flow sid spec) (flows_of h))
+            (few-more spec (periodic_grants h) MAX_PERIODIC_GRANTS may.few_grants few)
+        | Ended sid flows next ↦
+            rw flows (omega (arith, few, sum_by-filter own (λ f. not (f.sid == sid)) (flows_of h)))
+        | Described m map flows next most ↦ rw (
+          flows,
+          sum_by-map own (flow_after (next_after c h) map.0) (flows_of h) (λ f. refl),
+        ) few
+        | Skipped start flows next later whole most ↦ rw flows few
+      ]
+
+  -- the live flows have at most so many grants per interval
+  pub periodic_grants-few : (h : List Entry) → IsLegal c h → periodic_grants h ≤ MAX_PERIODIC_GRANTS
+  periodic_grants-few =
+      legal_induction c (λ h. periodic_grants h ≤ MAX_PERIODIC_GRANTS)
+      (λ h e legal step few. few-after h (h ++ e ∷ []) (change_of c h e lawful step) few)
+      (let none : flows_of [] ≡ [] = flows_of-none [] (λ sid. refl) in rw none (omega arith))

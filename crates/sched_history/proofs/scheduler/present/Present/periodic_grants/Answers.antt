@@ -1,0 +1,14 @@
+use Rattle.std.proofs.Common.{◌∙◌, arith}
+use Rattle.sched_history.proofs.placements.Counts.{grants-placed_by}
+use Rattle.sched_history.proofs.scheduler.present.Present.periodic_grants.Goals as goal
+
+pub returns-clause-value : goal.returns-clause-value
+returns-clause-value c = rw (← c.self.view_is)
+    (c.grants.ensures.value ∙ grants-placed_by c.self.inside.state.now c.self.inside.entries.now
+    c.self.invariant.is_after c.self.invariant.legal)
+
+pub returns-clause-most : goal.returns-clause-most
+returns-clause-most c =
+    let value = c.grants.ensures.value in
+    let most = c.grants.ensures.sound.most in
+    omega (arith, value, most)
