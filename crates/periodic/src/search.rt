@@ -128,36 +128,41 @@ fn starts_in(
     Ok(starts)
 }
 
-// The first starts at this phase and offset, or else the next offset that may have starts in all frames.
+// Puts the first starts at this phase and offset into a row, or else gives the next offset that may have starts in all
+// frames.
 fn starts_at(
     rows: &[Bits],
     config: &Checked,
     wanted: Wanted,
     phase: u64,
     offset: u64,
-) -> Result<Row, u64>
+    row: &mut Row,
+) -> Result<(), u64>
     requires long { length rows.now ≡ config.now.cycle }
     requires sought { CanBeSought config.now wanted }
     requires phase { phase < wanted.interval }
     requires offset { offset < config.now.frame }
-    ensures found { IfOk result (λ row. AreFirstStarts config.now rows.now wanted phase offset (starts_of row)) }
-    ensures most { IfOk result (λ row. row.count ≤ MAX_STARTS) }
+    ensures found { IfOk result (λ _. AreFirstStarts config.now rows.now wanted phase offset (starts_of row.new)) }
+    ensures most { IfOk result (λ _. row.new.count ≤ MAX_STARTS) }
     ensures blocked { IfErr result (IsNextOffset config.now (HaveStartsAt config.now rows.now wanted phase) offset) }
 {
-    let mut row = Row {
-        starts: [0; MAX_STARTS],
-        count: 0,
-    };
+    row.count = 0;
     for index in 0..u64::from(config.cycle()) / wanted.interval {
         let place = phase + index * wanted.interval;
         let starts = starts_in(&rows[place as usize], config, wanted, offset)?;
         row.push(&starts[..wanted.grants]);
     }
-    Ok(row)
+    Ok(())
 }
 
-// The first lawful starts at the least offset of this phase.
-fn found_at(rows: &[Bits], config: &Checked, wanted: Wanted, phase: u64) -> Option<Found>
+// The first lawful starts at the least offset of this phase. The row is for those that are tried.
+fn found_at(
+    rows: &[Bits],
+    config: &Checked,
+    wanted: Wanted,
+    phase: u64,
+    row: &mut Row,
+) -> Option<Found>
     requires long { length rows.now ≡ config.now.cycle }
     requires sought { CanBeSought config.now wanted }
     requires phase { phase < wanted.interval }
@@ -168,8 +173,14 @@ fn found_at(rows: &[Bits], config: &Checked, wanted: Wanted, phase: u64) -> Opti
 {
     let mut offset = u64::from(config.req_slots());
     'offsets: while offset < u64::from(config.frame()) {
-        match starts_at(rows, config, wanted, phase, offset) {
-            Ok(row) => return Some(Found { phase, offset, row }),
+        match starts_at(rows, config, wanted, phase, offset, row) {
+            Ok(()) => {
+                return Some(Found {
+                    phase,
+                    offset,
+                    row: *row,
+                });
+            }
             Err(next) => offset = next,
         }
     }
@@ -184,8 +195,12 @@ fn first_found(rows: &[Bits], config: &Checked, wanted: Wanted) -> Option<Found>
     ensures most { IfSome result (λ found. found.row.count ≤ MAX_STARTS) }
     ensures absent { IfNone result (NonePhase config.now rows.now wanted wanted.interval) }
 {
+    let mut row = Row {
+        starts: [0; MAX_STARTS],
+        count: 0,
+    };
     for phase in 0..wanted.interval {
-        if let Some(found) = found_at(rows, config, wanted, phase) {
+        if let Some(found) = found_at(rows, config, wanted, phase, &mut row) {
             return Some(found);
         }
     }
