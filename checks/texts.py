@@ -32,7 +32,9 @@ def constant(file, name):
 
 
 CONFIG, FORMS = constant("base/texts", "CONFIG"), constant("base/texts", "CALLS")
-RUNS = [constant("base/runs", "RUNS"), constant("base/crowds", "CROWDS"), constant("base/crowds", "GRANTS")]
+PLAIN, SEVERAL = constant("base/runs", "RUNS"), constant("base/several", "SEVERAL")
+CROWDS = [constant("base/crowds", "CROWDS"), constant("base/crowds", "GRANTS"), constant("base/several", "FORTY")]
+RUNS = [PLAIN, SEVERAL, *CROWDS]
 REPLIES, BUILD = constant("base/histories", "REPLIES"), constant("base/histories", "BUILD")
 CALLS = read("checks/rows/calls_of_each_name")
 

@@ -5,6 +5,7 @@ pub mod draws;
 pub mod fakes;
 pub mod histories;
 pub mod runs;
+pub mod several;
 pub mod texts;
 
 use minislots::{Checked, Config};

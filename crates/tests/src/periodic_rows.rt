@@ -5,7 +5,7 @@ mod slow;
 
 use crate::base::{BASE, is_shown, shown};
 use flow_book::FlowSpec;
-use periodic::{Placement, Spot, Table};
+use periodic::{Placement, Spot, Starts, Table};
 use std::alloc::{AllocError, AllocGlobal, Global};
 use std::process::Abort;
 use std::test::Fail;
@@ -16,6 +16,14 @@ const VOICE: FlowSpec = FlowSpec::Unsolicited {
     interval_us: 10_000,
     jitter_us: 800,
     grants: 1,
+};
+
+// The same with two grants each time.
+const PAIR: FlowSpec = FlowSpec::Unsolicited {
+    size: 200,
+    interval_us: 10_000,
+    jitter_us: 800,
+    grants: 2,
 };
 
 // Polls each five frames.
@@ -82,4 +90,37 @@ fn a_flow_is_polled_in_each_interval(rt: HostRuntime) -> Result<(), Fail> {
     has_spots(&rt, &table, 24, "");
     has_spots(&rt, &table, 25, "(9, true, 4, 2)");
     Ok(())
+}
+
+#[test]
+fn each_grant_in_an_interval_has_a_spot(rt: HostRuntime) -> Result<(), Fail> {
+    let mut table = Table::open(rt.alloc(), BASE.check()?)?;
+    PAIR.check(table.config())?;
+    stands_at(&rt, &table.place(5, &PAIR, 800)?, "(804, [4, 19, 4, 19])");
+    is_shown(&rt, (table.len(), table.grants()), "(1, 2)");
+    has_spots(&rt, &table, 20, "(5, false, 4, 15)(5, false, 19, 15)");
+    has_spots(&rt, &table, 21, "");
+    table.remove(5);
+    is_shown(&rt, (table.len(), table.grants()), "(0, 0)");
+    has_spots(&rt, &table, 30, "");
+    Ok(())
+}
+
+// Whether an empty table takes the flow with these starts.
+fn is_adopted<R: Abort + AllocGlobal>(rt: &R, starts: &[u16], expected: &str) -> Result<(), Fail> {
+    let mut table = Table::open(rt.alloc(), BASE.check()?)?;
+    PAIR.check(table.config())?;
+    let placement = Placement {
+        reference: 804,
+        starts: Starts::from_vec(Vec::from_slice(rt.alloc(), starts)?),
+    };
+    is_shown(rt, table.adopt(5, &PAIR, 800, &placement)?, expected);
+    is_shown(rt, !table.is_empty(), expected);
+    Ok(())
+}
+
+#[test]
+fn grants_are_adopted_where_none_overlaps_another(rt: HostRuntime) -> Result<(), Fail> {
+    is_adopted(&rt, &[4, 18, 4, 19], "false")?;
+    is_adopted(&rt, &[4, 20, 5, 21], "true")
 }

@@ -30,28 +30,6 @@ unsolicited 6 200 10000 800 => admitted 804 19 19
 build 760 => map 03010500000003200000032000000000fffc40000015800400198013000180220001c028
 unsolicited 7 200 10000 800 => admitted 844 4 4
 
-two grants in each interval
-grants 5 200 10000 800 2 => admitted 804 4 19 4 19
-build 760 => map 03010500000003200000032000000000fffc40000015800400158013000180220001c028
-status 5 => flow 0 0 0
-
-as many grants as the jitter allows, and no more
-grants 5 200 10000 800 3 => refused 6
-grants 5 200 10000 350 2 => refused 6
-grants 5 200 10000 375 2 => admitted 804 4 19 4 19
-grants 6 16 10000 525 8 => admitted 844 4 7 10 13 16 19 22 25 4 7 10 13 16 19 22 25
-remove 5 => removed
-grants 6 200 10000 800 1 => refused 2
-grants 7 200 10000 800 1 => admitted 804 4 4
-
-grants in an interval are tested behind all other parameters
-grants 5 200 10000 800 0 => refused 3 7
-grants 5 200 10000 800 9 => refused 3 7
-grants 5 200 10000 800 255 => refused 3 7
-grants 5 0 10000 800 0 => refused 3 1
-grants 5 200 10010 800 0 => refused 3 2
-grants 5 200 30000 800 9 => refused 3 4
-
 the parameters of flows are tested in their order
 unsolicited 5 200 10010 0 => refused 3 2
 unsolicited 5 200 1500 0 => refused 3 3

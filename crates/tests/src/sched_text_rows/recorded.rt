@@ -4,6 +4,7 @@ use crate::base::BASE;
 use crate::base::crowds::{CROWDS, GRANTS};
 use crate::base::histories::{BUILD, REPLIES, history_of};
 use crate::base::runs::RUNS;
+use crate::base::several::{FORTY, SEVERAL};
 use crate::base::texts::{config_of, edited, script_in};
 use minislots::Stamp;
 use sched_commands::run_script;
@@ -58,7 +59,7 @@ fn an_entry_has_the_number_of_its_seat(rt: HostRuntime) -> Result<(), Fail> {
 #[test]
 fn the_history_of_a_run_is_read(rt: HostRuntime) -> Result<(), Fail> {
     let alloc = rt.alloc();
-    for runs in [RUNS, CROWDS, GRANTS] {
+    for runs in [RUNS, SEVERAL, CROWDS, GRANTS, FORTY] {
         for run in runs.split("\n\n") {
             let script = script_in(alloc, run)?;
             let mut text = Vec::new(alloc);
