@@ -37,7 +37,8 @@ pub descending_none : (es : List Element) → ((k : ℕ) → k < length es → d
     → descending_fault es ≡ None
 descending_none es none = ap (option_map Descending) (least_none (descends_at es) (length es) none)
 
-none_past : (es : List Element) (i : ℕ) → i < length es → is_null (element_at es i) ≡ true
+-- past a Null at whose place nothing descends, nothing does
+pub none_past : (es : List Element) (i : ℕ) → i < length es → is_null (element_at es i) ≡ true
     → offset_before es i ≤ (element_at es i).offset → ((k : ℕ) → k < i → descends_at es k ≡ false)
     → (k : ℕ) → k < length es → descends_at es k ≡ false
 none_past es i lt null le below k _ =

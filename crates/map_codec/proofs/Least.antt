@@ -31,12 +31,12 @@ all_none [] e = tt
 all_none (o ∷ os) e = let both = none_of_both o (first_of os) e in (both.0, all_none os both.1)
 
 -- nothing comes of nothing
-none_of_map : {X Y : Type 0} (f : X → Y) (o : Option X) → option_map f o ≡ None → o ≡ None
+pub none_of_map : {X Y : Type 0} (f : X → Y) (o : Option X) → option_map f o ≡ None → o ≡ None
 none_of_map f None e = refl
 none_of_map f (Some x) e = absurd cc
 
 -- where there is none, the test holds nowhere
-none_from_least : (test : ℕ → Bool) (n : ℕ) → least test n ≡ None → (i : ℕ) → i < n → test i ≡ false
+pub none_from_least : (test : ℕ → Bool) (n : ℕ) → least test n ≡ None → (i : ℕ) → i < n → test i ≡ false
 unfolding least
 none_from_least test zero e i lt = absurd (omega arith)
 none_from_least test (suc n) e i lt =

@@ -3,6 +3,7 @@ pub mod Words
 pub mod Least
 pub mod Nulls
 pub mod Faults
+pub mod MapFaults
 pub mod Checked
 pub mod Payload
 pub mod Rows

@@ -1,3 +1,4 @@
 pub mod Element
 pub mod DecodeFault
 pub mod WireMap
+pub mod MapFault

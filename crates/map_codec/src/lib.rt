@@ -5,14 +5,17 @@
 //! elements among them, are this project's profile.
 #![tactic(auto)]
 
+mod checking;
 mod decoding;
 mod element;
 mod encoding;
 mod fault;
+mod map_fault;
 mod wire_map;
 
 pub use decoding::{decode, every_spelling};
 pub use element::{Element, Elements, iuc};
 pub use encoding::encode;
 pub use fault::DecodeFault;
+pub use map_fault::MapFault;
 pub use wire_map::{ELEMENT_BYTES, HEADER_BYTES, MAX_BYTES, MAX_ELEMENTS, WireMap};
