@@ -32,7 +32,8 @@ enum mapsched_status {
   MAPSCHED_NOT_JSON = 10,     /* a text is not JSON in UTF-8 */
   MAPSCHED_NO_HISTORY = 11,   /* a text is no history: the place of the entry is told, from 1, or 0 */
   MAPSCHED_BAD_CONFIG = 100,  /* and the number of the first wrong field: 101 to 119, in the order of README's table */
-  MAPSCHED_BAD_PAYLOAD = 200  /* and the number of the first fault: 201 to 207, in the order of README's list */
+  MAPSCHED_BAD_PAYLOAD = 200, /* and the number of the first fault: 201 to 207, in the order of README's list */
+  MAPSCHED_BAD_MAP = 300      /* and the number of the first fault of numbers that are no MAP: 301 to 305 */
 };
 
 /* The configuration of a channel. README's table has the values that are lawful. */
@@ -148,6 +149,14 @@ struct mapsched_map {
 /* Reads the payload of a MAP. Of the faults 4, 5 and 7 the element is told, from 0. */
 uint32_t mapsched_decode(const uint8_t *payload, uintptr_t length, struct mapsched_map *map, uintptr_t *element);
 
+/*
+ * Writes the payload of a MAP, and tells its length: 1 more than 240 elements are counted, 2 an element has a SID or an
+ * offset above 16383 or a code above 14, 3 it begins before the one before it, up to the first Null, 4 no element is a
+ * Null, 5 it is a second Null. Of the faults 2, 3 and 5 the element is told, from 0.
+ */
+uint32_t mapsched_encode(const struct mapsched_map *map, uint8_t *room, uintptr_t room_length, uintptr_t *length,
+                         uintptr_t *element);
+
 /* Frees the scheduler. */
 uint32_t mapsched_close(struct mapsched_scheduler *scheduler);
 
@@ -162,11 +171,14 @@ static inline const char *mapsched_status_text(uint32_t status) {
                                        "ranging_end",   "data_start",     "data_end",   "phy"};
   static const char *const faults[] = {"too short",  "too many elements", "wrong length", "an expansion",
                                        "a descent", "no null",           "a second null"};
+  static const char *const map_faults[] = {"too many elements", "out of range", "a descent", "no null",
+                                           "a second null"};
   if (status <= MAPSCHED_NO_HISTORY) return texts[status];
   if (status > MAPSCHED_BAD_CONFIG && status <= MAPSCHED_BAD_CONFIG + 19)
     return fields[status - MAPSCHED_BAD_CONFIG - 1];
   if (status > MAPSCHED_BAD_PAYLOAD && status <= MAPSCHED_BAD_PAYLOAD + 7)
     return faults[status - MAPSCHED_BAD_PAYLOAD - 1];
+  if (status > MAPSCHED_BAD_MAP && status <= MAPSCHED_BAD_MAP + 5) return map_faults[status - MAPSCHED_BAD_MAP - 1];
   return "unknown status";
 }
 

@@ -105,6 +105,34 @@ int main(void) {
   WANT(map.elements[4].sid == 0xa5a5);
   WANT(mapsched_decode(reply.payload, 15, &map, &place) == MAPSCHED_BAD_PAYLOAD + 1 && place == 99);
   WANT(mapsched_decode(reply.payload, reply.length - 1, &map, &place) == MAPSCHED_BAD_PAYLOAD + 3);
+
+  /* The payload that was read is written again; then each fault of its numbers. */
+  memset(text, 0xa5, 1000);
+  WANT(mapsched_encode(&map, text, reply.length - 1, &length, &place) == MAPSCHED_NO_ROOM && length == reply.length);
+  WANT(text[0] == 0xa5 && place == 99);
+  WANT(mapsched_encode(&map, text, sizeof text, &length, &place) == MAPSCHED_OK && length == reply.length);
+  WANT(memcmp(text, reply.payload, length) == 0 && text[length] == 0xa5 && place == 99);
+  length = 7;
+  map.count = 241;
+  WANT(mapsched_encode(&map, text, sizeof text, &length, &place) == MAPSCHED_BAD_MAP + 1 && place == 99);
+  map.count = 3;
+  WANT(mapsched_encode(&map, text, sizeof text, &length, &place) == MAPSCHED_BAD_MAP + 4 && place == 99);
+  map.count = 4;
+  map.elements[1].sid = 0x4000;
+  WANT(mapsched_encode(&map, text, sizeof text, &length, &place) == MAPSCHED_BAD_MAP + 2 && place == 1);
+  map.elements[1].sid = 5;
+  map.elements[2].iuc = 15;
+  WANT(mapsched_encode(&map, text, sizeof text, &length, &place) == MAPSCHED_BAD_MAP + 2 && place == 2);
+  map.elements[2].iuc = 7;
+  WANT(mapsched_encode(&map, text, sizeof text, &length, &place) == MAPSCHED_BAD_MAP + 5 && place == 3);
+  map.elements[2].iuc = 1;
+  map.elements[2].offset = 0;
+  WANT(mapsched_encode(&map, text, sizeof text, &length, &place) == MAPSCHED_BAD_MAP + 3 && place == 2);
+  WANT(length == 7 && strcmp(mapsched_status_text(302), "out of range") == 0);
+  WANT(memcmp(text, reply.payload, reply.length) == 0);
+  memset(text, 0, 1000);
+  place = 99;
+
   reply.payload[18] |= 0xc0;
   reply.payload[17] |= 0x03;
   WANT(mapsched_decode(reply.payload, reply.length, &map, &place) == MAPSCHED_BAD_PAYLOAD + 4 && place == 0);

@@ -6,3 +6,4 @@ pub mod Entry
 pub mod Answer
 pub mod Text
 pub mod Map
+pub mod Encode

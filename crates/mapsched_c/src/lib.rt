@@ -4,6 +4,7 @@
 mod call;
 mod channel;
 mod config;
+mod encode;
 mod entry;
 mod exports;
 mod handle;

@@ -26,5 +26,7 @@ pub const NOT_JSON: u32 = 10;
 pub const NO_HISTORY: u32 = 11;
 /// To this the number of the first fault of a payload is added, from 1.
 pub const BAD_PAYLOAD: u32 = 200;
+/// To this the number of the first fault of a MAP that has no bytes is added, from 1.
+pub const BAD_MAP: u32 = 300;
 /// To this the number of the first wrong field of a configuration is added, from 1.
 pub const BAD_CONFIG: u32 = 100;

@@ -12,7 +12,7 @@ use sched_text::{TextFault, field_number, read_history};
 use std::alloc::Global;
 
 // Writes a text at the front of the room, if it fits, and tells its length.
-fn put_text(text: &[u8], room: &mut [u8], length: &mut usize) -> u32
+pub(crate) fn put_text(text: &[u8], room: &mut [u8], length: &mut usize) -> u32
     ensures { GivesText text.now result room.old room.new length.new }
 {
     *length = text.len();
