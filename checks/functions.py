@@ -108,7 +108,7 @@ def plain(folder):
             of_type = PLAIN.match(blocks[-1]) if it[1] and blocks else None
             if cycle_of(text, it) or it[1] and not of_type:
                 continue
-            module = modules.get(of_type[1], "") if of_type else ""
+            module = modules.get(of_type[1], module_of(file)) if of_type else ""
             names.add(f"{module}::{name}" if module else name)
     return names
 
