@@ -2,108 +2,21 @@
 //! MAP, and the audit of a history.
 #![tactic(auto)]
 
-mod draw;
-mod help;
-
-use clap::builder::ValueParser;
 use clap::error::ErrorKind;
-use clap::{Arg, ArgAction, ArgMatches, Command, Error};
-use draw::{draw_command, draw_input};
+use clap::{ArgMatches, Error};
+use command_line::commands;
 use sched_check::run_check;
-use sched_commands::{RunFault, decode_text, run_audit, run_explained, run_script, run_storm};
+use sched_commands::{
+    RunFault, decode_text, draw_script, run_audit, run_explained, run_script, run_storm,
+};
 use sched_storm::Open;
 use sched_text::Watched;
-use std::alloc::{AllocError, Global};
+use std::alloc::Global;
 use std::process::ExitCode;
 use std::rt::Env;
 use std::sync::Wait;
 use std::thread::Threads;
 use std::{env, io};
-
-// A command, and what its help says before and behind its words.
-fn command<'a>(alloc: Global, name: &'a str, about: &'a str, after: &'a str) -> Command<'a> {
-    Command::new(alloc, name).about(about).after_help(after)
-}
-
-// An option that is given or not.
-fn flag<'a>(alloc: Global, name: &'a str, help: &'a str) -> Arg<'a> {
-    let option = Arg::new(alloc, name).long(name);
-    option.action(ArgAction::SetTrue).help(help)
-}
-
-// The command that runs a script.
-fn run_command<'a>(alloc: Global) -> Result<Command<'a>, AllocError> {
-    let about = "Reads a script from standard input and prints one line for each call";
-    let history = flag(alloc, "history", "Prints the history of the calls in JSON");
-    let explain = flag(alloc, "explain", "Tells behind each refusal what it means");
-    let explain = explain.conflicts_with("history")?;
-    command(alloc, "run", about, help::RUN)
-        .arg(history)?
-        .arg(explain)
-}
-
-// The payload of the command `decode`.
-fn payload_word<'a>(alloc: Global) -> Arg<'a> {
-    Arg::new(alloc, "HEX")
-        .required(true)
-        .help("The payload of a MAP in hexadecimal")
-}
-
-// The columns of a drawing.
-fn columns_option<'a>(alloc: Global) -> Result<Arg<'a>, AllocError> {
-    let columns = Arg::new(alloc, "columns").long("columns").value_name("N");
-    columns
-        .value_parser(ValueParser::unsigned(16, 1000))
-        .help("Columns of the drawing, or else those of COLUMNS, or 80")
-        .requires_arg("draw")
-}
-
-// The command that shows a payload.
-fn decode_command<'a>(alloc: Global) -> Result<Command<'a>, AllocError> {
-    let about = "Shows the payload of a MAP as a table";
-    let draw = flag(
-        alloc,
-        "draw",
-        "Draws the frame too, a character for each minislot",
-    );
-    command(alloc, "decode", about, help::DECODE)
-        .arg(payload_word(alloc))?
-        .arg(draw)?
-        .arg(columns_option(alloc)?)
-}
-
-// The command that judges a history.
-fn audit_command<'a>(alloc: Global) -> Command<'a> {
-    let about = "Reads a history from standard input and prints whether it is legal";
-    command(alloc, "audit", about, help::AUDIT)
-}
-
-// The command that tells what is wrong in a file.
-fn check_command<'a>(alloc: Global) -> Command<'a> {
-    let about = "Reads a file from standard input and tells what is wrong in it, or what it has";
-    command(alloc, "check", about, help::CHECK)
-}
-
-// The command that runs scripts at the same time.
-fn storm_command<'a>(alloc: Global) -> Command<'a> {
-    let about =
-        "Reads scripts from standard input, runs them in threads and prints what each recorded";
-    command(alloc, "storm", about, help::STORM)
-}
-
-// The commands of the program.
-fn commands<'a>(alloc: Global) -> Result<Command<'a>, AllocError> {
-    let about = "The upstream scheduler of one TDMA channel";
-    command(alloc, "mapsched", about, help::STATUSES)
-        .version(help::VERSION)
-        .subcommand_required(true)
-        .subcommand(run_command(alloc)?)?
-        .subcommand(decode_command(alloc)?)?
-        .subcommand(draw_command(alloc))?
-        .subcommand(audit_command(alloc))?
-        .subcommand(storm_command(alloc))?
-        .subcommand(check_command(alloc))
-}
 
 // The words of the command line.
 fn words_of(rt: &(impl Env + AllocGlobal)) -> io::Result<Vec<String>> {
@@ -144,6 +57,16 @@ fn run_input(rt: &(impl Input + Print + AllocGlobal), as_history: bool) -> Resul
 // The command `run --explain`.
 fn explain_input(rt: &(impl Input + Print + AllocGlobal)) -> Result<bool, RunFault> {
     run_explained(
+        rt.alloc(),
+        &mut Watched::new(rt.reader()),
+        &mut Watched::new(io::writer(rt)),
+    )?;
+    Ok(true)
+}
+
+// The command `draw`.
+fn draw_input(rt: &(impl Input + Print + AllocGlobal)) -> Result<bool, RunFault> {
+    draw_script(
         rt.alloc(),
         &mut Watched::new(rt.reader()),
         &mut Watched::new(io::writer(rt)),

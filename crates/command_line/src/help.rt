@@ -110,3 +110,20 @@ Exit statuses: 0 good, 2 for the command line, 3 for the input, 4 for the machin
 
 Example:
   ./mapsched check < examples/two_maps.json"#;
+
+/// The command that draws the frames of a run.
+pub const DRAW: &str =
+    r#"Reads from standard input what `run` reads: {"config": {..}, "calls": [..]}.
+
+Prints one picture in SVG: put it into a file, and open that in a browser. Each
+MAP of the run has a row, with the minislot at which its frame starts, and in it a
+box for each allocation, from its offset on and as wide as it is long. Its colour
+and its pattern tell what it is for. The SID stands on it where there is room, and
+pointing at it shows the SID, the usage, the offset and the length in minislots,
+and how many bytes of requests it grants (0 where it grants none).
+
+Exit statuses: 0, or 2 for the command line, 3 for the input, 4 for the machine.
+Nothing is printed where memory runs out.
+
+Example:
+  ./mapsched draw < examples/all_kinds.json"#;

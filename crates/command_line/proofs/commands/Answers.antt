@@ -1,0 +1,27 @@
+-- The commands stand in their order.
+use Rattle.std.proofs.Common.{rules, codes, []}
+use Rattle.std.proofs.lemmas.Result.{IfOk-weaker}
+use Rattle.command_line.specs.Taken.{IsCommand}
+use Rattle.command_line.proofs.Adding.{IsCommand-sub}
+use Rattle.command_line.proofs.commands.Goals as goal
+
+pub returns : goal.returns
+returns c =
+    let top : IsCommand c.subcommand_required.result (codes "mapsched") [] [] = record {
+      named = search rules;
+      arguments = search rules;
+      subcommands = search rules;
+      local = search rules;
+    } in
+    let run = IsCommand-sub _ _ _ (codes "mapsched") (codes "run") [] _ [] [] top c.in_ok-subcommand.ensures
+    c.in_ok-run_command.ensures in
+    let decode = IsCommand-sub _ _ _ (codes "mapsched") (codes "decode") [] _ _ [] run c.in_ok-subcommand-2.ensures
+    c.in_ok-decode_command.ensures in
+    let draw = IsCommand-sub _ _ _ (codes "mapsched") (codes "draw") [] [] _ [] decode c.in_ok-subcommand-3.ensures
+    c.draw_command.ensures in
+    let audit = IsCommand-sub _ _ _ (codes "mapsched") (codes "audit") [] [] _ [] draw c.in_ok-subcommand-4.ensures
+    c.audit_command.ensures in
+    let storm = IsCommand-sub _ _ _ (codes "mapsched") (codes "storm") [] [] _ [] audit c.in_ok-subcommand-5.ensures
+    c.storm_command.ensures in
+    IfOk-weaker _ _ _ (λ r adds. IsCommand-sub _ _ r (codes "mapsched") (codes "check") [] [] _ [] storm adds
+    c.check_command.ensures) c.subcommand-6.ensures

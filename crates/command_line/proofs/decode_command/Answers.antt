@@ -1,0 +1,14 @@
+-- The word and the options stand in their order.
+use Rattle.std.proofs.Common.{rules, codes, []}
+use Rattle.std.proofs.lemmas.Result.{IfOk-weaker}
+use Rattle.command_line.proofs.Adding.{IsCommand-arg}
+use Rattle.command_line.proofs.decode_command.Goals as goal
+
+pub returns : goal.returns
+returns c =
+    let word = IsCommand-arg c.command.result _ c.payload_word.result (codes "decode") (codes "HEX") [] [] c.command.ensures
+    c.in_ok-arg.ensures (search rules) (search rules) in
+    let drawn = IsCommand-arg _ _ c.flag-draw.result (codes "decode") (codes "draw") _ [] word c.in_ok-arg-2.ensures
+    (search rules) (search rules) in
+    IfOk-weaker _ _ _ (λ r adds. IsCommand-arg _ r _ (codes "decode") (codes "columns") _ [] drawn adds
+    (search rules) (search rules)) c.arg-3.ensures

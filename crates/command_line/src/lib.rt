@@ -1,0 +1,131 @@
+//! The command line of the program: its commands, their options and what the help says of them.
+#![tactic(auto)]
+
+mod help;
+
+ghost use Rattle.std.specs.Prelude.{◌≡◌, ◌∷◌, [], IfOk, false, codes};
+ghost use Rattle.command_line.specs.Taken.{IsCommand};
+
+use clap::builder::ValueParser;
+use clap::{Arg, ArgAction, Command};
+use std::alloc::{AllocError, Global};
+
+// A command, and what its help says before and behind its words.
+fn command<'a>(alloc: Global, name: &'a str, about: &'a str, after: &'a str) -> Command<'a>
+    ensures { IsCommand result name.entry.now [] [] }
+{
+    Command::new(alloc, name).about(about).after_help(after)
+}
+
+// An option that is given or not.
+fn flag<'a>(alloc: Global, name: &'a str, help: &'a str) -> Arg<'a>
+    ensures named { result.id.now ≡ name.entry.now }
+    ensures local { result.global ≡ false }
+{
+    let option = Arg::new(alloc, name).long(name);
+    option.action(ArgAction::SetTrue).help(help)
+}
+
+// The command that runs a script.
+fn run_command<'a>(alloc: Global) -> Result<Command<'a>, AllocError>
+    ensures { IfOk result (λ r. IsCommand r (codes "run") (codes "history" ∷ codes "explain" ∷ []) []) }
+{
+    let about = "Reads a script from standard input and prints one line for each call";
+    let history = flag(alloc, "history", "Prints the history of the calls in JSON");
+    let explain = flag(alloc, "explain", "Tells behind each refusal what it means");
+    let explain = explain.conflicts_with("history")?;
+    command(alloc, "run", about, help::RUN)
+        .arg(history)?
+        .arg(explain)
+}
+
+// The payload of the command `decode`.
+fn payload_word<'a>(alloc: Global) -> Arg<'a>
+    ensures named { result.id.now ≡ codes "HEX" }
+    ensures local { result.global ≡ false }
+{
+    Arg::new(alloc, "HEX")
+        .required(true)
+        .help("The payload of a MAP in hexadecimal")
+}
+
+// The columns of a drawing.
+fn columns_option<'a>(alloc: Global) -> Result<Arg<'a>, AllocError>
+    ensures named { IfOk result (λ r. r.id.now ≡ codes "columns") }
+    ensures local { IfOk result (λ r. r.global ≡ false) }
+{
+    let columns = Arg::new(alloc, "columns").long("columns").value_name("N");
+    columns
+        .value_parser(ValueParser::unsigned(16, 1000))
+        .help("Columns of the drawing, or else those of COLUMNS, or 80")
+        .requires_arg("draw")
+}
+
+// The command that shows a payload.
+fn decode_command<'a>(alloc: Global) -> Result<Command<'a>, AllocError>
+    ensures { IfOk result (λ r. IsCommand r (codes "decode")
+        (codes "HEX" ∷ codes "draw" ∷ codes "columns" ∷ []) []) }
+{
+    let about = "Shows the payload of a MAP as a table";
+    let draw = flag(
+        alloc,
+        "draw",
+        "Draws the frame too, a character for each minislot",
+    );
+    command(alloc, "decode", about, help::DECODE)
+        .arg(payload_word(alloc))?
+        .arg(draw)?
+        .arg(columns_option(alloc)?)
+}
+
+// The command that judges a history.
+fn audit_command<'a>(alloc: Global) -> Command<'a>
+    ensures { IsCommand result (codes "audit") [] [] }
+{
+    let about = "Reads a history from standard input and prints whether it is legal";
+    command(alloc, "audit", about, help::AUDIT)
+}
+
+// The command that tells what is wrong in a file.
+fn check_command<'a>(alloc: Global) -> Command<'a>
+    ensures { IsCommand result (codes "check") [] [] }
+{
+    let about = "Reads a file from standard input and tells what is wrong in it, or what it has";
+    command(alloc, "check", about, help::CHECK)
+}
+
+// The command that runs scripts at the same time.
+fn storm_command<'a>(alloc: Global) -> Command<'a>
+    ensures { IsCommand result (codes "storm") [] [] }
+{
+    let about =
+        "Reads scripts from standard input, runs them in threads and prints what each recorded";
+    command(alloc, "storm", about, help::STORM)
+}
+
+// The command that draws the frames of a run.
+fn draw_command<'a>(alloc: Global) -> Command<'a>
+    ensures { IsCommand result (codes "draw") [] [] }
+{
+    let about = "Reads a script from standard input and draws its frames in SVG";
+    command(alloc, "draw", about, help::DRAW)
+}
+
+/// The commands of the program, with their options and their help. Out of memory is the only error.
+pub fn commands<'a>(alloc: Global) -> Result<Command<'a>, AllocError>
+    ensures { IfOk result (λ r. IsCommand r (codes "mapsched") []
+        ((codes "run", codes "history" ∷ codes "explain" ∷ [])
+        ∷ (codes "decode", codes "HEX" ∷ codes "draw" ∷ codes "columns" ∷ [])
+        ∷ (codes "draw", []) ∷ (codes "audit", []) ∷ (codes "storm", []) ∷ (codes "check", []) ∷ [])) }
+{
+    let about = "The upstream scheduler of one TDMA channel";
+    command(alloc, "mapsched", about, help::STATUSES)
+        .version(help::VERSION)
+        .subcommand_required(true)
+        .subcommand(run_command(alloc)?)?
+        .subcommand(decode_command(alloc)?)?
+        .subcommand(draw_command(alloc))?
+        .subcommand(audit_command(alloc))?
+        .subcommand(storm_command(alloc))?
+        .subcommand(check_command(alloc))
+}
