@@ -21,9 +21,10 @@ def free_memory():
         return 1024 * int(re.search(r"MemAvailable: *(\d+)", it.read())[1])
 
 
-def jobs():
-    """How many works of the prover run at a time: one for each processor, and for each 2.5 GB of free memory."""
-    return max(1, min(len(os.sched_getaffinity(0)), free_memory() // 2_500_000_000))
+def jobs(others=0):
+    """How many works of the prover run at a time: one for each processor, and for each 2.5 GB of free memory beside
+    those that so many others may take."""
+    return max(1, min(len(os.sched_getaffinity(0)), free_memory() // 2_500_000_000 - others))
 
 
 def free_in(folder):
