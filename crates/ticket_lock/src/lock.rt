@@ -122,6 +122,18 @@ impl<T: Journal> TicketLock<T> {
         requires kept { MayLeave T.stamp T.head T.entries held value }
         ensures left { Leaves T.stamp T.head T.entries held value result }
     {
+        let next = held.residue.wrapping_add(1);
+        let seat = self.leave_quietly(held, value);
+        self.wake(next);
+        seat
+    }
+
+    /// Leaves, and wakes nobody: for a lock at which every seat enters by [`TicketLock::try_enter`], and none sleeps.
+    pub fn leave_quietly(&self, held: Held<T>, value: T) -> Seat<T>
+        requires own { held.lock ≡ self.now }
+        requires kept { MayLeave T.stamp T.head T.entries held value }
+        ensures left { Leaves T.stamp T.head T.entries held value result }
+    {
         let Held {
             number,
             residue,
@@ -132,7 +144,6 @@ impl<T: Journal> TicketLock<T> {
         let None = before else { unreachable!() };
         let next = residue.wrapping_add(1);
         steps.store::<Leave>(&mut place, place_of(next), next);
-        self.wake(next);
         Seat { number, place }
     }
 

@@ -1,7 +1,7 @@
 -- A leave keeps the rule of the table, and what callers learn of it.
 use Rattle.std.proofs.Common.{rules, ◌∙◌, None}
 use Rattle.ticket_lock.proofs.Tokens.{leaves_as, left_idle, left_as}
-use Rattle.ticket_lock.proofs.lock.TicketLock.leave.Goals as goal
+use Rattle.ticket_lock.proofs.lock.TicketLock.leave_quietly.Goals as goal
 
 pub exchange-before-requires : goal.exchange-before-requires
 exchange-before-requires g c = record { table = search rules; held = (None, c.held.invariant.1) }
