@@ -1,3 +1,5 @@
 pub mod Called
 pub mod Turned
 pub mod Opened
+pub mod Seats
+pub mod First

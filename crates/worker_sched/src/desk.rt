@@ -4,8 +4,9 @@ ghost use Rattle.shared_sched.specs.Calls.{HasCalled};
 ghost use Rattle.shared_sched.specs.Desk.{fixed_of, history_of, maker_of};
 ghost use Rattle.worker_sched.specs.Desk.{desk_of};
 
+use crate::channel::Channel;
 use minislots::Stamp;
-use sched_history::{Call, Entry, Reply, Scheduler, Unrecorded};
+use sched_history::{Call, Entry, Reply, Unrecorded};
 use shared_sched::DeskHead;
 use std::alloc::{AllocError, Global};
 use std::marker::Model;
@@ -16,7 +17,7 @@ use ticket_lock::Journal;
 #[derive(Drop)]
 pub struct Desk {
     // One pointer, since each turn at the lock moves the desk several times.
-    scheduler: Box<Scheduler>,
+    channel: Box<Channel>,
 }
 
 impl Model for Desk {
@@ -25,7 +26,7 @@ impl Model for Desk {
 
     ghost Value = { DeskState };
 
-    ghost view = { λ d. desk_of d.scheduler.value };
+    ghost view = { λ d. desk_of d.channel.value };
 }
 
 impl Journal for Desk {
@@ -40,38 +41,38 @@ impl Journal for Desk {
     ghost stamp = { maker_of };
 
     fn len(&self) -> usize {
-        self.scheduler.history().len()
+        self.channel.history().len()
     }
 
     fn stamp_at(&self, i: usize) -> Option<Stamp> {
-        let entry = self.scheduler.history().get(i)?;
+        let entry = self.channel.history().get(i)?;
         Some(entry.stamp)
     }
 }
 
 impl Desk {
-    // A desk of this scheduler.
-    pub(crate) fn new(alloc: Global, scheduler: Scheduler) -> Result<Desk, AllocError>
-        ensures made { IfOk result (λ desk. desk ≡ desk_of scheduler) }
+    // A desk of this channel.
+    pub(crate) fn new(alloc: Global, channel: Channel) -> Result<Desk, AllocError>
+        ensures made { IfOk result (λ desk. desk ≡ desk_of channel) }
     {
-        match Box::new(alloc, scheduler) {
-            Ok(scheduler) => Ok(Desk { scheduler }),
+        match Box::new(alloc, channel) {
+            Ok(channel) => Ok(Desk { channel }),
             Err(_) => Err(AllocError),
         }
     }
 
-    // The scheduler.
-    pub(crate) fn into_scheduler(self) -> Scheduler
-        ensures { desk_of result ≡ self }
+    // The channel, in the memory that it has.
+    pub(crate) fn into_channel(self) -> Box<Channel>
+        ensures { desk_of result.value ≡ self }
     {
-        let Desk { scheduler } = self;
-        Box::into_inner(scheduler)
+        let Desk { channel } = self;
+        channel
     }
 
     // Makes a call and records it, with this stamp.
     pub(crate) fn call(&mut self, stamp: Stamp, call: Call) -> Result<Reply, Unrecorded>
         ensures called { HasCalled self.old stamp call self.new result }
     {
-        self.scheduler.call(stamp, call)
+        self.channel.call(stamp, call)
     }
 }

@@ -5,10 +5,10 @@ ghost use Rattle.ticket_lock.specs.Calls.{Opens};
 ghost use Rattle.shared_sched.specs.Desk.{fixed_of, history_of, empty_desk};
 ghost use Rattle.worker_sched.specs.Desk.{no_press};
 
+use crate::channel::Channel;
 use crate::desk::Desk;
 use crate::workplace::Workplace;
 use minislots::Checked;
-use sched_history::Scheduler;
 use std::alloc::Global;
 use ticket_core::MAX_SEATS;
 use ticket_lock::{LockFault, Seat, TicketLock};
@@ -28,10 +28,10 @@ pub fn open(
     if seats == 0 || seats > MAX_SEATS {
         return Err(LockFault::SeatCount);
     }
-    let Ok(scheduler) = Scheduler::open(alloc, checked) else {
+    let Ok(channel) = Channel::open(alloc, checked) else {
         return Err(LockFault::Memory);
     };
-    let Ok(desk) = Desk::new(alloc, scheduler) else {
+    let Ok(desk) = Desk::new(alloc, channel) else {
         return Err(LockFault::Memory);
     };
     match TicketLock::open(alloc, desk, seats, 0) {

@@ -6,10 +6,12 @@ ghost use Rattle.shared_sched.specs.Desk.{IsDeskLock, HasPress};
 ghost use Rattle.shared_sched.specs.Calls.{IsEntered, AnswersHeld};
 ghost use Rattle.shared_sched.specs.Closed.{ClosesTo};
 ghost use Rattle.worker_sched.specs.Desk.{no_press};
-ghost use Rattle.worker_sched.specs.Workplace.{AnswersTurn};
+ghost use Rattle.worker_sched.specs.Workplace.{AnswersTurn, EndsWith, IsNotServed};
 
+use crate::channel::Channel;
 use crate::closed::Closed;
 use crate::desk::Desk;
+use crate::drawn::let_go;
 use minislots::Checked;
 use sched_history::{Call, Reply, Unrecorded};
 use shared_sched::count_each;
@@ -54,13 +56,21 @@ impl Drop for Workplace {
 }
 
 impl Workplace {
-    /// The lock round the desk, at which a seat draws.
+    /// The lock round the desk, at which a seat draws. It enters by a turn, or by `try_enter`: one that slept at the lock
+    /// would not be woken.
     pub fn lock(&self) -> &TicketLock<Desk>
         ensures lock { result.now ≡ self.now.lock }
         ensures desk { IsDeskLock self.now.config self.now.lock }
         ensures press { HasPress self.now.config no_press self.now.lock }
     {
         &self.lock
+    }
+
+    /// Its configuration.
+    pub fn config(&self) -> Checked
+        ensures { result ≡ self.now.config }
+    {
+        self.config
     }
 
     /// How many seats it has.
@@ -99,8 +109,22 @@ impl Workplace {
     {
         let mut desk = desk;
         let answer = desk.call(held.stamp(), call);
-        let seat = self.lock.leave(held, desk);
+        let seat = self.lock.leave_quietly(held, desk);
         (seat, answer)
+    }
+
+    // Takes the channel out of the workplace for good, if the next ticket is served: after this none is. Else gives the
+    // ticket back. One look, no wait, no memory.
+    pub(crate) fn take_out(&self, seat: Seat<Desk>) -> Result<Box<Channel>, Ticket<Desk>>
+        requires own { seat.lock ≡ self.now.lock }
+        ensures ended { IfOk result (λ b. EndsWith self.now.config seat b.value) }
+        ensures given_back { IfErr result (IsNotServed seat) }
+    {
+        let (held, desk) = self.lock.try_enter(self.lock.draw(seat))?;
+        let channel = desk.into_channel();
+        let _history = channel.history();
+        let_go(held);
+        Ok(channel)
     }
 
     /// Takes the workplace apart, and gives its scheduler. All its seats come back, each once, in any order.
@@ -115,7 +139,7 @@ impl Workplace {
             config: _,
             seats: _,
         } = self;
-        let scheduler = lock.close(seats).into_scheduler();
+        let scheduler = Box::into_inner(lock.close(seats).into_channel()).into_scheduler();
         let counts = count_each(scheduler.history());
         Closed { scheduler, counts }
     }

@@ -11,12 +11,14 @@ use Rattle.ticket_lock.specs.Standing.{Standing}
 use Rattle.shared_sched.specs.Desk.{DeskState, FixedDesk, SharedDesk, history_of, maker_of}
 use Rattle.shared_sched.specs.Closed.{CountsEach, ClosesTo}
 use Rattle.shared_sched.proofs.AtClose.{seats_few, config_is, closes_to}
+use Rattle.worker_sched.specs.Desk.{desk_of}
 use Rattle.worker_sched.proofs.workplace.Workplace.close.Goals as goal
 
 pub count_each-counts-requires : goal.count_each-counts-requires
 count_each-counts-requires c = record {
   seats = subst (All (λ (e : Entry). (maker_of e).seat < MAX_SEATS))
-      (sym (c.history.ensures.value ∙ ap history_of c.into_scheduler-scheduler.ensures))
+      (sym (c.history.ensures.value ∙ ap history_of
+      (ap desk_of (c.into_scheduler-scheduler.ensures ∙ c.into_inner.ensures) ∙ c.into_channel.ensures)))
       (seats_few c.self.inside.config c.self.inside.lock c.self.invariant.0 c.args.seats.items c.close.result
       c.close.ensures.closed);
 }
@@ -24,7 +26,7 @@ count_each-counts-requires c = record {
 pub returns : goal.returns
 returns c =
     let x = c.close.result in
-    let same = c.into_scheduler-scheduler.ensures in
+    let same = ap desk_of (c.into_scheduler-scheduler.ensures ∙ c.into_inner.ensures) ∙ c.into_channel.ensures in
     let counted : c.history.result.now ≡ x.history = c.history.ensures.value ∙ ap history_of same in
     let legal : IsLegal x.config x.history =
     subst (λ (d : DeskState). IsLegal d.config d.history) same c.history.ensures.legal in

@@ -1,0 +1,90 @@
+-- What contracts see of a worker, and what each of its calls does.
+use Rattle.std.specs.Prelude.{◌≡◌, ◌+◌, ℕ, Bool, true, false, List, [], ◌++◌, Option, None, Some, IfSome, IsSome}
+use Rattle.std.specs.Prelude.{MatchOption, option_to_list, is_some, not, ◌||◌}
+use Rattle.minislots.specs.declared.config.Config.{Config}
+use Rattle.sched_history.specs.declared.call.Call.{Call}
+use Rattle.sched_history.specs.declared.reply.Entry.{Entry}
+use Rattle.ticket_lock.specs.Rule.{Every}
+use Rattle.ticket_lock.specs.Standing.{Standing}
+use Rattle.ticket_lock.specs.Calls.{Opens, Draws}
+use Rattle.shared_sched.specs.Desk.{FixedDesk, SharedDesk, fixed_of, history_of, maker_of, empty_desk}
+use Rattle.worker_sched.specs.declared.worker.Turn.{Turn}
+use Rattle.worker_sched.specs.declared.worker.Turn.TheVariants.{Ended, NotYet, NoTicket}
+use Rattle.worker_sched.specs.declared.worker.CloseFault.{CloseFault}
+use Rattle.worker_sched.specs.declared.worker.CloseFault.TheVariants.{HasTicket, Others, NotServed}
+use Rattle.sched_history.specs.Machine.{Machine}
+use Rattle.worker_sched.specs.Desk.{no_press}
+use Rattle.worker_sched.specs.Workplace.{AnswersTurn, EndsWith, IsNotServed}
+
+-- where a seat stands
+abbrev pub Stands : Type 0
+Stands = Standing FixedDesk Entry
+
+-- a worker: its workplace, its seat or the ticket that it drew with it, and the seats of nobody that are with it
+pub record WorkerState : Type 0 where
+  pub place : SharedDesk
+  pub seat : Option Stands
+  pub ticket : Option Stands
+  pub spare : List Stands
+
+-- all that it has is of the workplace's lock
+pub record HasOwn (place : SharedDesk) (seat ticket : Option Stands) (spare : List Stands) : Type 0 where
+  pub seat_is : IfSome seat (λ s. s.lock ≡ place.lock)
+  pub ticket_is : IfSome ticket (λ t. t.lock ≡ place.lock)
+  pub spare_are : Every (λ s. s.lock ≡ place.lock) spare
+
+-- the seats that are with a worker, its own the last
+abbrev pub seats_with : WorkerState → List Stands
+seats_with w = w.spare ++ option_to_list w.seat
+
+-- the first worker of a workplace that was opened with this many seats: one is its own, and the others are with it
+pub record IsFirstWorker (c : Config) (seats : ℕ) (w : WorkerState) : Type 0 where
+  pub config : w.place.config ≡ c
+  pub seat_is : IsSome w.seat
+  pub ticket_is : w.ticket ≡ None
+  pub opened : Opens fixed_of history_of (empty_desk c no_press) seats 0 w.place.lock (seats_with w)
+
+-- a new worker has one of the seats that were with this one
+pub record Hires (old new w : WorkerState) : Type 0 where
+  pub seat_is : IsSome w.seat
+  pub taken : old ≡ record new { spare = new.spare ++ option_to_list w.seat }
+  pub place : w.place ≡ old.place
+  pub ticket_is : w.ticket ≡ None
+  pub spare_are : w.spare ≡ []
+
+-- a worker that has a ticket, or no seat to draw one with
+abbrev pub is_busy : WorkerState → Bool
+is_busy w = is_some w.ticket || not (is_some w.seat)
+
+-- a worker that has a seat and no ticket draws one with it; nothing else of it changes, or nothing at all
+abbrev pub DrawsTicket : WorkerState → WorkerState → Bool → Type 0
+DrawsTicket old new true = (s : Stands) × (t : Stands) × (old.seat ≡ Some s) × (old.ticket ≡ None)
+    × (new ≡ record old { seat = None; ticket = Some t }) × Draws maker_of s t
+DrawsTicket old new false = (new ≡ old) × (is_busy old ≡ true)
+
+-- the turn of a worker with this ticket
+abbrev pub TakesTurnWith : Stands → WorkerState → WorkerState → Call → Turn → Type 0
+TakesTurnWith t old new call (Ended answer) = (w : Stands) × (new ≡ record old { seat = Some w; ticket = None })
+    × AnswersTurn old.place.config t call w answer
+TakesTurnWith t old new call NotYet = new ≡ record old { ticket = Some (record t { looks = t.looks + 1 }) }
+TakesTurnWith t old new call NoTicket = ⊥
+
+-- the turn of a worker with a ticket, or with none
+abbrev pub TakesTurn : WorkerState → WorkerState → Call → Turn → Type 0
+TakesTurn old new call turn = MatchOption old.ticket ((turn ≡ NoTicket) × (new ≡ old))
+    (λ t. TakesTurnWith t old new call turn)
+
+-- a worker has closed its workplace: its seat is spent, and this is the channel
+pub record ClosesWorker (old new : WorkerState) (m : Machine) : Type 0 where
+  pub seat : Stands
+  pub seat_is : old.seat ≡ Some seat
+  pub ticket_is : old.ticket ≡ None
+  pub spent : new ≡ record old { seat = None }
+  pub ended : EndsWith old.place.config seat m
+
+-- a workplace is not closed, and why
+abbrev pub StaysOpen : WorkerState → WorkerState → CloseFault → Type 0
+StaysOpen old new HasTicket = (new ≡ old) × (is_busy old ≡ true)
+StaysOpen old new Others = (new ≡ old) × (is_busy old ≡ false)
+StaysOpen old new NotServed = (s : Stands) × (t : Stands) × (old.seat ≡ Some s) × (old.ticket ≡ None)
+    × (new ≡ record old { seat = None; ticket = Some t }) × IsNotServed s t

@@ -1,0 +1,49 @@
+//! Tokens of the lock that are with a worker.
+ghost use Rattle.std.specs.Prelude.{◌≡◌};
+
+use crate::desk::Desk;
+use std::marker::Model;
+use std::mem::ManuallyDrop;
+use ticket_lock::{Held, Ticket};
+
+/// A ticket that is with a worker. A ticket has no `Drop`. A worker has one, since a place in memory that is handed out
+/// of the language asks for it, so this may be let go too. Then its turn never ends, and nobody enters any more.
+#[derive(Drop)]
+pub struct Drawn {
+    ticket: ManuallyDrop<Ticket<Desk>>,
+}
+
+impl Model for Drawn {
+    ghost use Rattle.std.specs.Mem.{manually_drop_value};
+    ghost use Rattle.sched_history.specs.declared.reply.Entry.{Entry};
+    ghost use Rattle.shared_sched.specs.Desk.{FixedDesk};
+    ghost use Rattle.ticket_lock.specs.Standing.{Standing};
+
+    ghost Value = { Standing FixedDesk Entry };
+
+    ghost view = { λ d. manually_drop_value d.ticket };
+}
+
+impl Drawn {
+    // The ticket, which a worker has from now on.
+    pub(crate) fn of(ticket: Ticket<Desk>) -> Drawn
+        ensures { result ≡ ticket }
+    {
+        // All that is asked is that it is taken out again, by `into_ticket`.
+        let ticket = unsafe { ManuallyDrop::new_unchecked(ticket) };
+        Drawn { ticket }
+    }
+
+    // The ticket itself.
+    pub(crate) fn into_ticket(self) -> Ticket<Desk>
+        ensures { result ≡ self }
+    {
+        let Drawn { ticket } = self;
+        ManuallyDrop::into_inner(ticket)
+    }
+}
+
+// Lets the lock's last holder go, with whom no desk is any more: no ticket is served after this.
+pub(crate) fn let_go(held: Held<Desk>) {
+    let _held = unsafe { ManuallyDrop::new_unchecked(held) };
+}

@@ -1,0 +1,225 @@
+//! A worker: what one thread has of a workplace.
+ghost use Rattle.std.specs.Prelude.{◌≡◌, ◌⊎◌, ◌<◌, ◌↔◌, [], None, IfSome, IfOk, IfErr, OnErr, IsErrOf, is_some};
+ghost use Rattle.std.specs.Arc.{arc_value};
+ghost use Rattle.ticket_core.specs.declared.TheConstants.{MAX_SEATS};
+ghost use Rattle.worker_sched.specs.Worker.{IsFirstWorker, Hires, DrawsTicket, TakesTurn, is_busy, ClosesWorker, StaysOpen};
+
+use crate::channel::Channel;
+use crate::desk::Desk;
+use crate::drawn::Drawn;
+use crate::opening::open;
+use crate::workplace::Workplace;
+use minislots::Checked;
+use sched_history::{Call, Reply, Unrecorded};
+use std::alloc::Global;
+use std::marker::Model;
+use std::sync::Arc;
+use ticket_lock::{LockFault, Seat};
+
+/// A worker at a workplace: its seat, or the ticket that it drew with it, and the seats of nobody that are with it. It
+/// goes with its thread.
+#[derive(Drop)]
+pub struct Worker {
+    place: Arc<Workplace>,
+    seat: Option<Seat<Desk>>,
+    ticket: Option<Drawn>,
+    spare: Vec<Seat<Desk>>,
+}
+
+impl Model for Worker {
+    ghost use Rattle.std.specs.Arc.{arc_value};
+    ghost use Rattle.worker_sched.specs.Worker.{WorkerState, HasOwn};
+
+    ghost Value = { WorkerState };
+
+    ghost view = { λ w. record {
+      place = arc_value w.place;
+      seat = w.seat;
+      ticket = w.ticket;
+      spare = w.spare.items;
+    } };
+
+    ghost invariant = { λ w. HasOwn (arc_value w.place) w.seat w.ticket w.spare.items };
+}
+
+/// How a turn ends.
+#[derive(Drop)]
+pub enum Turn {
+    /// The call was made: its reply, or why it was not recorded.
+    Ended(Result<Reply, Unrecorded>),
+    /// The ticket is not served yet.
+    NotYet,
+    /// The worker has no ticket.
+    NoTicket,
+}
+
+/// Why nobody was hired.
+#[derive(Clone, Copy, Debug, PartialEq, Eq, Drop)]
+pub enum HireFault {
+    /// No seat is with the worker.
+    NoSeat,
+    /// Memory ran out.
+    Memory,
+}
+
+/// Why a workplace is not closed.
+#[derive(Clone, Copy, Debug, PartialEq, Eq, Drop)]
+pub enum CloseFault {
+    /// The worker has a ticket, or no seat to draw one with. Nothing changed.
+    HasTicket,
+    /// Other workers are left. Nothing changed.
+    Others,
+    /// The worker drew a ticket to close it, which is not served: one was let go with another worker.
+    NotServed,
+}
+
+impl Worker {
+    /// Opens a workplace of this configuration with this many seats, 1 to 64, and gives its first worker, with which
+    /// the other seats are.
+    pub fn open(alloc: Global, checked: Checked, seats: usize) -> Result<Box<Worker>, LockFault>
+        ensures opened { IfOk result (λ w. IsFirstWorker checked seats w.value) }
+        ensures count { IsErrOf result LockFault.SeatCount ↔ ((seats ≡ 0) ⊎ (MAX_SEATS < seats)) }
+    {
+        let (place, mut spare) = open(alloc, checked, seats)?;
+        let Ok(place) = Arc::new(alloc, place) else {
+            return Err(LockFault::Memory);
+        };
+        let worker = Worker {
+            place,
+            seat: spare.pop(),
+            ticket: None,
+            spare,
+        };
+        match Box::new(alloc, worker) {
+            Ok(worker) => Ok(worker),
+            Err(_) => Err(LockFault::Memory),
+        }
+    }
+
+    // A worker at this workplace with no seat.
+    fn idle(alloc: Global, place: Arc<Workplace>) -> Result<Box<Worker>, HireFault>
+        ensures idle { IfOk result (λ w. w.value ≡ record {
+          place = arc_value place;
+          seat = None;
+          ticket = None;
+          spare = [];
+        }) }
+        ensures memory { IfErr result (λ e. e ≡ HireFault.Memory) }
+    {
+        let worker = Worker {
+            place,
+            seat: None,
+            ticket: None,
+            spare: Vec::new(alloc),
+        };
+        match Box::new(alloc, worker) {
+            Ok(worker) => Ok(worker),
+            Err(_) => Err(HireFault::Memory),
+        }
+    }
+
+    // Gives it this seat.
+    fn sit(&mut self, seat: Option<Seat<Desk>>)
+        requires own { IfSome seat (λ s. s.lock ≡ self.old.place.lock) }
+        ensures { self.new ≡ record self.old { seat = seat } }
+    {
+        self.seat = seat;
+    }
+
+    /// Gives one of the seats that are with this worker to a new one.
+    pub fn hire(&mut self, alloc: Global) -> Result<Box<Worker>, HireFault>
+        ensures hired { IfOk result (λ w. Hires self.old self.new w.value) }
+        ensures no_seat { IsErrOf result HireFault.NoSeat ↔ (self.old.spare ≡ []) }
+        ensures same { OnErr result (self.new ≡ self.old) }
+    {
+        if self.spare.is_empty() {
+            return Err(HireFault::NoSeat);
+        }
+        let Ok(place) = Arc::try_clone(&self.place) else {
+            return Err(HireFault::Memory);
+        };
+        let mut hired = Worker::idle(alloc, place)?;
+        hired.sit(self.spare.pop());
+        Ok(hired)
+    }
+
+    /// Draws the next ticket, if the worker has none. It takes no memory and waits for nobody.
+    pub fn draw(&mut self) -> bool
+        ensures { DrawsTicket self.old self.new result }
+    {
+        if self.is_busy() {
+            return false;
+        }
+        let Some(seat) = self.seat.take() else {
+            unreachable!()
+        };
+        self.ticket = Some(Drawn::of(self.place.lock().draw(seat)));
+        true
+    }
+
+    /// Makes a call, if the worker's ticket is served: enters, records the call with its reply, and leaves. One look,
+    /// no wait.
+    pub fn turn(&mut self, call: Call) -> Turn
+        ensures { TakesTurn self.old self.new call result }
+    {
+        let Some(drawn) = self.ticket.take() else {
+            return Turn::NoTicket;
+        };
+        match self.place.turn(drawn.into_ticket(), call) {
+            Ok((seat, answer)) => {
+                self.seat = Some(seat);
+                Turn::Ended(answer)
+            }
+            Err(ticket) => {
+                self.ticket = Some(Drawn::of(ticket));
+                Turn::NotYet
+            }
+        }
+    }
+
+    /// Whether the worker has a ticket, or no seat to draw one with.
+    pub fn is_busy(&self) -> bool
+        ensures { result ≡ is_busy self.now }
+    {
+        self.ticket.is_some() || self.seat.is_none()
+    }
+
+    /// Whether the worker has a ticket.
+    pub fn has_ticket(&self) -> bool
+        ensures { result ≡ is_some self.now.ticket }
+    {
+        self.ticket.is_some()
+    }
+
+    /// The configuration of its workplace.
+    pub fn config(&self) -> Checked
+        ensures { result ≡ self.now.place.config }
+    {
+        self.place.config()
+    }
+
+    /// Closes the workplace, where this is its last worker and has no ticket: draws one, enters, and takes the channel
+    /// out, in the memory that it has. It takes no memory and waits for nobody. That no other worker is left is counted,
+    /// and no clause tells of it.
+    pub fn close(&mut self) -> Result<Box<Channel>, CloseFault>
+        ensures closed { IfOk result (λ b. ClosesWorker self.old self.new b.value) }
+        ensures stays { IfErr result (StaysOpen self.old self.new) }
+    {
+        if self.is_busy() {
+            return Err(CloseFault::HasTicket);
+        }
+        if Arc::strong_count(&self.place) != 1 {
+            return Err(CloseFault::Others);
+        }
+        let Some(seat) = self.seat.take() else {
+            unreachable!()
+        };
+        match self.place.take_out(seat) {
+            Ok(channel) => Ok(channel),
+            Err(ticket) => {
+                self.ticket = Some(Drawn::of(ticket));
+                Err(CloseFault::NotServed)
+            }
+        }
+    }
+}
