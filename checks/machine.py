@@ -22,9 +22,9 @@ def free_memory():
 
 
 def jobs(others=0):
-    """How many works of the prover run at a time: one for each processor, and for each 2.5 GB of free memory beside
-    those that so many others may take."""
-    return max(1, min(len(os.sched_getaffinity(0)), free_memory() // 2_500_000_000 - others))
+    """How many works of the prover run at a time: one for each processor, and for each 2.5 GB of the memory that is free
+    beside so many others, which may take 3 GB each."""
+    return max(1, min(len(os.sched_getaffinity(0)), (free_memory() - others * 3_000_000_000) // 2_500_000_000))
 
 
 def free_in(folder):
