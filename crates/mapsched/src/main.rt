@@ -6,9 +6,8 @@ use clap::error::ErrorKind;
 use clap::{ArgMatches, Error};
 use command_line::commands;
 use sched_check::run_check;
-use sched_commands::{
-    RunFault, decode_text, draw_script, run_audit, run_explained, run_script, run_storm,
-};
+use sched_commands::{decode_text, draw_script, run_audit, run_explained, run_script, run_storm};
+use sched_fault::RunFault;
 use sched_storm::Open;
 use sched_text::Watched;
 use std::alloc::Global;

@@ -1,3 +1,2 @@
 pub mod HistoryTold
 pub mod FaultFound
-pub mod Agreement

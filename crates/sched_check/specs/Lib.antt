@@ -3,4 +3,3 @@ pub mod Found
 pub mod Finding
 pub mod Check
 pub mod Report
-pub mod Agree

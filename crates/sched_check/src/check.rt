@@ -4,13 +4,13 @@ ghost use Rattle.std.specs.Prelude.{◌≡◌, ◌≢◌, ◌++◌, OnOk, IfOk, 
 ghost use Rattle.std.specs.Io.KnownBytes.{Appends};
 ghost use Rattle.sched_text.specs.Line.{number_text};
 ghost use Rattle.sched_text.specs.Watched.{FailsBy};
-ghost use Rattle.sched_commands.specs.Fault.{run_fault_of};
+ghost use Rattle.sched_fault.specs.Fault.{run_fault_of};
 ghost use Rattle.sched_check.specs.Found.{fault_text, praise, verdict_text, verdict_line};
 ghost use Rattle.sched_check.specs.Check.{Checks, StopsCheck};
 
 use crate::kind::Kind;
 use crate::report::report_on;
-use sched_commands::RunFault;
+use sched_fault::RunFault;
 use sched_text::{Sink, Source, TextFault, field_number, put, put_number, read_all};
 use std::alloc::Global;
 

@@ -5,9 +5,7 @@
 mod check;
 mod finding;
 mod kind;
-mod laws;
 mod report;
 mod words;
 
 pub use check::run_check;
-pub use laws::agrees_with_commands;

@@ -10,9 +10,9 @@ use Rattle.sched_text.specs.Input.{ReadsTooMany}
 use Rattle.sched_text.specs.Recorded.{History, history_outcome, GivesHistory}
 use Rattle.sched_text.proofs.Told.{all_bytes}
 use Rattle.sched_text.proofs.ReadAgain.{history_outcome-text}
-use Rattle.sched_commands.specs.declared.fault.RunFault.{RunFault}
-use Rattle.sched_commands.specs.declared.fault.RunFault.TheVariants.{Input, TooLong, NotJson, Shape, Config, Memory}
-use Rattle.sched_commands.specs.declared.fault.RunFault.TheVariants.{Output, Threads}
+use Rattle.sched_fault.specs.declared.fault.RunFault.{RunFault}
+use Rattle.sched_fault.specs.declared.fault.RunFault.TheVariants.{Input, TooLong, NotJson, Shape, Config, Memory}
+use Rattle.sched_fault.specs.declared.fault.RunFault.TheVariants.{Output, Threads}
 use Rattle.sched_commands.specs.Answer.{recorded_entries}
 use Rattle.sched_commands.specs.Run.{Ran}
 use Rattle.sched_commands.specs.Verdict.{Audited, StopsAudit}

@@ -11,7 +11,7 @@ use Rattle.sched_text.specs.Script.{Scenario}
 use Rattle.sched_text.specs.Outcome.{outcome_of}
 use Rattle.sched_text.specs.StormScript.{Storm, storm_outcome}
 use Rattle.sched_text.proofs.Told.{IsTold, script-told, script-stands, storm-has, storm-told}
-use Rattle.sched_commands.specs.declared.fault.RunFault.TheVariants.{TooLong, NotJson, Shape, Config, Output, Threads}
+use Rattle.sched_fault.specs.declared.fault.RunFault.TheVariants.{TooLong, NotJson, Shape, Config, Output, Threads}
 use Rattle.sched_commands.specs.Run.{Stops}
 use Rattle.sched_commands.specs.StormRun.{StopsStorm}
 

@@ -1,8 +1,8 @@
 -- A text that every audit judges legal.
 use Rattle.std.specs.Prelude.{◌≡◌, ℕ, Bool, true, List, Option, Some}
-use Rattle.sched_commands.specs.declared.fault.RunFault.{RunFault}
-use Rattle.sched_commands.specs.declared.fault.RunFault.TheVariants.{Input, TooLong, NotJson, Shape, Config, Memory}
-use Rattle.sched_commands.specs.declared.fault.RunFault.TheVariants.{Output, Threads}
+use Rattle.sched_fault.specs.declared.fault.RunFault.{RunFault}
+use Rattle.sched_fault.specs.declared.fault.RunFault.TheVariants.{Input, TooLong, NotJson, Shape, Config, Memory}
+use Rattle.sched_fault.specs.declared.fault.RunFault.TheVariants.{Output, Threads}
 use Rattle.sched_commands.specs.Verdict.{Audited, StopsAudit}
 
 -- a fault of the machine, which no text has

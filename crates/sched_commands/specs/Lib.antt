@@ -1,5 +1,4 @@
 pub mod Line
-pub mod Fault
 pub mod Answer
 pub mod Run
 pub mod Drawing

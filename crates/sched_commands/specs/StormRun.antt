@@ -2,9 +2,9 @@
 use Rattle.std.specs.Prelude.{◌≡◌, ◌↔◌, ℕ, Bool, true, List, length, Option, None, Ok}
 use Rattle.std.specs.Io.KnownBytes.{Appends}
 use Rattle.sched_text.specs.declared.fault.TextFault.TheVariants as texts
-use Rattle.sched_commands.specs.declared.fault.RunFault.{RunFault}
-use Rattle.sched_commands.specs.declared.fault.RunFault.TheVariants.{Input, TooLong, NotJson, Shape, Config, Memory}
-use Rattle.sched_commands.specs.declared.fault.RunFault.TheVariants.{Output, Threads}
+use Rattle.sched_fault.specs.declared.fault.RunFault.{RunFault}
+use Rattle.sched_fault.specs.declared.fault.RunFault.TheVariants.{Input, TooLong, NotJson, Shape, Config, Memory}
+use Rattle.sched_fault.specs.declared.fault.RunFault.TheVariants.{Output, Threads}
 use Rattle.sched_storm.specs.declared.tally.Tally.{Tally}
 use Rattle.sched_text.specs.StormScript.{Storm, GivesStorm, StopsStormScript}
 use Rattle.sched_storm.specs.Storm.{IsGatedTally}

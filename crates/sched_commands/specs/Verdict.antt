@@ -9,9 +9,9 @@ use Rattle.sched_text.specs.declared.fault.TextFault.TheVariants as texts
 use Rattle.sched_text.specs.Recorded.{History, GivesHistory, StopsHistory}
 use Rattle.sched_commands.specs.declared.audit.Verdict.{Verdict}
 use Rattle.sched_commands.specs.declared.audit.Verdict.TheVariants.{Legal, Illegal}
-use Rattle.sched_commands.specs.declared.fault.RunFault.{RunFault}
-use Rattle.sched_commands.specs.declared.fault.RunFault.TheVariants.{Input, TooLong, NotJson, Shape, Config, Memory}
-use Rattle.sched_commands.specs.declared.fault.RunFault.TheVariants.{Output, Threads}
+use Rattle.sched_fault.specs.declared.fault.RunFault.{RunFault}
+use Rattle.sched_fault.specs.declared.fault.RunFault.TheVariants.{Input, TooLong, NotJson, Shape, Config, Memory}
+use Rattle.sched_fault.specs.declared.fault.RunFault.TheVariants.{Output, Threads}
 use Rattle.sched_commands.specs.Line.{number_line}
 
 -- a history is legal and has so many entries, or its first entry that may not stand there is this one

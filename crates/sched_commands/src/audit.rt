@@ -6,9 +6,9 @@ ghost use Rattle.sched_history.specs.declared.reply.TheConstants.{MAX_ENTRIES};
 ghost use Rattle.sched_text.specs.Watched.{FailsBy};
 ghost use Rattle.sched_commands.specs.Verdict.{IsVerdict, is_legal, verdict_line, Audited, StopsAudit};
 
-use crate::fault::RunFault;
 use crate::line::put_named;
 use minislots::Checked;
+use sched_fault::RunFault;
 use sched_history::{AuditFault, Entry, audit};
 use sched_text::{Sink, Source, TextFault, read_history};
 use std::alloc::Global;

@@ -5,10 +5,10 @@ ghost use Rattle.sched_commands.specs.Run.{Stops};
 ghost use Rattle.sched_commands.specs.Drawing.{lacks_memory, MakesWhole, Draws, Drawn};
 ghost use Rattle.sched_text.specs.Watched.{FailsBy};
 
-use crate::fault::RunFault;
 use crate::run::make_call;
 use frame_picture::put_picture;
 use minislots::Checked;
+use sched_fault::RunFault;
 use sched_history::{Call, Reply, Scheduler, Unrecorded};
 use sched_text::{Sink, Source, read_script};
 use std::alloc::Global;

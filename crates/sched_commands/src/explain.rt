@@ -5,8 +5,8 @@ ghost use Rattle.sched_commands.specs.Run.{Stops};
 ghost use Rattle.sched_commands.specs.Explained.{ExplainsEach, Explained};
 ghost use Rattle.sched_text.specs.Watched.{FailsBy};
 
-use crate::fault::RunFault;
 use crate::run::make_call;
+use sched_fault::RunFault;
 use sched_history::{Call, Scheduler};
 use sched_text::{LineBuffer, Sink, Source, TextFault, read_script};
 use std::alloc::Global;

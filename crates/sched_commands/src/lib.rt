@@ -5,7 +5,6 @@
 mod audit;
 mod draw;
 mod explain;
-mod fault;
 mod fits;
 mod laws;
 mod line;
@@ -16,8 +15,8 @@ mod table;
 pub use audit::run_audit;
 pub use draw::draw_script;
 pub use explain::run_explained;
-pub use fault::RunFault;
 pub use laws::judges_runs_legal;
 pub use run::run_script;
+pub use sched_fault::RunFault;
 pub use storm::run_storm;
 pub use table::decode_text;

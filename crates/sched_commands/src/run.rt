@@ -6,9 +6,9 @@ ghost use Rattle.sched_text.specs.Watched.{FailsBy};
 ghost use Rattle.sched_commands.specs.Answer.{MakesCall, MakesCalls};
 ghost use Rattle.sched_commands.specs.Run.{AnswersEach, Ran, Stops};
 
-use crate::fault::RunFault;
 use crate::fits::history_fits;
 use minislots::{Checked, Stamp};
+use sched_fault::RunFault;
 use sched_history::{Call, Reply, Scheduler, Unrecorded};
 use sched_text::{LineBuffer, Sink, Source, TextFault, put_history, read_script};
 use std::alloc::Global;

@@ -6,8 +6,8 @@ ghost use Rattle.sched_commands.specs.StormRun.{Stormed, StopsStorm};
 
 mod line;
 
-use crate::fault::RunFault;
 use line::put_tally;
+use sched_fault::RunFault;
 use sched_storm::{Gate, StormFault, Tally, storm_with};
 use sched_text::{Sink, Source, read_storm};
 use std::alloc::Global;

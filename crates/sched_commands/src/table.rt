@@ -10,11 +10,11 @@ ghost use Rattle.sched_commands.specs.Table.{counts_line, times_line, element_li
 ghost use Rattle.sched_commands.specs.Table.{table_text, shown_text, fault_line};
 ghost use Rattle.sched_commands.specs.Table.{IsHexOfPayload, PutsMap, PutsFault, ShowsMap, ShowsFault};
 
-use crate::fault::RunFault;
 use hex::FromHexError;
 use itoa::Buffer;
 use map_codec::{DecodeFault, Element, WireMap, decode, iuc};
 use map_drawing::draw_frame;
+use sched_fault::RunFault;
 use sched_text::{Sink, TextFault, put};
 use std::alloc::Global;
 

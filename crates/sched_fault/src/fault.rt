@@ -1,7 +1,7 @@
 //! Why a command ends.
 
 ghost use Rattle.std.specs.Prelude.{◌≡◌};
-ghost use Rattle.sched_commands.specs.Fault.{run_fault_of, exit_status_of};
+ghost use Rattle.sched_fault.specs.Fault.{run_fault_of, exit_status_of};
 
 use minislots::ConfigFault;
 use sched_text::TextFault;

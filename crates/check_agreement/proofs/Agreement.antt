@@ -7,10 +7,10 @@ use Rattle.sched_text.specs.Outcome.{outcome_of}
 use Rattle.sched_text.specs.StormScript.{storm_outcome}
 use Rattle.sched_text.specs.Recorded.{history_outcome}
 use Rattle.sched_text.proofs.Told.{all_bytes, IsTold, script-told, script-stands, storm-told, storm-has}
-use Rattle.sched_commands.specs.Fault.{run_fault_of}
-use Rattle.sched_commands.specs.declared.fault.RunFault.{RunFault}
-use Rattle.sched_commands.specs.declared.fault.RunFault.TheVariants.{Input, TooLong, NotJson, Shape, Config, Memory}
-use Rattle.sched_commands.specs.declared.fault.RunFault.TheVariants.{Output, Threads}
+use Rattle.sched_fault.specs.Fault.{run_fault_of}
+use Rattle.sched_fault.specs.declared.fault.RunFault.{RunFault}
+use Rattle.sched_fault.specs.declared.fault.RunFault.TheVariants.{Input, TooLong, NotJson, Shape, Config, Memory}
+use Rattle.sched_fault.specs.declared.fault.RunFault.TheVariants.{Output, Threads}
 use Rattle.sched_commands.specs.Run.{Stops}
 use Rattle.sched_commands.specs.StormRun.{StopsStorm}
 use Rattle.sched_commands.specs.Verdict.{StopsAudit}
@@ -19,7 +19,7 @@ use Rattle.sched_check.specs.declared.kind.Kind.TheVariants.{Script, Storm, Hist
 use Rattle.sched_check.specs.Kind.{kind_of}
 use Rattle.sched_check.specs.Found.{fault_in, fault_as, fault_of}
 use Rattle.sched_check.specs.Check.{Checks}
-use Rattle.sched_check.specs.Agree.{Agrees, AgreesWithCommands}
+use Rattle.check_agreement.specs.Agree.{Agrees, AgreesWithCommands}
 use Rattle.sched_check.proofs.HistoryTold.{history-told, history-has}
 
 -- a fault that a text has, and no failed read and no want of memory

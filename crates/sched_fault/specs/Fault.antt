@@ -2,9 +2,9 @@
 use Rattle.std.specs.Prelude.{ℕ}
 use Rattle.sched_text.specs.declared.fault.TextFault.{TextFault}
 use Rattle.sched_text.specs.declared.fault.TextFault.TheVariants as texts
-use Rattle.sched_commands.specs.declared.fault.RunFault.{RunFault}
-use Rattle.sched_commands.specs.declared.fault.RunFault.TheVariants.{Input, TooLong, NotJson, Shape, Config, Memory}
-use Rattle.sched_commands.specs.declared.fault.RunFault.TheVariants.{Output, Threads}
+use Rattle.sched_fault.specs.declared.fault.RunFault.{RunFault}
+use Rattle.sched_fault.specs.declared.fault.RunFault.TheVariants.{Input, TooLong, NotJson, Shape, Config, Memory}
+use Rattle.sched_fault.specs.declared.fault.RunFault.TheVariants.{Output, Threads}
 
 -- the fault of a command that a fault of a text is
 abbrev pub run_fault_of : TextFault → RunFault

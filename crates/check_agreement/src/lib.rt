@@ -1,9 +1,10 @@
-//! What a check means for the commands.
+//! What the check of a file means for the commands that read such a file.
+#![tactic(auto)]
 
 ghost use Rattle.std.specs.Prelude.{ℕ, List, Option, Some};
-ghost use Rattle.sched_commands.specs.declared.fault.RunFault.{RunFault};
+ghost use Rattle.sched_fault.specs.declared.fault.RunFault.{RunFault};
 ghost use Rattle.sched_check.specs.Check.{Checks};
-ghost use Rattle.sched_check.specs.Agree.{AgreesWithCommands};
+ghost use Rattle.check_agreement.specs.Agree.{AgreesWithCommands};
 
 /// What a check finds in a text agrees with every run, storm or audit of the same text, by the kind of file that it
 /// seems to be.
