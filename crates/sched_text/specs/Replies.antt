@@ -42,7 +42,7 @@ numbers_at limit key d = do
 abbrev pub has : List ℕ → Data → Bool
 has key d = is_some (get key d)
 
--- a placement: its reference, and a start for each nominal frame
+-- a placement: its reference, and its starts in the nominal frames
 unfoldable pub placed_reply : Data → Option Reply
 placed_reply d = do
   reference ← u64_at (codes "reference") d
