@@ -7,15 +7,16 @@ import shutil
 from kit import read
 
 FUNCTION = re.compile(r"^( *)(?:pub(?:\([a-z]+\))? )?(?:const |extern \"C\" )?fn (\w+)", re.M)
-IMPL = re.compile(r"^impl(?:<.*?>)? (?:(?:\w+::)*(\w+)(?:<(\w+)>)?(?:<.*?>)? for )?(\w+)", re.M)
+IMPL = re.compile(r"^impl(?:<.*?>)? (?:(?:\w+::)*(\w+)(?:<(\w+)(?:<\w*>)?>)?(?:<.*?>)? for )?(\w+)", re.M)
 # A type with its own name, below which its methods go, and what else may have methods.
 TYPE = re.compile(r"^(?:pub(?:\([a-z]+\))? )?(?:struct|enum) (\w+)", re.M)
 BLOCK = re.compile(r"^(?:impl|(?:pub(?:\([a-z]+\))? )?trait|extern) ?.*", re.M)
 CYCLE = re.compile(r"^ *#\[cycle\((\w+)\)\]", re.M)
-PLAIN = re.compile(r"impl(?:<'\w+>)?(?: .* for)? (\w+)(?:<'\w+>)? \{")
+# An impl whose type, as the prover names it, is one word: what it is given is a lifetime or a parameter.
+OF_TYPE = re.compile(r"impl(?:<.*?>)? (?:.* for )?(\w+)(?:<(?:(?:'\w+|[A-Z])(?:, )?)+>)? \{")
 CONST = re.compile(r"(?:pub(?:\([a-z]+\))? )?const (\w+):")
-# The proof of a function that antt takes on trust, which no verdict does: it has a hole.
-STAND_IN = """use Rattle.{crate}.proofs.{path}.Statement.{{statement}}
+# The proof of a function, or of a cycle of calls, that antt takes on trust, which no verdict does: it has a hole.
+STAND_IN = """use Rattle.{crate}.proofs.{stated}.{{statement}}
 
 pub {name}_spec : {{M : Type 1}} → statement M
 {name}_spec = ?
@@ -96,28 +97,32 @@ def cycles_of(folder, pairs):
     return found
 
 
-def plain(folder):
-    """The functions of a crate whose proof can be stood in for, by the prover's names: neither those of a trait or a
-    generic impl, nor those in a cycle of calls."""
+def proofs_of(folder):
+    """The proofs of a crate that can be stood in for, by the prover's names of functions and cycles of calls, and the
+    functions that each is of. Those of a trait's own methods are left out."""
     texts = files_of(folder)
     modules = {it[1]: module_of(file) for file, text in texts.items() for it in TYPE.finditer(text)}
-    names = set()
+    found = {}
     for file, text in texts.items():
         for it in FUNCTION.finditer(text):
-            name, blocks = name_of(file, text, it), [at[0] for at in BLOCK.finditer(text) if at.start() < it.start()]
-            of_type = PLAIN.match(blocks[-1]) if it[1] and blocks else None
-            if cycle_of(text, it) or it[1] and not of_type:
-                continue
-            module = modules.get(of_type[1], module_of(file)) if of_type else ""
-            names.add(f"{module}::{name}" if module else name)
-    return names
+            blocks = [at[0] for at in BLOCK.finditer(text) if at.start() < it.start()]
+            of_type = OF_TYPE.match(blocks[-1]) if it[1] and blocks else None
+            cycle, name = cycle_of(text, it), name_of(file, text, it)
+            if cycle and not it[1]:
+                found.setdefault(f"{module_of(file)}::+{cycle}", set()).add(name)
+            elif not cycle and (of_type or not it[1]):
+                module = modules.get(of_type[1], module_of(file)) if of_type else ""
+                found[f"{module}::{name}" if module else name] = {name}
+    return found
 
 
 def stand_in(room, crate, names):
-    """Puts a stand-in in the place of each of these functions' proofs, in the room where the crate is checked."""
+    """Puts a stand-in in the place of each of these proofs, in the room where the crate is checked."""
     for name in names:
-        folder = f"{room}/proofs/{name.replace('::', '/')}"
+        path, last = name.replace("::", "."), name.rpartition("::")[2]
+        folder = f"{room}/proofs/{path.replace('.', '/')}"
+        stated = path if last.startswith("+") else f"{path}.Statement"
         shutil.rmtree(folder, ignore_errors=True)
         os.makedirs(folder)
         with open(f"{folder}/Proof.antt", "w", encoding="utf-8") as it:
-            it.write(STAND_IN.format(crate=crate, path=name.replace("::", "."), name=name.rpartition("::")[2]))
+            it.write(STAND_IN.format(crate=crate, stated=stated, name=last))
