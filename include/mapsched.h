@@ -31,6 +31,12 @@ enum mapsched_status {
   MAPSCHED_TOO_LONG = 9,      /* a text is longer than 16777216 bytes */
   MAPSCHED_NOT_JSON = 10,     /* a text is not JSON in UTF-8 */
   MAPSCHED_NO_HISTORY = 11,   /* a text is no history: the place of the entry is told, from 1, or 0 */
+  MAPSCHED_NO_TICKET = 12,    /* the worker has no ticket */
+  MAPSCHED_NOT_SERVED = 13,   /* the worker's ticket is not served yet */
+  MAPSCHED_HAS_TICKET = 14,   /* the worker has a ticket */
+  MAPSCHED_NO_SEAT = 15,      /* no seat is with the worker */
+  MAPSCHED_WORKERS_OUT = 16,  /* other workers are left */
+  MAPSCHED_BAD_SEATS = 17,    /* fewer than 1 seat, or more than 64 */
   MAPSCHED_BAD_CONFIG = 100,  /* and the number of the first wrong field: 101 to 119, in the order of README's table */
   MAPSCHED_BAD_PAYLOAD = 200, /* and the number of the first fault: 201 to 207, in the order of README's list */
   MAPSCHED_BAD_MAP = 300      /* and the number of the first fault of numbers that are no MAP: 301 to 305 */
@@ -160,11 +166,44 @@ uint32_t mapsched_encode(const struct mapsched_map *map, uint8_t *room, uintptr_
 /* Frees the scheduler. */
 uint32_t mapsched_close(struct mapsched_scheduler *scheduler);
 
+/*
+ * Threads: workers at one scheduler, each with a seat, which take turns in the order of their tickets. A worker may go
+ * to another thread, and is used by one at a time: `= {0}` in C and `{}` in C++. Its members are the library's.
+ */
+struct mapsched_worker {
+  uint32_t full;
+  void *at;
+};
+
+/* Opens a scheduler with 1 to 64 seats, and puts its first worker into an empty handle. The other seats are with it. */
+uint32_t mapsched_open_workers(struct mapsched_worker *worker, const struct mapsched_config *config, uint32_t seats);
+
+/* Gives one of the seats that are with a worker to a new one, in an empty handle: another than the first. */
+uint32_t mapsched_hire(struct mapsched_worker *worker, struct mapsched_worker *hired);
+
+/* Draws the next ticket. It waits for nobody. Who draws has to take the turn: nobody is served before. */
+uint32_t mapsched_draw(struct mapsched_worker *worker);
+
+/*
+ * If the ticket is served, makes a call, which is recorded with the seat and the ticket, and writes its reply. The turn
+ * ends so, and also by MAPSCHED_HISTORY_FULL and MAPSCHED_OUT_OF_MEMORY. If it is not: MAPSCHED_NOT_SERVED. It looks
+ * once and never waits; the loop round it is the program's.
+ */
+uint32_t mapsched_turn(struct mapsched_worker *worker, const struct mapsched_call *call, struct mapsched_reply *reply);
+
+/* Lets a worker go, if it has no ticket, with the seats that are with it. */
+uint32_t mapsched_leave(struct mapsched_worker *worker);
+
+/* When all others have left: closes the workplace, and puts its scheduler with the history into an empty handle. */
+uint32_t mapsched_close_workers(struct mapsched_worker *worker, struct mapsched_scheduler *scheduler);
+
 /* What a status says, in English. */
 static inline const char *mapsched_status_text(uint32_t status) {
   static const char *const texts[] = {"ok",           "no scheduler",    "a scheduler already", "no such call",
                                       "history full", "out of memory",   "no such entry",       "no room",
-                                      "illegal",      "text too long",   "not json",            "no history"};
+                                      "illegal",      "text too long",   "not json",            "no history",
+                                      "no ticket",    "not served",      "has a ticket",        "no seat",
+                                      "workers left", "seats"};
   static const char *const fields[] = {"ticks",         "bytes_per_slot", "overhead",   "frame",     "cycle",
                                        "req_slots",     "poll_slots",     "lead",       "short_max", "quantum",
                                        "grant_cap",     "receivers",      "calls",      "start",     "ranging_start",
@@ -173,7 +212,7 @@ static inline const char *mapsched_status_text(uint32_t status) {
                                        "a descent", "no null",           "a second null"};
   static const char *const map_faults[] = {"too many elements", "out of range", "a descent", "no null",
                                            "a second null"};
-  if (status <= MAPSCHED_NO_HISTORY) return texts[status];
+  if (status <= MAPSCHED_BAD_SEATS) return texts[status];
   if (status > MAPSCHED_BAD_CONFIG && status <= MAPSCHED_BAD_CONFIG + 19)
     return fields[status - MAPSCHED_BAD_CONFIG - 1];
   if (status > MAPSCHED_BAD_PAYLOAD && status <= MAPSCHED_BAD_PAYLOAD + 7)

@@ -36,6 +36,54 @@ static void want(int line, int holds) {
 }
 #define WANT(holds) want(__LINE__, holds)
 
+/* The statuses of workers: two at one scheduler, used by one thread. */
+static void workers(void) {
+  struct mapsched_config config = lawful(), wrong = lawful();
+  struct mapsched_worker first = {0}, second = {0}, third = {0};
+  struct mapsched_scheduler scheduler = {0}, other = {0};
+  struct mapsched_call build = {.kind = MAPSCHED_BUILD, .minislot = 760}, unknown = {.kind = 7};
+  struct mapsched_reply reply = {0};
+  struct mapsched_entry entry;
+  uintptr_t count = 0;
+  config.calls = 1;
+  wrong.ticks = 3;
+
+  WANT(mapsched_hire(&first, &second) == MAPSCHED_EMPTY && mapsched_draw(&first) == MAPSCHED_EMPTY);
+  WANT(mapsched_turn(&first, &build, &reply) == MAPSCHED_EMPTY && mapsched_leave(&first) == MAPSCHED_EMPTY);
+  WANT(mapsched_close_workers(&first, &scheduler) == MAPSCHED_EMPTY);
+  WANT(mapsched_open_workers(&first, &wrong, 2) == MAPSCHED_BAD_CONFIG + 1);
+  WANT(mapsched_open_workers(&first, &config, 0) == MAPSCHED_BAD_SEATS);
+  WANT(mapsched_open_workers(&first, &config, 65) == MAPSCHED_BAD_SEATS && !first.full);
+  WANT(mapsched_open_workers(&first, &config, 2) == MAPSCHED_OK && first.full);
+  WANT(mapsched_open_workers(&first, &config, 2) == MAPSCHED_FULL);
+  WANT(mapsched_hire(&first, &second) == MAPSCHED_OK && second.full);
+  WANT(mapsched_hire(&first, &second) == MAPSCHED_FULL);
+  WANT(mapsched_hire(&first, &third) == MAPSCHED_NO_SEAT && !third.full);
+
+  WANT(mapsched_turn(&second, &build, &reply) == MAPSCHED_NO_TICKET);
+  WANT(mapsched_draw(&first) == MAPSCHED_OK && mapsched_draw(&first) == MAPSCHED_HAS_TICKET);
+  WANT(mapsched_draw(&second) == MAPSCHED_OK && mapsched_leave(&second) == MAPSCHED_HAS_TICKET);
+  WANT(mapsched_close_workers(&first, &scheduler) == MAPSCHED_HAS_TICKET && !scheduler.full);
+  WANT(mapsched_turn(&second, &build, &reply) == MAPSCHED_NOT_SERVED && reply.length == 0);
+  WANT(mapsched_turn(&first, &unknown, &reply) == MAPSCHED_BAD_CALL);
+  WANT(mapsched_turn(&first, &build, &reply) == MAPSCHED_OK && reply.kind == MAPSCHED_BUILT && reply.value == 800);
+  WANT(mapsched_turn(&second, &build, &reply) == MAPSCHED_HISTORY_FULL && reply.value == 800);
+  WANT(mapsched_turn(&second, &build, &reply) == MAPSCHED_NO_TICKET);
+
+  WANT(mapsched_close_workers(&first, &scheduler) == MAPSCHED_WORKERS_OUT && first.full);
+  WANT(mapsched_leave(&second) == MAPSCHED_OK && !second.full);
+  WANT(mapsched_open(&other, &config) == MAPSCHED_OK);
+  WANT(mapsched_close_workers(&first, &other) == MAPSCHED_FULL && first.full);
+  WANT(mapsched_close_workers(&first, &scheduler) == MAPSCHED_OK && scheduler.full && !first.full);
+  WANT(mapsched_count(&scheduler, &count) == MAPSCHED_OK && count == 1);
+  WANT(mapsched_entry(&scheduler, 0, &entry) == MAPSCHED_OK && entry.stamp.ticket == 0 && entry.stamp.seat == 1);
+  WANT(entry.reply.kind == MAPSCHED_BUILT && strcmp(mapsched_status_text(MAPSCHED_BAD_SEATS), "seats") == 0);
+  WANT(mapsched_close(&scheduler) == MAPSCHED_OK && mapsched_close(&other) == MAPSCHED_OK);
+
+  /* A worker that nobody closes goes with its scheduler. */
+  WANT(mapsched_open_workers(&first, &config, 64) == MAPSCHED_OK && mapsched_leave(&first) == MAPSCHED_OK);
+}
+
 int main(void) {
   struct mapsched_config config = lawful(), wrong = lawful();
   struct mapsched_scheduler scheduler = {0};
@@ -161,7 +209,8 @@ int main(void) {
   WANT(reply.starts[0] == 4 && reply.starts[1] == 10 && reply.starts[2] == 16);
   WANT(mapsched_entry(&scheduler, 1, &entry) == MAPSCHED_OK && memcmp(&entry.call, &voice, NUMBERS) == 0);
   WANT(mapsched_close(&scheduler) == MAPSCHED_OK);
-  WANT(strcmp(mapsched_status_text(12), "unknown status") == 0);
+  WANT(strcmp(mapsched_status_text(18), "unknown status") == 0);
   WANT(strcmp(mapsched_status_text(100), "unknown status") == 0);
+  workers();
   return failures != 0;
 }

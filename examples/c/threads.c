@@ -1,17 +1,15 @@
 /*
- * A storm from C: threads make calls on one scheduler under a mutex, each under a seat of its own with a ticket that
- * counts the turns at the mutex; then the text of the history is audited. Prints how many entries it has.
+ * A storm from C: threads make calls on one scheduler, each with a worker of its own, in the order of their tickets;
+ * then the workplace is closed, and the text of the history is audited. Prints how many entries it has.
  */
+#define _POSIX_C_SOURCE 200809L
 #include <mapsched.h>
 #include <pthread.h>
+#include <sched.h>
 #include <stdio.h>
 #include <stdlib.h>
 
 enum { THREADS = 4, TURNS = 500 };
-
-static struct mapsched_scheduler scheduler;
-static pthread_mutex_t turn = PTHREAD_MUTEX_INITIALIZER;
-static uint64_t tickets;
 
 static const struct mapsched_config config = {.ticks = 4,
                                               .bytes_per_slot = 16,
@@ -24,67 +22,86 @@ static const struct mapsched_config config = {.ticks = 4,
                                               .short_max = 8,
                                               .quantum = 64,
                                               .grant_cap = 2000,
-                                              .calls = 1 + THREADS * TURNS,
+                                              .calls = THREADS * TURNS,
                                               .start = 800,
                                               .receivers = 1,
                                               .channel = 3,
                                               .ucd_count = 1};
 
-/* Makes a call in turn, and answers its status. */
-static uint32_t make(uint32_t seat, struct mapsched_call call, struct mapsched_reply *reply) {
-  struct mapsched_stamp stamp = {.seat = seat};
-  pthread_mutex_lock(&turn);
-  stamp.ticket = tickets++;
-  uint32_t status = mapsched_call(&scheduler, &stamp, &call, reply);
-  pthread_mutex_unlock(&turn);
+/* Draws a ticket, tries until it is served, and answers the status of the call. */
+static uint32_t make(struct mapsched_worker *worker, struct mapsched_call call, struct mapsched_reply *reply) {
+  uint32_t status = mapsched_draw(worker);
+  if (status != MAPSCHED_OK) return status;
+  while ((status = mapsched_turn(worker, &call, reply)) == MAPSCHED_NOT_SERVED) sched_yield();
   return status;
 }
 
+/* What a thread is given. */
+struct work {
+  struct mapsched_worker worker;
+  uint16_t sid;
+  uintptr_t failures;
+};
+
 /* The turns of one thread: a flow of its own, then requests and builds at minislots that it reads off replies. */
 static void *work(void *argument) {
-  uint32_t seat = *(uint32_t *)argument;
-  uint16_t sid = (uint16_t)(100 + seat);
+  struct work *mine = argument;
   uint64_t next = 800;
-  uintptr_t failures = 0;
   struct mapsched_reply reply;
-  struct mapsched_call admit = {.kind = MAPSCHED_ADMIT, .flow = MAPSCHED_BEST_EFFORT, .sid = sid, .priority = 3};
-  failures += make(seat, admit, &reply) != MAPSCHED_OK;
+  struct mapsched_call admit = {
+      .kind = MAPSCHED_ADMIT, .flow = MAPSCHED_BEST_EFFORT, .sid = mine->sid, .priority = 3};
+  mine->failures += make(&mine->worker, admit, &reply) != MAPSCHED_OK;
   for (int at = 1; at < TURNS; at++) {
-    struct mapsched_call ask = {.kind = MAPSCHED_ASK, .sid = sid, .bytes = 200, .minislot = next};
+    struct mapsched_call ask = {.kind = MAPSCHED_ASK, .sid = mine->sid, .bytes = 200, .minislot = next};
     struct mapsched_call build = {.kind = MAPSCHED_BUILD, .minislot = next - 40};
-    failures += make(seat, at % 2 ? build : ask, &reply) != MAPSCHED_OK;
+    mine->failures += make(&mine->worker, at % 2 ? build : ask, &reply) != MAPSCHED_OK;
     if (reply.kind == MAPSCHED_BUILT || (reply.kind == MAPSCHED_REFUSED && reply.value > next)) next = reply.value;
   }
-  return (void *)failures;
+  mine->failures += mapsched_leave(&mine->worker) != MAPSCHED_OK;
+  return NULL;
+}
+
+/* Hires a worker for each thread, and waits until all have left. Tells how many calls were not recorded. */
+static int storm(struct mapsched_worker *first, uintptr_t *failures) {
+  static struct work works[THREADS];
+  pthread_t threads[THREADS];
+  for (int i = 0; i < THREADS; i++) {
+    works[i].sid = (uint16_t)(100 + i);
+    if (mapsched_hire(first, &works[i].worker) != MAPSCHED_OK) return 1;
+    if (pthread_create(&threads[i], NULL, work, &works[i])) return 1;
+  }
+  for (int i = 0; i < THREADS; i++) {
+    pthread_join(threads[i], NULL);
+    *failures += works[i].failures;
+  }
+  return 0;
+}
+
+/* Audits the text of the history, and tells how many entries it has. */
+static uint32_t audit(struct mapsched_scheduler *scheduler, uintptr_t *entries) {
+  uintptr_t length = 0;
+  uint8_t none = 0;
+  uint32_t status = mapsched_history(scheduler, &none, 0, &length);
+  uint8_t *text = malloc(length);
+  if (status == MAPSCHED_NO_ROOM && text) status = mapsched_history(scheduler, text, length, &length);
+  if (status == MAPSCHED_OK) status = mapsched_audit(text, length, entries);
+  free(text);
+  return status;
 }
 
 int main(void) {
-  pthread_t threads[THREADS];
-  uint32_t seats[THREADS];
-  uintptr_t failures = 0, length = 0, place = 0;
-  if (mapsched_open(&scheduler, &config) != MAPSCHED_OK) return 1;
-  for (uint32_t i = 0; i < THREADS; i++) {
-    seats[i] = i;
-    if (pthread_create(&threads[i], NULL, work, &seats[i])) return 1;
-  }
-  for (uint32_t i = 0; i < THREADS; i++) {
-    void *failed;
-    pthread_join(threads[i], &failed);
-    failures += (uintptr_t)failed;
-  }
-  uint8_t none = 0;
-  uint32_t status = mapsched_history(&scheduler, &none, 0, &length);
-  uint8_t *text = malloc(length);
-  if (status != MAPSCHED_NO_ROOM || !text) return 1;
-  status = mapsched_history(&scheduler, text, length, &length);
-  if (status == MAPSCHED_OK) status = mapsched_audit(text, length, &place);
-  free(text);
+  struct mapsched_worker first = {0};
+  struct mapsched_scheduler scheduler = {0};
+  uintptr_t failures = 0, entries = 0;
+  if (mapsched_open_workers(&first, &config, THREADS + 1) != MAPSCHED_OK || storm(&first, &failures)) return 1;
+  uint32_t status = mapsched_close_workers(&first, &scheduler);
+  if (status == MAPSCHED_OK) status = audit(&scheduler, &entries);
   mapsched_close(&scheduler);
   if (status != MAPSCHED_OK || failures) {
-    fprintf(stderr, "%s at %zu, %zu calls not recorded\n", mapsched_status_text(status), (size_t)place,
+    fprintf(stderr, "%s at %zu, %zu calls not recorded\n", mapsched_status_text(status), (size_t)entries,
             (size_t)failures);
     return 1;
   }
-  printf("legal %zu\n", (size_t)place);
+  printf("legal %zu\n", (size_t)entries);
   return 0;
 }

@@ -1,19 +1,24 @@
 -- Which fault a MAP has, and that a MAP with none is well formed.
-use Rattle.std.proofs.Common.{◌≡◌, ℕ, ◌^◌, ◌<◌, ◌≤◌, ◌↔◌, Bool, true, false, ◌&&◌, not, ltb, eqb, List, [], ◌∷◌, length, take, suc, inl, inr, Some, None}
+use Rattle.std.proofs.Common.{◌≡◌, ℕ, ◌^◌, ◌<◌, ◌≤◌, ◌↔◌, Bool, true, false, ◌&&◌, not, ltb, eqb, List, []}
+use Rattle.std.proofs.Common.{◌∷◌, length, take, suc, inl, inr, Some, None}
 use Rattle.std.proofs.Common.{Option, Result, IsOk, refl, sym, ap, ◌∙◌, subst, arith}
 use Rattle.std.specs.Option.{option_map}
 use Rattle.std.specs.List.{AllByRecursion}
-use Rattle.std.proofs.lemmas.Bool.{cases_Bool, and_from, eq-eqb, eqb-false, eqb-true, ne_eqb, lt-ltb, le-ltb, ltb-true, ltb-false, not-false}
+use Rattle.std.proofs.lemmas.Bool.{cases_Bool, and_from, eq-eqb, eqb-false, eqb-true, ne_eqb, lt-ltb, le-ltb}
+use Rattle.std.proofs.lemmas.Bool.{ltb-true, ltb-false, not-false}
 use Rattle.map_codec.specs.declared.element.Element.{Element}
 use Rattle.map_codec.specs.declared.wire_map.WireMap.{WireMap}
 use Rattle.map_codec.specs.declared.map_fault.MapFault.{MapFault}
-use Rattle.map_codec.specs.declared.map_fault.MapFault.TheVariants.{TooMany, OutOfRange, Descending, NoNull, SecondNull}
+use Rattle.map_codec.specs.declared.map_fault.MapFault.TheVariants.{TooMany, OutOfRange, Descending, NoNull}
+use Rattle.map_codec.specs.declared.map_fault.MapFault.TheVariants.{SecondNull}
 use Rattle.map_codec.specs.Element.{is_null, nulls, element_at, no_element, IsInRange}
 use Rattle.map_codec.specs.WireMap.{FitsHeader, IsWellFormed}
 use Rattle.map_codec.specs.DecodeFault.{least, offset_before, descends_at, repeats_null_at}
-use Rattle.map_codec.specs.MapFault.{is_in_range, is_out_at, range_fault, descent_fault, null_fault, count_fault, map_fault, judged}
+use Rattle.map_codec.specs.MapFault.{is_in_range, is_out_at, range_fault, descent_fault, null_fault}
+use Rattle.map_codec.specs.MapFault.{count_fault, map_fault, judged}
 use Rattle.map_codec.proofs.Least.{least_none, least_is, none_of_both, none_of_map, none_from_least, none_if}
-use Rattle.map_codec.proofs.Nulls.{nulls-take-le, ascends_from_none, descends_at-none, nulls_one, repeats_null_at-none}
+use Rattle.map_codec.proofs.Nulls.{nulls-take-le, ascends_from_none, descends_at-none, nulls_one}
+use Rattle.map_codec.proofs.Nulls.{repeats_null_at-none}
 use Rattle.map_codec.proofs.Faults.{none_past}
 use Rattle.map_codec.proofs.Spelling.{in_range_at}
 

@@ -9,8 +9,8 @@ use Rattle.std_alloc.proofs.BoxSteps.Form.{Bx}
 use Rattle.std_heap.specs.contracts.Global as Heap
 use Rattle.std_heap.specs.contracts.GlobalAllocator.TheImpl.{ghosts, dict}
 use Rattle.std_heap.proofs.Global.TheLaws as heap
-use Rattle.mapsched_c.specs.contracts.channel.Channel as Channel
-use Rattle.mapsched_c.proofs.channel.Channel.TheLaws as channel
+use Rattle.worker_sched.specs.contracts.channel.Channel as Channel
+use Rattle.worker_sched.proofs.channel.Channel.TheLaws as channel
 use Rattle.mapsched_c.specs.contracts.place.parts.Parts as Parts
 use Rattle.mapsched_c.specs.contracts.place.Place as Place
 

@@ -7,3 +7,5 @@ pub mod Answer
 pub mod Text
 pub mod Map
 pub mod Encode
+pub mod Post
+pub mod Worker

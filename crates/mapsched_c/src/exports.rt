@@ -7,7 +7,7 @@ ghost use Rattle.mapsched_c.specs.Config.{config_of, ChecksConfig, Opens};
 ghost use Rattle.mapsched_c.specs.Entry.{count_over, entry_at, entry_over, entry_status, handle_status, stamp_of};
 
 use crate::call::PlainCall;
-use crate::channel::Channel;
+use crate::channel::{answer, entries};
 use crate::config::PlainConfig;
 use crate::entry::{PlainEntry, PlainStamp, put_entry};
 use crate::handle::Handle;
@@ -15,6 +15,7 @@ use crate::reply::PlainReply;
 use crate::status;
 use sched_text::field_number;
 use std::alloc::Global;
+use worker_sched::Channel;
 
 /// Whether a configuration is lawful: `OK`, or `BAD_CONFIG` and the number of its first wrong field.
 #[unsafe(no_mangle)]
@@ -65,7 +66,7 @@ pub extern "C" fn mapsched_call(
         return status::EMPTY;
     };
     let answered = match call.call() {
-        Some(call) => channel.answer(stamp.stamp(), call, reply),
+        Some(call) => answer(&mut channel, stamp.stamp(), call, reply),
         None => status::BAD_CALL,
     };
     scheduler.put(channel);
@@ -82,7 +83,7 @@ pub extern "C" fn mapsched_count(alloc: Global, scheduler: &mut Handle, count: &
     let Some(channel) = scheduler.take(alloc) else {
         return status::EMPTY;
     };
-    *count = channel.entries().len();
+    *count = channel.history().len();
     scheduler.put(channel);
     status::OK
 }
@@ -102,7 +103,7 @@ pub extern "C" fn mapsched_entry(
     let Some(channel) = scheduler.take(alloc) else {
         return status::EMPTY;
     };
-    let answered = put_entry(channel.entries(), place, entry);
+    let answered = put_entry(entries(&channel), place, entry);
     scheduler.put(channel);
     answered
 }

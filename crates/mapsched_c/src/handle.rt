@@ -2,11 +2,11 @@
 
 ghost use Rattle.std.specs.Prelude.{◌≡◌, ◌≢◌, None, Some, IsSome, is_some, option_map};
 
-use crate::channel::Channel;
 use crate::place::Place;
 use crate::place::parts::Parts;
 use std::alloc::Global;
 use std::mem::replace;
+use worker_sched::Channel;
 
 /// A scheduler that C holds, or none: all zeros are a handle that is empty. It is neither copied nor
 /// changed by C.

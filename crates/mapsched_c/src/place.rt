@@ -6,11 +6,11 @@ ghost use Rattle.mapsched_c.specs.Place.{place_owns, machine_coded};
 
 pub(crate) mod parts;
 
-use crate::channel::Channel;
 use parts::Parts;
 use std::alloc::Global;
 use std::marker::Model;
 use std::ptr::null_mut;
+use worker_sched::Channel;
 
 /// Where a channel lies. It owns the channel that contracts see in it, and nothing where they see none.
 #[repr(C)]

@@ -24,6 +24,18 @@ pub const TOO_LONG: u32 = 9;
 pub const NOT_JSON: u32 = 10;
 /// A text is no history.
 pub const NO_HISTORY: u32 = 11;
+/// The worker has no ticket.
+pub const NO_TICKET: u32 = 12;
+/// The worker's ticket is not served yet.
+pub const NOT_SERVED: u32 = 13;
+/// The worker has a ticket.
+pub const HAS_TICKET: u32 = 14;
+/// No seat is with the worker.
+pub const NO_SEAT: u32 = 15;
+/// Other workers are left.
+pub const WORKERS_OUT: u32 = 16;
+/// There cannot be so many seats.
+pub const BAD_SEATS: u32 = 17;
 /// To this the number of the first fault of a payload is added, from 1.
 pub const BAD_PAYLOAD: u32 = 200;
 /// To this the number of the first fault of a MAP that has no bytes is added, from 1.

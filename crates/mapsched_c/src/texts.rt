@@ -4,6 +4,7 @@ ghost use Rattle.std.specs.Prelude.{◌≡◌, ◌≤◌, length};
 ghost use Rattle.sched_history.specs.declared.reply.TheConstants.{MAX_ENTRIES};
 ghost use Rattle.mapsched_c.specs.Text.{GivesText, GivesHistoryText, Judges, Audits};
 
+use crate::channel::text_of;
 use crate::handle::Handle;
 use crate::status;
 use minislots::Checked;
@@ -38,7 +39,7 @@ pub extern "C" fn mapsched_history(
     let Some(channel) = scheduler.take(alloc) else {
         return status::EMPTY;
     };
-    let answered = match channel.text(alloc) {
+    let answered = match text_of(alloc, &channel) {
         Ok(text) => put_text(&text, room, length),
         Err(_) => status::OUT_OF_MEMORY,
     };

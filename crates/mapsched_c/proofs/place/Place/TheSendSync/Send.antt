@@ -13,8 +13,8 @@ use Rattle.std_alloc.proofs.SendSync.{quiet, lies}
 use Rattle.std_heap.proofs.Global.TheSendSync as handle
 use Rattle.sched_history.specs.Machine.{Machine}
 use Rattle.mapsched_c.specs.Place.{place_owns}
-use Rattle.mapsched_c.specs.contracts.channel.Channel as Channel
-use Rattle.mapsched_c.proofs.channel.Channel.TheSendSync.{the_send as channel}
+use Rattle.worker_sched.specs.contracts.channel.Channel as Channel
+use Rattle.worker_sched.proofs.channel.Channel.TheSendSync.{the_send as channel}
 use Rattle.mapsched_c.specs.contracts.place.Place.{the_row, the_type}
 
 crosses : (alloc : Global) (at : Ptr) (o : Option Machine) → Keyless (place_owns alloc at o)

@@ -1,0 +1,24 @@
+-- The reply of a worker's turn has no more starts than there is room for.
+use Rattle.std.proofs.Common.{◌≡◌}
+use Rattle.std.specs.Prelude.{Option, None, Some, Ok, MatchOption}
+use Rattle.minislots.specs.Config.{IsLawful}
+use Rattle.sched_history.specs.declared.call.Call.{Call}
+use Rattle.sched_history.specs.declared.reply.Reply.{Reply}
+use Rattle.ticket_lock.specs.Standing.{seen}
+use Rattle.worker_sched.specs.declared.worker.Turn.{Turn}
+use Rattle.worker_sched.specs.declared.worker.Turn.TheVariants.{Ended, NoTicket}
+use Rattle.worker_sched.specs.Worker.{Stands, WorkerState, TakesTurn, TakesTurnWith}
+use Rattle.mapsched_c.specs.Reply.{HasRoom}
+use Rattle.mapsched_c.proofs.Room.{step_room}
+
+module _ (w x : WorkerState) (call : Call) (reply : Reply) (lawful : IsLawful w.place.config) where
+  with_ticket : (o : Option Stands)
+      → MatchOption o ((Ended (Ok reply) ≡ NoTicket) × (x ≡ w)) (λ t. TakesTurnWith t w x call (Ended (Ok reply)))
+      → HasRoom reply
+  with_ticket None told = absurd (let e = told.0 in cc)
+  with_ticket (Some t) (s, seated, turned) =
+      step_room w.place.config lawful (seen turned.holder) call reply turned.answered.step
+
+  -- a turn that has ended with a reply was a step
+  pub turned_room : TakesTurn w x call (Ended (Ok reply)) → HasRoom reply
+  turned_room told = with_ticket w.ticket told

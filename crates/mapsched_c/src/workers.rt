@@ -1,0 +1,188 @@
+//! The exports for threads: workers, one for each thread, at one scheduler under the ticket lock.
+
+ghost use Rattle.std.specs.Prelude.{◌≡◌};
+ghost use Rattle.mapsched_c.specs.Call.{call_of};
+ghost use Rattle.mapsched_c.specs.Config.{config_of};
+ghost use Rattle.mapsched_c.specs.Worker.{OpensWorkers, HiresWorker, Draws, Turns, Writes, LeavesPlace, ClosesPlace};
+ghost use Rattle.mapsched_c.specs.Worker.{close_status};
+
+use crate::call::PlainCall;
+use crate::config::PlainConfig;
+use crate::handle::Handle;
+use crate::reply::PlainReply;
+use crate::status;
+use crate::worker_handle::WorkerHandle;
+use sched_history::{Call, Unrecorded};
+use sched_text::field_number;
+use std::alloc::Global;
+use ticket_lock::LockFault;
+use worker_sched::{CloseFault, HireFault, Turn, Worker};
+
+/// Opens a workplace with so many seats, 1 to 64, and puts its first worker into an empty handle. The other seats are
+/// with that worker, which hires others. A handle that is full, and a wrong configuration, stay as they are.
+#[unsafe(no_mangle)]
+pub extern "C" fn mapsched_open_workers(
+    alloc: Global,
+    worker: &mut WorkerHandle,
+    config: &PlainConfig,
+    seats: u32,
+) -> u32
+    ensures { OpensWorkers worker.old.post.worker worker.new.post.worker (config_of config.now) seats result }
+{
+    if worker.is_full() {
+        return status::FULL;
+    }
+    let checked = match config.config().check() {
+        Ok(checked) => checked,
+        Err(fault) => return status::BAD_CONFIG + u32::from(field_number(fault)),
+    };
+    match Worker::open(alloc, checked, seats as usize) {
+        Ok(first) => {
+            worker.put(first);
+            status::OK
+        }
+        Err(LockFault::SeatCount) => status::BAD_SEATS,
+        Err(LockFault::Memory) => status::OUT_OF_MEMORY,
+    }
+}
+
+/// Gives one of the seats that are with a worker to a new one, in an empty handle.
+#[unsafe(no_mangle)]
+pub extern "C" fn mapsched_hire(
+    alloc: Global,
+    worker: &mut WorkerHandle,
+    hired: &mut WorkerHandle,
+) -> u32
+    ensures { HiresWorker worker.old.post.worker worker.new.post.worker
+        hired.old.post.worker hired.new.post.worker result }
+{
+    let Some(mut hiring) = worker.take(alloc) else {
+        return status::EMPTY;
+    };
+    if hired.is_full() {
+        worker.put(hiring);
+        return status::FULL;
+    }
+    let answered = match hiring.hire(alloc) {
+        Ok(other) => {
+            hired.put(other);
+            status::OK
+        }
+        Err(HireFault::NoSeat) => status::NO_SEAT,
+        Err(HireFault::Memory) => status::OUT_OF_MEMORY,
+    };
+    worker.put(hiring);
+    answered
+}
+
+/// Draws the next ticket, where the worker has none. It waits for nobody.
+#[unsafe(no_mangle)]
+pub extern "C" fn mapsched_draw(alloc: Global, worker: &mut WorkerHandle) -> u32
+    ensures { Draws worker.old.post.worker worker.new.post.worker result }
+{
+    let Some(mut drawing) = worker.take(alloc) else {
+        return status::EMPTY;
+    };
+    let answered = if drawing.draw() {
+        status::OK
+    } else {
+        status::HAS_TICKET
+    };
+    worker.put(drawing);
+    answered
+}
+
+// Makes a call in a worker's turn, and writes its reply.
+#[tactic(auto, using(crate::proofs::Turned::turned_room))]
+fn turn_of(worker: &mut Worker, call: Call, reply: &mut PlainReply) -> u32
+    ensures { Turns (Some worker.old) (Some worker.new) (Some call) result reply.old reply.new }
+{
+    let _cycle = worker.config().cycle();
+    match worker.turn(call) {
+        Turn::Ended(Ok(answer)) => {
+            reply.put(&answer);
+            status::OK
+        }
+        Turn::Ended(Err(Unrecorded::HistoryFull)) => status::HISTORY_FULL,
+        Turn::Ended(Err(Unrecorded::Memory)) => status::OUT_OF_MEMORY,
+        Turn::NotYet => status::NOT_SERVED,
+        Turn::NoTicket => status::NO_TICKET,
+    }
+}
+
+/// Makes a call, where the worker's ticket is served: answers and records it, with the stamp of its seat and ticket, and
+/// writes its reply. One look, no wait. A call that is not recorded ends the turn too.
+#[unsafe(no_mangle)]
+pub extern "C" fn mapsched_turn(
+    alloc: Global,
+    worker: &mut WorkerHandle,
+    call: &PlainCall,
+    reply: &mut PlainReply,
+) -> u32
+    ensures { Turns worker.old.post.worker worker.new.post.worker (call_of call.now) result reply.old reply.new }
+{
+    let Some(mut turning) = worker.take(alloc) else {
+        return status::EMPTY;
+    };
+    let answered = match call.call() {
+        Some(call) => turn_of(&mut turning, call, reply),
+        None => status::BAD_CALL,
+    };
+    worker.put(turning);
+    answered
+}
+
+/// Lets a worker go, with the seats that are with it, and leaves its handle empty. One with a ticket stays.
+#[unsafe(no_mangle)]
+pub extern "C" fn mapsched_leave(alloc: Global, worker: &mut WorkerHandle) -> u32
+    ensures { LeavesPlace worker.old.post.worker worker.new.post.worker result }
+{
+    let Some(leaving) = worker.take(alloc) else {
+        return status::EMPTY;
+    };
+    if leaving.has_ticket() {
+        worker.put(leaving);
+        return status::HAS_TICKET;
+    }
+    status::OK
+}
+
+// The status of a workplace that is not closed.
+fn status_of(fault: CloseFault) -> u32
+    ensures { result ≡ close_status fault }
+{
+    match fault {
+        CloseFault::HasTicket => status::HAS_TICKET,
+        CloseFault::Others => status::WORKERS_OUT,
+        CloseFault::NotServed => status::NOT_SERVED,
+    }
+}
+
+/// Closes the workplace of its last worker, whose handle is empty then, and puts its scheduler into an empty handle.
+#[unsafe(no_mangle)]
+pub extern "C" fn mapsched_close_workers(
+    alloc: Global,
+    worker: &mut WorkerHandle,
+    scheduler: &mut Handle,
+) -> u32
+    ensures { ClosesPlace worker.old.post.worker worker.new.post.worker
+        scheduler.old.place.machine scheduler.new.place.machine result }
+{
+    let Some(mut closing) = worker.take(alloc) else {
+        return status::EMPTY;
+    };
+    if scheduler.is_full() {
+        worker.put(closing);
+        return status::FULL;
+    }
+    match closing.close() {
+        Ok(channel) => {
+            scheduler.put(channel);
+            status::OK
+        }
+        Err(fault) => {
+            worker.put(closing);
+            status_of(fault)
+        }
+    }
+}
