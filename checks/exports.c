@@ -1,0 +1,128 @@
+/*
+ * Makes every call of the header that may run out of memory. Where one does, nothing that the caller sees may have
+ * changed, and the call is made once more. Prints `whole` at the end, or `out of memory` where it ran out again.
+ */
+#include <mapsched.h>
+#include <stdio.h>
+#include <stdlib.h>
+#include <string.h>
+
+/* All that the caller has, and what it can read of a scheduler. */
+static struct {
+  struct mapsched_scheduler scheduler;
+  struct mapsched_worker first, second;
+  struct mapsched_reply reply;
+  struct mapsched_map map;
+  struct mapsched_entry last;
+  uintptr_t count, length, place;
+  uint8_t text[4096], payload[MAPSCHED_MAX_BYTES];
+} now, before;
+
+static const struct mapsched_config config = {.ticks = 4,
+                                              .bytes_per_slot = 16,
+                                              .overhead = 2,
+                                              .frame = 40,
+                                              .cycle = 20,
+                                              .req_slots = 4,
+                                              .poll_slots = 2,
+                                              .lead = 40,
+                                              .short_max = 8,
+                                              .quantum = 64,
+                                              .grant_cap = 2000,
+                                              .calls = 10,
+                                              .start = 800,
+                                              .receivers = 1,
+                                              .channel = 3,
+                                              .ucd_count = 1};
+static const struct mapsched_stamp stamp = {.ticket = 0, .seat = 0};
+static const struct mapsched_call voice = {.kind = MAPSCHED_ADMIT,
+                                           .flow = MAPSCHED_UNSOLICITED,
+                                           .sid = 5,
+                                           .size = 200,
+                                           .interval_us = 10000,
+                                           .jitter_us = 800,
+                                           .grants = 2};
+static const struct mapsched_call data = {.kind = MAPSCHED_ADMIT, .flow = MAPSCHED_BEST_EFFORT, .sid = 6};
+static const struct mapsched_call build = {.kind = MAPSCHED_BUILD, .minislot = 760};
+
+static void end(const char *said, int status) {
+  puts(said);
+  exit(status);
+}
+
+/* Reads what can be read of the scheduler. */
+static void look(void) {
+  if (mapsched_count(&now.scheduler, &now.count) == MAPSCHED_OK && now.count != 0)
+    mapsched_entry(&now.scheduler, now.count - 1, &now.last);
+}
+
+/* Makes a call, and once more where memory ran out. */
+static void make(uint32_t (*call)(void)) {
+  for (int tries = 0; tries < 2; tries++) {
+    look();
+    memcpy(&before, &now, sizeof now);
+    uint32_t status = call();
+    if (status == MAPSCHED_OK) return;
+    if (status != MAPSCHED_OUT_OF_MEMORY) end(mapsched_status_text(status), 1);
+    look();
+    if (memcmp(&before, &now, sizeof now) != 0) end("something has changed", 2);
+  }
+  end("out of memory", 4);
+}
+
+static uint32_t opens(void) { return mapsched_open(&now.scheduler, &config); }
+static uint32_t admits_voice(void) { return mapsched_call(&now.scheduler, &stamp, &voice, &now.reply); }
+static uint32_t admits_data(void) { return mapsched_call(&now.scheduler, &stamp, &data, &now.reply); }
+static uint32_t builds(void) { return mapsched_call(&now.scheduler, &stamp, &build, &now.reply); }
+static uint32_t writes(void) { return mapsched_history(&now.scheduler, now.text, sizeof now.text, &now.length); }
+static uint32_t audits(void) { return mapsched_audit(now.text, now.length, &now.place); }
+static uint32_t decodes(void) { return mapsched_decode(now.reply.payload, now.reply.length, &now.map, &now.place); }
+static uint32_t encodes(void) {
+  return mapsched_encode(&now.map, now.payload, sizeof now.payload, &now.length, &now.place);
+}
+static uint32_t opens_workers(void) { return mapsched_open_workers(&now.first, &config, 2); }
+static uint32_t hires(void) { return mapsched_hire(&now.first, &now.second); }
+static uint32_t closes_workers(void) { return mapsched_close_workers(&now.first, &now.scheduler); }
+
+/* A turn: where memory runs out it has ended, and the next try has a ticket of its own. */
+static uint32_t turn(struct mapsched_worker *worker, const struct mapsched_call *call) {
+  uint32_t status = mapsched_draw(worker);
+  return status == MAPSCHED_OK ? mapsched_turn(worker, call, &now.reply) : status;
+}
+static uint32_t first_builds(void) { return turn(&now.first, &build); }
+static uint32_t second_admits(void) { return turn(&now.second, &voice); }
+static uint32_t second_leaves(void) { return mapsched_leave(&now.second); }
+
+/* The scheduler of one thread. */
+static void alone(void) {
+  make(opens);
+  make(admits_voice);
+  make(admits_data);
+  make(builds);
+  make(decodes);
+  make(encodes);
+  if (now.length != now.reply.length || memcmp(now.payload, now.reply.payload, now.length) != 0) end("other bytes", 3);
+  make(writes);
+  make(audits);
+  if (now.place != 3 || mapsched_close(&now.scheduler) != MAPSCHED_OK) end("not three entries", 3);
+}
+
+/* Two workers. */
+static void workers(void) {
+  make(opens_workers);
+  make(hires);
+  make(first_builds);
+  make(second_admits);
+  make(second_leaves);
+  make(closes_workers);
+  make(writes);
+  make(audits);
+  if (now.place != 2 || mapsched_close(&now.scheduler) != MAPSCHED_OK) end("not two entries", 3);
+}
+
+int main(void) {
+  setvbuf(stdout, NULL, _IONBF, 0);
+  alone();
+  workers();
+  end("whole", 0);
+}
