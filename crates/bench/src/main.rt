@@ -1,6 +1,7 @@
 //! `bench`: what the parts of the scheduler cost on this machine. With no word it prints nothing.
 #![tactic(auto)]
 
+mod calls;
 mod drawing;
 mod frames;
 mod held;
@@ -42,13 +43,14 @@ fn main(rt: HostRuntime) -> ExitCode {
         return ExitCode::SUCCESS;
     };
     match word.as_str() {
+        "calls" => status_of(table::print_script(&rt, rt.alloc())),
         "lock" => status_of(table::print_lock(&rt, rt.alloc())),
         "storm" => status_of(table::print_storm(&rt, rt.alloc())),
         "readers" => status_of(table::print_readers(&rt, rt.alloc())),
         "frames" => status_of(table::print_frames(&rt, rt.alloc())),
         "longest" => status_of(table::print_longest(&rt, rt.alloc())),
         _ => {
-            let _ = rt.eprintln("usage: bench [lock|frames|longest|readers|storm]");
+            let _ = rt.eprintln("usage: bench [calls|frames|lock|longest|readers|storm]");
             ExitCode::from(2)
         }
     }

@@ -1,5 +1,6 @@
 //! The tables of figures.
 
+use crate::calls::{self, time_script};
 use crate::frames::{time_admission, time_build};
 use crate::held::time_held;
 use crate::locked::time_lock;
@@ -167,6 +168,21 @@ pub fn print_longest<R: Clock + CpuClock + Print>(rt: &R, alloc: Global) -> Opti
     let (by_clock, by_processor) = time_calls(rt, alloc)?;
     print_calls(rt, &by_clock)?;
     print_calls(rt, &by_processor)
+}
+
+/// Prints what a hundred thousand mixed calls on one scheduler took, and what a program in C can compare.
+pub fn print_script<R: Clock + CpuClock + Print>(rt: &R, alloc: Global) -> Option<()> {
+    let mut runs = [Took { wall: 0, used: 0 }; RUNS];
+    for i in 0..RUNS {
+        let (took, _) = time_script(rt, alloc)?;
+        runs[i] = took;
+    }
+    let (_, answers) = time_script(rt, alloc)?;
+    let nanos = middle_of(runs).used / calls::CALLS as u64;
+    shown(println!(rt;
+        "{nanos} nanoseconds each, {} refused, {} bytes",
+        answers.refused, answers.bytes
+    ))
 }
 
 // Calls per second.
