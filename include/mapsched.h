@@ -169,6 +169,8 @@ uint32_t mapsched_close(struct mapsched_scheduler *scheduler);
 /*
  * Threads: workers at one scheduler, each with a seat, which take turns in the order of their tickets. A worker may go
  * to another thread, and is used by one at a time: `= {0}` in C and `{}` in C++. Its members are the library's.
+ * There are no readers of the newest MAP: a build that publishes may wait for one, and no function here waits. A
+ * program hands on the payload of a build's reply.
  */
 struct mapsched_worker {
   uint32_t full;
