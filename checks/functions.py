@@ -15,7 +15,7 @@ CYCLE = re.compile(r"^ *#\[cycle\((\w+)\)\]", re.M)
 # An impl whose type, as the prover names it, is one word: what it is given is a lifetime or a parameter.
 OF_TYPE = re.compile(r"impl(?:<.*?>)? (?:.* for )?(\w+)(?:<(?:(?:'\w+|[A-Z])(?:, )?)+>)? \{")
 CONST = re.compile(r"(?:pub(?:\([a-z]+\))? )?const (\w+):")
-# The proof of a function, or of a cycle of calls, that antt takes on trust, which no verdict does: it has a hole.
+# The proof of a function that antt takes on trust, which no verdict does: it has a hole.
 STAND_IN = """use Rattle.{crate}.proofs.{stated}.{{statement}}
 
 pub {name}_spec : {{M : Type 1}} → statement M
@@ -51,7 +51,10 @@ def name_of(file, text, function):
         return f"{module}::{function[2]}" if module else function[2]
     # A method goes by its type, wherever the impl stands, with the trait and the type that the trait has behind it.
     impls = [it for it in IMPL.finditer(text) if it.start() < function.start()]
-    return f"{impls[-1][3]}{impls[-1][1] or ''}{impls[-1][2] or ''}::{function[2]}" if impls else None
+    if not impls:
+        return None
+    trait = "".join(it for it in impls[-1].group(1, 2) if it and it != "Drop")
+    return f"{impls[-1][3]}{trait}::{function[2]}"
 
 
 def module_of(file):
@@ -97,32 +100,61 @@ def cycles_of(folder, pairs):
     return found
 
 
-def proofs_of(folder):
-    """The proofs of a crate that can be stood in for, by the prover's names of functions and cycles of calls, and the
-    functions that each is of. Those of a trait's own methods are left out."""
+def proved_in(folder):
+    """The functions of a crate whose proofs can be stood in for: the file, where it has the function, the prover's name
+    of it, the end of that name, and its cycle of calls. Those of a trait's own methods are left out."""
     texts = files_of(folder)
     modules = {it[1]: module_of(file) for file, text in texts.items() for it in TYPE.finditer(text)}
-    found = {}
     for file, text in texts.items():
         for it in FUNCTION.finditer(text):
             blocks = [at[0] for at in BLOCK.finditer(text) if at.start() < it.start()]
             of_type = OF_TYPE.match(blocks[-1]) if it[1] and blocks else None
             cycle, name = cycle_of(text, it), name_of(file, text, it)
-            if cycle and not it[1]:
-                found.setdefault(f"{module_of(file)}::+{cycle}", set()).add(name)
-            elif not cycle and (of_type or not it[1]):
-                module = modules.get(of_type[1], module_of(file)) if of_type else ""
-                found[f"{module}::{name}" if module else name] = {name}
-    return found
+            if not it[1]:
+                yield file, it, f"{module_of(file)}::{it[2]}".removeprefix("::"), name, cycle
+            elif of_type and not cycle:
+                yield file, it, f"{modules.get(of_type[1], module_of(file))}::{name}".removeprefix("::"), name, None
 
 
-def stand_in(room, crate, names):
-    """Puts a stand-in in the place of each of these proofs, in the room where the crate is checked."""
-    for name in names:
-        path, last = name.replace("::", "."), name.rpartition("::")[2]
-        folder = f"{room}/proofs/{path.replace('.', '/')}"
-        stated = path if last.startswith("+") else f"{path}.Statement"
-        shutil.rmtree(folder, ignore_errors=True)
-        os.makedirs(folder)
-        with open(f"{folder}/Proof.antt", "w", encoding="utf-8") as it:
-            it.write(STAND_IN.format(crate=crate, stated=stated, name=last))
+def body_of(text, function):
+    """Where the lines of a function's body start and end in a text, or None where it has no lines of its own."""
+    # Only the heads and the ends of a function stand in its own column.
+    for it in re.compile(rf"^{function[1]}[^ \n].*\n", re.M).finditer(text, function.start()):
+        if re.search(r"[;}]\n", it[0]):
+            return None
+        if it[0].endswith("{\n"):
+            return it.end(), re.compile(rf"^{function[1]}}}", re.M).search(text, it.end()).start()
+    return None
+
+
+def stand_in(room, crate, is_kept):
+    """Lets the functions of a crate in a room have no bodies, as far as they are not kept, and puts stand-ins in the
+    place of their proofs. Those of a cycle of calls are kept together. So no body is read but those of the kept."""
+    found = list(proved_in(room))
+    kept = {(file, cycle) for file, _, _, name, cycle in found if cycle and is_kept(name)}
+    texts = files_of(room)
+    for file, function, proof, name, cycle in reversed(found):
+        if is_kept(name) or (file, cycle) in kept:
+            continue
+        span = body_of(texts[file], function)
+        # What a constant is made with keeps its body.
+        if span and "const fn" not in function[0]:
+            texts[file] = f"{texts[file][:span[0]]}{function[1]}    loop {{}}\n{texts[file][span[1]:]}"
+        write_stand_in(room, crate, proof)
+        if cycle:
+            shutil.rmtree(f"{room}/proofs/{module_of(file).replace('::', '/')}/+{cycle}", ignore_errors=True)
+    for file, text in texts.items():
+        names = {cycle for inside, *_, cycle in found if cycle and inside == file and (file, cycle) not in kept}
+        lines = [it for it in text.split("\n") if not any(it.strip() == f"#[cycle({name})]" for name in names)]
+        with open(f"{room}/{file}", "w", encoding="utf-8") as it:
+            it.write("\n".join(lines))
+
+
+def write_stand_in(room, crate, name):
+    """Puts a stand-in in the place of a function's proof, in the room where the crate is checked."""
+    path = name.replace("::", ".")
+    folder = f"{room}/proofs/{path.replace('.', '/')}"
+    shutil.rmtree(folder, ignore_errors=True)
+    os.makedirs(folder)
+    with open(f"{folder}/Proof.antt", "w", encoding="utf-8") as it:
+        it.write(STAND_IN.format(crate=crate, stated=f"{path}.Statement", name=name.rpartition("::")[2]))
