@@ -1,8 +1,8 @@
 -- What a check finds in a text is what the command for such a file answers.
 use Rattle.std.proofs.Common.{◌≡◌, ℕ, List, Option, Some, None, Result, Ok, inl, inr, ap, ◌∙◌, subst}
 use Rattle.std.specs.Prelude.{option_map}
-use Rattle.sched_text.specs.declared.fault.TextFault.{TextFault}
-use Rattle.sched_text.specs.declared.fault.TextFault.TheVariants as texts
+use Rattle.text_stream.specs.declared.fault.TextFault.{TextFault}
+use Rattle.text_stream.specs.declared.fault.TextFault.TheVariants as texts
 use Rattle.sched_text.specs.Outcome.{outcome_of}
 use Rattle.sched_text.specs.StormScript.{storm_outcome}
 use Rattle.sched_text.specs.Recorded.{history_outcome}

@@ -3,10 +3,10 @@
 ghost use Rattle.std.specs.Prelude.{◌≡◌, ◌<◌, ◌≤◌, OnOk, IfErr};
 ghost use Rattle.std.specs.Io.KnownBytes.{Appends, append_known};
 ghost use Rattle.frame_picture.specs.Axis.{tick_step, tick_text, ticks_text};
-ghost use Rattle.sched_text.specs.Watched.{FailsBy};
+ghost use Rattle.text_stream.specs.Watched.{FailsBy};
 
 use crate::text::put_labelled;
-use sched_text::{LineBuffer, Sink, TextFault};
+use text_stream::{Sink, TextBuffer, TextFault};
 
 // How many minislots are from tick to tick, where a frame has so many: eleven ticks at most in one of 1024.
 #[tactic(auto, unfolding(crate::specs::Axis::tick_step))]
@@ -28,7 +28,7 @@ fn tick_step(frame: u32) -> u32
 // A tick down to a depth, and the minislot that it stands for.
 #[tactic(auto, unfolding(crate::specs::Axis::tick_text))]
 fn put_tick<W: Sink>(
-    lines: &mut LineBuffer,
+    lines: &mut TextBuffer,
     writer: &mut W,
     units: u32,
     depth: u64,
@@ -52,7 +52,7 @@ fn put_tick<W: Sink>(
 // The ticks of a frame of so many minislots, down to a depth.
 #[tactic(auto, unfolding(crate::specs::Axis::ticks_text))]
 pub(crate) fn put_ticks<W: Sink>(
-    lines: &mut LineBuffer,
+    lines: &mut TextBuffer,
     writer: &mut W,
     units: u32,
     depth: u64,

@@ -4,14 +4,14 @@ ghost use Rattle.std.specs.Prelude.{◌≡◌, ◌≤◌, OnOk, IfErr};
 ghost use Rattle.std.specs.Io.KnownBytes.{Appends, append_known};
 ghost use Rattle.frame_picture.specs.Head.{style_text, request_patterns, grant_patterns, legend_text, depth_of};
 ghost use Rattle.frame_picture.specs.Head.{size_text, counts_text, head_text};
-ghost use Rattle.sched_text.specs.Watched.{FailsBy};
+ghost use Rattle.text_stream.specs.Watched.{FailsBy};
 
 use crate::text::put_labelled;
-use sched_text::{LineBuffer, Sink, TextFault};
+use text_stream::{Sink, TextBuffer, TextFault};
 
 // How the parts of a picture look.
 #[tactic(auto, unfolding(crate::specs::Head::style_text))]
-fn put_style<W: Sink>(lines: &mut LineBuffer, writer: &mut W) -> Result<(), TextFault>
+fn put_style<W: Sink>(lines: &mut TextBuffer, writer: &mut W) -> Result<(), TextFault>
     ensures ok { OnOk result (Appends (append_known (W.contents writer.old) lines.old)
         (append_known (W.contents writer.new) lines.new) style_text) }
     ensures err { IfErr result (λ e. e ≡ TextFault.Output) }
@@ -41,7 +41,7 @@ fn put_style<W: Sink>(lines: &mut LineBuffer, writer: &mut W) -> Result<(), Text
 
 // The patterns of bars in which modems may ask.
 #[tactic(auto, unfolding(crate::specs::Head::request_patterns))]
-fn put_request_patterns<W: Sink>(lines: &mut LineBuffer, writer: &mut W) -> Result<(), TextFault>
+fn put_request_patterns<W: Sink>(lines: &mut TextBuffer, writer: &mut W) -> Result<(), TextFault>
     ensures ok { OnOk result (Appends (append_known (W.contents writer.old) lines.old)
         (append_known (W.contents writer.new) lines.new) request_patterns) }
     ensures err { IfErr result (λ e. e ≡ TextFault.Output) }
@@ -67,7 +67,7 @@ fn put_request_patterns<W: Sink>(lines: &mut LineBuffer, writer: &mut W) -> Resu
 
 // The patterns of the other bars.
 #[tactic(auto, unfolding(crate::specs::Head::grant_patterns))]
-fn put_grant_patterns<W: Sink>(lines: &mut LineBuffer, writer: &mut W) -> Result<(), TextFault>
+fn put_grant_patterns<W: Sink>(lines: &mut TextBuffer, writer: &mut W) -> Result<(), TextFault>
     ensures ok { OnOk result (Appends (append_known (W.contents writer.old) lines.old)
         (append_known (W.contents writer.new) lines.new) grant_patterns) }
     ensures err { IfErr result (λ e. e ≡ TextFault.Output) }
@@ -101,7 +101,7 @@ fn put_grant_patterns<W: Sink>(lines: &mut LineBuffer, writer: &mut W) -> Result
 
 // What each look is for.
 #[tactic(auto, unfolding(crate::specs::Head::legend_text))]
-fn put_legend<W: Sink>(lines: &mut LineBuffer, writer: &mut W) -> Result<(), TextFault>
+fn put_legend<W: Sink>(lines: &mut TextBuffer, writer: &mut W) -> Result<(), TextFault>
     ensures ok { OnOk result (Appends (append_known (W.contents writer.old) lines.old)
         (append_known (W.contents writer.new) lines.new) legend_text) }
     ensures err { IfErr result (λ e. e ≡ TextFault.Output) }
@@ -151,7 +151,7 @@ pub(crate) fn depth_of(rows: u64) -> u64
 
 // How large a picture of so many rows is.
 #[tactic(auto, unfolding(crate::specs::Head::size_text))]
-fn put_size<W: Sink>(lines: &mut LineBuffer, writer: &mut W, rows: u64) -> Result<(), TextFault>
+fn put_size<W: Sink>(lines: &mut TextBuffer, writer: &mut W, rows: u64) -> Result<(), TextFault>
     requires { rows ≤ 16777216 }
     ensures ok { OnOk result (Appends (append_known (W.contents writer.old) lines.old)
         (append_known (W.contents writer.new) lines.new) (size_text rows)) }
@@ -171,7 +171,7 @@ fn put_size<W: Sink>(lines: &mut LineBuffer, writer: &mut W, rows: u64) -> Resul
 // How many rows there are, and how many minislots a frame has.
 #[tactic(auto, unfolding(crate::specs::Head::counts_text))]
 fn put_counts<W: Sink>(
-    lines: &mut LineBuffer,
+    lines: &mut TextBuffer,
     writer: &mut W,
     rows: u64,
     frame: u32,
@@ -194,7 +194,7 @@ fn put_counts<W: Sink>(
 // The head of a picture of so many rows, of frames of so many minislots.
 #[tactic(auto, unfolding(crate::specs::Head::head_text))]
 pub(crate) fn put_head<W: Sink>(
-    lines: &mut LineBuffer,
+    lines: &mut TextBuffer,
     writer: &mut W,
     rows: u64,
     frame: u32,

@@ -6,14 +6,14 @@ ghost use Rattle.std.specs.Io.KnownBytes.{Appends, append_known};
 ghost use Rattle.sched_history.specs.Facts.{maps_of};
 ghost use Rattle.sched_history.specs.Machine.{IsEncodable};
 ghost use Rattle.frame_picture.specs.Picture.{rows_text, picture_text};
-ghost use Rattle.sched_text.specs.Watched.{FailsBy};
+ghost use Rattle.text_stream.specs.Watched.{FailsBy};
 
 use crate::axis::put_ticks;
 use crate::bar::slot_units;
 use crate::head::{depth_of, put_head};
 use crate::row::put_row;
 use sched_history::{Entry, Reply};
-use sched_text::{LineBuffer, Sink, TextFault};
+use text_stream::{Sink, TextBuffer, TextFault};
 
 // How many MAPs an entry has.
 fn count_map(entry: &Entry) -> u64
@@ -39,7 +39,7 @@ fn count_maps(entries: &[Entry]) -> u64
 
 // The row of an entry's MAP, if it has one.
 fn put_entry<W: Sink>(
-    lines: &mut LineBuffer,
+    lines: &mut TextBuffer,
     writer: &mut W,
     units: u32,
     row: u64,
@@ -61,7 +61,7 @@ fn put_entry<W: Sink>(
 
 // The rows of a history's MAPs.
 fn put_rows<W: Sink>(
-    lines: &mut LineBuffer,
+    lines: &mut TextBuffer,
     writer: &mut W,
     units: u32,
     entries: &[Entry],
@@ -85,7 +85,7 @@ fn put_rows<W: Sink>(
 // All of a picture.
 #[tactic(auto, unfolding(crate::specs::Picture::picture_text))]
 fn put_all<W: Sink>(
-    lines: &mut LineBuffer,
+    lines: &mut TextBuffer,
     writer: &mut W,
     frame: u32,
     entries: &[Entry],
@@ -121,7 +121,7 @@ pub fn put_picture<W: Sink>(writer: &mut W, frame: u32, entries: &[Entry]) -> Re
     ensures err { IfErr result (λ e. e ≡ TextFault.Output) }
     ensures failed { FailsBy TextFault.Output result (W.has_failed writer.old) (W.has_failed writer.new) }
 {
-    let mut lines = LineBuffer::new();
+    let mut lines = TextBuffer::new();
     put_all(&mut lines, writer, frame, entries)?;
     lines.write_out(writer)
 }

@@ -6,7 +6,7 @@ ghost use Rattle.map_codec.specs.Element.{nulls};
 ghost use Rattle.map_codec.specs.WireMap.{IsWellFormed};
 ghost use Rattle.frame_picture.specs.Bars.{box_text, title_text, name_text, bar_text, bars_text};
 ghost use Rattle.frame_picture.specs.Picture.{row_text};
-ghost use Rattle.sched_text.specs.Watched.{FailsBy};
+ghost use Rattle.text_stream.specs.Watched.{FailsBy};
 
 use crate::bar::{Bar, bar_at};
 use crate::text::put_labelled;
@@ -14,11 +14,11 @@ use crate::usage::{is_named, look_of, name_width};
 use map_build::FrameMap;
 use map_codec::Element;
 use map_drawing::front_len;
-use sched_text::{LineBuffer, Sink, TextFault};
+use text_stream::{Sink, TextBuffer, TextFault};
 
 // The box of a bar.
 #[tactic(auto, unfolding(crate::specs::Bars::box_text))]
-fn put_box<W: Sink>(lines: &mut LineBuffer, writer: &mut W, bar: Bar) -> Result<(), TextFault>
+fn put_box<W: Sink>(lines: &mut TextBuffer, writer: &mut W, bar: Bar) -> Result<(), TextFault>
     ensures ok { OnOk result (Appends (append_known (W.contents writer.old) lines.old)
         (append_known (W.contents writer.new) lines.new) (box_text bar)) }
     ensures err { IfErr result (λ e. e ≡ TextFault.Output) }
@@ -33,7 +33,7 @@ fn put_box<W: Sink>(lines: &mut LineBuffer, writer: &mut W, bar: Bar) -> Result<
 
 // What a bar says of its allocation.
 #[tactic(auto, unfolding(crate::specs::Bars::title_text))]
-fn put_title<W: Sink>(lines: &mut LineBuffer, writer: &mut W, bar: Bar) -> Result<(), TextFault>
+fn put_title<W: Sink>(lines: &mut TextBuffer, writer: &mut W, bar: Bar) -> Result<(), TextFault>
     ensures ok { OnOk result (Appends (append_known (W.contents writer.old) lines.old)
         (append_known (W.contents writer.new) lines.new) (title_text bar)) }
     ensures err { IfErr result (λ e. e ≡ TextFault.Output) }
@@ -51,7 +51,7 @@ fn put_title<W: Sink>(lines: &mut LineBuffer, writer: &mut W, bar: Bar) -> Resul
 
 // The SID on a bar that is wide enough.
 #[tactic(auto, unfolding(crate::specs::Bars::name_text))]
-fn put_name<W: Sink>(lines: &mut LineBuffer, writer: &mut W, bar: Bar) -> Result<(), TextFault>
+fn put_name<W: Sink>(lines: &mut TextBuffer, writer: &mut W, bar: Bar) -> Result<(), TextFault>
     ensures ok { OnOk result (Appends (append_known (W.contents writer.old) lines.old)
         (append_known (W.contents writer.new) lines.new) (name_text bar)) }
     ensures err { IfErr result (λ e. e ≡ TextFault.Output) }
@@ -73,7 +73,7 @@ fn put_name<W: Sink>(lines: &mut LineBuffer, writer: &mut W, bar: Bar) -> Result
 
 // A bar.
 #[tactic(auto, unfolding(crate::specs::Bars::bar_text))]
-fn put_bar<W: Sink>(lines: &mut LineBuffer, writer: &mut W, bar: Bar) -> Result<(), TextFault>
+fn put_bar<W: Sink>(lines: &mut TextBuffer, writer: &mut W, bar: Bar) -> Result<(), TextFault>
     ensures ok { OnOk result (Appends (append_known (W.contents writer.old) lines.old)
         (append_known (W.contents writer.new) lines.new) (bar_text bar)) }
     ensures err { IfErr result (λ e. e ≡ TextFault.Output) }
@@ -86,7 +86,7 @@ fn put_bar<W: Sink>(lines: &mut LineBuffer, writer: &mut W, bar: Bar) -> Result<
 
 // The bars of a MAP with these elements and byte counts.
 fn put_bars<W: Sink>(
-    lines: &mut LineBuffer,
+    lines: &mut TextBuffer,
     writer: &mut W,
     units: u32,
     elements: &[Element],
@@ -108,7 +108,7 @@ fn put_bars<W: Sink>(
 // The row of a MAP: the minislot at which its frame starts, and its bars.
 #[tactic(auto, unfolding(crate::specs::Picture::row_text))]
 pub(crate) fn put_row<W: Sink>(
-    lines: &mut LineBuffer,
+    lines: &mut TextBuffer,
     writer: &mut W,
     units: u32,
     row: u64,

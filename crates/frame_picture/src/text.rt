@@ -3,15 +3,15 @@
 ghost use Rattle.std.specs.Prelude.{◌≡◌, OnOk, IfErr};
 ghost use Rattle.std.specs.Io.KnownBytes.{Appends, append_known};
 ghost use Rattle.frame_picture.specs.Bars.{labelled};
-ghost use Rattle.sched_text.specs.Watched.{FailsBy};
+ghost use Rattle.text_stream.specs.Watched.{FailsBy};
 
 use itoa::Buffer;
-use sched_text::{LineBuffer, Sink, TextFault};
+use text_stream::{Sink, TextBuffer, TextFault};
 
 // A label, and a number in decimal.
 #[tactic(auto, unfolding(crate::specs::Bars::labelled))]
 pub(crate) fn put_labelled<W: Sink>(
-    lines: &mut LineBuffer,
+    lines: &mut TextBuffer,
     writer: &mut W,
     label: &[u8],
     number: u64,

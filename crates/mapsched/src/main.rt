@@ -9,13 +9,13 @@ use sched_check::run_check;
 use sched_commands::{decode_text, draw_script, run_audit, run_explained, run_script, run_storm};
 use sched_fault::RunFault;
 use sched_storm::Open;
-use sched_text::Watched;
 use std::alloc::Global;
 use std::process::ExitCode;
 use std::rt::Env;
 use std::sync::Wait;
 use std::thread::Threads;
 use std::{env, io};
+use text_stream::Watched;
 
 // The words of the command line.
 fn words_of(rt: &(impl Env + AllocGlobal)) -> io::Result<Vec<String>> {

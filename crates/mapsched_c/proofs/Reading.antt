@@ -3,10 +3,10 @@ use Rattle.std.proofs.Common.{◌≡◌, ℕ, ◌<◌, refl, sym, subst, ◌∙�
 use Rattle.std.specs.Prelude.{Option, None, Some, Result, Ok, Err}
 use Rattle.std.proofs.lemmas.Bool.{lt-ltb}
 use Rattle.std.proofs.lemmas.List.{append-nil, length-append}
-use Rattle.sched_text.specs.declared.fault.TextFault.{TextFault}
-use Rattle.sched_text.specs.declared.fault.TextFault.TheVariants.{TooLong}
-use Rattle.sched_text.specs.declared.input.TheConstants.{MAX_INPUT}
-use Rattle.sched_text.specs.Input.{ReadsAll, ReadsTooMany}
+use Rattle.text_stream.specs.declared.fault.TextFault.{TextFault}
+use Rattle.text_stream.specs.declared.fault.TextFault.TheVariants.{TooLong}
+use Rattle.text_stream.specs.declared.input.TheConstants.{MAX_INPUT}
+use Rattle.text_stream.specs.Input.{ReadsAll, ReadsTooMany}
 use Rattle.sched_text.specs.Recorded.{History, GivesHistory, history_outcome}
 use Rattle.mapsched_c.specs.declared.status.TheConstants.{TOO_LONG}
 use Rattle.mapsched_c.specs.Text.{Judges, TellsFault, AuditsOutcome, Audits}

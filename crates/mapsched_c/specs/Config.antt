@@ -3,7 +3,7 @@ use Rattle.std.specs.Prelude.{◌≡◌, ℕ, ◌+◌, ◌⊎◌, [], Option, No
 use Rattle.minislots.specs.declared.config.Config.{Config}
 use Rattle.minislots.specs.Config.{first_wrong}
 use Rattle.sched_history.specs.Machine.{Machine}
-use Rattle.sched_text.specs.Fault.{field_number}
+use Rattle.text_stream.specs.Fault.{field_number}
 use Rattle.mapsched_c.specs.declared.config.PlainConfig.{PlainConfig}
 use Rattle.mapsched_c.specs.declared.status.TheConstants.{OK, FULL, OUT_OF_MEMORY, BAD_CONFIG}
 

@@ -5,10 +5,10 @@ use Rattle.sched_history.specs.declared.reply.Entry.{Entry}
 use Rattle.sched_history.specs.History.{IsLegal}
 use Rattle.sched_history.specs.Machine.{Machine}
 use Rattle.sched_history.specs.Audit.{IsFirstIllegal}
-use Rattle.sched_text.specs.declared.fault.TextFault.{TextFault}
-use Rattle.sched_text.specs.declared.fault.TextFault.TheVariants.{Input, TooLong, NotJson, Shape, Config, Memory}
-use Rattle.sched_text.specs.declared.fault.TextFault.TheVariants.{Output}
-use Rattle.sched_text.specs.Fault.{field_number}
+use Rattle.text_stream.specs.declared.fault.TextFault.{TextFault}
+use Rattle.text_stream.specs.declared.fault.TextFault.TheVariants.{Input, TooLong, NotJson, Shape, Config, Memory}
+use Rattle.text_stream.specs.declared.fault.TextFault.TheVariants.{Output}
+use Rattle.text_stream.specs.Fault.{field_number}
 use Rattle.sched_text.specs.HistoryText.{history_text}
 use Rattle.sched_text.specs.Recorded.{History, history_outcome}
 use Rattle.mapsched_c.specs.declared.status.TheConstants.{OK, EMPTY, OUT_OF_MEMORY, NO_ROOM, ILLEGAL, TOO_LONG}

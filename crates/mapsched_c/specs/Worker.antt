@@ -8,7 +8,7 @@ use Rattle.sched_history.specs.declared.reply.Reply.{Reply}
 use Rattle.sched_history.specs.declared.reply.Unrecorded.{Unrecorded}
 use Rattle.sched_history.specs.declared.reply.Unrecorded.TheVariants.{HistoryFull, Memory}
 use Rattle.sched_history.specs.Machine.{Machine}
-use Rattle.sched_text.specs.Fault.{field_number}
+use Rattle.text_stream.specs.Fault.{field_number}
 use Rattle.ticket_core.specs.declared.TheConstants.{MAX_SEATS}
 use Rattle.worker_sched.specs.declared.worker.CloseFault.{CloseFault}
 use Rattle.worker_sched.specs.declared.worker.CloseFault.TheVariants.{HasTicket, Others, NotServed}

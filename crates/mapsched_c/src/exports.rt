@@ -13,8 +13,8 @@ use crate::entry::{PlainEntry, PlainStamp, put_entry};
 use crate::handle::Handle;
 use crate::reply::PlainReply;
 use crate::status;
-use sched_text::field_number;
 use std::alloc::Global;
+use text_stream::field_number;
 use worker_sched::Channel;
 
 /// Whether a configuration is lawful: `OK`, or `BAD_CONFIG` and the number of its first wrong field.

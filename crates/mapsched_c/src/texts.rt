@@ -9,8 +9,9 @@ use crate::handle::Handle;
 use crate::status;
 use minislots::Checked;
 use sched_history::{AuditFault, Entry, audit};
-use sched_text::{TextFault, field_number, read_history};
+use sched_text::read_history;
 use std::alloc::Global;
+use text_stream::{TextFault, field_number};
 
 // Writes a text at the front of the room, if it fits, and tells its length.
 pub(crate) fn put_text(text: &[u8], room: &mut [u8], length: &mut usize) -> u32

@@ -13,8 +13,8 @@ use crate::reply::PlainReply;
 use crate::status;
 use crate::worker_handle::WorkerHandle;
 use sched_history::{Call, Unrecorded};
-use sched_text::field_number;
 use std::alloc::Global;
+use text_stream::field_number;
 use ticket_lock::LockFault;
 use worker_sched::{CloseFault, HireFault, Turn, Worker};
 

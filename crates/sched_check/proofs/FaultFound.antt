@@ -1,8 +1,8 @@
 -- What is found is the fault that a text has.
 use Rattle.std.proofs.Common.{◌≡◌, Bool, true, false, Option, None, Some, Result, Ok, Err, inl, inr, sym, ap, ◌∙◌}
 use Rattle.std.specs.Prelude.{◌⊎◌, IfOk, IfErr}
-use Rattle.sched_text.specs.declared.fault.TextFault.{TextFault}
-use Rattle.sched_text.specs.declared.fault.TextFault.TheVariants.{Input, Memory}
+use Rattle.text_stream.specs.declared.fault.TextFault.{TextFault}
+use Rattle.text_stream.specs.declared.fault.TextFault.TheVariants.{Input, Memory}
 use Rattle.sched_text.proofs.Told.{IsTold}
 use Rattle.sched_check.specs.declared.finding.Finding.{Finding}
 use Rattle.sched_check.specs.declared.finding.Finding.TheVariants.{Fault}

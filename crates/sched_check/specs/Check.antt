@@ -1,7 +1,7 @@
 -- What is read and written where a file is checked.
 use Rattle.std.specs.Prelude.{◌≡◌, ℕ, List, ◌++◌, Option, option_map}
 use Rattle.std.specs.Io.KnownBytes.{Appends}
-use Rattle.sched_text.specs.Input.{ReadsAll, ReadsTooMany}
+use Rattle.text_stream.specs.Input.{ReadsAll, ReadsTooMany}
 use Rattle.sched_fault.specs.Fault.{run_fault_of}
 use Rattle.sched_fault.specs.declared.fault.RunFault.{RunFault}
 use Rattle.sched_fault.specs.declared.fault.RunFault.TheVariants.{Input, TooLong, NotJson, Shape, Config, Memory}

@@ -1,6 +1,6 @@
 -- The fault that is found in a file.
 use Rattle.std.specs.Prelude.{Option, Some, None}
-use Rattle.sched_text.specs.declared.fault.TextFault.{TextFault}
+use Rattle.text_stream.specs.declared.fault.TextFault.{TextFault}
 use Rattle.sched_check.specs.declared.finding.Finding.{Finding}
 use Rattle.sched_check.specs.declared.finding.Finding.TheVariants.{Script, Storm, History, Fault}
 

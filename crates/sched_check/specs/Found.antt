@@ -1,9 +1,9 @@
 -- The fault that a file has to the command that reads files of its kind.
 use Rattle.std.specs.Prelude.{ℕ, List, [], ◌∷◌, ◌++◌, codes, Option, Some, None, Result, Ok, Err}
-use Rattle.sched_text.specs.declared.fault.TextFault.{TextFault}
-use Rattle.sched_text.specs.declared.fault.TextFault.TheVariants.{Input, TooLong, NotJson, Shape, Config, Memory}
-use Rattle.sched_text.specs.declared.fault.TextFault.TheVariants.{Output}
-use Rattle.sched_text.specs.Fault.{field_number}
+use Rattle.text_stream.specs.declared.fault.TextFault.{TextFault}
+use Rattle.text_stream.specs.declared.fault.TextFault.TheVariants.{Input, TooLong, NotJson, Shape, Config, Memory}
+use Rattle.text_stream.specs.declared.fault.TextFault.TheVariants.{Output}
+use Rattle.text_stream.specs.Fault.{field_number}
 use Rattle.sched_text.specs.Line.{number_text}
 use Rattle.sched_text.specs.Outcome.{outcome_of}
 use Rattle.sched_text.specs.StormScript.{storm_outcome}

@@ -1,8 +1,8 @@
 -- The kind of file that a text seems to be, by its members.
 use Rattle.std.specs.Prelude.{ℕ, if◌then◌else◌, List, codes, Result, Ok, Err}
 use Rattle.serde_json.specs.Data.{Data}
-use Rattle.sched_text.specs.declared.fault.TextFault.{TextFault}
-use Rattle.sched_text.specs.Input.{value_of}
+use Rattle.text_stream.specs.declared.fault.TextFault.{TextFault}
+use Rattle.text_stream.specs.Input.{value_of}
 use Rattle.sched_text.specs.Replies.{has}
 use Rattle.sched_check.specs.declared.kind.Kind.{Kind}
 use Rattle.sched_check.specs.declared.kind.Kind.TheVariants.{Script, Storm, History}

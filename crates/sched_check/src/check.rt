@@ -3,7 +3,7 @@
 ghost use Rattle.std.specs.Prelude.{◌≡◌, ◌≢◌, ◌++◌, OnOk, IfOk, IfErr, option_map};
 ghost use Rattle.std.specs.Io.KnownBytes.{Appends};
 ghost use Rattle.sched_text.specs.Line.{number_text};
-ghost use Rattle.sched_text.specs.Watched.{FailsBy};
+ghost use Rattle.text_stream.specs.Watched.{FailsBy};
 ghost use Rattle.sched_fault.specs.Fault.{run_fault_of};
 ghost use Rattle.sched_check.specs.Found.{fault_text, praise, verdict_text, verdict_line};
 ghost use Rattle.sched_check.specs.Check.{Checks, StopsCheck};
@@ -11,8 +11,9 @@ ghost use Rattle.sched_check.specs.Check.{Checks, StopsCheck};
 use crate::kind::Kind;
 use crate::report::report_on;
 use sched_fault::RunFault;
-use sched_text::{Sink, Source, TextFault, field_number, put, put_number, read_all};
+use sched_text::put_number;
 use std::alloc::Global;
+use text_stream::{Sink, Source, TextFault, field_number, put, read_all};
 
 // What is said of a file without a fault.
 fn praise(kind: Kind) -> &'static [u8]

@@ -7,8 +7,9 @@ ghost use Rattle.sched_check.specs.Finding.{fault_found};
 use crate::kind::Kind;
 use minislots::Checked;
 use sched_history::{Call, Entry};
-use sched_text::{TextFault, read_history, read_script, read_storm};
+use sched_text::{read_history, read_script, read_storm};
 use std::alloc::Global;
+use text_stream::TextFault;
 
 /// What is found in a file.
 #[derive(Drop)]

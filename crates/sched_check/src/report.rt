@@ -8,9 +8,9 @@ ghost use Rattle.sched_check.specs.Found.{fault_of};
 use crate::finding::{Finding, find_as};
 use crate::kind::{Kind, kind_in};
 use crate::words::{words_on, words_on_text};
-use sched_text::{TextFault, parse};
 use serde_json::Value;
 use std::alloc::{AllocError, Global};
+use text_stream::{TextFault, parse};
 
 /// What is said of a file.
 #[derive(Drop)]

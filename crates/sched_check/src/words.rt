@@ -19,12 +19,12 @@ use json_text::tell_text;
 use minislots::Checked;
 use place::Place;
 use sched_history::Call;
-use sched_text::TextFault;
 use serde_json::Value;
 use shape::{tell_call, tell_document, tell_entry};
 use std::alloc::{AllocError, Global};
 use std::fmt::Write;
 use summary::{Counts, tell_frame};
+use text_stream::TextFault;
 use unread::Unread;
 
 // What is wrong with the call or the entry of a number, or with the document where that is 0.

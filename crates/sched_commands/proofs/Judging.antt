@@ -3,10 +3,10 @@ use Rattle.std.proofs.Common.{◌≡◌, ℕ, ◌≤◌, ◌<◌, ◌++◌, List
 use Rattle.std.proofs.Common.{Result, ap, ◌∙◌, subst, arith}
 use Rattle.std.proofs.lemmas.List.{length-append}
 use Rattle.sched_history.specs.History.{IsLegal}
-use Rattle.sched_text.specs.declared.fault.TextFault.{TextFault}
-use Rattle.sched_text.specs.declared.input.TheConstants.{MAX_INPUT}
+use Rattle.text_stream.specs.declared.fault.TextFault.{TextFault}
+use Rattle.text_stream.specs.declared.input.TheConstants.{MAX_INPUT}
 use Rattle.sched_text.specs.HistoryText.{history_text}
-use Rattle.sched_text.specs.Input.{ReadsTooMany}
+use Rattle.text_stream.specs.Input.{ReadsTooMany}
 use Rattle.sched_text.specs.Recorded.{History, history_outcome, GivesHistory}
 use Rattle.sched_text.proofs.Told.{all_bytes}
 use Rattle.sched_text.proofs.ReadAgain.{history_outcome-text}

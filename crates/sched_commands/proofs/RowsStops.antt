@@ -5,8 +5,8 @@ use Rattle.map_codec.specs.declared.fault.DecodeFault.TheVariants as decoding
 use Rattle.map_codec.specs.WireMap.{IsPayload}
 use Rattle.map_codec.specs.DecodeFault.{IsFaultOf}
 use Rattle.map_codec.proofs.Payload.{exact}
-use Rattle.sched_text.specs.declared.fault.TextFault.{TextFault}
-use Rattle.sched_text.specs.declared.fault.TextFault.TheVariants as texts
+use Rattle.text_stream.specs.declared.fault.TextFault.{TextFault}
+use Rattle.text_stream.specs.declared.fault.TextFault.TheVariants as texts
 use Rattle.sched_text.specs.Script.{Scenario}
 use Rattle.sched_text.specs.Outcome.{outcome_of}
 use Rattle.sched_text.specs.StormScript.{Storm, storm_outcome}

@@ -17,7 +17,7 @@ use Rattle.sched_text.specs.Line.{Answer}
 use Rattle.sched_commands.specs.Answer.{MayGet, recorded, recorded_entries, MakesCall, MakesCalls}
 use Rattle.sched_text.specs.Line.{line_of}
 use Rattle.sched_text.specs.Meaning.{explained_line}
-use Rattle.sched_text.proofs.Written.{Appends-out}
+use Rattle.text_stream.proofs.Written.{Appends-out}
 use Rattle.sched_text.specs.HistoryText.{history_text}
 use Rattle.sched_commands.specs.Run.{HistoryFits, AnswersEach}
 use Rattle.sched_commands.specs.Explained.{ExplainsEach}

@@ -8,11 +8,11 @@ use Rattle.sched_history.specs.declared.call.Call.{Call}
 use Rattle.sched_history.specs.declared.reply.Entry.{Entry}
 use Rattle.sched_history.specs.History.{IsLegal}
 use Rattle.sched_text.specs.Script.{Scenario}
-use Rattle.sched_text.specs.declared.fault.TextFault.TheVariants as texts
+use Rattle.text_stream.specs.declared.fault.TextFault.TheVariants as texts
 use Rattle.sched_fault.specs.declared.fault.RunFault.{RunFault}
 use Rattle.sched_fault.specs.declared.fault.RunFault.TheVariants.{Input, TooLong, NotJson, Shape, Config, Memory}
 use Rattle.sched_fault.specs.declared.fault.RunFault.TheVariants.{Output, Threads}
-use Rattle.sched_text.specs.Input.{ReadsTooMany}
+use Rattle.text_stream.specs.Input.{ReadsTooMany}
 use Rattle.sched_text.specs.Outcome.{StandsFor, HasFault}
 use Rattle.sched_text.specs.Line.{Answer}
 use Rattle.sched_commands.specs.Answer.{MayGetEach, recorded_entries}

@@ -1,7 +1,7 @@
 -- What a storm reads and writes.
 use Rattle.std.specs.Prelude.{◌≡◌, ◌↔◌, ℕ, Bool, true, List, length, Option, None, Ok}
 use Rattle.std.specs.Io.KnownBytes.{Appends}
-use Rattle.sched_text.specs.declared.fault.TextFault.TheVariants as texts
+use Rattle.text_stream.specs.declared.fault.TextFault.TheVariants as texts
 use Rattle.sched_fault.specs.declared.fault.RunFault.{RunFault}
 use Rattle.sched_fault.specs.declared.fault.RunFault.TheVariants.{Input, TooLong, NotJson, Shape, Config, Memory}
 use Rattle.sched_fault.specs.declared.fault.RunFault.TheVariants.{Output, Threads}

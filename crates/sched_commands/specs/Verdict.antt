@@ -5,7 +5,7 @@ use Rattle.minislots.specs.declared.config.Config.{Config as Configuration}
 use Rattle.sched_history.specs.declared.reply.Entry.{Entry}
 use Rattle.sched_history.specs.History.{IsLegal}
 use Rattle.sched_history.specs.Audit.{IsFirstIllegal}
-use Rattle.sched_text.specs.declared.fault.TextFault.TheVariants as texts
+use Rattle.text_stream.specs.declared.fault.TextFault.TheVariants as texts
 use Rattle.sched_text.specs.Recorded.{History, GivesHistory, StopsHistory}
 use Rattle.sched_commands.specs.declared.audit.Verdict.{Verdict}
 use Rattle.sched_commands.specs.declared.audit.Verdict.TheVariants.{Legal, Illegal}

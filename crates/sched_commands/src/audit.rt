@@ -3,15 +3,16 @@
 ghost use Rattle.std.specs.Prelude.{◌≡◌, ◌≢◌, ◌≤◌, length, IfOk, OnOk, IfErr};
 ghost use Rattle.std.specs.Io.KnownBytes.{Appends};
 ghost use Rattle.sched_history.specs.declared.reply.TheConstants.{MAX_ENTRIES};
-ghost use Rattle.sched_text.specs.Watched.{FailsBy};
+ghost use Rattle.text_stream.specs.Watched.{FailsBy};
 ghost use Rattle.sched_commands.specs.Verdict.{IsVerdict, is_legal, verdict_line, Audited, StopsAudit};
 
 use crate::line::put_named;
 use minislots::Checked;
 use sched_fault::RunFault;
 use sched_history::{AuditFault, Entry, audit};
-use sched_text::{Sink, Source, TextFault, read_history};
+use sched_text::read_history;
 use std::alloc::Global;
+use text_stream::{Sink, Source, TextFault};
 
 /// What an audit says of a history.
 #[derive(Clone, Copy)]

@@ -3,15 +3,16 @@
 ghost use Rattle.std.specs.Prelude.{◌≡◌, ◌≢◌, ◌⊎◌, [], OnOk, IfErr};
 ghost use Rattle.sched_commands.specs.Run.{Stops};
 ghost use Rattle.sched_commands.specs.Drawing.{lacks_memory, MakesWhole, Draws, Drawn};
-ghost use Rattle.sched_text.specs.Watched.{FailsBy};
+ghost use Rattle.text_stream.specs.Watched.{FailsBy};
 
 use crate::run::make_call;
 use frame_picture::put_picture;
 use minislots::Checked;
 use sched_fault::RunFault;
 use sched_history::{Call, Reply, Scheduler, Unrecorded};
-use sched_text::{Sink, Source, read_script};
+use sched_text::read_script;
 use std::alloc::Global;
+use text_stream::{Sink, Source};
 
 // Whether there was no memory for the call with this answer.
 fn lacks_memory(answer: &Result<Reply, Unrecorded>) -> bool

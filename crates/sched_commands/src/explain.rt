@@ -3,13 +3,14 @@
 ghost use Rattle.std.specs.Prelude.{◌≡◌, ◌≢◌, [], OnOk, IfErr};
 ghost use Rattle.sched_commands.specs.Run.{Stops};
 ghost use Rattle.sched_commands.specs.Explained.{ExplainsEach, Explained};
-ghost use Rattle.sched_text.specs.Watched.{FailsBy};
+ghost use Rattle.text_stream.specs.Watched.{FailsBy};
 
 use crate::run::make_call;
 use sched_fault::RunFault;
 use sched_history::{Call, Scheduler};
-use sched_text::{LineBuffer, Sink, Source, TextFault, read_script};
+use sched_text::{LineBuffer, read_script};
 use std::alloc::Global;
+use text_stream::{Sink, Source, TextFault};
 
 // Makes the calls of a script one after the other, and writes the line of each answer, explained where it is a refusal.
 fn explain_calls<W: Sink>(

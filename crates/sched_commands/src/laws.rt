@@ -1,6 +1,6 @@
 //! What the commands mean for one another.
 ghost use Rattle.std.specs.Prelude.{◌≤◌, ℕ, true, List, [], Option, Some, length};
-ghost use Rattle.sched_text.specs.declared.input.TheConstants.{MAX_INPUT};
+ghost use Rattle.text_stream.specs.declared.input.TheConstants.{MAX_INPUT};
 ghost use Rattle.sched_commands.specs.Run.{Ran};
 ghost use Rattle.sched_commands.specs.Judged.{IsJudgedLegal};
 

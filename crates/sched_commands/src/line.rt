@@ -2,10 +2,11 @@
 
 ghost use Rattle.std.specs.Prelude.{◌≡◌, OnOk, IfErr};
 ghost use Rattle.std.specs.Io.KnownBytes.{Appends};
-ghost use Rattle.sched_text.specs.Watched.{FailsBy};
+ghost use Rattle.text_stream.specs.Watched.{FailsBy};
 ghost use Rattle.sched_commands.specs.Line.{number_line};
 
-use sched_text::{Sink, TextFault, put, put_number};
+use sched_text::put_number;
+use text_stream::{Sink, TextFault, put};
 
 /// The line of a number under this name.
 #[tactic(auto, unfolding(crate::specs::Line::number_line))]

@@ -2,7 +2,7 @@
 
 ghost use Rattle.std.specs.Prelude.{◌≡◌, ◌≢◌, ◌⊎◌, [], true, false, List, OnOk, IfErr};
 ghost use Rattle.sched_text.specs.Line.{Answer, HasLine};
-ghost use Rattle.sched_text.specs.Watched.{FailsBy};
+ghost use Rattle.text_stream.specs.Watched.{FailsBy};
 ghost use Rattle.sched_commands.specs.Answer.{MakesCall, MakesCalls};
 ghost use Rattle.sched_commands.specs.Run.{AnswersEach, Ran, Stops};
 
@@ -10,8 +10,9 @@ use crate::fits::history_fits;
 use minislots::{Checked, Stamp};
 use sched_fault::RunFault;
 use sched_history::{Call, Reply, Scheduler, Unrecorded};
-use sched_text::{LineBuffer, Sink, Source, TextFault, put_history, read_script};
+use sched_text::{LineBuffer, put_history, read_script};
 use std::alloc::Global;
+use text_stream::{Sink, Source, TextFault};
 
 // Makes the call at this place of a script. The one seat of a run has the number 0.
 pub(crate) fn make_call(

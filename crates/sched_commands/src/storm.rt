@@ -1,7 +1,7 @@
 //! A storm from its script to the lines of its tally.
 
 ghost use Rattle.std.specs.Prelude.{◌≡◌, ◌≢◌, ◌↔◌, true, None, IfOk, IfErr};
-ghost use Rattle.sched_text.specs.Watched.{FailsBy};
+ghost use Rattle.text_stream.specs.Watched.{FailsBy};
 ghost use Rattle.sched_commands.specs.StormRun.{Stormed, StopsStorm};
 
 mod line;
@@ -9,10 +9,11 @@ mod line;
 use line::put_tally;
 use sched_fault::RunFault;
 use sched_storm::{Gate, StormFault, Tally, storm_with};
-use sched_text::{Sink, Source, read_storm};
+use sched_text::read_storm;
 use std::alloc::Global;
 use std::sync::Wait;
 use std::thread::Threads;
+use text_stream::{Sink, Source};
 
 // Whether no worker was held and the history is legal.
 fn went_well(tally: &Tally) -> bool

@@ -4,7 +4,7 @@ ghost use Rattle.std.specs.Prelude.{◌≡◌, ◌%◌, ◌≤◌, ◌↔◌, �
 ghost use Rattle.std.specs.Bool.{MatchBool};
 ghost use Rattle.std.specs.Io.KnownBytes.{Appends};
 ghost use Rattle.map_codec.specs.WireMap.{IsPayload, IsWellFormed};
-ghost use Rattle.sched_text.specs.Watched.{FailsBy};
+ghost use Rattle.text_stream.specs.Watched.{FailsBy};
 ghost use Rattle.sched_commands.specs.Table.{labelled, backoff_text, at_right, column, name_of, number_of, index_of};
 ghost use Rattle.sched_commands.specs.Table.{counts_line, times_line, element_line, element_lines};
 ghost use Rattle.sched_commands.specs.Table.{table_text, shown_text, fault_line};
@@ -15,8 +15,8 @@ use itoa::Buffer;
 use map_codec::{DecodeFault, Element, WireMap, decode, iuc};
 use map_drawing::draw_frame;
 use sched_fault::RunFault;
-use sched_text::{Sink, TextFault, put};
 use std::alloc::Global;
+use text_stream::{Sink, TextFault, put};
 
 // As many spaces as the widest column has places.
 const SPACES: [u8; 5] = [b' '; 5];

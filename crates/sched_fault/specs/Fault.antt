@@ -1,7 +1,7 @@
 -- Why a command ends: the fault that a fault of a text is, and the exit status of the program.
 use Rattle.std.specs.Prelude.{ℕ}
-use Rattle.sched_text.specs.declared.fault.TextFault.{TextFault}
-use Rattle.sched_text.specs.declared.fault.TextFault.TheVariants as texts
+use Rattle.text_stream.specs.declared.fault.TextFault.{TextFault}
+use Rattle.text_stream.specs.declared.fault.TextFault.TheVariants as texts
 use Rattle.sched_fault.specs.declared.fault.RunFault.{RunFault}
 use Rattle.sched_fault.specs.declared.fault.RunFault.TheVariants.{Input, TooLong, NotJson, Shape, Config, Memory}
 use Rattle.sched_fault.specs.declared.fault.RunFault.TheVariants.{Output, Threads}

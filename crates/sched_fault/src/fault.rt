@@ -4,7 +4,7 @@ ghost use Rattle.std.specs.Prelude.{◌≡◌};
 ghost use Rattle.sched_fault.specs.Fault.{run_fault_of, exit_status_of};
 
 use minislots::ConfigFault;
-use sched_text::TextFault;
+use text_stream::TextFault;
 use thiserror::Error;
 
 /// Why a command of the program ends without its output. The input is tested in this order, up to its

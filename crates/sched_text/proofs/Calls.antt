@@ -5,10 +5,11 @@ use Rattle.std.specs.Prelude.{◌≢◌}
 use Rattle.std.specs.Result.{IsErrAnd}
 use Rattle.serde_json.specs.Data.{Data, Items, no_items, item}
 use Rattle.sched_history.specs.declared.call.Call.{Call}
-use Rattle.sched_text.specs.declared.fault.TextFault.{TextFault}
-use Rattle.sched_text.specs.declared.fault.TextFault.TheVariants.{Shape, Memory}
+use Rattle.text_stream.specs.declared.fault.TextFault.{TextFault}
+use Rattle.text_stream.specs.declared.fault.TextFault.TheVariants.{Shape, Memory}
 use Rattle.sched_text.specs.Calls.{call_of}
-use Rattle.sched_text.specs.Script.{◌>>=◌, Gives, calls_of}
+use Rattle.text_stream.specs.Input.{Gives}
+use Rattle.sched_text.specs.Script.{◌>>=◌, calls_of}
 
 -- the calls that were read, and then those that follow
 abbrev pub following : List Call → Result (List Call) TextFault → Result (List Call) TextFault

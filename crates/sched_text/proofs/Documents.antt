@@ -9,9 +9,9 @@ use Rattle.minislots.specs.Config.{first_wrong}
 use Rattle.minislots.specs.declared.config.Config.{Config}
 use Rattle.sched_history.specs.declared.call.Call.{Call}
 use Rattle.sched_history.specs.declared.reply.Entry.{Entry}
-use Rattle.sched_text.specs.declared.fault.TextFault.{TextFault}
+use Rattle.text_stream.specs.declared.fault.TextFault.{TextFault}
 use Rattle.sched_text.specs.Calls.{call_of}
-use Rattle.sched_text.specs.Input.{value_of}
+use Rattle.text_stream.specs.Input.{value_of}
 use Rattle.sched_text.specs.Listed.{StandEach, IsListOf, IsDocument}
 use Rattle.sched_text.specs.Outcome.{unless_wrong, text_outcome}
 use Rattle.sched_text.specs.Recorded.{entries_of, history_of, history_in}

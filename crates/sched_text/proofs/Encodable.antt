@@ -17,12 +17,12 @@ use Rattle.sched_history.specs.Machine.{IsEncodable}
 use Rattle.sched_history.specs.declared.reply.Reply.{Reply}
 use Rattle.sched_history.specs.declared.reply.Reply.TheVariants.{Admitted, Removed, Taken, Noted}
 use Rattle.sched_history.specs.declared.reply.Entry.{Entry}
-use Rattle.sched_text.specs.declared.fault.TextFault.{TextFault}
-use Rattle.sched_text.specs.declared.fault.TextFault.TheVariants.{Shape}
+use Rattle.text_stream.specs.declared.fault.TextFault.{TextFault}
+use Rattle.text_stream.specs.declared.fault.TextFault.TheVariants.{Shape}
 use Rattle.sched_text.specs.Fields.{◌>>=◌, u32_at, u64_at, text_at, config_of}
 use Rattle.sched_text.specs.Calls.{call_of}
-use Rattle.sched_text.specs.Input.{value_of}
-use Rattle.sched_text.specs.Script.{Gives}
+use Rattle.text_stream.specs.Input.{value_of}
+use Rattle.text_stream.specs.Input.{Gives}
 use Rattle.sched_text.specs.Outcome.{unless_wrong}
 use Rattle.sched_text.specs.Refusals.{refusal_with}
 use Rattle.sched_text.specs.Replies.{numbers_at, has, placed_reply, admitted_reply, map_of, map_at, map_reply}

@@ -6,8 +6,8 @@ use Rattle.serde_json.specs.Data.{item}
 use Rattle.serde_json.specs.View.{view, items_view}
 use Rattle.serde_json.specs.declared.value.Value.{Value}
 use Rattle.sched_history.specs.declared.reply.Entry.{Entry}
-use Rattle.sched_text.specs.declared.fault.TextFault.{TextFault}
-use Rattle.sched_text.specs.declared.fault.TextFault.TheVariants.{Shape}
+use Rattle.text_stream.specs.declared.fault.TextFault.{TextFault}
+use Rattle.text_stream.specs.declared.fault.TextFault.TheVariants.{Shape}
 use Rattle.sched_text.specs.Script.{◌>>=◌}
 use Rattle.sched_text.specs.Replies.{entry_of}
 use Rattle.sched_text.specs.Recorded.{entries_of}

@@ -12,12 +12,13 @@ use Rattle.serde_json.specs.Read.{read}
 use Rattle.minislots.specs.declared.config.ConfigFault.{ConfigFault}
 use Rattle.minislots.specs.Config.{first_wrong}
 use Rattle.sched_history.specs.declared.reply.TheConstants.{MAX_ENTRIES}
-use Rattle.sched_text.specs.declared.input.TheConstants.{MAX_INPUT}
-use Rattle.sched_text.specs.declared.fault.TextFault.{TextFault}
-use Rattle.sched_text.specs.declared.fault.TextFault.TheVariants.{NotJson, Shape}
+use Rattle.text_stream.specs.declared.input.TheConstants.{MAX_INPUT}
+use Rattle.text_stream.specs.declared.fault.TextFault.{TextFault}
+use Rattle.text_stream.specs.declared.fault.TextFault.TheVariants.{NotJson, Shape}
 use Rattle.sched_text.specs.Fields.{config_of}
-use Rattle.sched_text.specs.Script.{◌>>=◌, Gives}
-use Rattle.sched_text.specs.Input.{value_of}
+use Rattle.text_stream.specs.Input.{Gives}
+use Rattle.sched_text.specs.Script.{◌>>=◌}
+use Rattle.text_stream.specs.Input.{value_of}
 use Rattle.sched_text.specs.Outcome.{unless_wrong}
 use Rattle.sched_text.specs.StormScript.{count_of}
 use Rattle.sched_text.specs.Replies.{entry_of}

@@ -6,13 +6,14 @@ use Rattle.serde_json.specs.Data.{Data, Items, no_items, item}
 use Rattle.serde_json.specs.Find.{get, as_array}
 use Rattle.minislots.specs.declared.config.Config.{Config as Configuration}
 use Rattle.minislots.specs.Config.{first_wrong}
-use Rattle.sched_text.specs.declared.input.TheConstants.{MAX_INPUT}
-use Rattle.sched_text.specs.declared.fault.TextFault.{TextFault}
-use Rattle.sched_text.specs.declared.fault.TextFault.TheVariants.{Input, TooLong, NotJson, Shape, Config, Memory}
-use Rattle.sched_text.specs.declared.fault.TextFault.TheVariants.{Output}
+use Rattle.text_stream.specs.declared.input.TheConstants.{MAX_INPUT}
+use Rattle.text_stream.specs.declared.fault.TextFault.{TextFault}
+use Rattle.text_stream.specs.declared.fault.TextFault.TheVariants.{Input, TooLong, NotJson, Shape, Config, Memory}
+use Rattle.text_stream.specs.declared.fault.TextFault.TheVariants.{Output}
 use Rattle.sched_text.specs.Fields.{config_of}
-use Rattle.sched_text.specs.Script.{◌>>=◌, Gives}
-use Rattle.sched_text.specs.Input.{value_of, ReadsAll}
+use Rattle.text_stream.specs.Input.{Gives}
+use Rattle.sched_text.specs.Script.{◌>>=◌}
+use Rattle.text_stream.specs.Input.{value_of, ReadsAll}
 use Rattle.sched_text.specs.Outcome.{unless_wrong}
 use Rattle.sched_text.specs.Replies.{entry_of}
 use Rattle.sched_text.specs.Recorded.{History, entries_of, history_of, history_in, history_outcome}

@@ -1,4 +1,3 @@
-pub mod Bytes
 pub mod Calls
 pub mod Fields
 pub mod JsonTokens
@@ -11,7 +10,6 @@ pub mod RowsLines
 pub mod Told
 pub mod Usual
 pub mod Documents
-pub mod Written
 pub mod Profile
 pub mod StormCalls
 pub mod StormOutcome

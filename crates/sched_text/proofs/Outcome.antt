@@ -10,15 +10,16 @@ use Rattle.serde_json.specs.Read.{read}
 use Rattle.minislots.specs.declared.config.Config.{Config as Configuration}
 use Rattle.minislots.specs.declared.config.ConfigFault.{ConfigFault}
 use Rattle.minislots.specs.Config.{first_wrong}
-use Rattle.sched_text.specs.declared.input.TheConstants.{MAX_INPUT}
-use Rattle.sched_text.specs.declared.fault.TextFault.{TextFault}
-use Rattle.sched_text.specs.declared.fault.TextFault.TheVariants.{Input, TooLong, NotJson, Shape, Config, Memory}
-use Rattle.sched_text.specs.declared.fault.TextFault.TheVariants.{Output}
+use Rattle.text_stream.specs.declared.input.TheConstants.{MAX_INPUT}
+use Rattle.text_stream.specs.declared.fault.TextFault.{TextFault}
+use Rattle.text_stream.specs.declared.fault.TextFault.TheVariants.{Input, TooLong, NotJson, Shape, Config, Memory}
+use Rattle.text_stream.specs.declared.fault.TextFault.TheVariants.{Output}
 use Rattle.sched_text.specs.Fields.{config_of}
 use Rattle.sched_text.specs.Calls.{call_of}
-use Rattle.sched_text.specs.Script.{◌>>=◌, Gives, Scenario, calls_of, script_of}
-use Rattle.sched_text.specs.Input.{value_of, ReadsAll}
-use Rattle.sched_text.specs.Watched.{FailsBy}
+use Rattle.text_stream.specs.Input.{Gives}
+use Rattle.sched_text.specs.Script.{◌>>=◌, Scenario, calls_of, script_of}
+use Rattle.text_stream.specs.Input.{value_of, ReadsAll}
+use Rattle.text_stream.specs.Watched.{FailsBy}
 use Rattle.sched_text.specs.Outcome.{unless_wrong, text_outcome, outcome_of, StandsFor, HasFault, StopsScript}
 
 -- a fault that stands in the text

@@ -2,10 +2,10 @@
 use Rattle.std.proofs.Common.{◌≡◌, [], ◌∷◌, ◌++◌, Ok, refl, ◌∙◌, arith}
 use Rattle.serde_json.specs.Written.{compact_text}
 use Rattle.sched_text.specs.HistoryText.{history_data, history_text}
-use Rattle.sched_text.specs.Input.{value_of}
+use Rattle.text_stream.specs.Input.{value_of}
 use Rattle.sched_text.specs.Recorded.{history_in}
 use Rattle.sched_text.specs.Fits.{IsReadAgain}
-use Rattle.sched_text.proofs.Bytes.{value_of-Ok}
+use Rattle.text_stream.proofs.Bytes.{value_of-Ok}
 use Rattle.sched_text.proofs.HistoryAgain.{history_of-data}
 use Rattle.sched_text.proofs.HistoryDepth.{depth-history}
 use Rattle.sched_text.proofs.HistoryOutcome.{history_outcome-short}

@@ -12,8 +12,8 @@ use Rattle.serde_json.specs.Find.{as_array}
 use Rattle.serde_json.specs.View.{view, items_view}
 use Rattle.serde_json.specs.declared.value.Value.{Value}
 use Rattle.sched_history.specs.declared.call.Call.{Call}
-use Rattle.sched_text.specs.declared.fault.TextFault.{TextFault}
-use Rattle.sched_text.specs.declared.fault.TextFault.TheVariants.{Shape}
+use Rattle.text_stream.specs.declared.fault.TextFault.{TextFault}
+use Rattle.text_stream.specs.declared.fault.TextFault.TheVariants.{Shape}
 use Rattle.sched_text.specs.Calls.{call_of}
 use Rattle.sched_text.specs.Script.{◌>>=◌, calls_of}
 use Rattle.sched_text.specs.StormScript.{calls_each, count_of, are_arrays, are_scripts, scripts_of}

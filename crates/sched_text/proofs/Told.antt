@@ -4,12 +4,12 @@ use Rattle.std.proofs.Common.{inl, inr, refl, sym, ap, ◌∙◌, append-nil, ar
 use Rattle.std.specs.Prelude.{◌⊎◌}
 use Rattle.std.proofs.lemmas.Bool.{lt-ltb}
 use Rattle.std.proofs.lemmas.List.{length-append}
-use Rattle.sched_text.specs.declared.input.TheConstants.{MAX_INPUT}
-use Rattle.sched_text.specs.declared.fault.TextFault.{TextFault}
-use Rattle.sched_text.specs.declared.fault.TextFault.TheVariants.{Input, TooLong, NotJson, Shape, Config, Memory}
-use Rattle.sched_text.specs.declared.fault.TextFault.TheVariants.{Output}
+use Rattle.text_stream.specs.declared.input.TheConstants.{MAX_INPUT}
+use Rattle.text_stream.specs.declared.fault.TextFault.{TextFault}
+use Rattle.text_stream.specs.declared.fault.TextFault.TheVariants.{Input, TooLong, NotJson, Shape, Config, Memory}
+use Rattle.text_stream.specs.declared.fault.TextFault.TheVariants.{Output}
 use Rattle.sched_text.specs.Script.{Scenario}
-use Rattle.sched_text.specs.Input.{ReadsAll, ReadsTooMany}
+use Rattle.text_stream.specs.Input.{ReadsAll, ReadsTooMany}
 use Rattle.sched_text.specs.Outcome.{outcome_of, StandsFor, HasFault, StopsScript}
 use Rattle.sched_text.specs.StormScript.{Storm, storm_outcome, GivesStorm, StopsStormScript}
 

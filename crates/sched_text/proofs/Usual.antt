@@ -15,10 +15,10 @@ use Rattle.minislots.specs.declared.config.Config.{Config}
 use Rattle.sched_text.specs.declared.script.plain.Stop.{Stop}
 use Rattle.sched_text.specs.declared.script.usual.Parts.{Parts}
 use Rattle.sched_text.specs.Fields.{config_of}
-use Rattle.sched_text.specs.Input.{value_of}
+use Rattle.text_stream.specs.Input.{value_of}
 use Rattle.sched_text.specs.Listed.{IsInMembers, IsDocument}
 use Rattle.sched_text.specs.Usual.{read_tokens}
-use Rattle.sched_text.proofs.Bytes.{value_of-Ok}
+use Rattle.text_stream.proofs.Bytes.{value_of-Ok}
 use Rattle.sched_text.proofs.Plain.{object_read, read_as, found_at}
 
 module _ {P : Type 0} (stands_for : Data → P → Type 0) (name : List ℕ) where

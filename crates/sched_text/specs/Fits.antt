@@ -14,7 +14,7 @@ use Rattle.sched_history.specs.declared.reply.Reply.{Reply}
 use Rattle.sched_history.specs.declared.reply.Reply.TheVariants.{Admitted, Removed, Taken, Noted, Built, Skipped, Flow}
 use Rattle.sched_history.specs.declared.reply.Reply.TheVariants.{Refused}
 use Rattle.sched_history.specs.declared.reply.Entry.{Entry}
-use Rattle.sched_text.specs.declared.input.TheConstants.{MAX_INPUT}
+use Rattle.text_stream.specs.declared.input.TheConstants.{MAX_INPUT}
 use Rattle.sched_text.specs.Line.{refusal_value}
 use Rattle.sched_text.specs.HistoryText.{history_text}
 use Rattle.sched_text.specs.Recorded.{history_outcome}

@@ -1,7 +1,6 @@
 pub mod Fields
 pub mod Calls
 pub mod Script
-pub mod Input
 pub mod Plain
 pub mod Listed
 pub mod Usual
@@ -12,9 +11,7 @@ pub mod Meaning
 pub mod Json
 pub mod Tokens
 pub mod HistoryText
-pub mod Fault
 pub mod Refusals
 pub mod Replies
 pub mod Recorded
 pub mod Fits
-pub mod Watched

@@ -2,11 +2,11 @@
 use Rattle.std.specs.Prelude.{◌≡◌, ℕ, nat_lt, if◌then◌else◌, List, length, Option, None, Some, Result, Ok, Err}
 use Rattle.minislots.specs.declared.config.ConfigFault.{ConfigFault}
 use Rattle.minislots.specs.Config.{first_wrong}
-use Rattle.sched_text.specs.declared.input.TheConstants.{MAX_INPUT}
-use Rattle.sched_text.specs.declared.fault.TextFault.{TextFault}
-use Rattle.sched_text.specs.declared.fault.TextFault.TheVariants.{Input, TooLong, NotJson, Shape, Config, Memory}
-use Rattle.sched_text.specs.declared.fault.TextFault.TheVariants.{Output}
-use Rattle.sched_text.specs.Input.{value_of, ReadsAll, ReadsTooMany}
+use Rattle.text_stream.specs.declared.input.TheConstants.{MAX_INPUT}
+use Rattle.text_stream.specs.declared.fault.TextFault.{TextFault}
+use Rattle.text_stream.specs.declared.fault.TextFault.TheVariants.{Input, TooLong, NotJson, Shape, Config, Memory}
+use Rattle.text_stream.specs.declared.fault.TextFault.TheVariants.{Output}
+use Rattle.text_stream.specs.Input.{value_of, ReadsAll, ReadsTooMany}
 use Rattle.sched_text.specs.Script.{◌>>=◌, Scenario, script_of}
 
 -- what was read, unless this field of its configuration is wrong

@@ -4,8 +4,8 @@ use Rattle.serde_json.specs.Data.{Data, Items, no_items, item}
 use Rattle.serde_json.specs.Find.{get, as_array}
 use Rattle.minislots.specs.declared.config.Config.{Config}
 use Rattle.sched_history.specs.declared.call.Call.{Call}
-use Rattle.sched_text.specs.declared.fault.TextFault.{TextFault}
-use Rattle.sched_text.specs.declared.fault.TextFault.TheVariants.{Shape, Memory}
+use Rattle.text_stream.specs.declared.fault.TextFault.{TextFault}
+use Rattle.text_stream.specs.declared.fault.TextFault.TheVariants.{Shape}
 use Rattle.sched_text.specs.declared.script.Script.{Script}
 use Rattle.sched_text.specs.Fields.{config_of}
 use Rattle.sched_text.specs.Calls.{call_of}
@@ -23,11 +23,6 @@ pub record Scenario : Type 0 where
 -- what a script that was read has
 abbrev pub scenario_of : Script → Scenario
 scenario_of script = record { config = script.config; calls = script.calls.items }
-
--- what was made, seen by view, is what stands there, or the fault is, unless memory ran out
-abbrev pub Gives : {X Y : Type 0} → (X → Y) → Result X TextFault → Result Y TextFault → Type 0
-Gives view (Ok x) there = there ≡ Ok (view x)
-Gives view (Err e) there = e ≢ Memory → there ≡ Err e
 
 -- the calls of an array, the first of which has this number: the first that is none is the fault
 unfoldable pub calls_of : ℕ → Items → Result (List Call) TextFault

@@ -8,13 +8,13 @@ use Rattle.minislots.specs.declared.config.Config.{Config as Configuration}
 use Rattle.minislots.specs.Config.{first_wrong}
 use Rattle.sched_history.specs.declared.call.Call.{Call}
 use Rattle.sched_history.specs.declared.call.TheConstants.{MAX_SCRIPTS}
-use Rattle.sched_text.specs.declared.fault.TextFault.{TextFault}
-use Rattle.sched_text.specs.declared.fault.TextFault.TheVariants.{Input, TooLong, NotJson, Shape, Config, Memory}
-use Rattle.sched_text.specs.declared.fault.TextFault.TheVariants.{Output}
-use Rattle.sched_text.specs.declared.input.TheConstants.{MAX_INPUT}
+use Rattle.text_stream.specs.declared.fault.TextFault.{TextFault}
+use Rattle.text_stream.specs.declared.fault.TextFault.TheVariants.{Input, TooLong, NotJson, Shape, Config, Memory}
+use Rattle.text_stream.specs.declared.fault.TextFault.TheVariants.{Output}
+use Rattle.text_stream.specs.declared.input.TheConstants.{MAX_INPUT}
 use Rattle.sched_text.specs.declared.script.storms.StormScript.{StormScript}
 use Rattle.sched_text.specs.Fields.{config_of}
-use Rattle.sched_text.specs.Input.{value_of, ReadsAll, ReadsTooMany}
+use Rattle.text_stream.specs.Input.{value_of, ReadsAll, ReadsTooMany}
 use Rattle.sched_text.specs.Script.{◌>>=◌, calls_of}
 use Rattle.sched_text.specs.Outcome.{unless_wrong}
 

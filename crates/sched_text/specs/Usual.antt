@@ -4,8 +4,8 @@ use Rattle.json.specs.Token.{Token}
 use Rattle.json.specs.Json.{value, if_last}
 use Rattle.serde_json.specs.Data.{Data}
 use Rattle.serde_json.specs.Read.{of_json, max_depth}
-use Rattle.sched_text.specs.declared.fault.TextFault.{TextFault}
-use Rattle.sched_text.specs.Input.{value_of}
+use Rattle.text_stream.specs.declared.fault.TextFault.{TextFault}
+use Rattle.text_stream.specs.Input.{value_of}
 use Rattle.sched_text.specs.Recorded.{History, history_of}
 use Rattle.sched_text.specs.Script.{◌>>=◌, Scenario, script_of}
 use Rattle.sched_text.specs.StormScript.{Storm, storm_of}

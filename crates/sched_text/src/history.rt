@@ -7,16 +7,13 @@ ghost use Rattle.json.specs.Token.{key};
 ghost use Rattle.sched_history.specs.Machine.{IsEncodable};
 ghost use Rattle.sched_text.specs.HistoryText.{entry_data, entries_data, history_data, history_text};
 ghost use Rattle.sched_text.specs.Tokens.{tokens_of};
-ghost use Rattle.sched_text.specs.Watched.{FailsBy};
+ghost use Rattle.text_stream.specs.Watched.{FailsBy};
 
 mod call;
 mod config;
 mod count;
 mod reply;
 
-use crate::fault::TextFault;
-use crate::output::put;
-use crate::watched::Sink;
 use call::put_call;
 use config::put_config;
 use count::put_counts;
@@ -25,6 +22,7 @@ use minislots::Config;
 use reply::put_reply;
 use sched_history::Entry;
 use std::alloc::{AllocError, Global};
+use text_stream::{Sink, TextFault, put};
 
 // The keys of a stamp.
 static STAMP: [&str; 2] = ["seat", "ticket"];

@@ -8,16 +8,14 @@ ghost use Rattle.hex.specs.Hex.{encode_lower};
 ghost use Rattle.sched_text.specs.Line.{number_text, numbers_text, fault_number, refusal_number, refusal_value};
 ghost use Rattle.sched_text.specs.Line.{value_text, reply_text, answer_text, line_of, HasLine};
 ghost use Rattle.sched_history.specs.Machine.{IsEncodable};
-ghost use Rattle.sched_text.specs.Watched.{FailsBy};
+ghost use Rattle.text_stream.specs.Watched.{FailsBy};
 
-use crate::fault::TextFault;
-use crate::output::put;
-use crate::watched::Sink;
 use flow_book::FlowFault;
 use itoa::Buffer;
 use map_codec::{MAX_BYTES, WireMap, encode};
 use periodic::Placement;
 use sched_history::{Refusal, Reply, Unrecorded};
+use text_stream::{Sink, TextFault, put};
 
 /// A space, and a number in decimal.
 #[tactic(auto, unfolding(crate::specs::Line::number_text))]

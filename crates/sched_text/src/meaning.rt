@@ -5,16 +5,14 @@ ghost use Rattle.std.specs.Io.KnownBytes.{Appends};
 ghost use Rattle.sched_text.specs.Line.{HasLine};
 ghost use Rattle.sched_text.specs.Meaning.{fault_words, words_before, number_told, words_behind, digits_of};
 ghost use Rattle.sched_text.specs.Meaning.{meaning_of, refusal_in, remark_of, explained_line};
-ghost use Rattle.sched_text.specs.Watched.{FailsBy};
+ghost use Rattle.text_stream.specs.Watched.{FailsBy};
 
-use crate::fault::TextFault;
 use crate::line::put_answer;
-use crate::output::put;
-use crate::watched::Sink;
 use flow_book::{FlowFault, MAX_FLOWS};
 use itoa::Buffer;
 use periodic::MAX_PERIODIC_GRANTS;
 use sched_history::{Refusal, Reply, Unrecorded};
+use text_stream::{Sink, TextFault, put};
 
 // What is wrong with a flow's parameters.
 fn fault_words(fault: FlowFault) -> &'static [u8]

@@ -1,7 +1,7 @@
 //! The history that a text stands for: the configuration of a channel, and the entries in order.
 
 ghost use Rattle.serde_json.specs.View.{view, items_view};
-ghost use Rattle.sched_text.specs.Script.{Gives};
+ghost use Rattle.text_stream.specs.Input.{Gives};
 ghost use Rattle.sched_text.specs.Recorded.{entries_of, history_of, history_with};
 
 mod entry;
@@ -10,7 +10,6 @@ mod reading;
 mod refusal;
 mod reply;
 
-use crate::fault::TextFault;
 use crate::script::config::config_of;
 use crate::script::field::member;
 use entry::entry_of;
@@ -19,6 +18,7 @@ pub use reading::{every_history, read_history};
 use sched_history::Entry;
 use serde_json::Value;
 use std::alloc::Global;
+use text_stream::TextFault;
 
 /// A history as it was read: its configuration may have a wrong field, and its entries may follow from nothing.
 #[derive(Drop)]

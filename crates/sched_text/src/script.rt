@@ -2,7 +2,8 @@
 
 ghost use Rattle.std.specs.Prelude.{◌<◌, ◌+◌, ◌^◌};
 ghost use Rattle.serde_json.specs.View.{view, items_view};
-ghost use Rattle.sched_text.specs.Script.{Gives, calls_of, script_of, scenario_of};
+ghost use Rattle.text_stream.specs.Input.{Gives};
+ghost use Rattle.sched_text.specs.Script.{calls_of, script_of, scenario_of};
 
 pub(crate) mod call;
 pub(crate) mod config;
@@ -15,7 +16,6 @@ mod storms;
 pub(crate) mod tree;
 pub(crate) mod usual;
 
-use crate::fault::TextFault;
 use call::call_of;
 use config::config_of;
 use field::member;
@@ -25,6 +25,7 @@ use sched_history::Call;
 use serde_json::Value;
 use std::alloc::Global;
 pub use storms::read_storm;
+use text_stream::TextFault;
 
 /// A script as it was read: its configuration may have a wrong field.
 #[derive(Drop)]

@@ -32,6 +32,8 @@ mod sched_text_rows;
 #[cfg(test)]
 mod shared_sched_rows;
 #[cfg(test)]
+mod text_stream_rows;
+#[cfg(test)]
 mod ticket_core_rows;
 #[cfg(test)]
 mod ticket_lock_rows;

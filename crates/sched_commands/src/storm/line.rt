@@ -2,13 +2,14 @@
 
 ghost use Rattle.std.specs.Prelude.{◌≡◌, ◌≤◌, OnOk, IfErr};
 ghost use Rattle.std.specs.Io.KnownBytes.{Appends};
-ghost use Rattle.sched_text.specs.Watched.{FailsBy};
+ghost use Rattle.text_stream.specs.Watched.{FailsBy};
 ghost use Rattle.sched_commands.specs.StormLines.{seat_line, seat_lines};
 ghost use Rattle.sched_commands.specs.StormLines.{newest_line, held_line, audit_line, tally_text};
 
 use crate::line::put_named;
 use sched_storm::Tally;
-use sched_text::{Sink, TextFault, put, put_number};
+use sched_text::put_number;
+use text_stream::{Sink, TextFault, put};
 use ticket_core::MAX_SEATS;
 
 // The line of a seat: its number and its count.

@@ -4,13 +4,12 @@ ghost use Rattle.std.specs.Prelude.{◌≡◌, OnOk, IfErr};
 ghost use Rattle.std.specs.Io.KnownBytes.{Appends, append_known};
 ghost use Rattle.sched_text.specs.Line.{HasLine};
 ghost use Rattle.sched_text.specs.Meaning.{explained_line};
-ghost use Rattle.sched_text.specs.Watched.{FailsBy};
+ghost use Rattle.text_stream.specs.Watched.{FailsBy};
 
-use super::{LineBuffer, append, write_waiting};
-use crate::fault::TextFault;
+use super::LineBuffer;
 use crate::meaning;
-use crate::watched::Sink;
 use sched_history::{Reply, Unrecorded};
+use text_stream::{Sink, TextFault};
 
 impl LineBuffer {
     /// Puts the line of an answer behind those that wait, with what it means behind it where it is a refusal. Where
@@ -28,9 +27,9 @@ impl LineBuffer {
     {
         self.line.clear();
         if meaning::put_explained(&mut self.line, answer).is_ok() {
-            return append(&mut self.waiting, writer, self.line.as_slice());
+            return self.waiting.put(writer, self.line.as_slice());
         }
-        write_waiting(&mut self.waiting, writer)?;
+        self.waiting.write_out(writer)?;
         meaning::put_explained(writer, answer)
     }
 }

@@ -4,23 +4,21 @@ ghost use Rattle.std.specs.Prelude.{◌≤◌, vec_len, Ok, IfOk, IfErr};
 ghost use Rattle.std.specs.List.{AllByRecursion};
 ghost use Rattle.sched_history.specs.Machine.{IsEncodable};
 ghost use Rattle.sched_history.specs.declared.reply.TheConstants.{MAX_ENTRIES};
-ghost use Rattle.sched_text.specs.Script.{Gives};
+ghost use Rattle.text_stream.specs.Input.{Gives};
 ghost use Rattle.sched_text.specs.Fits.{IsReadAgain};
 ghost use Rattle.sched_text.specs.Refusals.{IsExactRefusal};
 ghost use Rattle.sched_text.specs.Replies.{IsExactMap};
 ghost use Rattle.sched_text.specs.Recorded.{history_in, history_with, GivesHistory, StopsHistory};
 ghost use Rattle.sched_text.specs.Usual.{recorded_text};
-ghost use Rattle.sched_text.specs.Watched.{FailsBy};
+ghost use Rattle.text_stream.specs.Watched.{FailsBy};
 
 use super::{Recorded, history_of};
-use crate::fault::TextFault;
-use crate::input::{parse, read_all};
 use crate::script::plain::Stop;
 use crate::script::usual::read_usual;
-use crate::watched::Source;
 use minislots::Checked;
 use sched_history::Entry;
 use std::alloc::Global;
+use text_stream::{Source, TextFault, parse, read_all};
 
 // The history that a text stands for. One that is not in the usual form is read as a tree, which tells its fault.
 fn history_of_text(alloc: Global, bytes: &[u8]) -> Result<Recorded, TextFault>

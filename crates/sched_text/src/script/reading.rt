@@ -1,20 +1,19 @@
 //! The script in the bytes of a reader.
 
 ghost use Rattle.std.specs.Prelude.{IfOk, IfErr};
-ghost use Rattle.sched_text.specs.Script.{Gives, scenario_of};
+ghost use Rattle.text_stream.specs.Input.{Gives};
+ghost use Rattle.sched_text.specs.Script.{scenario_of};
 ghost use Rattle.sched_text.specs.Usual.{script_text};
-ghost use Rattle.sched_text.specs.Watched.{FailsBy};
+ghost use Rattle.text_stream.specs.Watched.{FailsBy};
 ghost use Rattle.sched_text.specs.Outcome.{text_outcome, StandsFor, StopsScript};
 
 use super::plain::Stop;
 use super::usual::read_usual;
 use super::{Script, script_of};
-use crate::fault::TextFault;
-use crate::input::{parse, read_all};
-use crate::watched::Source;
 use minislots::Checked;
 use sched_history::Call;
 use std::alloc::Global;
+use text_stream::{Source, TextFault, parse, read_all};
 
 // The script that a text stands for. One that is not in the usual form is read as a tree, which tells its fault.
 fn script_of_text(alloc: Global, bytes: &[u8]) -> Result<Script, TextFault>

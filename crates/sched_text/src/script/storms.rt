@@ -3,24 +3,22 @@
 ghost use Rattle.std.specs.Prelude.{◌≡◌, ◌≤◌, ◌<◌, ◌+◌, ◌^◌, length, vec_len, Ok, IfOk, IfErr, IsTrue};
 ghost use Rattle.sched_history.specs.declared.call.TheConstants.{MAX_SCRIPTS};
 ghost use Rattle.serde_json.specs.View.{view, items_view};
-ghost use Rattle.sched_text.specs.Script.{Gives};
+ghost use Rattle.text_stream.specs.Input.{Gives};
 ghost use Rattle.sched_text.specs.StormScript.{calls_each, are_arrays, are_scripts, scripts_of, storm_with, storm_of};
 ghost use Rattle.sched_text.specs.StormScript.{storm_text, GivesStorm, StopsStormScript};
 ghost use Rattle.sched_text.specs.Usual.{scripts_text};
-ghost use Rattle.sched_text.specs.Watched.{FailsBy};
+ghost use Rattle.text_stream.specs.Watched.{FailsBy};
 
 use super::calls_after;
 use super::config::config_of;
 use super::field::member;
 use super::plain::Stop;
 use super::usual::read_usual;
-use crate::fault::TextFault;
-use crate::input::{parse, read_all};
-use crate::watched::Source;
 use minislots::{Checked, Config};
 use sched_history::{Call, MAX_SCRIPTS};
 use serde_json::Value;
 use std::alloc::Global;
+use text_stream::{Source, TextFault, parse, read_all};
 
 /// The script of a storm as it was read: its configuration may have a wrong field.
 #[derive(Drop)]

@@ -6,7 +6,7 @@ ghost use Rattle.json.specs.Json.{value, items, members};
 ghost use Rattle.serde_json.specs.Data.{Data, Members, no_members, put};
 ghost use Rattle.serde_json.specs.Read.{of_json, of_items, of_members, converted};
 ghost use Rattle.serde_json.specs.View.{items_of};
-ghost use Rattle.sched_text.specs.Input.{value_of};
+ghost use Rattle.text_stream.specs.Input.{value_of};
 ghost use Rattle.sched_text.specs.Listed.{StandEach, IsListOf, IsInMembers, IsDocument};
 ghost use Rattle.sched_text.specs.Usual.{read_tokens};
 

@@ -2,9 +2,10 @@
 
 use minislots::Checked;
 use sched_history::Entry;
-use sched_text::{TextFault, read_history};
+use sched_text::read_history;
 use std::alloc::AllocGlobal;
 use std::process::Abort;
+use text_stream::TextFault;
 
 // A history with a placement and a MAP.
 const HISTORY: &str = concat!(

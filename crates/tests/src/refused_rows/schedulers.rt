@@ -12,11 +12,12 @@ use flow_book::FlowSpec;
 use map_snapshot::Reader;
 use minislots::Stamp;
 use sched_history::{Call, Reply, Scheduler, Unrecorded};
-use sched_text::{Watched, put_line};
+use sched_text::put_line;
 use shared_sched::{Closed, Desk, OpenFault, Shared, open};
 use std::alloc::AllocGlobal;
 use std::process::Abort;
 use std::sync::Wait;
+use text_stream::Watched;
 use ticket_lock::Seat;
 
 const VOICE: FlowSpec = FlowSpec::Unsolicited {

@@ -3,10 +3,11 @@
 use crate::base::fakes::Keeping;
 use periodic::{Placement, Starts};
 use sched_history::{Reply, Unrecorded};
-use sched_text::{LineBuffer, TextFault, Watched};
+use sched_text::LineBuffer;
 use std::alloc::{AllocError, Global};
 use std::process::Abort;
 use std::test::Fail;
+use text_stream::{TextFault, Watched};
 
 // How many starts a placement has whose line has so many bytes, 12 at least, and its first nominal minislot.
 fn starts_and_reference(len: usize) -> (usize, u64) {

@@ -1,6 +1,6 @@
 -- Part by part.
 use Rattle.std.proofs.KnownBytes.{Appends-trans}
-use Rattle.sched_text.proofs.Written.{where_ok}
+use Rattle.text_stream.proofs.Written.{where_ok}
 use Rattle.frame_picture.specs.Head.{head_text}
 use Rattle.frame_picture.proofs.head.put_head.Goals as goal
 

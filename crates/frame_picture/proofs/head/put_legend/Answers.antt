@@ -1,6 +1,6 @@
 -- Line by line.
 use Rattle.std.proofs.KnownBytes.{Appends-trans}
-use Rattle.sched_text.proofs.Written.{where_ok}
+use Rattle.text_stream.proofs.Written.{where_ok}
 use Rattle.frame_picture.specs.Head.{legend_text}
 use Rattle.frame_picture.proofs.head.put_legend.Goals as goal
 

@@ -1,6 +1,6 @@
 -- Two times the depth.
 use Rattle.std.proofs.KnownBytes.{Appends-trans}
-use Rattle.sched_text.proofs.Written.{where_ok}
+use Rattle.text_stream.proofs.Written.{where_ok}
 use Rattle.frame_picture.specs.Head.{size_text}
 use Rattle.frame_picture.proofs.head.put_size.Goals as goal
 

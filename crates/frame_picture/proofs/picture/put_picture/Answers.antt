@@ -1,5 +1,5 @@
 -- The lines that waited at the end are written.
-use Rattle.sched_text.proofs.Written.{where_ok}
+use Rattle.text_stream.proofs.Written.{where_ok}
 use Rattle.frame_picture.proofs.Drawn.{Appends-whole}
 use Rattle.frame_picture.proofs.picture.put_picture.Goals as goal
 

@@ -1,6 +1,6 @@
 -- The look, the place and the width.
 use Rattle.std.proofs.KnownBytes.{Appends-trans}
-use Rattle.sched_text.proofs.Written.{where_ok}
+use Rattle.text_stream.proofs.Written.{where_ok}
 use Rattle.frame_picture.specs.Bars.{box_text}
 use Rattle.frame_picture.proofs.row.put_box.Goals as goal
 

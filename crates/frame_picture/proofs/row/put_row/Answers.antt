@@ -1,6 +1,6 @@
 -- The start of the frame, and its bars.
 use Rattle.std.proofs.KnownBytes.{Appends-trans}
-use Rattle.sched_text.proofs.Written.{where_ok}
+use Rattle.text_stream.proofs.Written.{where_ok}
 use Rattle.frame_picture.specs.Picture.{row_text}
 use Rattle.frame_picture.proofs.row.put_row.Goals as goal
 

@@ -1,6 +1,6 @@
 -- What a bar says, word by word.
 use Rattle.std.proofs.KnownBytes.{Appends-trans}
-use Rattle.sched_text.proofs.Written.{where_ok}
+use Rattle.text_stream.proofs.Written.{where_ok}
 use Rattle.frame_picture.specs.Bars.{title_text}
 use Rattle.frame_picture.proofs.row.put_title.Goals as goal
 

@@ -1,7 +1,7 @@
 -- What was found is what the bytes have, and its line was written.
 use Rattle.std.proofs.Common.{◌≡◌, Option, ap, ◌∙◌}
 use Rattle.std.specs.Prelude.{option_map}
-use Rattle.sched_text.specs.declared.fault.TextFault.{TextFault}
+use Rattle.text_stream.specs.declared.fault.TextFault.{TextFault}
 use Rattle.sched_fault.specs.Fault.{run_fault_of}
 use Rattle.sched_check.specs.Kind.{kind_of}
 use Rattle.sched_check.specs.Found.{fault_of}

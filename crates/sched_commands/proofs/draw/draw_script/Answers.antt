@@ -1,7 +1,7 @@
 -- The script that was read was drawn.
 use Rattle.std.proofs.Common.{◌≡◌, ap}
 use Rattle.sched_history.specs.Machine.{Machine}
-use Rattle.sched_text.proofs.Written.{where_ok}
+use Rattle.text_stream.proofs.Written.{where_ok}
 use Rattle.sched_commands.proofs.draw.draw_script.Goals as goal
 
 pub returns-clause-ok : goal.returns-clause-ok

@@ -1,6 +1,6 @@
 -- Each call leads the run one step on, and the lines that wait at the end are written.
 use Rattle.std.proofs.Common.{◌∙◌}
-use Rattle.sched_text.proofs.Written.{where_ok}
+use Rattle.text_stream.proofs.Written.{where_ok}
 use Rattle.sched_text.specs.Line.{line_of}
 use Rattle.sched_commands.proofs.Running.{Runs-push, Runs-written, Runs-whole}
 use Rattle.sched_commands.proofs.run.run_calls.Goals as goal

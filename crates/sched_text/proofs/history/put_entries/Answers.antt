@@ -1,7 +1,7 @@
 -- One entry more, and all entries between their brackets.
 use Rattle.std.proofs.Common.{[]}
 use Rattle.sched_text.specs.HistoryText.{entry_data, entries_data}
-use Rattle.sched_text.proofs.Written.{where_ok}
+use Rattle.text_stream.proofs.Written.{where_ok}
 use Rattle.sched_text.proofs.JsonTokens.{tokens-all}
 use Rattle.sched_text.proofs.history.put_entries.Goals as goal
 

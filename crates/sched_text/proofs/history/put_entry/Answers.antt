@@ -1,6 +1,6 @@
 -- The members of an entry, one behind the other.
 use Rattle.sched_text.specs.HistoryText.{entry_data}
-use Rattle.sched_text.proofs.Written.{where_ok}
+use Rattle.text_stream.proofs.Written.{where_ok}
 use Rattle.sched_text.proofs.JsonTokens.{then_more}
 use Rattle.sched_text.proofs.history.put_entry.Goals as goal
 

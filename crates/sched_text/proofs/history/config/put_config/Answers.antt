@@ -1,6 +1,6 @@
 -- The members between their braces.
 use Rattle.sched_text.specs.HistoryText.{config_data}
-use Rattle.sched_text.proofs.Written.{where_ok}
+use Rattle.text_stream.proofs.Written.{where_ok}
 use Rattle.sched_text.proofs.JsonTokens.{wrapped}
 use Rattle.sched_text.proofs.history.config.put_config.Goals as goal
 

@@ -2,7 +2,7 @@
 use Rattle.std.proofs.Common.{[], ◌∷◌}
 use Rattle.json.specs.Token.{Token}
 use Rattle.sched_text.specs.Json.{count, counts}
-use Rattle.sched_text.proofs.Written.{where_ok}
+use Rattle.text_stream.proofs.Written.{where_ok}
 use Rattle.sched_text.proofs.JsonTokens.{tokens-all}
 use Rattle.sched_text.proofs.history.count.put_bytes.Goals as goal
 

@@ -1,7 +1,7 @@
 -- The members of a placement, one behind the other.
 use Rattle.std.proofs.Common.{sym}
 use Rattle.sched_text.specs.Json.{placed_data}
-use Rattle.sched_text.proofs.Written.{where_ok}
+use Rattle.text_stream.proofs.Written.{where_ok}
 use Rattle.sched_text.proofs.JsonTokens.{then_more}
 use Rattle.sched_text.proofs.history.reply.put_placed.Goals as goal
 

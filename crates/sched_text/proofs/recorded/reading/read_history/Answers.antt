@@ -5,8 +5,8 @@ use Rattle.std.specs.Global.{Vec}
 use Rattle.minislots.specs.declared.config.Config.{Config}
 use Rattle.sched_history.specs.declared.reply.Entry.{Entry}
 use Rattle.sched_history.specs.declared.reply.TheConstants.{MAX_ENTRIES}
-use Rattle.sched_text.specs.declared.fault.TextFault.{TextFault}
-use Rattle.sched_text.specs.Input.{ReadsAll}
+use Rattle.text_stream.specs.declared.fault.TextFault.{TextFault}
+use Rattle.text_stream.specs.Input.{ReadsAll}
 use Rattle.sched_text.proofs.Encodable.{encodable_entries}
 use Rattle.sched_text.proofs.FewEntries.{few_entries}
 use Rattle.sched_text.proofs.HistoryOutcome.{gives_history, stops_history, faults-history_in}

@@ -1,5 +1,5 @@
 -- All bytes of the reader are the text, and what the text stands for is what they stand for.
-use Rattle.sched_text.specs.Input.{ReadsAll}
+use Rattle.text_stream.specs.Input.{ReadsAll}
 use Rattle.sched_text.proofs.Outcome.{stands_for, stops_script, faults-text_outcome, unfailed}
 use Rattle.sched_text.proofs.script.reading.read_script.Goals as goal
 

@@ -1,5 +1,5 @@
 -- All bytes of the reader are the text, and what the text stands for is what they stand for.
-use Rattle.sched_text.specs.Input.{ReadsAll}
+use Rattle.text_stream.specs.Input.{ReadsAll}
 use Rattle.sched_text.specs.StormScript.{calls_each}
 use Rattle.sched_text.proofs.Outcome.{unfailed}
 use Rattle.sched_text.proofs.StormOutcome.{gives_storm, stops_storm, faults-storm_text}
