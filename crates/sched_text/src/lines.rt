@@ -60,7 +60,7 @@ impl LineBuffer {
         if line::put_line(&mut self.line, answer).is_ok() {
             return self.waiting.put(writer, self.line.as_slice());
         }
-        self.waiting.write_out(writer)?;
+        self.write_out(writer)?;
         line::put_line(writer, answer)
     }
 

@@ -1,5 +1,5 @@
-//! Texts that are read and written: readers and writers that know whether a call has failed, all bytes of an input, text
-//! that waits to be written, and the faults of a text.
+//! Texts that are read and written: readers and writers that know whether a call has failed, all bytes of an input,
+//! text that waits to be written, and the faults of a text.
 #![tactic(auto)]
 
 mod buffer;

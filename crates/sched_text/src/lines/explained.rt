@@ -29,7 +29,7 @@ impl LineBuffer {
         if meaning::put_explained(&mut self.line, answer).is_ok() {
             return self.waiting.put(writer, self.line.as_slice());
         }
-        self.waiting.write_out(writer)?;
+        self.write_out(writer)?;
         meaning::put_explained(writer, answer)
     }
 }
