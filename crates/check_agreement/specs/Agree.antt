@@ -23,8 +23,8 @@ Agrees found Memory = Unit {0}
 Agrees found Output = found ≡ None
 Agrees found Threads = found ≡ None
 
--- what is found in a text agrees with every run, storm or audit of it, by the kind of file that it seems to be: with the
--- fault by which one ends, and with none where one does not
+-- what is found in a text agrees with every run, storm or audit of it, by the kind of file that it seems to be: with
+-- the fault by which one ends, and with none where one does not
 pub record AgreesWithCommands (text : List ℕ) (found : Option RunFault) : Type 0 where
   pub run : kind_of text ≡ Script → (left : Option (List ℕ)) (fault : RunFault) → Stops (Some text) left fault
       → Agrees found fault

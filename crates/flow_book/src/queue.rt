@@ -1,7 +1,8 @@
 //! The flows that wait for bytes, in the order in which they are served.
 
 ghost use Rattle.std.specs.Prelude.{◌==◌, nat_lt, position, true, IfSome};
-ghost use Rattle.std.specs.Prelude.{ℕ, ◌≡◌, ◌≢◌, ◌<◌, ◌≤◌, List, remove, slice_index_or, map, length, OnOk, IfOk, IsSomeAnd, MatchOption, slice_get};
+ghost use Rattle.std.specs.Prelude.{ℕ, ◌≡◌, ◌≢◌, ◌<◌, ◌≤◌, List, remove, slice_index_or, map, length, OnOk, IfOk};
+ghost use Rattle.std.specs.Prelude.{IsSomeAnd, MatchOption, slice_get};
 ghost use Rattle.std.specs.List.{AllByRecursion, position_or_len};
 ghost use Rattle.minislots.specs.declared.config.Config.{Config};
 ghost use Rattle.flow_book.specs.declared.flow.Flow.{Flow};

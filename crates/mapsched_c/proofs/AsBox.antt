@@ -16,7 +16,11 @@ use Rattle.mapsched_c.specs.contracts.place.Place as Place
 
 -- the box, with its allocator
 abbrev pub E : Bx
-E = record { row = Channel.the_row; laws = channel.the_row_laws; al = record { row = Heap.the_row; laws = heap.the_row_laws; g = ghosts; d = dict; drops = impl [] tnil dnil } }
+E = record {
+  row = Channel.the_row;
+  laws = channel.the_row_laws;
+  al = record { row = Heap.the_row; laws = heap.the_row_laws; g = ghosts; d = dict; drops = impl [] tnil dnil };
+}
 
 -- parts, by value
 abbrev pub FromParts : Slot 0

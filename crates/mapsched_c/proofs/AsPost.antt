@@ -13,7 +13,11 @@ use Rattle.mapsched_c.specs.contracts.post.Post as Post
 
 -- the box, with its allocator
 abbrev pub E : Bx
-E = record { row = Worker.the_row; laws = worker.the_row_laws; al = record { row = Heap.the_row; laws = heap.the_row_laws; g = ghosts; d = dict; drops = impl [] tnil dnil } }
+E = record {
+  row = Worker.the_row;
+  laws = worker.the_row_laws;
+  al = record { row = Heap.the_row; laws = heap.the_row_laws; g = ghosts; d = dict; drops = impl [] tnil dnil };
+}
 
 -- parts, by value
 abbrev pub FromParts : Slot 0

@@ -46,4 +46,5 @@ long_outcome text long = rw (lt-ltb MAX_INPUT (length text) long) refl
 pub audits_long : (text : List ℕ) (left : Option (List ℕ)) (untold : ℕ) → ReadsTooMany (Some text) left
     → Audits text TOO_LONG untold untold
 audits_long text left untold many =
-    inl (subst (λ o. AuditsOutcome o TOO_LONG untold untold) (sym (long_outcome text (too_many text left many))) (refl, refl))
+    inl (subst (λ o. AuditsOutcome o TOO_LONG untold untold) (sym (long_outcome text (too_many text left many)))
+    (refl, refl))

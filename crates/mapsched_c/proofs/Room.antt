@@ -38,12 +38,14 @@ module _ (c : Config) (conf : IsLawful c) where
       let grants = (places_of c spec conf periodic none).grants_most in
       omega (arith, is.starts.count, mul-le-mul frames grants)
 
-  placing_room : (h : List Entry) (spec : FlowSpec) (reply : Reply) → is_periodic spec ≡ true → first_fault c spec ≡ None
+  placing_room : (h : List Entry) (spec : FlowSpec) (reply : Reply) → is_periodic spec ≡ true
+      → first_fault c spec ≡ None
       → PlacesOrRefuses c h spec reply → HasRoom reply
   placing_room h spec reply periodic none (inl (p, is, e)) = rw e (placed_room h spec p periodic none is)
   placing_room h spec reply periodic none (inr (nowhere, e)) = rw e tt
 
-  status_room : (f : LiveFlow) (b : Bool) → takes_requests f.spec ≡ b → (reply : Reply) → reply ≡ flow_status f → HasRoom reply
+  status_room : (f : LiveFlow) (b : Bool) → takes_requests f.spec ≡ b → (reply : Reply) → reply ≡ flow_status f
+      → HasRoom reply
   status_room f true is reply e = rw e (rw is tt)
   status_room f false is reply e = rw e (rw is tt)
 

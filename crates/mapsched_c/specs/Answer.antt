@@ -15,7 +15,8 @@ IsLegalIn None = Unit {0}
 IsLegalIn (Some m) = IsLegal m.config m.history
 
 -- The call was recorded with its stamp and a reply that may follow the history, and the reply was written
-pub record IsRecorded (m : Machine) (new : Option Machine) (stamp : Stamp) (call : Call) (before after : PlainReply) : Type 0 where
+pub record IsRecorded (m : Machine) (new : Option Machine) (stamp : Stamp) (call : Call)
+    (before after : PlainReply) : Type 0 where
   pub reply : Reply
   pub room : length m.history < m.config.calls
   pub step : IsStep m.config m.history call reply

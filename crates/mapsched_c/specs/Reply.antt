@@ -4,7 +4,7 @@ use Rattle.map_codec.specs.WireMap.{spelling}
 use Rattle.sched_history.specs.declared.reply.Reply.{Reply}
 use Rattle.sched_history.specs.declared.reply.Reply.TheVariants.{Admitted, Removed, Taken, Noted, Built, Skipped, Flow}
 use Rattle.sched_history.specs.declared.reply.Reply.TheVariants.{Refused}
-use Rattle.sched_text.specs.Line.{refusal_number, refusal_value}
+use Rattle.sched_lines.specs.Line.{refusal_number, refusal_value}
 use Rattle.mapsched_c.specs.declared.reply.PlainReply.{PlainReply}
 use Rattle.mapsched_c.specs.declared.reply.TheConstants.{MAX_STARTS}
 use Rattle.mapsched_c.specs.declared.reply.answer.TheConstants.{ADMITTED, PLACED, REMOVED, TAKEN, NOTED, BUILT}

@@ -1,5 +1,6 @@
 -- What the exports of workers answer, and what is in their handles then.
-use Rattle.std.specs.Prelude.{◌≡◌, ℕ, ◌+◌, ◌<◌, ◌⊎◌, Bool, true, false, [], Option, None, Some, MatchOption, Result, Ok, Err}
+use Rattle.std.specs.Prelude.{◌≡◌, ℕ, ◌+◌, ◌<◌, ◌⊎◌, Bool, true, false, [], Option, None, Some, MatchOption, Result, Ok}
+use Rattle.std.specs.Prelude.{Err}
 use Rattle.std.specs.Prelude.{is_some}
 use Rattle.minislots.specs.declared.config.Config.{Config}
 use Rattle.minislots.specs.Config.{first_wrong}
@@ -25,8 +26,8 @@ use Rattle.mapsched_c.specs.Reply.{plain_reply}
 abbrev pub Held : Type 0
 Held = Option WorkerState
 
--- a lawful configuration makes a workplace with so many seats and its first worker, or there cannot be so many seats, or
--- memory ran out, and then there is none
+-- a lawful configuration makes a workplace with so many seats and its first worker, or there cannot be so many seats,
+-- or memory ran out, and then there is none
 abbrev pub OpensPlace : Held → Config → ℕ → ℕ → Type 0
 OpensPlace new c seats status =
     ((status ≡ OK) × (w : WorkerState) × (new ≡ Some w) × IsFirstWorker c seats w)
@@ -69,7 +70,8 @@ Writes (Err HistoryFull) status before after = (status ≡ HISTORY_FULL) × (aft
 Writes (Err Memory) status before after = (status ≡ OUT_OF_MEMORY) × (after ≡ before)
 
 -- the turn of this ticket has ended with an answer, which is written
-pub record EndsTurn (w : WorkerState) (t : Stands) (new : Held) (call : Call) (status : ℕ) (before after : PlainReply) : Type 0 where
+pub record EndsTurn (w : WorkerState) (t : Stands) (new : Held) (call : Call) (status : ℕ)
+    (before after : PlainReply) : Type 0 where
   pub answer : Result Reply Unrecorded
   pub seat : Stands
   pub turned : AnswersTurn w.place.config t call seat answer
@@ -79,7 +81,8 @@ pub record EndsTurn (w : WorkerState) (t : Stands) (new : Held) (call : Call) (s
 -- a turn with this ticket ends, or the ticket is not served yet
 abbrev pub TurnsWith : WorkerState → Stands → Held → Call → ℕ → PlainReply → PlainReply → Type 0
 TurnsWith w t new call status before after = EndsTurn w t new call status before after
-    ⊎ ((status ≡ NOT_SERVED) × Stay (Some (record w { ticket = Some (record t { looks = t.looks + 1 }) })) new before after)
+    ⊎ ((status ≡ NOT_SERVED) × Stay
+    (Some (record w { ticket = Some (record t { looks = t.looks + 1 }) })) new before after)
 
 -- what a turn answers
 abbrev pub Turns : Held → Held → Option Call → ℕ → PlainReply → PlainReply → Type 0

@@ -10,7 +10,7 @@ use map_build::FrameMap;
 use map_codec::{MAX_BYTES, encode};
 use periodic::Placement;
 use sched_history::{Refusal, Reply};
-use sched_text::{refusal_number, refusal_value};
+use sched_lines::{refusal_number, refusal_value};
 
 /// The kinds of replies.
 pub mod answer {

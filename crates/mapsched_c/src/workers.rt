@@ -110,8 +110,8 @@ fn turn_of(worker: &mut Worker, call: Call, reply: &mut PlainReply) -> u32
     }
 }
 
-/// Makes a call, where the worker's ticket is served: answers and records it, with the stamp of its seat and ticket, and
-/// writes its reply. One look, no wait. A call that is not recorded ends the turn too.
+/// Makes a call, where the worker's ticket is served: answers and records it, with the stamp of its seat and ticket,
+/// and writes its reply. One look, no wait. A call that is not recorded ends the turn too.
 #[unsafe(no_mangle)]
 pub extern "C" fn mapsched_turn(
     alloc: Global,

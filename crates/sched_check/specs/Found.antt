@@ -4,7 +4,7 @@ use Rattle.text_stream.specs.declared.fault.TextFault.{TextFault}
 use Rattle.text_stream.specs.declared.fault.TextFault.TheVariants.{Input, TooLong, NotJson, Shape, Config, Memory}
 use Rattle.text_stream.specs.declared.fault.TextFault.TheVariants.{Output}
 use Rattle.text_stream.specs.Fault.{field_number}
-use Rattle.sched_text.specs.Line.{number_text}
+use Rattle.sched_lines.specs.Line.{number_text}
 use Rattle.sched_text.specs.Outcome.{outcome_of}
 use Rattle.sched_text.specs.StormScript.{storm_outcome}
 use Rattle.sched_text.specs.Recorded.{history_outcome}

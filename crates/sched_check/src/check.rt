@@ -2,7 +2,7 @@
 
 ghost use Rattle.std.specs.Prelude.{◌≡◌, ◌≢◌, ◌++◌, OnOk, IfOk, IfErr, option_map};
 ghost use Rattle.std.specs.Io.KnownBytes.{Appends};
-ghost use Rattle.sched_text.specs.Line.{number_text};
+ghost use Rattle.sched_lines.specs.Line.{number_text};
 ghost use Rattle.text_stream.specs.Watched.{FailsBy};
 ghost use Rattle.sched_fault.specs.Fault.{run_fault_of};
 ghost use Rattle.sched_check.specs.Found.{fault_text, praise, verdict_text, verdict_line};
@@ -11,7 +11,7 @@ ghost use Rattle.sched_check.specs.Check.{Checks, StopsCheck};
 use crate::kind::Kind;
 use crate::report::report_on;
 use sched_fault::RunFault;
-use sched_text::put_number;
+use sched_lines::put_number;
 use std::alloc::Global;
 use text_stream::{Sink, Source, TextFault, field_number, put, read_all};
 
@@ -104,8 +104,8 @@ fn told(found: Option<TextFault>) -> Option<RunFault>
 
 /// Reads a file to the reader's end, a script, the script of a storm or a history by its members, and answers the
 /// fault by which `run`, `storm` or `audit` ends on the same bytes before it does anything, or none. Writes that fault
-/// in one line, as those commands tell it, or that the file is good, and words on it behind: where the fault is and what
-/// was expected, or what the file has. Whether a history is legal and whether calls are refused is not looked at.
+/// in one line, as those commands tell it, or that the file is good, and words on it behind: where the fault is and
+/// what was expected, or what the file has. Whether a history is legal and whether calls are refused is not looked at.
 pub fn run_check<R: Source, W: Sink>(
     alloc: Global,
     reader: &mut R,

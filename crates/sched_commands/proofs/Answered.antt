@@ -6,7 +6,7 @@ use Rattle.sched_history.specs.declared.call.Call.{Call}
 use Rattle.sched_history.specs.declared.reply.Entry.{Entry}
 use Rattle.sched_history.specs.History.{IsStep, IsLegal}
 use Rattle.map_build.proofs.EachAfterLaws.{EachAfter-push}
-use Rattle.sched_text.specs.Line.{Answer}
+use Rattle.sched_lines.specs.Line.{Answer}
 use Rattle.sched_commands.specs.Answer.{MayGet, recorded, MayGetEach, recorded_entries}
 
 -- one call more behind

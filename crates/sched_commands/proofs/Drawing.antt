@@ -6,7 +6,7 @@ use Rattle.std.proofs.lemmas.List.{take_all}
 use Rattle.sched_history.specs.declared.call.Call.{Call}
 use Rattle.sched_history.specs.Facts.{maps_of}
 use Rattle.sched_history.specs.Machine.{Machine}
-use Rattle.sched_text.specs.Line.{Answer}
+use Rattle.sched_lines.specs.Line.{Answer}
 use Rattle.frame_picture.specs.Picture.{picture_text}
 use Rattle.sched_commands.specs.Answer.{MakesCall}
 use Rattle.sched_commands.specs.Drawing.{lacks_memory, MakesWhole, Draws}

@@ -1,5 +1,6 @@
 -- What a run wrote as its history is read again as that history, which is legal.
-use Rattle.std.proofs.Common.{◌≡◌, ℕ, ◌≤◌, ◌<◌, ◌++◌, List, [], length, Bool, true, Option, None, Some, Ok, Err, refl, sym}
+use Rattle.std.proofs.Common.{◌≡◌, ℕ, ◌≤◌, ◌<◌, ◌++◌, List, [], length, Bool, true, Option, None, Some, Ok, Err, refl}
+use Rattle.std.proofs.Common.{sym}
 use Rattle.std.proofs.Common.{Result, ap, ◌∙◌, subst, arith}
 use Rattle.std.proofs.lemmas.List.{length-append}
 use Rattle.sched_history.specs.History.{IsLegal}

@@ -13,10 +13,10 @@ use Rattle.sched_history.specs.declared.reply.Entry.{Entry}
 use Rattle.sched_history.specs.declared.reply.Unrecorded.TheVariants.{HistoryFull, Memory}
 use Rattle.sched_history.specs.History.{IsStep, IsLegal}
 use Rattle.sched_history.specs.Machine.{Machine, MayLackMemory}
-use Rattle.sched_text.specs.Line.{Answer}
+use Rattle.sched_lines.specs.Line.{Answer}
 use Rattle.sched_commands.specs.Answer.{MayGet, recorded, recorded_entries, MakesCall, MakesCalls}
-use Rattle.sched_text.specs.Line.{line_of}
-use Rattle.sched_text.specs.Meaning.{explained_line}
+use Rattle.sched_lines.specs.Line.{line_of}
+use Rattle.sched_lines.specs.Meaning.{explained_line}
 use Rattle.text_stream.proofs.Written.{Appends-out}
 use Rattle.sched_text.specs.HistoryText.{history_text}
 use Rattle.sched_commands.specs.Run.{HistoryFits, AnswersEach}

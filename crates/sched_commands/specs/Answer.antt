@@ -6,7 +6,7 @@ use Rattle.sched_history.specs.declared.reply.Entry.{Entry}
 use Rattle.sched_history.specs.declared.reply.Unrecorded.TheVariants.{HistoryFull, Memory}
 use Rattle.sched_history.specs.History.{IsStep}
 use Rattle.sched_history.specs.Machine.{Machine, MayLackMemory}
-use Rattle.sched_text.specs.Line.{Answer}
+use Rattle.sched_lines.specs.Line.{Answer}
 
 -- the call may get this answer after the history: a reply that is a step, where there is room for it
 abbrev pub MayGet : Config → List Entry → Call → Answer → Type 0

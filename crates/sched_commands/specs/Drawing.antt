@@ -10,7 +10,7 @@ use Rattle.sched_history.specs.History.{IsLegal}
 use Rattle.sched_history.specs.Machine.{Machine}
 use Rattle.sched_text.specs.Script.{Scenario}
 use Rattle.sched_text.specs.Outcome.{StandsFor}
-use Rattle.sched_text.specs.Line.{Answer}
+use Rattle.sched_lines.specs.Line.{Answer}
 use Rattle.frame_picture.specs.Picture.{picture_text}
 use Rattle.sched_commands.specs.Answer.{MayGetEach, recorded_entries, MakesCalls}
 

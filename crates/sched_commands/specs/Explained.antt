@@ -6,8 +6,8 @@ use Rattle.sched_history.specs.declared.call.Call.{Call}
 use Rattle.sched_history.specs.History.{IsLegal}
 use Rattle.sched_text.specs.Script.{Scenario}
 use Rattle.sched_text.specs.Outcome.{StandsFor}
-use Rattle.sched_text.specs.Line.{Answer}
-use Rattle.sched_text.specs.Meaning.{explained_line}
+use Rattle.sched_lines.specs.Line.{Answer}
+use Rattle.sched_lines.specs.Meaning.{explained_line}
 use Rattle.sched_commands.specs.Answer.{MayGetEach, recorded_entries}
 
 -- The calls are made one after the other on a scheduler without entries, as in a run, and the line of each answer is

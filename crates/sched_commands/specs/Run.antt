@@ -14,9 +14,9 @@ use Rattle.sched_fault.specs.declared.fault.RunFault.TheVariants.{Input, TooLong
 use Rattle.sched_fault.specs.declared.fault.RunFault.TheVariants.{Output, Threads}
 use Rattle.text_stream.specs.Input.{ReadsTooMany}
 use Rattle.sched_text.specs.Outcome.{StandsFor, HasFault}
-use Rattle.sched_text.specs.Line.{Answer}
+use Rattle.sched_lines.specs.Line.{Answer}
 use Rattle.sched_commands.specs.Answer.{MayGetEach, recorded_entries}
-use Rattle.sched_text.specs.Line.{line_of}
+use Rattle.sched_lines.specs.Line.{line_of}
 use Rattle.sched_text.specs.HistoryText.{history_text}
 use Rattle.sched_text.specs.Fits.{ConfigFits, EntryFits}
 

@@ -2,7 +2,7 @@
 use Rattle.std.specs.Prelude.{ℕ, zero, suc, Bool, true, false, List, [], ◌∷◌, ◌++◌, Option, None, Some}
 use Rattle.std.specs.Prelude.{codes, slice_index}
 use Rattle.sched_storm.specs.declared.tally.Tally.{Tally}
-use Rattle.sched_text.specs.Line.{number_text}
+use Rattle.sched_lines.specs.Line.{number_text}
 use Rattle.sched_commands.specs.Line.{number_line}
 
 -- the line of a seat: its number and its count

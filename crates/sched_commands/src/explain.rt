@@ -8,7 +8,8 @@ ghost use Rattle.text_stream.specs.Watched.{FailsBy};
 use crate::run::make_call;
 use sched_fault::RunFault;
 use sched_history::{Call, Scheduler};
-use sched_text::{LineBuffer, read_script};
+use sched_lines::LineBuffer;
+use sched_text::read_script;
 use std::alloc::Global;
 use text_stream::{Sink, Source, TextFault};
 

@@ -6,7 +6,7 @@ ghost use Rattle.std.specs.List.{AllByRecursion};
 ghost use Rattle.map_codec.specs.WireMap.{IsWellFormed};
 ghost use Rattle.sched_history.specs.Machine.{IsEncodable};
 ghost use Rattle.sched_text.specs.Fits.{CallFits, ConfigFits, PlacementFits, MapFits, ValueFits, ReplyFits, EntryFits};
-ghost use Rattle.sched_text.specs.Line.{refusal_value};
+ghost use Rattle.sched_lines.specs.Line.{refusal_value};
 ghost use Rattle.sched_commands.specs.Run.{HistoryFits};
 
 use map_build::FrameMap;

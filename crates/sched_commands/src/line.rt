@@ -5,7 +5,7 @@ ghost use Rattle.std.specs.Io.KnownBytes.{Appends};
 ghost use Rattle.text_stream.specs.Watched.{FailsBy};
 ghost use Rattle.sched_commands.specs.Line.{number_line};
 
-use sched_text::put_number;
+use sched_lines::put_number;
 use text_stream::{Sink, TextFault, put};
 
 /// The line of a number under this name.

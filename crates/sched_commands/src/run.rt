@@ -1,7 +1,7 @@
 //! A run of a script.
 
 ghost use Rattle.std.specs.Prelude.{◌≡◌, ◌≢◌, ◌⊎◌, [], true, false, List, OnOk, IfErr};
-ghost use Rattle.sched_text.specs.Line.{Answer, HasLine};
+ghost use Rattle.sched_lines.specs.Line.{Answer, HasLine};
 ghost use Rattle.text_stream.specs.Watched.{FailsBy};
 ghost use Rattle.sched_commands.specs.Answer.{MakesCall, MakesCalls};
 ghost use Rattle.sched_commands.specs.Run.{AnswersEach, Ran, Stops};
@@ -10,7 +10,8 @@ use crate::fits::history_fits;
 use minislots::{Checked, Stamp};
 use sched_fault::RunFault;
 use sched_history::{Call, Reply, Scheduler, Unrecorded};
-use sched_text::{LineBuffer, put_history, read_script};
+use sched_lines::LineBuffer;
+use sched_text::{put_history, read_script};
 use std::alloc::Global;
 use text_stream::{Sink, Source, TextFault};
 

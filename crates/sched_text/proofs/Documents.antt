@@ -17,7 +17,8 @@ use Rattle.sched_text.specs.Outcome.{unless_wrong, text_outcome}
 use Rattle.sched_text.specs.Recorded.{entries_of, history_of, history_in}
 use Rattle.sched_text.specs.Replies.{entry_of}
 use Rattle.sched_text.specs.Script.{◌>>=◌, calls_of, script_of}
-use Rattle.sched_text.specs.StormScript.{calls_each, count_of, are_arrays, are_scripts, scripts_of, storm_of, storm_text}
+use Rattle.sched_text.specs.StormScript.{calls_each, count_of, are_arrays, are_scripts, scripts_of, storm_of}
+use Rattle.sched_text.specs.StormScript.{storm_text}
 use Rattle.sched_text.specs.Usual.{script_text, recorded_text, scripts_text}
 use Rattle.sched_text.proofs.StormCalls.{are_scripts-few}
 
@@ -31,7 +32,8 @@ abbrev AreCalls : Data → Vec Call Global → Type 0
 AreCalls d calls = IsListOf IsCall d calls.items
 
 -- calls that were all read
-calls_in : (ds : List Data) (calls : List Call) → StandEach IsCall ds calls → (n : ℕ) → calls_of n (items_of ds) ≡ Ok calls
+calls_in : (ds : List Data) (calls : List Call) → StandEach IsCall ds calls → (n : ℕ)
+    → calls_of n (items_of ds) ≡ Ok calls
 unfolding calls_of
 calls_in [] [] each n = refl
 calls_in [] (call ∷ calls) each n = absurd each

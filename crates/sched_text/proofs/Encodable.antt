@@ -1,5 +1,6 @@
 -- The MAP of each entry that is read has bytes.
-use Rattle.std.proofs.Common.{◌≡◌, ℕ, ◌+◌, ◌^◌, Bool, true, false, cond, ◌||◌, List, Option, Some, None, Result, Ok, Err}
+use Rattle.std.proofs.Common.{◌≡◌, ℕ, ◌+◌, ◌^◌, Bool, true, false, cond, ◌||◌, List, Option, Some, None, Result, Ok}
+use Rattle.std.proofs.Common.{Err}
 use Rattle.std.proofs.Common.{refl, subst}
 use Rattle.std.specs.Prelude.{IfOk, IfSome, ok_or, option_and_then, codes, bytes_eq}
 use Rattle.std.specs.List.{AllByRecursion}
@@ -19,7 +20,7 @@ use Rattle.sched_history.specs.declared.reply.Reply.TheVariants.{Admitted, Remov
 use Rattle.sched_history.specs.declared.reply.Entry.{Entry}
 use Rattle.text_stream.specs.declared.fault.TextFault.{TextFault}
 use Rattle.text_stream.specs.declared.fault.TextFault.TheVariants.{Shape}
-use Rattle.sched_text.specs.Fields.{◌>>=◌, u32_at, u64_at, text_at, config_of}
+use Rattle.json_fields.specs.Fields.{◌>>=◌, u32_at, u64_at, text_at, config_of}
 use Rattle.sched_text.specs.Calls.{call_of}
 use Rattle.text_stream.specs.Input.{value_of}
 use Rattle.text_stream.specs.Input.{Gives}
@@ -169,7 +170,8 @@ history_in-encodable bytes =
 
 -- what was made of a text has a MAP with bytes in each entry that has a MAP
 pub encodable_entries : {X : Type 0} (view : X → History) (result : Result X TextFault) (bytes : List ℕ)
-    → Gives view result (history_in bytes) → IfOk result (λ x. AllByRecursion (λ e. IsEncodable e.reply) (view x).entries)
+    → Gives view result (history_in bytes)
+    → IfOk result (λ x. AllByRecursion (λ e. IsEncodable e.reply) (view x).entries)
 encodable_entries view (Ok x) bytes exact =
     subst (λ (r : Result History TextFault). IfOk r AllHaveBytes) exact (history_in-encodable bytes)
 encodable_entries view (Err fault) bytes exact = tt

@@ -1,5 +1,6 @@
 -- A history has fewer entries than its text has bytes.
-use Rattle.std.proofs.Common.{◌≡◌, ℕ, suc, ◌+◌, ◌<◌, ◌≤◌, Bool, true, false, cond, List, ◌∷◌, length, Option, Some, None}
+use Rattle.std.proofs.Common.{◌≡◌, ℕ, suc, ◌+◌, ◌<◌, ◌≤◌, Bool, true, false, cond, List, ◌∷◌, length, Option, Some}
+use Rattle.std.proofs.Common.{None}
 use Rattle.std.proofs.Common.{Result, Ok, Err, Ordering, Less, Equal, Greater, refl, subst, arith}
 use Rattle.std.specs.Prelude.{IfOk, ok_or, option_and_then, codes}
 use Rattle.std.specs.Ordering.{nat_cmp, match_ordering}
@@ -15,7 +16,7 @@ use Rattle.sched_history.specs.declared.reply.TheConstants.{MAX_ENTRIES}
 use Rattle.text_stream.specs.declared.input.TheConstants.{MAX_INPUT}
 use Rattle.text_stream.specs.declared.fault.TextFault.{TextFault}
 use Rattle.text_stream.specs.declared.fault.TextFault.TheVariants.{NotJson, Shape}
-use Rattle.sched_text.specs.Fields.{config_of}
+use Rattle.json_fields.specs.Fields.{config_of}
 use Rattle.text_stream.specs.Input.{Gives}
 use Rattle.sched_text.specs.Script.{◌>>=◌}
 use Rattle.text_stream.specs.Input.{value_of}

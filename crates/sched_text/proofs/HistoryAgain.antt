@@ -13,9 +13,9 @@ use Rattle.sched_history.specs.declared.reply.Reply.TheVariants.{Admitted, Remov
 use Rattle.sched_history.specs.declared.reply.Reply.TheVariants.{Refused}
 use Rattle.sched_history.specs.declared.reply.Refusal.{Refusal}
 use Rattle.sched_history.specs.declared.reply.Entry.{Entry}
-use Rattle.sched_text.specs.Fields.{u32_at, u64_at, number_at, text_at}
+use Rattle.json_fields.specs.Fields.{u32_at, u64_at, number_at, text_at}
 use Rattle.sched_text.specs.Json.{count, counts, plain_data, placed_data, map_data, refused_data, reply_data}
-use Rattle.sched_text.specs.Line.{refusal_number, refusal_value}
+use Rattle.sched_lines.specs.Line.{refusal_number, refusal_value}
 use Rattle.sched_text.specs.HistoryText.{entry_data, entries_data, history_data}
 use Rattle.sched_text.specs.Refusals.{refusal_with}
 use Rattle.sched_text.specs.Replies.{number_below, numbers_of, numbers_at, placed_reply, admitted_reply, map_at}

@@ -13,7 +13,7 @@ use Rattle.sched_history.specs.declared.reply.Reply.TheVariants.{Refused}
 use Rattle.sched_history.specs.declared.reply.Entry.{Entry}
 use Rattle.sched_text.specs.Json.{count, counts, flow_data, call_data, plain_data, placed_data, map_data, refused_data}
 use Rattle.sched_text.specs.Json.{reply_data}
-use Rattle.sched_text.specs.Line.{refusal_number, refusal_value}
+use Rattle.sched_lines.specs.Line.{refusal_number, refusal_value}
 use Rattle.sched_text.specs.HistoryText.{config_data, entry_data, entries_data, history_data}
 
 depth-numbers : (ns : List ℕ) → items_depth (items_of (map count ns)) ≡ 0

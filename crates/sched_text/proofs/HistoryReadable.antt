@@ -1,5 +1,5 @@
--- The JSON value of a history is read again in its text: its numbers fit 64 bits, its texts are ASCII, and its keys are in
--- order.
+-- The JSON value of a history is read again in its text: its numbers fit 64 bits, its texts are ASCII, and its keys are
+-- in order.
 use Rattle.std.proofs.Common.{◌≡◌, ℕ, ◌<◌, ◌^◌, List, [], ◌∷◌, map, Option, Some, None, refl}
 use Rattle.std.proofs.Common.{true, nat_lt, ltb-true, arith}
 use Rattle.std.specs.Prelude.{codes}
@@ -21,7 +21,7 @@ use Rattle.sched_history.specs.declared.reply.Reply.TheVariants.{Refused}
 use Rattle.sched_history.specs.declared.reply.Entry.{Entry}
 use Rattle.sched_text.specs.Json.{counts, plain_data, placed_data, map_data, refused_data}
 use Rattle.sched_text.specs.Json.{reply_data}
-use Rattle.sched_text.specs.Line.{refusal_number, refusal_value}
+use Rattle.sched_lines.specs.Line.{refusal_number, refusal_value}
 use Rattle.sched_text.specs.HistoryText.{entry_data, entries_data, history_data}
 use Rattle.sched_text.specs.Fits.{ConfigFits, MapFits, ValueFits, ReplyFits, EntryFits}
 use Rattle.sched_text.proofs.Readable.{IsReadable, AreReadable}

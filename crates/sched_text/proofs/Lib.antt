@@ -1,12 +1,9 @@
 pub mod Calls
-pub mod Fields
 pub mod JsonTokens
 pub mod Outcome
-pub mod Plain
-pub mod Each
+pub mod Things
 pub mod RowsFaults
 pub mod RowsHistory
-pub mod RowsLines
 pub mod Told
 pub mod Usual
 pub mod Documents

@@ -6,7 +6,7 @@ use Rattle.std.proofs.Math.Seq.{drop-cons}
 use Rattle.std.proofs.lemmas.List.{drop_all}
 use Rattle.serde_json.specs.Data.{Data, item}
 use Rattle.serde_json.specs.View.{items_of}
-use Rattle.sched_text.specs.Fields.{◌>>=◌}
+use Rattle.json_fields.specs.Fields.{◌>>=◌}
 use Rattle.sched_text.specs.Replies.{number_below, numbers_of}
 
 -- the numbers that were read, and then those that follow

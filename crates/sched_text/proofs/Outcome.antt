@@ -14,7 +14,7 @@ use Rattle.text_stream.specs.declared.input.TheConstants.{MAX_INPUT}
 use Rattle.text_stream.specs.declared.fault.TextFault.{TextFault}
 use Rattle.text_stream.specs.declared.fault.TextFault.TheVariants.{Input, TooLong, NotJson, Shape, Config, Memory}
 use Rattle.text_stream.specs.declared.fault.TextFault.TheVariants.{Output}
-use Rattle.sched_text.specs.Fields.{config_of}
+use Rattle.json_fields.specs.Fields.{config_of}
 use Rattle.sched_text.specs.Calls.{call_of}
 use Rattle.text_stream.specs.Input.{Gives}
 use Rattle.sched_text.specs.Script.{◌>>=◌, Scenario, calls_of, script_of}

@@ -11,8 +11,8 @@ use Rattle.flow_book.specs.declared.spec.FlowSpec.{FlowSpec}
 use Rattle.flow_book.specs.declared.spec.FlowSpec.TheVariants.{Unsolicited, Polled, BestEffort}
 use Rattle.sched_history.specs.declared.call.Call.{Call}
 use Rattle.sched_history.specs.declared.call.Call.TheVariants.{Admit, Remove, Ask, Heard, Build, Skip, Status}
-use Rattle.sched_text.specs.Fields.{below, number_at, u8_at, u16_at, u32_at, u64_at, text_at, slots_of, sizes_of}
-use Rattle.sched_text.specs.Fields.{counts_of, windows_of, u8_or, config_of}
+use Rattle.json_fields.specs.Fields.{below, number_at, u8_at, u16_at, u32_at, u64_at, text_at, slots_of, sizes_of}
+use Rattle.json_fields.specs.Fields.{counts_of, windows_of, u8_or, config_of}
 use Rattle.sched_text.specs.Calls.{unsolicited_of, polled_of, best_effort_of, flow_of, admit_call, remove_call}
 use Rattle.sched_text.specs.Calls.{ask_call, heard_call, build_call, skip_call, status_call, call_of}
 use Rattle.sched_text.specs.Script.{calls_of, script_of}

@@ -5,7 +5,7 @@ use Rattle.std.specs.Prelude.{find, IfSome}
 use Rattle.std.specs.List.{AllByRecursion}
 use Rattle.flow_book.specs.declared.spec.FlowFault.{FlowFault}
 use Rattle.sched_history.specs.declared.reply.Refusal.{Refusal}
-use Rattle.sched_text.specs.Line.{fault_number, refusal_number, refusal_value}
+use Rattle.sched_lines.specs.Line.{fault_number, refusal_number, refusal_value}
 use Rattle.sched_text.specs.Refusals.{flow_faults, fault_with, slot_refusals, flow_refusals, refusals_of}
 use Rattle.sched_text.specs.Refusals.{refusal_with, IsExactRefusal}
 use Rattle.sched_text.proofs.RefusalNumbers.{refusal_with-number}

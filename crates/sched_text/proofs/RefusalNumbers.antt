@@ -9,7 +9,7 @@ use Rattle.sched_history.specs.declared.reply.Refusal.TheVariants.{BadSid, SidLi
 use Rattle.sched_history.specs.declared.reply.Refusal.TheVariants.{NoPlace, NoFlow, NotAsking, BadReceiver, BadBytes}
 use Rattle.sched_history.specs.declared.reply.Refusal.TheVariants.{Acked, Ahead, Backwards, BadClock, TooEarly, Late}
 use Rattle.sched_history.specs.declared.reply.Refusal.TheVariants.{NotLate}
-use Rattle.sched_text.specs.Line.{refusal_number, refusal_value}
+use Rattle.sched_lines.specs.Line.{refusal_number, refusal_value}
 use Rattle.sched_text.specs.Refusals.{fault_with, slot_refusals, flow_refusals, refusal_with}
 
 -- a refusal with a minislot is found behind that of a flow's parameters, which has another number

@@ -10,8 +10,8 @@ use Rattle.flow_book.proofs.Base.{base}
 use Rattle.sched_history.specs.declared.call.Call.TheVariants.{Build}
 use Rattle.text_stream.specs.declared.fault.TextFault.{TextFault}
 use Rattle.text_stream.specs.declared.fault.TextFault.TheVariants.{Input, NotJson, Shape, Config, Memory}
-use Rattle.sched_text.specs.Fields.{config_of, slots_of, sizes_of, counts_of, windows_of, u8_or, u8_at, u16_at, u32_at}
-use Rattle.sched_text.specs.Fields.{u64_at, number_at, text_at}
+use Rattle.json_fields.specs.Fields.{config_of, slots_of, sizes_of, counts_of, windows_of, u8_or, u8_at, u16_at, u32_at}
+use Rattle.json_fields.specs.Fields.{u64_at, number_at, text_at}
 use Rattle.sched_text.specs.Calls.{call_of, build_call}
 use Rattle.sched_text.specs.Script.{calls_of, script_of}
 use Rattle.text_stream.specs.Input.{value_of}

@@ -3,7 +3,8 @@ use Rattle.std.proofs.Common.{◌≡◌, ℕ, suc, ◌+◌, ◌≤◌, List, [],
 use Rattle.std.proofs.Common.{option_map, option_and_then, Ordering, Less, Equal, Greater, refl, subst, ap, arith}
 use Rattle.std.proofs.Common.{length-append}
 use Rattle.std.specs.Ordering.{match_ordering}
-use Rattle.json.specs.Token.{Token, begin_object, end_object, begin_array, end_array, key, string, number, boolean, null}
+use Rattle.json.specs.Token.{Token, begin_object, end_object, begin_array, end_array, key, string, number, boolean}
+use Rattle.json.specs.Token.{null}
 use Rattle.json.specs.Token.{bad}
 use Rattle.json.specs.Lex.{Lexeme, token, comma, colon, Class, quote, backslash, operator, space, other, Mode, between}
 use Rattle.json.specs.Lex.{in_word, in_string, in_escape, class, lex_byte, lex, Place, fresh, after_value, after_comma}

@@ -12,14 +12,14 @@ use Rattle.serde_json.specs.Data.{Data, object, Members, no_members, put}
 use Rattle.serde_json.specs.Find.{get_member}
 use Rattle.serde_json.specs.Read.{read, of_json, of_members, converted}
 use Rattle.minislots.specs.declared.config.Config.{Config}
-use Rattle.sched_text.specs.declared.script.plain.Stop.{Stop}
+use Rattle.json_fields.specs.declared.plain.Stop.{Stop}
 use Rattle.sched_text.specs.declared.script.usual.Parts.{Parts}
-use Rattle.sched_text.specs.Fields.{config_of}
+use Rattle.json_fields.specs.Fields.{config_of}
 use Rattle.text_stream.specs.Input.{value_of}
 use Rattle.sched_text.specs.Listed.{IsInMembers, IsDocument}
 use Rattle.sched_text.specs.Usual.{read_tokens}
 use Rattle.text_stream.proofs.Bytes.{value_of-Ok}
-use Rattle.sched_text.proofs.Plain.{object_read, read_as, found_at}
+use Rattle.json_fields.proofs.PlainValues.{object_read, read_as, found_at}
 
 module _ {P : Type 0} (stands_for : Data → P → Type 0) (name : List ℕ) where
   abbrev ConfigIn : Option Config → Members → Type 0
@@ -77,7 +77,8 @@ module _ {P : Type 0} (stands_for : Data → P → Type 0) (name : List ℕ) whe
     }
 
   -- nothing was read
-  pub none_in : (parts : Parts P) (ms : Members) → parts.config ≡ None → parts.list ≡ None → IsInMembers stands_for name parts ms
+  pub none_in : (parts : Parts P) (ms : Members) → parts.config ≡ None → parts.list ≡ None
+      → IsInMembers stands_for name parts ms
   none_in parts ms config list = record { config = rw config tt; list = rw list tt }
 
   -- the parts make a document

@@ -6,7 +6,7 @@ use Rattle.flow_book.specs.declared.spec.FlowSpec.{FlowSpec}
 use Rattle.flow_book.specs.declared.spec.FlowSpec.TheVariants.{Unsolicited, Polled, BestEffort}
 use Rattle.sched_history.specs.declared.call.Call.{Call}
 use Rattle.sched_history.specs.declared.call.Call.TheVariants.{Admit, Remove, Ask, Heard, Build, Skip, Status}
-use Rattle.sched_text.specs.Fields.{◌>>=◌, u8_at, u16_at, u32_at, u64_at, u8_or, text_at}
+use Rattle.json_fields.specs.Fields.{◌>>=◌, u8_at, u16_at, u32_at, u64_at, u8_or, text_at}
 
 -- a flow of unsolicited grants: one in an interval where their number is missing
 unfoldable pub unsolicited_of : Data → Option FlowSpec

@@ -15,7 +15,7 @@ use Rattle.sched_history.specs.declared.reply.Reply.TheVariants.{Admitted, Remov
 use Rattle.sched_history.specs.declared.reply.Reply.TheVariants.{Refused}
 use Rattle.sched_history.specs.declared.reply.Entry.{Entry}
 use Rattle.text_stream.specs.declared.input.TheConstants.{MAX_INPUT}
-use Rattle.sched_text.specs.Line.{refusal_value}
+use Rattle.sched_lines.specs.Line.{refusal_value}
 use Rattle.sched_text.specs.HistoryText.{history_text}
 use Rattle.sched_text.specs.Recorded.{history_outcome}
 
@@ -96,7 +96,8 @@ pub record EntryFits (e : Entry) : Type 0 where
   pub call : CallFits e.call
   pub reply : ReplyFits e.reply
 
--- what is written of a history under a lawful configuration stands for that history, where it is not too long to be read
+-- what is written of a history under a lawful configuration stands for that history, where it is not too long to be
+-- read
 abbrev pub IsReadAgain : Type 0
 IsReadAgain = (c : Config) (es : List Entry) → ConfigFits c → first_wrong c ≡ None → AllByRecursion EntryFits es
     → length (history_text c es) ≤ MAX_INPUT

@@ -14,7 +14,7 @@ use Rattle.sched_history.specs.declared.call.Call.TheVariants.{Admit, Remove, As
 use Rattle.sched_history.specs.declared.reply.Reply.{Reply}
 use Rattle.sched_history.specs.declared.reply.Reply.TheVariants.{Admitted, Removed, Taken, Noted, Built, Skipped, Flow}
 use Rattle.sched_history.specs.declared.reply.Reply.TheVariants.{Refused}
-use Rattle.sched_text.specs.Line.{refusal_number, refusal_value}
+use Rattle.sched_lines.specs.Line.{refusal_number, refusal_value}
 
 -- a whole number
 abbrev pub count : ℕ → Data

@@ -1,13 +1,9 @@
-pub mod Fields
 pub mod Calls
 pub mod Script
-pub mod Plain
 pub mod Listed
 pub mod Usual
 pub mod Outcome
 pub mod StormScript
-pub mod Line
-pub mod Meaning
 pub mod Json
 pub mod Tokens
 pub mod HistoryText

@@ -5,7 +5,7 @@ use Rattle.serde_json.specs.Find.{get, get_member}
 use Rattle.serde_json.specs.View.{items_of}
 use Rattle.minislots.specs.declared.config.Config.{Config}
 use Rattle.sched_text.specs.declared.script.usual.Parts.{Parts}
-use Rattle.sched_text.specs.Fields.{config_of}
+use Rattle.json_fields.specs.Fields.{config_of}
 
 -- each value stands for the thing in its place
 abbrev pub StandEach : {X : Type 0} → (Data → X → Type 0) → List Data → List X → Type 0

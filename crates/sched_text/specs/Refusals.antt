@@ -8,7 +8,7 @@ use Rattle.sched_history.specs.declared.reply.Refusal.TheVariants.{BadSid, SidLi
 use Rattle.sched_history.specs.declared.reply.Refusal.TheVariants.{NoPlace, NoFlow, NotAsking, BadReceiver, BadBytes}
 use Rattle.sched_history.specs.declared.reply.Refusal.TheVariants.{Acked, Ahead, Backwards, BadClock, TooEarly, Late}
 use Rattle.sched_history.specs.declared.reply.Refusal.TheVariants.{NotLate}
-use Rattle.sched_text.specs.Line.{fault_number, refusal_number, refusal_value}
+use Rattle.sched_lines.specs.Line.{fault_number, refusal_number, refusal_value}
 
 -- the faults in a flow's parameters
 abbrev pub flow_faults : List FlowFault

@@ -1,5 +1,6 @@
 -- The reply and the entry that a JSON object stands for.
-use Rattle.std.specs.Prelude.{◌≡◌, ◌↔◌, ℕ, ◌^◌, Bool, ◌||◌, if◌then◌else◌, List, [], ◌∷◌, codes, bytes_eq, is_some, is_none}
+use Rattle.std.specs.Prelude.{◌≡◌, ◌↔◌, ℕ, ◌^◌, Bool, ◌||◌, if◌then◌else◌, List, [], ◌∷◌, codes, bytes_eq, is_some}
+use Rattle.std.specs.Prelude.{is_none}
 use Rattle.std.specs.Prelude.{Option, Some, None}
 use Rattle.std.specs.Result.{result_ok}
 use Rattle.hex.specs.Hex.{IsBytes, decode_of}
@@ -12,7 +13,7 @@ use Rattle.sched_history.specs.declared.reply.Reply.{Reply}
 use Rattle.sched_history.specs.declared.reply.Reply.TheVariants.{Admitted, Removed, Taken, Noted, Built, Skipped, Flow}
 use Rattle.sched_history.specs.declared.reply.Reply.TheVariants.{Refused}
 use Rattle.sched_history.specs.declared.reply.Entry.{Entry}
-use Rattle.sched_text.specs.Fields.{◌>>=◌, below, u32_at, u64_at, text_at}
+use Rattle.json_fields.specs.Fields.{◌>>=◌, below, u32_at, u64_at, text_at}
 use Rattle.sched_text.specs.Calls.{call_of}
 use Rattle.sched_text.specs.Refusals.{refusal_with}
 

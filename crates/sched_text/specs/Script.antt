@@ -7,7 +7,7 @@ use Rattle.sched_history.specs.declared.call.Call.{Call}
 use Rattle.text_stream.specs.declared.fault.TextFault.{TextFault}
 use Rattle.text_stream.specs.declared.fault.TextFault.TheVariants.{Shape}
 use Rattle.sched_text.specs.declared.script.Script.{Script}
-use Rattle.sched_text.specs.Fields.{config_of}
+use Rattle.json_fields.specs.Fields.{config_of}
 use Rattle.sched_text.specs.Calls.{call_of}
 
 infixl 10 ◌>>=◌

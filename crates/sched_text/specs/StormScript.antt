@@ -13,7 +13,7 @@ use Rattle.text_stream.specs.declared.fault.TextFault.TheVariants.{Input, TooLon
 use Rattle.text_stream.specs.declared.fault.TextFault.TheVariants.{Output}
 use Rattle.text_stream.specs.declared.input.TheConstants.{MAX_INPUT}
 use Rattle.sched_text.specs.declared.script.storms.StormScript.{StormScript}
-use Rattle.sched_text.specs.Fields.{config_of}
+use Rattle.json_fields.specs.Fields.{config_of}
 use Rattle.text_stream.specs.Input.{value_of, ReadsAll, ReadsTooMany}
 use Rattle.sched_text.specs.Script.{◌>>=◌, calls_of}
 use Rattle.sched_text.specs.Outcome.{unless_wrong}

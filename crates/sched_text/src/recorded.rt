@@ -10,9 +10,8 @@ mod reading;
 mod refusal;
 mod reply;
 
-use crate::script::config::config_of;
-use crate::script::field::member;
 use entry::entry_of;
+use json_fields::{config_in, member};
 use minislots::Config;
 pub use reading::{every_history, read_history};
 use sched_history::Entry;
@@ -50,7 +49,7 @@ fn entries_of(alloc: Global, values: &[Value]) -> Result<Vec<Entry>, TextFault>
 pub fn history_of(alloc: Global, value: &Value) -> Result<Recorded, TextFault>
     ensures { Gives history_with result (history_of (view value.now)) }
 {
-    let Some(config) = member(value, "config").and_then(config_of) else {
+    let Some(config) = config_in(value) else {
         return Err(TextFault::Shape(0));
     };
     let Some(values) = member(value, "entries").and_then(Value::as_array) else {

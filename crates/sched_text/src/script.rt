@@ -6,19 +6,13 @@ ghost use Rattle.text_stream.specs.Input.{Gives};
 ghost use Rattle.sched_text.specs.Script.{calls_of, script_of, scenario_of};
 
 pub(crate) mod call;
-pub(crate) mod config;
-pub(crate) mod field;
 mod flow;
-pub(crate) mod plain;
 mod reading;
-mod skipped;
 mod storms;
-pub(crate) mod tree;
 pub(crate) mod usual;
 
 use call::call_of;
-use config::config_of;
-use field::member;
+use json_fields::{config_in, member};
 use minislots::Config;
 pub use reading::read_script;
 use sched_history::Call;
@@ -59,7 +53,7 @@ fn calls_after(alloc: Global, before: u64, values: &[Value]) -> Result<Vec<Call>
 pub fn script_of(alloc: Global, value: &Value) -> Result<Script, TextFault>
     ensures { Gives scenario_of result (script_of (view value.now)) }
 {
-    let Some(config) = member(value, "config").and_then(config_of) else {
+    let Some(config) = config_in(value) else {
         return Err(TextFault::Shape(0));
     };
     let Some(values) = member(value, "calls").and_then(Value::as_array) else {

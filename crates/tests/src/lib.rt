@@ -26,6 +26,8 @@ mod sched_commands_rows;
 #[cfg(test)]
 mod sched_history_rows;
 #[cfg(test)]
+mod sched_lines_rows;
+#[cfg(test)]
 mod sched_storm_rows;
 #[cfg(test)]
 mod sched_text_rows;

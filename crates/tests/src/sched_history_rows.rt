@@ -6,7 +6,8 @@ use crate::base::{Player, is_shown, play, shown};
 use minislots::{Checked, Stamp};
 use periodic::{Placement, Starts};
 use sched_history::{Call, PlanFault, Reply, Scheduler, Unrecorded};
-use sched_text::{put_line, read_script};
+use sched_lines::put_line;
+use sched_text::read_script;
 use std::alloc::Global;
 use std::test::Fail;
 

@@ -1,6 +1,5 @@
-//! Histories and lines as they are read and written, and scripts of storms as they are read. Scripts and the faults of
+//! Histories as they are read and written, and scripts of storms as they are read. Scripts and the faults of
 //! texts are tried on the program itself, in checks/worked_texts.
 
-mod lines;
 mod recorded;
 mod storms;

@@ -11,7 +11,7 @@ use crate::base::{BASE, checked, is_shown};
 use map_snapshot::Reader;
 use minislots::{Config, Stamp};
 use sched_history::{Call, Reply, Unrecorded};
-use sched_text::put_line;
+use sched_lines::put_line;
 use shared_sched::{Closed, Desk, OpenFault, Shared, open};
 use std::alloc::{AllocGlobal, Global};
 use std::process::Abort;

@@ -2,7 +2,8 @@
 ghost use Rattle.std.specs.Prelude.{◌≡◌, ◌⊎◌, ◌<◌, ◌↔◌, [], None, IfSome, IfOk, IfErr, OnErr, IsErrOf, is_some};
 ghost use Rattle.std.specs.Arc.{arc_value};
 ghost use Rattle.ticket_core.specs.declared.TheConstants.{MAX_SEATS};
-ghost use Rattle.worker_sched.specs.Worker.{IsFirstWorker, Hires, DrawsTicket, TakesTurn, is_busy, ClosesWorker, StaysOpen};
+ghost use Rattle.worker_sched.specs.Worker.{IsFirstWorker, Hires, DrawsTicket, TakesTurn, is_busy, ClosesWorker};
+ghost use Rattle.worker_sched.specs.Worker.{StaysOpen};
 
 use crate::channel::Channel;
 use crate::desk::Desk;
@@ -199,8 +200,8 @@ impl Worker {
     }
 
     /// Closes the workplace, where this is its last worker and has no ticket: draws one, enters, and takes the channel
-    /// out, in the memory that it has. It takes no memory and waits for nobody. That no other worker is left is counted,
-    /// and no clause tells of it.
+    /// out, in the memory that it has. It takes no memory and waits for nobody. That no other worker is left is
+    /// counted, and no clause tells of it.
     pub fn close(&mut self) -> Result<Box<Channel>, CloseFault>
         ensures closed { IfOk result (λ b. ClosesWorker self.old self.new b.value) }
         ensures stays { IfErr result (StaysOpen self.old self.new) }

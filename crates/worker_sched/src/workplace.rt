@@ -56,8 +56,8 @@ impl Drop for Workplace {
 }
 
 impl Workplace {
-    /// The lock round the desk, at which a seat draws. It enters by a turn, or by `try_enter`: one that slept at the lock
-    /// would not be woken.
+    /// The lock round the desk, at which a seat draws. It enters by a turn, or by `try_enter`: one that slept at the
+    /// lock would not be woken.
     pub fn lock(&self) -> &TicketLock<Desk>
         ensures lock { result.now ≡ self.now.lock }
         ensures desk { IsDeskLock self.now.config self.now.lock }

@@ -7,8 +7,8 @@ ghost use Rattle.sched_commands.specs.StormLines.{seat_line, seat_lines};
 ghost use Rattle.sched_commands.specs.StormLines.{newest_line, held_line, audit_line, tally_text};
 
 use crate::line::put_named;
+use sched_lines::put_number;
 use sched_storm::Tally;
-use sched_text::put_number;
 use text_stream::{Sink, TextFault, put};
 use ticket_core::MAX_SEATS;
 

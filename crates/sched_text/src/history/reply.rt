@@ -8,12 +8,12 @@ ghost use Rattle.sched_text.specs.Json.{placed_data, map_data, plain_data, refus
 ghost use Rattle.sched_text.specs.Tokens.{tokens_of};
 
 use super::count::{put_bytes, put_counts, put_name, put_named, put_offsets};
-use crate::line::{refusal_number, refusal_value};
 use json::Writer;
 use map_build::FrameMap;
 use map_codec::{MAX_BYTES, WireMap, encode};
 use periodic::Placement;
 use sched_history::Reply;
+use sched_lines::{refusal_number, refusal_value};
 use std::alloc::{AllocError, Global};
 
 // The keys of the numbers that a reply has beside its kind.

@@ -5,11 +5,9 @@ ghost use Rattle.sched_text.specs.Replies.{entry_of};
 
 use super::reply::reply_of;
 use crate::script::call::call_of;
-use crate::script::field::{member, number_u32, number_u64};
-use crate::script::plain::{Stop, read_plain};
-use crate::script::tree::Tree;
 use crate::script::usual::FromTokens;
 use json::Reader;
+use json_fields::{Stop, Tree, member, number_u32, number_u64, read_plain};
 use minislots::Stamp;
 use sched_history::Entry;
 use std::alloc::{AllocError, Global};

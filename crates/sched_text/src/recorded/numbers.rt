@@ -4,8 +4,7 @@ ghost use Rattle.std.specs.Prelude.{◌≡◌, ◌^◌, map, IfOk, option_map};
 ghost use Rattle.serde_json.specs.View.{items_of};
 ghost use Rattle.sched_text.specs.Replies.{number_below, numbers_of, numbers_at};
 
-use crate::script::field::member;
-use crate::script::tree::Tree;
+use json_fields::{Tree, member};
 use std::alloc::{AllocError, Global};
 
 // The number that a value is, where it fits.

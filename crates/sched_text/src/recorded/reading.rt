@@ -13,8 +13,8 @@ ghost use Rattle.sched_text.specs.Usual.{recorded_text};
 ghost use Rattle.text_stream.specs.Watched.{FailsBy};
 
 use super::{Recorded, history_of};
-use crate::script::plain::Stop;
 use crate::script::usual::read_usual;
+use json_fields::Stop;
 use minislots::Checked;
 use sched_history::Entry;
 use std::alloc::Global;

@@ -6,9 +6,8 @@ ghost use Rattle.sched_text.specs.Replies.{flow_reply, u64_if, refused_reply, re
 
 use super::numbers::{numbers_u16, numbers_u32};
 use super::refusal::refusal_with;
-use crate::script::field::{member, number_u64, text};
-use crate::script::tree::Tree;
 use hex::FromHexError;
+use json_fields::{Tree, member, number_u64, text};
 use map_build::{ByteCounts, FrameMap};
 use map_codec::{DecodeFault, WireMap, decode};
 use periodic::{Placement, Starts};

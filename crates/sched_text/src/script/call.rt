@@ -4,12 +4,12 @@ ghost use Rattle.std.specs.Prelude.{◌≡◌, Some};
 ghost use Rattle.sched_text.specs.Calls.{admit_call, remove_call, ask_call, heard_call, build_call, skip_call};
 ghost use Rattle.sched_text.specs.Calls.{status_call, call_of};
 
-use super::field::{member, number_u8, number_u16, number_u32, number_u64, text};
 use super::flow::flow_of;
-use super::plain::{Stop, read_plain};
-use super::tree::Tree;
 use super::usual::FromTokens;
 use json::Reader;
+use json_fields::{
+    Stop, Tree, member, number_u8, number_u16, number_u32, number_u64, read_plain, text,
+};
 use sched_history::Call;
 use std::alloc::Global;
 

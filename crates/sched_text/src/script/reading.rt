@@ -7,9 +7,9 @@ ghost use Rattle.sched_text.specs.Usual.{script_text};
 ghost use Rattle.text_stream.specs.Watched.{FailsBy};
 ghost use Rattle.sched_text.specs.Outcome.{text_outcome, StandsFor, StopsScript};
 
-use super::plain::Stop;
 use super::usual::read_usual;
 use super::{Script, script_of};
+use json_fields::Stop;
 use minislots::Checked;
 use sched_history::Call;
 use std::alloc::Global;

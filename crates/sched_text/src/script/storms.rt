@@ -10,10 +10,8 @@ ghost use Rattle.sched_text.specs.Usual.{scripts_text};
 ghost use Rattle.text_stream.specs.Watched.{FailsBy};
 
 use super::calls_after;
-use super::config::config_of;
-use super::field::member;
-use super::plain::Stop;
 use super::usual::read_usual;
+use json_fields::{Stop, config_in, member};
 use minislots::{Checked, Config};
 use sched_history::{Call, MAX_SCRIPTS};
 use serde_json::Value;
@@ -94,7 +92,7 @@ pub fn storm_of(alloc: Global, value: &Value) -> Result<StormScript, TextFault>
     ensures some { IfOk result (λ s. 1 ≤ vec_len s.scripts) }
     ensures few { IfOk result (λ s. vec_len s.scripts ≤ MAX_SCRIPTS) }
 {
-    let Some(config) = member(value, "config").and_then(config_of) else {
+    let Some(config) = config_in(value) else {
         return Err(TextFault::Shape(0));
     };
     let Some(arrays) = member(value, "scripts").and_then(Value::as_array) else {

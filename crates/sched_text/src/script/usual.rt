@@ -10,10 +10,8 @@ ghost use Rattle.text_stream.specs.Input.{value_of};
 ghost use Rattle.sched_text.specs.Listed.{StandEach, IsListOf, IsInMembers, IsDocument};
 ghost use Rattle.sched_text.specs.Usual.{read_tokens};
 
-use super::config::config_of;
-use super::plain::{Stop, read_plain};
-use super::skipped::skip_plain;
 use json::{Reader, Scratch, Token};
+use json_fields::{Stop, config_of, read_plain, skip_plain};
 use minislots::Config;
 use std::alloc::Global;
 

@@ -2,8 +2,8 @@
 
 /// Runs, each after an empty line: what it shows, edits of the base configuration, and rows. An admission goes by the
 /// kind of its flow: `best_effort` with SID, priority, rate and burst, `polled` with SID, interval, jitter, rate and
-/// burst, `unsolicited` with SID, size, interval and jitter, `grants` with these and the grants in an interval. The other
-/// calls have their numbers in the profile's order.
+/// burst, `unsolicited` with SID, size, interval and jitter, `grants` with these and the grants in an interval. The
+/// other calls have their numbers in the profile's order.
 pub const RUNS: &str = r#"two maps of one flow
 build 760 => map 03010300000003200000032000000000fffc4000000180040001c028
 best_effort 17 3 0 0 => admitted

@@ -61,7 +61,8 @@ two grants in an interval on an Advanced PHY channel
 grants 5 200 10000 800 2 => admitted 804 4 19 4 19
 build 760 => map 03010500000003200000032000000000fffc40000016c0040016c013000280220001c028"#;
 
-/// The run in frames of 160 minislots whose MAP has as many unsolicited grants as there may be: eight of each of five flows.
+/// The run in frames of 160 minislots whose MAP has as many unsolicited grants as there may be: eight of each of five
+/// flows.
 pub const FORTY: &str = concat!(
     r#""frame":40 -> "frame":160
 "start":800 -> "start":3200

@@ -12,7 +12,7 @@ use flow_book::FlowSpec;
 use map_snapshot::Reader;
 use minislots::Stamp;
 use sched_history::{Call, Reply, Scheduler, Unrecorded};
-use sched_text::put_line;
+use sched_lines::put_line;
 use shared_sched::{Closed, Desk, OpenFault, Shared, open};
 use std::alloc::AllocGlobal;
 use std::process::Abort;

@@ -10,7 +10,7 @@ use minislots::{ConfigFault, Stamp};
 use sched_commands::run_script;
 use sched_fault::RunFault;
 use sched_history::{Call, Reply, Scheduler, Unrecorded};
-use sched_text::put_line;
+use sched_lines::put_line;
 use std::alloc::{AllocError, Global};
 use std::process::Abort;
 use std::test::Fail;

@@ -15,7 +15,8 @@ stands c = sym (rw c.deref.ensures.value at c.in-Some.ensures)
 pub move_back-requires-clause-before : goal.move_back-requires-clause-before
 move_back-requires-clause-before c = λ k d early.
     let queue = c.args.queue.now.items in
-    let within = (position-Some (λ (w : Waiting). w.place == c.args.waiting.place) queue c.in-Some.index d (stands c)).0 in
+    let within = (position-Some (λ (w : Waiting). w.place == c.args.waiting.place) queue c.in-Some.index d
+    (stands c)).0 in
     let less = rises (λ (w : Waiting). w.turn) queue k c.in-Some.index d c.requires.1.ascending early within in
     let here = ap (λ (w : Waiting). w.turn) c.index.ensures in
     let same =

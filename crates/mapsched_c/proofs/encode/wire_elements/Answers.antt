@@ -12,7 +12,8 @@ loop-i-preserved c =
     let none : PlainElement = record { sid = 0; offset = 0; iuc = 0 } in
     record {
       items = rw (c.push_reserved.ensures.items, c.loop-i.invariant.items, c.element.ensures)
-          (sym (map-append wire_element (take c.loop-i.i es) _) ∙ ap (map wire_element) (sym (take_more es c.loop-i.i none c.loop-i-test.true)));
+          (sym (map-append wire_element (take c.loop-i.i es) _)
+          ∙ ap (map wire_element) (sym (take_more es c.loop-i.i none c.loop-i-test.true)));
       len = omega (arith, c.push_reserved.ensures.len, c.loop-i.invariant.len);
       room = c.push_reserved.ensures.capacity ∙ c.loop-i.invariant.room;
     }

@@ -9,7 +9,8 @@ returns-clause-status c =
     let h = c.args.entries.now in
     let e = c.index-entries-place.result in
     let here : slice_get h c.args.place ≡ Some e =
-    slice_get_read h (length h) c.args.place e refl (omega (arith, c.if-place-entries.false)) c.index-entries-place.is in
+    slice_get_read h (length h) c.args.place e refl
+    (omega (arith, c.if-place-entries.false)) c.index-entries-place.is in
     rw here refl
 
 pub returns-clause-entry : goal.returns-clause-entry
@@ -17,5 +18,6 @@ returns-clause-entry c =
     let h = c.args.entries.now in
     let e = c.index-entries-place.result in
     let here : slice_get h c.args.place ≡ Some e =
-    slice_get_read h (length h) c.args.place e refl (omega (arith, c.if-place-entries.false)) c.index-entries-place.is in
+    slice_get_read h (length h) c.args.place e refl
+    (omega (arith, c.if-place-entries.false)) c.index-entries-place.is in
     rw here c.put.ensures

@@ -13,7 +13,8 @@ loop-i-preserved c =
     let es = c.args.elements.now in
     let old = c.args.out.now in
     let none : Element = record { sid = 0; iuc = 0; offset = 0 } in
-    let more = stand_more plain_element es old c.loop-i.out c.loop-i.i none (omega arith) c.requires c.loop-i.invariant in
+    let more = stand_more plain_element es old c.loop-i.out c.loop-i.i none
+    (omega arith) c.requires c.loop-i.invariant in
     subst (λ y. StandSoFar plain_element es old (slice_set c.loop-i.out c.loop-i.i y) (c.loop-i.i + 1))
     (sym c.plain.ensures) more
 

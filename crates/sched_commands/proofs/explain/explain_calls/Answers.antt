@@ -1,7 +1,7 @@
 -- Each call leads the run one step on, and the lines that wait at the end are written.
 use Rattle.std.proofs.Common.{◌∙◌}
 use Rattle.text_stream.proofs.Written.{where_ok}
-use Rattle.sched_text.specs.Meaning.{explained_line}
+use Rattle.sched_lines.specs.Meaning.{explained_line}
 use Rattle.sched_commands.proofs.Running.{Runs-push, Runs-written, Runs-explained}
 use Rattle.sched_commands.proofs.explain.explain_calls.Goals as goal
 

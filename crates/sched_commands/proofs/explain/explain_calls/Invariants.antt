@@ -1,7 +1,7 @@
 -- The calls so far, and their answers, whose explained lines are written or wait.
 use Rattle.std.proofs.Common.{◌≡◌, take}
 use Rattle.std.specs.Io.KnownBytes.{append_known}
-use Rattle.sched_text.specs.Meaning.{explained_line}
+use Rattle.sched_lines.specs.Meaning.{explained_line}
 use Rattle.sched_commands.proofs.Running.{Runs}
 use Rattle.sched_commands.proofs.explain.explain_calls.Given as goal
 

@@ -1,6 +1,6 @@
 -- The calls so far, and their answers.
 use Rattle.std.proofs.Common.{List, take}
-use Rattle.sched_text.specs.Line.{Answer}
+use Rattle.sched_lines.specs.Line.{Answer}
 use Rattle.sched_commands.specs.Answer.{MakesCalls}
 use Rattle.sched_commands.proofs.run.make_calls.Given as goal
 

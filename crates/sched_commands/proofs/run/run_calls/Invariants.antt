@@ -1,7 +1,7 @@
 -- The calls so far, and their answers, whose lines are written or wait, and no write failed.
 use Rattle.std.proofs.Common.{◌≡◌, take}
 use Rattle.std.specs.Io.KnownBytes.{append_known}
-use Rattle.sched_text.specs.Line.{line_of}
+use Rattle.sched_lines.specs.Line.{line_of}
 use Rattle.sched_commands.proofs.Running.{Runs}
 use Rattle.sched_commands.proofs.run.run_calls.Given as goal
 

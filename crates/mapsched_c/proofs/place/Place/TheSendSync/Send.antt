@@ -19,7 +19,11 @@ use Rattle.mapsched_c.specs.contracts.place.Place.{the_row, the_type}
 
 crosses : (alloc : Global) (at : Ptr) (o : Option Machine) → Keyless (place_owns alloc at o)
 crosses alloc at None = tt
-crosses alloc at (Some m) = (lies Channel.the_row channel at m, heap.frees.frees alloc (raw (lone Channel.the_row.mir)) at)
+crosses alloc at (Some m) = (
+  lies Channel.the_row channel at m,
+  heap.frees.frees alloc
+      (raw (lone Channel.the_row.mir)) at,
+)
 
 pub send : IsSend the_row
 send =

@@ -6,7 +6,8 @@ use mir.Val.{Val, has_ty}
 use base.Logic.{SProp, ent, emp, id⊢}
 use base.Fml.{ftrue}
 use prog.Wp.{WpFn}
-use types.Kit.{‵, raw, ◌⊛◌, ◌$◌, ◌∵◌, !, qed, move, drop, use1, join, split, rewrite, fsplit, fjoin, fjoin3, fpack, feq_i, suffices, done}
+use types.Kit.{‵, raw, ◌⊛◌, ◌$◌, ◌∵◌, !, qed, move, drop, use1, join, split, rewrite, fsplit, fjoin, fjoin3, fpack}
+use types.Kit.{feq_i, suffices, done}
 use types.Run.{lit, no_more, and_then, returns, enter}
 use types.ByLocal.{alloc_all, pass_all, free_all, look_at, get, sets}
 use types.Part.{agg}
@@ -46,16 +47,24 @@ empty_spec 𝓤 𝓛 𝓜 𝓡 wired =
     let a = z.0.3.0 in
     let h = one (layout Z) z.0.4.0 ((heap.the_row_laws.lawful 𝓛).typed a z.0.4.0 are.0) in
     let w : Val = both (ptr_val null_ptr) h.0 in
-    let good : Good (layout Out) w = (both_tt true (has_ty (layout Z) h.0) tt h.2.0, (record { fits = lit< tt }, (h.2.1, tt))) in
+    let good : Good (layout Out) w =
+    (both_tt true (has_ty (layout Z) h.0) tt h.2.0, (record { fits = lit< tt }, (h.2.1, tt))) in
     let made : Out.Denot = record { at = null_ptr; alloc = a; worker = None } in
-    qed 𝓛 ((‵ ftrue ⊛ ‵ (owns (types_at ended.signature.params z.0.0) z.0.3 z.0.4)) ∷ raw (emp 𝓤) ∷ []) ∵ split ! $ drop ! $ fsplit ! $
+    qed 𝓛 ((‵ ftrue ⊛ ‵ (owns (types_at ended.signature.params z.0.0) z.0.3 z.0.4)) ∷ raw (emp 𝓤) ∷ []) ∵ split ! $
+    drop ! $ fsplit ! $
     rewrite ! 0 (λ (us : List Val). ‵ (Z.own_val a us)) h.1 refl $
     -- [the allocator; nothing; nothing]
-    feq_i ! (List Val) (ptr_val null_ptr ∷ []) (ptr_val null_ptr ∷ []) refl $ fjoin3 ! $ feq_i ! (List Val) (w ∷ []) (w ∷ []) refl $ fjoin ! $
-    fpack ! (Valss (RawPtr ∷ Z ∷ [])) (within (record { name = []; args = []; types = []; fields = RawPtr ∷ Z ∷ [] }) (null_ptr, (a, tt)) (w ∷ [])) (ptr_val null_ptr ∷ [], (h.0 ∷ [], tt)) $
-    nothing ! $ move ! (1 ∷ 0 ∷ []) $ fjoin ! $ use1 𝓛 (‵ (Out.own_val made (w ∷ []))) (id⊢ 𝓤 _) $ move ! (1 ∷ []) $ drop ! $
-    suffices ! (Run (h.0 ∷ [])) (subst (λ (us : List Val). ent 𝓤 (Run (h.0 ∷ [])) (Run us)) (sym (λ i. h.1 i ++ [])) (id⊢ 𝓤 (Run (h.0 ∷ [])))) $
+    feq_i ! (List Val) (ptr_val null_ptr ∷ []) (ptr_val null_ptr ∷ []) refl $ fjoin3 ! $
+    feq_i ! (List Val) (w ∷ []) (w ∷ []) refl $ fjoin ! $
+    fpack ! (Valss (RawPtr ∷ Z ∷ []))
+    (within (record { name = []; args = []; types = []; fields = RawPtr ∷ Z ∷ [] }) (null_ptr, (a, tt)) (w ∷ []))
+    (ptr_val null_ptr ∷ [], (h.0 ∷ [], tt)) $
+    nothing ! $ move ! (1 ∷ 0 ∷ []) $ fjoin ! $ use1 𝓛 (‵ (Out.own_val made (w ∷ []))) (id⊢ 𝓤 _) $ move ! (1 ∷ []) $
+    drop ! $
+    suffices ! (Run (h.0 ∷ [])) (subst (λ (us : List Val). ent 𝓤 (Run (h.0 ∷ [])) (Run us)) (sym (λ i. h.1 i ++ []))
+    (id⊢ 𝓤 (Run (h.0 ∷ [])))) $
     enter ! 𝓣.C 𝓣.Λ code.function (h.0 ∷ []) Post $ alloc_all ! (λ l. pass_all ! refl (h.2, tt) $
-    sets ! (agg ! (and_then ! (lit ! tt) (and_then ! (get ! refl) (no_more !)))) refl good $ returns ! (look_at ! 0 refl) $ free_all ! refl $
+    sets ! (agg ! (and_then ! (lit ! tt) (and_then ! (get ! refl) (no_more !)))) refl good $
+    returns ! (look_at ! 0 refl) $ free_all ! refl $
     suffices ! _ (ends_at 𝓛 ended hs c z w made (tt, tt) (tt, tt)) $ says ! refl $
     nothing ! $ nothing ! $ fjoin ! $ join ! $ nothing ! $ join ! $ done !))

@@ -1,7 +1,7 @@
 -- Each field that was read is the one that the definition names.
 use Rattle.std.proofs.Common.{refl, sym}
 use Rattle.sched_text.specs.Replies.{flow_reply}
-use Rattle.sched_text.proofs.Fields.{then}
+use Rattle.json_fields.proofs.Fields.{then}
 use Rattle.sched_text.proofs.recorded.reply.flow_reply.Goals as goal
 
 pub returns : goal.returns

@@ -1,8 +1,8 @@
 -- By the key that the value stands under.
 use Rattle.std.proofs.Common.{◌≡◌, true, false, bytes_eq, arith}
 use Rattle.std.specs.Prelude.{codes}
-use Rattle.sched_text.specs.Fields.{config_of}
-use Rattle.sched_text.specs.Plain.{data_of}
+use Rattle.json_fields.specs.Fields.{config_of}
+use Rattle.json_fields.specs.Plain.{data_of}
 use Rattle.sched_text.proofs.Usual.{config_put, list_put, other_put}
 use Rattle.sched_text.proofs.script.usual.read_part.Goals as goal
 

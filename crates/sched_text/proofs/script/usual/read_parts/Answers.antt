@@ -3,7 +3,7 @@ use Rattle.std.proofs.Common.{◌≡◌, ◌-◌, length, Some, refl, ◌∙◌,
 use Rattle.json.specs.Json.{read_key, value}
 use Rattle.json.proofs.Grammar.{read_key-shorter}
 use Rattle.serde_json.specs.Data.{no_members, put}
-use Rattle.sched_text.proofs.Plain.{member_read, members_over}
+use Rattle.json_fields.proofs.PlainValues.{member_read, members_over}
 use Rattle.sched_text.proofs.Usual.{none_in}
 use Rattle.sched_text.proofs.script.usual.read_parts.Goals as goal
 
@@ -44,7 +44,8 @@ returns g c =
       are = (
         found.0,
         found.1
-            ∙ members_over (value c.args.depth) l.invariant.0 found.0 l.reader c.next_key.new.self l.invariant.1 (grind arith),
+            ∙ members_over (value c.args.depth) l.invariant.0 found.0 l.reader c.next_key.new.self l.invariant.1
+            (grind arith),
         found.2,
       );
     }

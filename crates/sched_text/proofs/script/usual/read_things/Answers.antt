@@ -2,7 +2,8 @@
 use Rattle.std.proofs.Common.{◌≡◌, ◌<◌, [], ◌∷◌, ◌++◌, length, None, sym, refl, arith, subst}
 use Rattle.json.specs.Json.{after_end_array, value}
 use Rattle.sched_text.specs.Listed.{StandEach}
-use Rattle.sched_text.proofs.Each.{ItemsLeft-none, ItemsLeft-more, items_over, StandEach-push}
+use Rattle.json_fields.proofs.Items.{ItemsLeft-none, ItemsLeft-more, items_over}
+use Rattle.sched_text.proofs.Things.{StandEach-push}
 use Rattle.sched_text.proofs.script.usual.read_things.Goals as goal
 
 pub items-init : goal.items-init

@@ -3,7 +3,7 @@ use Rattle.std.proofs.Common.{List, length}
 use Rattle.json.specs.Json.{value}
 use Rattle.serde_json.specs.Data.{Data}
 use Rattle.sched_text.specs.Listed.{StandEach}
-use Rattle.sched_text.proofs.Each.{ItemsLeft}
+use Rattle.json_fields.proofs.Items.{ItemsLeft}
 use Rattle.sched_text.proofs.script.usual.read_things.Given as goal
 
 abbrev pub invariant-items : goal.invariant-items

@@ -1,7 +1,7 @@
 -- The bracket was taken, and the items behind it stand for the things.
 use Rattle.std.proofs.Common.{◌≡◌, ◌∷◌, arith}
 use Rattle.json.specs.Token.{Token}
-use Rattle.sched_text.proofs.Each.{array_of_things}
+use Rattle.sched_text.proofs.Things.{array_of_things}
 use Rattle.sched_text.proofs.script.usual.VecFromTokens.read.Goals as goal
 
 pub returns-clause-is : goal.returns-clause-is

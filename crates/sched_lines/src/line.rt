@@ -1,0 +1,216 @@
+//! The lines of a run: one for the answer to each call.
+
+ghost use Rattle.std.specs.Prelude.{◌≡◌, ◌*◌, ◌≤◌, ◌++◌, [], ◌∷◌, length, take, OnOk, IfErr, codes, decimal, Option};
+ghost use Rattle.std.specs.Prelude.{Some};
+ghost use Rattle.std.specs.Io.KnownBytes.{Appends};
+ghost use Rattle.map_codec.specs.WireMap.{IsWellFormed, spelling};
+ghost use Rattle.hex.specs.Hex.{encode_lower};
+ghost use Rattle.sched_lines.specs.Line.{number_text, numbers_text, fault_number, refusal_number, refusal_value};
+ghost use Rattle.sched_lines.specs.Line.{value_text, reply_text, answer_text, line_of, HasLine};
+ghost use Rattle.sched_history.specs.Machine.{IsEncodable};
+ghost use Rattle.text_stream.specs.Watched.{FailsBy};
+
+use flow_book::FlowFault;
+use itoa::Buffer;
+use map_codec::{MAX_BYTES, WireMap, encode};
+use periodic::Placement;
+use sched_history::{Refusal, Reply, Unrecorded};
+use text_stream::{Sink, TextFault, put};
+
+/// A space, and a number in decimal.
+#[tactic(auto, unfolding(crate::specs::Line::number_text))]
+pub fn put_number<W: Sink>(writer: &mut W, number: u64) -> Result<(), TextFault>
+    ensures ok { OnOk result (Appends (W.contents writer.old) (W.contents writer.new) (number_text number)) }
+    ensures err { IfErr result (λ e. e ≡ TextFault.Output) }
+    ensures failed { FailsBy TextFault.Output result (W.has_failed writer.old) (W.has_failed writer.new) }
+{
+    let mut buffer = Buffer::new();
+    put(writer, b" ")?;
+    put(writer, buffer.format(number).as_bytes())
+}
+
+// Numbers, each after a space.
+fn put_numbers<W: Sink>(writer: &mut W, numbers: &[u16]) -> Result<(), TextFault>
+    ensures ok { OnOk result (Appends (W.contents writer.old) (W.contents writer.new) (numbers_text numbers.now)) }
+    ensures err { IfErr result (λ e. e ≡ TextFault.Output) }
+    ensures failed { FailsBy TextFault.Output result (W.has_failed writer.old) (W.has_failed writer.new) }
+{
+    for number in numbers {
+        put_number(writer, u64::from(*number))?;
+    }
+    Ok(())
+}
+
+// A word, and numbers behind it.
+fn put_words<W: Sink>(writer: &mut W, word: &[u8], numbers: &[u64]) -> Result<(), TextFault>
+    ensures ok { OnOk result (Appends (W.contents writer.old) (W.contents writer.new)
+        (word.now ++ numbers_text numbers.now)) }
+    ensures err { IfErr result (λ e. e ≡ TextFault.Output) }
+    ensures failed { FailsBy TextFault.Output result (W.has_failed writer.old) (W.has_failed writer.new) }
+{
+    put(writer, word)?;
+    for number in numbers {
+        put_number(writer, *number)?;
+    }
+    Ok(())
+}
+
+fn fault_number(fault: FlowFault) -> u64
+    ensures { result ≡ fault_number fault }
+{
+    match fault {
+        FlowFault::Size => 1,
+        FlowFault::IntervalNotWhole => 2,
+        FlowFault::IntervalNotFrames => 3,
+        FlowFault::IntervalNotInCycle => 4,
+        FlowFault::Priority => 5,
+        FlowFault::Burst => 6,
+        FlowFault::Grants => 7,
+    }
+}
+
+/// The number of a refusal, in the order of the tests.
+pub fn refusal_number(refusal: Refusal) -> u64
+    ensures { result ≡ refusal_number refusal }
+{
+    match refusal {
+        Refusal::BadSid => 1,
+        Refusal::SidLive => 2,
+        Refusal::BadFlow(_) => 3,
+        Refusal::FlowsFull => 4,
+        Refusal::PeriodicFull => 5,
+        Refusal::NoPlace => 6,
+        Refusal::NoFlow => 7,
+        Refusal::NotAsking => 8,
+        Refusal::BadReceiver => 9,
+        Refusal::BadBytes => 10,
+        Refusal::Acked(_) => 11,
+        Refusal::Ahead(_) => 12,
+        Refusal::Backwards(_) => 13,
+        Refusal::BadClock => 14,
+        Refusal::TooEarly(_) => 15,
+        Refusal::Late(_) => 16,
+        Refusal::NotLate(_) => 17,
+    }
+}
+
+/// The value of a refusal that has one: a minislot, or the number of a fault in a flow's parameters.
+pub fn refusal_value(refusal: Refusal) -> Option<u64>
+    ensures { result ≡ refusal_value refusal }
+{
+    match refusal {
+        Refusal::BadFlow(fault) => Some(fault_number(fault)),
+        Refusal::Acked(slot)
+        | Refusal::Ahead(slot)
+        | Refusal::Backwards(slot)
+        | Refusal::TooEarly(slot)
+        | Refusal::Late(slot)
+        | Refusal::NotLate(slot) => Some(slot),
+        _ => None,
+    }
+}
+
+fn put_refusal<W: Sink>(writer: &mut W, refusal: Refusal) -> Result<(), TextFault>
+    ensures ok { OnOk result (Appends (W.contents writer.old) (W.contents writer.new)
+        (reply_text (Reply.Refused refusal))) }
+    ensures err { IfErr result (λ e. e ≡ TextFault.Output) }
+    ensures failed { FailsBy TextFault.Output result (W.has_failed writer.old) (W.has_failed writer.new) }
+{
+    let number = refusal_number(refusal);
+    match refusal_value(refusal) {
+        None => put_words(writer, b"refused", &[number]),
+        Some(value) => put_words(writer, b"refused", &[number, value]),
+    }
+}
+
+fn put_placement<W: Sink>(writer: &mut W, placement: &Placement) -> Result<(), TextFault>
+    ensures ok { OnOk result (Appends (W.contents writer.old) (W.contents writer.new)
+        (reply_text (Reply.Admitted (Some placement.now)))) }
+    ensures err { IfErr result (λ e. e ≡ TextFault.Output) }
+    ensures failed { FailsBy TextFault.Output result (W.has_failed writer.old) (W.has_failed writer.new) }
+{
+    put_words(writer, b"admitted", &[placement.reference])?;
+    put_numbers(writer, placement.starts.as_slice())
+}
+
+// The lower-case hexadecimal of these bytes.
+fn put_hex<W: Sink>(writer: &mut W, bytes: &[u8]) -> Result<(), TextFault>
+    requires { length bytes.now ≤ 976 }
+    ensures ok { OnOk result (Appends (W.contents writer.old) (W.contents writer.new) (encode_lower bytes.now)) }
+    ensures err { IfErr result (λ e. e ≡ TextFault.Output) }
+    ensures failed { FailsBy TextFault.Output result (W.has_failed writer.old) (W.has_failed writer.new) }
+{
+    let mut text = [0u8; 2 * MAX_BYTES];
+    let text = &mut text[..2 * bytes.len()];
+    hex::encode_to_slice(bytes, text).unwrap();
+    put(writer, text)
+}
+
+// A word, and the payload of a MAP in lower-case hexadecimal.
+fn put_payload<W: Sink>(writer: &mut W, word: &[u8], map: &WireMap) -> Result<(), TextFault>
+    requires { IsWellFormed map.now }
+    ensures ok { OnOk result (Appends (W.contents writer.old) (W.contents writer.new)
+        (word.now ++ encode_lower (spelling map.now))) }
+    ensures err { IfErr result (λ e. e ≡ TextFault.Output) }
+    ensures failed { FailsBy TextFault.Output result (W.has_failed writer.old) (W.has_failed writer.new) }
+{
+    let mut payload = [0u8; MAX_BYTES];
+    let len = encode(map, &mut payload);
+    put(writer, word)?;
+    put_hex(writer, &payload[..len])
+}
+
+fn put_reply<W: Sink>(writer: &mut W, reply: &Reply) -> Result<(), TextFault>
+    requires { IsEncodable reply.now }
+    ensures ok { OnOk result (Appends (W.contents writer.old) (W.contents writer.new) (reply_text reply.now)) }
+    ensures err { IfErr result (λ e. e ≡ TextFault.Output) }
+    ensures failed { FailsBy TextFault.Output result (W.has_failed writer.old) (W.has_failed writer.new) }
+{
+    match reply {
+        Reply::Admitted(None) => put(writer, b"admitted"),
+        Reply::Admitted(Some(placement)) => put_placement(writer, placement),
+        Reply::Removed => put(writer, b"removed"),
+        Reply::Taken => put(writer, b"taken"),
+        Reply::Noted => put(writer, b"noted"),
+        Reply::Built(map) => put_payload(writer, b"map ", &map.wire),
+        Reply::Skipped(next) => put_words(writer, b"skipped", &[*next]),
+        Reply::Flow {
+            asked,
+            granted,
+            outstanding,
+        } => put_words(writer, b"flow", &[*asked, *granted, *outstanding]),
+        Reply::Refused(refusal) => put_refusal(writer, *refusal),
+    }
+}
+
+// The text of the answer to a call: its reply, or why it was not recorded.
+pub(crate) fn put_answer<W: Sink>(
+    writer: &mut W,
+    answer: &Result<Reply, Unrecorded>,
+) -> Result<(), TextFault>
+    requires { HasLine answer.now }
+    ensures ok { OnOk result (Appends (W.contents writer.old) (W.contents writer.new) (answer_text answer.now)) }
+    ensures err { IfErr result (λ e. e ≡ TextFault.Output) }
+    ensures failed { FailsBy TextFault.Output result (W.has_failed writer.old) (W.has_failed writer.new) }
+{
+    match answer {
+        Ok(reply) => put_reply(writer, reply),
+        Err(Unrecorded::HistoryFull) => put(writer, b"history full"),
+        Err(Unrecorded::Memory) => put(writer, b"out of memory"),
+    }
+}
+
+/// The line of the answer to a call: its reply, or why it was not recorded.
+#[tactic(auto, unfolding(crate::specs::Line::line_of))]
+pub fn put_line<W: Sink>(
+    writer: &mut W,
+    answer: &Result<Reply, Unrecorded>,
+) -> Result<(), TextFault>
+    requires { HasLine answer.now }
+    ensures ok { OnOk result (Appends (W.contents writer.old) (W.contents writer.new) (line_of answer.now)) }
+    ensures err { IfErr result (λ e. e ≡ TextFault.Output) }
+    ensures failed { FailsBy TextFault.Output result (W.has_failed writer.old) (W.has_failed writer.new) }
+{
+    put_answer(writer, answer)?;
+    put(writer, b"\n")
+}

@@ -1,0 +1,154 @@
+//! What a refusal means, in words behind its line.
+
+ghost use Rattle.std.specs.Prelude.{◌≡◌, OnOk, IfErr};
+ghost use Rattle.std.specs.Io.KnownBytes.{Appends};
+ghost use Rattle.sched_lines.specs.Line.{HasLine};
+ghost use Rattle.sched_lines.specs.Meaning.{fault_words, words_before, number_told, words_behind, digits_of};
+ghost use Rattle.sched_lines.specs.Meaning.{meaning_of, refusal_in, remark_of, explained_line};
+ghost use Rattle.text_stream.specs.Watched.{FailsBy};
+
+use crate::line::put_answer;
+use flow_book::{FlowFault, MAX_FLOWS};
+use itoa::Buffer;
+use periodic::MAX_PERIODIC_GRANTS;
+use sched_history::{Refusal, Reply, Unrecorded};
+use text_stream::{Sink, TextFault, put};
+
+// What is wrong with a flow's parameters.
+fn fault_words(fault: FlowFault) -> &'static [u8]
+    ensures { result.now ≡ fault_words fault }
+{
+    match fault {
+        FlowFault::Size => b"bad size: it is 0, or does not fit a frame behind the request region",
+        FlowFault::IntervalNotWhole => b"bad interval: it is not whole minislots",
+        FlowFault::IntervalNotFrames => b"bad interval: it is 0 or not whole frames",
+        FlowFault::IntervalNotInCycle => b"bad interval: its frames do not divide the cycle",
+        FlowFault::Priority => b"bad priority: it is above 7",
+        FlowFault::Burst => b"bad burst: there is a rate, and the burst is below the quantum",
+        FlowFault::Grants => b"bad grants: they are 0 or above 8 in an interval",
+    }
+}
+
+// What a refusal means, up to its number where it has one.
+fn words_before(refusal: Refusal) -> &'static [u8]
+    ensures { result.now ≡ words_before refusal }
+{
+    match refusal {
+        Refusal::BadSid => b"bad SID: it is 0 or above 8191",
+        Refusal::SidLive => b"the SID is live already",
+        Refusal::BadFlow(fault) => fault_words(fault),
+        Refusal::FlowsFull => b"no more flows: there are ",
+        Refusal::PeriodicFull => {
+            b"too many grants: in an interval those of the periodic flows would be above "
+        }
+        Refusal::NoPlace => b"no place: the live flows leave none in the cycle that is lawful",
+        Refusal::NoFlow => b"no flow with this SID is live",
+        Refusal::NotAsking => b"a flow of unsolicited grants does not ask",
+        Refusal::BadReceiver => b"the channel has no receiver of this number",
+        Refusal::BadBytes => b"bad bytes: they are 0 or above 1048560",
+        Refusal::Acked(_) => b"too old: the receiver has handed in all that it heard before ",
+        Refusal::Ahead(_) => b"too far: the next frame starts at ",
+        Refusal::Backwards(_) => b"too old: the receiver's progress is ",
+        Refusal::BadClock => b"bad clock: it is above 1152921504606846976",
+        Refusal::TooEarly(_) => b"too early: the next frame starts at ",
+        Refusal::Late(_) => b"too late: the next frame starts at ",
+        Refusal::NotLate(_) => b"not late: the next frame starts at ",
+    }
+}
+
+// The number that it tells: how many flows or grants there can be, or a minislot.
+fn number_told(refusal: Refusal) -> Option<u64>
+    ensures { result ≡ number_told refusal }
+{
+    match refusal {
+        Refusal::FlowsFull => Some(MAX_FLOWS as u64),
+        Refusal::PeriodicFull => Some(MAX_PERIODIC_GRANTS as u64),
+        Refusal::Acked(slot)
+        | Refusal::Ahead(slot)
+        | Refusal::Backwards(slot)
+        | Refusal::TooEarly(slot)
+        | Refusal::Late(slot)
+        | Refusal::NotLate(slot) => Some(slot),
+        _ => None,
+    }
+}
+
+// The rest of its meaning.
+fn words_behind(refusal: Refusal) -> &'static [u8]
+    ensures { result.now ≡ words_behind refusal }
+{
+    match refusal {
+        Refusal::FlowsFull | Refusal::Backwards(_) => b" already",
+        Refusal::Ahead(_) => b", and what is heard lies before it",
+        Refusal::TooEarly(_) => b", and its end is more than 4096 minislots past the clock",
+        Refusal::Late(_) => b", and the clock with its lead is past it",
+        Refusal::NotLate(_) => b", and the clock with its lead is not past it",
+        _ => b"",
+    }
+}
+
+// A number in decimal, where there is one.
+fn put_digits<W: Sink>(writer: &mut W, number: Option<u64>) -> Result<(), TextFault>
+    ensures ok { OnOk result (Appends (W.contents writer.old) (W.contents writer.new) (digits_of number)) }
+    ensures err { IfErr result (λ e. e ≡ TextFault.Output) }
+    ensures failed { FailsBy TextFault.Output result (W.has_failed writer.old) (W.has_failed writer.new) }
+{
+    match number {
+        None => put(writer, b""),
+        Some(number) => put(writer, Buffer::new().format(number).as_bytes()),
+    }
+}
+
+// What a refusal means.
+#[tactic(auto, unfolding(crate::specs::Meaning::meaning_of))]
+fn put_meaning<W: Sink>(writer: &mut W, refusal: Refusal) -> Result<(), TextFault>
+    ensures ok { OnOk result (Appends (W.contents writer.old) (W.contents writer.new) (meaning_of refusal)) }
+    ensures err { IfErr result (λ e. e ≡ TextFault.Output) }
+    ensures failed { FailsBy TextFault.Output result (W.has_failed writer.old) (W.has_failed writer.new) }
+{
+    put(writer, words_before(refusal))?;
+    put_digits(writer, number_told(refusal))?;
+    put(writer, words_behind(refusal))
+}
+
+// The refusal that an answer is, where it is one.
+fn refusal_in(answer: &Result<Reply, Unrecorded>) -> Option<Refusal>
+    ensures { result ≡ refusal_in answer.now }
+{
+    match answer {
+        Ok(Reply::Refused(refusal)) => Some(*refusal),
+        _ => None,
+    }
+}
+
+// What stands behind the text of an answer: what a refusal means.
+fn put_remark<W: Sink>(writer: &mut W, refusal: Option<Refusal>) -> Result<(), TextFault>
+    ensures ok { OnOk result (Appends (W.contents writer.old) (W.contents writer.new) (remark_of refusal)) }
+    ensures err { IfErr result (λ e. e ≡ TextFault.Output) }
+    ensures failed { FailsBy TextFault.Output result (W.has_failed writer.old) (W.has_failed writer.new) }
+{
+    match refusal {
+        None => put(writer, b""),
+        Some(refusal) => {
+            put(writer, b"  # ")?;
+            put_meaning(writer, refusal)
+        }
+    }
+}
+
+/// The line of the answer to a call, with what it means behind it where it is a refusal: two spaces, a number sign and
+/// the words.
+#[tactic(auto, unfolding(crate::specs::Meaning::explained_line))]
+pub fn put_explained<W: Sink>(
+    writer: &mut W,
+    answer: &Result<Reply, Unrecorded>,
+) -> Result<(), TextFault>
+    requires { HasLine answer.now }
+    ensures ok { OnOk result (Appends (W.contents writer.old) (W.contents writer.new) (explained_line answer.now)) }
+    ensures err { IfErr result (λ e. e ≡ TextFault.Output) }
+    ensures failed { FailsBy TextFault.Output result (W.has_failed writer.old) (W.has_failed writer.new) }
+{
+    put_answer(writer, answer)?;
+    put_remark(writer, refusal_in(answer))?;
+    put(writer, b"\n")
+}

@@ -1,9 +1,0 @@
--- A space, and the digits.
-use Rattle.std.proofs.Common.{arith}
-use Rattle.std.proofs.lemmas.Grind.{common_steps}
-use Rattle.sched_text.specs.Line.{number_text}
-use Rattle.sched_text.proofs.line.put_number.Goals as goal
-
-pub returns-clause-ok : goal.returns-clause-ok
-unfolding number_text
-returns-clause-ok g c = grind (arith, common_steps)
