@@ -1,4 +1,4 @@
-//! The configuration in a script.
+//! The configuration that a JSON object stands for.
 
 ghost use Rattle.std.specs.Prelude.{◌≡◌, codes, option_and_then};
 ghost use Rattle.serde_json.specs.Find.{get};

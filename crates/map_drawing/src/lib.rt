@@ -1,4 +1,4 @@
-//! Pictures of a MAP: its allocations, a frame drawn in rows of characters, and a frame drawn in SVG.
+//! A MAP drawn: its allocations, and its frame in rows of characters.
 //!
 //! Each allocation stands in a drawing once, at its place: from its offset to that of the next element.
 #![tactic(auto)]

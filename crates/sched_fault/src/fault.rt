@@ -21,8 +21,8 @@ pub enum RunFault {
     /// The input is not JSON text in UTF-8.
     #[error("not json")]
     NotJson,
-    /// The script is broken: 0 in the document or its configuration, else at this call, counted from 1
-    /// through all scripts.
+    /// The script or the history is broken: 0 in the document or its configuration, else at this call, counted
+    /// from 1 through all scripts, or at this entry, counted from 1.
     #[error("bad script at {0}")]
     Shape(u64),
     /// This field of the configuration has no lawful value.
