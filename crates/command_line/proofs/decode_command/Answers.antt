@@ -7,7 +7,7 @@ use Rattle.command_line.proofs.decode_command.Goals as goal
 pub returns : goal.returns
 returns c =
     let word = IsCommand-arg c.command.result _ c.payload_word.result (codes "decode")
-        (codes "HEX") [] [] c.command.ensures
+    (codes "HEX") [] [] c.command.ensures
     c.in_ok-arg.ensures (search rules) (search rules) in
     let drawn = IsCommand-arg _ _ c.flag-draw.result (codes "decode") (codes "draw") _ [] word c.in_ok-arg-2.ensures
     (search rules) (search rules) in

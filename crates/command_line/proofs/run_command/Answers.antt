@@ -7,7 +7,7 @@ use Rattle.command_line.proofs.run_command.Goals as goal
 pub returns : goal.returns
 returns c =
     let first = IsCommand-arg c.command.result _ c.flag-history.result (codes "run")
-        (codes "history") [] [] c.command.ensures
+    (codes "history") [] [] c.command.ensures
     c.in_ok-arg.ensures (search rules) (search rules) in
     IfOk-weaker _ _ _ (λ r adds. IsCommand-arg _ r _ (codes "run") (codes "explain") _ [] first adds
     (search rules) (search rules)) c.arg-2.ensures
