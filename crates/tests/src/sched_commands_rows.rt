@@ -2,5 +2,4 @@
 //! their lines are tried on the program, in checks/worked_texts, and reads and writes that fail, in
 //! checks/refused_growth.
 
-mod drawn;
 mod storms;
