@@ -9,7 +9,7 @@ use crate::handle::Handle;
 use crate::status;
 use minislots::Checked;
 use sched_history::{AuditFault, Entry, audit};
-use sched_text::read_history;
+use history_reading::read_history;
 use std::alloc::Global;
 use text_stream::{TextFault, field_number};
 

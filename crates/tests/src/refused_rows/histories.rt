@@ -2,7 +2,7 @@
 
 use minislots::Checked;
 use sched_history::Entry;
-use sched_text::read_history;
+use history_reading::read_history;
 use std::alloc::AllocGlobal;
 use std::process::Abort;
 use text_stream::TextFault;

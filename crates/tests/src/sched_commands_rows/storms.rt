@@ -2,7 +2,7 @@
 
 use crate::base::texts::{config_of, storm_of};
 use crate::sched_storm_rows::gates::{Rule, Ruled};
-use sched_commands::run_storm;
+use storm_command::run_storm;
 use sched_storm::Gate;
 use std::alloc::AllocGlobal;
 use std::process::Abort;

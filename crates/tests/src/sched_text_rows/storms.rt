@@ -2,7 +2,7 @@
 
 use crate::base::is_shown;
 use crate::base::texts::{config_of, storm_of};
-use sched_text::read_storm;
+use script_reading::read_storm;
 use std::test::Fail;
 
 // Scripts, and what they are read as.
