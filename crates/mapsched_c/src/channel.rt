@@ -10,9 +10,9 @@ ghost use Rattle.mapsched_c.specs.Reply.{HasRoom};
 
 use crate::reply::PlainReply;
 use crate::status;
+use history_writing::put_history;
 use minislots::Stamp;
 use sched_history::{Call, Entry, Unrecorded};
-use history_writing::put_history;
 use std::alloc::{AllocError, Global};
 use worker_sched::Channel;
 

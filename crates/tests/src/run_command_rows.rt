@@ -8,12 +8,12 @@ use flow_book::FlowSpec;
 use map_codec::decode;
 use minislots::{ConfigFault, Stamp};
 use run_command::run_script;
-use text_stream::RunFault;
 use sched_history::{Call, Reply, Scheduler, Unrecorded};
 use sched_lines::put_line;
 use std::alloc::{AllocError, Global};
 use std::process::Abort;
 use std::test::Fail;
+use text_stream::RunFault;
 
 // A script that is drawn call by call, each of which is made at once.
 #[derive(Drop)]

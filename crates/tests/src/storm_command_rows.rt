@@ -2,13 +2,13 @@
 
 use crate::base::texts::{config_of, storm_of};
 use crate::sched_storm_rows::gates::{Rule, Ruled};
-use storm_command::run_storm;
 use sched_storm::Gate;
 use std::alloc::AllocGlobal;
 use std::process::Abort;
 use std::sync::Wait;
 use std::test::Fail;
 use std::thread::Threads;
+use storm_command::run_storm;
 
 // A build, and a question for a flow that is not live.
 const PAIR: &str = r#"[{"call":"build","now":760}],[{"call":"status","sid":17}]"#;
