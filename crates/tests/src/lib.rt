@@ -1,4 +1,4 @@
-//! The tests of all crates: worked rows of the profile, and what no clause says.
+//! The tests of all crates: what no clause says, and the program cannot show.
 #![tactic(auto)]
 
 #[cfg(test)]
@@ -16,11 +16,11 @@ mod readme_rows;
 #[cfg(test)]
 mod refused_rows;
 #[cfg(test)]
-mod sched_commands_rows;
-#[cfg(test)]
 mod sched_storm_rows;
 #[cfg(test)]
 mod shared_sched_rows;
+#[cfg(test)]
+mod storm_command_rows;
 #[cfg(test)]
 mod ticket_core_rows;
 #[cfg(test)]
