@@ -1,5 +1,5 @@
 """Scripts, histories and scripts of storms as texts, and the built program that is run on them. What the tests use too,
-as the runs and the base configuration, is read where they have it, in crates/tests/src; other tables are in
+the base configuration and the forms of calls, is read where they have it, in crates/tests/src; the tables are in
 checks/rows."""
 
 import os
@@ -31,11 +31,16 @@ def constant(file, name):
     return found
 
 
+def table(name):
+    """A table of checks/rows as it stands, with no empty line behind it."""
+    return read(f"checks/rows/{name}").rstrip("\n")
+
+
 CONFIG, FORMS = constant("base/texts", "CONFIG"), constant("base/texts", "CALLS")
-PLAIN, SEVERAL = constant("base/runs", "RUNS"), constant("base/several", "SEVERAL")
-CROWDS = [constant("base/crowds", "CROWDS"), constant("base/crowds", "GRANTS"), constant("base/several", "FORTY")]
+PLAIN, SEVERAL = table("runs"), table("runs_with_several_grants")
+CROWDS = [table("runs_of_many_flows"), table("a_run_of_many_grants"), table("a_run_of_forty_grants")]
 RUNS = [PLAIN, SEVERAL, *CROWDS]
-REPLIES, BUILD = constant("base/histories", "REPLIES"), constant("base/histories", "BUILD")
+REPLIES, BUILD = table("a_history_with_each_reply"), table("a_history_of_one_build")
 CALLS = read("checks/rows/calls_of_each_name")
 
 

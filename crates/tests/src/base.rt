@@ -1,11 +1,7 @@
 //! What tests of several crates share: a configuration, and tables of rows that are played.
 
-pub mod crowds;
 pub mod draws;
 pub mod fakes;
-pub mod histories;
-pub mod runs;
-pub mod several;
 pub mod texts;
 
 use minislots::{Checked, Config};

@@ -1,5 +1,5 @@
-//! Worked rows of flows and of their ceilings. The reasons against parameters, turns and amounts are tried on the
-//! program, in checks/worked_texts.
+//! Worked rows of a bucket, and the book beside its slow reference. The reasons against parameters, turns and amounts are
+//! tried on the program, in checks/worked_texts and checks/plain_runs.
 
 ghost use Rattle.std.specs.Prelude.{◌≡◌, IfOk, IfSome};
 ghost use Rattle.flow_book.specs.Flows.{flow_of, with_grant};
@@ -10,18 +10,9 @@ mod lists;
 pub mod slow;
 
 use crate::base::{BASE, is_shown};
-use flow_book::{Book, Bucket, FlowSpec};
-use std::alloc::{AllocError, AllocGlobal};
-use std::process::Abort;
+use flow_book::{Book, Bucket};
+use std::alloc::AllocError;
 use std::test::Fail;
-
-const fn best_effort(rate: u32, burst: u32) -> FlowSpec {
-    FlowSpec::BestEffort {
-        priority: 3,
-        rate,
-        burst,
-    }
-}
 
 // Grants the most to a live flow in so many minislots, and gives the bytes.
 fn grant_most(book: &mut Book, sid: u16, start: u64, room: u32) -> Result<u32, AllocError>
@@ -61,40 +52,5 @@ fn a_bucket_without_a_rate_takes_all(rt: HostRuntime) -> Result<(), Fail> {
     is_shown(&rt, bucket.take(844, u32::MAX), "true");
     is_shown(&rt, bucket.take(844, u32::MAX), "true");
     is_shown(&rt, bucket.level_at(844), "0");
-    Ok(())
-}
-
-#[test]
-fn flows_stand_in_the_order_of_their_sids(rt: HostRuntime) -> Result<(), Fail> {
-    let mut book = Book::open(rt.alloc(), BASE.check()?)?;
-    book.admit(21, best_effort(0, 0))?;
-    book.admit(20, best_effort(0, 0))?;
-    is_shown(
-        &rt,
-        (book.len(), book.sid_at(0), book.sid_at(1)),
-        "(2, 20, 21)",
-    );
-    Ok(())
-}
-
-#[test]
-fn a_copy_alone_is_granted_to(rt: HostRuntime) -> Result<(), Fail> {
-    let mut book = Book::open(rt.alloc(), BASE.check()?)?;
-    book.admit(20, best_effort(0, 0))?;
-    book.ask(20, 1_000);
-    let mut copy = book.copy()?;
-    is_shown(
-        &rt,
-        copy.flow(20),
-        "Some(BestEffort { priority: 3, rate: 0, burst: 0 })",
-    );
-    is_shown(&rt, grant_most(&mut copy, 20, 844, 36)?, "544");
-    is_shown(&rt, copy.most(20, 924, 36), "456");
-    is_shown(&rt, copy.eligible(955, 5), "None");
-    is_shown(
-        &rt,
-        (copy.outstanding(20), book.outstanding(20)),
-        "(456, 1000)",
-    );
     Ok(())
 }

@@ -1,4 +1,4 @@
-//! The tests of all crates: worked rows of the profile, and what no clause says.
+//! The tests of all crates: what no clause says, and the program cannot show.
 #![tactic(auto)]
 
 #[cfg(test)]
@@ -6,15 +6,9 @@ mod base;
 #[cfg(test)]
 mod flow_book_rows;
 #[cfg(test)]
-mod map_build_rows;
-#[cfg(test)]
-mod map_codec_rows;
-#[cfg(test)]
 mod map_drawing_rows;
 #[cfg(test)]
 mod map_snapshot_rows;
-#[cfg(test)]
-mod minislots_rows;
 #[cfg(test)]
 mod periodic_rows;
 #[cfg(test)]
@@ -22,19 +16,11 @@ mod readme_rows;
 #[cfg(test)]
 mod refused_rows;
 #[cfg(test)]
-mod sched_commands_rows;
-#[cfg(test)]
-mod sched_history_rows;
-#[cfg(test)]
-mod sched_lines_rows;
-#[cfg(test)]
 mod sched_storm_rows;
-#[cfg(test)]
-mod sched_text_rows;
 #[cfg(test)]
 mod shared_sched_rows;
 #[cfg(test)]
-mod text_stream_rows;
+mod storm_command_rows;
 #[cfg(test)]
 mod ticket_core_rows;
 #[cfg(test)]

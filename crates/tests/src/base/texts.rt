@@ -37,11 +37,6 @@ pub fn push_part(parts: &mut String, part: &str) -> Result<(), AllocError> {
     parts.push_str(part)
 }
 
-/// A script with this configuration and these calls.
-pub fn script_of(alloc: Global, config: &str, calls: &str) -> Result<String, AllocError> {
-    format!(in alloc; r#"{{"config":{config},"calls":[{calls}]}}"#)
-}
-
 /// The script of a storm with this configuration and these scripts.
 pub fn storm_of(alloc: Global, config: &str, scripts: &str) -> Result<String, AllocError> {
     format!(in alloc; r#"{{"config":{config},"scripts":[{scripts}]}}"#)
@@ -82,22 +77,6 @@ pub fn config_of(alloc: Global, table: &str) -> Result<String, Fail> {
         }
     }
     Ok(config)
-}
-
-/// The calls of a table, whose rows have an arrow `=>`, as the text of an array's items.
-pub fn calls_in(alloc: Global, table: &str) -> Result<String, Fail> {
-    let mut calls = String::new(alloc);
-    for line in table.lines() {
-        if let Some((row, _)) = line.split_once(" => ") {
-            push_part(&mut calls, json_of(alloc, row)?.as_str())?;
-        }
-    }
-    Ok(calls)
-}
-
-/// The script of a table: its configuration and its calls.
-pub fn script_in(alloc: Global, table: &str) -> Result<String, Fail> {
-    Ok(script_of(alloc, &config_of(alloc, table)?, &calls_in(alloc, table)?)?)
 }
 
 // The calls of a script in one line, which a comma and a space separate.

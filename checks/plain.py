@@ -1,0 +1,321 @@
+"""A plain scheduler: the rules of the profile read again, apart from the code that is proved. It keeps all grants of a
+flow and goes through every window of them, tries every minislot for a placement, and asks every flow at each offset. It
+is slow, and says what the program has to say."""
+
+ALL_MODEMS, BROADCAST_IUC, NULL = 0x3FFF, 1, 7
+MOST_FLOWS, MOST_PERIODIC, MOST_GRANTS = 64, 40, 93
+MOST_BYTES, LAST_CLOCK, AHEAD = 1048560, 2**60, 4096
+MICROS_OF_TICK = 25, 4
+
+
+def ceiling_of(whole, part):
+    """The least whole number that is not below a quotient."""
+    return -(-whole // part)
+
+
+class Flow:
+    """A live flow: its parameters, what it asked, its data grants as (start, bytes), and its place in the cycle."""
+
+    def __init__(self, spec):
+        self.spec, self.kind, self.asked, self.grants = spec, spec["kind"], 0, []
+        self.phase = self.offset = self.interval = 0
+        self.starts = {}
+
+    def granted(self):
+        return sum(count for _, count in self.grants)
+
+    def outstanding(self):
+        return self.asked - self.granted()
+
+    def rank(self):
+        return 8 if self.kind == "polled" else self.spec["priority"]
+
+    def each(self):
+        """How many grants or polls it has in an interval."""
+        return self.spec.get("grants", 1) if self.kind == "unsolicited" else 1
+
+
+class Refused(Exception):
+    """That a call is refused, with the number of the refusal and what it tells."""
+
+
+def refuse(number, *value):
+    raise Refused(number, *value)
+
+
+class Scheduler:
+    """The scheduler of a configuration, which is a lawful one. Each call gives the reply as a history has it."""
+
+    def __init__(self, config):
+        self.config = {"phy": 0, **config}
+        self.frame, self.next = config["frame"], config["start"]
+        self.progress = [config["start"]] * config["receivers"]
+        self.flows, self.entries = {}, []
+
+    def slots_for(self, count):
+        return self.config["overhead"] + ceiling_of(count, self.config["bytes_per_slot"])
+
+    def slots_of(self, micros):
+        """The minislots of a time, and what is left over, in quarters of a tick's part."""
+        ticks, quarters = MICROS_OF_TICK
+        return divmod(micros * quarters, ticks * self.config["ticks"])
+
+    # The calls.
+
+    def call(self, call):
+        """The reply to a call, or None where the history is full."""
+        if len(self.entries) == self.config["calls"]:
+            return None
+        try:
+            reply = getattr(self, call["call"])(call)
+        except Refused as refused:
+            number, *value = refused.args
+            reply = {"kind": "refused", "number": number, **({"value": value[0]} if value else {})}
+        self.entries.append({"call": call, "reply": reply, "seat": 0, "ticket": len(self.entries)})
+        return reply
+
+    def live(self, sid):
+        if sid == 0 or sid > 8191:
+            refuse(1)
+        return self.flows.get(sid) or refuse(7)
+
+    def admit(self, call):
+        sid, spec = call["sid"], call["flow"]
+        if sid == 0 or sid > 8191:
+            refuse(1)
+        if sid in self.flows:
+            refuse(2)
+        self.check_parameters(spec)
+        if len(self.flows) >= MOST_FLOWS:
+            refuse(4)
+        flow = Flow(spec)
+        if flow.kind == "best_effort":
+            self.flows[sid] = flow
+            return {"kind": "admitted"}
+        if sum(it.each() for it in self.flows.values() if it.kind != "best_effort") + flow.each() > MOST_PERIODIC:
+            refuse(5)
+        reply = self.place(flow) or refuse(6)
+        self.flows[sid] = flow
+        return reply
+
+    def check_parameters(self, spec):
+        config, kind = self.config, spec["kind"]
+        room = self.frame - config["req_slots"]
+        if kind == "unsolicited" and (spec["size"] == 0 or self.slots_for(spec["size"]) > room):
+            refuse(3, 1)
+        if kind != "best_effort":
+            slots, left = self.slots_of(spec["interval_us"])
+            if left:
+                refuse(3, 2)
+            if slots == 0 or slots % self.frame:
+                refuse(3, 3)
+            if config["cycle"] % (slots // self.frame):
+                refuse(3, 4)
+        if kind == "best_effort" and spec["priority"] > 7:
+            refuse(3, 5)
+        if kind != "unsolicited" and spec["rate"] > 0 and spec["burst"] < config["quantum"]:
+            refuse(3, 6)
+        if kind == "unsolicited" and not 1 <= spec.get("grants", 1) <= 8:
+            refuse(3, 7)
+
+    def remove(self, call):
+        self.live(call["sid"])
+        del self.flows[call["sid"]]
+        return {"kind": "removed"}
+
+    def ask(self, call):
+        flow = self.live(call["sid"])
+        if flow.kind == "unsolicited":
+            refuse(8)
+        if call["receiver"] >= self.config["receivers"]:
+            refuse(9)
+        if not 1 <= call["bytes"] <= MOST_BYTES:
+            refuse(10)
+        if call["heard"] < self.progress[call["receiver"]]:
+            refuse(11, self.progress[call["receiver"]])
+        if call["heard"] >= self.next:
+            refuse(12, self.next)
+        flow.asked += call["bytes"]
+        return {"kind": "taken"}
+
+    def heard(self, call):
+        if call["receiver"] >= self.config["receivers"]:
+            refuse(9)
+        if call["upto"] > self.next:
+            refuse(12, self.next)
+        if call["upto"] < self.progress[call["receiver"]]:
+            refuse(13, self.progress[call["receiver"]])
+        self.progress[call["receiver"]] = call["upto"]
+        return {"kind": "noted"}
+
+    def build(self, call):
+        now = call["now"]
+        if now > LAST_CLOCK:
+            refuse(14)
+        if self.next + self.frame > now + AHEAD:
+            refuse(15, self.next)
+        if now + self.config["lead"] > self.next:
+            refuse(16, self.next)
+        reply = self.map_of(self.next)
+        self.next += self.frame
+        return reply
+
+    def skip(self, call):
+        now = call["now"]
+        if now > LAST_CLOCK:
+            refuse(14)
+        if now + self.config["lead"] <= self.next:
+            refuse(17, self.next)
+        self.next = ceiling_of(now + self.config["lead"], self.frame) * self.frame
+        return {"kind": "skipped", "next": self.next}
+
+    def status(self, call):
+        flow = self.live(call["sid"])
+        return {"kind": "flow", "asked": flow.asked, "granted": flow.granted(), "outstanding": flow.outstanding()}
+
+    # Placements: the least phase, then the least offset, then in each frame the least starts.
+
+    def slots_of_flow(self, flow):
+        return self.config["poll_slots"] if flow.kind == "polled" else self.slots_for(flow.spec["size"])
+
+    def taken_in(self, place):
+        """The minislots that live placements have in the frames at this place of the cycle."""
+        taken = set()
+        for flow in self.flows.values():
+            for start in flow.starts.get(place, ()):
+                taken.update(range(start, start + self.slots_of_flow(flow)))
+        return taken
+
+    def place(self, flow):
+        flow.interval = self.slots_of(flow.spec["interval_us"])[0] // self.frame
+        taken = [self.taken_in(place) for place in range(self.config["cycle"])]
+        for phase in range(flow.interval):
+            places = range(phase, self.config["cycle"], flow.interval)
+            for offset in range(self.config["req_slots"], self.frame):
+                found = {place: self.starts_in(flow, offset, taken[place]) for place in places}
+                if all(found.values()):
+                    flow.phase, flow.offset, flow.starts = phase, offset, found
+                    starts = [start for place in places for start in found[place]]
+                    return {"kind": "admitted", "reference": self.reference_of(flow), "starts": starts}
+        return None
+
+    def starts_in(self, flow, offset, taken):
+        """The least starts of the flow's grants in a frame of which so much is taken, or none where they do not fit."""
+        last, slots = offset + self.slots_of(flow.spec["jitter_us"])[0], self.slots_of_flow(flow)
+        starts, at = [], offset
+        while len(starts) < flow.each():
+            if at > last or at + slots > self.frame:
+                return []
+            if taken.isdisjoint(range(at, at + slots)):
+                starts.append(at)
+                at += slots
+            else:
+                at += 1
+        return starts
+
+    def reference_of(self, flow):
+        """The first nominal time that is not below the start of the next frame."""
+        frame = self.next // self.frame
+        while frame % flow.interval != flow.phase or frame * self.frame + flow.offset < self.next:
+            frame += 1
+        return frame * self.frame + flow.offset
+
+    # The MAP of a frame.
+
+    def periodic_in(self, start):
+        """What stands in a frame by its placement: offset, SID, usage, minislots, in order."""
+        place, found = start // self.frame % self.config["cycle"], []
+        for sid, flow in self.flows.items():
+            for at in flow.starts.get(place, ()):
+                slots = self.slots_of_flow(flow)
+                found.append((at, sid, 1 if flow.kind == "polled" else self.usage(slots, unsolicited=True), slots))
+        return sorted(found)
+
+    def usage(self, slots, unsolicited=False):
+        if self.config["phy"] == 1:
+            return 11 if unsolicited else 9 if slots <= self.config["short_max"] else 10
+        return 5 if slots <= self.config["short_max"] else 6
+
+    def long_usage(self):
+        return 10 if self.config["phy"] == 1 else 6
+
+    def keeps_ceiling(self, flow, start, count):
+        """Whether the flow's grants with this one behind them keep rate and burst over every window that ends in it."""
+        rate, burst = flow.spec["rate"], flow.spec["burst"]
+        total = 0
+        for first, part in reversed([*flow.grants, (start, count)]):
+            total += part
+            if rate and 1280000 * total > (start - first) * self.config["ticks"] * rate + 1280000 * burst:
+                return False
+        return True
+
+    def may_have(self, flow, start, count, room):
+        return self.slots_for(count) <= room and self.keeps_ceiling(flow, start, count)
+
+    def next_flow(self, start, room):
+        """The flow that is served at a minislot, with so much room, or none."""
+        able = []
+        for sid, flow in self.flows.items():
+            if flow.kind != "unsolicited" and flow.outstanding() > 0:
+                if self.may_have(flow, start, min(flow.outstanding(), self.config["quantum"]), room):
+                    able.append((-flow.rank(), flow.grants[-1][0] if flow.grants else -1, sid))
+        return min(able)[2] if able else None
+
+    def most(self, flow, start, room):
+        """The greatest number of bytes that a flow may be granted there."""
+        least, most = 0, min(flow.outstanding(), self.config["grant_cap"])
+        while least < most:
+            middle = (least + most + 1) // 2
+            least, most = (middle, most) if self.may_have(flow, start, middle, room) else (least, middle - 1)
+        return least
+
+    def fill(self, start, periodic):
+        """The elements of a frame up to the Null, each as (SID, usage, offset), and their bytes."""
+        elements, counts = [(ALL_MODEMS, BROADCAST_IUC, 0)], [0]
+        at, served = self.config["req_slots"], 0
+        while at < self.frame:
+            stop = periodic[0][0] if periodic else self.frame
+            if at == stop:
+                at, sid, usage, slots = periodic.pop(0)
+                element, count = (sid, usage, at), 0
+            else:
+                sid = self.next_flow(start + at, stop - at) if served < MOST_GRANTS else None
+                count = self.most(self.flows[sid], start + at, stop - at) if sid else 0
+                slots = self.slots_for(count) if sid else stop - at
+                element = (sid, self.usage(slots), at) if sid else (0, self.long_usage(), at)
+                if sid:
+                    self.flows[sid].grants.append((start + at, count))
+                    served += 1
+            elements.append(element)
+            counts.append(count)
+            at += slots
+        return elements, counts
+
+    def map_of(self, start):
+        elements, counts = self.fill(start, self.periodic_in(start))
+        elements.append((0, NULL, self.frame))
+        waiting = [sid for sid in sorted(self.flows) if self.flows[sid].outstanding() > 0]
+        elements += [(sid, self.long_usage(), self.frame) for sid in waiting]
+        counts += [0] * (1 + len(waiting))
+        ack = min(self.progress)
+        return {"kind": "map", "start": start, "ack": ack, "hex": self.payload(start, ack, elements), "bytes": counts}
+
+    def payload(self, start, ack, elements):
+        config = self.config
+        head = bytes([config["channel"], config["ucd_count"], len(elements), 0])
+        times = (start % 2**32).to_bytes(4, "big") + (ack % 2**32).to_bytes(4, "big")
+        windows = bytes(config[it] for it in ("ranging_start", "ranging_end", "data_start", "data_end"))
+        words = [(sid << 18 | usage << 14 | offset).to_bytes(4, "big") for sid, usage, offset in elements]
+        return (head + times + windows + b"".join(words)).hex()
+
+
+def line_of(reply):
+    """The line of an answer, as a run writes it."""
+    if reply is None:
+        return "history full"
+    kind = reply["kind"]
+    if kind == "admitted" and "starts" in reply:
+        return " ".join(["admitted", str(reply["reference"]), *map(str, reply["starts"])])
+    numbers = {"map": ["hex"], "skipped": ["next"], "flow": ["asked", "granted", "outstanding"]}
+    numbers["refused"] = ["number", "value"]
+    return " ".join([kind, *(str(reply[it]) for it in numbers.get(kind, []) if it in reply)])
