@@ -1,5 +1,6 @@
 """The functions of a crate by the prover's names, as a text tells them, and what stands in for a function's proof."""
 
+import itertools
 import os
 import re
 import shutil
@@ -30,7 +31,7 @@ def text_of(folder, file):
 
 def function_round(text, start, end):
     """The function round a place in a text, as FUNCTION finds it, or None where there is none."""
-    above = [it for it in FUNCTION.finditer(text) if it.start() < end]
+    above = list(itertools.takewhile(lambda it: it.start() < end, FUNCTION.finditer(text)))
     # A function ends at the first brace that closes in its own column.
     if start < 0 or not above or re.search(rf"^{above[-1][1]}}}", text[above[-1].end() : start], re.M):
         return None
@@ -63,10 +64,25 @@ def module_of(file):
     return "" if module == "lib" else module
 
 
+def files_below(folder, part):
+    """The texts of the files in a part of a crate."""
+    paths = [f"{at}/{it}" for at, _, names in os.walk(f"{folder}/{part}") for it in names]
+    return {os.path.relpath(it, folder): read(it) for it in sorted(paths)}
+
+
 def files_of(folder):
     """The texts of a crate's source files."""
-    paths = [f"{at}/{it}" for at, _, names in os.walk(f"{folder}/src") for it in names if it.endswith(".rt")]
-    return {os.path.relpath(it, folder): read(it) for it in sorted(paths)}
+    return {file: text for file, text in files_below(folder, "src").items() if file.endswith(".rt")}
+
+
+def is_of(said, names):
+    """Whether the prover's name of a function is one of these, of which each is the end of such a name."""
+    return any(f"::{said}".endswith(f"::{it}") for it in names)
+
+
+def block_of(text, function):
+    """The first line of the impl, trait or block of C functions that a method stands in."""
+    return next((it[0] for it in reversed(list(BLOCK.finditer(text, 0, function.start())))), "")
 
 
 def those_of(folder, file, old):
@@ -107,8 +123,7 @@ def proved_in(folder):
     modules = {it[1]: module_of(file) for file, text in texts.items() for it in TYPE.finditer(text)}
     for file, text in texts.items():
         for it in FUNCTION.finditer(text):
-            blocks = [at[0] for at in BLOCK.finditer(text) if at.start() < it.start()]
-            of_type = OF_TYPE.match(blocks[-1]) if it[1] and blocks else None
+            of_type = OF_TYPE.match(block_of(text, it)) if it[1] else None
             cycle, name = cycle_of(text, it), name_of(file, text, it)
             if not it[1]:
                 yield file, it, f"{module_of(file)}::{it[2]}".removeprefix("::"), name, cycle

@@ -22,6 +22,11 @@ def path():
     return os.path.dirname(run(HERE, "rt", "doc").stdout.strip())
 
 
+def version():
+    """The line that the toolchain has for itself."""
+    return run(HERE, "rt", "version").stdout.strip()
+
+
 def crates():
     """What each crate of the repository stands on, by crates.txt."""
     lines = [it.partition(":") for it in read(f"{HERE}/crates.txt").splitlines() if not it.startswith("#")]
