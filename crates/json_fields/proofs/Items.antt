@@ -1,13 +1,16 @@
 -- An array that is read item by item.
-use Rattle.std.proofs.Common.{◌≡◌, ℕ, ◌-◌, ◌<◌, ◌≤◌, List, [], ◌∷◌, ◌++◌, length, Option, Some, None}
-use Rattle.std.proofs.Common.{option_map, option_and_then, refl, sym, ap, ◌∙◌, arith}
+use Rattle.std.proofs.Common.{◌≡◌, ℕ, suc, ◌+◌, ◌-◌, ◌<◌, ◌≤◌, List, [], ◌∷◌, ◌++◌, length, get_or, drop, Option}
+use Rattle.std.proofs.Common.{Some, None, option_map, option_and_then, refl, sym, ap, ◌∙◌, arith}
+use Rattle.std.proofs.Math.Numerals.{add-one}
+use Rattle.std.proofs.Math.Seq.{drop-cons}
 use Rattle.json.specs.Token.{Token}
 use Rattle.json.specs.Json as json
 use Rattle.json.specs.Json.{Parse, parse_map, after_end_array, items}
 use Rattle.json.proofs.Grammar.{items_more, items_end}
 use Rattle.serde_json.specs.Data.{Data, Items, no_items, item}
 use Rattle.serde_json.specs.Read.{of_json, of_items, converted}
-use Rattle.serde_json.specs.View.{items_of}
+use Rattle.serde_json.specs.View.{items_of, view, items_view}
+use Rattle.serde_json.specs.declared.value.Value.{Value}
 use Rattle.json_fields.proofs.PlainValues.{converted-parse_map, converted-option_map, read_as}
 
 abbrev Read : Type 0 → Type 0
@@ -84,3 +87,11 @@ module _ (p : Parse json.Json) where
     items_over end = left.2
         ∙ ap (λ o. behind ds (converted of_items o)) (items_end p left.0 ts r left.1 end)
         ∙ ap (λ (all : Items). Some (all, r)) (items_then-end ds)
+
+-- the values that are left begin with the one at the index
+pub items_view-here : (values : List Value) (i : ℕ) (v : Value) → i < length values → v ≡ get_or values i v
+    → items_view (drop i values) ≡ item (view v) (items_view (drop (i + 1) values))
+items_view-here values i v within is =
+    let front : drop i values ≡ v ∷ drop (i + 1) values =
+    rw (drop-cons values i v within, add-one) (ap (λ (x : Value). x ∷ drop (suc i) values) (sym is)) in
+    ap items_view front

@@ -1,3 +1,5 @@
 pub mod Fields
 pub mod PlainValues
 pub mod Items
+pub mod Things
+pub mod UsualParts

@@ -1,2 +1,4 @@
 pub mod Fields
 pub mod Plain
+pub mod Listed
+pub mod Usual

@@ -7,9 +7,11 @@ mod field;
 mod plain;
 mod skipped;
 mod tree;
+mod usual;
 
 pub use config::{config_in, config_of};
 pub use field::{member, number_u8, number_u8_or, number_u16, number_u32, number_u64, text};
 pub use plain::{Plain, Stop, read_plain};
 pub use skipped::skip_plain;
 pub use tree::Tree;
+pub use usual::{FromTokens, read_usual};

@@ -7,7 +7,7 @@ use Rattle.text_stream.specs.declared.fault.TextFault.{TextFault}
 use Rattle.text_stream.specs.declared.fault.TextFault.TheVariants.{TooLong}
 use Rattle.text_stream.specs.declared.input.TheConstants.{MAX_INPUT}
 use Rattle.text_stream.specs.Input.{ReadsAll, ReadsTooMany}
-use Rattle.sched_text.specs.Recorded.{History, GivesHistory, history_outcome}
+use Rattle.history_reading.specs.Recorded.{History, GivesHistory, history_outcome}
 use Rattle.mapsched_c.specs.declared.status.TheConstants.{TOO_LONG}
 use Rattle.mapsched_c.specs.Text.{Judges, TellsFault, AuditsOutcome, Audits}
 

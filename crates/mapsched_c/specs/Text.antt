@@ -9,8 +9,8 @@ use Rattle.text_stream.specs.declared.fault.TextFault.{TextFault}
 use Rattle.text_stream.specs.declared.fault.TextFault.TheVariants.{Input, TooLong, NotJson, Shape, Config, Memory}
 use Rattle.text_stream.specs.declared.fault.TextFault.TheVariants.{Output}
 use Rattle.text_stream.specs.Fault.{field_number}
-use Rattle.sched_text.specs.HistoryText.{history_text}
-use Rattle.sched_text.specs.Recorded.{History, history_outcome}
+use Rattle.history_writing.specs.HistoryText.{history_text}
+use Rattle.history_reading.specs.Recorded.{History, history_outcome}
 use Rattle.mapsched_c.specs.declared.status.TheConstants.{OK, EMPTY, OUT_OF_MEMORY, NO_ROOM, ILLEGAL, TOO_LONG}
 use Rattle.mapsched_c.specs.declared.status.TheConstants.{NOT_JSON, NO_HISTORY, BAD_CONFIG}
 

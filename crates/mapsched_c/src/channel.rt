@@ -4,15 +4,15 @@ ghost use Rattle.std.specs.Prelude.{◌≡◌, Some, IfOk};
 ghost use Rattle.std.specs.List.{AllByRecursion};
 ghost use Rattle.sched_history.specs.History.{IsLegal};
 ghost use Rattle.sched_history.specs.Machine.{IsEncodable};
-ghost use Rattle.sched_text.specs.HistoryText.{history_text};
+ghost use Rattle.history_writing.specs.HistoryText.{history_text};
 ghost use Rattle.mapsched_c.specs.Answer.{AnswersCall};
 ghost use Rattle.mapsched_c.specs.Reply.{HasRoom};
 
 use crate::reply::PlainReply;
 use crate::status;
+use history_writing::put_history;
 use minislots::Stamp;
 use sched_history::{Call, Entry, Unrecorded};
-use sched_text::put_history;
 use std::alloc::{AllocError, Global};
 use worker_sched::Channel;
 

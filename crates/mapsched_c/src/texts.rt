@@ -7,9 +7,9 @@ ghost use Rattle.mapsched_c.specs.Text.{GivesText, GivesHistoryText, Judges, Aud
 use crate::channel::text_of;
 use crate::handle::Handle;
 use crate::status;
+use history_reading::read_history;
 use minislots::Checked;
 use sched_history::{AuditFault, Entry, audit};
-use sched_text::read_history;
 use std::alloc::Global;
 use text_stream::{TextFault, field_number};
 

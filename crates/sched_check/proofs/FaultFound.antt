@@ -3,7 +3,7 @@ use Rattle.std.proofs.Common.{◌≡◌, Bool, true, false, Option, None, Some, 
 use Rattle.std.specs.Prelude.{◌⊎◌, IfOk, IfErr}
 use Rattle.text_stream.specs.declared.fault.TextFault.{TextFault}
 use Rattle.text_stream.specs.declared.fault.TextFault.TheVariants.{Input, Memory}
-use Rattle.sched_text.proofs.Told.{IsTold}
+use Rattle.text_stream.proofs.Told.{IsTold}
 use Rattle.sched_check.specs.declared.finding.Finding.{Finding}
 use Rattle.sched_check.specs.declared.finding.Finding.TheVariants.{Fault}
 use Rattle.sched_check.specs.Finding.{fault_found}

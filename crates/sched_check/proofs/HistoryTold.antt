@@ -9,8 +9,8 @@ use Rattle.text_stream.specs.declared.fault.TextFault.{TextFault}
 use Rattle.text_stream.specs.declared.fault.TextFault.TheVariants.{Input, TooLong, NotJson, Shape, Config, Memory}
 use Rattle.text_stream.specs.declared.fault.TextFault.TheVariants.{Output}
 use Rattle.text_stream.specs.Input.{ReadsTooMany}
-use Rattle.sched_text.specs.Recorded.{History, history_outcome, GivesHistory, StopsHistory}
-use Rattle.sched_text.proofs.Told.{all_bytes, IsTold}
+use Rattle.history_reading.specs.Recorded.{History, history_outcome, GivesHistory, StopsHistory}
+use Rattle.text_stream.proofs.Told.{all_bytes, IsTold}
 
 -- a reader from which too many bytes came had too many
 too_many : (text : List ℕ) (left : Option (List ℕ)) → ReadsTooMany (Some text) left → MAX_INPUT < length text

@@ -2,10 +2,10 @@
 use Rattle.std.specs.Prelude.{◌≡◌, ℕ, List, ◌++◌, Option, option_map}
 use Rattle.std.specs.Io.KnownBytes.{Appends}
 use Rattle.text_stream.specs.Input.{ReadsAll, ReadsTooMany}
-use Rattle.sched_fault.specs.Fault.{run_fault_of}
-use Rattle.sched_fault.specs.declared.fault.RunFault.{RunFault}
-use Rattle.sched_fault.specs.declared.fault.RunFault.TheVariants.{Input, TooLong, NotJson, Shape, Config, Memory}
-use Rattle.sched_fault.specs.declared.fault.RunFault.TheVariants.{Output, Threads}
+use Rattle.text_stream.specs.RunFault.{run_fault_of}
+use Rattle.text_stream.specs.declared.run_fault.RunFault.{RunFault}
+use Rattle.text_stream.specs.declared.run_fault.RunFault.TheVariants.{Input, TooLong, NotJson, Shape, Config, Memory}
+use Rattle.text_stream.specs.declared.run_fault.RunFault.TheVariants.{Output, Threads}
 use Rattle.sched_check.specs.Kind.{kind_of}
 use Rattle.sched_check.specs.Found.{fault_of, verdict_line}
 

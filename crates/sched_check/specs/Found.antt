@@ -5,9 +5,9 @@ use Rattle.text_stream.specs.declared.fault.TextFault.TheVariants.{Input, TooLon
 use Rattle.text_stream.specs.declared.fault.TextFault.TheVariants.{Output}
 use Rattle.text_stream.specs.Fault.{field_number}
 use Rattle.sched_lines.specs.Line.{number_text}
-use Rattle.sched_text.specs.Outcome.{outcome_of}
-use Rattle.sched_text.specs.StormScript.{storm_outcome}
-use Rattle.sched_text.specs.Recorded.{history_outcome}
+use Rattle.script_reading.specs.Outcome.{outcome_of}
+use Rattle.script_reading.specs.StormScript.{storm_outcome}
+use Rattle.history_reading.specs.Recorded.{history_outcome}
 use Rattle.sched_check.specs.declared.kind.Kind.{Kind}
 use Rattle.sched_check.specs.declared.kind.Kind.TheVariants.{Script, Storm, History}
 use Rattle.sched_check.specs.Kind.{kind_of}

@@ -3,7 +3,7 @@ use Rattle.std.specs.Prelude.{ℕ, if◌then◌else◌, List, codes, Result, Ok,
 use Rattle.serde_json.specs.Data.{Data}
 use Rattle.text_stream.specs.declared.fault.TextFault.{TextFault}
 use Rattle.text_stream.specs.Input.{value_of}
-use Rattle.sched_text.specs.Replies.{has}
+use Rattle.history_reading.specs.Replies.{has}
 use Rattle.sched_check.specs.declared.kind.Kind.{Kind}
 use Rattle.sched_check.specs.declared.kind.Kind.TheVariants.{Script, Storm, History}
 

@@ -4,16 +4,15 @@ ghost use Rattle.std.specs.Prelude.{◌≡◌, ◌≢◌, ◌++◌, OnOk, IfOk, 
 ghost use Rattle.std.specs.Io.KnownBytes.{Appends};
 ghost use Rattle.sched_lines.specs.Line.{number_text};
 ghost use Rattle.text_stream.specs.Watched.{FailsBy};
-ghost use Rattle.sched_fault.specs.Fault.{run_fault_of};
+ghost use Rattle.text_stream.specs.RunFault.{run_fault_of};
 ghost use Rattle.sched_check.specs.Found.{fault_text, praise, verdict_text, verdict_line};
 ghost use Rattle.sched_check.specs.Check.{Checks, StopsCheck};
 
 use crate::kind::Kind;
 use crate::report::report_on;
-use sched_fault::RunFault;
 use sched_lines::put_number;
 use std::alloc::Global;
-use text_stream::{Sink, Source, TextFault, field_number, put, read_all};
+use text_stream::{RunFault, Sink, Source, TextFault, field_number, put, read_all};
 
 // What is said of a file without a fault.
 fn praise(kind: Kind) -> &'static [u8]

@@ -5,9 +5,10 @@ ghost use Rattle.sched_check.specs.Found.{fault_as};
 ghost use Rattle.sched_check.specs.Finding.{fault_found};
 
 use crate::kind::Kind;
+use history_reading::read_history;
 use minislots::Checked;
 use sched_history::{Call, Entry};
-use sched_text::{read_history, read_script, read_storm};
+use script_reading::{read_script, read_storm};
 use std::alloc::Global;
 use text_stream::TextFault;
 

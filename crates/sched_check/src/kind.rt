@@ -2,7 +2,7 @@
 
 ghost use Rattle.std.specs.Prelude.{◌≡◌, IsTrue};
 ghost use Rattle.serde_json.specs.View.{view};
-ghost use Rattle.sched_text.specs.Replies.{has};
+ghost use Rattle.history_reading.specs.Replies.{has};
 ghost use Rattle.sched_check.specs.Kind.{kind_in};
 
 use serde_json::Value;

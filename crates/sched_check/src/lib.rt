@@ -4,8 +4,10 @@
 
 mod check;
 mod finding;
+mod input;
 mod kind;
 mod report;
 mod words;
 
 pub use check::run_check;
+pub use input::check_input;

@@ -1,1 +1,4 @@
 pub mod RowsLines
+pub mod Answered
+pub mod Made
+pub mod Fitting

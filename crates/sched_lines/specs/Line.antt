@@ -25,6 +25,10 @@ Answer = Result Reply Unrecorded
 unfoldable pub number_text : ℕ → List ℕ
 number_text n = 32 ∷ decimal n
 
+-- the name, and the number behind it
+unfoldable pub number_line : List ℕ → ℕ → List ℕ
+number_line name n = name ++ (number_text n ++ 10 ∷ [])
+
 -- numbers, each after a space
 abbrev pub numbers_text : List ℕ → List ℕ
 numbers_text ns = flat_map number_text ns

@@ -1,9 +1,14 @@
-//! The lines of a run: one for the answer to each call, and for a refusal what it means in words.
+//! The calls of a run, one after the other, and their lines: one for the answer to each call, and for a refusal what it
+//! means in words.
 #![tactic(auto)]
 
+mod call;
 mod line;
 mod lines;
 mod meaning;
+mod named;
 
+pub use call::make_call;
 pub use line::{put_line, put_number, refusal_number, refusal_value};
 pub use lines::LineBuffer;
+pub use named::put_named;

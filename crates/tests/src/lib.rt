@@ -6,6 +6,8 @@ mod base;
 #[cfg(test)]
 mod flow_book_rows;
 #[cfg(test)]
+mod history_reading_rows;
+#[cfg(test)]
 mod map_build_rows;
 #[cfg(test)]
 mod map_codec_rows;
@@ -22,7 +24,7 @@ mod readme_rows;
 #[cfg(test)]
 mod refused_rows;
 #[cfg(test)]
-mod sched_commands_rows;
+mod run_command_rows;
 #[cfg(test)]
 mod sched_history_rows;
 #[cfg(test)]
@@ -30,9 +32,11 @@ mod sched_lines_rows;
 #[cfg(test)]
 mod sched_storm_rows;
 #[cfg(test)]
-mod sched_text_rows;
+mod script_reading_rows;
 #[cfg(test)]
 mod shared_sched_rows;
+#[cfg(test)]
+mod storm_command_rows;
 #[cfg(test)]
 mod text_stream_rows;
 #[cfg(test)]

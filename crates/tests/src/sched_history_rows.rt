@@ -7,7 +7,7 @@ use minislots::{Checked, Stamp};
 use periodic::{Placement, Starts};
 use sched_history::{Call, PlanFault, Reply, Scheduler, Unrecorded};
 use sched_lines::put_line;
-use sched_text::read_script;
+use script_reading::read_script;
 use std::alloc::Global;
 use std::test::Fail;
 

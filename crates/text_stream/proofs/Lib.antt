@@ -1,2 +1,5 @@
 pub mod Bytes
 pub mod Written
+pub mod Outcome
+pub mod Told
+pub mod Profile

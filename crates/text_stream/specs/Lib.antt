@@ -1,3 +1,5 @@
 pub mod Fault
+pub mod RunFault
 pub mod Watched
 pub mod Input
+pub mod Outcome

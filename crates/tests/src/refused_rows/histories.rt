@@ -1,8 +1,8 @@
 //! Histories that are read.
 
+use history_reading::read_history;
 use minislots::Checked;
 use sched_history::Entry;
-use sched_text::read_history;
 use std::alloc::AllocGlobal;
 use std::process::Abort;
 use text_stream::TextFault;

@@ -4,7 +4,7 @@ use super::gates::{Rule, Ruled};
 use crate::base::texts::storm_in;
 use crate::base::{BASE, checked, is_shown};
 use sched_storm::{Gate, Open, StormFault, Tally, storm_with};
-use sched_text::read_storm;
+use script_reading::read_storm;
 use std::alloc::{AllocError, AllocGlobal, Global};
 use std::process::Abort;
 use std::sync::Wait;

@@ -2,7 +2,7 @@
 use Rattle.std.proofs.Common.{◌≡◌, Option, ap, ◌∙◌}
 use Rattle.std.specs.Prelude.{option_map}
 use Rattle.text_stream.specs.declared.fault.TextFault.{TextFault}
-use Rattle.sched_fault.specs.Fault.{run_fault_of}
+use Rattle.text_stream.specs.RunFault.{run_fault_of}
 use Rattle.sched_check.specs.Kind.{kind_of}
 use Rattle.sched_check.specs.Found.{fault_of}
 use Rattle.sched_check.proofs.check.run_check.Goals as goal

@@ -1,5 +1,5 @@
 -- What is found is the fault of the text, or nothing where it is whole.
-use Rattle.sched_text.proofs.Told.{storm-has, storm-told}
+use Rattle.script_reading.proofs.Told.{storm-has, storm-told}
 use Rattle.sched_check.proofs.FaultFound.{fault-found, none-found, only-memory}
 use Rattle.sched_check.proofs.finding.find_storm.Goals as goal
 

@@ -1,0 +1,52 @@
+-- What an audit reads and writes.
+use Rattle.std.specs.Prelude.{◌≡◌, ◌↔◌, ℕ, Bool, true, false, List, length, codes, Option, Ok}
+use Rattle.std.specs.Io.KnownBytes.{Appends}
+use Rattle.minislots.specs.declared.config.Config.{Config as Configuration}
+use Rattle.sched_history.specs.declared.reply.Entry.{Entry}
+use Rattle.sched_history.specs.History.{IsLegal}
+use Rattle.sched_history.specs.Audit.{IsFirstIllegal}
+use Rattle.text_stream.specs.declared.fault.TextFault.TheVariants as texts
+use Rattle.history_reading.specs.Recorded.{History, GivesHistory, StopsHistory}
+use Rattle.audit_command.specs.declared.audit.Verdict.{Verdict}
+use Rattle.audit_command.specs.declared.audit.Verdict.TheVariants.{Legal, Illegal}
+use Rattle.text_stream.specs.declared.run_fault.RunFault.{RunFault}
+use Rattle.text_stream.specs.declared.run_fault.RunFault.TheVariants.{Input, TooLong, NotJson, Shape, Config, Memory}
+use Rattle.text_stream.specs.declared.run_fault.RunFault.TheVariants.{Output, Threads}
+use Rattle.sched_lines.specs.Line.{number_line}
+
+-- a history is legal and has so many entries, or its first entry that may not stand there is this one
+abbrev pub IsVerdict : Configuration → List Entry → Verdict → Type 0
+IsVerdict c h (Legal n) = IsLegal c h × (n ≡ length h)
+IsVerdict c h (Illegal i) = IsFirstIllegal c h i
+
+-- whether it is the verdict on a legal history
+abbrev pub is_legal : Verdict → Bool
+is_legal (Legal n) = true
+is_legal (Illegal i) = false
+
+-- the line of a verdict
+abbrev pub verdict_line : Verdict → List ℕ
+verdict_line (Legal n) = number_line (codes "legal") n
+verdict_line (Illegal i) = number_line (codes "illegal") i
+
+-- the reader's bytes are a history, and the line of the verdict on it was written, and nothing else; the answer is
+-- whether it is legal
+pub record Audited (unread left written_before written_after : Option (List ℕ)) (legal : Bool) : Type 0 where
+  pub history : History
+  pub read : GivesHistory unread left (Ok history)
+  pub verdict : Verdict
+  pub verdict_is : IsVerdict history.config history.entries verdict
+  pub written : Appends written_before written_after (verdict_line verdict)
+  pub legal_is : (legal ≡ true) ↔ IsLegal history.config history.entries
+
+-- why an audit ends: there is no history, or a write was tried after a whole one was read; want of memory tells
+-- nothing more
+abbrev pub StopsAudit : Option (List ℕ) → Option (List ℕ) → RunFault → Type 0
+StopsAudit unread left Input = StopsHistory unread left texts.Input
+StopsAudit unread left TooLong = StopsHistory unread left texts.TooLong
+StopsAudit unread left NotJson = StopsHistory unread left texts.NotJson
+StopsAudit unread left (Shape n) = StopsHistory unread left (texts.Shape n)
+StopsAudit unread left (Config field) = StopsHistory unread left (texts.Config field)
+StopsAudit unread left Memory = Unit {0}
+StopsAudit unread left Output = (history : History) × GivesHistory unread left (Ok history)
+StopsAudit unread left Threads = ⊥

@@ -1,0 +1,82 @@
+//! The audit of a history, from its text to the line of its verdict.
+
+ghost use Rattle.std.specs.Prelude.{◌≡◌, ◌≢◌, ◌≤◌, length, IfOk, OnOk, IfErr};
+ghost use Rattle.std.specs.Io.KnownBytes.{Appends};
+ghost use Rattle.sched_history.specs.declared.reply.TheConstants.{MAX_ENTRIES};
+ghost use Rattle.text_stream.specs.Watched.{FailsBy};
+ghost use Rattle.audit_command.specs.Verdict.{IsVerdict, is_legal, verdict_line, Audited, StopsAudit};
+
+use history_reading::read_history;
+use minislots::Checked;
+use sched_history::{AuditFault, Entry, audit};
+use sched_lines::put_named;
+use std::alloc::Global;
+use text_stream::{RunFault, Sink, Source, TextFault};
+
+/// What an audit says of a history.
+#[derive(Clone, Copy)]
+pub enum Verdict {
+    /// It has so many entries, and each reply may follow the entries before it.
+    Legal(usize),
+    /// This entry, counted from 0, is the first whose reply may not.
+    Illegal(usize),
+}
+
+// Audits a history.
+fn judge(alloc: Global, config: &Checked, entries: &[Entry]) -> Result<Verdict, RunFault>
+    requires few { length entries.now ≤ MAX_ENTRIES }
+    ensures ok { IfOk result (IsVerdict config.now entries.now) }
+    ensures err { IfErr result (λ e. e ≡ RunFault.Memory) }
+{
+    match audit(alloc, config, entries) {
+        Ok(()) => Ok(Verdict::Legal(entries.len())),
+        Err(AuditFault::Illegal(index)) => Ok(Verdict::Illegal(index)),
+        Err(AuditFault::Memory) => Err(RunFault::Memory),
+    }
+}
+
+// Writes the line of a verdict, and tells whether it is that of a legal history.
+fn put_verdict<W: Sink>(writer: &mut W, verdict: Verdict) -> Result<bool, TextFault>
+    ensures ok { OnOk result (Appends (W.contents writer.old) (W.contents writer.new) (verdict_line verdict)) }
+    ensures legal { IfOk result (λ legal. legal ≡ is_legal verdict) }
+    ensures err { IfErr result (λ e. e ≡ TextFault.Output) }
+    ensures failed { FailsBy TextFault.Output result (W.has_failed writer.old) (W.has_failed writer.new) }
+{
+    match verdict {
+        Verdict::Legal(entries) => {
+            put_named(writer, b"legal", entries as u64)?;
+            Ok(true)
+        }
+        Verdict::Illegal(index) => {
+            put_named(writer, b"illegal", index as u64)?;
+            Ok(false)
+        }
+    }
+}
+
+/// Reads a history, a configuration and entries in JSON, to the reader's end, and audits it. Writes `legal` and the
+/// number of its entries, or `illegal` and the first entry, counted from 0, whose reply the scheduler may not give
+/// after the entries before it. Answers whether it is legal. Nothing is written before another fault than one of
+/// output.
+pub fn run_audit<R: Source, W: Sink>(
+    alloc: Global,
+    reader: &mut R,
+    writer: &mut W,
+) -> Result<bool, RunFault>
+    // What was written is the line of the verdict on the history that was read, and nothing else.
+    ensures ok { IfOk result (Audited (R.remaining reader.old) (R.remaining reader.new)
+        (W.contents writer.old) (W.contents writer.new)) }
+
+    // Each fault comes under its own condition, the first one in their order.
+    ensures stops { IfErr result (StopsAudit (R.remaining reader.old) (R.remaining reader.new)) }
+    ensures quiet { IfErr result (λ e. e ≢ RunFault.Output → writer.new ≡ writer.old) }
+
+    // A failed read or write is told where one has failed, and where all went well none did.
+    ensures failed_read { FailsBy RunFault.Input result (R.has_failed reader.old) (R.has_failed reader.new) }
+    ensures failed_write { FailsBy RunFault.Output result (W.has_failed writer.old) (W.has_failed writer.new) }
+{
+    let (config, entries) = read_history(alloc, reader)?;
+    let verdict = judge(alloc, &config, &entries)?;
+    let legal = put_verdict(writer, verdict)?;
+    Ok(legal)
+}

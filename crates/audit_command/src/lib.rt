@@ -1,0 +1,8 @@
+//! The audit of a history, from its text to the line of its verdict.
+#![tactic(auto)]
+
+mod audit;
+mod input;
+
+pub use audit::run_audit;
+pub use input::audit_input;

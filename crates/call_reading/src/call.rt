@@ -1,0 +1,102 @@
+//! One call of a script.
+
+ghost use Rattle.std.specs.Prelude.{◌≡◌};
+ghost use Rattle.call_reading.specs.Calls.{admit_call, remove_call, ask_call, heard_call, build_call, skip_call};
+ghost use Rattle.call_reading.specs.Calls.{status_call, call_of};
+
+use super::flow::flow_of;
+use json_fields::{Tree, member, number_u8, number_u16, number_u32, number_u64, text};
+use sched_history::Call;
+
+#[tactic(auto, unfolding(crate::specs::Calls::admit_call))]
+fn admit_call<T: Tree>(value: &T) -> Option<Call>
+    ensures { result ≡ admit_call (T.shown value.now) }
+{
+    let (Some(sid), Some(flow)) = (
+        number_u16(value, "sid"),
+        member(value, "flow").and_then(flow_of),
+    ) else {
+        return None;
+    };
+    Some(Call::Admit(sid, flow))
+}
+
+#[tactic(auto, unfolding(crate::specs::Calls::remove_call))]
+fn remove_call<T: Tree>(value: &T) -> Option<Call>
+    ensures { result ≡ remove_call (T.shown value.now) }
+{
+    Some(Call::Remove(number_u16(value, "sid")?))
+}
+
+#[tactic(auto, unfolding(crate::specs::Calls::ask_call))]
+fn ask_call<T: Tree>(value: &T) -> Option<Call>
+    ensures { result ≡ ask_call (T.shown value.now) }
+{
+    let (Some(receiver), Some(sid), Some(bytes), Some(heard)) = (
+        number_u8(value, "receiver"),
+        number_u16(value, "sid"),
+        number_u32(value, "bytes"),
+        number_u64(value, "heard"),
+    ) else {
+        return None;
+    };
+    Some(Call::Ask {
+        receiver,
+        sid,
+        bytes,
+        heard,
+    })
+}
+
+#[tactic(auto, unfolding(crate::specs::Calls::heard_call))]
+fn heard_call<T: Tree>(value: &T) -> Option<Call>
+    ensures { result ≡ heard_call (T.shown value.now) }
+{
+    let (Some(receiver), Some(upto)) = (number_u8(value, "receiver"), number_u64(value, "upto"))
+    else {
+        return None;
+    };
+    Some(Call::Heard { receiver, upto })
+}
+
+#[tactic(auto, unfolding(crate::specs::Calls::build_call))]
+fn build_call<T: Tree>(value: &T) -> Option<Call>
+    ensures { result ≡ build_call (T.shown value.now) }
+{
+    Some(Call::Build {
+        now: number_u64(value, "now")?,
+    })
+}
+
+#[tactic(auto, unfolding(crate::specs::Calls::skip_call))]
+fn skip_call<T: Tree>(value: &T) -> Option<Call>
+    ensures { result ≡ skip_call (T.shown value.now) }
+{
+    Some(Call::Skip {
+        now: number_u64(value, "now")?,
+    })
+}
+
+#[tactic(auto, unfolding(crate::specs::Calls::status_call))]
+fn status_call<T: Tree>(value: &T) -> Option<Call>
+    ensures { result ≡ status_call (T.shown value.now) }
+{
+    Some(Call::Status(number_u16(value, "sid")?))
+}
+
+/// The call that an object stands for, by its name.
+#[tactic(auto, unfolding(crate::specs::Calls::call_of))]
+pub fn call_of<T: Tree>(value: &T) -> Option<Call>
+    ensures { result ≡ call_of (T.shown value.now) }
+{
+    match text(value, "call")? {
+        "admit" => admit_call(value),
+        "remove" => remove_call(value),
+        "ask" => ask_call(value),
+        "heard" => heard_call(value),
+        "build" => build_call(value),
+        "skip" => skip_call(value),
+        "status" => status_call(value),
+        _ => None,
+    }
+}

@@ -1,0 +1,9 @@
+-- The times and the windows, one after the other.
+use Rattle.std.proofs.Common.{arith}
+use Rattle.std.proofs.lemmas.Grind.{common_steps}
+use Rattle.decode_command.specs.Table.{times_line}
+use Rattle.decode_command.proofs.table.put_times.Goals as goal
+
+pub returns-clause-ok : goal.returns-clause-ok
+unfolding times_line
+returns-clause-ok g c = grind (arith, common_steps)

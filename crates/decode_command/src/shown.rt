@@ -1,0 +1,29 @@
+//! The command over what the program has: standard output, which is written with no buffer, so that nothing is left to
+//! flush, and the environment.
+
+use crate::table::decode_text;
+use std::io;
+use std::rt::Env;
+use text_stream::{RunFault, Watched};
+
+// The columns of the terminal, as far as the environment tells them.
+fn columns_told(rt: &impl Env) -> Option<u16> {
+    let mut digits = [0; 8];
+    let len = rt.var("COLUMNS", &mut digits).ok()?;
+    str::from_utf8(digits.get(..len)?).ok()?.parse().ok()
+}
+
+/// The command `decode`: whether the text is a payload. A drawing has so many columns, or those of the terminal, or 80.
+pub fn show_text(
+    rt: &(impl Print + Env + AllocGlobal),
+    text: &str,
+    is_drawn: bool,
+    columns: Option<u16>,
+) -> Result<bool, RunFault> {
+    let columns = if is_drawn {
+        columns.or_else(|| columns_told(rt)).or(Some(80))
+    } else {
+        None
+    };
+    decode_text(rt.alloc(), text, columns, &mut Watched::new(io::writer(rt)))
+}

@@ -1,0 +1,33 @@
+-- How far a drawing of a run has come.
+use Rattle.std.proofs.Common.{◌≡◌, ℕ, ◌+◌, ◌<◌, false, List, [], ◌∷◌, ◌++◌, length, get_or, take, Option, ap}
+use Rattle.std.specs.Io.KnownBytes.{Appends}
+use Rattle.sched_history.specs.declared.call.Call.{Call}
+use Rattle.sched_history.specs.Facts.{maps_of}
+use Rattle.sched_history.specs.Machine.{Machine}
+use Rattle.sched_lines.specs.Line.{Answer}
+use Rattle.frame_picture.specs.Picture.{picture_text}
+use Rattle.sched_lines.specs.Answer.{MakesCall}
+use Rattle.draw_command.specs.Drawing.{lacks_memory, MakesWhole, Draws}
+use Rattle.sched_lines.proofs.Fitting.{all-push}
+use Rattle.sched_lines.proofs.Made.{MakesCalls-push, MakesCalls-legal}
+
+-- one call more, for which there was memory
+pub MakesWhole-push : (old mid new : Machine) (calls : List Call) (i : ℕ) (d : Call) (answer : Answer)
+    → i < length calls → MakesWhole old mid (take i calls) → MakesCall mid new i (get_or calls i d) answer
+    → lacks_memory answer ≡ false → MakesWhole old new (take (i + 1) calls)
+MakesWhole-push old mid new calls i d answer below whole one had = record {
+  answers = whole.answers ++ answer ∷ [];
+  makes = MakesCalls-push old mid new calls i d whole.answers answer below whole.makes one;
+  had_memory = all-push (λ (a : Answer). lacks_memory a ≡ false) whole.answers answer whole.had_memory had;
+}
+
+-- all calls, and the picture of their MAPs
+pub Draws-whole : (old new : Machine) (calls : List Call) (before after : Option (List ℕ)) → MakesWhole old new calls
+    → Appends before after (picture_text old.config.frame (maps_of new.history)) → Draws old.config calls before after
+Draws-whole old new calls before after whole written = record {
+  answers = whole.answers;
+  each = whole.makes.each;
+  legal = MakesCalls-legal old new calls whole.answers whole.makes;
+  had_memory = whole.had_memory;
+  written = rw (ap (λ (m : Machine). m.history) whole.makes.state) at written;
+}

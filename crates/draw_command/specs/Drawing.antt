@@ -1,0 +1,46 @@
+-- What a drawing of a run reads and writes.
+use Rattle.std.specs.Prelude.{◌≡◌, ℕ, Bool, true, false, List, [], Option, Ok, Err}
+use Rattle.std.specs.List.{AllByRecursion}
+use Rattle.std.specs.Io.KnownBytes.{Appends}
+use Rattle.minislots.specs.declared.config.Config.{Config}
+use Rattle.sched_history.specs.declared.call.Call.{Call}
+use Rattle.sched_history.specs.declared.reply.Unrecorded.TheVariants.{HistoryFull, Memory}
+use Rattle.sched_history.specs.Facts.{maps_of}
+use Rattle.sched_history.specs.History.{IsLegal}
+use Rattle.sched_history.specs.Machine.{Machine}
+use Rattle.script_reading.specs.Script.{Scenario}
+use Rattle.script_reading.specs.Outcome.{StandsFor}
+use Rattle.sched_lines.specs.Line.{Answer}
+use Rattle.frame_picture.specs.Picture.{picture_text}
+use Rattle.sched_lines.specs.Answer.{MayGetEach, recorded_entries, MakesCalls}
+
+-- there was no memory for the call with this answer
+abbrev pub lacks_memory : Answer → Bool
+lacks_memory (Ok reply) = false
+lacks_memory (Err HistoryFull) = false
+lacks_memory (Err Memory) = true
+
+-- there was memory for each of the calls with these answers
+abbrev pub HadMemory : List Answer → Type 0
+HadMemory answers = AllByRecursion (λ (a : Answer). lacks_memory a ≡ false) answers
+
+-- from a state of a scheduler without entries these calls, for each of which there was memory, led to another
+pub record MakesWhole (old new : Machine) (calls : List Call) : Type 0 where
+  pub answers : List Answer
+  pub makes : MakesCalls old new calls answers
+  pub had_memory : HadMemory answers
+
+-- The calls are made one after the other on a scheduler without entries, there is memory for each, and the picture of
+-- their MAPs is written: the recorded ones make a legal history, call i with seat 0 and ticket i
+pub record Draws (c : Config) (calls : List Call) (before after : Option (List ℕ)) : Type 0 where
+  pub answers : List Answer
+  pub each : MayGetEach c [] 0 calls answers
+  pub legal : IsLegal c (recorded_entries 0 calls answers)
+  pub had_memory : HadMemory answers
+  pub written : Appends before after (picture_text c.frame (maps_of (recorded_entries 0 calls answers)))
+
+-- The reader's bytes are a script, and the picture of its calls' MAPs was written, and nothing else
+pub record Drawn (unread left written_before written_after : Option (List ℕ)) : Type 0 where
+  pub scenario : Scenario
+  pub read : StandsFor unread left scenario
+  pub draws : Draws scenario.config scenario.calls written_before written_after

@@ -1,0 +1,84 @@
+//! The picture of a run.
+
+ghost use Rattle.std.specs.Prelude.{◌≡◌, ◌≢◌, ◌⊎◌, [], OnOk, IfErr};
+ghost use Rattle.run_command.specs.Run.{Stops};
+ghost use Rattle.draw_command.specs.Drawing.{lacks_memory, MakesWhole, Draws, Drawn};
+ghost use Rattle.text_stream.specs.Watched.{FailsBy};
+
+use frame_picture::put_picture;
+use minislots::Checked;
+use sched_history::{Call, Reply, Scheduler, Unrecorded};
+use sched_lines::make_call;
+use script_reading::read_script;
+use std::alloc::Global;
+use text_stream::{RunFault, Sink, Source};
+
+// Whether there was no memory for the call with this answer.
+fn lacks_memory(answer: &Result<Reply, Unrecorded>) -> bool
+    ensures { result ≡ lacks_memory answer.now }
+{
+    matches!(answer, Err(Unrecorded::Memory))
+}
+
+// Makes the calls of a script one after the other, up to one for which there is no memory.
+fn make_whole(scheduler: &mut Scheduler, calls: &[Call]) -> Result<(), RunFault>
+    requires { scheduler.old.history ≡ [] }
+    ensures ok { OnOk result (MakesWhole scheduler.old scheduler.new calls.now) }
+    ensures err { IfErr result (λ e. e ≡ RunFault.Memory) }
+{
+    for (place, call) in calls.iter().enumerate() {
+        let answer = make_call(scheduler, place, *call);
+        if lacks_memory(&answer) {
+            return Err(RunFault::Memory);
+        }
+    }
+    Ok(())
+}
+
+// Makes the calls of a script one after the other, and writes the picture of their MAPs. Nothing is written before
+// memory runs out.
+fn draw_calls<W: Sink>(
+    scheduler: &mut Scheduler,
+    config: &Checked,
+    calls: &[Call],
+    writer: &mut W,
+) -> Result<(), RunFault>
+    requires empty { scheduler.old.history ≡ [] }
+    requires same { config.now ≡ scheduler.old.config }
+
+    ensures ok { OnOk result (Draws scheduler.old.config calls.now (W.contents writer.old) (W.contents writer.new)) }
+    ensures err { IfErr result (λ e. (e ≡ RunFault.Memory) ⊎ (e ≡ RunFault.Output)) }
+    ensures failed { FailsBy RunFault.Output result (W.has_failed writer.old) (W.has_failed writer.new) }
+    ensures quiet { IfErr result (λ e. e ≢ RunFault.Output → writer.new ≡ writer.old) }
+{
+    make_whole(scheduler, calls)?;
+    put_picture(writer, config.frame(), scheduler.history())?;
+    Ok(())
+}
+
+/// Reads a script, a configuration and calls in JSON, to the reader's end, makes its calls as a run does, and writes
+/// the picture of the MAPs in SVG: a row for each MAP in their order, and in it a bar for each of its allocations.
+/// Where a call found no memory there is no picture. Nothing is written before another fault than one of output.
+pub fn draw_script<R: Source, W: Sink>(
+    alloc: Global,
+    reader: &mut R,
+    writer: &mut W,
+) -> Result<(), RunFault>
+    // What was written is the picture of the run's MAPs, and nothing else.
+    ensures ok { OnOk result (Drawn (R.remaining reader.old) (R.remaining reader.new)
+        (W.contents writer.old) (W.contents writer.new)) }
+
+    // Each fault comes under its own condition, the first one in their order.
+    ensures stops { IfErr result (Stops (R.remaining reader.old) (R.remaining reader.new)) }
+    ensures quiet { IfErr result (λ e. e ≢ RunFault.Output → writer.new ≡ writer.old) }
+
+    // A failed read or write is told where one has failed, and where all went well none did.
+    ensures failed_read { FailsBy RunFault.Input result (R.has_failed reader.old) (R.has_failed reader.new) }
+    ensures failed_write { FailsBy RunFault.Output result (W.has_failed writer.old) (W.has_failed writer.new) }
+{
+    let (config, calls) = read_script(alloc, reader)?;
+    let Ok(mut scheduler) = Scheduler::open(alloc, config) else {
+        return Err(RunFault::Memory);
+    };
+    draw_calls(&mut scheduler, &config, &calls, writer)
+}

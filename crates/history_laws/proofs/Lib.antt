@@ -1,0 +1,11 @@
+pub mod EndedText
+pub mod Readable
+pub mod Spelled
+pub mod RefusalNumbers
+pub mod RefusalFound
+pub mod ReadBack
+pub mod HistoryAgain
+pub mod CallReadable
+pub mod HistoryReadable
+pub mod HistoryDepth
+pub mod ReadAgain

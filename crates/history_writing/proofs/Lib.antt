@@ -1,0 +1,2 @@
+pub mod JsonTokens
+pub mod RowsHistory

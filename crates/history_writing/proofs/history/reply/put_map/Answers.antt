@@ -1,0 +1,25 @@
+-- The members of a MAP, one behind the other.
+use Rattle.std.proofs.Common.{sym}
+use Rattle.history_writing.specs.Json.{map_data}
+use Rattle.text_stream.proofs.Written.{where_ok}
+use Rattle.history_writing.proofs.JsonTokens.{then_more}
+use Rattle.history_writing.proofs.history.reply.put_map.Goals as goal
+
+pub returns-clause-ok : goal.returns-clause-ok
+unfolding map_data
+returns-clause-ok c =
+    let begun = c.begin_object.new.self.tokens in
+    let acked = c.put_counts.new.out.tokens in
+    let sized = c.put_bytes.new.out.tokens in
+    let spelled = c.put_name.new.out.tokens in
+    let named = c.put_name-2.new.out.tokens in
+    let started = c.put_counts-2.new.out.tokens in
+    let last = c.end_object.new.self.tokens in
+    rw (sym c.as_slice.ensures, sym c.in_ok-hex.ensures, sym c.as_str.ensures.value)
+    (where_ok c.end_object.result (λ ended.
+    then_more c.args.out.now.tokens begun last _ _ c.in_ok-begin_object.ensures.ok
+    (then_more begun acked last _ _ c.in_ok-put_counts.ensures.ok
+    (then_more acked sized last _ _ c.in_ok-put_bytes.ensures.ok
+    (then_more sized spelled last _ _ c.in_ok-put_name.ensures.ok
+    (then_more spelled named last _ _ c.in_ok-put_name-2.ensures.ok
+    (then_more named started last _ _ c.in_ok-put_counts-2.ensures.ok ended)))))) c.end_object.ensures.ok)

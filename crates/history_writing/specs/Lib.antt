@@ -1,0 +1,4 @@
+pub mod Json
+pub mod Tokens
+pub mod HistoryText
+pub mod Fits

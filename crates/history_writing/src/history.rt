@@ -1,0 +1,111 @@
+//! The text of a history.
+
+ghost use Rattle.std.specs.Prelude.{◌≡◌, ◌≢◌, ◌++◌, ◌∷◌, IfOk, OnOk, IfErr, ◌⊎◌};
+ghost use Rattle.std.specs.List.{AllByRecursion};
+ghost use Rattle.std.specs.Io.KnownBytes.{Appends};
+ghost use Rattle.json.specs.Token.{key};
+ghost use Rattle.sched_history.specs.Machine.{IsEncodable};
+ghost use Rattle.history_writing.specs.HistoryText.{entry_data, entries_data, history_data, history_text};
+ghost use Rattle.history_writing.specs.Tokens.{tokens_of};
+ghost use Rattle.text_stream.specs.Watched.{FailsBy};
+
+mod call;
+mod config;
+mod count;
+mod reply;
+
+use call::put_call;
+use config::put_config;
+use count::put_counts;
+use json::Writer;
+use minislots::Config;
+use reply::put_reply;
+use sched_history::Entry;
+use std::alloc::{AllocError, Global};
+use text_stream::{Sink, TextFault, put};
+
+// The keys of a stamp.
+static STAMP: [&str; 2] = ["seat", "ticket"];
+
+// Writes an entry: its call, its reply and its stamp.
+#[tactic(auto, unfolding(crate::specs::HistoryText::entry_data))]
+fn put_entry(out: &mut Writer, alloc: Global, entry: &Entry) -> Result<(), AllocError>
+    requires { IsEncodable entry.now.reply }
+    ensures ok { OnOk result (out.new.tokens ≡ out.old.tokens ++ tokens_of (entry_data entry.now)) }
+    ensures before { out.new.before ≡ out.old.before }
+{
+    out.begin_object()?;
+    out.key("call")?;
+    put_call(out, entry.call)?;
+    out.key("reply")?;
+    put_reply(out, alloc, &entry.reply)?;
+    let numbers = [entry.stamp.seat as u64, entry.stamp.ticket];
+    put_counts(out, &STAMP, &numbers)?;
+    out.end_object()
+}
+
+// Writes entries, one after the other.
+#[tactic(auto, unfolding(crate::specs::HistoryText::entries_data))]
+fn put_entries(out: &mut Writer, alloc: Global, entries: &[Entry]) -> Result<(), AllocError>
+    requires { AllByRecursion (λ e. IsEncodable e.reply) entries.now }
+    ensures ok { OnOk result (out.new.tokens ≡ out.old.tokens ++ tokens_of (entries_data entries.now)) }
+    ensures before { out.new.before ≡ out.old.before }
+{
+    out.begin_array()?;
+    for entry in entries {
+        put_entry(out, alloc, entry)?;
+    }
+    out.end_array()
+}
+
+// Writes a history under a configuration.
+#[tactic(auto, unfolding(crate::specs::HistoryText::history_data))]
+fn put_members(
+    out: &mut Writer,
+    alloc: Global,
+    config: &Config,
+    entries: &[Entry],
+) -> Result<(), AllocError>
+    requires { AllByRecursion (λ e. IsEncodable e.reply) entries.now }
+    ensures ok { OnOk result (out.new.tokens
+        ≡ out.old.tokens ++ tokens_of (history_data config.now entries.now)) }
+    ensures before { out.new.before ≡ out.old.before }
+{
+    out.begin_object()?;
+    out.key("config")?;
+    put_config(out, config)?;
+    out.key("entries")?;
+    put_entries(out, alloc, entries)?;
+    out.end_object()
+}
+
+/// The text of a history: JSON without spaces, keys in ascending order, and one newline.
+#[tactic(auto, unfolding(crate::specs::HistoryText::history_text))]
+fn history_text(alloc: Global, config: &Config, entries: &[Entry]) -> Result<Vec<u8>, AllocError>
+    requires { AllByRecursion (λ e. IsEncodable e.reply) entries.now }
+    ensures { IfOk result (λ text. text.items ≡ history_text config.now entries.now) }
+{
+    let mut out = Writer::new(Vec::new(alloc));
+    put_members(&mut out, alloc, config, entries)?;
+    let mut text = out.into_inner();
+    text.push(b'\n')?;
+    Ok(text)
+}
+
+/// Writes the text of a history. Nothing is written before memory runs out.
+pub fn put_history<W: Sink>(
+    alloc: Global,
+    writer: &mut W,
+    config: &Config,
+    entries: &[Entry],
+) -> Result<(), TextFault>
+    requires { AllByRecursion (λ e. IsEncodable e.reply) entries.now }
+    ensures ok { OnOk result (Appends (W.contents writer.old) (W.contents writer.new)
+        (history_text config.now entries.now)) }
+    ensures quiet { IfErr result (λ e. e ≢ TextFault.Output → writer.new ≡ writer.old) }
+    ensures err { IfErr result (λ e. (e ≡ TextFault.Memory) ⊎ (e ≡ TextFault.Output)) }
+    ensures failed { FailsBy TextFault.Output result (W.has_failed writer.old) (W.has_failed writer.new) }
+{
+    let text = history_text(alloc, config, entries)?;
+    put(writer, &text)
+}

@@ -1,0 +1,113 @@
+//! Calls as JSON.
+
+ghost use Rattle.std.specs.Prelude.{◌≡◌, ◌++◌, OnOk};
+ghost use Rattle.history_writing.specs.Json.{flow_data, call_data};
+ghost use Rattle.history_writing.specs.Tokens.{tokens_of};
+
+use super::count::{put_counts, put_name, put_named};
+use flow_book::FlowSpec;
+use json::Writer;
+use sched_history::Call;
+use std::alloc::AllocError;
+
+// The keys of what a flow or a call has beside its name.
+static UNSOLICITED: [&str; 4] = ["grants", "interval_us", "jitter_us", "size"];
+
+static POLLED: [&str; 4] = ["burst", "interval_us", "jitter_us", "rate"];
+
+static BEST_EFFORT: [&str; 3] = ["burst", "priority", "rate"];
+
+static SID: [&str; 1] = ["sid"];
+
+static ASK: [&str; 4] = ["bytes", "heard", "receiver", "sid"];
+
+static HEARD: [&str; 2] = ["receiver", "upto"];
+
+static NOW: [&str; 1] = ["now"];
+
+// Writes the parameters of a flow, by its kind.
+#[tactic(auto, unfolding(crate::specs::Json::flow_data))]
+fn put_flow(out: &mut Writer, flow: FlowSpec) -> Result<(), AllocError>
+    ensures ok { OnOk result (out.new.tokens ≡ out.old.tokens ++ tokens_of (flow_data flow)) }
+    ensures before { out.new.before ≡ out.old.before }
+{
+    match flow {
+        FlowSpec::Unsolicited {
+            size,
+            interval_us,
+            jitter_us,
+            grants,
+        } => {
+            let numbers = [
+                grants as u64,
+                interval_us as u64,
+                jitter_us as u64,
+                size as u64,
+            ];
+            put_named(out, "kind", "unsolicited", 3, &UNSOLICITED, &numbers)
+        }
+        FlowSpec::Polled {
+            interval_us,
+            jitter_us,
+            rate,
+            burst,
+        } => {
+            let numbers = [
+                burst as u64,
+                interval_us as u64,
+                jitter_us as u64,
+                rate as u64,
+            ];
+            put_named(out, "kind", "polled", 3, &POLLED, &numbers)
+        }
+        FlowSpec::BestEffort {
+            priority,
+            rate,
+            burst,
+        } => {
+            let numbers = [burst as u64, priority as u64, rate as u64];
+            put_named(out, "kind", "best_effort", 1, &BEST_EFFORT, &numbers)
+        }
+    }
+}
+
+#[tactic(auto, unfolding(crate::specs::Json::call_data))]
+fn put_admit(out: &mut Writer, sid: u16, flow: FlowSpec) -> Result<(), AllocError>
+    ensures ok { OnOk result (out.new.tokens
+        ≡ out.old.tokens ++ tokens_of (call_data (Call.Admit sid flow))) }
+    ensures before { out.new.before ≡ out.old.before }
+{
+    out.begin_object()?;
+    put_name(out, "call", "admit")?;
+    out.key("flow")?;
+    put_flow(out, flow)?;
+    put_counts(out, &SID, &[sid as u64])?;
+    out.end_object()
+}
+
+/// Writes a call, by its name.
+#[tactic(auto, unfolding(crate::specs::Json::call_data))]
+pub fn put_call(out: &mut Writer, call: Call) -> Result<(), AllocError>
+    ensures ok { OnOk result (out.new.tokens ≡ out.old.tokens ++ tokens_of (call_data call)) }
+    ensures before { out.new.before ≡ out.old.before }
+{
+    match call {
+        Call::Admit(sid, flow) => put_admit(out, sid, flow),
+        Call::Remove(sid) => put_named(out, "call", "remove", 0, &SID, &[sid as u64]),
+        Call::Ask {
+            receiver,
+            sid,
+            bytes,
+            heard,
+        } => {
+            let numbers = [bytes as u64, heard, receiver as u64, sid as u64];
+            put_named(out, "call", "ask", 1, &ASK, &numbers)
+        }
+        Call::Heard { receiver, upto } => {
+            put_named(out, "call", "heard", 0, &HEARD, &[receiver as u64, upto])
+        }
+        Call::Build { now } => put_named(out, "call", "build", 0, &NOW, &[now]),
+        Call::Skip { now } => put_named(out, "call", "skip", 0, &NOW, &[now]),
+        Call::Status(sid) => put_named(out, "call", "status", 0, &SID, &[sid as u64]),
+    }
+}

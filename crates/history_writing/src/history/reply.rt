@@ -1,0 +1,123 @@
+//! Replies as JSON.
+
+ghost use Rattle.std.specs.Prelude.{◌≡◌, ◌++◌, IfOk, OnOk, string_bytes};
+ghost use Rattle.hex.specs.Hex.{encode_lower};
+ghost use Rattle.map_codec.specs.WireMap.{IsWellFormed, spelling};
+ghost use Rattle.sched_history.specs.Machine.{IsEncodable};
+ghost use Rattle.history_writing.specs.Json.{placed_data, map_data, plain_data, refused_data, reply_data};
+ghost use Rattle.history_writing.specs.Tokens.{tokens_of};
+
+use super::count::{put_bytes, put_counts, put_name, put_named, put_offsets};
+use json::Writer;
+use map_build::FrameMap;
+use map_codec::{MAX_BYTES, WireMap, encode};
+use periodic::Placement;
+use sched_history::Reply;
+use sched_lines::{refusal_number, refusal_value};
+use std::alloc::{AllocError, Global};
+
+// The keys of the numbers that a reply has beside its kind.
+static REFERENCE: [&str; 1] = ["reference"];
+
+static ACK: [&str; 1] = ["ack"];
+
+static START: [&str; 1] = ["start"];
+
+static NUMBER: [&str; 1] = ["number"];
+
+static NUMBER_AND_VALUE: [&str; 2] = ["number", "value"];
+
+static NEXT: [&str; 1] = ["next"];
+
+static SUMS: [&str; 3] = ["asked", "granted", "outstanding"];
+
+#[tactic(auto, unfolding(crate::specs::Json::placed_data))]
+fn put_placed(out: &mut Writer, placement: &Placement) -> Result<(), AllocError>
+    ensures ok { OnOk result (out.new.tokens ≡ out.old.tokens ++ tokens_of (placed_data placement.now)) }
+    ensures before { out.new.before ≡ out.old.before }
+{
+    out.begin_object()?;
+    put_name(out, "kind", "admitted")?;
+    put_counts(out, &REFERENCE, &[placement.reference])?;
+    put_offsets(out, "starts", placement.starts.as_slice())?;
+    out.end_object()
+}
+
+// The payload of a MAP in lower-case hexadecimal.
+fn hex_of(alloc: Global, map: &WireMap) -> Result<String, AllocError>
+    requires { IsWellFormed map.now }
+    ensures { IfOk result (λ text. string_bytes text ≡ encode_lower (spelling map.now)) }
+{
+    let mut payload = [0u8; MAX_BYTES];
+    let len = encode(map, &mut payload);
+    hex::encode(alloc, &payload[..len])
+}
+
+#[tactic(auto, unfolding(crate::specs::Json::map_data))]
+fn put_map(out: &mut Writer, alloc: Global, kind: &str, frame: &FrameMap) -> Result<(), AllocError>
+    requires { IsWellFormed frame.now.wire }
+    ensures ok { OnOk result (out.new.tokens ≡ out.old.tokens ++ tokens_of (map_data kind.now frame.now)) }
+    ensures before { out.new.before ≡ out.old.before }
+{
+    out.begin_object()?;
+    put_counts(out, &ACK, &[frame.ack])?;
+    put_bytes(out, "bytes", frame.bytes.as_slice())?;
+    let hex = hex_of(alloc, &frame.wire)?;
+    put_name(out, "hex", hex.as_str())?;
+    put_name(out, "kind", kind)?;
+    put_counts(out, &START, &[frame.start])?;
+    out.end_object()
+}
+
+#[tactic(auto, unfolding(crate::specs::Json::refused_data))]
+fn put_refused(out: &mut Writer, number: u64, value: Option<u64>) -> Result<(), AllocError>
+    ensures ok { OnOk result (out.new.tokens ≡ out.old.tokens ++ tokens_of (refused_data number value)) }
+    ensures before { out.new.before ≡ out.old.before }
+{
+    match value {
+        None => put_named(out, "kind", "refused", 0, &NUMBER, &[number]),
+        Some(value) => {
+            let numbers = [number, value];
+            put_named(out, "kind", "refused", 0, &NUMBER_AND_VALUE, &numbers)
+        }
+    }
+}
+
+// Writes a kind that says nothing more.
+#[tactic(auto, unfolding(crate::specs::Json::plain_data))]
+fn put_plain(out: &mut Writer, kind: &str) -> Result<(), AllocError>
+    ensures ok { OnOk result (out.new.tokens ≡ out.old.tokens ++ tokens_of (plain_data kind.now)) }
+    ensures before { out.new.before ≡ out.old.before }
+{
+    put_named(out, "kind", kind, 0, &[], &[])
+}
+
+/// Writes a reply, by its kind.
+#[tactic(auto, unfolding(crate::specs::Json::reply_data))]
+pub fn put_reply(out: &mut Writer, alloc: Global, reply: &Reply) -> Result<(), AllocError>
+    requires { IsEncodable reply.now }
+    ensures ok { OnOk result (out.new.tokens ≡ out.old.tokens ++ tokens_of (reply_data reply.now)) }
+    ensures before { out.new.before ≡ out.old.before }
+{
+    match reply {
+        Reply::Admitted(None) => put_plain(out, "admitted"),
+        Reply::Admitted(Some(placement)) => put_placed(out, placement),
+        Reply::Removed => put_plain(out, "removed"),
+        Reply::Taken => put_plain(out, "taken"),
+        Reply::Noted => put_plain(out, "noted"),
+        Reply::Built(frame) => put_map(out, alloc, "map", frame),
+        Reply::Skipped(next) => put_named(out, "kind", "skipped", 0, &NEXT, &[*next]),
+        Reply::Flow {
+            asked,
+            granted,
+            outstanding,
+        } => {
+            let numbers = [*asked, *granted, *outstanding];
+            put_named(out, "kind", "flow", 2, &SUMS, &numbers)
+        }
+        Reply::Refused(refusal) => {
+            let (number, value) = (refusal_number(*refusal), refusal_value(*refusal));
+            put_refused(out, number, value)
+        }
+    }
+}

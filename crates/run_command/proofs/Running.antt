@@ -1,0 +1,90 @@
+-- How far a run has come.
+use Rattle.std.proofs.Common.{◌≡◌, ℕ, ◌+◌, ◌<◌, ◌≤◌, true, false, List, [], ◌∷◌, ◌++◌, length, get_or, take}
+use Rattle.std.proofs.Common.{Option, ap}
+use Rattle.std.specs.Prelude.{flat_map}
+use Rattle.std.specs.Io.KnownBytes.{Appends, append_known}
+use Rattle.std.proofs.KnownBytes.{Appends-trans}
+use Rattle.std.proofs.lemmas.List.{append-nil, take_all}
+use Rattle.std.proofs.lemmas.List.Concat.{flat_map-append}
+use Rattle.sched_history.specs.declared.call.Call.{Call}
+use Rattle.sched_history.specs.Machine.{Machine}
+use Rattle.sched_lines.specs.Line.{Answer}
+use Rattle.sched_lines.specs.Answer.{MakesCall, MakesCalls}
+use Rattle.sched_lines.specs.Line.{line_of}
+use Rattle.sched_lines.specs.Meaning.{explained_line}
+use Rattle.text_stream.proofs.Written.{Appends-out}
+use Rattle.history_writing.specs.HistoryText.{history_text}
+use Rattle.sched_lines.proofs.Made.{MakesCalls-push, MakesCalls-legal}
+use Rattle.run_command.specs.Run.{HistoryFits, AnswersEach}
+use Rattle.run_command.specs.Explained.{ExplainsEach}
+
+-- from one state of the scheduler and the writer these calls led to others, and such lines of their answers were
+-- written
+pub record Runs (line : Answer → List ℕ) (old new : Machine) (calls : List Call)
+    (before after : Option (List ℕ)) : Type 0 where
+  pub answers : List Answer
+  pub makes : MakesCalls old new calls answers
+  pub written : Appends before after (flat_map line answers)
+
+-- one call more, and its line
+pub Runs-push : (line : Answer → List ℕ) (old mid new : Machine) (calls : List Call) (i : ℕ) (d : Call)
+    (answer : Answer) (before between after : Option (List ℕ)) → i < length calls
+    → Runs line old mid (take i calls) before between → MakesCall mid new i (get_or calls i d) answer
+    → Appends between after (line answer)
+    → Runs line old new (take (i + 1) calls) before after
+Runs-push line old mid new calls i d answer before between after below runs one more = record {
+  answers = runs.answers ++ answer ∷ [];
+  makes = MakesCalls-push old mid new calls i d runs.answers answer below runs.makes one;
+  written = rw (flat_map-append, append-nil)
+      (Appends-trans before between after (flat_map line runs.answers) (line answer) runs.written more);
+}
+
+-- the lines that waited are written
+pub Runs-written : (line : Answer → List ℕ) (old new : Machine) (calls : List Call)
+    (before between after : Option (List ℕ)) (waiting : List ℕ)
+    → Runs line old new calls before (append_known between waiting) → Appends between after waiting
+    → Runs line old new calls before after
+Runs-written line old new calls before between after waiting runs out = record {
+  answers = runs.answers;
+  makes = runs.makes;
+  written = Appends-out before between after waiting (flat_map line runs.answers) runs.written out;
+}
+
+-- all calls, with their lines
+pub Runs-whole : (old new : Machine) (calls : List Call) (n : ℕ) (before after : Option (List ℕ))
+    → length calls ≤ n → Runs line_of old new (take n calls) before after
+    → AnswersEach false old.config calls before after
+Runs-whole old new calls n before after all runs =
+    let makes : MakesCalls old new calls runs.answers = rw (take_all n calls all) at runs.makes in
+    record {
+      answers = runs.answers;
+      each = makes.each;
+      legal = MakesCalls-legal old new calls runs.answers makes;
+      fits = λ text. absurd (let no : false ≡ true = text in cc);
+      written = runs.written;
+    }
+
+-- all calls, with their explained lines
+pub Runs-explained : (old new : Machine) (calls : List Call) (n : ℕ) (before after : Option (List ℕ))
+    → length calls ≤ n → Runs explained_line old new (take n calls) before after
+    → ExplainsEach old.config calls before after
+Runs-explained old new calls n before after all runs =
+    let makes : MakesCalls old new calls runs.answers = rw (take_all n calls all) at runs.makes in
+    record {
+      answers = runs.answers;
+      each = makes.each;
+      legal = MakesCalls-legal old new calls runs.answers makes;
+      written = runs.written;
+    }
+
+-- all calls, with the text of their history
+pub history-written : (old new : Machine) (calls : List Call) (answers : List Answer) (before after : Option (List ℕ))
+    → MakesCalls old new calls answers → HistoryFits old.config new.history
+    → Appends before after (history_text old.config new.history) → AnswersEach true old.config calls before after
+history-written old new calls answers before after makes fits written = record {
+  answers = answers;
+  each = makes.each;
+  legal = MakesCalls-legal old new calls answers makes;
+  fits = λ text. rw (ap (λ (m : Machine). m.history) makes.state) at fits;
+  written = rw (ap (λ (m : Machine). m.history) makes.state) at written;
+}

@@ -1,0 +1,14 @@
+-- Each call leads the run one step on.
+use Rattle.std.proofs.Common.{◌++◌, ◌∷◌, []}
+use Rattle.sched_lines.proofs.Made.{MakesCalls-push}
+use Rattle.run_command.proofs.run.make_calls.Goals as goal
+
+pub loop-place-preserved : goal.loop-place-preserved
+loop-place-preserved c =
+    let at = c.loop-place in
+    let before = at.invariant in
+    let one = c.make_call in (
+      before.0 ++ one.result ∷ [],
+      MakesCalls-push _ _ _ c.args.calls.now at.place _ before.0 one.result
+          c.loop-place-test.true before.1 one.ensures.made,
+    )

@@ -1,9 +1,0 @@
--- The calls so far, and their answers.
-use Rattle.std.proofs.Common.{List, take}
-use Rattle.sched_lines.specs.Line.{Answer}
-use Rattle.sched_commands.specs.Answer.{MakesCalls}
-use Rattle.sched_commands.proofs.run.make_calls.Given as goal
-
-abbrev pub invariant-loop-place : goal.invariant-loop-place
-invariant-loop-place l =
-    (answers : List Answer) × MakesCalls l.initial.scheduler l.scheduler (take l.place l.calls) answers

@@ -1,9 +1,0 @@
--- The times and the windows, one after the other.
-use Rattle.std.proofs.Common.{arith}
-use Rattle.std.proofs.lemmas.Grind.{common_steps}
-use Rattle.sched_commands.specs.Table.{times_line}
-use Rattle.sched_commands.proofs.table.put_times.Goals as goal
-
-pub returns-clause-ok : goal.returns-clause-ok
-unfolding times_line
-returns-clause-ok g c = grind (arith, common_steps)

@@ -1,0 +1,7 @@
+pub mod Calls
+pub mod Outcome
+pub mod RowsFaults
+pub mod Told
+pub mod Documents
+pub mod StormCalls
+pub mod StormOutcome

@@ -1,0 +1,4 @@
+pub mod Script
+pub mod Usual
+pub mod Outcome
+pub mod StormScript

@@ -1,0 +1,22 @@
+//! A call that is read straight from the tokens of a script.
+
+ghost use Rattle.std.specs.Prelude.{◌≡◌, Some};
+ghost use Rattle.call_reading.specs.Calls.{call_of};
+
+use call_reading::call_of;
+use json::Reader;
+use json_fields::{FromTokens, Stop, read_plain};
+use sched_history::Call;
+use std::alloc::Global;
+
+/// A script, in which calls stand.
+pub struct InScript;
+
+impl FromTokens<InScript> for Call {
+    ghost stands_for = { λ d call. call_of d ≡ Some call };
+
+    fn read(alloc: Global, reader: &mut Reader<'_>, depth: usize) -> Result<Call, Stop> {
+        let value = read_plain(alloc, reader, depth)?;
+        call_of(&value).ok_or(Stop::Unusual)
+    }
+}

@@ -1,0 +1,2 @@
+pub mod StormLines
+pub mod StormRun
