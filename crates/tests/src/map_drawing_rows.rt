@@ -14,7 +14,7 @@ const WIDE: &str = "    0 AAAABBBBBBBBBCCCCCCCCCCCCCCCCCCCCCCCCCCC
 A 16383      0     4 request region
 B    17      4     9 long data grant
 C     0     13    27 idle
-     17              behind the frame: long data grant
+     17              pending: long data grant
 ";
 
 const NARROW: &str = "    0 AAAABBBBBB
@@ -25,7 +25,7 @@ const NARROW: &str = "    0 AAAABBBBBB
 A 16383      0     4 request region
 B    17      4     9 long data grant
 C     0     13    27 idle
-     17              behind the frame: long data grant
+     17              pending: long data grant
 ";
 
 // Nobody has the first two minislots, and a grant to SID 17 has none.
