@@ -80,6 +80,11 @@ static void workers(void) {
   WANT(entry.reply.kind == MAPSCHED_BUILT && strcmp(mapsched_status_text(MAPSCHED_BAD_SEATS), "seats") == 0);
   WANT(mapsched_close(&scheduler) == MAPSCHED_OK && mapsched_close(&other) == MAPSCHED_OK);
 
+  /* A worker that hired nobody closes, though a seat of nobody is left with it. */
+  WANT(mapsched_open_workers(&first, &config, 2) == MAPSCHED_OK);
+  WANT(mapsched_close_workers(&first, &scheduler) == MAPSCHED_OK && scheduler.full && !first.full);
+  WANT(mapsched_close(&scheduler) == MAPSCHED_OK);
+
   /* A worker that nobody closes goes with its scheduler. */
   WANT(mapsched_open_workers(&first, &config, 64) == MAPSCHED_OK && mapsched_leave(&first) == MAPSCHED_OK);
 }

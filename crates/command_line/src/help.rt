@@ -29,8 +29,11 @@ memory`, where the call was not recorded. With --explain the meaning of a refusa
 stands behind it:
   refused 12 800  # too far: the next frame starts at 800, and what is heard lies
   before it
+With --history calls that were not recorded are left out, and standard error tells
+how many.
 
 Exit statuses: 0, or 2 for the command line, 3 for the input, 4 for the machine.
+Where a script is bad, `mapsched check` tells where, and what was expected there.
 
 Example:
   ./mapsched run < examples/two_maps.json"#;
@@ -44,7 +47,7 @@ Prints the channel, the times and a line for each element: SID, usage code,
 offset in minislots, usage. A text that is no payload has one line: `fault hex`,
 or `fault` and a number (1 short, 2 above 240 elements, 3 wrong length, 4 an
 expansion, 5 offsets that descend, 6 no Null, 7 a second Null), for 4, 5 and 7
-with the element, counted from 0.
+with the element, counted from 0. With --explain a second line says what it means.
 
 Usage codes (IUC):
   1  request: where modems may ask; for one modem, a poll
@@ -75,6 +78,7 @@ script; `unrecorded` and how many were not; `maps` and how many the history has;
 last `audit legal`, the verdict on the history.
 
 Exit statuses: 0, or 2 for the command line, 3 for the input, 4 for the machine.
+Where a script is bad, `mapsched check` tells where, and what was expected there.
 
 Example:
   ./mapsched storm < examples/two_workers.json"#;
@@ -87,10 +91,14 @@ Whoever wrote it, each reply is tried against all that may follow the entries
 before it.
 
 Prints `legal` and the number of entries, or `illegal` and the first entry that
-no lawful scheduler could have answered, counted from 0.
+no lawful scheduler could have answered, counted from 0. With --explain there
+stand behind `illegal` the call of that entry, what was expected, and what was
+found: a MAP with the 64 bits of its times, its table and the bytes that it
+grants. A > marks the first line that differs, before the elements and from them
+on. Of lawful placements one is shown.
 
 Exit statuses: 0 legal, 1 illegal, 2 for the command line, 3 for the input, 4 for
-the machine.
+the machine. Where a history is bad, `mapsched check` tells where.
 
 Example:
   ./mapsched audit < examples/two_maps_history.json"#;

@@ -64,7 +64,7 @@ fn columns_option<'a>(alloc: Global) -> Result<Arg<'a>, AllocError>
 // The command that shows a payload.
 fn decode_command<'a>(alloc: Global) -> Result<Command<'a>, AllocError>
     ensures { IfOk result (λ r. IsCommand r (codes "decode")
-        (codes "HEX" ∷ codes "draw" ∷ codes "columns" ∷ []) []) }
+        (codes "HEX" ∷ codes "draw" ∷ codes "columns" ∷ codes "explain" ∷ []) []) }
 {
     let about = "Shows the payload of a MAP as a table";
     let draw = flag(
@@ -72,18 +72,25 @@ fn decode_command<'a>(alloc: Global) -> Result<Command<'a>, AllocError>
         "draw",
         "Draws the frame too, a character for each minislot",
     );
+    let explain = flag(alloc, "explain", "Tells behind a fault what it means");
     command(alloc, "decode", about, help::DECODE)
         .arg(payload_word(alloc))?
         .arg(draw)?
-        .arg(columns_option(alloc)?)
+        .arg(columns_option(alloc)?)?
+        .arg(explain)
 }
 
 // The command that judges a history.
-fn audit_command<'a>(alloc: Global) -> Command<'a>
-    ensures { IsCommand result (codes "audit") [] [] }
+fn audit_command<'a>(alloc: Global) -> Result<Command<'a>, AllocError>
+    ensures { IfOk result (λ r. IsCommand r (codes "audit") (codes "explain" ∷ []) []) }
 {
     let about = "Reads a history from standard input and prints whether it is legal";
-    command(alloc, "audit", about, help::AUDIT)
+    let explain = flag(
+        alloc,
+        "explain",
+        "Tells what was expected at the first illegal entry",
+    );
+    command(alloc, "audit", about, help::AUDIT).arg(explain)
 }
 
 // The command that tells what is wrong in a file.
@@ -115,8 +122,8 @@ fn draw_command<'a>(alloc: Global) -> Command<'a>
 pub fn commands<'a>(alloc: Global) -> Result<Command<'a>, AllocError>
     ensures { IfOk result (λ r. IsCommand r (codes "mapsched") []
         ((codes "run", codes "history" ∷ codes "explain" ∷ [])
-        ∷ (codes "decode", codes "HEX" ∷ codes "draw" ∷ codes "columns" ∷ [])
-        ∷ (codes "draw", []) ∷ (codes "audit", []) ∷ (codes "storm", []) ∷ (codes "check", []) ∷ [])) }
+        ∷ (codes "decode", codes "HEX" ∷ codes "draw" ∷ codes "columns" ∷ codes "explain" ∷ [])
+        ∷ (codes "draw", []) ∷ (codes "audit", codes "explain" ∷ []) ∷ (codes "storm", []) ∷ (codes "check", []) ∷ [])) }
 {
     let about = "The upstream scheduler of one TDMA channel";
     command(alloc, "mapsched", about, help::STATUSES)
@@ -125,7 +132,7 @@ pub fn commands<'a>(alloc: Global) -> Result<Command<'a>, AllocError>
         .subcommand(run_command(alloc)?)?
         .subcommand(decode_command(alloc)?)?
         .subcommand(draw_command(alloc))?
-        .subcommand(audit_command(alloc))?
+        .subcommand(audit_command(alloc)?)?
         .subcommand(storm_command(alloc))?
         .subcommand(check_command(alloc))
 }

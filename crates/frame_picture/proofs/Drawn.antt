@@ -6,9 +6,11 @@ use Rattle.std.specs.Io.KnownBytes.{Appends, append_known}
 use Rattle.std.proofs.KnownBytes.{Appends-trans}
 use Rattle.std.proofs.lemmas.Grind.{flat_map-append}
 use Rattle.std.proofs.lemmas.List.FromFn.{map-range_with_len_more}
-use Rattle.map_build.specs.declared.frame_map.FrameMap.{FrameMap}
 use Rattle.map_drawing.proofs.Ranges.{flat_map_next}
 use Rattle.frame_picture.specs.declared.bar.Bar.{Bar}
+use Rattle.frame_picture.specs.declared.layout.Scale.{Scale}
+use Rattle.frame_picture.specs.declared.span.Place.{Place}
+use Rattle.frame_picture.specs.Frames.{Frame}
 use Rattle.frame_picture.specs.Bars.{bar_text}
 use Rattle.frame_picture.specs.Picture.{row_text, rows_text}
 
@@ -26,18 +28,19 @@ module _ (a b c : Option (List ℕ)) where
   text_more f n before one =
       rw (flat_map_next f n) (Appends-trans a b c (flat_map f (range_with_len 0 n)) (f n) before one)
 
--- the rows of MAPs, and then of others
-pub rows_text-append : (units row : ℕ) (ms ns : List FrameMap)
-    → rows_text units row (ms ++ ns) ≡ rows_text units row ms ++ rows_text units (row + length ms) ns
-rows_text-append units row [] ns =
+-- the rows of frames, and then of others
+pub rows_text-append : (scale : Scale) (from row : ℕ) (fs gs : List Frame)
+    → rows_text scale from row (fs ++ gs) ≡ rows_text scale from row fs ++ rows_text scale from (row + length fs) gs
+rows_text-append scale from row [] gs =
     let same : row + 0 ≡ row = omega arith in rw same refl
-rows_text-append units row (m ∷ ms) ns =
-    let same : row + 1 + length ms ≡ row + length (m ∷ ms) = omega arith in
-    ap (λ (t : List ℕ). row_text units row m ++ t)
-    (rows_text-append units (row + 1) ms ns
-    ∙ ap (λ (k : ℕ). rows_text units (row + 1) ms ++ rows_text units k ns) same)
-    ∙ sym (append_assoc (row_text units row m) (rows_text units (row + 1) ms)
-    (rows_text units (row + length (m ∷ ms)) ns))
+rows_text-append scale from row (f ∷ fs) gs =
+    let place : Place = record { number = from + row; row = row } in
+    let same : row + 1 + length fs ≡ row + length (f ∷ fs) = omega arith in
+    ap (λ (t : List ℕ). row_text scale place f ++ t)
+    (rows_text-append scale from (row + 1) fs gs
+    ∙ ap (λ (k : ℕ). rows_text scale from (row + 1) fs ++ rows_text scale from k gs) same)
+    ∙ sym (append_assoc (row_text scale place f) (rows_text scale from (row + 1) fs)
+    (rows_text scale from (row + length (f ∷ fs)) gs))
 
 -- a text that waits behind nothing, and is written
 pub Appends-whole : (a b c : Option (List ℕ)) (waiting text : List ℕ)

@@ -1,3 +1,5 @@
 pub mod Drawn
-pub mod MapLaws
+pub mod Turning
+pub mod FrameLists
+pub mod Rows
 pub mod Under

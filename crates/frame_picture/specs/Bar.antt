@@ -1,31 +1,57 @@
 -- The bars of a MAP: what is drawn of its allocations, and where.
-use Rattle.std.specs.Prelude.{ℕ, ◌+◌, ◌*◌, ◌/◌, ◌<◌, ◌≤◌, ◌↔◌, List, map, get_or}
+use Rattle.std.specs.Prelude.{ℕ, ◌+◌, ◌*◌, ◌<◌, ◌≤◌, ◌↔◌, ◌&&◌, Bool, true, false, List, map, get_or}
 use Rattle.std.specs.List.{range_with_len}
 use Rattle.map_codec.specs.declared.element.Element.{Element}
+use Rattle.map_codec.specs.Element.{element_at}
 use Rattle.map_drawing.specs.Allocation.{front_length, allocation_at}
 use Rattle.map_drawing.specs.Rows.{HasSlot}
 use Rattle.map_drawing.specs.Usage.{usage_of}
+use Rattle.map_drawing.specs.declared.usage.Usage.{Usage}
+use Rattle.map_drawing.specs.declared.usage.Usage.TheVariants.{RequestRegion, Poll, RequestData, InitialMaintenance}
+use Rattle.map_drawing.specs.declared.usage.Usage.TheVariants.{StationMaintenance, ShortGrant, LongGrant, Idle, Null}
+use Rattle.map_drawing.specs.declared.usage.Usage.TheVariants.{DataAcknowledge, AdvancedShortGrant, AdvancedLongGrant}
+use Rattle.map_drawing.specs.declared.usage.Usage.TheVariants.{AdvancedUnsolicitedGrant, Reserved}
 use Rattle.frame_picture.specs.declared.bar.Bar.{Bar}
 
--- how many units a minislot is wide in frames of so many
-abbrev pub slot_units : ℕ → ℕ
-slot_units frame = 1024 / frame
+-- whether the usage code is one of a channel without Advanced PHY for all grants, unsolicited ones among them
+unfoldable pub is_plain_grant : Usage → Bool
+is_plain_grant RequestRegion = false
+is_plain_grant Poll = false
+is_plain_grant RequestData = false
+is_plain_grant InitialMaintenance = false
+is_plain_grant StationMaintenance = false
+is_plain_grant ShortGrant = true
+is_plain_grant LongGrant = true
+is_plain_grant Idle = false
+is_plain_grant Null = false
+is_plain_grant DataAcknowledge = false
+is_plain_grant AdvancedShortGrant = false
+is_plain_grant AdvancedLongGrant = false
+is_plain_grant AdvancedUnsolicitedGrant = false
+is_plain_grant Reserved = false
 
--- the bar of the allocation at a place: it begins at the allocation's offset, and is as wide as the allocation is long
-abbrev pub bar_at : ℕ → List Element → List ℕ → ℕ → Bar
-bar_at units es bytes i =
+-- the bar of the allocation at a place, to a flow that is unsolicited or not: it begins at the allocation's offset, and
+-- is as wide as the allocation is long
+abbrev pub bar_with : ℕ → List Element → List ℕ → ℕ → Bool → Bar
+bar_with units es bytes i unsolicited =
     let a = allocation_at es i in
     record {
       allocation = a;
       usage = usage_of a.sid a.iuc;
+      unsolicited = unsolicited && is_plain_grant (usage_of a.sid a.iuc);
       x = units * a.offset;
       width = units * a.length;
       bytes = get_or bytes i 0;
     }
 
+-- the bar of the allocation at a place, where these SIDs' flows are unsolicited
+abbrev pub bar_at : ℕ → (ℕ → Bool) → List Element → List ℕ → ℕ → Bar
+bar_at units unsolicited es bytes i = bar_with units es bytes i (unsolicited (element_at es i).sid)
+
 -- the bars of a MAP: one for each allocation, in their order
-abbrev pub bars_of : ℕ → List Element → List ℕ → List Bar
-bars_of units es bytes = map (bar_at units es bytes) (range_with_len 0 (front_length es))
+abbrev pub bars_of : ℕ → (ℕ → Bool) → List Element → List ℕ → List Bar
+bars_of units unsolicited es bytes =
+    map (bar_at units unsolicited es bytes) (range_with_len 0 (front_length es))
 
 -- a point of a row stands under a bar
 pub record IsUnder (b : Bar) (x : ℕ) : Type 0 where
@@ -35,5 +61,5 @@ pub record IsUnder (b : Bar) (x : ℕ) : Type 0 where
 -- a minislot stands under the bar of the allocation that has it, and under no other
 abbrev pub StandsAtItsSlots : Type 0
 StandsAtItsSlots =
-    (units : ℕ) → 0 < units → (es : List Element) (bytes : List ℕ) (i slot : ℕ)
-    → (HasSlot es i slot ↔ IsUnder (bar_at units es bytes i) (units * slot))
+    (units : ℕ) → 0 < units → (unsolicited : ℕ → Bool) (es : List Element) (bytes : List ℕ) (i slot : ℕ)
+    → (HasSlot es i slot ↔ IsUnder (bar_at units unsolicited es bytes i) (units * slot))

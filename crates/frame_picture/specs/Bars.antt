@@ -1,5 +1,5 @@
 -- The text of a bar.
-use Rattle.std.specs.Prelude.{ℕ, ◌+◌, Bool, true, false, nat_le, nat_lt, if◌then◌else◌, List, [], ◌++◌, codes, decimal}
+use Rattle.std.specs.Prelude.{ℕ, ◌+◌, Bool, true, false, nat_le, nat_lt, if◌then◌else◌, List, [], ◌++◌, codes}
 use Rattle.std.specs.Prelude.{flat_map}
 use Rattle.map_codec.specs.declared.element.Element.{Element}
 use Rattle.map_drawing.specs.declared.usage.Usage.{Usage}
@@ -9,30 +9,36 @@ use Rattle.map_drawing.specs.declared.usage.Usage.TheVariants.{DataAcknowledge, 
 use Rattle.map_drawing.specs.declared.usage.Usage.TheVariants.{AdvancedUnsolicitedGrant, Reserved}
 use Rattle.map_drawing.specs.Usage.{words_of}
 use Rattle.frame_picture.specs.declared.bar.Bar.{Bar}
+use Rattle.frame_picture.specs.Labelled.{labelled}
+use Rattle.frame_picture.specs.Shade.{shade_of}
 use Rattle.frame_picture.specs.Bar.{bars_of}
 
--- a label and a number in decimal
-unfoldable pub labelled : List ℕ → ℕ → List ℕ
-labelled label n = label ++ decimal n
-
 -- the name of the colour and the pattern of a usage
-unfoldable pub look_of : Usage → List ℕ
-look_of RequestRegion = codes "region"
-look_of Poll = codes "poll"
-look_of RequestData = codes "other"
-look_of InitialMaintenance = codes "other"
-look_of StationMaintenance = codes "other"
-look_of ShortGrant = codes "short"
-look_of LongGrant = codes "long"
-look_of Idle = codes "idle"
-look_of Null = codes "other"
-look_of DataAcknowledge = codes "other"
-look_of AdvancedShortGrant = codes "short"
-look_of AdvancedLongGrant = codes "long"
-look_of AdvancedUnsolicitedGrant = codes "unsolicited"
-look_of Reserved = codes "other"
+unfoldable pub usage_look : Usage → List ℕ
+usage_look RequestRegion = codes "region"
+usage_look Poll = codes "poll"
+usage_look RequestData = codes "other"
+usage_look InitialMaintenance = codes "other"
+usage_look StationMaintenance = codes "other"
+usage_look ShortGrant = codes "short"
+usage_look LongGrant = codes "long"
+usage_look Idle = codes "idle"
+usage_look Null = codes "other"
+usage_look DataAcknowledge = codes "other"
+usage_look AdvancedShortGrant = codes "short"
+usage_look AdvancedLongGrant = codes "long"
+usage_look AdvancedUnsolicitedGrant = codes "unsolicited"
+usage_look Reserved = codes "other"
 
--- a bar bears its SID where that is not the one of all modems or of none
+-- the name of the colour and the pattern of a bar
+unfoldable pub look_of : Bar → List ℕ
+look_of b = if b.unsolicited then codes "unsolicited" else usage_look b.usage
+
+-- what a bar says before the words of its usage
+unfoldable pub origin_of : Bar → List ℕ
+origin_of b = if b.unsolicited then codes "unsolicited " else []
+
+-- a bar bears its SID and has its shade where that is not the one of all modems or of none
 unfoldable pub is_named : Usage → Bool
 is_named RequestRegion = false
 is_named Poll = true
@@ -58,18 +64,22 @@ name_width sid =
     else if nat_lt sid 10000 then 36
     else 44
 
+-- the name of a bar's shade
+unfoldable pub shade_text : Bar → List ℕ
+shade_text b = if is_named b.usage then labelled (codes " s") (shade_of b.allocation.sid) else []
+
 -- the box of a bar
 unfoldable pub box_text : Bar → List ℕ
 box_text b =
-    codes "<rect class='" ++ (look_of b.usage ++ (labelled (codes "' x='") b.x
-    ++ (labelled (codes "' width='") b.width ++ codes "' height='20'>")))
+    codes "<rect class='" ++ (look_of b ++ (shade_text b ++ (labelled (codes "' x='") b.x
+    ++ (labelled (codes "' width='") b.width ++ codes "' height='20'>"))))
 
 -- what a bar says of its allocation
 unfoldable pub title_text : Bar → List ℕ
 title_text b =
-    labelled (codes "<title>SID ") b.allocation.sid ++ (codes ", " ++ (words_of b.usage
+    labelled (codes "<title>SID ") b.allocation.sid ++ (codes ", " ++ (origin_of b ++ (words_of b.usage
     ++ (labelled (codes ", offset ") b.allocation.offset ++ (labelled (codes ", length ") b.allocation.length
-    ++ (labelled (codes ", bytes requested ") b.bytes ++ codes "</title></rect>\n")))))
+    ++ (labelled (codes ", bytes requested ") b.bytes ++ codes "</title></rect>\n"))))))
 
 -- the SID on a bar that is wide enough
 unfoldable pub name_text : Bar → List ℕ
@@ -85,6 +95,6 @@ name_text b =
 unfoldable pub bar_text : Bar → List ℕ
 bar_text b = box_text b ++ (title_text b ++ name_text b)
 
--- the bars of a MAP with these elements and byte counts
-abbrev pub bars_text : ℕ → List Element → List ℕ → List ℕ
-bars_text units es bytes = flat_map bar_text (bars_of units es bytes)
+-- the bars of a MAP with these elements and byte counts, where these SIDs' flows are unsolicited
+abbrev pub bars_text : ℕ → (ℕ → Bool) → List Element → List ℕ → List ℕ
+bars_text units unsolicited es bytes = flat_map bar_text (bars_of units unsolicited es bytes)

@@ -1,3 +1,9 @@
+pub mod Labelled
+pub mod Time
+pub mod Shade
+pub mod Layout
+pub mod Frames
+pub mod Turns
 pub mod Bar
 pub mod Bars
 pub mod Axis

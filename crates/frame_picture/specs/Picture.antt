@@ -1,27 +1,61 @@
--- The picture of MAPs.
-use Rattle.std.specs.Prelude.{ℕ, ◌+◌, ◌-◌, ◌*◌, List, [], ◌∷◌, ◌++◌, length, codes}
+-- The picture of a history's frames.
+use Rattle.std.specs.Prelude.{ℕ, ◌+◌, Bool, List, [], ◌∷◌, ◌++◌, length, codes, Option, None, Some}
+use Rattle.minislots.specs.declared.config.Config.{Config}
 use Rattle.map_build.specs.declared.frame_map.FrameMap.{FrameMap}
-use Rattle.frame_picture.specs.Bar.{slot_units}
-use Rattle.frame_picture.specs.Bars.{labelled, bars_text}
-use Rattle.frame_picture.specs.Axis.{ticks_text}
-use Rattle.frame_picture.specs.Head.{depth_of, head_text}
+use Rattle.sched_history.specs.declared.reply.Entry.{Entry}
+use Rattle.sched_history.specs.declared.reply.Reply.{Reply}
+use Rattle.sched_history.specs.History.{map_by}
+use Rattle.frame_picture.specs.declared.layout.Scale.{Scale}
+use Rattle.frame_picture.specs.declared.span.Span.{Span}
+use Rattle.frame_picture.specs.declared.span.Place.{Place}
+use Rattle.frame_picture.specs.Labelled.{labelled}
+use Rattle.frame_picture.specs.Time.{ms_text}
+use Rattle.frame_picture.specs.Layout.{scale_of, row_top}
+use Rattle.frame_picture.specs.Frames.{Frame, is_unsolicited_after, frames_of, frames_in}
+use Rattle.frame_picture.specs.Bars.{bars_text}
+use Rattle.frame_picture.specs.Axis.{axes_text}
+use Rattle.frame_picture.specs.Head.{head_text}
 
--- the row of a MAP: it stands 28 units below the one before it, and has the minislot at which its frame starts, and the
--- bar of each of its allocations
-unfoldable pub row_text : ℕ → ℕ → FrameMap → List ℕ
-row_text units row m =
-    labelled (codes "<g transform='translate(136 ") (96 + 28 * row)
-    ++ (labelled (codes ")'>\n<text class='start' x='-8' y='15'>") m.start
-    ++ (codes "</text>\n" ++ (bars_text units m.wire.elements m.bytes ++ codes "</g>\n")))
+-- what stands before the bars of a row: the number of its frame, and the minislot and the millisecond at which it starts
+unfoldable pub start_text : ℕ → Place → ℕ → List ℕ
+start_text ticks place start =
+    labelled (codes "<g transform='translate(176 ") (row_top place.row)
+    ++ (labelled (codes ")'>\n<text class='start' x='-128' y='15'>") place.number
+    ++ (labelled (codes "</text><text class='start' x='-8' y='9'>") start
+    ++ (codes "</text><text class='start' x='-8' y='21'>" ++ (ms_text ticks start ++ codes " ms</text>\n"))))
 
--- the rows of MAPs, the first of which has this number
-abbrev pub rows_text : ℕ → ℕ → List FrameMap → List ℕ
-rows_text units row [] = []
-rows_text units row (m ∷ ms) = row_text units row m ++ rows_text units (row + 1) ms
+-- the row of a MAP, with the bar of each of its allocations, where these SIDs' flows are unsolicited
+unfoldable pub map_text : Scale → Place → (ℕ → Bool) → FrameMap → List ℕ
+map_text scale place unsolicited m =
+    start_text scale.ticks place m.start
+    ++ (bars_text scale.units unsolicited m.wire.elements m.bytes ++ codes "</g>\n")
 
--- the picture of MAPs whose frames have so many minislots
-unfoldable pub picture_text : ℕ → List FrameMap → List ℕ
-picture_text frame ms =
-    head_text (length ms) frame
-    ++ (ticks_text (slot_units frame) (depth_of (length ms) - 8) frame
-    ++ (rows_text (slot_units frame) 0 ms ++ codes "</svg>\n"))
+-- the row of a MAP, if there is one
+abbrev pub built_text : Scale → Place → (ℕ → Bool) → Option FrameMap → List ℕ
+built_text scale place unsolicited None = []
+built_text scale place unsolicited (Some m) = map_text scale place unsolicited m
+
+-- the row of the MAP that a reply built, if it did and has a place
+unfoldable pub entry_text : Scale → Option Place → (ℕ → Bool) → Reply → List ℕ
+entry_text scale None unsolicited reply = []
+entry_text scale (Some place) unsolicited reply = built_text scale place unsolicited (map_by reply)
+
+-- the row of a frame: an unsolicited flow is one that was so before the MAP
+abbrev pub row_text : Scale → Place → Frame → List ℕ
+row_text scale place f = map_text scale place (is_unsolicited_after f.before) f.built
+
+-- the rows of frames, the first of which has this row, and this number more than that
+abbrev pub rows_text : Scale → ℕ → ℕ → List Frame → List ℕ
+rows_text scale from row [] = []
+rows_text scale from row (f ∷ fs) =
+    row_text scale (record { number = from + row; row = row }) f ++ rows_text scale from (row + 1) fs
+
+-- the picture of these frames, of so many, the first of which has this number
+unfoldable pub frames_text : Scale → ℕ → ℕ → List Frame → List ℕ
+frames_text scale total from frames =
+    head_text scale (length frames) total
+    ++ (axes_text scale (length frames) ++ (rows_text scale from 0 frames ++ codes "</svg>\n"))
+
+-- the picture of a history's frames that are drawn
+abbrev pub picture_text : Config → Span → List Entry → List ℕ
+picture_text c span h = frames_text (scale_of c) (length (frames_of h)) span.from (frames_in span (frames_of h))

@@ -1,8 +1,9 @@
 //! The bars of a MAP: what is drawn of its allocations, and where.
 
 ghost use Rattle.std.specs.Prelude.{◌≡◌, ◌+◌, ◌<◌, ◌≤◌, length};
-ghost use Rattle.frame_picture.specs.Bar.{slot_units, bar_at, StandsAtItsSlots};
+ghost use Rattle.frame_picture.specs.Bar.{bar_with, StandsAtItsSlots};
 
+use crate::usage::is_plain_grant;
 use map_codec::Element;
 use map_drawing::{Allocation, Usage, allocation_at};
 
@@ -11,8 +12,10 @@ use map_drawing::{Allocation, Usage, allocation_at};
 pub struct Bar {
     /// The allocation.
     pub allocation: Allocation,
-    /// What it is for.
+    /// What it is for, as the MAP tells it.
     pub usage: Usage,
+    /// Whether it is a grant of an unsolicited flow where the MAP tells no more than that it is a short or a long one.
+    pub unsolicited: bool,
     /// Where it begins: so many units from the start of its row.
     pub x: u32,
     /// How many units it is wide.
@@ -21,25 +24,25 @@ pub struct Bar {
     pub bytes: u32,
 }
 
-/// How many units a minislot is wide, where a frame has so many: as many as fit 1024 times over all of them.
-pub fn slot_units(frame: u32) -> u32
-    requires { 0 < frame }
-    ensures value { result ≡ slot_units frame }
-    ensures most { result ≤ 1024 }
-{
-    1024 / frame
-}
-
-/// The bar of the element at a place before another one, among the elements of a MAP with these byte counts.
-pub fn bar_at(units: u32, elements: &[Element], bytes: &[u32], i: usize) -> Bar
+/// The bar of the element at a place before another one, among the elements of a MAP with these byte counts, where the
+/// flow of its SID is unsolicited or not.
+pub fn bar_with(
+    units: u32,
+    elements: &[Element],
+    bytes: &[u32],
+    i: usize,
+    unsolicited: bool,
+) -> Bar
     requires inside { i + 1 < length elements.now }
     requires narrow { units ≤ 1024 }
-    ensures { result ≡ bar_at units elements.now bytes.now i }
+    ensures { result ≡ bar_with units elements.now bytes.now i unsolicited }
 {
     let allocation = allocation_at(elements, i);
+    let usage = Usage::of(allocation.sid, allocation.iuc);
     Bar {
         allocation,
-        usage: Usage::of(allocation.sid, allocation.iuc),
+        usage,
+        unsolicited: unsolicited && is_plain_grant(usage),
         x: units * u32::from(allocation.offset),
         width: units * u32::from(allocation.length),
         bytes: bytes.get(i).copied().unwrap_or(0),

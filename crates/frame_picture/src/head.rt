@@ -2,18 +2,21 @@
 
 ghost use Rattle.std.specs.Prelude.{◌≡◌, ◌≤◌, OnOk, IfErr};
 ghost use Rattle.std.specs.Io.KnownBytes.{Appends, append_known};
-ghost use Rattle.frame_picture.specs.Head.{style_text, request_patterns, grant_patterns, legend_text, depth_of};
-ghost use Rattle.frame_picture.specs.Head.{size_text, counts_text, head_text};
+ghost use Rattle.frame_picture.specs.Head.{style_text, request_patterns, grant_patterns, legend_text, size_text};
+ghost use Rattle.frame_picture.specs.Head.{counts_text, head_text};
 ghost use Rattle.text_stream.specs.Watched.{FailsBy};
 
+use crate::layout::{Scale, depth_of};
+use crate::shade::put_shade_rules;
 use crate::text::put_labelled;
+use crate::time::put_ms;
 use text_stream::{Sink, TextBuffer, TextFault};
 
 // How the parts of a picture look.
 #[tactic(auto, unfolding(crate::specs::Head::style_text))]
 fn put_style<W: Sink>(lines: &mut TextBuffer, writer: &mut W) -> Result<(), TextFault>
     ensures ok { OnOk result (Appends (append_known (W.contents writer.old) lines.old)
-        (append_known (W.contents writer.new) lines.new) style_text) }
+        (append_known (W.contents writer.new) lines.new) (style_text)) }
     ensures err { IfErr result (λ e. e ≡ TextFault.Output) }
     ensures failed { FailsBy TextFault.Output result (W.has_failed writer.old) (W.has_failed writer.new) }
 {
@@ -23,7 +26,7 @@ fn put_style<W: Sink>(lines: &mut TextBuffer, writer: &mut W) -> Result<(), Text
     )?;
     lines.put(
         writer,
-        b".start{text-anchor:end}.at{text-anchor:middle}rect,.key{stroke:#333;stroke-width:.5px}\n",
+        b".start,.at{font-size:11px;text-anchor:middle}.start{text-anchor:end}rect,.key{stroke:#333;stroke-width:.5px}\n",
     )?;
     lines.put(
         writer,
@@ -31,11 +34,11 @@ fn put_style<W: Sink>(lines: &mut TextBuffer, writer: &mut W) -> Result<(), Text
     )?;
     lines.put(
         writer,
-        b".region{fill:url(#region)}.poll{fill:url(#poll)}.short{fill:url(#short)}.long{fill:#7db8e8}\n",
+        b".region{fill:url(#region)}.poll{fill:url(#poll)}.short{fill:url(#short)}.long{fill:#2f7fc1}\n",
     )?;
     lines.put(
         writer,
-        b".unsolicited{fill:url(#unsolicited)}.idle{fill:#fff}.other{fill:url(#other)}</style>\n",
+        b".unsolicited{fill:url(#unsolicited)}.idle{fill:#fff}.other{fill:url(#other)}\n",
     )
 }
 
@@ -43,13 +46,13 @@ fn put_style<W: Sink>(lines: &mut TextBuffer, writer: &mut W) -> Result<(), Text
 #[tactic(auto, unfolding(crate::specs::Head::request_patterns))]
 fn put_request_patterns<W: Sink>(lines: &mut TextBuffer, writer: &mut W) -> Result<(), TextFault>
     ensures ok { OnOk result (Appends (append_known (W.contents writer.old) lines.old)
-        (append_known (W.contents writer.new) lines.new) request_patterns) }
+        (append_known (W.contents writer.new) lines.new) (request_patterns)) }
     ensures err { IfErr result (λ e. e ≡ TextFault.Output) }
     ensures failed { FailsBy TextFault.Output result (W.has_failed writer.old) (W.has_failed writer.new) }
 {
     lines.put(
         writer,
-        b"<defs><pattern id='region' width='6' height='6' patternUnits='userSpaceOnUse'>",
+        b"</style>\n<defs><pattern id='region' width='6' height='6' patternUnits='userSpaceOnUse'>",
     )?;
     lines.put(
         writer,
@@ -61,7 +64,7 @@ fn put_request_patterns<W: Sink>(lines: &mut TextBuffer, writer: &mut W) -> Resu
     )?;
     lines.put(
         writer,
-        b"<path fill='#ffe0b0' d='M0 0h8v8H0z'/><path fill='#d97700' d='M0 0h4v8H0z'/></pattern>\n",
+        b"<path fill='#ffd79a' d='M0 0h8v8H0z'/><path fill='#b85f00' d='M0 0h4v8H0z'/></pattern>\n",
     )
 }
 
@@ -69,7 +72,7 @@ fn put_request_patterns<W: Sink>(lines: &mut TextBuffer, writer: &mut W) -> Resu
 #[tactic(auto, unfolding(crate::specs::Head::grant_patterns))]
 fn put_grant_patterns<W: Sink>(lines: &mut TextBuffer, writer: &mut W) -> Result<(), TextFault>
     ensures ok { OnOk result (Appends (append_known (W.contents writer.old) lines.old)
-        (append_known (W.contents writer.new) lines.new) grant_patterns) }
+        (append_known (W.contents writer.new) lines.new) (grant_patterns)) }
     ensures err { IfErr result (λ e. e ≡ TextFault.Output) }
     ensures failed { FailsBy TextFault.Output result (W.has_failed writer.old) (W.has_failed writer.new) }
 {
@@ -79,7 +82,7 @@ fn put_grant_patterns<W: Sink>(lines: &mut TextBuffer, writer: &mut W) -> Result
     )?;
     lines.put(
         writer,
-        b"<path fill='#bfe8d5' d='M0 0h6v6H0z'/><path fill='#00805a' d='M0 0h6v2H0z'/></pattern>\n",
+        b"<path fill='#8fd9ba' d='M0 0h6v6H0z'/><path fill='#006b4b' d='M0 0h6v2H0z'/></pattern>\n",
     )?;
     lines.put(
         writer,
@@ -87,7 +90,7 @@ fn put_grant_patterns<W: Sink>(lines: &mut TextBuffer, writer: &mut W) -> Result
     )?;
     lines.put(
         writer,
-        b"<path fill='#f3d3e5' d='M0 0h8v8H0z'/><path stroke='#a03070' d='M0 0l8 8M8 0l-8 8'/></pattern>\n",
+        b"<path fill='#eaa9cd' d='M0 0h8v8H0z'/><path stroke='#80154f' d='M0 0l8 8M8 0l-8 8'/></pattern>\n",
     )?;
     lines.put(
         writer,
@@ -95,58 +98,54 @@ fn put_grant_patterns<W: Sink>(lines: &mut TextBuffer, writer: &mut W) -> Result
     )?;
     lines.put(
         writer,
-        b"<path fill='#ddd' d='M0 0h6v6H0z'/><path fill='#555' d='M0 0h2v6H0z'/></pattern></defs>\n",
+        b"<path fill='#ddd' d='M0 0h6v6H0z'/><path fill='#555' d='M0 0h2v6H0z'/></pattern>\n",
     )
 }
 
-// What each look is for.
+// What each look is for, and what the numbers before a row are; each axis shows it.
 #[tactic(auto, unfolding(crate::specs::Head::legend_text))]
 fn put_legend<W: Sink>(lines: &mut TextBuffer, writer: &mut W) -> Result<(), TextFault>
     ensures ok { OnOk result (Appends (append_known (W.contents writer.old) lines.old)
-        (append_known (W.contents writer.new) lines.new) legend_text) }
+        (append_known (W.contents writer.new) lines.new) (legend_text)) }
     ensures err { IfErr result (λ e. e ≡ TextFault.Output) }
     ensures failed { FailsBy TextFault.Output result (W.has_failed writer.old) (W.has_failed writer.new) }
 {
     lines.put(
         writer,
-        b"<path class='key region' d='M16 42h28v16h-28z'/><text x='52' y='55'>request region</text>\n",
+        b"<g id='legend'><path class='key region' d='M-160 8h28v16h-28z'/><text x='-124' y='21'>request region</text>\n",
     )?;
     lines.put(
         writer,
-        b"<path class='key poll' d='M180 42h28v16h-28z'/><text x='216' y='55'>poll of one modem</text>\n",
+        b"<path class='key poll' d='M4 8h28v16h-28z'/><text x='40' y='21'>poll of one modem</text>\n",
     )?;
     lines.put(
         writer,
-        b"<path class='key short' d='M344 42h28v16h-28z'/><text x='380' y='55'>short data grant</text>\n",
+        b"<path class='key short' d='M168 8h28v16h-28z'/><text x='204' y='21'>short data grant</text>\n",
     )?;
     lines.put(
         writer,
-        b"<path class='key long' d='M508 42h28v16h-28z'/><text x='544' y='55'>long data grant</text>\n",
+        b"<path class='key long' d='M332 8h28v16h-28z'/><text x='368' y='21'>long data grant</text>\n",
     )?;
     lines.put(
         writer,
-        b"<path class='key unsolicited' d='M672 42h28v16h-28z'/><text x='708' y='55'>unsolicited grant</text>\n",
+        b"<path class='key unsolicited' d='M496 8h28v16h-28z'/><text x='532' y='21'>unsolicited grant</text>\n",
     )?;
     lines.put(
         writer,
-        b"<path class='key idle' d='M836 42h28v16h-28z'/><text x='872' y='55'>idle</text>\n",
+        b"<path class='key idle' d='M660 8h28v16h-28z'/><text x='696' y='21'>idle</text>\n",
     )?;
     lines.put(
         writer,
-        b"<path class='key other' d='M1000 42h28v16h-28z'/><text x='1036' y='55'>other</text>\n",
+        b"<path class='key other' d='M824 8h28v16h-28z'/><text x='860' y='21'>other</text>\n",
     )?;
     lines.put(
         writer,
-        b"<text class='start' x='116' y='82'>start of frame</text>\n",
+        b"<text class='start' x='-128' y='46'>frame</text><text class='start' x='-8' y='46'>minislot</text>\n",
+    )?;
+    lines.put(
+        writer,
+        b"<text class='start' x='-8' y='59'>ms</text></g></defs>\n",
     )
-}
-
-// How deep a picture of so many rows is.
-pub(crate) fn depth_of(rows: u64) -> u64
-    requires { rows ≤ 16777216 }
-    ensures { result ≡ depth_of rows }
-{
-    104 + 28 * rows
 }
 
 // How large a picture of so many rows is.
@@ -162,53 +161,59 @@ fn put_size<W: Sink>(lines: &mut TextBuffer, writer: &mut W, rows: u64) -> Resul
     put_labelled(
         lines,
         writer,
-        b"<svg xmlns='http://www.w3.org/2000/svg' width='1180' height='",
+        b"<svg xmlns='http://www.w3.org/2000/svg' width='1220' height='",
         depth,
     )?;
-    put_labelled(lines, writer, b"' viewBox='0 0 1180 ", depth)
+    put_labelled(lines, writer, b"' viewBox='0 0 1220 ", depth)
 }
 
-// How many rows there are, and how many minislots a frame has.
+// How many of so many frames are drawn, and how long a frame is.
 #[tactic(auto, unfolding(crate::specs::Head::counts_text))]
 fn put_counts<W: Sink>(
     lines: &mut TextBuffer,
     writer: &mut W,
+    scale: Scale,
     rows: u64,
-    frame: u32,
+    total: u64,
 ) -> Result<(), TextFault>
     ensures ok { OnOk result (Appends (append_known (W.contents writer.old) lines.old)
-        (append_known (W.contents writer.new) lines.new) (counts_text rows frame)) }
+        (append_known (W.contents writer.new) lines.new) (counts_text scale rows total)) }
     ensures err { IfErr result (λ e. e ≡ TextFault.Output) }
     ensures failed { FailsBy TextFault.Output result (W.has_failed writer.old) (W.has_failed writer.new) }
 {
-    put_labelled(
-        lines,
+    let frame = u64::from(scale.frame);
+    let label = b"<text class='head' x='16' y='26'>Frames drawn: ";
+    put_labelled(lines, writer, label, rows)?;
+    put_labelled(lines, writer, b" of ", total)?;
+    put_labelled(lines, writer, b". A frame: ", frame)?;
+    lines.put(writer, b" minislots, ")?;
+    put_ms(lines, writer, scale.ticks, frame)?;
+    lines.put(
         writer,
-        b"<text class='head' x='16' y='26'>Frames: ",
-        rows,
-    )?;
-    put_labelled(lines, writer, b". Minislots in a frame: ", u64::from(frame))?;
-    lines.put(writer, b".</text>\n")
+        b" ms. The shade of a box goes by its SID.</text>\n",
+    )
 }
 
-// The head of a picture of so many rows, of frames of so many minislots.
+// The head of a picture of so many rows, of so many frames in all.
 #[tactic(auto, unfolding(crate::specs::Head::head_text))]
 pub(crate) fn put_head<W: Sink>(
     lines: &mut TextBuffer,
     writer: &mut W,
+    scale: Scale,
     rows: u64,
-    frame: u32,
+    total: u64,
 ) -> Result<(), TextFault>
     requires { rows ≤ 16777216 }
     ensures ok { OnOk result (Appends (append_known (W.contents writer.old) lines.old)
-        (append_known (W.contents writer.new) lines.new) (head_text rows frame)) }
+        (append_known (W.contents writer.new) lines.new) (head_text scale rows total)) }
     ensures err { IfErr result (λ e. e ≡ TextFault.Output) }
     ensures failed { FailsBy TextFault.Output result (W.has_failed writer.old) (W.has_failed writer.new) }
 {
     put_size(lines, writer, rows)?;
     put_style(lines, writer)?;
+    put_shade_rules(lines, writer)?;
     put_request_patterns(lines, writer)?;
     put_grant_patterns(lines, writer)?;
-    put_counts(lines, writer, rows, frame)?;
-    put_legend(lines, writer)
+    put_legend(lines, writer)?;
+    put_counts(lines, writer, scale, rows, total)
 }

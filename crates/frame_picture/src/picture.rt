@@ -1,23 +1,28 @@
 //! The picture of a history's frames.
 
-ghost use Rattle.std.specs.Prelude.{◌≡◌, ◌+◌, ◌<◌, ◌≤◌, ◌∷◌, [], length, OnOk, IfErr};
+ghost use Rattle.std.specs.Prelude.{◌≡◌, ◌+◌, ◌<◌, ◌≤◌, ◌∷◌, [], length, get_or, false, OnOk, IfErr, IfSome};
 ghost use Rattle.std.specs.List.{AllByRecursion};
 ghost use Rattle.std.specs.Io.KnownBytes.{Appends, append_known};
-ghost use Rattle.sched_history.specs.Facts.{maps_of};
+ghost use Rattle.sched_history.specs.History.{map_by};
 ghost use Rattle.sched_history.specs.Machine.{IsEncodable};
-ghost use Rattle.frame_picture.specs.Picture.{rows_text, picture_text};
+ghost use Rattle.frame_picture.specs.Frames.{frame_by, frames_of, frames_in};
+ghost use Rattle.frame_picture.specs.Layout.{scale_of};
+ghost use Rattle.frame_picture.specs.Picture.{entry_text, rows_text, frames_text, picture_text};
 ghost use Rattle.text_stream.specs.Watched.{FailsBy};
 
-use crate::axis::put_ticks;
-use crate::bar::slot_units;
-use crate::head::{depth_of, put_head};
+use crate::axis::put_axes;
+use crate::flows::{Flows, no_flows, note};
+use crate::head::put_head;
+use crate::layout::{Scale, scale_of};
 use crate::row::put_row;
+use crate::span::{Place, Span, place_in};
+use minislots::Checked;
 use sched_history::{Entry, Reply};
 use text_stream::{Sink, TextBuffer, TextFault};
 
 // How many MAPs an entry has.
 fn count_map(entry: &Entry) -> u64
-    ensures { result ≡ length (maps_of (entry.now ∷ [])) }
+    ensures { result ≡ length (frame_by [] (map_by entry.now.reply)) }
 {
     match entry.reply {
         Reply::Built(_) => 1,
@@ -27,7 +32,7 @@ fn count_map(entry: &Entry) -> u64
 
 // How many MAPs a history has.
 fn count_maps(entries: &[Entry]) -> u64
-    ensures value { result ≡ length (maps_of entries.now) }
+    ensures value { result ≡ length (frames_of entries.now) }
     ensures most { result ≤ length entries.now }
 {
     let mut maps = 0;
@@ -37,91 +42,106 @@ fn count_maps(entries: &[Entry]) -> u64
     maps
 }
 
-// The row of an entry's MAP, if it has one.
+// The row of an entry's MAP, if it has one and has a place.
+#[tactic(auto, unfolding(crate::specs::Picture::entry_text))]
 fn put_entry<W: Sink>(
     lines: &mut TextBuffer,
     writer: &mut W,
-    units: u32,
-    row: u64,
+    scale: Scale,
+    place: Option<Place>,
+    flows: &Flows,
     entry: &Entry,
 ) -> Result<(), TextFault>
-    requires few { row ≤ 16777216 }
-    requires narrow { units ≤ 1024 }
+    requires few { IfSome place (λ p. p.row ≤ 16777216) }
+    requires narrow { scale.units ≤ 1024 }
     requires whole { IsEncodable entry.now.reply }
     ensures ok { OnOk result (Appends (append_known (W.contents writer.old) lines.old)
-        (append_known (W.contents writer.new) lines.new) (rows_text units row (maps_of (entry.now ∷ [])))) }
+        (append_known (W.contents writer.new) lines.new) (entry_text scale place (λ sid. get_or flows.now sid false) entry.now.reply)) }
     ensures err { IfErr result (λ e. e ≡ TextFault.Output) }
     ensures failed { FailsBy TextFault.Output result (W.has_failed writer.old) (W.has_failed writer.new) }
 {
+    let Some(place) = place else {
+        return Ok(());
+    };
     match &entry.reply {
-        Reply::Built(map) => put_row(lines, writer, units, row, map),
+        Reply::Built(map) => put_row(lines, writer, scale, place, flows, map),
         _ => Ok(()),
     }
 }
 
-// The rows of a history's MAPs.
+// The rows of a history's frames that are drawn.
 fn put_rows<W: Sink>(
     lines: &mut TextBuffer,
     writer: &mut W,
-    units: u32,
+    scale: Scale,
+    span: Span,
     entries: &[Entry],
 ) -> Result<(), TextFault>
     requires few { length entries.now ≤ 16777216 }
-    requires narrow { units ≤ 1024 }
+    requires narrow { scale.units ≤ 1024 }
     requires whole { AllByRecursion (λ e. IsEncodable e.reply) entries.now }
     ensures ok { OnOk result (Appends (append_known (W.contents writer.old) lines.old)
-        (append_known (W.contents writer.new) lines.new) (rows_text units 0 (maps_of entries.now))) }
+        (append_known (W.contents writer.new) lines.new) (rows_text scale span.from 0 (frames_in span (frames_of entries.now)))) }
     ensures err { IfErr result (λ e. e ≡ TextFault.Output) }
     ensures failed { FailsBy TextFault.Output result (W.has_failed writer.old) (W.has_failed writer.new) }
 {
-    let mut row = 0;
+    let mut flows = no_flows();
+    let mut number = 0;
     for entry in entries {
-        put_entry(lines, writer, units, row, entry)?;
-        row += count_map(entry);
+        let place = place_in(span, number);
+        put_entry(lines, writer, scale, place, &flows, entry)?;
+        number += count_map(entry);
+        note(&mut flows, entry);
     }
     Ok(())
 }
 
 // All of a picture.
-#[tactic(auto, unfolding(crate::specs::Picture::picture_text))]
+#[tactic(auto, unfolding(crate::specs::Picture::frames_text))]
 fn put_all<W: Sink>(
     lines: &mut TextBuffer,
     writer: &mut W,
-    frame: u32,
+    scale: Scale,
+    span: Span,
     entries: &[Entry],
 ) -> Result<(), TextFault>
-    requires some { 0 < frame }
-    requires short { frame ≤ 1024 }
+    requires short { scale.frame ≤ 1024 }
+    requires narrow { scale.units ≤ 1024 }
     requires few { length entries.now ≤ 16777216 }
     requires whole { AllByRecursion (λ e. IsEncodable e.reply) entries.now }
     ensures ok { OnOk result (Appends (append_known (W.contents writer.old) lines.old)
-        (append_known (W.contents writer.new) lines.new) (picture_text frame (maps_of entries.now))) }
+        (append_known (W.contents writer.new) lines.new) (frames_text scale (length (frames_of entries.now)) span.from
+        (frames_in span (frames_of entries.now)))) }
     ensures err { IfErr result (λ e. e ≡ TextFault.Output) }
     ensures failed { FailsBy TextFault.Output result (W.has_failed writer.old) (W.has_failed writer.new) }
 {
-    let rows = count_maps(entries);
-    let units = slot_units(frame);
-    put_head(lines, writer, rows, frame)?;
-    put_ticks(lines, writer, units, depth_of(rows) - 8, frame)?;
-    put_rows(lines, writer, units, entries)?;
+    let total = count_maps(entries);
+    let rows = span.count.min(total.saturating_sub(span.from));
+    put_head(lines, writer, scale, rows, total)?;
+    put_axes(lines, writer, scale, rows)?;
+    put_rows(lines, writer, scale, span, entries)?;
     lines.put(writer, b"</svg>\n")
 }
 
-/// Writes the picture of a history's MAPs, whose frames have so many minislots: a row for each MAP in their order, and
-/// in it a bar for each of its allocations. Takes no memory, and only a failed write ends it.
-pub fn put_picture<W: Sink>(writer: &mut W, frame: u32, entries: &[Entry]) -> Result<(), TextFault>
-    requires some { 0 < frame }
-    requires short { frame ≤ 1024 }
+/// Writes the picture of a history's frames, on this channel: an axis with the legend above each 40 rows, and a row for
+/// each MAP in the span, in their order, with a bar for each of its allocations. Takes no memory, and only a failed write
+/// ends it. The history need not be legal.
+pub fn put_picture<W: Sink>(
+    writer: &mut W,
+    config: &Checked,
+    span: Span,
+    entries: &[Entry],
+) -> Result<(), TextFault>
     requires few { length entries.now ≤ 16777216 }
     requires whole { AllByRecursion (λ e. IsEncodable e.reply) entries.now }
 
     // What was written is the picture, and nothing else.
     ensures ok { OnOk result (Appends (W.contents writer.old) (W.contents writer.new)
-        (picture_text frame (maps_of entries.now))) }
+        (picture_text config.now span entries.now)) }
     ensures err { IfErr result (λ e. e ≡ TextFault.Output) }
     ensures failed { FailsBy TextFault.Output result (W.has_failed writer.old) (W.has_failed writer.new) }
 {
     let mut lines = TextBuffer::new();
-    put_all(&mut lines, writer, frame, entries)?;
+    put_all(&mut lines, writer, scale_of(config), span, entries)?;
     lines.write_out(writer)
 }

@@ -1,20 +1,40 @@
 //! The row of a MAP, and its bars.
 
-ghost use Rattle.std.specs.Prelude.{◌≡◌, ◌≤◌, OnOk, IfErr};
+ghost use Rattle.std.specs.Prelude.{◌≡◌, ◌≤◌, get_or, false, OnOk, IfErr};
 ghost use Rattle.std.specs.Io.KnownBytes.{Appends, append_known};
 ghost use Rattle.map_codec.specs.Element.{nulls};
 ghost use Rattle.map_codec.specs.WireMap.{IsWellFormed};
-ghost use Rattle.frame_picture.specs.Bars.{box_text, title_text, name_text, bar_text, bars_text};
-ghost use Rattle.frame_picture.specs.Picture.{row_text};
+ghost use Rattle.frame_picture.specs.Bars.{shade_text, box_text, title_text, name_text, bar_text, bars_text};
+ghost use Rattle.frame_picture.specs.Picture.{start_text, map_text};
 ghost use Rattle.text_stream.specs.Watched.{FailsBy};
 
-use crate::bar::{Bar, bar_at};
+use crate::bar::{Bar, bar_with};
+use crate::flows::Flows;
+use crate::layout::{Scale, row_top};
+use crate::shade::shade_of;
+use crate::span::Place;
 use crate::text::put_labelled;
-use crate::usage::{is_named, look_of, name_width};
+use crate::time::put_ms;
+use crate::usage::{is_named, look_of, name_width, origin_of};
 use map_build::FrameMap;
 use map_codec::Element;
 use map_drawing::front_len;
 use text_stream::{Sink, TextBuffer, TextFault};
+
+// The name of a bar's shade.
+#[tactic(auto, unfolding(crate::specs::Bars::shade_text))]
+fn put_shade<W: Sink>(lines: &mut TextBuffer, writer: &mut W, bar: Bar) -> Result<(), TextFault>
+    ensures ok { OnOk result (Appends (append_known (W.contents writer.old) lines.old)
+        (append_known (W.contents writer.new) lines.new) (shade_text bar)) }
+    ensures err { IfErr result (λ e. e ≡ TextFault.Output) }
+    ensures failed { FailsBy TextFault.Output result (W.has_failed writer.old) (W.has_failed writer.new) }
+{
+    if !is_named(bar.usage) {
+        return Ok(());
+    }
+    let shade = shade_of(bar.allocation.sid);
+    put_labelled(lines, writer, b" s", u64::from(shade))
+}
 
 // The box of a bar.
 #[tactic(auto, unfolding(crate::specs::Bars::box_text))]
@@ -25,7 +45,8 @@ fn put_box<W: Sink>(lines: &mut TextBuffer, writer: &mut W, bar: Bar) -> Result<
     ensures failed { FailsBy TextFault.Output result (W.has_failed writer.old) (W.has_failed writer.new) }
 {
     lines.put(writer, b"<rect class='")?;
-    lines.put(writer, look_of(bar.usage))?;
+    lines.put(writer, look_of(bar))?;
+    put_shade(lines, writer, bar)?;
     put_labelled(lines, writer, b"' x='", u64::from(bar.x))?;
     put_labelled(lines, writer, b"' width='", u64::from(bar.width))?;
     lines.put(writer, b"' height='20'>")
@@ -42,6 +63,7 @@ fn put_title<W: Sink>(lines: &mut TextBuffer, writer: &mut W, bar: Bar) -> Resul
     let allocation = bar.allocation;
     put_labelled(lines, writer, b"<title>SID ", u64::from(allocation.sid))?;
     lines.put(writer, b", ")?;
+    lines.put(writer, origin_of(bar))?;
     lines.put(writer, bar.usage.words())?;
     put_labelled(lines, writer, b", offset ", u64::from(allocation.offset))?;
     put_labelled(lines, writer, b", length ", u64::from(allocation.length))?;
@@ -84,63 +106,78 @@ fn put_bar<W: Sink>(lines: &mut TextBuffer, writer: &mut W, bar: Bar) -> Result<
     put_name(lines, writer, bar)
 }
 
-// The bars of a MAP with these elements and byte counts.
+// The bars of a MAP with these elements and byte counts, where these flows are unsolicited.
 fn put_bars<W: Sink>(
     lines: &mut TextBuffer,
     writer: &mut W,
     units: u32,
+    flows: &Flows,
     elements: &[Element],
     bytes: &[u32],
 ) -> Result<(), TextFault>
     requires one { nulls elements.now ≡ 1 }
     requires narrow { units ≤ 1024 }
     ensures ok { OnOk result (Appends (append_known (W.contents writer.old) lines.old)
-        (append_known (W.contents writer.new) lines.new) (bars_text units elements.now bytes.now)) }
+        (append_known (W.contents writer.new) lines.new) (bars_text units (λ sid. get_or flows.now sid false) elements.now bytes.now)) }
     ensures err { IfErr result (λ e. e ≡ TextFault.Output) }
     ensures failed { FailsBy TextFault.Output result (W.has_failed writer.old) (W.has_failed writer.new) }
 {
     for i in 0..front_len(elements) {
-        put_bar(lines, writer, bar_at(units, elements, bytes, i))?;
+        let unsolicited = flows[usize::from(elements[i].sid)];
+        let bar = bar_with(units, elements, bytes, i, unsolicited);
+        put_bar(lines, writer, bar)?;
     }
     Ok(())
 }
 
-// The row of a MAP: the minislot at which its frame starts, and its bars.
-#[tactic(auto, unfolding(crate::specs::Picture::row_text))]
-pub(crate) fn put_row<W: Sink>(
+// What stands before the bars of a row: the number of its frame, and the minislot and the millisecond at which it
+// starts.
+#[tactic(auto, unfolding(crate::specs::Picture::start_text))]
+fn put_start<W: Sink>(
     lines: &mut TextBuffer,
     writer: &mut W,
-    units: u32,
-    row: u64,
-    map: &FrameMap,
+    ticks: u32,
+    place: Place,
+    start: u64,
 ) -> Result<(), TextFault>
-    requires few { row ≤ 16777216 }
-    requires narrow { units ≤ 1024 }
-    requires whole { IsWellFormed map.now.wire }
+    requires few { place.row ≤ 16777216 }
     ensures ok { OnOk result (Appends (append_known (W.contents writer.old) lines.old)
-        (append_known (W.contents writer.new) lines.new) (row_text units row map.now)) }
+        (append_known (W.contents writer.new) lines.new) (start_text ticks place start)) }
     ensures err { IfErr result (λ e. e ≡ TextFault.Output) }
     ensures failed { FailsBy TextFault.Output result (W.has_failed writer.old) (W.has_failed writer.new) }
 {
-    put_labelled(
-        lines,
-        writer,
-        b"<g transform='translate(136 ",
-        96 + 28 * row,
-    )?;
-    put_labelled(
-        lines,
-        writer,
-        b")'>\n<text class='start' x='-8' y='15'>",
-        map.start,
-    )?;
-    lines.put(writer, b"</text>\n")?;
-    put_bars(
-        lines,
-        writer,
-        units,
-        map.wire.elements.as_slice(),
-        map.bytes.as_slice(),
-    )?;
+    let top = row_top(place.row);
+    put_labelled(lines, writer, b"<g transform='translate(176 ", top)?;
+    let label = b")'>\n<text class='start' x='-128' y='15'>";
+    put_labelled(lines, writer, label, place.number)?;
+    let label = b"</text><text class='start' x='-8' y='9'>";
+    put_labelled(lines, writer, label, start)?;
+    lines.put(writer, b"</text><text class='start' x='-8' y='21'>")?;
+    put_ms(lines, writer, ticks, start)?;
+    lines.put(writer, b" ms</text>\n")
+}
+
+// The row of a MAP, where these flows are unsolicited.
+#[tactic(auto, unfolding(crate::specs::Picture::map_text))]
+pub(crate) fn put_row<W: Sink>(
+    lines: &mut TextBuffer,
+    writer: &mut W,
+    scale: Scale,
+    place: Place,
+    flows: &Flows,
+    map: &FrameMap,
+) -> Result<(), TextFault>
+    requires few { place.row ≤ 16777216 }
+    requires narrow { scale.units ≤ 1024 }
+    requires whole { IsWellFormed map.now.wire }
+    ensures ok { OnOk result (Appends (append_known (W.contents writer.old) lines.old)
+        (append_known (W.contents writer.new) lines.new) (map_text scale place (λ sid. get_or flows.now sid false) map.now)) }
+    ensures err { IfErr result (λ e. e ≡ TextFault.Output) }
+    ensures failed { FailsBy TextFault.Output result (W.has_failed writer.old) (W.has_failed writer.new) }
+{
+    put_start(lines, writer, scale.ticks, place, map.start)?;
+    let elements = map.wire.elements.as_slice();
+    let bytes = map.bytes.as_slice();
+    put_bars(lines, writer, scale.units, flows, elements, bytes)?;
     lines.put(writer, b"</g>\n")
 }

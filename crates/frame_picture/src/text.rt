@@ -2,14 +2,14 @@
 
 ghost use Rattle.std.specs.Prelude.{◌≡◌, OnOk, IfErr};
 ghost use Rattle.std.specs.Io.KnownBytes.{Appends, append_known};
-ghost use Rattle.frame_picture.specs.Bars.{labelled};
+ghost use Rattle.frame_picture.specs.Labelled.{labelled};
 ghost use Rattle.text_stream.specs.Watched.{FailsBy};
 
 use itoa::Buffer;
 use text_stream::{Sink, TextBuffer, TextFault};
 
 // A label, and a number in decimal.
-#[tactic(auto, unfolding(crate::specs::Bars::labelled))]
+#[tactic(auto, unfolding(crate::specs::Labelled::labelled))]
 pub(crate) fn put_labelled<W: Sink>(
     lines: &mut TextBuffer,
     writer: &mut W,

@@ -1,14 +1,16 @@
-//! How a usage looks.
+//! How a bar looks.
 
 ghost use Rattle.std.specs.Prelude.{◌≡◌};
-ghost use Rattle.frame_picture.specs.Bars.{look_of, is_named, name_width};
+ghost use Rattle.frame_picture.specs.Bar.{is_plain_grant};
+ghost use Rattle.frame_picture.specs.Bars.{usage_look, look_of, origin_of, is_named, name_width};
 
+use crate::bar::Bar;
 use map_drawing::Usage;
 
 // The name of the colour and the pattern of a usage.
-#[tactic(auto, unfolding(crate::specs::Bars::look_of))]
-pub(crate) fn look_of(usage: Usage) -> &'static [u8]
-    ensures { result.now ≡ look_of usage }
+#[tactic(auto, unfolding(crate::specs::Bars::usage_look))]
+fn usage_look(usage: Usage) -> &'static [u8]
+    ensures { result.now ≡ usage_look usage }
 {
     match usage {
         Usage::RequestRegion => b"region",
@@ -26,7 +28,39 @@ pub(crate) fn look_of(usage: Usage) -> &'static [u8]
     }
 }
 
-// Whether a bar bears its SID: it is not that of all modems or of none.
+// Whether the usage code is one of a channel without Advanced PHY for all grants, unsolicited ones among them.
+#[tactic(auto, unfolding(crate::specs::Bar::is_plain_grant))]
+pub(crate) fn is_plain_grant(usage: Usage) -> bool
+    ensures { result ≡ is_plain_grant usage }
+{
+    matches!(usage, Usage::ShortGrant | Usage::LongGrant)
+}
+
+// The name of the colour and the pattern of a bar.
+#[tactic(auto, unfolding(crate::specs::Bars::look_of))]
+pub(crate) fn look_of(bar: Bar) -> &'static [u8]
+    ensures { result.now ≡ look_of bar }
+{
+    if bar.unsolicited {
+        b"unsolicited"
+    } else {
+        usage_look(bar.usage)
+    }
+}
+
+// What a bar says before the words of its usage.
+#[tactic(auto, unfolding(crate::specs::Bars::origin_of))]
+pub(crate) fn origin_of(bar: Bar) -> &'static [u8]
+    ensures { result.now ≡ origin_of bar }
+{
+    if bar.unsolicited {
+        b"unsolicited "
+    } else {
+        b""
+    }
+}
+
+// Whether a bar bears its SID and has its shade: it is not that of all modems or of none.
 #[tactic(auto, unfolding(crate::specs::Bars::is_named))]
 pub(crate) fn is_named(usage: Usage) -> bool
     ensures { result ≡ is_named usage }

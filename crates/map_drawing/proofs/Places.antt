@@ -1,16 +1,16 @@
 -- Each allocation has its place in a drawing.
-use Rattle.std.proofs.Common.{◌≡◌, ℕ, zero, suc, ◌+◌, ◌<◌, ◌≤◌, Bool, true, false, List, length, take, ap, ◌∙◌, inl}
+use Rattle.std.proofs.Common.{◌≡◌, ℕ, zero, suc, ◌+◌, ◌<◌, ◌≤◌, Bool, true, false, List, length, take, ap, inl}
 use Rattle.std.proofs.Common.{inr}
 use Rattle.std.proofs.Common.{add-one, arith, length-take}
 use Rattle.std.specs.Prelude.{count_by, nat_le, ◌↔◌}
-use Rattle.std.proofs.lemmas.Bool.{cases_Bool, cases_lt, leb-true, le-leb}
+use Rattle.std.proofs.lemmas.Bool.{cases_Bool, cases_lt, le-leb}
 use Rattle.std.proofs.lemmas.Bool.Decides.{leb_tells}
 use Rattle.std.proofs.lemmas.List.Sums.{count_by_more_yes, count_by_more_no, count_by-le-length}
 use Rattle.map_codec.specs.declared.element.Element.{Element}
 use Rattle.map_codec.specs.Element.{nulls, element_at, no_element, Ascends}
 use Rattle.map_drawing.specs.Allocation.{front_length, front_of, frame_slots}
 use Rattle.map_drawing.specs.Rows.{begun, HasSlot}
-use Rattle.map_drawing.proofs.Fronts.{front_length-≤, front_length-<, offset-≤}
+use Rattle.map_drawing.proofs.Fronts.{front_length-≤, offset-≤}
 
 module _ (p : Element → Bool) (es : List Element) where
   -- where the first elements pass a test, so many at least do

@@ -1,8 +1,13 @@
 -- The legend of a drawing, and the whole of it.
-use Rattle.std.specs.Prelude.{ℕ, ◌+◌, List, ◌∷◌, [], ◌++◌, codes, flat_map}
+use Rattle.std.specs.Prelude.{ℕ, List, ◌∷◌, [], ◌++◌, codes, flat_map}
 use Rattle.std.specs.List.{range_with_len}
 use Rattle.map_codec.specs.declared.element.Element.{Element}
 use Rattle.map_drawing.specs.Usage.{usage_of, words_of}
+use Rattle.map_drawing.specs.declared.usage.Usage.{Usage}
+use Rattle.map_drawing.specs.declared.usage.Usage.TheVariants.{RequestRegion, Poll, RequestData, InitialMaintenance}
+use Rattle.map_drawing.specs.declared.usage.Usage.TheVariants.{StationMaintenance, ShortGrant, LongGrant, Idle, Null}
+use Rattle.map_drawing.specs.declared.usage.Usage.TheVariants.{DataAcknowledge, AdvancedShortGrant, AdvancedLongGrant}
+use Rattle.map_drawing.specs.declared.usage.Usage.TheVariants.{AdvancedUnsolicitedGrant, Reserved}
 use Rattle.map_drawing.specs.declared.allocation.Allocation.{Allocation}
 use Rattle.map_drawing.specs.Allocation.{front_length, front_of, behind_of, frame_slots, allocation_at}
 use Rattle.map_drawing.specs.Text.{spaces, column}
@@ -26,10 +31,27 @@ allocation_line i a =
 abbrev pub allocation_lines : List Element → List ℕ
 allocation_lines es = flat_map (λ i. allocation_line i (allocation_at es i)) (range_with_len 0 (front_length es))
 
--- the line of an element behind the Null: its SID and usage
+-- what an element behind the Null is: a data grant to a modem is a pending one
+unfoldable pub state_of : Usage → List ℕ
+state_of RequestRegion = codes "behind the frame: "
+state_of Poll = codes "behind the frame: "
+state_of RequestData = codes "behind the frame: "
+state_of InitialMaintenance = codes "behind the frame: "
+state_of StationMaintenance = codes "behind the frame: "
+state_of ShortGrant = codes "pending: "
+state_of LongGrant = codes "pending: "
+state_of Idle = codes "behind the frame: "
+state_of Null = codes "behind the frame: "
+state_of DataAcknowledge = codes "behind the frame: "
+state_of AdvancedShortGrant = codes "pending: "
+state_of AdvancedLongGrant = codes "pending: "
+state_of AdvancedUnsolicitedGrant = codes "behind the frame: "
+state_of Reserved = codes "behind the frame: "
+
+-- the line of an element behind the Null: its SID, whether it is pending, and its usage
 unfoldable pub behind_line : Element → List ℕ
 behind_line e =
-    codes "  " ++ (column 5 e.sid ++ (spaces 13 ++ (codes "behind the frame: " ++ usage_end e.sid e.iuc)))
+    codes "  " ++ (column 5 e.sid ++ (spaces 13 ++ (state_of (usage_of e.sid e.iuc) ++ usage_end e.sid e.iuc)))
 
 -- the lines of the elements behind the Null
 abbrev pub behind_lines : List Element → List ℕ

@@ -1,6 +1,6 @@
 -- A frame in rows of characters, one for each minislot.
 use Rattle.std.specs.Prelude.{◌≡◌, ℕ, zero, suc, ◌+◌, ◌-◌, ◌*◌, ◌/◌, ◌%◌, ◌<◌, ◌≤◌, ◌↔◌, min, max, nat_le, nat_lt}
-use Rattle.std.specs.Prelude.{if◌then◌else◌, List, ◌++◌, length, map, count_by, codes, flat_map}
+use Rattle.std.specs.Prelude.{if◌then◌else◌, List, ◌++◌, map, count_by, codes, flat_map}
 use Rattle.std.specs.List.{range_with_len}
 use Rattle.map_codec.specs.declared.element.Element.{Element}
 use Rattle.map_codec.specs.Element.{element_at, nulls, Ascends}

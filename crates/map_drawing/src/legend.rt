@@ -3,7 +3,7 @@
 ghost use Rattle.std.specs.Prelude.{◌≡◌, ◌+◌, ◌<◌, ◌≤◌, ◌++◌, length, flat_map, OnOk, IfOk};
 ghost use Rattle.map_codec.specs.WireMap.{IsWellFormed};
 ghost use Rattle.map_codec.specs.Element.{nulls};
-ghost use Rattle.map_drawing.specs.Legend.{usage_end, allocation_line, allocation_lines, behind_line, drawing_text};
+ghost use Rattle.map_drawing.specs.Legend.{usage_end, state_of, allocation_line, allocation_lines, behind_line, drawing_text};
 
 use crate::allocation::{Allocation, allocation_at, behind_of, frame_slots, front_len, front_of};
 use crate::rows::{letter_of, push_rows, slots_per_row};
@@ -45,6 +45,20 @@ fn push_allocations(text: &mut Vec<u8>, elements: &[Element]) -> Result<(), Allo
     Ok(())
 }
 
+// What an element behind the Null is: a data grant to a modem is a pending one.
+#[tactic(auto, unfolding(crate::specs::Legend::state_of))]
+fn state_of(usage: Usage) -> &'static [u8]
+    ensures { result.now ≡ state_of usage }
+{
+    match usage {
+        Usage::ShortGrant
+        | Usage::LongGrant
+        | Usage::AdvancedShortGrant
+        | Usage::AdvancedLongGrant => b"pending: ",
+        _ => b"behind the frame: ",
+    }
+}
+
 // Puts the line of an element behind the Null behind a text.
 #[tactic(auto, unfolding(crate::specs::Legend::behind_line))]
 fn push_behind(text: &mut Vec<u8>, element: &Element) -> Result<(), AllocError>
@@ -53,7 +67,7 @@ fn push_behind(text: &mut Vec<u8>, element: &Element) -> Result<(), AllocError>
     text.extend_from_slice(b"  ")?;
     push_column(text, 5, u64::from(element.sid))?;
     push_spaces(text, 13)?;
-    text.extend_from_slice(b"behind the frame: ")?;
+    text.extend_from_slice(state_of(Usage::of(element.sid, element.iuc)))?;
     push_usage(text, element.sid, element.iuc)
 }
 
@@ -69,7 +83,7 @@ fn push_all_behind(text: &mut Vec<u8>, elements: &[Element]) -> Result<(), Alloc
 
 /// Draws the frame of a MAP in so many columns: rows of characters, one for each minislot, behind the number of the
 /// row's first one; then a line for each allocation with its letter, SID, offset, minislots and usage in words; then
-/// one for each element behind the Null.
+/// one for each element behind the Null, which tells whether it is a pending grant.
 #[tactic(auto, unfolding(crate::specs::Legend::drawing_text))]
 pub fn draw_frame(alloc: Global, map: &WireMap, columns: u16) -> Result<Vec<u8>, AllocError>
     requires { IsWellFormed map.now }

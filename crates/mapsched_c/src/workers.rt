@@ -83,7 +83,8 @@ pub extern "C" fn mapsched_draw(alloc: Global, worker: &mut WorkerHandle) -> u32
     let Some(mut drawing) = worker.take(alloc) else {
         return status::EMPTY;
     };
-    let answered = if drawing.draw() {
+    // No export lets a worker with a ticket go.
+    let answered = if unsafe { drawing.draw() } {
         status::OK
     } else {
         status::HAS_TICKET

@@ -2,11 +2,9 @@
 use Rattle.std.specs.Prelude.{Option, Some, None}
 use Rattle.text_stream.specs.declared.fault.TextFault.{TextFault}
 use Rattle.sched_check.specs.declared.finding.Finding.{Finding}
-use Rattle.sched_check.specs.declared.finding.Finding.TheVariants.{Script, Storm, History, Fault}
+use Rattle.sched_check.specs.declared.finding.Finding.TheVariants.{Good, Fault}
 
 -- the fault, where one is found
 abbrev pub fault_found : Finding → Option TextFault
-fault_found (Script config calls) = None
-fault_found (Storm config scripts) = None
-fault_found (History config entries) = None
+fault_found (Good config) = None
 fault_found (Fault fault) = Some fault

@@ -7,20 +7,15 @@ ghost use Rattle.sched_check.specs.Finding.{fault_found};
 use crate::kind::Kind;
 use history_reading::read_history;
 use minislots::Checked;
-use sched_history::{Call, Entry};
 use script_reading::{read_script, read_storm};
 use std::alloc::Global;
 use text_stream::TextFault;
 
 /// What is found in a file.
-#[derive(Drop)]
+#[derive(Clone, Copy)]
 pub enum Finding {
-    /// A script, its configuration and its calls.
-    Script(Checked, Vec<Call>),
-    /// The script of a storm, its configuration and the calls of each worker.
-    Storm(Checked, Vec<Vec<Call>>),
-    /// A history, its configuration and its entries.
-    History(Checked, Vec<Entry>),
+    /// No fault, and the configuration.
+    Good(Checked),
     /// The first fault.
     Fault(TextFault),
 }
@@ -44,7 +39,7 @@ fn find_script(alloc: Global, bytes: &[u8]) -> Result<Finding, TextFault>
 {
     let mut reader = bytes;
     match read_script(alloc, &mut reader) {
-        Ok((config, calls)) => Ok(Finding::Script(config, calls)),
+        Ok((config, _rest)) => Ok(Finding::Good(config)),
         Err(fault) => found(fault),
     }
 }
@@ -55,7 +50,7 @@ fn find_storm(alloc: Global, bytes: &[u8]) -> Result<Finding, TextFault>
 {
     let mut reader = bytes;
     match read_storm(alloc, &mut reader) {
-        Ok((config, scripts)) => Ok(Finding::Storm(config, scripts)),
+        Ok((config, _rest)) => Ok(Finding::Good(config)),
         Err(fault) => found(fault),
     }
 }
@@ -66,7 +61,7 @@ fn find_history(alloc: Global, bytes: &[u8]) -> Result<Finding, TextFault>
 {
     let mut reader = bytes;
     match read_history(alloc, &mut reader) {
-        Ok((config, entries)) => Ok(Finding::History(config, entries)),
+        Ok((config, _rest)) => Ok(Finding::Good(config)),
         Err(fault) => found(fault),
     }
 }

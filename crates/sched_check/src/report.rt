@@ -54,7 +54,7 @@ fn words_of(
     finding: &Finding,
 ) -> Result<String, AllocError> {
     match document {
-        Some(document) => words_on(alloc, kind, document, finding),
+        Some(document) => words_on(alloc, bytes, kind, document, finding),
         None => words_on_text(alloc, bytes),
     }
 }

@@ -6,10 +6,12 @@ ghost use Rattle.sched_history.specs.History.{IsStep, IsLegal};
 ghost use Rattle.sched_history.specs.State.{IsKeptOf};
 ghost use Rattle.sched_history.specs.Audit.{IsFirstIllegal};
 
+mod expected;
 pub(crate) mod sameness;
 
 use crate::reply::{AuditFault, Entry};
 use crate::scheduler::{Present, State};
+pub use expected::lawful_reply;
 use minislots::Checked;
 use sameness::is_refused;
 use std::alloc::{AllocError, Global};

@@ -41,7 +41,7 @@ fn words_before(refusal: Refusal) -> &'static [u8]
         Refusal::PeriodicFull => {
             b"too many grants: in an interval those of the periodic flows would be above "
         }
-        Refusal::NoPlace => b"no place: the live flows leave none in the cycle that is lawful",
+        Refusal::NoPlace => b"no place: the cycle has none that is lawful for this flow",
         Refusal::NoFlow => b"no flow with this SID is live",
         Refusal::NotAsking => b"a flow of unsolicited grants does not ask",
         Refusal::BadReceiver => b"the channel has no receiver of this number",
@@ -79,7 +79,7 @@ fn words_behind(refusal: Refusal) -> &'static [u8]
 {
     match refusal {
         Refusal::FlowsFull | Refusal::Backwards(_) => b" already",
-        Refusal::Ahead(_) => b", and what is heard lies before it",
+        Refusal::Ahead(_) => b", and what is heard must lie before it",
         Refusal::TooEarly(_) => b", and its end is more than 4096 minislots past the clock",
         Refusal::Late(_) => b", and the clock with its lead is past it",
         Refusal::NotLate(_) => b", and the clock with its lead is not past it",

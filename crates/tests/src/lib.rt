@@ -6,8 +6,6 @@ mod base;
 #[cfg(test)]
 mod flow_book_rows;
 #[cfg(test)]
-mod map_drawing_rows;
-#[cfg(test)]
 mod map_snapshot_rows;
 #[cfg(test)]
 mod periodic_rows;

@@ -1,4 +1,4 @@
-//! A scheduler without a press that two seats share.
+//! A scheduler without a press that two seats share, or two workers.
 
 ghost use Rattle.std.specs.Prelude.{◌≡◌};
 ghost use Rattle.ticket_lock.specs.Standing.{seats_of};
@@ -10,7 +10,7 @@ use sched_history::{Call, Reply};
 use std::alloc::AllocGlobal;
 use std::process::Abort;
 use ticket_lock::{Seat, Ticket};
-use worker_sched::{Closed, Desk, Workplace, open};
+use worker_sched::{CloseFault, Closed, Desk, Worker, Workplace, open};
 
 // A workplace with two seats, which records two calls.
 fn pair<R: Abort + AllocGlobal>(rt: &R) -> (Workplace, Seat<Desk>, Seat<Desk>)
@@ -99,4 +99,35 @@ fn two_seats_take_turns_in_the_order_of_their_tickets(rt: HostRuntime) {
     let stamps = [Stamp { seat: 1, ticket: 0 }, Stamp { seat: 0, ticket: 1 }];
     assert!(rt; made.eq(stamps), "the stamps");
     assert!(rt; counts[0] == 1 && counts[1] == 1 && counts[2] == 0);
+}
+
+// A worker at a workplace with two seats.
+fn first_worker<R: Abort + AllocGlobal>(rt: &R) -> Box<Worker> {
+    let config = checked(rt, Config { calls: 2, ..BASE });
+    let Ok(first) = Worker::open(rt.alloc(), config, 2) else {
+        panic!(rt; "no memory")
+    };
+    first
+}
+
+#[test]
+fn a_worker_that_hired_nobody_closes(rt: HostRuntime) {
+    let mut first = first_worker(&rt);
+    let Ok(channel) = first.close() else {
+        panic!(rt; "the workplace stays open")
+    };
+    assert!(rt; channel.history().is_empty());
+}
+
+#[test]
+fn a_close_tells_that_a_ticket_was_let_go_with_its_worker(rt: HostRuntime) {
+    let mut first = first_worker(&rt);
+    let Ok(mut second) = first.hire(rt.alloc()) else {
+        panic!(rt; "no memory")
+    };
+    let drew = unsafe { second.draw() };
+    assert!(rt; drew, "a seat is with the second worker");
+    drop(second);
+    assert!(rt; matches!(first.close(), Err(CloseFault::NotServed)));
+    assert!(rt; first.has_ticket(), "the ticket drawn in vain");
 }

@@ -1,5 +1,6 @@
 -- What each call of a lock does, in the words of a standing.
-use Rattle.std.specs.Prelude.{◌≡◌, ◌⊎◌, ℕ, ◌+◌, List, [], ◌∷◌, ◌++◌, map, sum_by, Some, ◌==◌, if◌then◌else◌}
+use Rattle.std.specs.Prelude.{◌≡◌, ◌⊎◌, ℕ, ◌+◌, ◌%◌, ◌^◌, List, [], ◌∷◌, ◌++◌, map, sum_by, Some}
+use Rattle.std.specs.Prelude.{◌==◌, if◌then◌else◌}
 use Rattle.std.specs.List.{range_with_len}
 use Rattle.minislots.specs.declared.stamp.Stamp.{Stamp}
 use Rattle.ticket_lock.specs.declared.board.Logged.{Logged}
@@ -46,6 +47,10 @@ module _ {H E : Type 0} (stamp : E → Stamp) where
       pub added : IsAdded stamp s.number s.ticket more
       pub entries_are : entries x ≡ seen w
       pub ordered : IsInOrder s.lock w.log (s.ticket + 1)
+
+    -- this is the ticket that a seat has served by its leave, modulo 2^64: the one behind that by which it held
+    abbrev pub HasServed : Standing H E → ℕ → Type 0
+    HasServed w ticket = (s : Standing H E) × (x : T) × Leaves s x w × (ticket ≡ (s.ticket + 1) % 2 ^ 64)
 
     -- the value at the close: its list begins with what each seat has seen, and past the opening list each seat's
     -- entries are those that it has seen, and there are no others, since each number of a seat is that of one of

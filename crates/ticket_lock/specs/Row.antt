@@ -1,5 +1,5 @@
 -- The words of the table: the ticket that is drawn next, and the row of words by which the lock grants.
-use Rattle.std.specs.Prelude.{◌≡◌, ◌≢◌, ℕ, ◌+◌, ◌*◌, ◌%◌, ◌^◌, ◌<◌, List, length, slice_index}
+use Rattle.std.specs.Prelude.{◌≡◌, ◌≢◌, ℕ, ◌+◌, ◌-◌, ◌*◌, ◌%◌, ◌^◌, ◌<◌, ◌≤◌, List, length, slice_index}
 use Rattle.ticket_core.specs.LockWorld.{LockWorld}
 use Rattle.ticket_core.specs.Grants.{grant_of}
 
@@ -15,3 +15,19 @@ pub record WordsStand (w : LockWorld) (words : List ℕ) : Type 0 where
   pub next : slice_index words 0 ≡ w.next % 2 ^ 64
   pub grants : (i : ℕ) → i < 64 → slice_index words (place_of i) ≡ grant_of w.served i
   pub between : (k : ℕ) → k < 520 → k % 8 ≢ 0 → slice_index words k ≡ 0
+
+-- the ticket so many before this one, both modulo 2^64
+abbrev pub before_by : ℕ → ℕ → ℕ
+before_by count ticket = (ticket + 2 ^ 64 - count) % 2 ^ 64
+
+-- for a seat that waits with this ticket, whatever ticket is served: the herald's word has the herald exactly where no
+-- more than so many tickets come before the seat's
+abbrev pub TellsNear : ℕ → ℕ → ℕ → Type 0
+TellsNear near ticket herald = (t served : ℕ) → ticket ≡ t % 2 ^ 64 → served ≤ t → t < served + 64
+    → (grant_of served (herald % 64) ≡ herald → t ≤ served + near)
+    × (t ≤ served + near → grant_of served (herald % 64) ≡ herald)
+
+-- this is the low half of what the word of a ticket has while an earlier one is served, and not of what it has then
+abbrev pub IsBeforeTurn : ℕ → ℕ → Type 0
+IsBeforeTurn ticket low = (t served : ℕ) → ticket ≡ t % 2 ^ 64 → served ≤ t → t < served + 64
+    → (served < t → grant_of served (t % 64) % 2 ^ 32 ≡ low) × (served ≡ t → grant_of served (t % 64) % 2 ^ 32 ≢ low)

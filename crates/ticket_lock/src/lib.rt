@@ -9,10 +9,13 @@ mod laws;
 mod lock;
 mod opening;
 mod plays;
+mod quiet;
 mod seat;
+mod sleep;
 
 pub use fault::LockFault;
 pub use journal::Journal;
 pub use laws::{follows_the_core, one_holder};
 pub use lock::TicketLock;
+pub use quiet::QuietLock;
 pub use seat::{Held, Seat, Ticket};

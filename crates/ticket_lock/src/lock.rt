@@ -5,25 +5,21 @@
 //! 4. A seat whose turn is far sleeps on its word. One that is near looks, and sleeps at last. Whoever serves its
 //!    ticket wakes it.
 //! 5. The words count modulo 2^64. The value goes in and out of a slot that is the holder's alone.
-ghost use Rattle.std.specs.Prelude.{◌≡◌, ◌+◌, ℕ, Option, Some, [], ◌∷◌, IfOk, IfErr};
+ghost use Rattle.std.specs.Prelude.{◌≡◌, ◌+◌, ◌%◌, ◌^◌, Option, Some, [], ◌∷◌, IfOk, IfErr};
 ghost use Rattle.ticket_lock.specs.Calls.{Draws, Enters, MayLeave, Leaves};
 
 use crate::board::{Board, NEXT, Place, Steps, place_of};
 use crate::journal::Journal;
 use crate::plays::{Draw, Leave, Look};
 use crate::seat::{Held, Inside, Seat, Ticket};
-use std::hint;
+use crate::sleep::{Served, Sleepers};
 use std::marker::Model;
 use std::sync::Wait;
-use std::sync::atomic::AtomicU64;
-use std::sync::atomic::Ordering::SeqCst;
-use ticket_core::GRANTS;
 
 /// A value that one seat at a time holds, in the order of their tickets. Threads share it by a reference.
 pub struct TicketLock<T: Journal> {
     pub(crate) table: Board<T>,
-    // Which words of the row have a seat that sleeps or is about to: bit i for word i. No clause tells of it.
-    pub(crate) asleep: AtomicU64,
+    pub(crate) asleep: Sleepers,
 }
 
 // Clauses see which lock it is, and what it was opened about.
@@ -41,21 +37,6 @@ impl<T: Journal> Model for TicketLock<T> {
 
     ghost invariant = { λ l. (l.table.shared.table_id.words ≡ 520)
         × (l.table.shared.table_id.slots ≡ 1) × (1 ≤ l.table.shared.key.seats) };
-}
-
-// A turn is near where no more than so many come before it. A seat whose turn is not near sleeps.
-const NEAR: u64 = 3;
-
-// How often a seat looks before it asks whether its turn is near.
-const FIRST_LOOKS: u32 = 16;
-
-// How often one whose turn is near looks before it sleeps too. It never yields: where other processes keep the cores
-// busy, a thread that yields waits for the whole slice of one of them.
-const LOOKS: u32 = 4000;
-
-// The bit of the word that a seat with this ticket waits on.
-fn bit_of(ticket: u64) -> u64 {
-    1 << (ticket % GRANTS as u64)
 }
 
 // Puts a value into the slot that the seat holds, and gives the one that was there.
@@ -122,17 +103,17 @@ impl<T: Journal> TicketLock<T> {
         requires kept { MayLeave T.stamp T.head T.entries held value }
         ensures left { Leaves T.stamp T.head T.entries held value result }
     {
-        let next = held.residue.wrapping_add(1);
-        let seat = self.leave_quietly(held, value);
-        self.wake(next);
+        let (seat, served) = self.serve(held, value);
+        self.wake(served);
         seat
     }
 
-    /// Leaves, and wakes nobody: for a lock at which every seat enters by [`TicketLock::try_enter`], and none sleeps.
-    pub fn leave_quietly(&self, held: Held<T>, value: T) -> Seat<T>
+    // Gives the value back and serves the next ticket, whose seat may sleep.
+    pub(crate) fn serve(&self, held: Held<T>, value: T) -> (Seat<T>, Served)
         requires own { held.lock ≡ self.now }
         requires kept { MayLeave T.stamp T.head T.entries held value }
-        ensures left { Leaves T.stamp T.head T.entries held value result }
+        ensures left { Leaves T.stamp T.head T.entries held value result.0 }
+        ensures served { result.1.ticket ≡ (held.ticket + 1) % 2 ^ 64 }
     {
         let Held {
             number,
@@ -144,7 +125,9 @@ impl<T: Journal> TicketLock<T> {
         let None = before else { unreachable!() };
         let next = residue.wrapping_add(1);
         steps.store::<Leave>(&mut place, place_of(next), next);
-        Seat { number, place }
+        let seat = Seat { number, place };
+        let served = Served::by(&seat, next);
+        (seat, served)
     }
 
     // Looks at the ticket's word. The seat is inside if that is the ticket.
@@ -195,48 +178,5 @@ impl<T: Journal> TicketLock<T> {
             place,
         };
         (held, value)
-    }
-
-    // What passes between two looks of a seat with this ticket, after so many since it last slept. It tells how many
-    // there are then. What is near once stays near.
-    fn pause<R: Wait>(&self, rt: &R, ticket: u64, looks: u32) -> u32 {
-        let is_far = looks == FIRST_LOOKS && !self.is_near(ticket);
-        if is_far || looks >= LOOKS {
-            self.sleep(rt, ticket);
-            return 0;
-        }
-        hint::spin_loop();
-        looks.saturating_add(1)
-    }
-
-    // Whether the turn of a seat that waits with this ticket is near: whether the ticket so many before its own was
-    // served. It is read without a seat, as a sleeper's word is: it changes no word and tells no seat anything.
-    fn is_near(&self, ticket: u64) -> bool {
-        let before = ticket.wrapping_sub(NEAR);
-        self.table.shared.peek(place_of(before)) == before
-    }
-
-    // Sleeps on the ticket's word while it has what it has before its turn: the ticket 64 before it.
-    //
-    // A sleeper is always woken. It sets its bit, and then the kernel lets it sleep only if its word is not
-    // yet its ticket. Whoever serves it stores the ticket, and then reads the bits. These four steps have
-    // one order: if the store comes first, the seat does not sleep; if not, the bit is set when it is read,
-    // and the word is woken after the store. Nobody else waits on that word, so the wake is the sleeper's.
-    // A wake that comes before the seat is asleep comes after the store, so the seat does not sleep then.
-    fn sleep<R: Wait>(&self, rt: &R, ticket: u64) {
-        let bit = bit_of(ticket);
-        self.asleep.fetch_add(bit, SeqCst);
-        let before = ticket.wrapping_sub(GRANTS as u64);
-        self.table
-            .shared
-            .park(rt, place_of(ticket), (before & 0xffff_ffff) as u32);
-        self.asleep.fetch_sub(bit, SeqCst);
-    }
-
-    // Wakes the seat with this ticket, which is served, if it sleeps.
-    fn wake(&self, ticket: u64) {
-        if self.asleep.load(SeqCst) & bit_of(ticket) != 0 {
-            self.table.shared.wake_one(place_of(ticket));
-        }
     }
 }

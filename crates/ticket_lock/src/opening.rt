@@ -13,10 +13,10 @@ use crate::journal::Journal;
 use crate::lock::TicketLock;
 use crate::plays::OneNumber;
 use crate::seat::Seat;
+use crate::sleep::Sleepers;
 use atomic_table::{Refused, Table};
 use std::alloc::Global;
 use std::snapshot::Snapshot;
-use std::sync::atomic::AtomicU64;
 use ticket_core::MAX_SEATS;
 
 // Makes the table with the value in its slot. The value comes back where there is no memory.
@@ -105,7 +105,7 @@ impl<T: Journal> TicketLock<T> {
         match lay(alloc, value, seats, first) {
             Ok((table, place)) => {
                 let row = deal(&table.shared, place, seats, row);
-                let asleep = AtomicU64::new(0);
+                let asleep = Sleepers::none();
                 Ok((TicketLock { table, asleep }, row))
             }
             Err(value) => {

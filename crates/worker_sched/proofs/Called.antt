@@ -1,5 +1,5 @@
 -- What the scheduler recorded, at the desk.
-use Rattle.std.proofs.Common.{◌≡◌, ◌≤◌, ◌++◌, [], ◌∷◌, length, Result, IfOk, OnErr, ◌↔◌, IsErrOf}
+use Rattle.std.proofs.Common.{◌≡◌, ◌≤◌, [], length, Result, IfOk, OnErr, ◌↔◌, IsErrOf}
 use Rattle.minislots.specs.declared.stamp.Stamp.{Stamp}
 use Rattle.map_snapshot.specs.Maps.{Printing}
 use Rattle.sched_history.specs.declared.call.Call.{Call}

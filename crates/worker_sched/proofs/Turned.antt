@@ -1,5 +1,5 @@
 -- A turn, from its entry and the holder's call.
-use Rattle.std.proofs.Common.{◌≡◌, ◌+◌, ◌++◌, map, Result, ap, ◌∙◌}
+use Rattle.std.proofs.Common.{◌+◌, ◌++◌, map, Result, ap, ◌∙◌}
 use Rattle.minislots.specs.declared.config.Config.{Config}
 use Rattle.sched_history.specs.declared.call.Call.{Call}
 use Rattle.sched_history.specs.declared.reply.Entry.{Entry}

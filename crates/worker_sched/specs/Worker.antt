@@ -1,11 +1,11 @@
 -- What contracts see of a worker, and what each of its calls does.
-use Rattle.std.specs.Prelude.{◌≡◌, ◌+◌, ℕ, Bool, true, false, List, [], ◌++◌, Option, None, Some, IfSome, IsSome}
-use Rattle.std.specs.Prelude.{MatchOption, option_to_list, is_some, not, ◌||◌}
+use Rattle.std.specs.Prelude.{◌≡◌, ◌+◌, ◌<◌, ℕ, Bool, true, false, List, [], ◌++◌, length, Option, None, Some}
+use Rattle.std.specs.Prelude.{IfSome, IsSome, MatchOption, option_to_list, is_some, not, ◌||◌}
 use Rattle.minislots.specs.declared.config.Config.{Config}
 use Rattle.sched_history.specs.declared.call.Call.{Call}
 use Rattle.sched_history.specs.declared.reply.Entry.{Entry}
 use Rattle.ticket_lock.specs.Rule.{Every}
-use Rattle.ticket_lock.specs.Standing.{Standing}
+use Rattle.ticket_lock.specs.Standing.{Standing, seats_of}
 use Rattle.ticket_lock.specs.Calls.{Opens, Draws}
 use Rattle.shared_sched.specs.Desk.{FixedDesk, SharedDesk, fixed_of, history_of, maker_of, empty_desk}
 use Rattle.worker_sched.specs.declared.worker.Turn.{Turn}
@@ -86,5 +86,6 @@ pub record ClosesWorker (old new : WorkerState) (m : Machine) : Type 0 where
 abbrev pub StaysOpen : WorkerState → WorkerState → CloseFault → Type 0
 StaysOpen old new HasTicket = (new ≡ old) × (is_busy old ≡ true)
 StaysOpen old new Others = (new ≡ old) × (is_busy old ≡ false)
+    × (length (seats_with old) < seats_of old.place.lock)
 StaysOpen old new NotServed = (s : Stands) × (t : Stands) × (old.seat ≡ Some s) × (old.ticket ≡ None)
     × (new ≡ record old { seat = None; ticket = Some t }) × IsNotServed s t

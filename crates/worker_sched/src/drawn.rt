@@ -7,7 +7,8 @@ use std::mem::ManuallyDrop;
 use ticket_lock::{Held, Ticket};
 
 /// A ticket that is with a worker. A ticket has no `Drop`. A worker has one, since a place in memory that is handed out
-/// of the language asks for it, so this may be let go too. Then its turn never ends, and nobody enters any more.
+/// of the language asks for it, so this could be let go too. Then its turn never ends, and nobody enters any more: so
+/// safe code makes no worker draw.
 #[derive(Drop)]
 pub struct Drawn {
     ticket: ManuallyDrop<Ticket<Desk>>,

@@ -11,7 +11,7 @@ use crate::workplace::Workplace;
 use minislots::Checked;
 use std::alloc::Global;
 use ticket_core::MAX_SEATS;
-use ticket_lock::{LockFault, Seat, TicketLock};
+use ticket_lock::{LockFault, QuietLock, Seat, TicketLock};
 
 /// Opens a scheduler of this configuration with this many seats, 1 to 64, and an empty history. The seats are numbered
 /// by their places in the vector, and the first ticket is 0. After a fault nothing is left open.
@@ -37,7 +37,7 @@ pub fn open(
     match TicketLock::open(alloc, desk, seats, 0) {
         Ok((lock, row)) => {
             let workplace = Workplace {
-                lock,
+                lock: QuietLock::of(lock),
                 config: checked,
                 seats,
             };

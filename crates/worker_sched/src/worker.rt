@@ -1,7 +1,9 @@
 //! A worker: what one thread has of a workplace.
-ghost use Rattle.std.specs.Prelude.{◌≡◌, ◌⊎◌, ◌<◌, ◌↔◌, [], None, IfSome, IfOk, IfErr, OnErr, IsErrOf, is_some};
+ghost use Rattle.std.specs.Prelude.{◌≡◌, ◌⊎◌, ◌+◌, ◌<◌, ◌↔◌, nat_le, [], length, None, IfSome, IfOk, IfErr};
+ghost use Rattle.std.specs.Prelude.{OnErr, IsErrOf, is_some};
 ghost use Rattle.std.specs.Arc.{arc_value};
 ghost use Rattle.ticket_core.specs.declared.TheConstants.{MAX_SEATS};
+ghost use Rattle.ticket_lock.specs.Standing.{seats_of};
 ghost use Rattle.worker_sched.specs.Worker.{IsFirstWorker, Hires, DrawsTicket, TakesTurn, is_busy, ClosesWorker};
 ghost use Rattle.worker_sched.specs.Worker.{StaysOpen};
 
@@ -145,7 +147,11 @@ impl Worker {
     }
 
     /// Draws the next ticket, if the worker has none. It takes no memory and waits for nobody.
-    pub fn draw(&mut self) -> bool
+    ///
+    /// # Safety
+    /// Whoever draws lets the worker go only when its turn has ended. No memory is in danger, but with a ticket that is
+    /// let go nobody enters any more.
+    pub unsafe fn draw(&mut self) -> bool
         ensures { DrawsTicket self.old self.new result }
     {
         if self.is_busy() {
@@ -199,9 +205,16 @@ impl Worker {
         self.place.config()
     }
 
+    // Whether all other seats are with a worker that has its own.
+    fn has_all_seats(&self) -> bool
+        ensures { result ≡ nat_le (seats_of self.now.place.lock) (length self.now.spare + 1) }
+    {
+        self.place.seats() <= self.spare.len() + 1
+    }
+
     /// Closes the workplace, where this is its last worker and has no ticket: draws one, enters, and takes the channel
-    /// out, in the memory that it has. It takes no memory and waits for nobody. That no other worker is left is
-    /// counted, and no clause tells of it.
+    /// out, in the memory that it has. It takes no memory and waits for nobody. That others are left is answered only
+    /// where seats are not with this worker; that no other is left at a close is counted, and no clause tells of it.
     pub fn close(&mut self) -> Result<Box<Channel>, CloseFault>
         ensures closed { IfOk result (λ b. ClosesWorker self.old self.new b.value) }
         ensures stays { IfErr result (StaysOpen self.old self.new) }
@@ -209,7 +222,7 @@ impl Worker {
         if self.is_busy() {
             return Err(CloseFault::HasTicket);
         }
-        if Arc::strong_count(&self.place) != 1 {
+        if !self.has_all_seats() && Arc::strong_count(&self.place) != 1 {
             return Err(CloseFault::Others);
         }
         let Some(seat) = self.seat.take() else {

@@ -16,13 +16,13 @@ use minislots::Checked;
 use sched_history::{Call, Reply, Unrecorded};
 use shared_sched::count_each;
 use std::marker::Model;
-use ticket_lock::{Held, Seat, Ticket, TicketLock};
+use ticket_lock::{Held, QuietLock, Seat, Ticket};
 
 /// A scheduler under a ticket lock, which publishes to nobody. Threads share it by a reference, or an `Arc`, each with
 /// a seat of its own. One that is not closed goes with its history.
 #[must_use]
 pub struct Workplace {
-    pub(crate) lock: TicketLock<Desk>,
+    pub(crate) lock: QuietLock<Desk>,
     // What clauses name: the desk has the same configuration.
     pub(crate) config: Checked,
     pub(crate) seats: usize,
@@ -51,14 +51,13 @@ impl Drop for Workplace {
             config: _,
             seats: _,
         } = self;
-        lock.discard();
+        lock.into_lock().discard();
     }
 }
 
 impl Workplace {
-    /// The lock round the desk, at which a seat draws. It enters by a turn, or by `try_enter`: one that slept at the
-    /// lock would not be woken.
-    pub fn lock(&self) -> &TicketLock<Desk>
+    /// The lock round the desk, at which a seat draws. It enters by a turn, or by `try_enter`.
+    pub fn lock(&self) -> &QuietLock<Desk>
         ensures lock { result.now ≡ self.now.lock }
         ensures desk { IsDeskLock self.now.config self.now.lock }
         ensures press { HasPress self.now.config no_press self.now.lock }
@@ -109,7 +108,7 @@ impl Workplace {
     {
         let mut desk = desk;
         let answer = desk.call(held.stamp(), call);
-        let seat = self.lock.leave_quietly(held, desk);
+        let seat = self.lock.leave(held, desk);
         (seat, answer)
     }
 
@@ -139,7 +138,9 @@ impl Workplace {
             config: _,
             seats: _,
         } = self;
-        let scheduler = Box::into_inner(lock.close(seats).into_channel()).into_scheduler();
+        let scheduler = Box::into_inner(
+            lock.into_lock().close(seats).into_channel(),
+        ).into_scheduler();
         let counts = count_each(scheduler.history());
         Closed { scheduler, counts }
     }

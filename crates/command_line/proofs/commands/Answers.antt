@@ -19,8 +19,8 @@ returns c =
     c.in_ok-decode_command.ensures in
     let draw = IsCommand-sub _ _ _ (codes "mapsched") (codes "draw") [] [] _ [] decode c.in_ok-subcommand-3.ensures
     c.draw_command.ensures in
-    let audit = IsCommand-sub _ _ _ (codes "mapsched") (codes "audit") [] [] _ [] draw c.in_ok-subcommand-4.ensures
-    c.audit_command.ensures in
+    let audit = IsCommand-sub _ _ _ (codes "mapsched") (codes "audit") [] _ _ [] draw c.in_ok-subcommand-4.ensures
+    c.in_ok-audit_command.ensures in
     let storm = IsCommand-sub _ _ _ (codes "mapsched") (codes "storm") [] [] _ [] audit c.in_ok-subcommand-5.ensures
     c.storm_command.ensures in
     IfOk-weaker _ _ _ (λ r adds. IsCommand-sub _ _ r (codes "mapsched") (codes "check") [] [] _ [] storm adds

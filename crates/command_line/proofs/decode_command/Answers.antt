@@ -11,5 +11,7 @@ returns c =
     c.in_ok-arg.ensures (search rules) (search rules) in
     let drawn = IsCommand-arg _ _ c.flag-draw.result (codes "decode") (codes "draw") _ [] word c.in_ok-arg-2.ensures
     (search rules) (search rules) in
-    IfOk-weaker _ _ _ (λ r adds. IsCommand-arg _ r _ (codes "decode") (codes "columns") _ [] drawn adds
-    (search rules) (search rules)) c.arg-3.ensures
+    let wide = IsCommand-arg _ _ _ (codes "decode") (codes "columns") _ [] drawn
+    c.in_ok-arg-3.ensures (search rules) (search rules) in
+    IfOk-weaker _ _ _ (λ r adds. IsCommand-arg _ r _ (codes "decode") (codes "explain") _ [] wide adds
+    (search rules) (search rules)) c.arg-4.ensures

@@ -1,128 +1,58 @@
 //! What a good file has.
 
-use super::form::{CALLS, FLOWS, REPLIES};
-use flow_book::FlowSpec;
+use super::form::Sort;
 use minislots::Config;
-use sched_history::{Call, Entry, Reply};
 use std::alloc::AllocError;
 use std::fmt::Write;
 
-/// How many calls, flows and replies there are of each kind, in the order of their names.
+/// How many objects of a sort there are of each name, in the order of the names.
 #[derive(Drop)]
 pub struct Counts {
-    calls: [u64; 7],
-    flows: [u64; 3],
-    replies: [u64; 8],
-}
-
-// One more of a kind.
-fn add(counts: &mut [u64], kind: usize) {
-    if let Some(found) = counts.get_mut(kind) {
-        *found = found.saturating_add(1);
-    }
-}
-
-// How many there are in all, and of each kind of which there is one.
-fn tell_counts(
-    words: &mut String,
-    what: &str,
-    names: &[&str],
-    counts: &[u64],
-) -> Result<(), AllocError> {
-    let mut all = 0u64;
-    for found in counts {
-        all = all.saturating_add(*found);
-    }
-    write!(words, "{what}: {all}")?;
-    let mut told = false;
-    'kinds: for (name, found) in names.iter().zip(counts) {
-        if *found != 0 {
-            let between = if told { ", " } else { " (" };
-            write!(words, "{between}{found} {name}")?;
-            told = true;
-        }
-    }
-    let end = if told { ")" } else { "" };
-    writeln!(words, "{end}")
-}
-
-// The place of a flow's kind among their names.
-fn flow_kind(flow: FlowSpec) -> usize {
-    match flow {
-        FlowSpec::Unsolicited { .. } => 0,
-        FlowSpec::Polled { .. } => 1,
-        FlowSpec::BestEffort { .. } => 2,
-    }
-}
-
-// The place of a call's name.
-fn call_kind(call: Call) -> usize {
-    match call {
-        Call::Admit(..) => 0,
-        Call::Remove(_) => 1,
-        Call::Ask { .. } => 2,
-        Call::Heard { .. } => 3,
-        Call::Build { .. } => 4,
-        Call::Skip { .. } => 5,
-        Call::Status(_) => 6,
-    }
-}
-
-// The place of a reply's kind.
-fn reply_kind(reply: &Reply) -> usize {
-    match reply {
-        Reply::Admitted(_) => 0,
-        Reply::Removed => 1,
-        Reply::Taken => 2,
-        Reply::Noted => 3,
-        Reply::Built(_) => 4,
-        Reply::Skipped(_) => 5,
-        Reply::Flow { .. } => 6,
-        Reply::Refused(_) => 7,
-    }
+    sort: Sort,
+    counts: [u64; 8],
 }
 
 impl Counts {
     /// None so far.
-    pub fn new() -> Counts {
+    pub fn new(sort: Sort) -> Counts {
         Counts {
-            calls: [0; 7],
-            flows: [0; 3],
-            replies: [0; 8],
+            sort,
+            counts: [0; 8],
         }
     }
 
-    fn add_call(&mut self, call: Call) {
-        add(&mut self.calls, call_kind(call));
-        if let Call::Admit(_, flow) = call {
-            add(&mut self.flows, flow_kind(flow));
+    /// One more of a name.
+    pub fn add(&mut self, name: &str) {
+        for (known, count) in self.sort.names().iter().zip(self.counts.iter_mut()) {
+            if *known == name {
+                *count = count.saturating_add(1);
+            }
         }
     }
 
-    /// These calls too.
-    pub fn add_calls(&mut self, calls: &[Call]) {
-        for call in calls {
-            self.add_call(*call);
+    /// How many there are in all.
+    pub fn all(&self) -> u64 {
+        let mut all = 0u64;
+        for count in &self.counts {
+            all = all.saturating_add(*count);
         }
+        all
     }
 
-    /// These entries too.
-    pub fn add_entries(&mut self, entries: &[Entry]) {
-        for entry in entries {
-            self.add_call(entry.call);
-            add(&mut self.replies, reply_kind(&entry.reply));
+    /// How many there are in all, and of each name of which there is one.
+    pub fn tell(&self, words: &mut String, what: &str) -> Result<(), AllocError> {
+        let all = self.all();
+        write!(words, "{what}: {all}")?;
+        let mut is_first = true;
+        for (name, count) in self.sort.names().iter().zip(&self.counts) {
+            if *count != 0 {
+                let between = if is_first { " (" } else { ", " };
+                write!(words, "{between}{count} {name}")?;
+                is_first = false;
+            }
         }
-    }
-
-    /// How many calls and flows there are.
-    pub fn tell_calls(&self, words: &mut String) -> Result<(), AllocError> {
-        tell_counts(words, "calls", &CALLS, &self.calls)?;
-        tell_counts(words, "flows", &FLOWS, &self.flows)
-    }
-
-    /// How many replies there are.
-    pub fn tell_replies(&self, words: &mut String) -> Result<(), AllocError> {
-        tell_counts(words, "replies", &REPLIES, &self.replies)
+        let end = if all == 0 { "" } else { ")" };
+        writeln!(words, "{end}")
     }
 }
 
@@ -140,4 +70,17 @@ pub fn tell_frame(words: &mut String, config: &Config) -> Result<(), AllocError>
         "minislots per frame: {minislots}, {whole}.{part:02} microseconds"
     )?;
     writeln!(words, "frames per second: {frames}.{rest:02}")
+}
+
+/// That so many calls are more than the configuration records.
+pub fn tell_unrecorded(words: &mut String, config: &Config, calls: u64) -> Result<(), AllocError> {
+    let recorded = config.calls;
+    let rest = calls.saturating_sub(u64::from(recorded));
+    if rest == 0 {
+        return Ok(());
+    }
+    writeln!(
+        words,
+        "config: \"calls\" is {recorded}: {rest} of the {calls} calls are not recorded"
+    )
 }

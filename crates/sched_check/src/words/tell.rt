@@ -1,32 +1,12 @@
-//! What is wrong with a member of an object, and with its keys.
+//! What is wrong with a value and with a name.
 
-use super::form::{Form, Member, Want};
-use super::nearest::nearest;
+use super::form::Want;
 use super::place::Place;
+use super::written::{begins, parts, shown, text_of, whole};
 use hex::FromHexError;
 use map_codec::{DecodeFault, decode};
-use serde_json::Value;
 use std::alloc::{AllocError, Global};
 use std::fmt::Write;
-
-/// The longest value that is shown as it is written, in bytes.
-const LONGEST: usize = 40;
-
-/// A value as it is written, or what it is where that is long.
-pub fn shown(alloc: Global, value: &Value) -> Result<String, AllocError> {
-    let word = match value {
-        Value::Object(_) => "an object",
-        Value::Array(_) => "an array",
-        _ => {
-            let text = value.to_string(alloc)?;
-            if text.len() <= LONGEST {
-                return Ok(text);
-            }
-            "a long text"
-        }
-    };
-    word.to_string(alloc)
-}
 
 // Whether a text is the payload of a MAP in hexadecimal.
 fn is_payload(alloc: Global, text: &str) -> Result<bool, AllocError> {
@@ -43,46 +23,59 @@ fn is_payload(alloc: Global, text: &str) -> Result<bool, AllocError> {
 }
 
 // Whether a value is a whole number that is not above this.
-fn is_at_most(value: &Value, most: u64) -> bool {
-    match value.as_u64() {
+fn is_at_most(written: &[u8], most: u64) -> bool {
+    match whole(written) {
         Some(number) => number <= most,
         None => false,
     }
 }
 
-// Whether each of these is such a number.
-fn are_at_most(values: &[Value], most: u64) -> bool {
-    for value in values {
-        if !is_at_most(value, most) {
-            return false;
+// Whether a value is an array of such numbers.
+fn are_at_most(alloc: Global, written: &[u8], most: u64) -> Result<bool, AllocError> {
+    if !begins(written, b'[') {
+        return Ok(false);
+    }
+    let numbers = parts(alloc, written)?;
+    for number in &numbers {
+        if !is_at_most(number.value, most) {
+            return Ok(false);
         }
     }
-    true
+    Ok(true)
 }
 
-// Whether a value is what it must be.
-fn is_met(alloc: Global, want: Want, value: &Value) -> Result<bool, AllocError> {
+/// Whether a value is what it must be.
+pub fn is_met(alloc: Global, want: Want, written: &[u8]) -> Result<bool, AllocError> {
     Ok(match want {
-        Want::Whole(most) => is_at_most(value, most),
-        Want::Wholes(most) => match value.as_array() {
-            Some(values) => are_at_most(values, most),
+        Want::Whole(most) | Want::Lawful(most, _, _) => is_at_most(written, most),
+        Want::Wholes(most) => are_at_most(alloc, written, most)?,
+        Want::Payload => match text_of(alloc, written)? {
+            Some(text) => is_payload(alloc, &text)?,
             None => false,
         },
-        Want::Payload => match value.as_str() {
-            Some(text) => is_payload(alloc, text)?,
-            None => false,
-        },
-        Want::Text => value.is_string(),
-        Want::Object => value.is_object(),
-        Want::Array => value.is_array(),
+        Want::Text => begins(written, b'"'),
+        Want::Object => begins(written, b'{'),
+        Want::Array => begins(written, b'['),
     })
 }
 
-// What a member that is not what it must be is not.
-fn tell_want(words: &mut String, want: Want, value: &Value) -> Result<(), AllocError> {
+/// That a value is not what it must be.
+pub fn tell_want(
+    words: &mut String,
+    place: Place,
+    key: &str,
+    want: Want,
+    written: &[u8],
+) -> Result<(), AllocError> {
+    let found = shown(written);
+    write!(words, "{place}: \"{key}\" is {found}")?;
     match want {
-        Want::Whole(most) if value.as_u64().is_some() => writeln!(words, ", at most {most}"),
-        Want::Whole(most) => writeln!(words, ", and not a whole number from 0 to {most}"),
+        Want::Whole(most) | Want::Lawful(most, _, _) if whole(written).is_some() => {
+            writeln!(words, ", at most {most}")
+        }
+        Want::Whole(most) | Want::Lawful(most, _, _) => {
+            writeln!(words, ", and not a whole number from 0 to {most}")
+        }
         Want::Wholes(most) => {
             writeln!(
                 words,
@@ -96,68 +89,18 @@ fn tell_want(words: &mut String, want: Want, value: &Value) -> Result<(), AllocE
     }
 }
 
-// What is wrong with a member that is there.
-fn tell_value(
-    alloc: Global,
+/// That a name is none of the known ones: which of them is near, or else all of them.
+pub fn tell_names(
     words: &mut String,
-    place: Place,
-    member: Member,
-    value: &Value,
-) -> Result<(), AllocError> {
-    let (key, want) = member;
-    if is_met(alloc, want, value)? {
-        return Ok(());
-    }
-    let found = shown(alloc, value)?;
-    write!(words, "{place}: \"{key}\" is {found}")?;
-    tell_want(words, want, value)
-}
-
-/// What is wrong with the members of an object, a line for each.
-pub fn tell_members(
-    alloc: Global,
-    words: &mut String,
-    place: Place,
-    form: Form,
-    value: &Value,
-) -> Result<(), AllocError> {
-    for member in form.wanted {
-        match value.get(member.0) {
-            Some(found) => tell_value(alloc, words, place, *member, found)?,
-            None => {
-                let key = member.0;
-                writeln!(words, "{place}: \"{key}\" is missing")?;
-            }
-        }
-    }
-    'allowed: for member in form.allowed {
-        if let Some(found) = value.get(member.0) {
-            tell_value(alloc, words, place, *member, found)?;
-        }
-    }
-    Ok(())
-}
-
-/// That a name is none of the known ones.
-pub fn tell_name(
-    alloc: Global,
-    words: &mut String,
-    place: Place,
-    key: &str,
-    name: &str,
+    near: Option<&'static str>,
     known: &[&'static str],
 ) -> Result<(), AllocError> {
-    match nearest(alloc, name, known)? {
-        Some(near) => writeln!(
-            words,
-            "{place}: \"{key}\" is {name:?}; did you mean \"{near}\"?"
-        ),
-        None => {
-            write!(words, "{place}: \"{key}\" is not one of")?;
-            for name in known {
-                write!(words, " {name}")?;
-            }
-            writeln!(words, "")
-        }
+    if let Some(near) = near {
+        return writeln!(words, "; did you mean \"{near}\"?");
     }
+    write!(words, ", and not one of")?;
+    for name in known {
+        write!(words, " {name}")?;
+    }
+    writeln!(words, "")
 }

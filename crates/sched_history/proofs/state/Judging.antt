@@ -28,10 +28,15 @@ each-at P before (y ∷ xs) zero x each stands = rw append-nil (subst (P before)
 each-at P before (y ∷ xs) (suc i) x each stands =
     rw append_assoc at (each-at P (before ++ y ∷ []) xs i x each.1 stands)
 
+-- each reply of a legal history may follow the entries before it
+pub IsStep-legal : (c : Config) (h : List Entry) (i : ℕ) (e : Entry) → IsLegal c h → slice_get h i ≡ Some e
+    → IsStep c (take i h) e.call e.reply
+IsStep-legal c h i e legal stands = each-at (λ before e. IsStep c before e.call e.reply) [] h i e legal stands
+
 -- a legal history has no entry that may not follow those before it
 pub IsFirstIllegal-not : (c : Config) (h : List Entry) (i : ℕ) → IsLegal c h → IsFirstIllegal c h i → ⊥
 IsFirstIllegal-not c h i legal first =
-    first.no_step (each-at (λ before e. IsStep c before e.call e.reply) [] h i first.entry legal first.stands)
+    first.no_step (IsStep-legal c h i first.entry legal first.stands)
 
 -- what is kept after a step is that of the history with this entry more
 IsKeptOf-push : (s t : State) (h : List Entry) (e : Entry) → IsKeptOf s h → t.config ≡ s.config

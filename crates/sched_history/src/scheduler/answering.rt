@@ -16,14 +16,14 @@ use std::alloc::{AllocError, Global};
 
 // An answer, and the same again for the history.
 #[derive(Drop)]
-pub(super) struct Answer {
-    pub(super) reply: Reply,
+pub(crate) struct Answer {
+    pub(crate) reply: Reply,
     pub(super) kept: Reply,
 }
 
 impl State {
     // Answers a call that no test refuses. Where memory runs out nothing changes.
-    pub(super) fn answer(&mut self, alloc: Global, call: Call) -> Result<Answer, AllocError>
+    pub(crate) fn answer(&mut self, alloc: Global, call: Call) -> Result<Answer, AllocError>
         requires { IsOpen self.old call }
         ensures answered { IfOk result (AnswersOpen self.old self.new call) }
         ensures err { OnErr result (self.new ≡ self.old) }

@@ -1,5 +1,5 @@
 -- Bars, one after the other.
-use Rattle.std.proofs.Common.{◌≡◌, map, flat_map}
+use Rattle.std.proofs.Common.{◌≡◌, false, get_or, map, flat_map}
 use Rattle.std.specs.List.{range_with_len}
 use Rattle.std.specs.Io.KnownBytes.{Appends, append_known}
 use Rattle.frame_picture.specs.Bar.{bar_at}
@@ -11,5 +11,6 @@ abbrev pub invariant-loop-i : goal.invariant-loop-i
 invariant-loop-i g l =
     Appends (append_known (g.W.Sink.contents l.initial.writer) l.initial.lines)
     (append_known (g.W.Sink.contents l.writer) l.lines)
-    (flat_map bar_text (map (bar_at l.units l.elements l.bytes) (range_with_len 0 l.i)))
+    (flat_map bar_text
+    (map (bar_at l.units (λ sid. get_or l.flows sid false) l.elements l.bytes) (range_with_len 0 l.i)))
     × (g.W.Sink.has_failed l.writer ≡ g.W.Sink.has_failed l.initial.writer)

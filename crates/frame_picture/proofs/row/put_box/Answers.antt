@@ -1,4 +1,4 @@
--- The look, the place and the width.
+-- The look, the shade, the place and the width.
 use Rattle.std.proofs.KnownBytes.{Appends-trans}
 use Rattle.text_stream.proofs.Written.{where_ok}
 use Rattle.frame_picture.specs.Bars.{box_text}
@@ -13,5 +13,6 @@ returns-clause-ok g c =
     where_ok c.put-3.result (λ last.
     Appends-trans _ _ _ _ _ c.in_ok-put.ensures.ok
     (Appends-trans _ _ _ _ _ look
+    (Appends-trans _ _ _ _ _ c.in_ok-put_shade.ensures.ok
     (Appends-trans _ _ _ _ _ x
-    (Appends-trans _ _ _ _ _ width last)))) c.put-3.ensures.ok
+    (Appends-trans _ _ _ _ _ width last))))) c.put-3.ensures.ok

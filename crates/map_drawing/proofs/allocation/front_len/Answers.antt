@@ -1,5 +1,4 @@
 -- The place of the Null, or the end.
-use Rattle.std.proofs.Common.{arith, ap, ◌∙◌}
 use Rattle.map_drawing.proofs.Fronts.{front_length-<}
 use Rattle.map_drawing.proofs.allocation.front_len.Goals as goal
 

@@ -1,7 +1,8 @@
 -- The parts of a line, one after the other.
 use Rattle.std.proofs.Common.{◌++◌, codes}
 use Rattle.map_drawing.specs.Text.{spaces, column}
-use Rattle.map_drawing.specs.Legend.{usage_end, behind_line}
+use Rattle.map_drawing.specs.Usage.{usage_of}
+use Rattle.map_drawing.specs.Legend.{usage_end, state_of, behind_line}
 use Rattle.map_drawing.proofs.Ranges.{grown, where_ok}
 use Rattle.map_drawing.proofs.legend.push_behind.Goals as goal
 
@@ -15,11 +16,12 @@ returns c =
     let told = c.extend_from_slice-2.new.self.items in
     let ended = c.push_usage.new.text.items in
     let usage = usage_end element.sid element.iuc in
-    let words = codes "behind the frame: " in
+    let words = state_of (usage_of element.sid element.iuc) in
+    let state = rw (c.state_of.ensures, c.of.ensures) at c.in_ok-extend_from_slice-2.ensures.items in
     let numbers = rw c.from.ensures at c.in_ok-push_column.ensures in
     where_ok c.push_usage.result (λ last.
     grown c.args.text.now.items margin ended (codes "  ")
     (column 5 element.sid ++ (spaces 13 ++ (words ++ usage))) c.in_ok-extend_from_slice.ensures.items
     (grown margin numbered ended (column 5 element.sid) (spaces 13 ++ (words ++ usage)) numbers
     (grown numbered apart ended (spaces 13) (words ++ usage) c.in_ok-push_spaces.ensures
-    (grown apart told ended words usage c.in_ok-extend_from_slice-2.ensures.items last)))) c.push_usage.ensures
+    (grown apart told ended words usage state last)))) c.push_usage.ensures

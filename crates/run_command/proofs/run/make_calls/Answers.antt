@@ -1,7 +1,7 @@
 -- Each call leads the run one step on.
 use Rattle.std.proofs.Common.{◌++◌, ◌∷◌, []}
 use Rattle.sched_lines.proofs.Made.{MakesCalls-push}
-use Rattle.sched_lines.proofs.call.make_calls.Goals as goal
+use Rattle.run_command.proofs.run.make_calls.Goals as goal
 
 pub loop-place-preserved : goal.loop-place-preserved
 loop-place-preserved c =

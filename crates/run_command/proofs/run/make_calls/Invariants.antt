@@ -2,7 +2,7 @@
 use Rattle.std.proofs.Common.{List, take}
 use Rattle.sched_lines.specs.Line.{Answer}
 use Rattle.sched_lines.specs.Answer.{MakesCalls}
-use Rattle.sched_lines.proofs.call.make_calls.Given as goal
+use Rattle.run_command.proofs.run.make_calls.Given as goal
 
 abbrev pub invariant-loop-place : goal.invariant-loop-place
 invariant-loop-place l =

@@ -1,5 +1,5 @@
 -- The table is opened under its rule.
-use Rattle.std.proofs.Common.{rules, ◌++◌, ◌∷◌, [], Some, ap, ◌∙◌, arith}
+use Rattle.std.proofs.Common.{rules, ◌++◌, ◌∷◌, [], Some, ap, ◌∙◌}
 use Rattle.ticket_lock.proofs.Opened.{opens_with}
 use Rattle.ticket_lock.proofs.opening.lay.Goals as goal
 

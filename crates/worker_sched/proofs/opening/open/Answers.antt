@@ -1,6 +1,9 @@
 -- The lock is one of a desk of this configuration, which has recorded nothing.
-use Rattle.std.proofs.Common.{ap, ◌∙◌, arith}
-use Rattle.worker_sched.specs.Desk.{desk_of}
+use Rattle.std.proofs.Common.{◌≡◌, sym, ap, ◌∙◌, subst, arith}
+use Rattle.sched_history.specs.declared.reply.Entry.{Entry}
+use Rattle.ticket_lock.specs.Standing.{Lock, seats_of}
+use Rattle.shared_sched.specs.Desk.{FixedDesk, IsDeskLock, HasPress}
+use Rattle.worker_sched.specs.Desk.{no_press, desk_of}
 use Rattle.worker_sched.proofs.Opened.{is_desk_lock}
 use Rattle.worker_sched.proofs.opening.open.Goals as goal
 
@@ -8,6 +11,8 @@ pub invariant_of-workplace : goal.invariant_of-workplace
 invariant_of-workplace c =
     let zero = c.if-seats-eq0.false in
     let many = c.if-seats-gt-MAX_SEATS.false in
-    is_desk_lock c.args.checked c.in-Ok-new.desk c.args.seats c.in-Ok-open.lock c.in-Ok-open.row.items
+    subst (λ (l : Lock FixedDesk Entry). IsDeskLock c.args.checked l × HasPress c.args.checked no_press l
+    × (c.args.seats ≡ seats_of l)) (sym c.of.ensures)
+    (is_desk_lock c.args.checked c.in-Ok-new.desk c.args.seats c.in-Ok-open.lock c.in-Ok-open.row.items
     (c.in-Ok-new.ensures.made ∙ ap desk_of c.in-Ok.ensures) (omega (arith, zero)) (omega (arith, many))
-    c.in-Ok-open.ensures.opened
+    c.in-Ok-open.ensures.opened)

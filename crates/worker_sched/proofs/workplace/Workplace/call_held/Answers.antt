@@ -18,8 +18,8 @@ returns c =
     let entered : c.args.desk ≡ record { config = config; press = desk.press; history = seen c.args.held } =
     λ i. record { config = (same i).config; press = (same i).press; history = c.requires.entered.entries_are i } in
     record {
-      answered = answers config c.args.held c.args.call c.call-answer.new.self c.leave_quietly-seat.result desk
-          c.leave_quietly-seat.ensures.left c.call-answer.result
+      answered = answers config c.args.held c.args.call c.call-answer.new.self c.leave-seat.result desk
+          c.leave-seat.ensures.left c.call-answer.result
           (subst (λ (y : DeskState × Stamp).
           HasCalled y.0 y.1 c.args.call c.call-answer.new.self c.call-answer.result)
           (λ i. (entered i, c.stamp.ensures.stamp i)) c.call-answer.ensures.called);

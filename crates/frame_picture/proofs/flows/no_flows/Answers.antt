@@ -1,0 +1,7 @@
+-- No flow lives under any SID.
+use Rattle.std.proofs.Common.{false}
+use Rattle.std.proofs.lemmas.List.{get_or-replicate}
+use Rattle.frame_picture.proofs.flows.no_flows.Goals as goal
+
+pub returns : goal.returns
+returns c = λ sid below. get_or-replicate 65536 sid false false below
