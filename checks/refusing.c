@@ -3,7 +3,7 @@
 // later one. NARROW=N has each read and write move at most N bytes, where N is not 0. FAILED_READ=N and FAILED_WRITE=N
 // let the N-th read of standard input or write to standard output fail, with the error of the number ERROR where there
 // is one; ENDED_READ=N lets the input end there, and FULL_WRITE=N has the N-th write take nothing. Each such failure is
-// marked by a byte in file 3: of memory, a read or a write.
+// marked by a byte in file 3: of memory, a read or a write; where the memory is for a thread, by one more in front.
 typedef unsigned long size_t;
 
 extern void *__libc_malloc(size_t size);
@@ -12,11 +12,18 @@ extern void *__libc_realloc(void *block, size_t size);
 extern char *getenv(const char *name);
 extern long syscall(long number, ...);
 extern int *__errno_location(void);
+extern void *dlsym(void *handle, const char *name);
 
 enum { READ = 0, WRITE = 1, INPUT = 0, OUTPUT = 1, MARKS = 3, IO_ERROR = 5, NO_MEMORY = 12 };
 
 // What was counted so far.
 static long requests, reads, writes;
+
+// The place in the program that made the first request, which is where its allocator asks for memory.
+static void *allocator;
+
+// Whether this thread is starting another one.
+static _Thread_local int is_starting __attribute__((tls_model("initial-exec")));
 
 // The number that the environment has under a name, or 0.
 static long number_of(const char *name) {
@@ -35,16 +42,33 @@ static long fail(int error, const char *mark) {
 
 static long one_more(long *count) { return __atomic_add_fetch(count, 1, __ATOMIC_SEQ_CST); }
 
-static int is_refused(void) {
+// Whether this request is refused, which may be one for a thread.
+static int is_refused(int is_for_thread) {
   long place = one_more(&requests), from = number_of("REFUSED_FROM");
-  return (place == number_of("REFUSED") || (from && place >= from)) && fail(NO_MEMORY, "m");
+  if (place != number_of("REFUSED") && !(from && place >= from)) return 0;
+  if (is_for_thread) syscall(WRITE, MARKS, "t", 1);
+  return fail(NO_MEMORY, "m");
 }
 
-void *malloc(size_t size) { return is_refused() ? 0 : __libc_malloc(size); }
+// What does not come from the allocator is the block that a thread is given.
+void *malloc(size_t size) {
+  void *place = __builtin_return_address(0);
+  if (!allocator) allocator = place;
+  return is_refused(is_starting || place != allocator) ? 0 : __libc_malloc(size);
+}
 
-void *calloc(size_t count, size_t size) { return is_refused() ? 0 : __libc_calloc(count, size); }
+void *calloc(size_t count, size_t size) { return is_refused(is_starting) ? 0 : __libc_calloc(count, size); }
 
-void *realloc(void *block, size_t size) { return is_refused() ? 0 : __libc_realloc(block, size); }
+void *realloc(void *block, size_t size) { return is_refused(is_starting) ? 0 : __libc_realloc(block, size); }
+
+// What the C library asks for while it starts a thread is for that thread.
+int pthread_create(void *thread, const void *attributes, void *(*work)(void *), void *given) {
+  int (*create)(void *, const void *, void *(*)(void *), void *) = dlsym((void *)-1, "pthread_create");
+  is_starting = 1;
+  int error = create(thread, attributes, work, given);
+  is_starting = 0;
+  return error;
+}
 
 static size_t narrowed(size_t size) {
   size_t most = number_of("NARROW");

@@ -1,6 +1,6 @@
 -- The first lawful starts at the least phase and offset are the placement that is taken.
-use Rattle.std.proofs.Common.{◌≡◌, refl, sym, ap, ◌∙◌, subst, ℕ, ◌+◌, ◌*◌, ◌/◌, ◌%◌, ◌<◌, List, inl, inr, arith}
-use Rattle.std.proofs.lemmas.Bool.{cases_lt, eq-eqb}
+use Rattle.std.proofs.Common.{◌≡◌, refl, sym, ap, ◌∙◌, subst, ℕ, ◌+◌, ◌*◌, ◌/◌, ◌%◌, ◌<◌, List, [], inl, inr, arith}
+use Rattle.std.proofs.lemmas.Bool.{cases_eq, eq-eqb, ne_eqb}
 use Rattle.minislots.specs.declared.config.Config.{Config}
 use Rattle.minislots.specs.Config.{IsLawful}
 use Rattle.minislots.proofs.Bounds.{bounds_of}
@@ -11,12 +11,13 @@ use Rattle.periodic.specs.declared.placement.Placement.{Placement}
 use Rattle.periodic.specs.declared.search.Wanted.{Wanted}
 use Rattle.periodic.specs.declared.search.Found.{Found}
 use Rattle.periodic.specs.Placement.{Placed, phase_of, offset_of, group_at, starts_in, spots_in, IsLawfulStart}
-use Rattle.periodic.specs.Placement.{FollowFrom, AreLawfulStarts, HasLawfulStarts, NoPlacement}
-use Rattle.periodic.specs.Choice.{AreNoLater, IsChosen}
+use Rattle.periodic.specs.Placement.{FollowFrom, AreLawfulStarts, HasLawfulStarts, IsPlacement, NoPlacement}
+use Rattle.periodic.specs.Choice.{StartsEarlier, AreEarlier, IsChosen}
 use Rattle.periodic.specs.Table.{AreSound}
 use Rattle.periodic.specs.Rows.{row_at, AreRowsOf}
 use Rattle.periodic.specs.Search.{CanBeSought, IsWantedOf, IsStartOf, AreStartsIn, AreStarts, NoneBelow, IsFirstFound}
-use Rattle.periodic.specs.Search.{IsReference, starts_of}
+use Rattle.periodic.specs.Search.{AreNoLater, IsReference, starts_of}
+use Rattle.periodic.proofs.Earlier.{none-before-none, none-before}
 use Rattle.periodic.proofs.Frames.{spots-within}
 use Rattle.periodic.proofs.Groups.{frame-phase, frame-index, frame-within, frame-of, index-within}
 use Rattle.periodic.proofs.Joined.{all-weaker}
@@ -27,6 +28,12 @@ pub starts-at : (c : Config) (spec : FlowSpec) (p : Placement) (place : ℕ)
     → place % interval_frames c spec ≡ phase_of c spec p
     → starts_in c spec p place ≡ group_at (grants_of spec) (place / interval_frames c spec) p.starts
 starts-at c spec p place nominal = rw (eq-eqb (place % interval_frames c spec) (phase_of c spec p) nominal) refl
+
+-- at another frame there are none
+pub no-starts : (c : Config) (spec : FlowSpec) (p : Placement) (place : ℕ)
+    → (place % interval_frames c spec ≡ phase_of c spec p → ⊥) → starts_in c spec p place ≡ []
+no-starts c spec p place differ =
+    rw (ne_eqb (place % interval_frames c spec) (phase_of c spec p) differ) refl
 
 module _ (c : Config) (table : List Placed) (rows : List Bits) (spec : FlowSpec) (w : Wanted) (lawful : IsLawful c)
     (sound : AreSound c table) (are : AreRowsOf c table rows) (sought : CanBeSought c w)
@@ -153,6 +160,41 @@ module _ (c : Config) (table : List Placed) (rows : List Bits) (spec : FlowSpec)
       refl refl
       (phase-within p) is.starts)
 
+  module _ (f : Found) (p other : Placement) (found : IsFirstFound c rows w f) (same : p.starts ≡ starts_of f.row)
+      (phase : phase_of c spec p ≡ f.phase) (offset : offset_of c p ≡ f.offset)
+      (even : phase_of c spec other ≡ phase_of c spec p) (level : offset_of c other ≡ offset_of c p)
+      (may : IsPlacement c table spec next other) where
+    -- what is found first has no later starts in a nominal frame than another placement of its phase and offset
+    no-later : (place : ℕ) → place < c.cycle → place % interval_frames c spec ≡ phase_of c spec p
+        → AreNoLater (starts_in c spec p place) (starts_in c spec other place)
+    no-later place within nominal =
+        let index = place / w.interval in
+        let low = index-within w.interval f.phase found.phase_within c.cycle place sought.divides within in
+        let turn : place / interval_frames c spec ≡ index = ap (λ n. place / n) (sym wanted.interval) in
+        let mine : starts_in c spec p place ≡ group_at w.grants index (starts_of f.row) =
+        starts-at c spec p place nominal ∙ ap (λ n. group_at (grants_of spec) n p.starts) turn
+        ∙ ap (λ n. group_at n index p.starts) (sym wanted.grants) ∙ ap (group_at w.grants index) same in
+        let theirs : starts_in c spec other place ≡ group_at w.grants index other.starts =
+        starts-at c spec other place (nominal ∙ sym even)
+        ∙ ap (λ n. group_at (grants_of spec) n other.starts) turn
+        ∙ ap (λ n. group_at n index other.starts) (sym wanted.grants) in
+        let least = found.at_phase.starts.least other.starts
+        (starts-of-lawful c table rows spec w lawful sound are sought wanted other f.phase f.offset
+        (even ∙ phase) (level ∙ offset) found.phase_within may.starts) index low in
+        subst (λ ss. AreNoLater ss (starts_in c spec other place)) (sym mine)
+        (subst (AreNoLater (group_at w.grants index (starts_of f.row))) (sym theirs) least)
+
+    -- so none has earlier ones in any frame
+    no-earlier : StartsEarlier c spec other p → ⊥
+    no-earlier before =
+        let place = before.0 in
+        elim (cases_eq (place % interval_frames c spec) (phase_of c spec p)) [
+          | inl nominal ↦ none-before (starts_in c spec p place) (starts_in c spec other place)
+              (no-later place before.1 nominal) before.2
+          | inr differ ↦ none-before-none (starts_in c spec other place)
+              (subst (AreEarlier (starts_in c spec other place)) (no-starts c spec p place differ) before.2)
+        ]
+
   -- what is found first is chosen
   pub found-chosen : (f : Found) (reference : ℕ) → 0 < c.frame → IsFirstFound c rows w f
       → IsReference c w.interval next f.phase f.offset reference
@@ -171,33 +213,16 @@ module _ (c : Config) (table : List Placed) (rows : List Bits) (spec : FlowSpec)
           starts = lawful-of-starts c table rows spec w lawful sound are sought wanted p f.phase f.offset phase offset
               found.phase_within found.at_phase.starts.lawful;
         };
-        least_phase = λ other may. elim (cases_lt (phase_of c spec other) f.phase) [
-          | inl lower ↦ absurd (found.before (phase_of c spec other) lower (offset_of c other) may.after_requests
+        first = λ other may before. elim before [
+          | inl lower ↦ found.before (phase_of c spec other) (omega arith) (offset_of c other) may.after_requests
               (omega arith) other.starts
               (starts-of-lawful c table rows spec w lawful sound are sought wanted other (phase_of c spec other)
-              (offset_of c other) refl refl (phase-within other) may.starts))
-          | inr higher ↦ omega arith
+              (offset_of c other) refl refl (phase-within other) may.starts)
+          | inr later ↦ elim later.1 [
+            | inl lower ↦ found.at_phase.before (offset_of c other) may.after_requests (omega arith) other.starts
+                (starts-of-lawful c table rows spec w lawful sound are sought wanted other f.phase (offset_of c other)
+                (later.0 ∙ phase) refl found.phase_within may.starts)
+            | inr even ↦ no-earlier f p other found refl phase offset later.0 even.0 may even.1
+          ]
         ];
-        least_offset = λ other may same. elim (cases_lt (offset_of c other) f.offset) [
-          | inl lower ↦ absurd (found.at_phase.before (offset_of c other) may.after_requests lower other.starts
-              (starts-of-lawful c table rows spec w lawful sound are sought wanted other f.phase (offset_of c other)
-              (same ∙ phase) refl found.phase_within may.starts))
-          | inr higher ↦ omega arith
-        ];
-        least_starts = λ other may same even place within nominal.
-            let index = place / w.interval in
-            let low = index-within w.interval f.phase found.phase_within c.cycle place sought.divides within in
-            let turn : place / interval_frames c spec ≡ index = ap (λ n. place / n) (sym wanted.interval) in
-            let mine : starts_in c spec p place ≡ group_at w.grants index p.starts =
-            starts-at c spec p place nominal ∙ ap (λ n. group_at (grants_of spec) n p.starts) turn
-            ∙ ap (λ n. group_at n index p.starts) (sym wanted.grants) in
-            let theirs : starts_in c spec other place ≡ group_at w.grants index other.starts =
-            starts-at c spec other place (nominal ∙ sym same)
-            ∙ ap (λ n. group_at (grants_of spec) n other.starts) turn
-            ∙ ap (λ n. group_at n index other.starts) (sym wanted.grants) in
-            let least = found.at_phase.starts.least other.starts
-            (starts-of-lawful c table rows spec w lawful sound are sought wanted other f.phase f.offset
-            (same ∙ phase) (even ∙ offset) found.phase_within may.starts) index low in
-            subst (λ ss. AreNoLater ss (starts_in c spec other place)) (sym mine)
-            (subst (AreNoLater (group_at w.grants index p.starts)) (sym theirs) least);
       }

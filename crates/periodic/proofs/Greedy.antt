@@ -7,7 +7,7 @@ use Rattle.minislots.specs.declared.config.Config.{Config}
 use Rattle.periodic.specs.declared.search.Wanted.{Wanted}
 use Rattle.periodic.specs.Bits.{IsClear}
 use Rattle.periodic.specs.Placement.{FollowFrom}
-use Rattle.periodic.specs.Choice.{AreNoLater}
+use Rattle.periodic.specs.Search.{AreNoLater}
 use Rattle.periodic.specs.Search.{IsFreeStart, IsNextStart, IsStartOf, AreNextStarts, AreStartsIn, AreFirstIn}
 
 -- so many minislots from there on are free in a frame of this length

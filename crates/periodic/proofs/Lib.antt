@@ -1,5 +1,6 @@
 pub mod RowsPlacement
 pub mod RowsGrants
+pub mod RowsChosen
 pub mod RowsNoPlace
 pub mod Profile
 pub mod Parameters
@@ -10,7 +11,9 @@ pub mod Reference
 pub mod Greedy
 pub mod Groups
 pub mod Joined
+pub mod Earlier
 pub mod Choosing
+pub mod OneChoice
 pub mod Adopting
 pub mod Adding
 pub mod Removing

@@ -42,7 +42,7 @@ each-of-four P first second third fourth place within nominal = elim (cases_lt p
 ]
 
 -- the one start of a flow with one grant per interval
-one-start : (c : Config) (spec : FlowSpec) (offset : ℕ) (spots : List Spot) (start : ℕ) → grants_of spec ≡ 1
+pub one-start : (c : Config) (spec : FlowSpec) (offset : ℕ) (spots : List Spot) (start : ℕ) → grants_of spec ≡ 1
     → IsLawfulStart c (jitter_slots c spec) (periodic_slots c spec) offset spots start
     → AreLawfulStarts c spec offset spots (start ∷ [])
 one-start c spec offset spots start one is =

@@ -13,7 +13,6 @@ use Rattle.periodic.specs.declared.search.Chosen.{Chosen}
 use Rattle.periodic.specs.Bits.{IsClear}
 use Rattle.periodic.specs.Rows.{row_at}
 use Rattle.periodic.specs.Placement.{group_at, FollowFrom}
-use Rattle.periodic.specs.Choice.{AreNoLater}
 use Rattle.periodic.specs.Fields.{placement_at}
 
 -- What is looked for has an interval that divides the cycle, some grants, is not empty and fits behind the request
@@ -61,6 +60,12 @@ abbrev pub AreNextStarts : List ℕ → ℕ → ℕ → ℕ → List ℕ → Typ
 AreNextStarts words frame slots from [] = Unit {0}
 AreNextStarts words frame slots from (start ∷ starts) =
     IsNextStart words frame slots from start × AreNextStarts words frame slots (start + slots) starts
+
+-- each start is at or before the other's in its turn
+abbrev pub AreNoLater : List ℕ → List ℕ → Type 0
+AreNoLater [] others = Unit {0}
+AreNoLater (start ∷ starts) [] = ⊥
+AreNoLater (start ∷ starts) (other ∷ others) = (start ≤ other) × AreNoLater starts others
 
 -- The first of all such starts in a frame
 pub record AreFirstIn (c : Config) (w : Wanted) (offset : ℕ) (words starts : List ℕ) : Type 0 where

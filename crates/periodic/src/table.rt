@@ -97,8 +97,9 @@ impl Table {
     }
 
     /// Places a periodic flow, from `next` on: a lawful placement beside those that stand, and its
-    /// first nominal time at or after `next`. The flow has a new SID from 1 to 8191 and parameters
-    /// without fault, its grants per interval and those of the flows that are placed are at most
+    /// first nominal time at or after `next`. Of all lawful ones it takes that of the least phase, then of the least
+    /// offset, then in each frame the least first start, then the least next one. The flow has a new SID from 1 to 8191
+    /// and parameters without fault, its grants per interval and those of the flows that are placed are at most
     /// [`MAX_PERIODIC_GRANTS`], and `next` is the start of a frame, at most 2^61. After a fault nothing has changed.
     pub fn place(&mut self, sid: u16, spec: &FlowSpec, next: u64) -> Result<Placement, PlaceFault>
         requires sid_positive { 0 < sid }
@@ -110,8 +111,9 @@ impl Table {
         requires aligned { next % self.old.config.frame ≡ 0 }
         requires most { next ≤ 2 ^ 61 }
 
-        // The placement is lawful, and stands in the table beside the others.
+        // The placement is lawful, no lawful one comes before it, and it stands in the table beside the others.
         ensures lawful { IfOk result (IsPlacement self.old.config self.old.placed spec.now next) }
+        ensures chosen { IfOk result (IsChosen self.old.config self.old.placed spec.now next) }
         ensures placed { IfOk result (λ p. self.new.placed ≡ with_placed (placed_at sid spec.now p) self.old.placed) }
         ensures config { self.new.config ≡ self.old.config }
 

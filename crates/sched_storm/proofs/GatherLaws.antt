@@ -130,24 +130,24 @@ module _ {J : Type 0} (Gives : J → Worked → Type 0) where
         so.jobs_are ∙ ap (λ l. so.joined ++ reverse l) (none_left jobs none) ∙ append-nil so.joined in
         subst (λ js. AllZip Gives js so.done) (sym all) so.gave
 
-module _ {G : Type 0} (passes holds : G → ℕ → ℕ → Type 0) (c : Config) (gate : G) where
+module _ (R : Type 0) {G : Type 0} (passes holds : G → ℕ → ℕ → Type 0) (lacks : Type 0) (c : Config) (gate : G) where
   -- what a worker with this seat and this script makes
   abbrev Work : Standing FixedDesk Entry → List Call → Worked → Type 0
-  Work s script w = HasWorked (passes gate) (holds gate) c s script w.seat w.unrecorded w.ended
+  Work s script w = HasWorked (passes gate) (holds gate) lacks c s script w.seat w.unrecorded w.ended
 
   -- what a job gives back is what its worker made
-  gives_kept : (s : Standing FixedDesk Entry) (script : List Call) (job : Job G) (w : Worked)
-      → IsJob passes holds c gate s script job → GivesBack passes holds job w → Work s script w
+  gives_kept : (s : Standing FixedDesk Entry) (script : List Call) (job : Job R G) (w : Worked)
+      → IsJob passes holds lacks c gate s script job → GivesBack passes holds lacks job w → Work s script w
   gives_kept s script (Started handle) w is gives =
       subst (λ (x : Config × G × Standing FixedDesk Entry × List Call).
-      HasWorked (passes x.1) (holds x.1) x.0 x.2 x.3 w.seat w.unrecorded w.ended)
+      HasWorked (passes x.1) (holds x.1) lacks x.0 x.2 x.3 w.seat w.unrecorded w.ended)
       (λ i. (is.0 i, is.1 i, is.2 i, is.3 i)) gives
   gives_kept s script (Refused worked) w is gives = subst (Work s script) (sym gives) is.0
 
   -- what all jobs give back is what all workers made
-  gives_kept_each : (seats : List (Standing FixedDesk Entry)) (scripts : List (List Call)) (jobs : List (Job G))
-      (done : List Worked) → EachOf (IsJob passes holds c gate) seats scripts jobs
-      → AllZip (GivesBack passes holds) jobs done → EachOf Work seats scripts done
+  gives_kept_each : (seats : List (Standing FixedDesk Entry)) (scripts : List (List Call)) (jobs : List (Job R G))
+      (done : List Worked) → EachOf (IsJob passes holds lacks c gate) seats scripts jobs
+      → AllZip (GivesBack passes holds lacks) jobs done → EachOf Work seats scripts done
   gives_kept_each [] [] [] [] are gave = tt
   gives_kept_each [] [] [] (w ∷ ws) are gave = absurd gave
   gives_kept_each [] [] (j ∷ js) done are gave = absurd are
@@ -159,9 +159,10 @@ module _ {G : Type 0} (passes holds : G → ℕ → ℕ → Type 0) (c : Config)
       (gives_kept s script j w are.0 gave.0, gives_kept_each seats scripts js ws are.1 gave.1)
 
   -- and so it is put together
-  pub gathered : (seats : List (Standing FixedDesk Entry)) (scripts : List (List Call)) (jobs : List (Job G))
-      (g : Gathered) → EachOf (IsJob passes holds c gate) seats scripts (reverse jobs) → Gathers passes holds jobs g
-      → IsGathered (passes gate) (holds gate) c seats scripts g
+  pub gathered : (seats : List (Standing FixedDesk Entry)) (scripts : List (List Call)) (jobs : List (Job R G))
+      (g : Gathered) → EachOf (IsJob passes holds lacks c gate) seats scripts (reverse jobs)
+      → Gathers passes holds lacks jobs g
+      → IsGathered (passes gate) (holds gate) lacks c seats scripts g
   gathered seats scripts jobs g are gathers = record {
     done = gathers.done;
     each = gives_kept_each seats scripts (reverse jobs) gathers.done are gathers.gave;

@@ -1,6 +1,6 @@
 -- A storm from the opening of its lock to its tally.
-use Rattle.std.proofs.Common.{◌≡◌, ℕ, true, false, List, length, map, Result, Ok, Err, sym, ap, ◌∙◌, subst}
-use Rattle.std.specs.Prelude.{IfOk, OnOk, vec_len}
+use Rattle.std.proofs.Common.{◌≡◌, ℕ, true, false, List, length, map, Result, Ok, Err, sym, ap, ◌∙◌, subst, inl, inr}
+use Rattle.std.specs.Prelude.{◌⊎◌, IfOk, IfErr, IsErrOf, OnOk, vec_len}
 use Rattle.std.specs.Global.{Vec}
 use Rattle.std.specs.List.{range_with_len}
 use Rattle.std.proofs.lemmas.List.{length-map}
@@ -21,7 +21,8 @@ use Rattle.sched_storm.specs.declared.worker.Worked.{Worked}
 use Rattle.sched_storm.specs.Work.{HasWorked}
 use Rattle.sched_storm.specs.Jobs.{EachOf, IsGathered, calls_each}
 use Rattle.sched_storm.specs.Storm.{IsTally, IsGatedTally, Tells}
-use Rattle.sched_storm.proofs.TallyLaws.{each_own, each_length, Counted, counted}
+use Rattle.sched_storm.specs.declared.tally.StormFault.TheVariants.{Threads, Memory}
+use Rattle.sched_storm.proofs.TallyLaws.{each_own, each_length, lacks_thread, Counted, counted}
 
 -- the seats of a lock that was opened round an empty desk
 module _ (c : Config) (workers : ℕ) (lock : Lock FixedDesk Entry) (seats : List (Standing FixedDesk Entry))
@@ -39,8 +40,8 @@ module _ (c : Config) (workers : ℕ) (lock : Lock FixedDesk Entry) (seats : Lis
   opened_count : seats_of lock ≡ workers
   opened_count = ap seats_in opened.about_is
 
-  module _ (passes holds : ℕ → ℕ → Type 0) (given : Vec (Vec Call)) (count : workers ≡ vec_len given) (g : Gathered)
-      (made : IsGathered passes holds c seats (calls_each given.items) g) where
+  module _ (passes holds : ℕ → ℕ → Type 0) (lacks : Type 0) (given : Vec (Vec Call))
+      (count : workers ≡ vec_len given) (g : Gathered) (made : IsGathered passes holds lacks c seats (calls_each given.items) g) where
     -- the scripts
     abbrev scripts : List (List Call)
     scripts = calls_each given.items
@@ -53,22 +54,34 @@ module _ (c : Config) (workers : ℕ) (lock : Lock FixedDesk Entry) (seats : Lis
     pub gathered_own : Every (λ s. s.lock ≡ lock) g.seats.items
     gathered_own =
         subst (Every (λ s. s.lock ≡ lock)) (sym made.all.seats_are)
-        (each_own passes holds c lock seats scripts made.done opened_own made.each)
+        (each_own passes holds lacks c lock seats scripts made.done opened_own made.each)
+
+    -- where a missing thread is told, one was not started
+    pub told_thread : (r : Result Tally StormFault)
+        → IfErr r (λ fault. ((fault ≡ Threads) × (g.stopped ≡ true)) ⊎ ((fault ≡ Memory) × (g.stopped ≡ false)))
+        → IsErrOf r Threads → lacks
+    told_thread r why is =
+        elim (subst (λ x. IfErr x (λ fault. ((fault ≡ Threads) × (g.stopped ≡ true))
+        ⊎ ((fault ≡ Memory) × (g.stopped ≡ false)))) is why) [
+          | inl stopped ↦ lacks_thread passes holds lacks c seats scripts made.done made.each
+              (sym made.all.stopped_is ∙ stopped.1)
+          | inr other ↦ absurd (let contra : Threads ≡ Memory = other.0 in cc)
+        ]
 
     -- all of them came back
     pub gathered_all : length g.seats.items ≡ seats_of lock
     gathered_all =
         ap length made.all.seats_are
         ∙ length-map made.done (λ (w : Worked). w.seat)
-        ∙ each_length passes holds c seats scripts made.done made.each
+        ∙ each_length passes holds lacks c seats scripts made.done made.each
         ∙ long
         ∙ sym opened_count
 
     -- what the workers made, with the new seats of the lock
-    with_new : EachOf (λ s script w. HasWorked passes holds c s script w.seat w.unrecorded w.ended)
+    with_new : EachOf (λ s script w. HasWorked passes holds lacks c s script w.seat w.unrecorded w.ended)
         (map (new_standing lock) (range_with_len 0 (length scripts))) scripts made.done
     with_new =
-        subst (λ l. EachOf (λ s script w. HasWorked passes holds c s script w.seat w.unrecorded w.ended) l scripts
+        subst (λ l. EachOf (λ s script w. HasWorked passes holds lacks c s script w.seat w.unrecorded w.ended) l scripts
         made.done)
         (opened.seats_are ∙ ap (λ n. map (new_standing lock) (range_with_len 0 n)) (sym long)) made.each
 
@@ -78,8 +91,8 @@ module _ (c : Config) (workers : ℕ) (lock : Lock FixedDesk Entry) (seats : Lis
         let h = t.history.items in
         let closed : ClosesTo c lock (map (λ (w : Worked). w.seat) made.done) h t.counts =
         subst (λ l. ClosesTo c lock l h t.counts) made.all.seats_are tells.closed in
-        let counts : Counted passes holds c lock (ap opening_in opened.about_is) h 0 scripts made.done =
-        counted passes holds c lock (ap opening_in opened.about_is) h 0 scripts made.done
+        let counts : Counted passes holds lacks c lock (ap opening_in opened.about_is) h 0 scripts made.done =
+        counted passes holds lacks c lock (ap opening_in opened.about_is) h 0 scripts made.done
         (sym made.all.stopped_is ∙ going) with_new closed.own_are closed.begins in
         record {
           tally = record {

@@ -36,10 +36,10 @@ held_by-first first number (w ∷ ws) = same w.ended ∙ held_by-first first (nu
     same Held = refl
     same Stopped = refl
 
-module _ (held : Type 0) (made calls : ℕ) where
+module _ (lacks held : Type 0) (made calls : ℕ) where
   -- a worker that was not stopped was held exactly where it made fewer calls than its script has
   held_by-next : (number seat : ℕ) (ended : Ended) (ws : List Worked) → seat ≡ number → is_stopped ended ≡ false
-      → EndsSo held made calls ended
+      → EndsSo lacks held made calls ended
       → held_by (held_then None number ended) (number + 1) ws
       ≡ cond (nat_lt made calls) (Some seat) (held_by None (number + 1) ws)
   held_by-next number seat Done ws same going ends =
@@ -53,7 +53,7 @@ module _ (held : Type 0) (made calls : ℕ) where
   held_by-next number seat Stopped ws same going ends = absurd (let contra : true ≡ false = going in cc)
 
   -- and then its gate did not let it pass
-  held_back : (ended : Ended) → is_stopped ended ≡ false → EndsSo held made calls ended → made < calls → held
+  held_back : (ended : Ended) → is_stopped ended ≡ false → EndsSo lacks held made calls ended → made < calls → held
   held_back Done going ends fewer = absurd (omega (arith, ends, fewer))
   held_back Held going ends fewer = ends.1
   held_back Stopped going ends fewer = absurd (let contra : true ≡ false = going in cc)
@@ -68,10 +68,17 @@ going_rest : (a b : Bool) → (a || b) ≡ false → b ≡ false
 going_rest false b none = none
 going_rest true b none = absurd (let contra : true ≡ false = none in cc)
 
-module _ (passes holds : ℕ → ℕ → Type 0) (c : Config) where
+-- where one of some workers was stopped, it was the first or one of the others
+stopped_first : (lacks held : Type 0) (made calls : ℕ) (ended : Ended) (others : Bool)
+    → EndsSo lacks held made calls ended → (is_stopped ended || others) ≡ true → (others ≡ true → lacks) → lacks
+stopped_first lacks held made calls Done others ends some rest = rest some
+stopped_first lacks held made calls Held others ends some rest = rest some
+stopped_first lacks held made calls Stopped others ends some rest = ends
+
+module _ (passes holds : ℕ → ℕ → Type 0) (lacks : Type 0) (c : Config) where
   -- what a worker with this seat and this script makes
   abbrev Work : Standing FixedDesk Entry → List Call → Worked → Type 0
-  Work s script w = HasWorked passes holds c s script w.seat w.unrecorded w.ended
+  Work s script w = HasWorked passes holds lacks c s script w.seat w.unrecorded w.ended
 
   -- the workers gave back seats of the lock
   pub each_own : (lock : Lock FixedDesk Entry) (seats : List (Standing FixedDesk Entry)) (scripts : List (List Call))
@@ -84,6 +91,18 @@ module _ (passes holds : ℕ → ℕ → Type 0) (c : Config) where
   each_own lock (s ∷ seats) (script ∷ scripts) [] own kept = absurd kept
   each_own lock (s ∷ seats) (script ∷ scripts) (w ∷ ws) own kept =
       (kept.0.makes.lock_is ∙ own.0, each_own lock seats scripts ws own.1 kept.1)
+
+  -- where one was stopped, a thread was not started
+  pub lacks_thread : (seats : List (Standing FixedDesk Entry)) (scripts : List (List Call)) (done : List Worked)
+      → EachOf Work seats scripts done → any_stopped done ≡ true → lacks
+  lacks_thread [] [] [] kept some = absurd (let contra : false ≡ true = some in cc)
+  lacks_thread [] [] (w ∷ ws) kept some = absurd kept
+  lacks_thread [] (script ∷ scripts) done kept some = absurd kept
+  lacks_thread (s ∷ seats) [] done kept some = absurd kept
+  lacks_thread (s ∷ seats) (script ∷ scripts) [] kept some = absurd kept
+  lacks_thread (s ∷ seats) (script ∷ scripts) (w ∷ ws) kept some =
+      stopped_first lacks (holds s.number (length kept.0.made)) (length kept.0.made) (length script) w.ended
+      (any_stopped ws) kept.0.ends some (lacks_thread seats scripts ws kept.1)
 
   -- there is one for each script
   pub each_length : (seats : List (Standing FixedDesk Entry)) (scripts : List (List Call)) (done : List Worked)
@@ -136,7 +155,7 @@ module _ (passes holds : ℕ → ℕ → Type 0) (c : Config) where
           record {
             passed = λ place below. subst (λ n. passes n place) (sym number_is) (kept.passed place below);
             held = λ fewer. subst (λ n. holds n made) (sym number_is)
-                (held_back (holds number made) made (length script) w.ended going kept.ends fewer);
+                (held_back lacks (holds number made) made (length script) w.ended going kept.ends fewer);
           }
 
     -- what the workers did, as the history has it
@@ -192,7 +211,7 @@ module _ (passes holds : ℕ → ℕ → Type 0) (c : Config) where
               ∙ ap (λ m. left_out_count work.made + m) rest.unrecorded_is
               ∙ sym (sum_by-cons (λ (d : Deed). left_out_count d.made) deed rest.deeds);
           held_is =
-              held_by-next (holds number made) made (length script) number w.seat.number w.ended ws
+              held_by-next lacks (holds number made) made (length script) number w.seat.number w.ended ws
               work.makes.number_is first work.ends
               ∙ ap (λ o. cond (nat_lt made (length script)) (Some w.seat.number) o) rest.held_is;
         }

@@ -104,10 +104,10 @@ module _ (passes : ℕ → ℕ → Type 0) (c : Config) (s : Standing FixedDesk 
         }
 
     -- it ends at this place
-    pub has_worked : (holds : ℕ → ℕ → Type 0) (ended : Ended) → place ≤ length script
-        → EndsSo (holds s.number place) place (length script) ended
-        → HasWorked passes holds c s script w unrecorded ended
-    has_worked holds ended within ends =
+    pub has_worked : (holds : ℕ → ℕ → Type 0) (lacks : Type 0) (ended : Ended) → place ≤ length script
+        → EndsSo lacks (holds s.number place) place (length script) ended
+        → HasWorked passes holds lacks c s script w unrecorded ended
+    has_worked holds lacks ended within ends =
         let long = length_is within in
         record {
           made = so_far.made;
@@ -116,15 +116,15 @@ module _ (passes : ℕ → ℕ → Type 0) (c : Config) (s : Standing FixedDesk 
               (drop place script, ap (λ l. l ++ drop place script) so_far.front ∙ take-append-drop place script);
           unrecorded_is = so_far.unrecorded_is;
           passed = λ k below. so_far.passed k (subst (λ n. k < n) long below);
-          ends = subst (λ n. EndsSo (holds s.number n) n (length script) ended) (sym long) ends;
+          ends = subst (λ n. EndsSo lacks (holds s.number n) n (length script) ended) (sym long) ends;
         }
 
 -- a worker that was hindered before the end of its script
-pub hindered : (held : Type 0) (made calls : ℕ) (ended : Ended) → made < calls → Hinders held ended
-    → EndsSo held made calls ended
-hindered held made calls Done below why = absurd why
-hindered held made calls Held below why = (below, why)
-hindered held made calls Stopped below why = tt
+pub hindered : (lacks held : Type 0) (made calls : ℕ) (ended : Ended) → made < calls → Hinders lacks held ended
+    → EndsSo lacks held made calls ended
+hindered lacks held made calls Done below why = absurd why
+hindered lacks held made calls Held below why = (below, why)
+hindered lacks held made calls Stopped below why = why
 
 -- a call that was not recorded is counted
 pub counted-more : (n more : ℕ) (recorded : Bool) → recorded ≡ false → more ≡ n + 1 → IsCountedTo n recorded more

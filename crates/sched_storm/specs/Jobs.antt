@@ -31,25 +31,25 @@ held_then None number Held = Some number
 held_then (Some first) number Held = Some first
 held_then held number Stopped = held
 
-module _ {G : Type 0} (passes holds : G → ℕ → ℕ → Type 0) where
+module _ {R G : Type 0} (passes holds : G → ℕ → ℕ → Type 0) (lacks : Type 0) where
   -- what a job gives back: what its thread promised, or what it gave back itself
-  abbrev pub GivesBack : Job G → Worked → Type 0
+  abbrev pub GivesBack : Job R G → Worked → Type 0
   GivesBack (Started handle) w =
       let given = handle.promise in
-      HasWorked (passes given.gate.value) (holds given.gate.value) given.config.value given.seat.value
+      HasWorked (passes given.gate.value) (holds given.gate.value) lacks given.config.value given.seat.value
       given.script.value.items w.seat w.unrecorded w.ended
   GivesBack (Refused worked) w = w ≡ worked
 
   module _ (c : Config) (gate : G) where
     -- a thread that promises what a worker with this seat and this script makes, or, where no thread was started, what
     -- the worker made until it was stopped
-    abbrev pub IsJob : Standing FixedDesk Entry → List Call → Job G → Type 0
+    abbrev pub IsJob : Standing FixedDesk Entry → List Call → Job R G → Type 0
     IsJob s script (Started handle) =
         let given = handle.promise in
         (given.config.value ≡ c) × (given.gate.value ≡ gate) × (given.seat.value ≡ s)
         × (given.script.value.items ≡ script)
     IsJob s script (Refused w) =
-        HasWorked (passes gate) (holds gate) c s script w.seat w.unrecorded w.ended × (is_stopped w.ended ≡ true)
+        HasWorked (passes gate) (holds gate) lacks c s script w.seat w.unrecorded w.ended × (is_stopped w.ended ≡ true)
 
 -- the fact holds of the members at each place, and the three lists are equally long
 abbrev pub EachOf : {X : Type 0} → (Standing FixedDesk Entry → List Call → X → Type 0)
@@ -87,23 +87,24 @@ pub record GathersAll (done : List Worked) (g : Gathered) : Type 0 where
   pub stopped_is : g.stopped ≡ any_stopped done
 
 -- what these jobs gave back, of which the first worker's is the last, put together
-pub record Gathers {G : Type 0} (passes holds : G → ℕ → ℕ → Type 0) (jobs : List (Job G)) (g : Gathered) : Type 0
-  where
-    pub done : List Worked
-    pub gave : AllZip (GivesBack passes holds) (reverse jobs) done
-    pub all : GathersAll done g
+pub record Gathers {R G : Type 0} (passes holds : G → ℕ → ℕ → Type 0) (lacks : Type 0) (jobs : List (Job R G))
+    (g : Gathered) : Type 0 where
+  pub done : List Worked
+  pub gave : AllZip (GivesBack passes holds lacks) (reverse jobs) done
+  pub all : GathersAll done g
 
 -- a worker with each of these seats made calls of the script at the same place, put together
-pub record IsGathered (passes holds : ℕ → ℕ → Type 0) (c : Config) (seats : List (Standing FixedDesk Entry))
-    (scripts : List (List Call)) (g : Gathered) : Type 0 where
+pub record IsGathered (passes holds : ℕ → ℕ → Type 0) (lacks : Type 0) (c : Config)
+    (seats : List (Standing FixedDesk Entry)) (scripts : List (List Call)) (g : Gathered) : Type 0 where
   pub done : List Worked
-  pub each : EachOf (λ s script w. HasWorked passes holds c s script w.seat w.unrecorded w.ended) seats scripts done
+  pub each : EachOf (λ s script w. HasWorked passes holds lacks c s script w.seat w.unrecorded w.ended) seats scripts
+      done
   pub all : GathersAll done g
 
 -- there is a script for each of these seats, which are of the lock and no more than a storm has, and room for as many
 -- threads and for the seats that come back
-pub record AreJobsReady {G : Type 0} (lock : Lock FixedDesk Entry) (seats : Vec (Standing FixedDesk Entry))
-    (scripts : Vec (Vec Call)) (jobs : Vec (Job G)) (row : Vec (Standing FixedDesk Entry)) : Type 0 where
+pub record AreJobsReady {R G : Type 0} (lock : Lock FixedDesk Entry) (seats : Vec (Standing FixedDesk Entry))
+    (scripts : Vec (Vec Call)) (jobs : Vec (Job R G)) (row : Vec (Standing FixedDesk Entry)) : Type 0 where
   pub own : Every (λ s. s.lock ≡ lock) seats.items
   pub each : vec_len seats ≡ vec_len scripts
   pub few : vec_len seats ≤ MAX_SCRIPTS

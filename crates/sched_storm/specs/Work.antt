@@ -25,22 +25,23 @@ pub record MakesOne (c : Config) (s w : Standing FixedDesk Entry) (call : Call) 
   pub recorded_is : is_recorded made ≡ recorded
   pub makes : Makes c s w (made ∷ [])
 
--- what hinders a worker from its next call: its gate, which holds it, or a stop of the storm
-abbrev pub Hinders : Type 0 → Ended → Type 0
-Hinders held Done = ⊥
-Hinders held Held = held
-Hinders held Stopped = Unit {0}
+-- what hinders a worker from its next call: its gate, which holds it, or a stop of the storm, where a thread was not
+-- started
+abbrev pub Hinders : Type 0 → Type 0 → Ended → Type 0
+Hinders lacks held Done = ⊥
+Hinders lacks held Held = held
+Hinders lacks held Stopped = lacks
 
 -- how a worker ended that made so many calls of a script of this length: it made all, or it was hindered
-abbrev pub EndsSo : Type 0 → ℕ → ℕ → Ended → Type 0
-EndsSo held made calls Done = made ≡ calls
-EndsSo held made calls Held = (made < calls) × held
-EndsSo held made calls Stopped = Unit {0}
+abbrev pub EndsSo : Type 0 → Type 0 → ℕ → ℕ → Ended → Type 0
+EndsSo lacks held made calls Done = made ≡ calls
+EndsSo lacks held made calls Held = (made < calls) × held
+EndsSo lacks held made calls Stopped = lacks
 
 -- the worker with this seat made calls of its script under a gate of which this is so where it lets a worker pass to
--- the call at a place, and this where it does not
-pub record HasWorked (passes holds : ℕ → ℕ → Type 0) (c : Config) (s : Standing FixedDesk Entry) (script : List Call)
-    (w : Standing FixedDesk Entry) (unrecorded : ℕ) (ended : Ended) : Type 0 where
+-- the call at a place, this where it does not, and this where a thread was not started
+pub record HasWorked (passes holds : ℕ → ℕ → Type 0) (lacks : Type 0) (c : Config) (s : Standing FixedDesk Entry)
+    (script : List Call) (w : Standing FixedDesk Entry) (unrecorded : ℕ) (ended : Ended) : Type 0 where
   pub made : List MadeCall
   pub makes : Makes c s w made
   pub front : IsPrefix (calls_made made) script
@@ -48,4 +49,4 @@ pub record HasWorked (passes holds : ℕ → ℕ → Type 0) (c : Config) (s : S
   pub unrecorded_is : unrecorded ≡ left_out_count made
   -- the gate let it pass before each, and it ended so
   pub passed : (place : ℕ) → place < length made → passes s.number place
-  pub ends : EndsSo (holds s.number (length made)) (length made) (length script) ended
+  pub ends : EndsSo lacks (holds s.number (length made)) (length made) (length script) ended

@@ -6,9 +6,9 @@ ghost use Rattle.sched_storm.specs.Jobs.{GivesBack, Gathers, is_stopped, held_th
 
 use crate::gate::Gate;
 use crate::jobs::Job;
+use crate::starts::Starts;
 use crate::worker::{Ended, Worked};
 use shared_sched::Desk;
-use std::thread::Threads;
 use ticket_lock::Seat;
 
 /// The seats of all workers, in their order, and what they count together.
@@ -53,8 +53,8 @@ fn add(gathered: Gathered, worked: Worked) -> Gathered
 }
 
 // Waits until a worker has ended.
-fn join<G: Gate>(rt: &impl Threads, job: Job<G>) -> Worked
-    ensures { GivesBack G.lets_pass G.holds_back job result }
+fn join<R: Starts, G: Gate>(rt: &R, job: Job<R, G>) -> Worked
+    ensures { GivesBack G.lets_pass G.holds_back R.lacks_thread job result }
 {
     match job {
         Job::Started(handle) => handle.join(rt),
@@ -63,11 +63,11 @@ fn join<G: Gate>(rt: &impl Threads, job: Job<G>) -> Worked
 }
 
 /// Waits until all workers have ended, the last of the jobs first, and puts together what they gave back.
-pub fn gather<G: Gate>(rt: &impl Threads, jobs: Vec<Job<G>>, row: Vec<Seat<Desk>>) -> Gathered
+pub fn gather<R: Starts, G: Gate>(rt: &R, jobs: Vec<Job<R, G>>, row: Vec<Seat<Desk>>) -> Gathered
     requires empty { row.items ≡ [] }
     requires room { vec_len jobs ≤ vec_capacity row }
     requires few { vec_len jobs ≤ MAX_SCRIPTS }
-    ensures gathers { Gathers G.lets_pass G.holds_back jobs.items result }
+    ensures gathers { Gathers G.lets_pass G.holds_back R.lacks_thread jobs.items result }
 {
     let mut jobs = jobs;
     let mut gathered = Gathered {

@@ -7,81 +7,85 @@ ghost use Rattle.sched_storm.specs.Work.{HasWorked};
 
 use crate::gate::Gate;
 use crate::gather::{Gathered, gather};
+use crate::starts::{Starts, Stop};
 use crate::worker::{Ended, Worked, work};
 use minislots::Checked;
 use sched_history::Call;
 use shared_sched::{Desk, Shared};
+use std::marker::PhantomData;
 use std::snapshot::Snapshot;
 use std::sync::Wait;
-use std::sync::atomic::AtomicBool;
-use std::sync::atomic::Ordering::SeqCst;
 use std::thread;
-use std::thread::{Promise, PromisedHandle, Scope, Threads};
+use std::thread::{Promise, PromisedHandle, Scope};
 use ticket_lock::Seat;
 
 /// What a worker is given, for contracts alone.
 #[derive(Drop)]
-pub struct Given<G: Gate> {
+pub struct Given<R: Starts, G: Gate> {
     pub config: Snapshot<Checked>,
     pub gate: Snapshot<G>,
     pub seat: Snapshot<Seat<Desk>>,
     pub script: Snapshot<Vec<Call>>,
+    pub starts: PhantomData<R>,
 }
 
-impl<G: Gate> Promise<Worked> for Given<G> {
+impl<R: Starts, G: Gate> Promise<Worked> for Given<R, G> {
     ghost kept_by = { λ given worked. HasWorked (G.lets_pass given.gate.value) (G.holds_back given.gate.value)
-        given.config.value given.seat.value given.script.value.items worked.seat worked.unrecorded worked.ended };
+        R.lacks_thread given.config.value given.seat.value given.script.value.items worked.seat
+        worked.unrecorded worked.ended };
 }
 
 /// A worker that runs, or one that got no thread and was ended.
 #[derive(Drop)]
-pub enum Job<G: Gate> {
-    Started(PromisedHandle<Worked, Given<G>>),
+pub enum Job<R: Starts, G: Gate> {
+    Started(PromisedHandle<Worked, Given<R, G>>),
     Refused(Worked),
 }
 
 /// Room for the threads of a storm and for the seats that come back, made before they start.
 #[derive(Drop)]
-pub struct Rooms<G: Gate> {
-    pub jobs: Vec<Job<G>>,
+pub struct Rooms<R: Starts, G: Gate> {
+    pub jobs: Vec<Job<R, G>>,
     pub row: Vec<Seat<Desk>>,
 }
 
 // Starts a worker. Where it gets no thread, the storm is stopped, and the worker gives its seat back here.
-fn start<'s, E: 's, R: Wait + Sync, G: Gate>(
+fn start<'s, E: 's, R: Starts + Wait + Sync, G: Gate>(
     scope: &Scope<'s, E>,
     rt: &'s R,
     shared: &'s Shared,
     checked: Checked,
     gate: &'s G,
-    stop: &'s AtomicBool,
+    stop: &'s Stop<R>,
     seat: Seat<Desk>,
     script: Vec<Call>,
-) -> Job<G>
+) -> Job<R, G>
     requires own { seat.lock ≡ shared.now.lock }
     requires config { shared.now.config ≡ checked }
-    ensures job { IsJob G.lets_pass G.holds_back checked gate.now seat script.items result }
+    ensures job { IsJob G.lets_pass G.holds_back R.lacks_thread checked gate.now seat script.items result }
 {
     let given = Given {
         config: Snapshot::of(&checked),
         gate: Snapshot::of(gate),
         seat: Snapshot::of(&seat),
         script: Snapshot::of(&script),
+        starts: PhantomData,
     };
     let run = move || -> Worked
         requires { seat.lock ≡ shared.now.lock }
-        ensures { HasWorked (G.lets_pass gate.entry.now) (G.holds_back gate.entry.now) shared.entry.now.config seat
-            script.items result.seat result.unrecorded result.ended }
+        ensures { HasWorked (G.lets_pass gate.entry.now) (G.holds_back gate.entry.now) R.lacks_thread
+            shared.entry.now.config seat script.items result.seat result.unrecorded result.ended }
     { work(rt, shared, gate, stop, seat, &script) };
     match scope.spawn_with(given, run) {
         Ok(handle) => Job::Started(handle),
-        Err(refused) => {
-            stop.store(true, SeqCst);
+        Err(error) => {
+            let unstarted = rt.refused(error);
+            stop.set();
             let Worked {
                 seat,
                 unrecorded,
                 ..
-            } = (refused.value)();
+            } = unstarted();
             Job::Refused(Worked {
                 seat,
                 unrecorded,
@@ -92,23 +96,23 @@ fn start<'s, E: 's, R: Wait + Sync, G: Gate>(
 }
 
 // Starts a worker for each seat, with the script at the same place, the last of the lists first.
-fn start_all<'s, E: 's, R: Wait + Sync, G: Gate>(
+fn start_all<'s, E: 's, R: Starts + Wait + Sync, G: Gate>(
     scope: &Scope<'s, E>,
     rt: &'s R,
     shared: &'s Shared,
     checked: Checked,
     gate: &'s G,
-    stop: &'s AtomicBool,
+    stop: &'s Stop<R>,
     seats: Vec<Seat<Desk>>,
     scripts: Vec<Vec<Call>>,
-    jobs: Vec<Job<G>>,
-) -> Vec<Job<G>>
+    jobs: Vec<Job<R, G>>,
+) -> Vec<Job<R, G>>
     requires own { Every (λ s. s.lock ≡ shared.now.lock) seats.items }
     requires config { shared.now.config ≡ checked }
     requires each { vec_len seats ≡ vec_len scripts }
     requires empty { jobs.items ≡ [] }
     requires room { vec_len seats ≤ vec_capacity jobs }
-    ensures started { EachOf (IsJob G.lets_pass G.holds_back checked gate.now) seats.items
+    ensures started { EachOf (IsJob G.lets_pass G.holds_back R.lacks_thread checked gate.now) seats.items
         (calls_each scripts.items) (reverse result.items) }
     ensures room { vec_len result ≤ vec_len seats }
 {
@@ -123,21 +127,21 @@ fn start_all<'s, E: 's, R: Wait + Sync, G: Gate>(
 }
 
 /// Runs all workers at the same time, a thread for each, and waits until they have ended.
-pub fn run_workers<R: Threads + Wait + Sync, G: Gate>(
+pub fn run_workers<R: Starts + Wait + Sync, G: Gate>(
     rt: &R,
     shared: &Shared,
     checked: Checked,
     gate: &G,
     seats: Vec<Seat<Desk>>,
     scripts: Vec<Vec<Call>>,
-    rooms: Rooms<G>,
+    rooms: Rooms<R, G>,
 ) -> Gathered
     requires config { shared.now.config ≡ checked }
     requires ready { AreJobsReady shared.now.lock seats scripts rooms.jobs rooms.row }
-    ensures worked { IsGathered (G.lets_pass gate.now) (G.holds_back gate.now) checked seats.items
-        (calls_each scripts.items) result }
+    ensures worked { IsGathered (G.lets_pass gate.now) (G.holds_back gate.now) R.lacks_thread checked
+        seats.items (calls_each scripts.items) result }
 {
-    let stop = AtomicBool::new(false);
+    let stop = Stop::new();
     let stop = &stop;
     thread::scope(
         thread::scope_env(),
@@ -145,8 +149,8 @@ pub fn run_workers<R: Threads + Wait + Sync, G: Gate>(
         move |scope| -> Gathered
             requires config { shared.now.config ≡ checked }
             requires ready { AreJobsReady shared.now.lock seats scripts rooms.jobs rooms.row }
-            ensures { IsGathered (G.lets_pass gate.entry.now) (G.holds_back gate.entry.now) checked seats.items
-                (calls_each scripts.items) result }
+            ensures { IsGathered (G.lets_pass gate.entry.now) (G.holds_back gate.entry.now) R.lacks_thread
+                checked seats.items (calls_each scripts.items) result }
         {
             let Rooms { jobs, row } = rooms;
             let jobs = start_all(scope, rt, shared, checked, gate, stop, seats, scripts, jobs);

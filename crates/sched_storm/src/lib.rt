@@ -5,10 +5,12 @@ mod gate;
 mod gather;
 mod jobs;
 mod reading;
+mod starts;
 mod storm;
 mod tally;
 mod worker;
 
 pub use gate::{Gate, Open};
+pub use starts::Starts;
 pub use storm::storm_with;
 pub use tally::{StormFault, Tally};

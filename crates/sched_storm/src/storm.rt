@@ -12,6 +12,7 @@ use crate::gate::Gate;
 use crate::gather::Gathered;
 use crate::jobs::{Rooms, run_workers};
 use crate::reading::read_last;
+use crate::starts::Starts;
 use crate::tally::{StormFault, Tally, count_maps, is_legal};
 use map_snapshot::Reader;
 use minislots::Checked;
@@ -19,10 +20,9 @@ use sched_history::{Call, MAX_SCRIPTS};
 use shared_sched::{Closed, Shared, open};
 use std::alloc::{AllocError, Global};
 use std::sync::Wait;
-use std::thread::Threads;
 
 // Makes room for so many workers.
-fn reserve<G: Gate>(alloc: Global, workers: usize) -> Result<Rooms<G>, AllocError>
+fn reserve<R: Starts, G: Gate>(alloc: Global, workers: usize) -> Result<Rooms<R, G>, AllocError>
     ensures jobs { IfOk result (λ r. (r.jobs.items ≡ []) × (vec_capacity r.jobs ≡ workers)) }
     ensures row { IfOk result (λ r. (r.row.items ≡ []) × (vec_capacity r.row ≡ workers)) }
 {
@@ -85,7 +85,7 @@ fn close<R: Wait>(
 /// each call the gate is told. It waits until all workers have ended. Then one reader, told of all that was published,
 /// reads the newest MAP, the press is ended, and the history is audited. Where a thread was not started, there is
 /// no tally, and none where memory ran out, for the audit too.
-pub fn storm_with<R: Threads + Wait + Sync, G: Gate>(
+pub fn storm_with<R: Starts + Wait + Sync, G: Gate>(
     rt: &R,
     alloc: Global,
     checked: Checked,
@@ -95,6 +95,9 @@ pub fn storm_with<R: Threads + Wait + Sync, G: Gate>(
     ensures tally { IfOk result (IsTally checked (calls_each scripts.items)) }
     ensures count { IsErrOf result StormFault.ScriptCount
         ↔ ((vec_len scripts ≡ 0) ⊎ (MAX_SCRIPTS < vec_len scripts)) }
+
+    // A missing thread is told only where one was not started.
+    ensures no_thread { IsErrOf result StormFault.Threads → R.lacks_thread }
 
     // No audit finds a history of threads illegal.
     ensures legal { IfOk result (λ tally. tally.legal ≡ true) }

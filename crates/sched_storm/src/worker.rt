@@ -4,11 +4,10 @@ ghost use Rattle.std.specs.Prelude.{◌≡◌, ◌<◌, ◌^◌, length, MatchOp
 ghost use Rattle.sched_storm.specs.Work.{Hinders, MakesOne, HasWorked};
 
 use crate::gate::Gate;
+use crate::starts::{Starts, Stop};
 use sched_history::Call;
 use shared_sched::{Desk, Shared};
 use std::sync::Wait;
-use std::sync::atomic::AtomicBool;
-use std::sync::atomic::Ordering::SeqCst;
 use std::thread::yield_now;
 use ticket_lock::Seat;
 
@@ -38,12 +37,17 @@ pub struct Worked {
 }
 
 // Why the worker may not make its call at this place, or none where its gate lets it pass.
-fn hindrance<G: Gate>(gate: &G, stop: &AtomicBool, worker: usize, index: usize) -> Option<Ended>
+fn hindrance<R: Starts, G: Gate>(
+    gate: &G,
+    stop: &Stop<R>,
+    worker: usize,
+    index: usize,
+) -> Option<Ended>
     ensures { MatchOption result (G.lets_pass gate.now worker index)
-        (Hinders (G.holds_back gate.now worker index)) }
+        (Hinders R.lacks_thread (G.holds_back gate.now worker index)) }
 {
     for _asked in 0..MAX_TURNS {
-        if stop.load(SeqCst) {
+        if stop.is_set() {
             return Some(Ended::Stopped);
         }
         if gate.pass(worker, index) {
@@ -72,17 +76,17 @@ fn count_calls(script: &[Call]) -> usize
 }
 
 /// Makes the calls of a script in order, as far as the gate lets them pass.
-pub fn work<G: Gate>(
-    rt: &impl Wait,
+pub fn work<R: Starts + Wait, G: Gate>(
+    rt: &R,
     shared: &Shared,
     gate: &G,
-    stop: &AtomicBool,
+    stop: &Stop<R>,
     seat: Seat<Desk>,
     script: &[Call],
 ) -> Worked
     requires own { seat.lock ≡ shared.now.lock }
-    ensures worked { HasWorked (G.lets_pass gate.now) (G.holds_back gate.now) shared.now.config seat script.now
-        result.seat result.unrecorded result.ended }
+    ensures worked { HasWorked (G.lets_pass gate.now) (G.holds_back gate.now) R.lacks_thread
+        shared.now.config seat script.now result.seat result.unrecorded result.ended }
 {
     let worker = seat.number() as usize;
     let calls = count_calls(script);

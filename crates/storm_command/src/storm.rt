@@ -7,11 +7,10 @@ ghost use Rattle.storm_command.specs.StormRun.{Stormed, StopsStorm};
 mod line;
 
 use line::put_tally;
-use sched_storm::{Gate, StormFault, Tally, storm_with};
+use sched_storm::{Gate, Starts, StormFault, Tally, storm_with};
 use script_reading::read_storm;
 use std::alloc::Global;
 use std::sync::Wait;
-use std::thread::Threads;
 use text_stream::{RunFault, Sink, Source};
 
 // Whether no worker was held and the history is legal.
@@ -26,7 +25,7 @@ fn went_well(tally: &Tally) -> bool
 /// the number of calls that were not recorded, that of the MAPs, the version that was read last, the least of the
 /// workers that the gate held, if any, and what the audit says. Answers whether no worker was held and the history is
 /// legal. Nothing is written before another fault than one of output.
-pub fn run_storm<R: Threads + Wait + Sync, I: Source, W: Sink, G: Gate>(
+pub fn run_storm<R: Starts + Wait + Sync, I: Source, W: Sink, G: Gate>(
     rt: &R,
     alloc: Global,
     reader: &mut I,
@@ -40,6 +39,7 @@ pub fn run_storm<R: Threads + Wait + Sync, I: Source, W: Sink, G: Gate>(
     // Each fault comes under its own condition, the first one in their order.
     ensures stops { IfErr result (StopsStorm (I.remaining reader.old) (I.remaining reader.new)) }
     ensures quiet { IfErr result (λ e. e ≢ RunFault.Output → writer.new ≡ writer.old) }
+    ensures no_thread { IfErr result (λ e. e ≡ RunFault.Threads → R.lacks_thread) }
 
     // A failed read or write is told where one has failed, and where all went well none did.
     ensures failed_read { FailsBy RunFault.Input result (I.has_failed reader.old) (I.has_failed reader.new) }

@@ -16,9 +16,9 @@ loop-job-preserved g c =
     let room = so.invariant.room in
     let few = so.invariant.few in
     record {
-      so_far = Joining-push (GivesBack g.G.Gate.lets_pass g.G.Gate.holds_back) c.args.jobs.items so.jobs.items
-          c.pop.new.self.items so.gathered c.add-gathered.result c.in-Some.job w popped.items c.join.ensures w.few
-          so.invariant.so_far added.seats added.unrecorded added.held added.stopped;
+      so_far = Joining-push (GivesBack g.G.Gate.lets_pass g.G.Gate.holds_back g.R.Starts.lacks_thread)
+          c.args.jobs.items so.jobs.items c.pop.new.self.items so.gathered c.add-gathered.result c.in-Some.job w
+          popped.items c.join.ensures w.few so.invariant.so_far added.seats added.unrecorded added.held added.stopped;
       room = omega (arith, fewer, more, same, room);
       few = omega (arith, fewer, more, few);
     }

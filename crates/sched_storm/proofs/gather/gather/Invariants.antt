@@ -7,7 +7,8 @@ use Rattle.sched_storm.proofs.gather.gather.Given as goal
 
 abbrev pub invariant-loop-job : goal.invariant-loop-job
 invariant-loop-job g l = record {
-  so_far : Joining (GivesBack g.G.Gate.lets_pass g.G.Gate.holds_back) l.initial.jobs.items l.jobs.items l.gathered;
+  so_far : Joining (GivesBack g.G.Gate.lets_pass g.G.Gate.holds_back g.R.Starts.lacks_thread) l.initial.jobs.items
+      l.jobs.items l.gathered;
   room : vec_len l.jobs + vec_len l.gathered.seats ≤ vec_capacity l.gathered.seats;
   few : vec_len l.jobs + vec_len l.gathered.seats ≤ MAX_SCRIPTS;
 }

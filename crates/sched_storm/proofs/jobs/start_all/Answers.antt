@@ -7,7 +7,8 @@ use Rattle.sched_storm.proofs.jobs.start_all.Goals as goal
 pub start-requires-clause-own : goal.start-requires-clause-own
 start-requires-clause-own g c κs within =
     let last = c.loop-seat in
-    Starting-own (IsJob g.G.Gate.lets_pass g.G.Gate.holds_back c.args.checked c.args.gate.now) c.args.shared.now.lock
+    Starting-own (IsJob g.G.Gate.lets_pass g.G.Gate.holds_back g.R.Starts.lacks_thread c.args.checked
+    c.args.gate.now) c.args.shared.now.lock
     c.args.seats.items c.args.scripts.items last.seats.items c.pop.new.self.items last.scripts.items
     c.pop-in-Some.new.self.items last.jobs.items c.in-Some.seat c.in-Some-pop.script c.in-Some.ensures.items
     last.invariant.so_far
@@ -18,7 +19,8 @@ loop-seat-init g c =
     let len = c.args.jobs.ok.0 in
     let room = c.requires.room in
     record {
-      so_far = Starting-none (IsJob g.G.Gate.lets_pass g.G.Gate.holds_back c.args.checked c.args.gate.now)
+      so_far = Starting-none (IsJob g.G.Gate.lets_pass g.G.Gate.holds_back g.R.Starts.lacks_thread c.args.checked
+          c.args.gate.now)
           c.args.shared.now.lock c.args.seats.items c.args.scripts.items c.requires.own c.args.jobs.items
           c.requires.empty;
       each = c.requires.each;
@@ -28,7 +30,7 @@ loop-seat-init g c =
 
 pub loop-seat-preserved : goal.loop-seat-preserved
 loop-seat-preserved g c =
-    let fits = IsJob g.G.Gate.lets_pass g.G.Gate.holds_back c.args.checked c.args.gate.now in
+    let fits = IsJob g.G.Gate.lets_pass g.G.Gate.holds_back g.R.Starts.lacks_thread c.args.checked c.args.gate.now in
     let lock = c.args.shared.now.lock in
     let pushed = c.push_reserved.ensures in
     let seat = c.in-Some.ensures in
@@ -61,7 +63,8 @@ returns g c =
     let each = c.loop-seat.invariant.each in
     let none = c.in_default.ensures.cases.0 in
     record {
-      started = Starting-all (IsJob g.G.Gate.lets_pass g.G.Gate.holds_back c.args.checked c.args.gate.now)
+      started = Starting-all (IsJob g.G.Gate.lets_pass g.G.Gate.holds_back g.R.Starts.lacks_thread c.args.checked
+          c.args.gate.now)
           c.args.shared.now.lock c.args.seats.items c.args.scripts.items c.loop-seat.seats.items
           c.loop-seat.scripts.items c.loop-seat.jobs.items (omega (arith, seats, none))
           (omega (arith, scripts, each, none)) c.loop-seat.invariant.so_far;

@@ -1,8 +1,11 @@
 -- The workers have a seat each of the lock that was opened, and there is a tally of what they gave back.
-use Rattle.std.proofs.Common.{◌≤◌, vec_len, arith, rules}
+use Rattle.std.proofs.Common.{◌≡◌, ◌≤◌, vec_len, Result, Err, arith, rules}
 use Rattle.sched_history.specs.declared.call.TheConstants.{MAX_SCRIPTS}
+use Rattle.sched_storm.specs.declared.tally.StormFault.{StormFault}
+use Rattle.sched_storm.specs.declared.tally.StormFault.TheVariants.{Threads, Memory}
+use Rattle.sched_storm.specs.declared.tally.Tally.{Tally}
 use Rattle.sched_storm.proofs.StormLaws.{opened_own, opened_length, gathered_own, gathered_all}
-use Rattle.sched_storm.proofs.StormLaws.{is_gated_tally, is_tally, legal_tally}
+use Rattle.sched_storm.proofs.StormLaws.{is_gated_tally, is_tally, legal_tally, told_thread}
 use Rattle.sched_storm.proofs.storm.storm_with.Goals as goal
 
 pub run_workers-gathered-requires-clause-ready : goal.run_workers-gathered-requires-clause-ready
@@ -32,7 +35,8 @@ close-requires-clause-own g c =
     let new = c.in-Ok-open in
     gathered_own c.args.checked c.len-workers.result new.shared.lock new.seats.items new.shared.press
     new.ensures.opened
-    (g.G.Gate.lets_pass c.args.gate.now) (g.G.Gate.holds_back c.args.gate.now) c.args.scripts c.len-workers.ensures
+    (g.G.Gate.lets_pass c.args.gate.now) (g.G.Gate.holds_back c.args.gate.now) g.R.Starts.lacks_thread c.args.scripts
+    c.len-workers.ensures
     c.run_workers-gathered.result c.run_workers-gathered.ensures.worked
 
 pub close-requires-clause-all : goal.close-requires-clause-all
@@ -40,7 +44,8 @@ close-requires-clause-all g c =
     let new = c.in-Ok-open in
     gathered_all c.args.checked c.len-workers.result new.shared.lock new.seats.items new.shared.press
     new.ensures.opened
-    (g.G.Gate.lets_pass c.args.gate.now) (g.G.Gate.holds_back c.args.gate.now) c.args.scripts c.len-workers.ensures
+    (g.G.Gate.lets_pass c.args.gate.now) (g.G.Gate.holds_back c.args.gate.now) g.R.Starts.lacks_thread c.args.scripts
+    c.len-workers.ensures
     c.run_workers-gathered.result c.run_workers-gathered.ensures.worked
 
 pub returns-clause-tally : goal.returns-clause-tally
@@ -48,7 +53,8 @@ returns-clause-tally g c =
     let new = c.in-Ok-open in
     is_tally c.args.checked c.len-workers.result new.shared.lock new.seats.items new.shared.press
     new.ensures.opened
-    (g.G.Gate.lets_pass c.args.gate.now) (g.G.Gate.holds_back c.args.gate.now) c.args.scripts c.len-workers.ensures
+    (g.G.Gate.lets_pass c.args.gate.now) (g.G.Gate.holds_back c.args.gate.now) g.R.Starts.lacks_thread c.args.scripts
+    c.len-workers.ensures
     c.run_workers-gathered.result c.run_workers-gathered.ensures.worked new.shared.config new.ensures.config
     c.close.result c.close.ensures.told c.close.ensures.ok
 
@@ -57,9 +63,28 @@ returns-clause-gated g c =
     let new = c.in-Ok-open in
     is_gated_tally c.args.checked c.len-workers.result new.shared.lock new.seats.items new.shared.press
     new.ensures.opened
-    (g.G.Gate.lets_pass c.args.gate.now) (g.G.Gate.holds_back c.args.gate.now) c.args.scripts c.len-workers.ensures
+    (g.G.Gate.lets_pass c.args.gate.now) (g.G.Gate.holds_back c.args.gate.now) g.R.Starts.lacks_thread c.args.scripts
+    c.len-workers.ensures
     c.run_workers-gathered.result c.run_workers-gathered.ensures.worked new.shared.config new.ensures.config
     c.close.result c.close.ensures.told c.close.ensures.ok
+
+pub returns-clause-no_thread : goal.returns-clause-no_thread
+returns-clause-no_thread g c =
+    let new = c.in-Ok-open in
+    told_thread c.args.checked c.len-workers.result new.shared.lock new.seats.items new.shared.press
+    new.ensures.opened
+    (g.G.Gate.lets_pass c.args.gate.now) (g.G.Gate.holds_back c.args.gate.now) g.R.Starts.lacks_thread c.args.scripts
+    c.len-workers.ensures
+    c.run_workers-gathered.result c.run_workers-gathered.ensures.worked c.close.result c.close.ensures.err
+
+differ : ◌≡◌ {A = Result Tally StormFault} (Err Memory) (Err Threads) → ⊥
+differ same = cc
+
+pub returns-in_default-clause-no_thread : goal.returns-in_default-clause-no_thread
+returns-in_default-clause-no_thread g c = λ is. absurd (differ is)
+
+pub returns-in_default-open-clause-no_thread : goal.returns-in_default-open-clause-no_thread
+returns-in_default-open-clause-no_thread g c = λ is. absurd (differ is)
 
 pub returns-clause-legal : goal.returns-clause-legal
 returns-clause-legal g c =

@@ -2,10 +2,17 @@
 use Rattle.std.proofs.Common.{◌≡◌, ◌<◌, ◌≤◌, ◌+◌, length, subst, arith}
 use Rattle.sched_storm.specs.declared.worker.Ended.TheVariants.{Done}
 use Rattle.sched_storm.specs.Work.{Hinders}
-use Rattle.sched_storm.proofs.Working.{IsCountedTo, few_so_far, HasMadeSoFar-push, has_worked, hindered}
+use Rattle.sched_storm.proofs.Working.{IsCountedTo, none_so_far, few_so_far, HasMadeSoFar-push, has_worked, hindered}
 use Rattle.sched_storm.proofs.Working.{counted-more, counted-same}
 use Rattle.sched_storm.proofs.worker.work.Goals as goal
 use Rattle.sched_storm.proofs.worker.work.Goals.{then-not-is_recorded, else-not-is_recorded}
+
+pub loop-made-init : goal.loop-made-init
+loop-made-init g c = record {
+  within = omega arith;
+  few = omega arith;
+  so_far = none_so_far (g.G.Gate.lets_pass c.args.gate.now) c.args.shared.now.config c.args.seat c.args.script.now;
+}
 
 pub loop-made-preserved : goal.loop-made-preserved
 loop-made-preserved g c =
@@ -37,14 +44,16 @@ returns-in-Some g c =
     let so = c.loop-made in
     let gate = c.args.gate.now in
     let holds = g.G.Gate.holds_back gate in
+    let lacks = g.R.Starts.lacks_thread in
     let script = c.args.script.now in
     let below : so.made < length script =
     (let test = c.loop-made-test.true in let long = c.count_calls-calls.ensures.value in omega (arith, test, long)) in
-    let why = subst (λ n. Hinders (holds n so.made) c.in-Some.ended) c.number-worker.ensures.number c.in-Some.ensures in
+    let why = subst (λ n. Hinders lacks (holds n so.made) c.in-Some.ended) c.number-worker.ensures.number
+    c.in-Some.ensures in
     record {
       worked = has_worked (g.G.Gate.lets_pass gate) c.args.shared.now.config c.args.seat script so.made so.seat
-          so.unrecorded so.invariant.so_far holds c.in-Some.ended so.invariant.within
-          (hindered (holds c.args.seat.number so.made) so.made (length script) c.in-Some.ended below why);
+          so.unrecorded so.invariant.so_far holds lacks c.in-Some.ended so.invariant.within
+          (hindered lacks (holds c.args.seat.number so.made) so.made (length script) c.in-Some.ended below why);
     }
 
 pub returns : goal.returns
@@ -57,5 +66,6 @@ returns g c =
     let within = so.invariant.within in omega (arith, test, long, within)) in
     record {
       worked = has_worked (g.G.Gate.lets_pass gate) c.args.shared.now.config c.args.seat script so.made so.seat
-          so.unrecorded so.invariant.so_far (g.G.Gate.holds_back gate) Done so.invariant.within all;
+          so.unrecorded so.invariant.so_far (g.G.Gate.holds_back gate) g.R.Starts.lacks_thread Done
+          so.invariant.within all;
     }
