@@ -18,12 +18,14 @@ use Rattle.worker_sched.proofs.workplace.Workplace.close.Goals as goal
 pub count_each-counts-requires : goal.count_each-counts-requires
 count_each-counts-requires c =
     let closed = subst (λ (l : Lock FixedDesk Entry).
-    Closes maker_of fixed_of history_of l c.args.seats.items c.close.result) c.into_lock.ensures c.close.ensures.closed in
+    Closes maker_of fixed_of history_of l c.args.seats.items c.close.result) c.into_lock.ensures
+    c.close.ensures.closed in
     record {
       seats = subst (All (λ (e : Entry). (maker_of e).seat < MAX_SEATS))
           (sym (c.history.ensures.value ∙ ap history_of
           (ap desk_of (c.into_scheduler-scheduler.ensures ∙ c.into_inner.ensures) ∙ c.into_channel.ensures)))
-          (seats_few c.self.inside.config c.self.inside.lock c.self.invariant.0 c.args.seats.items c.close.result closed);
+          (seats_few c.self.inside.config c.self.inside.lock c.self.invariant.0 c.args.seats.items c.close.result
+          closed);
     }
 
 pub returns : goal.returns
