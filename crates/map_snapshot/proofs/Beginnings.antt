@@ -8,6 +8,10 @@ use mathlib.Core.List.{IsPrefix}
 pub prefix_self : {A : Type 0} (xs : List A) → IsPrefix xs xs
 prefix_self xs = ([], append-nil xs)
 
+-- a beginning is no longer than the list
+pub prefix_length : {A : Type 0} (xs ys : List A) → IsPrefix xs ys → length xs ≤ length ys
+prefix_length xs ys p = omega (arith, sym (ap length p.1) ∙ length-append xs p.0)
+
 -- of two beginnings of one list the shorter begins the longer
 pub prefix_shorter : {A : Type 0} (xs ys zs : List A) → IsPrefix xs zs → IsPrefix ys zs → length xs ≤ length ys
     → IsPrefix xs ys

@@ -1,12 +1,9 @@
 -- What follows where a list of maps only grows.
-use Rattle.std.proofs.Common.{◌≡◌, ℕ, zero, suc, ◌+◌, ◌≤◌, List, [], ◌∷◌, ◌++◌, length, Some, slice_get, refl, ap, sym}
+use Rattle.std.proofs.Common.{◌≡◌, ℕ, zero, suc, ◌+◌, List, [], ◌∷◌, ◌++◌, length, Some, slice_get, refl, ap, sym}
 use Rattle.std.proofs.Common.{◌∙◌, subst, arith, length-append, append_assoc}
-use mathlib.Core.List.{IsPrefix}
 use Rattle.map_snapshot.specs.Maps.{map_in}
 use Rattle.map_snapshot.specs.Laws.{NeverFalls, StaysRead, StandsAtItsVersion}
-
-prefix_length : {A : Type 0} (xs ys : List A) → IsPrefix xs ys → length xs ≤ length ys
-prefix_length xs ys p = omega (arith, sym (ap length p.1) ∙ length-append xs p.0)
+use Rattle.map_snapshot.proofs.Beginnings.{prefix_length}
 
 -- what stands behind so many members
 get_behind : {A : Type 0} (xs : List A) (y : A) (ys : List A) (k : ℕ) → length xs ≡ k

@@ -1,6 +1,8 @@
 -- Lists of published maps, and the newest of a list.
-use Rattle.std.specs.Prelude.{◌≡◌, ◌⊎◌, ℕ, Bool, ◌+◌, ◌≤◌, List, [], ◌∷◌, ◌++◌, length, take, Option, Some, None}
+use Rattle.std.specs.Prelude.{◌≡◌, ◌⊎◌, ℕ, Bool, ◌+◌, ◌≤◌, List, [], ◌∷◌, ◌++◌, length, map, take, Option, Some, None}
 use Rattle.logbook.specs.Pages.{Book}
+use Rattle.map_snapshot.specs.declared.list.Entry.{Entry}
+use Rattle.map_snapshot.specs.declared.list.Entry.TheVariants.{Published, End}
 use Rattle.map_snapshot.specs.declared.printed.Printed.{Printed}
 use Rattle.map_snapshot.specs.declared.printed.TheConstants.{MAX_BYTES}
 
@@ -19,6 +21,16 @@ pub record IsLast (p : Printed) (list : List (List ℕ)) : Type 0 where
 abbrev pub IsNewest : Option Printed → List (List ℕ) → Type 0
 IsNewest None list = list ≡ []
 IsNewest (Some p) list = IsLast p list
+
+-- the maps of a list, in their order
+abbrev pub maps_in : List Entry → List (List ℕ)
+maps_in [] = []
+maps_in (Published m ∷ log) = m ∷ maps_in log
+maps_in (End ∷ log) = maps_in log
+
+-- the list has ended: its maps, and then its end
+abbrev pub IsWhole : List Entry → Type 0
+IsWhole log = log ≡ map Published (maps_in log) ++ End ∷ []
 
 -- what a reader, or one who was told, knows: of which press, and the maps that it has published
 pub record Known : Type 0 where

@@ -2,7 +2,7 @@
 ghost use Rattle.std.specs.Prelude.{◌≡◌, ◌≤◌, Some, IsTrue};
 ghost use Rattle.std.specs.Arc.{arc_value};
 ghost use Rattle.map_snapshot.specs.declared.printed.TheConstants.{MAX_BYTES};
-ghost use Rattle.map_snapshot.specs.Maps.{IsNewest};
+ghost use Rattle.map_snapshot.specs.Maps.{IsNewest, maps_in};
 ghost use Rattle.map_snapshot.specs.Rules.{word_of};
 
 use crate::counts::Counts;
@@ -60,7 +60,7 @@ impl Addition {
     // Readers learn of its version before they are shown it.
     pub(crate) fn add(&self) -> (Seen, bool)
         ensures press { result.0.book ≡ self.now.press }
-        ensures added { IsTrue result.1 → IsNewest (Some self.now.printed) result.0.log }
+        ensures added { IsTrue result.1 → IsNewest (Some self.now.printed) (maps_in result.0.log) }
     {
         let mut seen = self.seen.again();
         let added = add(&self.counts.list, &mut seen, &self.printed);

@@ -14,6 +14,7 @@ mod printed;
 mod reader;
 mod sheet;
 mod told;
+mod whole;
 
 pub use fault::PressFault;
 pub use laws::{never_goes_back, stands_at_its_version};
@@ -22,3 +23,4 @@ pub use press::Press;
 pub use printed::{MAX_BYTES, Printed};
 pub use reader::Reader;
 pub use told::Told;
+pub use whole::Whole;

@@ -8,6 +8,7 @@ use crate::counts::Counts;
 use crate::ends::{Shows, Writer};
 use crate::printed::{MAX_BYTES, Printed};
 use crate::told::Told;
+use crate::whole::Whole;
 use core::mem::replace_with;
 use std::alloc::{AllocError, Global};
 use std::marker::Model;
@@ -115,10 +116,28 @@ impl Press {
         self.writer.published().told()
     }
 
-    /// Ends the press. Its readers keep what they know. It takes no memory, and may wait for readers that are in
-    /// the middle of a read.
-    pub fn end<R: Wait>(self, rt: &R) {
+    // Ends the list, which then has what was published and no more, for good.
+    fn finish<R: Wait>(&self, rt: &R) -> Whole
+        ensures whole { result ≡ record { press = self.now.press; list = self.now.list } }
+    {
+        let told = self.writer.published().told();
+        for _ in rt.forever() {
+            if let Some(whole) = Whole::of(&told, &self.counts.list) {
+                return whole;
+            }
+        }
+        unreachable!()
+    }
+
+    /// Ends the press, and tells all that it has published, to which nothing can be added. A map that was appended and
+    /// not published is let go. Its readers keep what they know. It takes no memory, and may wait for readers that are
+    /// in the middle of a read, and until it finds its list as long as it knows. No clause bounds either wait.
+    pub fn end<R: Wait>(self, rt: &R) -> Whole
+        ensures whole { result ≡ record { press = self.press; list = self.list } }
+    {
+        let whole = self.finish(rt);
         let Press { writer, counts: _ } = self;
         writer.take(rt);
+        whole
     }
 }

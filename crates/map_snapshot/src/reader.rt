@@ -8,6 +8,7 @@ use crate::ends::Finds;
 use crate::latest::Latest;
 use crate::printed::Printed;
 use crate::told::Told;
+use crate::whole::Whole;
 use std::marker::Model;
 
 /// What reads the newest map, with no lock. It keeps the newest that it knows.
@@ -20,7 +21,7 @@ pub struct Reader {
 }
 
 impl Model for Reader {
-    ghost use Rattle.std.specs.Prelude.{◌≡◌, Some, IfSome};
+    ghost use Rattle.std.specs.Prelude.{◌≡◌, Some, IsSomeAnd};
     ghost use Rattle.left_right.specs.Sides.{view as name_in};
     ghost use Rattle.map_snapshot.specs.Maps.{Known};
     ghost use Rattle.map_snapshot.specs.Rules.{word_of};
@@ -29,7 +30,7 @@ impl Model for Reader {
 
     ghost view = { λ r. r.known };
 
-    ghost invariant = { λ r. IfSome r.end (λ e. name_in e.place ≡ Some (word_of r.known.press)) };
+    ghost invariant = { λ r. IsSomeAnd r.end (λ e. name_in e.place ≡ Some (word_of r.known.press)) };
 }
 
 impl Reader {
@@ -43,7 +44,7 @@ impl Reader {
         ensures grows { IsPrefix self.old.list self.new.list }
     {
         let Some(end) = self.end.take() else {
-            return;
+            unreachable!()
         };
         match end.enter_as::<Finds>() {
             Ok(reading) => {
@@ -79,5 +80,16 @@ impl Reader {
         ensures one { (self.new.list ≡ self.old.list) ⊎ (self.new.list ≡ told.list) }
     {
         self.known.take_in(&told.printed, &told.seen);
+    }
+
+    /// Takes in all that its press has published. The list that the reader knew before is a beginning of the whole
+    /// list, whatever it had read, and the whole list is what it knows then. It takes no memory, and waits for nobody.
+    pub fn learn_whole(&mut self, whole: &Whole)
+        requires own { whole.now.press ≡ self.old.press }
+        ensures press { self.new.press ≡ self.old.press }
+        ensures whole { self.new.list ≡ whole.now.list }
+        ensures began { IsPrefix self.old.list whole.now.list }
+    {
+        self.known.take_whole(whole);
     }
 }

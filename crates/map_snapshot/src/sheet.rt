@@ -1,7 +1,7 @@
 //! What readers take: one of the two copies.
 ghost use Rattle.std.specs.Prelude.{◌≡◌, true, [], None};
 ghost use mathlib.Core.List.{IsPrefix};
-ghost use Rattle.map_snapshot.specs.Maps.{IsNewest};
+ghost use Rattle.map_snapshot.specs.Maps.{IsNewest, maps_in};
 
 use crate::addition::Addition;
 use crate::list::{Count, Seen};
@@ -21,18 +21,18 @@ pub struct Sheet {
 
 impl Model for Sheet {
     ghost use Rattle.std.specs.Prelude.{◌≡◌, true};
-    ghost use Rattle.map_snapshot.specs.Maps.{Page, IsNewest};
+    ghost use Rattle.map_snapshot.specs.Maps.{Page, IsNewest, maps_in};
 
     ghost Value = { Page };
 
     ghost view = { λ s. record {
       press = s.seen.book;
       printed = s.printed;
-      list = s.seen.log;
+      list = maps_in s.seen.log;
       listed = s.listed;
     } };
 
-    ghost invariant = { λ s. s.listed ≡ true → IsNewest s.printed s.seen.log };
+    ghost invariant = { λ s. s.listed ≡ true → IsNewest s.printed (maps_in s.seen.log) };
 }
 
 impl Sheet {
@@ -58,7 +58,7 @@ impl Sheet {
 
     // The list as it was seen.
     pub(crate) fn seen(&self) -> &Seen
-        ensures seen { (result.now.book ≡ self.now.press) × (result.now.log ≡ self.now.list) }
+        ensures seen { (result.now.book ≡ self.now.press) × (maps_in result.now.log ≡ self.now.list) }
     {
         &self.seen
     }
@@ -79,6 +79,7 @@ impl Sheet {
         requires own { self.now.press ≡ known.old.press }
         ensures press { known.new.press ≡ known.old.press }
         ensures kept { IsPrefix known.old.list known.new.list }
+        ensures told { self.now.listed ≡ true → IsPrefix self.now.list known.new.list }
     {
         if self.listed {
             known.take_in(&self.printed, &self.seen);

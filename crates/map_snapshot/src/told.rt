@@ -1,10 +1,11 @@
 //! What is known of what a press has published.
 ghost use Rattle.std.specs.Prelude.{◌≡◌, ◌⊎◌, length};
 ghost use mathlib.Core.List.{IsPrefix};
-ghost use Rattle.map_snapshot.specs.Maps.{IsNewest};
+ghost use Rattle.map_snapshot.specs.Maps.{IsNewest, maps_in};
 
 use crate::list::Seen;
 use crate::printed::Printed;
+use crate::whole::Whole;
 use std::marker::Model;
 
 /// What a press told: which press it is, the maps that it had published by then, and the newest of them.
@@ -15,13 +16,13 @@ pub struct Told {
 }
 
 impl Model for Told {
-    ghost use Rattle.map_snapshot.specs.Maps.{Known, IsNewest};
+    ghost use Rattle.map_snapshot.specs.Maps.{Known, IsNewest, maps_in};
 
     ghost Value = { Known };
 
-    ghost view = { λ t. record { press = t.seen.book; list = t.seen.log } };
+    ghost view = { λ t. record { press = t.seen.book; list = maps_in t.seen.log } };
 
-    ghost invariant = { λ t. IsNewest t.printed t.seen.log };
+    ghost invariant = { λ t. IsNewest t.printed (maps_in t.seen.log) };
 }
 
 // The version of the newest of a list of maps, or 0 where there is none.
@@ -62,19 +63,21 @@ impl Told {
 
     // The version of the newest, or 0 where there is none.
     #[inline(always)]
-    pub(crate) fn version(&self) -> u64 {
+    pub(crate) fn version(&self) -> u64
+        ensures count { result ≡ length self.now.list }
+    {
         version_of(&self.printed)
     }
 
     // Takes in another list of the same press, with its newest: of the two, each a beginning of what the press has
     // published, it keeps the longer.
     pub(crate) fn take_in(&mut self, printed: &Option<Printed>, seen: &Seen)
-        requires newest { IsNewest printed.now seen.now.log }
+        requires newest { IsNewest printed.now (maps_in seen.now.log) }
         requires own { seen.now.book ≡ self.old.press }
         ensures press { self.new.press ≡ self.old.press }
         ensures kept { IsPrefix self.old.list self.new.list }
-        ensures told { IsPrefix seen.now.log self.new.list }
-        ensures one { (self.new.list ≡ self.old.list) ⊎ (self.new.list ≡ seen.now.log) }
+        ensures told { IsPrefix (maps_in seen.now.log) self.new.list }
+        ensures one { (self.new.list ≡ self.old.list) ⊎ (self.new.list ≡ maps_in seen.now.log) }
     {
         let mut both = seen.again();
         both.learn(&self.seen);
@@ -82,5 +85,17 @@ impl Told {
             replace(&mut self.printed, printed);
             self.seen = seen.again();
         }
+    }
+
+    // Takes in all that its press has published: what was known before is a beginning of it.
+    pub(crate) fn take_whole(&mut self, whole: &Whole)
+        requires own { whole.now.press ≡ self.old.press }
+        ensures press { self.new.press ≡ self.old.press }
+        ensures whole { self.new.list ≡ whole.now.list }
+        ensures began { IsPrefix self.old.list whole.now.list }
+    {
+        let mut both = whole.seen.again();
+        both.learn(&self.seen);
+        self.take_in(&whole.printed, &whole.seen);
     }
 }

@@ -3,7 +3,7 @@ ghost use Rattle.std.specs.Prelude.{◌≡◌, ◌+◌, ◌≤◌, ◌++◌, [],
 ghost use Rattle.map_snapshot.specs.declared.printed.TheConstants.{MAX_BYTES};
 ghost use Rattle.map_snapshot.specs.Maps.{map_in};
 
-use map_snapshot::{Press, Printed, Told};
+use map_snapshot::{Press, Printed, Told, Whole};
 use std::alloc::AllocError;
 use std::marker::Model;
 use std::mem::ManuallyDrop;
@@ -25,20 +25,6 @@ impl Model for Kept {
     ghost Value = { Printing };
 
     ghost view = { λ k. manually_drop_value k.press };
-}
-
-/// That a press has ended, with what it told before. `Kept::end` alone makes one.
-#[derive(Drop)]
-pub struct Ended {
-    told: Told,
-}
-
-impl Model for Ended {
-    ghost use Rattle.logbook.specs.Pages.{Book};
-
-    ghost Value = { Book };
-
-    ghost view = { λ e. e.told.press };
 }
 
 impl Kept {
@@ -88,13 +74,10 @@ impl Kept {
         self.press.publish(rt);
     }
 
-    // Ends the press.
-    pub fn end<R: Wait>(self, rt: &R) -> Ended
-        ensures ended { result ≡ self.press }
+    // Ends the press, which tells all that it has published.
+    pub fn end<R: Wait>(self, rt: &R) -> Whole
+        ensures whole { result ≡ record { press = self.press; list = self.list } }
     {
-        let mut press = self.into_press();
-        let told = press.tell();
-        press.end(rt);
-        Ended { told }
+        self.into_press().end(rt)
     }
 }

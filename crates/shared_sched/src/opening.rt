@@ -8,10 +8,9 @@ ghost use Rattle.shared_sched.specs.Desk.{fixed_of, history_of, empty_desk};
 
 use crate::desk::Desk;
 use crate::fault::OpenFault;
-use crate::kept::Ended;
 use crate::recorder::Recorder;
 use crate::shared::Shared;
-use map_snapshot::{MAX_READERS, Press, Reader, open_press};
+use map_snapshot::{MAX_READERS, Press, Reader, Whole, open_press};
 use minislots::Checked;
 use sched_history::Scheduler;
 use std::alloc::Global;
@@ -37,7 +36,7 @@ fn lay(
 }
 
 // Shares a scheduler that has recorded no call, with a press that has published nothing. After a fault the press has
-// ended.
+// ended, and nothing is published for good.
 fn share<R: Wait>(
     rt: &R,
     alloc: Global,
@@ -45,7 +44,7 @@ fn share<R: Wait>(
     scheduler: Scheduler,
     press: Press,
     seats: usize,
-) -> Result<(Shared, Vec<Seat<Desk>>), Ended>
+) -> Result<(Shared, Vec<Seat<Desk>>), Whole>
     requires new { scheduler ≡ record { config = checked; history = [] } }
     requires unread { (press.list ≡ []) × (press.waiting ≡ []) }
     requires count { (1 ≤ seats) × (seats ≤ MAX_SEATS) }
@@ -53,7 +52,7 @@ fn share<R: Wait>(
     ensures press { IfOk result (λ r. r.0.press ≡ press.press) }
     ensures opened { IfOk result (λ r.
         Opens fixed_of history_of (empty_desk checked press.press) seats 0 r.0.lock r.1.items) }
-    ensures ended { IfErr result (λ ended. ended ≡ press.press) }
+    ensures ended { IfErr result (λ whole. whole ≡ unread press.press) }
 {
     let mut recorder = Recorder::new(scheduler, press);
     let told = recorder.tell();
@@ -103,6 +102,6 @@ pub fn open<R: Wait>(
     };
     match share(rt, alloc, checked, scheduler, press, seats) {
         Ok((shared, row)) => Ok((shared, row, readers)),
-        Err(_ended) => Err(OpenFault::Memory),
+        Err(_whole) => Err(OpenFault::Memory),
     }
 }

@@ -3,8 +3,8 @@ ghost use Rattle.std.specs.Prelude.{◌≡◌, [], length};
 ghost use Rattle.shared_sched.specs.Build.{desk_with};
 ghost use Rattle.shared_sched.specs.Desk.{HasFewCalls, published};
 
-use crate::kept::{Ended, Kept};
-use map_snapshot::{Press, Told};
+use crate::kept::Kept;
+use map_snapshot::{Press, Told, Whole};
 use sched_history::{Entry, Scheduler};
 use std::marker::Model;
 use std::sync::Wait;
@@ -59,9 +59,9 @@ impl Recorder {
         self.press.tell()
     }
 
-    // Ends its press.
-    pub(crate) fn end<R: Wait>(self, rt: &R) -> Ended
-        ensures ended { result ≡ self.press }
+    // Ends its press, which tells all that it has published: the encodings of the history's MAPs.
+    pub(crate) fn end<R: Wait>(self, rt: &R) -> Whole
+        ensures whole { result ≡ record { press = self.press; list = published self.history } }
     {
         let Recorder {
             scheduler: _,
