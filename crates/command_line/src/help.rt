@@ -124,11 +124,17 @@ pub const DRAW: &str =
     r#"Reads from standard input what `run` reads: {"config": {..}, "calls": [..]}.
 
 Prints one picture in SVG: put it into a file, and open that in a browser. Each
-MAP of the run has a row, with the minislot at which its frame starts, and in it a
-box for each allocation, from its offset on and as wide as it is long. Its colour
-and its pattern tell what it is for. The SID stands on it where there is room, and
-pointing at it shows the SID, the usage, the offset and the length in minislots,
-and how many bytes of requests it grants (0 where it grants none).
+MAP of the run has a row: before it the number of its frame, counted from 0, and
+the minislot and the millisecond at which the frame starts; in it a box for each
+allocation, from its offset on and as wide as it is long. Above each 40 rows stand
+the minislots and milliseconds of a frame, and what the colours and patterns are
+for. A grant to an unsolicited flow is drawn as such on every channel. The boxes of
+a SID have a shade of their own: those of 64 SIDs in a row are all different. The
+SID stands on a box where there is room, and pointing at it shows the SID, the
+usage, the offset and the length in minislots, and how many bytes of requests it
+grants (0 where it grants none).
+
+--from 100 --count 40 draws the frames 100 to 139 alone, with their own numbers.
 
 Exit statuses: 0, or 2 for the command line, 3 for the input, 4 for the machine.
 Nothing is printed where memory runs out.

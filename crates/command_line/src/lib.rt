@@ -110,12 +110,32 @@ fn storm_command<'a>(alloc: Global) -> Command<'a>
     command(alloc, "storm", about, help::STORM)
 }
 
+// The first frame of a picture, and how many there are.
+fn frames_option<'a>(
+    alloc: Global,
+    name: &'a str,
+    least: u64,
+    help: &'a str,
+) -> Result<Arg<'a>, AllocError>
+    ensures named { IfOk result (λ r. r.id.now ≡ name.entry.now) }
+    ensures local { IfOk result (λ r. r.global ≡ false) }
+{
+    let frames = Arg::new(alloc, name).long(name).value_name("N");
+    Ok(frames
+        .value_parser(ValueParser::unsigned(least, 16_777_216))
+        .help(help))
+}
+
 // The command that draws the frames of a run.
-fn draw_command<'a>(alloc: Global) -> Command<'a>
-    ensures { IsCommand result (codes "draw") [] [] }
+fn draw_command<'a>(alloc: Global) -> Result<Command<'a>, AllocError>
+    ensures { IfOk result (λ r. IsCommand r (codes "draw") (codes "from" ∷ codes "count" ∷ []) []) }
 {
     let about = "Reads a script from standard input and draws its frames in SVG";
+    let from = "The first frame that is drawn, counted from 0";
+    let count = "How many frames are drawn, or all";
     command(alloc, "draw", about, help::DRAW)
+        .arg(frames_option(alloc, "from", 0, from)?)?
+        .arg(frames_option(alloc, "count", 1, count)?)
 }
 
 /// The commands of the program, with their options and their help. Out of memory is the only error.
@@ -123,7 +143,8 @@ pub fn commands<'a>(alloc: Global) -> Result<Command<'a>, AllocError>
     ensures { IfOk result (λ r. IsCommand r (codes "mapsched") []
         ((codes "run", codes "history" ∷ codes "explain" ∷ [])
         ∷ (codes "decode", codes "HEX" ∷ codes "draw" ∷ codes "columns" ∷ codes "explain" ∷ [])
-        ∷ (codes "draw", []) ∷ (codes "audit", codes "explain" ∷ []) ∷ (codes "storm", []) ∷ (codes "check", []) ∷ [])) }
+        ∷ (codes "draw", codes "from" ∷ codes "count" ∷ []) ∷ (codes "audit", codes "explain" ∷ [])
+        ∷ (codes "storm", []) ∷ (codes "check", []) ∷ [])) }
 {
     let about = "The upstream scheduler of one TDMA channel";
     command(alloc, "mapsched", about, help::STATUSES)
@@ -131,7 +152,7 @@ pub fn commands<'a>(alloc: Global) -> Result<Command<'a>, AllocError>
         .subcommand_required(true)
         .subcommand(run_command(alloc)?)?
         .subcommand(decode_command(alloc)?)?
-        .subcommand(draw_command(alloc))?
+        .subcommand(draw_command(alloc)?)?
         .subcommand(audit_command(alloc)?)?
         .subcommand(storm_command(alloc))?
         .subcommand(check_command(alloc))

@@ -2,9 +2,9 @@
 use Rattle.std.proofs.Common.{◌≡◌, ℕ, ◌+◌, ◌<◌, false, List, [], ◌∷◌, ◌++◌, length, get_or, take, Option, ap}
 use Rattle.std.specs.Io.KnownBytes.{Appends}
 use Rattle.sched_history.specs.declared.call.Call.{Call}
-use Rattle.sched_history.specs.Facts.{maps_of}
 use Rattle.sched_history.specs.Machine.{Machine}
 use Rattle.sched_lines.specs.Line.{Answer}
+use Rattle.frame_picture.specs.declared.span.Span.{Span}
 use Rattle.frame_picture.specs.Picture.{picture_text}
 use Rattle.sched_lines.specs.Answer.{MakesCall}
 use Rattle.draw_command.specs.Drawing.{lacks_memory, MakesWhole, Draws}
@@ -22,9 +22,10 @@ MakesWhole-push old mid new calls i d answer below whole one had = record {
 }
 
 -- all calls, and the picture of their MAPs
-pub Draws-whole : (old new : Machine) (calls : List Call) (before after : Option (List ℕ)) → MakesWhole old new calls
-    → Appends before after (picture_text old.config.frame (maps_of new.history)) → Draws old.config calls before after
-Draws-whole old new calls before after whole written = record {
+pub Draws-whole : (old new : Machine) (span : Span) (calls : List Call) (before after : Option (List ℕ))
+    → MakesWhole old new calls → Appends before after (picture_text old.config span new.history)
+    → Draws old.config span calls before after
+Draws-whole old new span calls before after whole written = record {
   answers = whole.answers;
   each = whole.makes.each;
   legal = MakesCalls-legal old new calls whole.answers whole.makes;

@@ -5,12 +5,12 @@ use Rattle.std.specs.Io.KnownBytes.{Appends}
 use Rattle.minislots.specs.declared.config.Config.{Config}
 use Rattle.sched_history.specs.declared.call.Call.{Call}
 use Rattle.sched_history.specs.declared.reply.Unrecorded.TheVariants.{HistoryFull, Memory}
-use Rattle.sched_history.specs.Facts.{maps_of}
 use Rattle.sched_history.specs.History.{IsLegal}
 use Rattle.sched_history.specs.Machine.{Machine}
 use Rattle.script_reading.specs.Script.{Scenario}
 use Rattle.script_reading.specs.Outcome.{StandsFor}
 use Rattle.sched_lines.specs.Line.{Answer}
+use Rattle.frame_picture.specs.declared.span.Span.{Span}
 use Rattle.frame_picture.specs.Picture.{picture_text}
 use Rattle.sched_lines.specs.Answer.{MayGetEach, recorded_entries, MakesCalls}
 
@@ -31,16 +31,16 @@ pub record MakesWhole (old new : Machine) (calls : List Call) : Type 0 where
   pub had_memory : HadMemory answers
 
 -- The calls are made one after the other on a scheduler without entries, there is memory for each, and the picture of
--- their MAPs is written: the recorded ones make a legal history, call i with seat 0 and ticket i
-pub record Draws (c : Config) (calls : List Call) (before after : Option (List ℕ)) : Type 0 where
+-- their frames in the span is written: the recorded ones make a legal history, call i with seat 0 and ticket i
+pub record Draws (c : Config) (span : Span) (calls : List Call) (before after : Option (List ℕ)) : Type 0 where
   pub answers : List Answer
   pub each : MayGetEach c [] 0 calls answers
   pub legal : IsLegal c (recorded_entries 0 calls answers)
   pub had_memory : HadMemory answers
-  pub written : Appends before after (picture_text c.frame (maps_of (recorded_entries 0 calls answers)))
+  pub written : Appends before after (picture_text c span (recorded_entries 0 calls answers))
 
--- The reader's bytes are a script, and the picture of its calls' MAPs was written, and nothing else
-pub record Drawn (unread left written_before written_after : Option (List ℕ)) : Type 0 where
+-- The reader's bytes are a script, and the picture of its frames in the span was written, and nothing else
+pub record Drawn (span : Span) (unread left written_before written_after : Option (List ℕ)) : Type 0 where
   pub scenario : Scenario
   pub read : StandsFor unread left scenario
-  pub draws : Draws scenario.config scenario.calls written_before written_after
+  pub draws : Draws scenario.config span scenario.calls written_before written_after

@@ -5,7 +5,7 @@ ghost use Rattle.script_reading.specs.Stops.{Stops};
 ghost use Rattle.draw_command.specs.Drawing.{lacks_memory, MakesWhole, Draws, Drawn};
 ghost use Rattle.text_stream.specs.Watched.{FailsBy};
 
-use frame_picture::put_picture;
+use frame_picture::{Span, put_picture};
 use minislots::Checked;
 use sched_history::{Call, Reply, Scheduler, Unrecorded};
 use sched_lines::make_call;
@@ -41,31 +41,35 @@ fn draw_calls<W: Sink>(
     scheduler: &mut Scheduler,
     config: &Checked,
     calls: &[Call],
+    span: Span,
     writer: &mut W,
 ) -> Result<(), RunFault>
     requires empty { scheduler.old.history ≡ [] }
     requires same { config.now ≡ scheduler.old.config }
 
-    ensures ok { OnOk result (Draws scheduler.old.config calls.now (W.contents writer.old) (W.contents writer.new)) }
+    ensures ok { OnOk result (Draws scheduler.old.config span calls.now (W.contents writer.old)
+        (W.contents writer.new)) }
     ensures err { IfErr result (λ e. (e ≡ RunFault.Memory) ⊎ (e ≡ RunFault.Output)) }
     ensures failed { FailsBy RunFault.Output result (W.has_failed writer.old) (W.has_failed writer.new) }
     ensures quiet { IfErr result (λ e. e ≢ RunFault.Output → writer.new ≡ writer.old) }
 {
     make_whole(scheduler, calls)?;
-    put_picture(writer, config.frame(), scheduler.history())?;
+    put_picture(writer, config, span, scheduler.history())?;
     Ok(())
 }
 
 /// Reads a script, a configuration and calls in JSON, to the reader's end, makes its calls as a run does, and writes
-/// the picture of the MAPs in SVG: a row for each MAP in their order, and in it a bar for each of its allocations.
+/// the picture of the frames in this span in SVG: a row for each MAP in their order, and in it a bar for each of its
+/// allocations.
 /// Where a call found no memory there is no picture. Nothing is written before another fault than one of output.
 pub fn draw_script<R: Source, W: Sink>(
     alloc: Global,
     reader: &mut R,
+    span: Span,
     writer: &mut W,
 ) -> Result<(), RunFault>
-    // What was written is the picture of the run's MAPs, and nothing else.
-    ensures ok { OnOk result (Drawn (R.remaining reader.old) (R.remaining reader.new)
+    // What was written is the picture of the run's frames in the span, and nothing else.
+    ensures ok { OnOk result (Drawn span (R.remaining reader.old) (R.remaining reader.new)
         (W.contents writer.old) (W.contents writer.new)) }
 
     // Each fault comes under its own condition, the first one in their order.
@@ -80,5 +84,5 @@ pub fn draw_script<R: Source, W: Sink>(
     let Ok(mut scheduler) = Scheduler::open(alloc, config) else {
         return Err(RunFault::Memory);
     };
-    draw_calls(&mut scheduler, &config, &calls, writer)
+    draw_calls(&mut scheduler, &config, &calls, span, writer)
 }

@@ -1,9 +1,11 @@
 -- The frames of a history's front.
-use Rattle.std.proofs.Common.{◌≡◌, ℕ, ◌+◌, ◌-◌, ◌<◌, ◌≤◌, List, [], ◌∷◌, ◌++◌, length, take, drop, get_or}
+use Rattle.std.proofs.Common.{◌≡◌, ℕ, ◌+◌, ◌-◌, ◌<◌, ◌≤◌, ◌&&◌, List, [], ◌∷◌, ◌++◌, length, take, drop, get_or}
 use Rattle.std.proofs.Common.{Option, None, Some, refl, sym, ap, ◌∙◌, arith, append_assoc, append-nil, length-append}
+use Rattle.std.proofs.Common.{inl, inr}
 use Rattle.std.specs.Prelude.{min}
 use Rattle.std.proofs.lemmas.List.{take_more, length-take, length-take-le, length-drop, take_all, take-append-le}
 use Rattle.std.proofs.lemmas.List.{drop-append-le, drop_all}
+use Rattle.std.proofs.lemmas.Bool.{cases_lt}
 use Rattle.map_build.specs.declared.frame_map.FrameMap.{FrameMap}
 use Rattle.sched_history.specs.declared.reply.Entry.{Entry}
 use Rattle.sched_history.specs.History.{map_by}
@@ -49,8 +51,12 @@ one_frame before None = omega arith
 few_frames : (before h : List Entry) → length (frames_after before h) ≤ length h
 few_frames before [] = omega arith
 few_frames before (e ∷ es) =
-    omega (arith, length-append (frame_by before (map_by e.reply)) (frames_after (before ++ e ∷ []) es),
-    one_frame before (map_by e.reply), few_frames (before ++ e ∷ []) es)
+    omega (
+      arith,
+      length-append (frame_by before (map_by e.reply)) (frames_after (before ++ e ∷ []) es),
+      one_frame before (map_by e.reply),
+      few_frames (before ++ e ∷ []) es,
+    )
 
 -- a front of a history builds no more frames than it has entries
 pub frames_of-front-≤ : (h : List Entry) (i : ℕ) → i ≤ length h → length (frames_of (take i h)) ≤ i

@@ -1,7 +1,7 @@
 -- The rows of a history's front.
-use Rattle.std.proofs.Common.{◌≡◌, ℕ, zero, suc, ◌+◌, ◌-◌, ◌<◌, ◌≤◌, ◌&&◌, Bool, false, List, [], ◌∷◌, ◌++◌}
+use Rattle.std.proofs.Common.{◌≡◌, ℕ, zero, suc, ◌+◌, ◌-◌, ◌<◌, ◌≤◌, ◌&&◌, Bool, true, false, List, [], ◌∷◌, ◌++◌}
 use Rattle.std.proofs.Common.{length, take, map, flat_map, get_or, Option, None, Some, refl, sym, ap, ◌∙◌, arith}
-use Rattle.std.proofs.Common.{append-nil, codes, inl, inr, add-one, ltb}
+use Rattle.std.proofs.Common.{append-nil, codes, inl, inr, add-one, ltb, leb}
 use Rattle.std.specs.Prelude.{if◌then◌else◌, IfSome}
 use Rattle.std.specs.List.{range_with_len, AllByRecursion}
 use Rattle.std.specs.Io.KnownBytes.{Appends}
@@ -28,7 +28,7 @@ use Rattle.frame_picture.specs.declared.bar.Bar.{Bar}
 use Rattle.frame_picture.specs.Frames.{Frame, frame_by, frames_of, frames_in, place_in, TellsUnsolicited}
 use Rattle.frame_picture.specs.Frames.{is_unsolicited_after}
 use Rattle.frame_picture.specs.Bar.{bar_at, bar_with}
-use Rattle.frame_picture.specs.Bars.{bar_text}
+use Rattle.frame_picture.specs.Bars.{bar_text, bars_text}
 use Rattle.frame_picture.specs.Picture.{start_text, map_text, built_text, entry_text, row_text, rows_text}
 use Rattle.frame_picture.proofs.Drawn.{rows_text-append}
 use Rattle.frame_picture.proofs.FrameLists.{frames_of-more, frames_in-before, frames_in-behind, frames_in-more}

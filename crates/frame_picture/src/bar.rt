@@ -26,13 +26,7 @@ pub struct Bar {
 
 /// The bar of the element at a place before another one, among the elements of a MAP with these byte counts, where the
 /// flow of its SID is unsolicited or not.
-pub fn bar_with(
-    units: u32,
-    elements: &[Element],
-    bytes: &[u32],
-    i: usize,
-    unsolicited: bool,
-) -> Bar
+pub fn bar_with(units: u32, elements: &[Element], bytes: &[u32], i: usize, unsolicited: bool) -> Bar
     requires inside { i + 1 < length elements.now }
     requires narrow { units ≤ 1024 }
     ensures { result ≡ bar_with units elements.now bytes.now i unsolicited }

@@ -188,10 +188,7 @@ fn put_counts<W: Sink>(
     put_labelled(lines, writer, b". A frame: ", frame)?;
     lines.put(writer, b" minislots, ")?;
     put_ms(lines, writer, scale.ticks, frame)?;
-    lines.put(
-        writer,
-        b" ms. The shade of a box goes by its SID.</text>\n",
-    )
+    lines.put(writer, b" ms. The shade of a box goes by its SID.</text>\n")
 }
 
 // The head of a picture of so many rows, of so many frames in all.

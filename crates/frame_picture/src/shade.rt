@@ -50,7 +50,10 @@ fn put_shade_rule<W: Sink>(
 }
 
 // How the shades look.
-pub(crate) fn put_shade_rules<W: Sink>(lines: &mut TextBuffer, writer: &mut W) -> Result<(), TextFault>
+pub(crate) fn put_shade_rules<W: Sink>(
+    lines: &mut TextBuffer,
+    writer: &mut W,
+) -> Result<(), TextFault>
     ensures ok { OnOk result (Appends (append_known (W.contents writer.old) lines.old)
         (append_known (W.contents writer.new) lines.new) (shade_rules)) }
     ensures err { IfErr result (λ e. e ≡ TextFault.Output) }

@@ -47,6 +47,13 @@ fn show(rt: &(impl Print + Env + AllocGlobal), decode: &ArgMatches) -> Result<bo
     show_text(rt, text, decode.get_flag("draw"), decode.get_one("columns"))
 }
 
+// The command `draw`: all frames, or those that are asked for.
+fn draw(rt: &(impl Input + Print + AllocGlobal), frames: &ArgMatches) -> Result<bool, RunFault> {
+    let from = frames.get_one("from").unwrap_or(0);
+    let count = frames.get_one("count").unwrap_or(u64::MAX);
+    draw_input(rt, from, count)
+}
+
 // The command `check`: ends as the command for such a file would, by what is found.
 fn check(rt: &(impl Input + Print + Eprint + AllocGlobal)) -> ExitCode {
     match check_input(rt) {
@@ -66,7 +73,7 @@ fn main(rt: HostRuntime) -> ExitCode {
     };
     let outcome = match matches.subcommand() {
         Some(("decode", decode)) => show(&rt, decode),
-        Some(("draw", _)) => draw_input(&rt),
+        Some(("draw", frames)) => draw(&rt, frames),
         Some(("audit", _)) => audit_input(&rt),
         Some(("check", _)) => return check(&rt),
         Some(("storm", _)) => storm_input(&rt),

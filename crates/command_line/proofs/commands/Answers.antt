@@ -17,8 +17,8 @@ returns c =
     c.in_ok-run_command.ensures in
     let decode = IsCommand-sub _ _ _ (codes "mapsched") (codes "decode") [] _ _ [] run c.in_ok-subcommand-2.ensures
     c.in_ok-decode_command.ensures in
-    let draw = IsCommand-sub _ _ _ (codes "mapsched") (codes "draw") [] [] _ [] decode c.in_ok-subcommand-3.ensures
-    c.draw_command.ensures in
+    let draw = IsCommand-sub _ _ _ (codes "mapsched") (codes "draw") [] _ _ [] decode c.in_ok-subcommand-3.ensures
+    c.in_ok-draw_command.ensures in
     let audit = IsCommand-sub _ _ _ (codes "mapsched") (codes "audit") [] _ _ [] draw c.in_ok-subcommand-4.ensures
     c.in_ok-audit_command.ensures in
     let storm = IsCommand-sub _ _ _ (codes "mapsched") (codes "storm") [] [] _ [] audit c.in_ok-subcommand-5.ensures

@@ -11,11 +11,11 @@ put_picture-requires-clause-few g c =
     let whole = c.in_ok-make_whole.ensures.ok in
     let same = ap (λ (m : Machine). m.config.calls) whole.makes.state in
     let given = ap (λ (config : Config). config.calls) c.requires.same in
-    let bounds = bounds_of _ c.frame.ensures.lawful in
+    let bounds = bounds_of _ c.config.ensures.lawful in
     omega (arith, ap length c.history.ensures.value, c.history.ensures.within, same, given, bounds.calls_most)
 
 pub returns-clause-ok : goal.returns-clause-ok
 returns-clause-ok g c =
     let drawn = c.in_ok-put_picture.ensures.ok in
-    let written = rw (c.frame.ensures.value, c.requires.same, c.history.ensures.value) at drawn in
-    Draws-whole _ _ c.args.calls.now _ _ c.in_ok-make_whole.ensures.ok written
+    let written = rw (c.requires.same, c.history.ensures.value) at drawn in
+    Draws-whole _ _ c.args.span c.args.calls.now _ _ c.in_ok-make_whole.ensures.ok written

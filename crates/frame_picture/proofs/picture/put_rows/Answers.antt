@@ -19,15 +19,27 @@ overflow_add-number g c =
     let few = frames_of-front-≤ c.args.entries.now c.loop-entry.entry-index end in
     let more : c.count_map-number.result ≡ length (frame_by [] (map_by c.entry-item.result.reply)) =
     c.count_map-number.ensures in
-    omega (arith, few, c.loop-entry.invariant.0, end, c.requires.few, more,
-    one_frame [] (map_by c.entry-item.result.reply))
+    omega (
+      arith,
+      few,
+      c.loop-entry.invariant.0,
+      end,
+      c.requires.few,
+      more,
+      one_frame [] (map_by c.entry-item.result.reply),
+    )
 
 pub put_entry-requires-clause-few : goal.put_entry-requires-clause-few
 put_entry-requires-clause-few g c =
     let end = c.loop-entry.auto.entry-index-end in
     let few = frames_of-front-≤ c.args.entries.now c.loop-entry.entry-index end in
-    row_within c.place_in-place.result c.loop-entry.number (omega (arith, few, c.loop-entry.invariant.0, end,
-    c.requires.few)) c.place_in-place.ensures.near
+    row_within c.place_in-place.result c.loop-entry.number (omega (
+      arith,
+      few,
+      c.loop-entry.invariant.0,
+      end,
+      c.requires.few,
+    )) c.place_in-place.ensures.near
 
 pub loop-entry-preserved : goal.loop-entry-preserved
 loop-entry-preserved g c =
