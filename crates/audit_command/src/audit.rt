@@ -23,7 +23,7 @@ pub enum Verdict {
 }
 
 // Audits a history.
-fn judge(alloc: Global, config: &Checked, entries: &[Entry]) -> Result<Verdict, RunFault>
+pub(crate) fn judge(alloc: Global, config: &Checked, entries: &[Entry]) -> Result<Verdict, RunFault>
     requires few { length entries.now ≤ MAX_ENTRIES }
     ensures ok { IfOk result (IsVerdict config.now entries.now) }
     ensures err { IfErr result (λ e. e ≡ RunFault.Memory) }
@@ -36,7 +36,7 @@ fn judge(alloc: Global, config: &Checked, entries: &[Entry]) -> Result<Verdict, 
 }
 
 // Writes the line of a verdict, and tells whether it is that of a legal history.
-fn put_verdict<W: Sink>(writer: &mut W, verdict: Verdict) -> Result<bool, TextFault>
+pub(crate) fn put_verdict<W: Sink>(writer: &mut W, verdict: Verdict) -> Result<bool, TextFault>
     ensures ok { OnOk result (Appends (W.contents writer.old) (W.contents writer.new) (verdict_line verdict)) }
     ensures legal { IfOk result (λ legal. legal ≡ is_legal verdict) }
     ensures err { IfErr result (λ e. e ≡ TextFault.Output) }

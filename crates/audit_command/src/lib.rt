@@ -2,7 +2,9 @@
 #![tactic(auto)]
 
 mod audit;
+mod explained_audit;
 mod input;
 
 pub use audit::run_audit;
+pub use explained_audit::run_audit_explained;
 pub use input::audit_input;

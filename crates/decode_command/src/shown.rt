@@ -1,6 +1,7 @@
 //! The command over what the program has: standard output, which is written with no buffer, so that nothing is left to
 //! flush, and the environment.
 
+use crate::explained_fault::decode_explained;
 use crate::table::decode_text;
 use std::io;
 use std::rt::Env;
@@ -13,17 +14,23 @@ fn columns_told(rt: &impl Env) -> Option<u16> {
     str::from_utf8(digits.get(..len)?).ok()?.parse().ok()
 }
 
-/// The command `decode`: whether the text is a payload. A drawing has so many columns, or those of the terminal, or 80.
+/// The command `decode`: whether the text is a payload. A drawing has so many columns, or those of the terminal, or 80; a
+/// fault is explained where that is asked for.
 pub fn show_text(
     rt: &(impl Print + Env + AllocGlobal),
     text: &str,
     is_drawn: bool,
     columns: Option<u16>,
+    is_explained: bool,
 ) -> Result<bool, RunFault> {
     let columns = if is_drawn {
         columns.or_else(|| columns_told(rt)).or(Some(80))
     } else {
         None
     };
-    decode_text(rt.alloc(), text, columns, &mut Watched::new(io::writer(rt)))
+    let mut writer = Watched::new(io::writer(rt));
+    if is_explained {
+        return decode_explained(rt.alloc(), text, columns, &mut writer);
+    }
+    decode_text(rt.alloc(), text, columns, &mut writer)
 }

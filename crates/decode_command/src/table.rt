@@ -22,7 +22,11 @@ const SPACES: [u8; 5] = [b' '; 5];
 
 // A label, and a number in decimal.
 #[tactic(auto, unfolding(crate::specs::Table::labelled))]
-fn put_labelled<W: Sink>(writer: &mut W, label: &[u8], number: u64) -> Result<(), TextFault>
+pub(crate) fn put_labelled<W: Sink>(
+    writer: &mut W,
+    label: &[u8],
+    number: u64,
+) -> Result<(), TextFault>
     ensures ok { OnOk result (Appends (W.contents writer.old) (W.contents writer.new) (labelled label.now number)) }
     ensures err { IfErr result (λ e. e ≡ TextFault.Output) }
     ensures failed { FailsBy TextFault.Output result (W.has_failed writer.old) (W.has_failed writer.new) }
@@ -145,9 +149,9 @@ fn put_elements<W: Sink>(writer: &mut W, elements: &[Element]) -> Result<(), Tex
     Ok(())
 }
 
-// The table of a MAP.
+/// Writes the table of a MAP: two lines of its header, and a line for each element.
 #[tactic(auto, unfolding(crate::specs::Table::table_text))]
-fn put_table<W: Sink>(writer: &mut W, map: &WireMap) -> Result<(), TextFault>
+pub fn put_table<W: Sink>(writer: &mut W, map: &WireMap) -> Result<(), TextFault>
     ensures ok { OnOk result (Appends (W.contents writer.old) (W.contents writer.new) (table_text map.now)) }
     ensures err { IfErr result (λ e. e ≡ TextFault.Output) }
     ensures failed { FailsBy TextFault.Output result (W.has_failed writer.old) (W.has_failed writer.new) }
@@ -174,7 +178,7 @@ fn number_of(fault: DecodeFault) -> u64
 }
 
 // The place of the element that a fault names.
-fn index_of(fault: DecodeFault) -> Option<usize>
+pub(crate) fn index_of(fault: DecodeFault) -> Option<usize>
     ensures { result ≡ index_of fault }
 {
     match fault {
@@ -187,7 +191,7 @@ fn index_of(fault: DecodeFault) -> Option<usize>
 
 // The line of a fault.
 #[tactic(auto, unfolding(crate::specs::Table::fault_line))]
-fn put_fault<W: Sink>(writer: &mut W, fault: DecodeFault) -> Result<(), TextFault>
+pub(crate) fn put_fault<W: Sink>(writer: &mut W, fault: DecodeFault) -> Result<(), TextFault>
     ensures ok { OnOk result (Appends (W.contents writer.old) (W.contents writer.new) (fault_line fault)) }
     ensures err { IfErr result (λ e. e ≡ TextFault.Output) }
     ensures failed { FailsBy TextFault.Output result (W.has_failed writer.old) (W.has_failed writer.new) }
@@ -200,7 +204,7 @@ fn put_fault<W: Sink>(writer: &mut W, fault: DecodeFault) -> Result<(), TextFaul
 }
 
 // The table of a MAP, and its drawing where one in so many columns is asked for.
-fn put_map<W: Sink>(
+pub(crate) fn put_map<W: Sink>(
     alloc: Global,
     map: &WireMap,
     columns: Option<u16>,

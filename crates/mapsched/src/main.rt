@@ -8,7 +8,7 @@ use clap::{ArgMatches, Error};
 use command_line::commands;
 use decode_command::show_text;
 use draw_command::draw_input;
-use run_command::{explain_input, run_input};
+use run_command::{explain_input, history_input, run_input};
 use sched_check::check_input;
 use std::alloc::Global;
 use std::process::ExitCode;
@@ -32,19 +32,28 @@ fn fail(rt: &impl Eprint, fault: RunFault) -> ExitCode {
     ExitCode::from(fault.status())
 }
 
-// Prints a fault of the command line, or the help that was asked for.
+// Prints a fault of the command line, or the help that was asked for, which may fail.
 fn explain(rt: &(impl Print + Eprint), error: Error) -> ExitCode {
     if error.kind() == ErrorKind::OutOfMemory {
         return fail(rt, RunFault::Memory);
     }
-    let _ = error.print(rt);
+    let printed = error.print(rt);
+    if printed.is_err() && !error.use_stderr() {
+        return fail(rt, RunFault::Output);
+    }
     ExitCode::from(error.exit_code() as u8)
 }
 
 // The command `decode`: whether the text is a payload.
 fn show(rt: &(impl Print + Env + AllocGlobal), decode: &ArgMatches) -> Result<bool, RunFault> {
     let text = decode.get_str("HEX").unwrap_or("");
-    show_text(rt, text, decode.get_flag("draw"), decode.get_one("columns"))
+    show_text(
+        rt,
+        text,
+        decode.get_flag("draw"),
+        decode.get_one("columns"),
+        decode.get_flag("explain"),
+    )
 }
 
 // The command `draw`: all frames, or those that are asked for.
@@ -74,12 +83,12 @@ fn main(rt: HostRuntime) -> ExitCode {
     let outcome = match matches.subcommand() {
         Some(("decode", decode)) => show(&rt, decode),
         Some(("draw", frames)) => draw(&rt, frames),
-        Some(("audit", _)) => audit_input(&rt),
+        Some(("audit", audit)) => audit_input(&rt, audit.get_flag("explain")),
         Some(("check", _)) => return check(&rt),
         Some(("storm", _)) => storm_input(&rt),
         Some((_, run)) if run.get_flag("explain") => explain_input(&rt),
-        Some((_, run)) => run_input(&rt, run.get_flag("history")),
-        None => run_input(&rt, false),
+        Some((_, run)) if run.get_flag("history") => history_input(&rt),
+        _ => run_input(&rt),
     };
     match outcome {
         Ok(true) => ExitCode::SUCCESS,

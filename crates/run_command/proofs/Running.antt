@@ -15,8 +15,9 @@ use Rattle.sched_lines.specs.Meaning.{explained_line}
 use Rattle.text_stream.proofs.Written.{Appends-out}
 use Rattle.history_writing.specs.HistoryText.{history_text}
 use Rattle.sched_lines.proofs.Made.{MakesCalls-push, MakesCalls-legal}
-use Rattle.run_command.specs.Run.{HistoryFits, AnswersEach}
+use Rattle.run_command.specs.Run.{HistoryFits, AnswersLeaving}
 use Rattle.run_command.specs.Explained.{ExplainsEach}
+use Rattle.run_command.proofs.Leaving.{MakesCalls-count}
 
 -- from one state of the scheduler and the writer these calls led to others, and such lines of their answers were
 -- written
@@ -51,17 +52,20 @@ Runs-written line old new calls before between after waiting runs out = record {
 }
 
 -- all calls, with their lines
-pub Runs-whole : (old new : Machine) (calls : List Call) (n : ℕ) (before after : Option (List ℕ))
+pub Runs-whole : (old new : Machine) (calls : List Call) (n : ℕ) (before after : Option (List ℕ)) (unrecorded : ℕ)
     → length calls ≤ n → Runs line_of old new (take n calls) before after
-    → AnswersEach false old.config calls before after
-Runs-whole old new calls n before after all runs =
+    → unrecorded + length new.history ≡ length calls → AnswersLeaving false old.config calls before after unrecorded
+Runs-whole old new calls n before after unrecorded all runs count =
     let makes : MakesCalls old new calls runs.answers = rw (take_all n calls all) at runs.makes in
     record {
-      answers = runs.answers;
-      each = makes.each;
-      legal = MakesCalls-legal old new calls runs.answers makes;
-      fits = λ text. absurd (let no : false ≡ true = text in cc);
-      written = runs.written;
+      answered = record {
+        answers = runs.answers;
+        each = makes.each;
+        legal = MakesCalls-legal old new calls runs.answers makes;
+        fits = λ text. absurd (let no : false ≡ true = text in cc);
+        written = runs.written;
+      };
+      count = MakesCalls-count old new calls runs.answers unrecorded makes count;
     }
 
 -- all calls, with their explained lines
@@ -79,12 +83,16 @@ Runs-explained old new calls n before after all runs =
 
 -- all calls, with the text of their history
 pub history-written : (old new : Machine) (calls : List Call) (answers : List Answer) (before after : Option (List ℕ))
-    → MakesCalls old new calls answers → HistoryFits old.config new.history
-    → Appends before after (history_text old.config new.history) → AnswersEach true old.config calls before after
-history-written old new calls answers before after makes fits written = record {
-  answers = answers;
-  each = makes.each;
-  legal = MakesCalls-legal old new calls answers makes;
-  fits = λ text. rw (ap (λ (m : Machine). m.history) makes.state) at fits;
-  written = rw (ap (λ (m : Machine). m.history) makes.state) at written;
+    (unrecorded : ℕ) → MakesCalls old new calls answers → HistoryFits old.config new.history
+    → Appends before after (history_text old.config new.history) → unrecorded + length new.history ≡ length calls
+    → AnswersLeaving true old.config calls before after unrecorded
+history-written old new calls answers before after unrecorded makes fits written count = record {
+  answered = record {
+    answers = answers;
+    each = makes.each;
+    legal = MakesCalls-legal old new calls answers makes;
+    fits = λ text. rw (ap (λ (m : Machine). m.history) makes.state) at fits;
+    written = rw (ap (λ (m : Machine). m.history) makes.state) at written;
+  };
+  count = MakesCalls-count old new calls answers unrecorded makes count;
 }

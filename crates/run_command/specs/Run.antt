@@ -1,5 +1,5 @@
 -- What a run reads and writes.
-use Rattle.std.specs.Prelude.{◌≡◌, ℕ, Bool, true, if◌then◌else◌, List, [], Option, flat_map}
+use Rattle.std.specs.Prelude.{◌≡◌, ℕ, ◌+◌, Bool, true, if◌then◌else◌, List, [], length, Option, flat_map}
 use Rattle.std.specs.List.{AllByRecursion}
 use Rattle.std.specs.Io.KnownBytes.{Appends}
 use Rattle.minislots.specs.declared.config.Config as configs
@@ -42,3 +42,17 @@ pub record Ran (as_history : Bool) (unread left written_before written_after : O
   pub scenario : Scenario
   pub read : StandsFor unread left scenario
   pub answered : AnswersEach as_history scenario.config scenario.calls written_before written_after
+
+-- The calls are made, and their output is written, as above, and so many of them were not recorded
+pub record AnswersLeaving (as_history : Bool) (c : configs.Config) (calls : List Call)
+    (before after : Option (List ℕ)) (unrecorded : ℕ) : Type 0 where
+  pub answered : AnswersEach as_history c calls before after
+  pub count : unrecorded + length (recorded_entries 0 calls answered.answers) ≡ length calls
+
+-- The reader's bytes are a script, and the output of its calls' answers was written, and nothing else; and so many of
+-- the calls were not recorded
+pub record RanLeaving (as_history : Bool) (unread left written_before written_after : Option (List ℕ))
+    (unrecorded : ℕ) : Type 0 where
+  pub ran : Ran as_history unread left written_before written_after
+  pub count : unrecorded + length (recorded_entries 0 ran.scenario.calls ran.answered.answers)
+      ≡ length ran.scenario.calls

@@ -2,20 +2,40 @@
 //! nothing is left to flush.
 
 use crate::explain::run_explained;
-use crate::run::run_script;
+use crate::run::{run_counting, run_script};
 use std::io;
 use text_stream::{RunFault, Watched};
 
-/// The command `run`, plain or with the history.
-pub fn run_input(
-    rt: &(impl Input + Print + AllocGlobal),
-    as_history: bool,
+/// Tells on standard error how many calls were not recorded, where there are any.
+pub fn tell_unrecorded(rt: &impl Eprint, calls: usize) {
+    let _ = match calls {
+        0 => Ok(()),
+        1 => rt.eprintln("1 call was not recorded"),
+        _ => rt.eprintln(format_args!("{calls} calls were not recorded")),
+    };
+}
+
+/// The command `run --history`. The text of a history does not tell of calls that were not recorded.
+pub fn history_input(
+    rt: &(impl Input + Print + Eprint + AllocGlobal),
 ) -> Result<bool, RunFault> {
+    let unrecorded = run_counting(
+        rt.alloc(),
+        &mut Watched::new(rt.reader()),
+        &mut Watched::new(io::writer(rt)),
+        true,
+    )?;
+    tell_unrecorded(rt, unrecorded);
+    Ok(true)
+}
+
+/// The command `run`. Each call that was not recorded has its line.
+pub fn run_input(rt: &(impl Input + Print + AllocGlobal)) -> Result<bool, RunFault> {
     run_script(
         rt.alloc(),
         &mut Watched::new(rt.reader()),
         &mut Watched::new(io::writer(rt)),
-        as_history,
+        false,
     )?;
     Ok(true)
 }

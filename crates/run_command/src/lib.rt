@@ -7,5 +7,5 @@ mod input;
 mod run;
 
 pub use explain::run_explained;
-pub use input::{explain_input, run_input};
-pub use run::run_script;
+pub use input::{explain_input, history_input, run_input};
+pub use run::{run_counting, run_script};

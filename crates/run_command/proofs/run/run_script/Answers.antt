@@ -1,13 +1,5 @@
--- The script that was read was answered.
-use Rattle.std.proofs.Common.{◌≡◌, ap}
-use Rattle.sched_history.specs.Machine.{Machine}
+-- What was written is that of the run.
 use Rattle.run_command.proofs.run.run_script.Goals as goal
 
 pub returns-clause-ok : goal.returns-clause-ok
-returns-clause-ok g c =
-    let opened : c.in-Ok.scheduler.config ≡ c.in_ok-config.config = ap (λ (m : Machine). m.config) c.in-Ok.ensures in
-    record {
-      scenario = record { config = c.in_ok-config.config; calls = c.in_ok-config.calls.items };
-      read = c.in_ok-config.ensures.ok;
-      answered = rw (opened, c.deref.ensures.value) at c.in_ok-answer_calls.ensures.ok;
-    }
+returns-clause-ok g c = c.in_ok-run_counting.ensures.ok.ran

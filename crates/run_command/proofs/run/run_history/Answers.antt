@@ -1,0 +1,16 @@
+-- The calls are made, and the text of their history is written.
+use Rattle.run_command.proofs.Leaving.{MakesCalls-few}
+use Rattle.run_command.proofs.Running.{history-written}
+use Rattle.run_command.proofs.run.run_history.Goals as goal
+
+pub count_unrecorded-requires : goal.count_unrecorded-requires
+count_unrecorded-requires g c =
+    MakesCalls-few _ _ c.args.calls.now c.make_calls.ensures.0 c.make_calls.ensures.1
+
+pub returns-clause-ok : goal.returns-clause-ok
+returns-clause-ok g c =
+    let makes = c.make_calls.ensures in
+    let fits = rw (c.history.ensures.value, c.requires.same) at c.history_fits.ensures in
+    let written = rw (c.config.ensures.value, c.requires.same, c.history-2.ensures.value)
+    at c.in_ok-put_history.ensures.ok in
+    history-written _ _ c.args.calls.now makes.0 _ _ _ makes.1 fits written c.count_unrecorded.ensures
