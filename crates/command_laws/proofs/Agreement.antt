@@ -12,7 +12,7 @@ use Rattle.text_stream.specs.RunFault.{run_fault_of}
 use Rattle.text_stream.specs.declared.run_fault.RunFault.{RunFault}
 use Rattle.text_stream.specs.declared.run_fault.RunFault.TheVariants.{Input, TooLong, NotJson, Shape, Config, Memory}
 use Rattle.text_stream.specs.declared.run_fault.RunFault.TheVariants.{Output, Threads}
-use Rattle.run_command.specs.Run.{Stops}
+use Rattle.script_reading.specs.Stops.{Stops}
 use Rattle.storm_command.specs.StormRun.{StopsStorm}
 use Rattle.audit_command.specs.Verdict.{StopsAudit}
 use Rattle.sched_check.specs.declared.kind.Kind.{Kind}

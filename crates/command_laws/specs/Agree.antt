@@ -5,7 +5,8 @@ use Rattle.script_reading.specs.StormScript.{GivesStorm}
 use Rattle.text_stream.specs.declared.run_fault.RunFault.{RunFault}
 use Rattle.text_stream.specs.declared.run_fault.RunFault.TheVariants.{Input, TooLong, NotJson, Shape, Config, Memory}
 use Rattle.text_stream.specs.declared.run_fault.RunFault.TheVariants.{Output, Threads}
-use Rattle.run_command.specs.Run.{Ran, Stops}
+use Rattle.script_reading.specs.Stops.{Stops}
+use Rattle.run_command.specs.Run.{Ran}
 use Rattle.storm_command.specs.StormRun.{StopsStorm}
 use Rattle.audit_command.specs.Verdict.{Audited, StopsAudit}
 use Rattle.sched_check.specs.declared.kind.Kind.TheVariants.{Script, Storm, History}

@@ -1,7 +1,7 @@
 //! The picture of a run.
 
 ghost use Rattle.std.specs.Prelude.{◌≡◌, ◌≢◌, ◌⊎◌, [], OnOk, IfErr};
-ghost use Rattle.run_command.specs.Run.{Stops};
+ghost use Rattle.script_reading.specs.Stops.{Stops};
 ghost use Rattle.draw_command.specs.Drawing.{lacks_memory, MakesWhole, Draws, Drawn};
 ghost use Rattle.text_stream.specs.Watched.{FailsBy};
 

@@ -8,7 +8,7 @@ use Rattle.text_stream.proofs.Told.{not-told}
 use Rattle.script_reading.specs.Script.{Scenario}
 use Rattle.script_reading.specs.Outcome.{outcome_of}
 use Rattle.script_reading.proofs.Told.{script-told, script-stands}
-use Rattle.run_command.specs.Run.{Stops}
+use Rattle.script_reading.specs.Stops.{Stops}
 
 module _ (text : List ℕ) (left : Option (List ℕ)) where
   -- no output fails before a whole script was read

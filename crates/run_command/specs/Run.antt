@@ -8,12 +8,7 @@ use Rattle.sched_history.specs.declared.call.Call.{Call}
 use Rattle.sched_history.specs.declared.reply.Entry.{Entry}
 use Rattle.sched_history.specs.History.{IsLegal}
 use Rattle.script_reading.specs.Script.{Scenario}
-use Rattle.text_stream.specs.declared.fault.TextFault.TheVariants as texts
-use Rattle.text_stream.specs.declared.run_fault.RunFault.{RunFault}
-use Rattle.text_stream.specs.declared.run_fault.RunFault.TheVariants.{Input, TooLong, NotJson, Shape, Config, Memory}
-use Rattle.text_stream.specs.declared.run_fault.RunFault.TheVariants.{Output, Threads}
-use Rattle.text_stream.specs.Input.{ReadsTooMany}
-use Rattle.script_reading.specs.Outcome.{StandsFor, HasFault}
+use Rattle.script_reading.specs.Outcome.{StandsFor}
 use Rattle.sched_lines.specs.Line.{Answer}
 use Rattle.sched_lines.specs.Answer.{MayGetEach, recorded_entries}
 use Rattle.sched_lines.specs.Line.{line_of}
@@ -47,15 +42,3 @@ pub record Ran (as_history : Bool) (unread left written_before written_after : O
   pub scenario : Scenario
   pub read : StandsFor unread left scenario
   pub answered : AnswersEach as_history scenario.config scenario.calls written_before written_after
-
--- why a run ends: a write is tried only after a whole script was read; want of memory and a failed read tell nothing
--- more
-abbrev pub Stops : Option (List ℕ) → Option (List ℕ) → RunFault → Type 0
-Stops unread left Input = Unit {0}
-Stops unread left TooLong = ReadsTooMany unread left
-Stops unread left NotJson = HasFault unread left texts.NotJson
-Stops unread left (Shape n) = HasFault unread left (texts.Shape n)
-Stops unread left (Config fault) = HasFault unread left (texts.Config fault)
-Stops unread left Memory = Unit {0}
-Stops unread left Output = (scenario : Scenario) × StandsFor unread left scenario
-Stops unread left Threads = ⊥

@@ -1,7 +1,7 @@
 //! A run of a script whose refusals are explained.
 
 ghost use Rattle.std.specs.Prelude.{◌≡◌, ◌≢◌, [], OnOk, IfErr};
-ghost use Rattle.run_command.specs.Run.{Stops};
+ghost use Rattle.script_reading.specs.Stops.{Stops};
 ghost use Rattle.run_command.specs.Explained.{ExplainsEach, Explained};
 ghost use Rattle.text_stream.specs.Watched.{FailsBy};
 

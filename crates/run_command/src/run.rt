@@ -4,7 +4,8 @@ ghost use Rattle.std.specs.Prelude.{◌≡◌, ◌≢◌, ◌⊎◌, [], true, f
 ghost use Rattle.sched_lines.specs.Line.{Answer, HasLine};
 ghost use Rattle.text_stream.specs.Watched.{FailsBy};
 ghost use Rattle.sched_lines.specs.Answer.{MakesCall, MakesCalls};
-ghost use Rattle.run_command.specs.Run.{AnswersEach, Ran, Stops};
+ghost use Rattle.script_reading.specs.Stops.{Stops};
+ghost use Rattle.run_command.specs.Run.{AnswersEach, Ran};
 
 use crate::fits::history_fits;
 use history_writing::put_history;

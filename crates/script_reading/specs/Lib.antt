@@ -2,3 +2,4 @@ pub mod Script
 pub mod Usual
 pub mod Outcome
 pub mod StormScript
+pub mod Stops

@@ -17,12 +17,15 @@ use std::alloc::{AllocError, Global};
 pub fn entry_of<T: Tree>(alloc: Global, value: &T) -> Result<Option<Entry>, AllocError>
     ensures { IfOk result (λ entry. entry ≡ entry_of (T.shown value.now)) }
 {
-    let (Some(seat), Some(ticket), Some(call), Some(replied)) = (
+    let (Some(seat), Some(ticket), Some(called), Some(replied)) = (
         number_u32(value, "seat"),
         number_u64(value, "ticket"),
-        member(value, "call").and_then(call_of),
+        member(value, "call"),
         member(value, "reply"),
     ) else {
+        return Ok(None);
+    };
+    let Some(call) = call_of(called) else {
         return Ok(None);
     };
     let Some(reply) = reply_of(alloc, replied)? else {
