@@ -121,9 +121,11 @@ fn frames_option<'a>(
     ensures local { IfOk result (λ r. r.global ≡ false) }
 {
     let frames = Arg::new(alloc, name).long(name).value_name("N");
-    Ok(frames
-        .value_parser(ValueParser::unsigned(least, 16_777_216))
-        .help(help))
+    Ok(
+        frames
+            .value_parser(ValueParser::unsigned(least, 16_777_216))
+            .help(help),
+    )
 }
 
 // The command that draws the frames of a run.

@@ -54,6 +54,8 @@ fn draw_calls<W: Sink>(
     ensures quiet { IfErr result (λ e. e ≢ RunFault.Output → writer.new ≡ writer.old) }
 {
     make_whole(scheduler, calls)?;
+    // A history has no more entries than calls are recorded, and so few may be drawn.
+    let _most = config.calls();
     put_picture(writer, config, span, scheduler.history())?;
     Ok(())
 }

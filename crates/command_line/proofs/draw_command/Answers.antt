@@ -1,5 +1,5 @@
 -- The options stand in their order.
-use Rattle.std.proofs.Common.{rules, codes, []}
+use Rattle.std.proofs.Common.{codes, []}
 use Rattle.std.proofs.lemmas.Result.{IfOk-weaker}
 use Rattle.command_line.proofs.Adding.{IsCommand-arg}
 use Rattle.command_line.proofs.draw_command.Goals as goal

@@ -11,7 +11,7 @@ put_picture-requires-clause-few g c =
     let whole = c.in_ok-make_whole.ensures.ok in
     let same = ap (λ (m : Machine). m.config.calls) whole.makes.state in
     let given = ap (λ (config : Config). config.calls) c.requires.same in
-    let bounds = bounds_of _ c.config.ensures.lawful in
+    let bounds = bounds_of _ c.calls-most.ensures.lawful in
     omega (arith, ap length c.history.ensures.value, c.history.ensures.within, same, given, bounds.calls_most)
 
 pub returns-clause-ok : goal.returns-clause-ok
