@@ -73,11 +73,7 @@ fn put_place<W: Sink>(writer: &mut W, place: Option<usize>) -> Result<(), TextFa
 
 // A line of words, with a place behind them where there is one.
 #[tactic(auto, unfolding(crate::specs::ExplainedFault::counted))]
-fn put_counted<W: Sink>(
-    writer: &mut W,
-    words: &[u8],
-    place: Option<usize>,
-) -> Result<(), TextFault>
+fn put_counted<W: Sink>(writer: &mut W, words: &[u8], place: Option<usize>) -> Result<(), TextFault>
     ensures ok { OnOk result (Appends (W.contents writer.old) (W.contents writer.new) (counted words.now place)) }
     ensures err { IfErr result (λ e. e ≡ TextFault.Output) }
     ensures failed { FailsBy TextFault.Output result (W.has_failed writer.old) (W.has_failed writer.new) }

@@ -16,9 +16,7 @@ pub fn tell_unrecorded(rt: &impl Eprint, calls: usize) {
 }
 
 /// The command `run --history`. The text of a history does not tell of calls that were not recorded.
-pub fn history_input(
-    rt: &(impl Input + Print + Eprint + AllocGlobal),
-) -> Result<bool, RunFault> {
+pub fn history_input(rt: &(impl Input + Print + Eprint + AllocGlobal)) -> Result<bool, RunFault> {
     let unrecorded = run_counting(
         rt.alloc(),
         &mut Watched::new(rt.reader()),
