@@ -121,7 +121,8 @@ Example:
 
 /// The command that draws the frames of a run.
 pub const DRAW: &str =
-    r#"Reads from standard input what `run` reads: {"config": {..}, "calls": [..]}.
+    r#"Reads from standard input what `run` reads: {"config": {..}, "calls": [..]}; or
+else the history that `run --history` printed, which is drawn as it stands.
 
 Prints one picture in SVG: put it into a file, and open that in a browser. Each
 MAP of the run has a row: before it the number of its frame, counted from 0, and

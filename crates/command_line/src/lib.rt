@@ -132,7 +132,7 @@ fn frames_option<'a>(
 fn draw_command<'a>(alloc: Global) -> Result<Command<'a>, AllocError>
     ensures { IfOk result (λ r. IsCommand r (codes "draw") (codes "from" ∷ codes "count" ∷ []) []) }
 {
-    let about = "Reads a script from standard input and draws its frames in SVG";
+    let about = "Reads a script or a history from standard input and draws its frames in SVG";
     let from = "The first frame that is drawn, counted from 0";
     let count = "How many frames are drawn, or all";
     command(alloc, "draw", about, help::DRAW)

@@ -7,8 +7,9 @@ use Rattle.sched_lines.specs.Line.{Answer}
 use Rattle.frame_picture.specs.declared.span.Span.{Span}
 use Rattle.frame_picture.specs.Picture.{picture_text}
 use Rattle.sched_lines.specs.Answer.{MakesCall}
-use Rattle.draw_command.specs.Drawing.{lacks_memory, MakesWhole, Draws}
+use Rattle.draw_command.specs.Drawing.{lacks_memory, MakesWhole, DrawsLeaving}
 use Rattle.sched_lines.proofs.Fitting.{all-push}
+use Rattle.sched_lines.proofs.Leaving.{MakesCalls-count}
 use Rattle.sched_lines.proofs.Made.{MakesCalls-push, MakesCalls-legal}
 
 -- one call more, for which there was memory
@@ -23,12 +24,15 @@ MakesWhole-push old mid new calls i d answer below whole one had = record {
 
 -- all calls, and the picture of their MAPs
 pub Draws-whole : (old new : Machine) (span : Span) (calls : List Call) (before after : Option (List ℕ))
-    → MakesWhole old new calls → Appends before after (picture_text old.config span new.history)
-    → Draws old.config span calls before after
-Draws-whole old new span calls before after whole written = record {
-  answers = whole.answers;
-  each = whole.makes.each;
-  legal = MakesCalls-legal old new calls whole.answers whole.makes;
-  had_memory = whole.had_memory;
-  written = rw (ap (λ (m : Machine). m.history) whole.makes.state) at written;
+    (unrecorded : ℕ) → MakesWhole old new calls → Appends before after (picture_text old.config span new.history)
+    → unrecorded + length new.history ≡ length calls → DrawsLeaving old.config span calls before after unrecorded
+Draws-whole old new span calls before after unrecorded whole written count = record {
+  draws = record {
+    answers = whole.answers;
+    each = whole.makes.each;
+    legal = MakesCalls-legal old new calls whole.answers whole.makes;
+    had_memory = whole.had_memory;
+    written = rw (ap (λ (m : Machine). m.history) whole.makes.state) at written;
+  };
+  count = MakesCalls-count old new calls whole.answers unrecorded whole.makes count;
 }

@@ -1,5 +1,5 @@
 -- What a drawing of a run reads and writes.
-use Rattle.std.specs.Prelude.{◌≡◌, ℕ, Bool, true, false, List, [], Option, Ok, Err}
+use Rattle.std.specs.Prelude.{◌≡◌, ℕ, ◌+◌, Bool, true, false, List, [], length, Option, Ok, Err}
 use Rattle.std.specs.List.{AllByRecursion}
 use Rattle.std.specs.Io.KnownBytes.{Appends}
 use Rattle.minislots.specs.declared.config.Config.{Config}
@@ -44,3 +44,17 @@ pub record Drawn (span : Span) (unread left written_before written_after : Optio
   pub scenario : Scenario
   pub read : StandsFor unread left scenario
   pub draws : Draws scenario.config span scenario.calls written_before written_after
+
+-- The calls are made and their picture is written, as above, and so many of them were not recorded
+pub record DrawsLeaving (c : Config) (span : Span) (calls : List Call) (before after : Option (List ℕ))
+    (unrecorded : ℕ) : Type 0 where
+  pub draws : Draws c span calls before after
+  pub count : unrecorded + length (recorded_entries 0 calls draws.answers) ≡ length calls
+
+-- The reader's bytes are a script, and the picture of its frames in the span was written, and nothing else; and so many
+-- of its calls were not recorded
+pub record DrawnLeaving (span : Span) (unread left written_before written_after : Option (List ℕ))
+    (unrecorded : ℕ) : Type 0 where
+  pub drawn : Drawn span unread left written_before written_after
+  pub count : unrecorded + length (recorded_entries 0 drawn.scenario.calls drawn.draws.answers)
+      ≡ length drawn.scenario.calls

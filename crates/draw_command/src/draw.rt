@@ -1,14 +1,14 @@
 //! The picture of a run.
 
-ghost use Rattle.std.specs.Prelude.{◌≡◌, ◌≢◌, ◌⊎◌, [], OnOk, IfErr};
+ghost use Rattle.std.specs.Prelude.{◌≡◌, ◌≢◌, ◌⊎◌, [], IfOk, OnOk, IfErr};
 ghost use Rattle.script_reading.specs.Stops.{Stops};
-ghost use Rattle.draw_command.specs.Drawing.{lacks_memory, MakesWhole, Draws, Drawn};
+ghost use Rattle.draw_command.specs.Drawing.{lacks_memory, MakesWhole, DrawsLeaving, Drawn, DrawnLeaving};
 ghost use Rattle.text_stream.specs.Watched.{FailsBy};
 
 use frame_picture::{Span, put_picture};
 use minislots::Checked;
 use sched_history::{Call, Reply, Scheduler, Unrecorded};
-use sched_lines::make_call;
+use sched_lines::{count_unrecorded, make_call};
 use script_reading::read_script;
 use std::alloc::Global;
 use text_stream::{RunFault, Sink, Source};
@@ -36,18 +36,18 @@ fn make_whole(scheduler: &mut Scheduler, calls: &[Call]) -> Result<(), RunFault>
 }
 
 // Makes the calls of a script one after the other, and writes the picture of their MAPs. Nothing is written before
-// memory runs out.
+// memory runs out. Answers how many calls were not recorded.
 fn draw_calls<W: Sink>(
     scheduler: &mut Scheduler,
     config: &Checked,
     calls: &[Call],
     span: Span,
     writer: &mut W,
-) -> Result<(), RunFault>
+) -> Result<usize, RunFault>
     requires empty { scheduler.old.history ≡ [] }
     requires same { config.now ≡ scheduler.old.config }
 
-    ensures ok { OnOk result (Draws scheduler.old.config span calls.now (W.contents writer.old)
+    ensures ok { IfOk result (DrawsLeaving scheduler.old.config span calls.now (W.contents writer.old)
         (W.contents writer.new)) }
     ensures err { IfErr result (λ e. (e ≡ RunFault.Memory) ⊎ (e ≡ RunFault.Output)) }
     ensures failed { FailsBy RunFault.Output result (W.has_failed writer.old) (W.has_failed writer.new) }
@@ -57,13 +57,40 @@ fn draw_calls<W: Sink>(
     // A history has no more entries than calls are recorded, and so few may be drawn.
     let _most = config.calls();
     put_picture(writer, config, span, scheduler.history())?;
-    Ok(())
+    Ok(count_unrecorded(scheduler, calls))
+}
+
+/// Draws a script as [`draw_script`] does, and answers how many of its calls were not recorded.
+pub fn draw_counting<R: Source, W: Sink>(
+    alloc: Global,
+    reader: &mut R,
+    span: Span,
+    writer: &mut W,
+) -> Result<usize, RunFault>
+    // What was written is the picture of the run's frames in the span, and nothing else; and so many calls were not
+    // recorded.
+    ensures ok { IfOk result (DrawnLeaving span (R.remaining reader.old) (R.remaining reader.new)
+        (W.contents writer.old) (W.contents writer.new)) }
+
+    // Each fault comes under its own condition, the first one in their order.
+    ensures stops { IfErr result (Stops (R.remaining reader.old) (R.remaining reader.new)) }
+    ensures quiet { IfErr result (λ e. e ≢ RunFault.Output → writer.new ≡ writer.old) }
+
+    // A failed read or write is told where one has failed, and where all went well none did.
+    ensures failed_read { FailsBy RunFault.Input result (R.has_failed reader.old) (R.has_failed reader.new) }
+    ensures failed_write { FailsBy RunFault.Output result (W.has_failed writer.old) (W.has_failed writer.new) }
+{
+    let (config, calls) = read_script(alloc, reader)?;
+    let Ok(mut scheduler) = Scheduler::open(alloc, config) else {
+        return Err(RunFault::Memory);
+    };
+    let unrecorded = draw_calls(&mut scheduler, &config, &calls, span, writer)?;
+    Ok(unrecorded)
 }
 
 /// Reads a script, a configuration and calls in JSON, to the reader's end, makes its calls as a run does, and writes
 /// the picture of the frames in this span in SVG: a row for each MAP in their order, and in it a bar for each of its
-/// allocations.
-/// Where a call found no memory there is no picture. Nothing is written before another fault than one of output.
+/// allocations. Where a call found no memory there is no picture. Nothing is written before another fault than one of output.
 pub fn draw_script<R: Source, W: Sink>(
     alloc: Global,
     reader: &mut R,
@@ -82,9 +109,6 @@ pub fn draw_script<R: Source, W: Sink>(
     ensures failed_read { FailsBy RunFault.Input result (R.has_failed reader.old) (R.has_failed reader.new) }
     ensures failed_write { FailsBy RunFault.Output result (W.has_failed writer.old) (W.has_failed writer.new) }
 {
-    let (config, calls) = read_script(alloc, reader)?;
-    let Ok(mut scheduler) = Scheduler::open(alloc, config) else {
-        return Err(RunFault::Memory);
-    };
-    draw_calls(&mut scheduler, &config, &calls, span, writer)
+    draw_counting(alloc, reader, span, writer)?;
+    Ok(())
 }

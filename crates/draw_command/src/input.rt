@@ -1,22 +1,29 @@
 //! The command over what the program has: standard input and standard output, which is written with no buffer, so that
 //! nothing is left to flush.
 
-use crate::draw::draw_script;
+use crate::draw::draw_counting;
+use crate::recorded::draw_history;
 use frame_picture::Span;
+use sched_lines::tell_unrecorded;
 use std::io;
-use text_stream::{RunFault, Watched};
+use text_stream::{RunFault, Watched, read_all};
 
-/// The command `draw`, from one frame on, counted from 0, and so many.
+/// The command `draw`, from one frame on, counted from 0, and so many: of a script, or else of a history. A document that
+/// is no script by its members or its configuration has the faults of a history.
 pub fn draw_input(
-    rt: &(impl Input + Print + AllocGlobal),
+    rt: &(impl Input + Print + Eprint + AllocGlobal),
     from: u64,
     count: u64,
 ) -> Result<bool, RunFault> {
-    draw_script(
-        rt.alloc(),
-        &mut Watched::new(rt.reader()),
-        Span { from, count },
-        &mut Watched::new(io::writer(rt)),
-    )?;
+    let span = Span { from, count };
+    let text = read_all(rt.alloc(), &mut Watched::new(rt.reader()))?;
+    let mut writer = Watched::new(io::writer(rt));
+    match draw_counting(rt.alloc(), &mut text.as_slice(), span, &mut writer) {
+        Ok(unrecorded) => tell_unrecorded(rt, unrecorded),
+        Err(RunFault::Shape(0)) => {
+            draw_history(rt.alloc(), &mut text.as_slice(), span, &mut writer)?;
+        }
+        Err(fault) => return Err(fault),
+    }
     Ok(true)
 }

@@ -1,8 +1,10 @@
-//! The picture of a run: its calls are made, and the frames of its MAPs are drawn.
+//! The picture of a run or of a history: the calls of a script are made, and the frames of the MAPs are drawn.
 #![tactic(auto)]
 
 mod draw;
 mod input;
+mod recorded;
 
-pub use draw::draw_script;
+pub use draw::{draw_counting, draw_script};
 pub use input::draw_input;
+pub use recorded::draw_history;

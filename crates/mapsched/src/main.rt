@@ -57,7 +57,10 @@ fn show(rt: &(impl Print + Env + AllocGlobal), decode: &ArgMatches) -> Result<bo
 }
 
 // The command `draw`: all frames, or those that are asked for.
-fn draw(rt: &(impl Input + Print + AllocGlobal), frames: &ArgMatches) -> Result<bool, RunFault> {
+fn draw(
+    rt: &(impl Input + Print + Eprint + AllocGlobal),
+    frames: &ArgMatches,
+) -> Result<bool, RunFault> {
     let from = frames.get_one("from").unwrap_or(0);
     let count = frames.get_one("count").unwrap_or(u64::MAX);
     draw_input(rt, from, count)

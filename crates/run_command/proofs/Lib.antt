@@ -1,3 +1,2 @@
-pub mod Leaving
 pub mod Running
 pub mod RowsStops

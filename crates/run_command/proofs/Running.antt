@@ -17,7 +17,7 @@ use Rattle.history_writing.specs.HistoryText.{history_text}
 use Rattle.sched_lines.proofs.Made.{MakesCalls-push, MakesCalls-legal}
 use Rattle.run_command.specs.Run.{HistoryFits, AnswersLeaving}
 use Rattle.run_command.specs.Explained.{ExplainsEach}
-use Rattle.run_command.proofs.Leaving.{MakesCalls-count}
+use Rattle.sched_lines.proofs.Leaving.{MakesCalls-count}
 
 -- from one state of the scheduler and the writer these calls led to others, and such lines of their answers were
 -- written

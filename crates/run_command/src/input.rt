@@ -3,17 +3,9 @@
 
 use crate::explain::run_explained;
 use crate::run::{run_counting, run_script};
+use sched_lines::tell_unrecorded;
 use std::io;
 use text_stream::{RunFault, Watched};
-
-/// Tells on standard error how many calls were not recorded, where there are any.
-pub fn tell_unrecorded(rt: &impl Eprint, calls: usize) {
-    let _ = match calls {
-        0 => Ok(()),
-        1 => rt.eprintln("1 call was not recorded"),
-        _ => rt.eprintln(format_args!("{calls} calls were not recorded")),
-    };
-}
 
 /// The command `run --history`. The text of a history does not tell of calls that were not recorded.
 pub fn history_input(rt: &(impl Input + Print + Eprint + AllocGlobal)) -> Result<bool, RunFault> {

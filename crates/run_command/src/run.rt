@@ -1,6 +1,6 @@
 //! A run of a script.
 
-ghost use Rattle.std.specs.Prelude.{◌≡◌, ◌≢◌, ◌≤◌, ◌+◌, ◌⊎◌, [], true, false, List, length, IfOk, OnOk, IfErr};
+ghost use Rattle.std.specs.Prelude.{◌≡◌, ◌≢◌, ◌⊎◌, [], true, false, List, IfOk, OnOk, IfErr};
 ghost use Rattle.sched_lines.specs.Line.{Answer, HasLine};
 ghost use Rattle.text_stream.specs.Watched.{FailsBy};
 ghost use Rattle.sched_lines.specs.Answer.{MakesCall, MakesCalls};
@@ -11,18 +11,10 @@ use crate::fits::history_fits;
 use history_writing::put_history;
 use minislots::Checked;
 use sched_history::{Call, Scheduler};
-use sched_lines::{LineBuffer, make_call};
+use sched_lines::{LineBuffer, count_unrecorded, make_call};
 use script_reading::read_script;
 use std::alloc::Global;
 use text_stream::{RunFault, Sink, Source, TextFault};
-
-// How many of the calls were not recorded.
-fn count_unrecorded(scheduler: &Scheduler, calls: &[Call]) -> usize
-    requires { length scheduler.now.history ≤ length calls.now }
-    ensures { result + length scheduler.now.history ≡ length calls.now }
-{
-    calls.len() - scheduler.history().len()
-}
 
 // Makes the calls of a script one after the other, and writes the line of each answer, many lines at a time. Answers
 // how many calls were not recorded, here and below.

@@ -1,4 +1,5 @@
 pub mod RowsLines
 pub mod Answered
 pub mod Made
+pub mod Leaving
 pub mod Fitting

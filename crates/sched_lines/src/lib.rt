@@ -7,8 +7,10 @@ mod line;
 mod lines;
 mod meaning;
 mod named;
+mod unrecorded;
 
 pub use call::make_call;
 pub use line::{put_line, put_number, refusal_number, refusal_value};
 pub use lines::LineBuffer;
 pub use named::put_named;
+pub use unrecorded::{count_unrecorded, tell_unrecorded};

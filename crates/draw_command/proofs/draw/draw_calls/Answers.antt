@@ -3,6 +3,7 @@ use Rattle.std.proofs.Common.{◌≡◌, length, ap, arith}
 use Rattle.minislots.specs.declared.config.Config.{Config}
 use Rattle.minislots.proofs.Bounds.{bounds_of}
 use Rattle.sched_history.specs.Machine.{Machine}
+use Rattle.sched_lines.proofs.Leaving.{MakesCalls-few}
 use Rattle.draw_command.proofs.Drawing.{Draws-whole}
 use Rattle.draw_command.proofs.draw.draw_calls.Goals as goal
 
@@ -14,8 +15,13 @@ put_picture-requires-clause-few g c =
     let bounds = bounds_of _ c.calls-most.ensures.lawful in
     omega (arith, ap length c.history.ensures.value, c.history.ensures.within, same, given, bounds.calls_most)
 
+pub count_unrecorded-requires : goal.count_unrecorded-requires
+count_unrecorded-requires g c =
+    let whole = c.in_ok-make_whole.ensures.ok in
+    MakesCalls-few _ _ c.args.calls.now whole.answers whole.makes
+
 pub returns-clause-ok : goal.returns-clause-ok
 returns-clause-ok g c =
     let drawn = c.in_ok-put_picture.ensures.ok in
     let written = rw (c.requires.same, c.history.ensures.value) at drawn in
-    Draws-whole _ _ c.args.span c.args.calls.now _ _ c.in_ok-make_whole.ensures.ok written
+    Draws-whole _ _ c.args.span c.args.calls.now _ _ _ c.in_ok-make_whole.ensures.ok written c.count_unrecorded.ensures

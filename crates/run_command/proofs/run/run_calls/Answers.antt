@@ -2,7 +2,7 @@
 use Rattle.std.proofs.Common.{◌∙◌}
 use Rattle.std.proofs.lemmas.List.{take_all}
 use Rattle.sched_lines.specs.Line.{line_of}
-use Rattle.run_command.proofs.Leaving.{MakesCalls-few}
+use Rattle.sched_lines.proofs.Leaving.{MakesCalls-few}
 use Rattle.run_command.proofs.Running.{Runs-push, Runs-written, Runs-whole}
 use Rattle.run_command.proofs.run.run_calls.Goals as goal
 

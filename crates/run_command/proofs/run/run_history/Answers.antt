@@ -1,5 +1,5 @@
 -- The calls are made, and the text of their history is written.
-use Rattle.run_command.proofs.Leaving.{MakesCalls-few}
+use Rattle.sched_lines.proofs.Leaving.{MakesCalls-few}
 use Rattle.run_command.proofs.Running.{history-written}
 use Rattle.run_command.proofs.run.run_history.Goals as goal
 

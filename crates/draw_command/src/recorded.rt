@@ -1,0 +1,35 @@
+//! The picture of a history.
+
+ghost use Rattle.std.specs.Prelude.{◌≡◌, ◌≢◌, OnOk, IfErr};
+ghost use Rattle.draw_command.specs.Recorded.{DrawnHistory, StopsHistoryDrawing};
+ghost use Rattle.text_stream.specs.Watched.{FailsBy};
+
+use frame_picture::{Span, put_picture};
+use history_reading::read_history;
+use std::alloc::Global;
+use text_stream::{RunFault, Sink, Source};
+
+/// Reads a history, a configuration and entries in JSON, to the reader's end, and writes the picture of its frames in this
+/// span in SVG, as they stand, whether it is legal or not. Nothing is written before another fault than one of output.
+pub fn draw_history<R: Source, W: Sink>(
+    alloc: Global,
+    reader: &mut R,
+    span: Span,
+    writer: &mut W,
+) -> Result<(), RunFault>
+    // What was written is the picture of the history's frames in the span, and nothing else.
+    ensures ok { OnOk result (DrawnHistory span (R.remaining reader.old) (R.remaining reader.new)
+        (W.contents writer.old) (W.contents writer.new)) }
+
+    // Each fault comes under its own condition, the first one in their order.
+    ensures stops { IfErr result (StopsHistoryDrawing (R.remaining reader.old) (R.remaining reader.new)) }
+    ensures quiet { IfErr result (λ e. e ≢ RunFault.Output → writer.new ≡ writer.old) }
+
+    // A failed read or write is told where one has failed, and where all went well none did.
+    ensures failed_read { FailsBy RunFault.Input result (R.has_failed reader.old) (R.has_failed reader.new) }
+    ensures failed_write { FailsBy RunFault.Output result (W.has_failed writer.old) (W.has_failed writer.new) }
+{
+    let (config, entries) = read_history(alloc, reader)?;
+    put_picture(writer, &config, span, &entries)?;
+    Ok(())
+}
