@@ -14,8 +14,8 @@ fn columns_told(rt: &impl Env) -> Option<u16> {
     str::from_utf8(digits.get(..len)?).ok()?.parse().ok()
 }
 
-/// The command `decode`: whether the text is a payload. A drawing has so many columns, or those of the terminal, or 80; a
-/// fault is explained where that is asked for.
+/// The command `decode`: whether the text is a payload. A drawing has so many columns, or those of the terminal, or
+/// 80; a fault is explained where that is asked for.
 pub fn show_text(
     rt: &(impl Print + Env + AllocGlobal),
     text: &str,

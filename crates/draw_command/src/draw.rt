@@ -90,7 +90,8 @@ pub fn draw_counting<R: Source, W: Sink>(
 
 /// Reads a script, a configuration and calls in JSON, to the reader's end, makes its calls as a run does, and writes
 /// the picture of the frames in this span in SVG: a row for each MAP in their order, and in it a bar for each of its
-/// allocations. Where a call found no memory there is no picture. Nothing is written before another fault than one of output.
+/// allocations. Where a call found no memory there is no picture. Nothing is written before another fault than one of
+/// output.
 pub fn draw_script<R: Source, W: Sink>(
     alloc: Global,
     reader: &mut R,

@@ -8,8 +8,8 @@ use sched_lines::tell_unrecorded;
 use std::io;
 use text_stream::{RunFault, Watched, read_all};
 
-/// The command `draw`, from one frame on, counted from 0, and so many: of a script, or else of a history. A document that
-/// is no script by its members or its configuration has the faults of a history.
+/// The command `draw`, from one frame on, counted from 0, and so many: of a script, or else of a history. A document
+/// that is no script by its members or its configuration has the faults of a history.
 pub fn draw_input(
     rt: &(impl Input + Print + Eprint + AllocGlobal),
     from: u64,

@@ -9,8 +9,8 @@ use history_reading::read_history;
 use std::alloc::Global;
 use text_stream::{RunFault, Sink, Source};
 
-/// Reads a history, a configuration and entries in JSON, to the reader's end, and writes the picture of its frames in this
-/// span in SVG, as they stand, whether it is legal or not. Nothing is written before another fault than one of output.
+/// Reads a history, a configuration and entries in JSON, to the reader's end, and writes the picture of its frames in
+/// this span in SVG, as they stand, whether it is legal or not. Nothing is written before another fault than one of output.
 pub fn draw_history<R: Source, W: Sink>(
     alloc: Global,
     reader: &mut R,
