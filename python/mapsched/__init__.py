@@ -1,0 +1,28 @@
+"""The upstream scheduler of one TDMA channel of a cable modem termination system (DOCSIS 3.0), from Python.
+
+It is the proved library of the package libmapsched-dev, called by ctypes. A `Scheduler` takes calls, which are values,
+and gives replies, which are values too, refusals among them; what is not recorded or not read is a `Fault`.
+
+    from mapsched import Build, Config, Scheduler
+
+    with Scheduler(Config(ticks=4, ..)) as scheduler:
+        reply = scheduler.call(Build(now=760))
+
+docs/PYTHON.md has a whole example. Units: minislots, bytes, microseconds, bits per second.
+"""
+
+from .calls import Admit, Ask, BestEffort, Build, Call, Config, Flow, Heard, Polled, Remove, Skip, Status, Unsolicited
+from .calls import call_of
+from .faults import BadConfig, BadMap, BadPayload, Closed, Fault, HistoryFull, NoHistory, OutOfMemory
+from .maps import Element, Map, decode, encode
+from .replies import Admitted, Built, FlowBytes, Noted, Placed, Refusal, Refused, Removed, Reply, Skipped, Taken
+from .scheduler import Entry, Illegal, Legal, Scheduler, audit, check
+
+__version__ = "0.2.0"
+
+__all__ = [
+    "Admit", "Admitted", "Ask", "BadConfig", "BadMap", "BadPayload", "BestEffort", "Build", "Built", "Call", "Closed",
+    "Config", "Element", "Entry", "Fault", "Flow", "FlowBytes", "Heard", "HistoryFull", "Illegal", "Legal", "Map",
+    "NoHistory", "Noted", "OutOfMemory", "Placed", "Polled", "Refusal", "Refused", "Remove", "Removed", "Reply",
+    "Scheduler", "Skip", "Skipped", "Status", "Taken", "Unsolicited", "audit", "call_of", "check", "decode", "encode",
+]

@@ -1,0 +1,172 @@
+"""What a scheduler is told: the configuration of its channel, flows and calls. README has what values are lawful."""
+
+from __future__ import annotations
+
+from dataclasses import asdict, dataclass, fields
+from typing import Any, Mapping, Union
+
+from .library import CallNumbers, ConfigNumbers, fill
+
+
+@dataclass(frozen=True)
+class Config:
+    """The configuration of a channel, with the names that a script has: `Config(**script["config"])`."""
+
+    ticks: int
+    bytes_per_slot: int
+    overhead: int
+    frame: int
+    cycle: int
+    req_slots: int
+    poll_slots: int
+    lead: int
+    short_max: int
+    quantum: int
+    grant_cap: int
+    receivers: int
+    calls: int
+    start: int
+    ranging_start: int
+    ranging_end: int
+    data_start: int
+    data_end: int
+    channel: int
+    ucd_count: int
+    phy: int = 0
+
+    def numbers(self) -> ConfigNumbers:
+        """The struct for the library; ValueError where a value does not fit."""
+        return fill(ConfigNumbers(), **asdict(self))
+
+
+@dataclass(frozen=True)
+class Unsolicited:
+    """A flow with grants of `size` bytes in each interval, and no requests."""
+
+    size: int
+    interval_us: int
+    jitter_us: int
+    grants: int = 1
+
+
+@dataclass(frozen=True)
+class Polled:
+    """A flow that is asked once in each interval. A rate of 0 is no ceiling."""
+
+    interval_us: int
+    jitter_us: int
+    rate: int
+    burst: int
+
+
+@dataclass(frozen=True)
+class BestEffort:
+    """A flow that asks in the request region. Priority 7 is the highest."""
+
+    priority: int
+    rate: int
+    burst: int
+
+
+Flow = Union[Unsolicited, Polled, BestEffort]
+
+
+@dataclass(frozen=True)
+class Admit:
+    """Admits a flow under an SID. The reply is `Admitted` or `Placed`."""
+
+    sid: int
+    flow: Flow
+
+
+@dataclass(frozen=True)
+class Remove:
+    """Removes a flow. The reply is `Removed`."""
+
+    sid: int
+
+
+@dataclass(frozen=True)
+class Ask:
+    """A request that a receiver heard at a minislot. The reply is `Taken`."""
+
+    receiver: int
+    sid: int
+    bytes: int
+    heard: int
+
+
+@dataclass(frozen=True)
+class Heard:
+    """A receiver has handed in all that it heard before `upto`. The reply is `Noted`."""
+
+    receiver: int
+    upto: int
+
+
+@dataclass(frozen=True)
+class Build:
+    """Builds the MAP of the next frame. The reply is `Built`."""
+
+    now: int
+
+
+@dataclass(frozen=True)
+class Skip:
+    """Leaves out the frames for which it is too late. The reply is `Skipped`."""
+
+    now: int
+
+
+@dataclass(frozen=True)
+class Status:
+    """Asks for the bytes of a flow. The reply is `FlowBytes`."""
+
+    sid: int
+
+
+Call = Union[Admit, Remove, Ask, Heard, Build, Skip, Status]
+
+# By the numbers of the header, and by the names in a script.
+_CALLS = {"admit": Admit, "remove": Remove, "ask": Ask, "heard": Heard, "build": Build, "skip": Skip, "status": Status}
+_FLOWS = {"unsolicited": Unsolicited, "polled": Polled, "best_effort": BestEffort}
+_CALL_TYPES, _FLOW_TYPES = list(_CALLS.values()), list(_FLOWS.values())
+# The members that the struct has as `minislot`.
+_MINISLOTS = {"heard", "upto", "now"}
+
+
+def call_of(members: Mapping[str, Any]) -> Call:
+    """The call of a script's object, as `json` reads it: `call_of({"call": "build", "now": 760})`."""
+    rest = {name: value for name, value in members.items() if name != "call"}
+    if "flow" in rest:
+        flow = dict(rest["flow"])
+        rest["flow"] = _FLOWS[flow.pop("kind")](**flow)
+    return _CALLS[members["call"]](**rest)
+
+
+def _values(value: object) -> dict[str, Any]:
+    return {it.name: getattr(value, it.name) for it in fields(value)}  # type: ignore[arg-type]
+
+
+def numbers_of(call: Call) -> CallNumbers:
+    """The struct of a call; ValueError where a value does not fit, TypeError for what is no call."""
+    if type(call) not in _CALL_TYPES:
+        raise TypeError(f"{call!r} is no call")
+    values = _values(call)
+    flow = values.pop("flow", None)
+    if isinstance(call, Admit):
+        if type(flow) not in _FLOW_TYPES:
+            raise TypeError(f"{flow!r} is no flow")
+        values |= {"flow": _FLOW_TYPES.index(type(flow)), **_values(flow)}
+    values = {"minislot" if name in _MINISLOTS else name: value for name, value in values.items()}
+    return fill(CallNumbers(), kind=_CALL_TYPES.index(type(call)), **values)
+
+
+def from_numbers(numbers: CallNumbers) -> Call:
+    """The call of a struct that the library wrote."""
+    kind = _CALL_TYPES[numbers.kind]
+    if kind is Admit:
+        flow = _FLOW_TYPES[numbers.flow]
+        return Admit(numbers.sid, flow(*(getattr(numbers, it.name) for it in fields(flow))))
+    names = ("minislot" if it.name in _MINISLOTS else it.name for it in fields(kind))
+    return kind(*(getattr(numbers, name) for name in names))

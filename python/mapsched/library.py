@@ -1,0 +1,133 @@
+"""The shared library: where it is found, the structs of its header, and the types of its functions."""
+
+from __future__ import annotations
+
+import ctypes
+import os
+from ctypes import POINTER, Structure, c_size_t, c_uint8, c_uint16, c_uint32, c_uint64, c_void_p
+
+MAX_STARTS, MAX_BYTES, MAX_ELEMENTS = 512, 976, 240
+# The library's name has the version up to which its interface stays the same (docs/VERSIONS.md).
+SONAME = "libmapsched.so.0.2"
+
+
+class ConfigNumbers(Structure):
+    """struct mapsched_config"""
+
+    _fields_ = [
+        *((name, c_uint32) for name in ("ticks", "bytes_per_slot", "overhead", "frame", "cycle", "req_slots")),
+        *((name, c_uint32) for name in ("poll_slots", "lead", "short_max", "quantum", "grant_cap", "calls")),
+        ("start", c_uint64),
+        *((name, c_uint8) for name in ("receivers", "ranging_start", "ranging_end", "data_start", "data_end")),
+        *((name, c_uint8) for name in ("channel", "ucd_count", "phy")),
+    ]
+
+
+class CallNumbers(Structure):
+    """struct mapsched_call"""
+
+    _fields_ = [
+        *((name, c_uint32) for name in ("kind", "flow", "size", "interval_us", "jitter_us", "rate", "burst", "bytes")),
+        ("minislot", c_uint64),
+        ("sid", c_uint16),
+        *((name, c_uint8) for name in ("receiver", "priority", "grants")),
+    ]
+
+
+class StampNumbers(Structure):
+    """struct mapsched_stamp"""
+
+    _fields_ = [("ticket", c_uint64), ("seat", c_uint32)]
+
+
+class ReplyNumbers(Structure):
+    """struct mapsched_reply"""
+
+    _fields_ = [
+        *((name, c_uint32) for name in ("kind", "refusal", "starts_count", "length")),
+        *((name, c_uint64) for name in ("value", "asked", "granted", "outstanding")),
+        ("starts", c_uint16 * MAX_STARTS),
+        ("payload", c_uint8 * MAX_BYTES),
+    ]
+
+
+class EntryNumbers(Structure):
+    """struct mapsched_entry"""
+
+    _fields_ = [("stamp", StampNumbers), ("call", CallNumbers), ("reply", ReplyNumbers)]
+
+
+class ElementNumbers(Structure):
+    """struct mapsched_element"""
+
+    _fields_ = [("sid", c_uint16), ("offset", c_uint16), ("iuc", c_uint8)]
+
+
+class MapNumbers(Structure):
+    """struct mapsched_map"""
+
+    _fields_ = [
+        *((name, c_uint32) for name in ("alloc_start", "ack", "count")),
+        *((name, c_uint8) for name in ("channel", "ucd_count", "reserved", "ranging_start", "ranging_end")),
+        *((name, c_uint8) for name in ("data_start", "data_end")),
+        ("elements", ElementNumbers * MAX_ELEMENTS),
+    ]
+
+
+class Handle(Structure):
+    """struct mapsched_scheduler"""
+
+    _fields_ = [("full", c_uint32), ("at", c_void_p)]
+
+
+_BYTES, _SIZE = POINTER(c_uint8), POINTER(c_size_t)
+_FUNCTIONS = {
+    "check": [POINTER(ConfigNumbers)],
+    "open": [POINTER(Handle), POINTER(ConfigNumbers)],
+    "call": [POINTER(Handle), POINTER(StampNumbers), POINTER(CallNumbers), POINTER(ReplyNumbers)],
+    "count": [POINTER(Handle), _SIZE],
+    "entry": [POINTER(Handle), c_size_t, POINTER(EntryNumbers)],
+    "history": [POINTER(Handle), _BYTES, c_size_t, _SIZE],
+    "audit": [_BYTES, c_size_t, _SIZE],
+    "decode": [_BYTES, c_size_t, POINTER(MapNumbers), _SIZE],
+    "encode": [POINTER(MapNumbers), _BYTES, c_size_t, _SIZE, _SIZE],
+    "close": [POINTER(Handle)],
+}
+
+
+def _load() -> ctypes.CDLL:
+    """The library that the variable MAPSCHED_LIBRARY names, or else the one that is installed."""
+    path = os.environ.get("MAPSCHED_LIBRARY") or SONAME
+    try:
+        found = ctypes.CDLL(path)
+    except OSError as error:
+        told = f"{error}: install the package libmapsched-dev, or let MAPSCHED_LIBRARY name the library"
+        raise ImportError(told) from error
+    for name, types in _FUNCTIONS.items():
+        function = getattr(found, f"mapsched_{name}")
+        function.argtypes, function.restype = types, c_uint32
+    return found
+
+
+_library = _load()
+
+
+def run(name: str, *arguments: object) -> int:
+    """Calls a function of the library by its name without `mapsched_`, and gives its status."""
+    return getattr(_library, f"mapsched_{name}")(*arguments)
+
+
+def fill(numbers: Structure, **values: int) -> Structure:
+    """Writes values into a struct. One that does not fit raises ValueError, where C would cut it off."""
+    types = dict(numbers._fields_)
+    for name, value in values.items():
+        most = (1 << 8 * ctypes.sizeof(types[name])) - 1
+        if not isinstance(value, int) or not 0 <= value <= most:
+            raise ValueError(f"{name} is {value!r}, and not a whole number from 0 to {most}")
+        setattr(numbers, name, value)
+    return numbers
+
+
+def bytes_of(text: bytes) -> ctypes.Array:
+    """Bytes as the library reads them, and one byte where there is none."""
+    return (c_uint8 * max(1, len(text))).from_buffer_copy(text or b"\0")

@@ -1,0 +1,148 @@
+"""What a scheduler answers. A refusal is a reply as others are; each reply has the line that `mapsched run` prints."""
+
+from __future__ import annotations
+
+from dataclasses import dataclass
+from enum import IntEnum
+from typing import Optional, Union
+
+from .library import ReplyNumbers
+
+
+class Refusal(IntEnum):
+    """Why a call is refused, by its number in README's table."""
+
+    NO_SUCH_SID = 1
+    LIVE_ALREADY = 2
+    BAD_PARAMETERS = 3
+    TOO_MANY_FLOWS = 4
+    TOO_MANY_GRANTS = 5
+    NO_PLACE = 6
+    NO_SUCH_FLOW = 7
+    DOES_NOT_ASK = 8
+    NO_SUCH_RECEIVER = 9
+    BAD_BYTES = 10
+    HEARD_TOO_OLD = 11
+    TOO_FAR = 12
+    PROGRESS_FALLS = 13
+    BAD_CLOCK = 14
+    TOO_EARLY = 15
+    TOO_LATE = 16
+    NOTHING_TO_SKIP = 17
+
+
+_WITH_VALUE = {3, 11, 12, 13, 15, 16, 17}
+
+
+@dataclass(frozen=True)
+class Admitted:
+    """A best effort flow is admitted."""
+
+    line = "admitted"
+
+
+@dataclass(frozen=True)
+class Placed:
+    """A periodic flow is admitted: its first nominal minislot, and its starts in each nominal frame of the cycle."""
+
+    reference: int
+    starts: tuple[int, ...]
+
+    @property
+    def line(self) -> str:
+        return " ".join(["admitted", str(self.reference), *map(str, self.starts)])
+
+
+@dataclass(frozen=True)
+class Removed:
+    """A flow is removed."""
+
+    line = "removed"
+
+
+@dataclass(frozen=True)
+class Taken:
+    """A request is taken."""
+
+    line = "taken"
+
+
+@dataclass(frozen=True)
+class Noted:
+    """A receiver's progress is noted."""
+
+    line = "noted"
+
+
+@dataclass(frozen=True)
+class Built:
+    """The MAP of the frame at `start`, as the bytes behind the MAC management header."""
+
+    start: int
+    payload: bytes
+
+    @property
+    def line(self) -> str:
+        return f"map {self.payload.hex()}"
+
+
+@dataclass(frozen=True)
+class Skipped:
+    """Frames are left out; the next one starts at `next`."""
+
+    next: int
+
+    @property
+    def line(self) -> str:
+        return f"skipped {self.next}"
+
+
+@dataclass(frozen=True)
+class FlowBytes:
+    """The bytes that a flow asked for, was granted, and still waits for."""
+
+    asked: int
+    granted: int
+    outstanding: int
+
+    @property
+    def line(self) -> str:
+        return f"flow {self.asked} {self.granted} {self.outstanding}"
+
+
+@dataclass(frozen=True)
+class Refused:
+    """A refused call, which changed nothing. README's table tells which refusals have a value, and what it is."""
+
+    refusal: Refusal
+    value: Optional[int] = None
+
+    @property
+    def line(self) -> str:
+        return f"refused {self.refusal:d}" + ("" if self.value is None else f" {self.value}")
+
+
+Reply = Union[Admitted, Placed, Removed, Taken, Noted, Built, Skipped, FlowBytes, Refused]
+
+
+def _refused(numbers: ReplyNumbers) -> Refused:
+    return Refused(Refusal(numbers.refusal), numbers.value if numbers.refusal in _WITH_VALUE else None)
+
+
+# By the numbers of the header.
+_KINDS = [
+    lambda numbers: Admitted(),
+    lambda numbers: Placed(numbers.value, tuple(numbers.starts[: numbers.starts_count])),
+    lambda numbers: Removed(),
+    lambda numbers: Taken(),
+    lambda numbers: Noted(),
+    lambda numbers: Built(numbers.value, bytes(numbers.payload[: numbers.length])),
+    lambda numbers: Skipped(numbers.value),
+    lambda numbers: FlowBytes(numbers.asked, numbers.granted, numbers.outstanding),
+    _refused,
+]
+
+
+def from_numbers(numbers: ReplyNumbers) -> Reply:
+    """The reply of a struct that the library wrote."""
+    return _KINDS[numbers.kind](numbers)

@@ -1,0 +1,134 @@
+"""The scheduler, its history, and the audit of a history."""
+
+from __future__ import annotations
+
+from ctypes import byref, c_size_t, c_uint8
+from dataclasses import dataclass
+from threading import Lock
+from typing import Iterator, Optional, Union
+
+from . import calls, replies
+from .calls import Call, Config
+from .faults import ILLEGAL, NO_ROOM, want
+from .library import EntryNumbers, Handle, ReplyNumbers, StampNumbers, bytes_of, fill, run
+from .replies import Reply
+
+
+@dataclass(frozen=True)
+class Entry:
+    """A recorded call, with the seat and the ticket that were handed in, and its reply."""
+
+    seat: int
+    ticket: int
+    call: Call
+    reply: Reply
+
+
+@dataclass(frozen=True)
+class Legal:
+    """Each reply of a history may follow the entries before it: how many entries it has."""
+
+    entries: int
+
+
+@dataclass(frozen=True)
+class Illegal:
+    """The first entry, from 0, whose reply may not follow those before it."""
+
+    entry: int
+
+
+def check(config: Config) -> None:
+    """Raises BadConfig where a configuration is not lawful."""
+    want(run("check", config.numbers()))
+
+
+def audit(history: Union[str, bytes]) -> Union[Legal, Illegal]:
+    """The verdict on the text of a history, whoever wrote it. What is none raises NoHistory or BadConfig."""
+    text = history.encode() if isinstance(history, str) else history
+    place = c_size_t()
+    status = run("audit", bytes_of(text), len(text), byref(place))
+    if status == ILLEGAL:
+        return Illegal(place.value)
+    want(status, place.value)
+    return Legal(place.value)
+
+
+class Scheduler:
+    """The scheduler of one channel, from its configuration on; BadConfig where that is not lawful.
+
+    Threads may share it: their calls are made one after the other. `close`, or the end of a `with`, frees it.
+    """
+
+    def __init__(self, config: Config) -> None:
+        self._handle, self._lock = Handle(), Lock()
+        want(run("open", self._handle, config.numbers()))
+
+    def __enter__(self) -> "Scheduler":
+        return self
+
+    def __exit__(self, *_: object) -> None:
+        self.close()
+
+    def __del__(self) -> None:
+        if "_lock" in self.__dict__:
+            self.close()
+
+    def close(self) -> None:
+        """Frees the scheduler. Every later call raises Closed, but for another close."""
+        with self._lock:
+            if self._handle.full:
+                run("close", self._handle)
+
+    def call(self, call: Call, *, seat: int = 0, ticket: Optional[int] = None) -> Reply:
+        """Makes a call, which is recorded, and gives its reply; a refusal is a reply. The ticket is the number of calls
+        before it, where none is given. Raises HistoryFull or OutOfMemory, and then nothing has changed."""
+        numbers, reply = calls.numbers_of(call), ReplyNumbers()
+        with self._lock:
+            of = self._count() if ticket is None else ticket
+            want(run("call", self._handle, fill(StampNumbers(), ticket=of, seat=seat), numbers, reply))
+        return replies.from_numbers(reply)
+
+    def _count(self) -> int:
+        count = c_size_t()
+        want(run("count", self._handle, byref(count)))
+        return count.value
+
+    def __len__(self) -> int:
+        """How many calls are recorded."""
+        with self._lock:
+            return self._count()
+
+    def __bool__(self) -> bool:
+        return True
+
+    def __getitem__(self, place: int) -> Entry:
+        """The recorded call of this number, from 0; a negative one counts from the end."""
+        numbers = EntryNumbers()
+        with self._lock:
+            count = self._count()
+            if not -count <= place < count:
+                raise IndexError(f"the history has {count} entries, and not one of the number {place}")
+            want(run("entry", self._handle, place % count, numbers))
+        call, reply = calls.from_numbers(numbers.call), replies.from_numbers(numbers.reply)
+        return Entry(numbers.stamp.seat, numbers.stamp.ticket, call, reply)
+
+    def history(self) -> Iterator[Entry]:
+        """The recorded calls in order, those included that are made while it is read."""
+        place = 0
+        while place < len(self):
+            yield self[place]
+            place += 1
+
+    __iter__ = history
+
+    def history_text(self) -> str:
+        """The text of the history, as `mapsched run --history` prints it."""
+        length, room = c_size_t(), (c_uint8 * 1)()
+        with self._lock:
+            status = run("history", self._handle, room, 0, byref(length))
+            if status == NO_ROOM:
+                room = (c_uint8 * length.value)()
+                status = run("history", self._handle, room, length.value, byref(length))
+            want(status)
+        return bytes(room).decode()

@@ -1,0 +1,128 @@
+"""What no table has: drawn scripts beside the program, closing, values that do not fit, threads, and the structs."""
+
+import ctypes
+import json
+import os
+import subprocess
+import tempfile
+import threading
+import unittest
+from shutil import which
+
+import mapsched
+from mapsched import Ask, BadMap, Build, Built, Closed, Config, Element, HistoryFull, NoHistory, Scheduler, Status
+from mapsched import library
+
+from . import tables
+from .tables import texts
+
+CONFIG = Config(**json.loads(texts.CONFIG))
+PROGRAM = os.environ.get("MAPSCHED_PROGRAM")
+STRUCTS = {
+    "config": library.ConfigNumbers, "call": library.CallNumbers, "stamp": library.StampNumbers,
+    "reply": library.ReplyNumbers, "entry": library.EntryNumbers, "element": library.ElementNumbers,
+    "map": library.MapNumbers, "scheduler": library.Handle,
+}
+
+
+class BesideTheProgram(unittest.TestCase):
+    @unittest.skipUnless(PROGRAM, "MAPSCHED_PROGRAM names no program")
+    def test_drawn_scripts_have_the_same_lines_and_the_same_history(self):
+        for number in range(1000, 1040):
+            drawing = tables.drawing_of(number)
+            script = json.dumps({"config": drawing.config, "calls": drawing.play()[0]})
+            lines, history = tables.run(script)
+            for words, wanted in [(["run"], "".join(f"{it}\n" for it in lines)), (["run", "--history"], history)]:
+                ran = subprocess.run([PROGRAM, *words], input=script, capture_output=True, encoding="utf-8")
+                self.assertEqual((ran.returncode, ran.stdout), (0, wanted), f"script {number}")
+
+
+class Module(unittest.TestCase):
+    def test_a_closed_scheduler_takes_no_call(self):
+        scheduler = Scheduler(CONFIG)
+        scheduler.close()
+        scheduler.close()
+        for use in (lambda: scheduler.call(Build(760)), lambda: len(scheduler), lambda: scheduler[0],
+                    scheduler.history_text, lambda: next(scheduler.history())):
+            self.assertRaises(Closed, use)
+
+    def test_a_value_that_does_not_fit_is_not_cut_off(self):
+        with Scheduler(CONFIG) as scheduler:
+            for call in (Status(65536), Status(-1), Build(2**64), Ask(256, 1, 1, 1), Status("5"), Status(1.0)):
+                self.assertRaises(ValueError, scheduler.call, call)
+            self.assertRaises(ValueError, scheduler.call, Build(760), seat=2**32)
+            self.assertRaises(TypeError, scheduler.call, {"call": "build", "now": 760})
+            self.assertEqual(len(scheduler), 0)
+        self.assertRaises(ValueError, Scheduler, mapsched.Config(**{**vars(CONFIG), "channel": 256}))
+
+    def test_a_full_history_is_a_fault_and_changes_nothing(self):
+        with Scheduler(Config(**{**vars(CONFIG), "calls": 1})) as scheduler:
+            self.assertIsInstance(scheduler.call(Build(760)), Built)
+            text = scheduler.history_text()
+            self.assertRaises(HistoryFull, scheduler.call, Build(800))
+            self.assertEqual((scheduler.history_text(), len(scheduler), bool(scheduler)), (text, 1, True))
+            self.assertEqual(scheduler[-1], scheduler[0])
+            for place in (1, -2):
+                self.assertRaises(IndexError, scheduler.__getitem__, place)
+
+    def test_the_stamp_is_recorded(self):
+        with Scheduler(CONFIG) as scheduler:
+            scheduler.call(Build(760), seat=7, ticket=2**64 - 1)
+            self.assertEqual((scheduler[0].seat, scheduler[0].ticket), (7, 2**64 - 1))
+
+    def test_what_is_no_json_is_no_history(self):
+        for text in ("", "{", b"\xff"):
+            with self.assertRaises(NoHistory) as raised:
+                mapsched.audit(text)
+            self.assertEqual((str(raised.exception), raised.exception.place), ("not json", None))
+        with self.assertRaises(NoHistory) as raised:
+            mapsched.audit(b" " * 16777217)
+        self.assertEqual(str(raised.exception), "text too long")
+
+    def test_an_illegal_history_has_its_entry(self):
+        _, history = tables.run(texts.read("examples/two_maps.json"))
+        self.assertEqual(mapsched.audit(history.replace('"ack":800', '"ack":801', 1)), mapsched.Illegal(0))
+
+    def test_numbers_that_are_no_map_have_their_fault(self):
+        good = mapsched.decode(bytes.fromhex("03010300000003200000032000000000fffc4000000180040001c028"))
+        null, early = Element(0, 7, 40), Element(0, 6, 41)
+        for elements, number, element in [
+            ([null] * 241, 1, None), ([Element(16384, 6, 0), null], 2, 0), ([early, null], 3, 1), ([early], 4, None),
+            ([null, null], 5, 1),
+        ]:
+            with self.assertRaises(BadMap) as raised:
+                mapsched.encode(mapsched.Map(**{**vars(good), "elements": tuple(elements)}))
+            self.assertEqual((raised.exception.number, raised.exception.element), (number, element))
+
+    def test_threads_may_share_a_scheduler(self):
+        with Scheduler(CONFIG) as scheduler:
+            work = [threading.Thread(target=lambda: [scheduler.call(Status(5)) for _ in range(100)]) for _ in range(8)]
+            for it in work:
+                it.start()
+            for it in work:
+                it.join()
+            self.assertEqual([it.ticket for it in scheduler], [*range(800)])
+
+    @unittest.skipUnless(which("cc"), "there is no C compiler")
+    def test_the_structs_are_those_of_the_header(self):
+        lines = ["#include <mapsched.h>", "#include <stdio.h>", "int main(void) {"]
+        wanted = []
+        for name, struct in STRUCTS.items():
+            lines.append(f'printf("%zu\\n", sizeof(struct mapsched_{name}));')
+            wanted.append(ctypes.sizeof(struct))
+            for field, _ in struct._fields_:
+                lines.append(f'printf("%zu\\n", offsetof(struct mapsched_{name}, {field}));')
+                wanted.append(getattr(struct, field).offset)
+        for name in ("MAX_STARTS", "MAX_BYTES", "MAX_ELEMENTS"):
+            lines.append(f'printf("%d\\n", MAPSCHED_{name});')
+            wanted.append(getattr(library, name))
+        with tempfile.TemporaryDirectory() as room:
+            with open(f"{room}/sizes.c", "w", encoding="utf-8") as it:
+                it.write("\n".join([*lines, "return 0; }", ""]))
+            subprocess.run(["cc", f"-I{tables.HERE}/include", "-o", f"{room}/sizes", f"{room}/sizes.c"], check=True)
+            found = subprocess.run([f"{room}/sizes"], capture_output=True, check=True).stdout.split()
+        self.assertEqual([int(it) for it in found], wanted)
+
+    def test_the_name_of_the_library_has_the_version(self):
+        major, minor, _ = mapsched.__version__.split(".")
+        self.assertEqual(library.SONAME, f"libmapsched.so.{major if major != '0' else f'0.{minor}'}")
