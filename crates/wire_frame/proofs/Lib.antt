@@ -1,0 +1,13 @@
+pub mod Shifts
+pub mod Values
+pub mod Division
+pub mod Sums
+pub mod Bytes
+pub mod Entries
+pub mod Generators
+pub mod Requests
+pub mod Placed
+pub mod Rows
+pub mod SetBits
+pub mod LeftBy
+pub mod Distance

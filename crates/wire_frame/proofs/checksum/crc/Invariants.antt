@@ -1,0 +1,8 @@
+-- The register is the one after the bytes so far.
+use Rattle.std.proofs.Common.{◌≡◌, take}
+use Rattle.wire_frame.specs.declared.tables.TheConstants.{ETHERNET}
+use Rattle.wire_frame.specs.Register.{after_bytes}
+use Rattle.wire_frame.proofs.checksum.crc.Given as goal
+
+abbrev pub invariant-loop-byte : goal.invariant-loop-byte
+invariant-loop-byte l = l.state ≡ after_bytes ETHERNET 4294967295 (take l.byte-index l.bytes)

@@ -1,0 +1,6 @@
+pub mod Polynomial
+pub mod Checksum
+pub mod Register
+pub mod Request
+pub mod MapFrame
+pub mod Asking

@@ -1,0 +1,35 @@
+-- The MAC management message of a MAP, as a downstream channel carries it.
+use Rattle.std.specs.Prelude.{◌≡◌, ℕ, ◌+◌, ◌^◌, ◌<◌, List, [], ◌∷◌, ◌++◌, length}
+use Rattle.std.specs.Int.{w16, w32, to_be_bytes, to_le_bytes}
+use Rattle.wire_frame.specs.Checksum.{IsHcs, IsCrc}
+
+-- the address to which MAPs go: all modems
+abbrev pub all_modems : List ℕ
+all_modems = 0x01 ∷ 0xE0 ∷ 0x2F ∷ 0x00 ∷ 0x00 ∷ 0x01 ∷ []
+
+-- DSAP 0, SSAP 0, control 3; version 1, type 3, which is a MAP, and a reserved byte
+abbrev pub map_type : List ℕ
+map_type = 0x00 ∷ 0x00 ∷ 0x03 ∷ 0x01 ∷ 0x03 ∷ 0x00 ∷ []
+
+-- a management message before its CRC: the receivers, the sender, the number of bytes from the next one to the
+-- payload's end, what message it is, and the payload
+abbrev pub message : List ℕ → List ℕ → List ℕ
+message address payload =
+    all_modems ++ address ++ to_be_bytes w16 (length map_type + length payload) ++ map_type ++ payload
+
+-- the MAC header before its HCS: a management message, no parameter, and the number of bytes behind the HCS, the four
+-- of the CRC among them
+abbrev pub mac_header : List ℕ → List ℕ
+mac_header behind = 0xC2 ∷ 0x00 ∷ to_be_bytes w16 (length behind + 4)
+
+-- The frame of a MAP's payload from an address: the MAC header and its HCS, the message and its CRC, each checksum
+-- with its low byte first
+pub record IsMapFrame (address payload frame : List ℕ) : Type 0 where
+  pub hcs : ℕ
+  pub crc : ℕ
+  pub fits : length (message address payload) + 4 < 2 ^ 16
+  pub is_hcs : IsHcs (mac_header (message address payload)) hcs
+  pub is_crc : IsCrc (message address payload) crc
+  pub bytes : frame
+      ≡ (mac_header (message address payload) ++ to_le_bytes w16 hcs)
+      ++ (message address payload ++ to_le_bytes w32 crc)

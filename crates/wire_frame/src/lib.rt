@@ -1,0 +1,14 @@
+//! Frames of a DOCSIS channel, CM-SP-MULPIv3.0: the MAC management message of a MAP, and the request frames of modems,
+//! with their two checksums.
+#![tactic(auto)]
+
+mod asking;
+mod checksum;
+mod framing;
+mod request;
+mod tables;
+
+pub use asking::{AskFault, MAX_ASK};
+pub use checksum::{crc, every_checksum, every_header, hcs};
+pub use framing::{MAX_FRAME_BYTES, OVERHEAD, map_frame};
+pub use request::{QUEUE_DEPTH_REQUEST, REQUEST, Request, RequestFault};
