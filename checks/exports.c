@@ -14,7 +14,7 @@ static struct {
   struct mapsched_reply reply;
   struct mapsched_map map;
   struct mapsched_entry last;
-  uintptr_t count, length, place;
+  size_t count, length, place;
   uint8_t text[4096], payload[MAPSCHED_MAX_BYTES];
 } now, before;
 

@@ -1,6 +1,5 @@
-"""Scripts, histories and scripts of storms as texts, and the built program that is run on them. What the tests use too,
-the base configuration and the forms of calls, is read where they have it, in crates/tests/src; the tables are in
-checks/rows."""
+"""Scripts, histories and scripts of storms as texts, and the built program that is run on them. The base configuration,
+whose keys ascend, the forms of calls, which have a place for each number of a row, and the tables are in checks/rows."""
 
 import os
 import re
@@ -20,23 +19,12 @@ def rows(name):
     return [line.split(" => ", 1) for line in read(f"checks/rows/{name}").splitlines() if " => " in line]
 
 
-def constant(file, name):
-    """The text of a constant of the tests."""
-    text = read(f"crates/tests/src/{file}.rt")
-    item = text[text.index(f"const {name}: &str") :].partition("=")[2]
-    literal = re.compile(r'(?:[\s,]|concat!\()*(?:r#"(.*?)"#|"([^"\\]*)")', re.S)
-    found, at = "", 0
-    while part := literal.match(item, at):
-        found, at = found + (part[1] or part[2]), part.end()
-    return found
-
-
 def table(name):
     """A table of checks/rows as it stands, with no empty line behind it."""
     return read(f"checks/rows/{name}").rstrip("\n")
 
 
-CONFIG, FORMS = constant("base/texts", "CONFIG"), constant("base/texts", "CALLS")
+CONFIG, FORMS = table("base_configuration"), table("forms_of_calls")
 PLAIN, SEVERAL = table("runs"), table("runs_with_several_grants")
 CROWDS = [table("runs_of_many_flows"), table("a_run_of_many_grants"), table("a_run_of_forty_grants")]
 RUNS = [PLAIN, SEVERAL, *CROWDS]

@@ -8,15 +8,45 @@
 #ifndef MAPSCHED_H
 #define MAPSCHED_H
 
+#include <stddef.h>
 #include <stdint.h>
 
 #ifdef __cplusplus
 extern "C" {
 #endif
 
-#define MAPSCHED_MAX_STARTS 512
-#define MAPSCHED_MAX_BYTES 976
+/* The version, of which docs/VERSIONS.md says what it promises. */
+#define MAPSCHED_VERSION "0.2.0"
+#define MAPSCHED_VERSION_MAJOR 0
+#define MAPSCHED_VERSION_MINOR 2
+#define MAPSCHED_VERSION_PATCH 0
+
+/* A MAP: the bytes of its fields and of an element, and the most elements and bytes that it has. */
+#define MAPSCHED_FIXED_BYTES 16
+#define MAPSCHED_ELEMENT_BYTES 4
 #define MAPSCHED_MAX_ELEMENTS 240
+#define MAPSCHED_MAX_BYTES (MAPSCHED_FIXED_BYTES + MAPSCHED_MAX_ELEMENTS * MAPSCHED_ELEMENT_BYTES)
+
+/* A placement: the most grants in an interval, frames of a cycle, and starts, one for each grant in each frame. */
+#define MAPSCHED_MAX_GRANTS 8
+#define MAPSCHED_MAX_CYCLE 64
+#define MAPSCHED_MAX_STARTS (MAPSCHED_MAX_GRANTS * MAPSCHED_MAX_CYCLE)
+
+/* The most of each that a call, a configuration, a workplace or a text may have. */
+#define MAPSCHED_MAX_SID 8191
+#define MAPSCHED_MAX_PRIORITY 7
+#define MAPSCHED_MAX_REQUEST_BYTES 1048560
+#define MAPSCHED_MAX_CLOCK (UINT64_C(1) << 60)
+#define MAPSCHED_MAX_FLOWS 64
+#define MAPSCHED_MAX_RECEIVERS 16
+#define MAPSCHED_MAX_CALLS 16777216
+#define MAPSCHED_MAX_SEATS 64
+#define MAPSCHED_MAX_TEXT_BYTES 16777216
+
+/* How many fields of a configuration can be wrong, and faults a payload and the numbers of a MAP can have. */
+#define MAPSCHED_CONFIG_FIELDS 19
+#define MAPSCHED_PAYLOAD_FAULTS 7
+#define MAPSCHED_MAP_FAULTS 5
 
 enum mapsched_status {
   MAPSCHED_OK = 0,
@@ -28,7 +58,7 @@ enum mapsched_status {
   MAPSCHED_NO_ENTRY = 6,      /* the history has no entry of this number */
   MAPSCHED_NO_ROOM = 7,       /* the room is shorter than the text, whose length is told */
   MAPSCHED_ILLEGAL = 8,       /* an entry may not follow those before it: its place is told */
-  MAPSCHED_TOO_LONG = 9,      /* a text is longer than 16777216 bytes */
+  MAPSCHED_TOO_LONG = 9,      /* a text is longer than MAPSCHED_MAX_TEXT_BYTES */
   MAPSCHED_NOT_JSON = 10,     /* a text is not JSON in UTF-8 */
   MAPSCHED_NO_HISTORY = 11,   /* a text is no history: the place of the entry is told, from 1, or 0 */
   MAPSCHED_NO_TICKET = 12,    /* the worker has no ticket */
@@ -36,7 +66,7 @@ enum mapsched_status {
   MAPSCHED_HAS_TICKET = 14,   /* the worker has a ticket */
   MAPSCHED_NO_SEAT = 15,      /* no seat is with the worker */
   MAPSCHED_WORKERS_OUT = 16,  /* other workers are left */
-  MAPSCHED_BAD_SEATS = 17,    /* fewer than 1 seat, or more than 64 */
+  MAPSCHED_BAD_SEATS = 17,    /* fewer than 1 seat, or more than MAPSCHED_MAX_SEATS */
   MAPSCHED_BAD_CONFIG = 100,  /* and the number of the first wrong field: 101 to 119, in the order of README's table */
   MAPSCHED_BAD_PAYLOAD = 200, /* and the number of the first fault: 201 to 207, in the order of README's list */
   MAPSCHED_BAD_MAP = 300      /* and the number of the first fault of numbers that are no MAP: 301 to 305 */
@@ -127,17 +157,16 @@ uint32_t mapsched_call(struct mapsched_scheduler *scheduler, const struct mapsch
                        const struct mapsched_call *call, struct mapsched_reply *reply);
 
 /* How many calls are recorded. */
-uint32_t mapsched_count(struct mapsched_scheduler *scheduler, uintptr_t *count);
+uint32_t mapsched_count(struct mapsched_scheduler *scheduler, size_t *count);
 
 /* The recorded call of this number, from 0. */
-uint32_t mapsched_entry(struct mapsched_scheduler *scheduler, uintptr_t place, struct mapsched_entry *entry);
+uint32_t mapsched_entry(struct mapsched_scheduler *scheduler, size_t place, struct mapsched_entry *entry);
 
 /* Writes the text of the history, as `mapsched run --history` does, and tells its length. */
-uint32_t mapsched_history(struct mapsched_scheduler *scheduler, uint8_t *room, uintptr_t room_length,
-                          uintptr_t *length);
+uint32_t mapsched_history(struct mapsched_scheduler *scheduler, uint8_t *room, size_t room_length, size_t *length);
 
 /* Audits the text of a history, and tells how many entries a legal one has. */
-uint32_t mapsched_audit(const uint8_t *text, uintptr_t length, uintptr_t *place);
+uint32_t mapsched_audit(const uint8_t *text, size_t length, size_t *place);
 
 /* An information element of a MAP. */
 struct mapsched_element {
@@ -153,15 +182,15 @@ struct mapsched_map {
 };
 
 /* Reads the payload of a MAP. Of the faults 4, 5 and 7 the element is told, from 0. */
-uint32_t mapsched_decode(const uint8_t *payload, uintptr_t length, struct mapsched_map *map, uintptr_t *element);
+uint32_t mapsched_decode(const uint8_t *payload, size_t length, struct mapsched_map *map, size_t *element);
 
 /*
  * Writes the payload of a MAP, and tells its length: 1 more than 240 elements are counted, 2 an element has a SID or an
  * offset above 16383 or a code above 14, 3 it begins before the one before it, up to the first Null, 4 no element is a
  * Null, 5 it is a second Null. Of the faults 2, 3 and 5 the element is told, from 0.
  */
-uint32_t mapsched_encode(const struct mapsched_map *map, uint8_t *room, uintptr_t room_length, uintptr_t *length,
-                         uintptr_t *element);
+uint32_t mapsched_encode(const struct mapsched_map *map, uint8_t *room, size_t room_length, size_t *length,
+                         size_t *element);
 
 /* Frees the scheduler. */
 uint32_t mapsched_close(struct mapsched_scheduler *scheduler);
@@ -215,11 +244,12 @@ static inline const char *mapsched_status_text(uint32_t status) {
   static const char *const map_faults[] = {"too many elements", "out of range", "a descent", "no null",
                                            "a second null"};
   if (status <= MAPSCHED_BAD_SEATS) return texts[status];
-  if (status > MAPSCHED_BAD_CONFIG && status <= MAPSCHED_BAD_CONFIG + 19)
+  if (status > MAPSCHED_BAD_CONFIG && status <= MAPSCHED_BAD_CONFIG + MAPSCHED_CONFIG_FIELDS)
     return fields[status - MAPSCHED_BAD_CONFIG - 1];
-  if (status > MAPSCHED_BAD_PAYLOAD && status <= MAPSCHED_BAD_PAYLOAD + 7)
+  if (status > MAPSCHED_BAD_PAYLOAD && status <= MAPSCHED_BAD_PAYLOAD + MAPSCHED_PAYLOAD_FAULTS)
     return faults[status - MAPSCHED_BAD_PAYLOAD - 1];
-  if (status > MAPSCHED_BAD_MAP && status <= MAPSCHED_BAD_MAP + 5) return map_faults[status - MAPSCHED_BAD_MAP - 1];
+  if (status > MAPSCHED_BAD_MAP && status <= MAPSCHED_BAD_MAP + MAPSCHED_MAP_FAULTS)
+    return map_faults[status - MAPSCHED_BAD_MAP - 1];
   return "unknown status";
 }
 

@@ -44,7 +44,7 @@ static void workers(void) {
   struct mapsched_call build = {.kind = MAPSCHED_BUILD, .minislot = 760}, unknown = {.kind = 7};
   struct mapsched_reply reply = {0};
   struct mapsched_entry entry;
-  uintptr_t count = 0;
+  size_t count = 0;
   config.calls = 1;
   wrong.ticks = 3;
 
@@ -107,7 +107,7 @@ int main(void) {
   struct mapsched_entry entry;
   struct mapsched_map map;
   static uint8_t text[10000];
-  uintptr_t count = 99, length = 0, place = 99;
+  size_t count = 99, length = 0, place = 99;
 
   memset(&reply, 0xa5, sizeof reply);
   memset(&entry, 0xa5, sizeof entry);

@@ -40,7 +40,7 @@ static uint32_t make(struct mapsched_worker *worker, struct mapsched_call call, 
 struct work {
   struct mapsched_worker worker;
   uint16_t sid;
-  uintptr_t failures;
+  size_t failures;
 };
 
 /* The turns of one thread: a flow of its own, then requests and builds at minislots that it reads off replies. */
@@ -62,7 +62,7 @@ static void *work(void *argument) {
 }
 
 /* Hires a worker for each thread, and waits until all have left. Tells how many calls were not recorded. */
-static int storm(struct mapsched_worker *first, uintptr_t *failures) {
+static int storm(struct mapsched_worker *first, size_t *failures) {
   static struct work works[THREADS];
   pthread_t threads[THREADS];
   for (int i = 0; i < THREADS; i++) {
@@ -78,8 +78,8 @@ static int storm(struct mapsched_worker *first, uintptr_t *failures) {
 }
 
 /* Audits the text of the history, and tells how many entries it has. */
-static uint32_t audit(struct mapsched_scheduler *scheduler, uintptr_t *entries) {
-  uintptr_t length = 0;
+static uint32_t audit(struct mapsched_scheduler *scheduler, size_t *entries) {
+  size_t length = 0;
   uint8_t none = 0;
   uint32_t status = mapsched_history(scheduler, &none, 0, &length);
   uint8_t *text = malloc(length);
@@ -92,7 +92,7 @@ static uint32_t audit(struct mapsched_scheduler *scheduler, uintptr_t *entries) 
 int main(void) {
   struct mapsched_worker first = {0};
   struct mapsched_scheduler scheduler = {0};
-  uintptr_t failures = 0, entries = 0;
+  size_t failures = 0, entries = 0;
   if (mapsched_open_workers(&first, &config, THREADS + 1) != MAPSCHED_OK || storm(&first, &failures)) return 1;
   uint32_t status = mapsched_close_workers(&first, &scheduler);
   if (status == MAPSCHED_OK) status = audit(&scheduler, &entries);

@@ -5,14 +5,14 @@ use Rattle.minislots.specs.declared.config.Config.{Config as Configuration}
 use Rattle.sched_history.specs.declared.reply.Entry.{Entry}
 use Rattle.sched_history.specs.History.{IsLegal}
 use Rattle.sched_history.specs.Audit.{IsFirstIllegal}
-use Rattle.text_stream.specs.declared.fault.TextFault.TheVariants as texts
 use Rattle.history_reading.specs.Recorded.{History, GivesHistory, StopsHistory}
 use Rattle.audit_command.specs.declared.audit.Verdict.{Verdict}
 use Rattle.audit_command.specs.declared.audit.Verdict.TheVariants.{Legal, Illegal}
 use Rattle.text_stream.specs.declared.run_fault.RunFault.{RunFault}
-use Rattle.text_stream.specs.declared.run_fault.RunFault.TheVariants.{Input, TooLong, NotJson, Shape, Config, Memory}
-use Rattle.text_stream.specs.declared.run_fault.RunFault.TheVariants.{Output, Threads}
 use Rattle.sched_lines.specs.Line.{number_line}
+use Rattle.text_stream.specs.declared.fault.TextFault.TheVariants.{Input, TooLong, NotJson, Shape, Config, Memory}
+use Rattle.text_stream.specs.declared.fault.TextFault.TheVariants.{Output}
+use Rattle.text_stream.specs.declared.run_fault.RunFault.TheVariants.{Text, Threads}
 
 -- a history is legal and has so many entries, or its first entry that may not stand there is this one
 abbrev pub IsVerdict : Configuration → List Entry → Verdict → Type 0
@@ -42,11 +42,11 @@ pub record Audited (unread left written_before written_after : Option (List ℕ)
 -- why an audit ends: there is no history, or a write was tried after a whole one was read; want of memory tells
 -- nothing more
 abbrev pub StopsAudit : Option (List ℕ) → Option (List ℕ) → RunFault → Type 0
-StopsAudit unread left Input = StopsHistory unread left texts.Input
-StopsAudit unread left TooLong = StopsHistory unread left texts.TooLong
-StopsAudit unread left NotJson = StopsHistory unread left texts.NotJson
-StopsAudit unread left (Shape n) = StopsHistory unread left (texts.Shape n)
-StopsAudit unread left (Config field) = StopsHistory unread left (texts.Config field)
-StopsAudit unread left Memory = Unit {0}
-StopsAudit unread left Output = (history : History) × GivesHistory unread left (Ok history)
+StopsAudit unread left (Text Input) = StopsHistory unread left Input
+StopsAudit unread left (Text TooLong) = StopsHistory unread left TooLong
+StopsAudit unread left (Text NotJson) = StopsHistory unread left NotJson
+StopsAudit unread left (Text (Shape n)) = StopsHistory unread left (Shape n)
+StopsAudit unread left (Text (Config field)) = StopsHistory unread left (Config field)
+StopsAudit unread left (Text Memory) = Unit {0}
+StopsAudit unread left (Text Output) = (history : History) × GivesHistory unread left (Ok history)
 StopsAudit unread left Threads = ⊥

@@ -1,9 +1,9 @@
 //! The audit of a history, from its text to the line of its verdict.
 
-ghost use Rattle.std.specs.Prelude.{◌≡◌, ◌≢◌, ◌≤◌, length, IfOk, OnOk, IfErr};
-ghost use Rattle.std.specs.Io.KnownBytes.{Appends};
+ghost use Rattle.std.specs.Prelude.{◌≡◌, ◌≤◌, length, IfOk, IfErr};
 ghost use Rattle.sched_history.specs.declared.reply.TheConstants.{MAX_ENTRIES};
-ghost use Rattle.text_stream.specs.Watched.{FailsBy};
+ghost use Rattle.text_stream.specs.Writing.{Writes};
+ghost use Rattle.text_stream.specs.RunFault.{TellsFailedRead, TellsFailedWrite, WritesLast};
 ghost use Rattle.audit_command.specs.Verdict.{IsVerdict, is_legal, verdict_line, Audited, StopsAudit};
 
 use history_reading::read_history;
@@ -23,24 +23,27 @@ pub enum Verdict {
 }
 
 // Audits a history.
-pub(crate) fn judge(alloc: Global, config: &Checked, entries: &[Entry]) -> Result<Verdict, RunFault>
+pub(crate) fn judge(
+    alloc: Global,
+    config: &Checked,
+    entries: &[Entry],
+) -> Result<Verdict, TextFault>
     requires few { length entries.now ≤ MAX_ENTRIES }
     ensures ok { IfOk result (IsVerdict config.now entries.now) }
-    ensures err { IfErr result (λ e. e ≡ RunFault.Memory) }
+    ensures err { IfErr result (λ e. e ≡ TextFault.Memory) }
 {
     match audit(alloc, config, entries) {
         Ok(()) => Ok(Verdict::Legal(entries.len())),
         Err(AuditFault::Illegal(index)) => Ok(Verdict::Illegal(index)),
-        Err(AuditFault::Memory) => Err(RunFault::Memory),
+        Err(AuditFault::Memory) => Err(TextFault::Memory),
     }
 }
 
 // Writes the line of a verdict, and tells whether it is that of a legal history.
 pub(crate) fn put_verdict<W: Sink>(writer: &mut W, verdict: Verdict) -> Result<bool, TextFault>
-    ensures ok { OnOk result (Appends (W.contents writer.old) (W.contents writer.new) (verdict_line verdict)) }
+    ensures written { Writes W.contents W.has_failed writer.old writer.new
+        (verdict_line verdict) result }
     ensures legal { IfOk result (λ legal. legal ≡ is_legal verdict) }
-    ensures err { IfErr result (λ e. e ≡ TextFault.Output) }
-    ensures failed { FailsBy TextFault.Output result (W.has_failed writer.old) (W.has_failed writer.new) }
 {
     match verdict {
         Verdict::Legal(entries) => {
@@ -69,11 +72,11 @@ pub fn run_audit<R: Source, W: Sink>(
 
     // Each fault comes under its own condition, the first one in their order.
     ensures stops { IfErr result (StopsAudit (R.remaining reader.old) (R.remaining reader.new)) }
-    ensures quiet { IfErr result (λ e. e ≢ RunFault.Output → writer.new ≡ writer.old) }
+    ensures quiet { WritesLast result writer.old writer.new }
 
     // A failed read or write is told where one has failed, and where all went well none did.
-    ensures failed_read { FailsBy RunFault.Input result (R.has_failed reader.old) (R.has_failed reader.new) }
-    ensures failed_write { FailsBy RunFault.Output result (W.has_failed writer.old) (W.has_failed writer.new) }
+    ensures failed_read { TellsFailedRead result (R.has_failed reader.old) (R.has_failed reader.new) }
+    ensures failed_write { TellsFailedWrite result (W.has_failed writer.old) (W.has_failed writer.new) }
 {
     let (config, entries) = read_history(alloc, reader)?;
     let verdict = judge(alloc, &config, &entries)?;

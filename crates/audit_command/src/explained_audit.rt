@@ -1,8 +1,8 @@
 //! The audit of a history, with words on what is wrong in it.
 
-ghost use Rattle.std.specs.Prelude.{◌≡◌, ◌≢◌, ◌≤◌, length, string_bytes, IfOk, IfErr};
+ghost use Rattle.std.specs.Prelude.{◌≤◌, length, string_bytes, IfOk, IfErr};
 ghost use Rattle.sched_history.specs.declared.reply.TheConstants.{MAX_ENTRIES};
-ghost use Rattle.text_stream.specs.Watched.{FailsBy};
+ghost use Rattle.text_stream.specs.RunFault.{TellsFailedRead, TellsFailedWrite, WritesLast};
 ghost use Rattle.audit_command.specs.Verdict.{IsVerdict, StopsAudit};
 ghost use Rattle.audit_command.specs.ExplainedAudit.{IsQuiet, AuditedInWords};
 
@@ -13,7 +13,7 @@ use history_reading::read_history;
 use minislots::Checked;
 use sched_history::{Entry, lawful_reply};
 use std::alloc::{AllocError, Global};
-use text_stream::{RunFault, Sink, Source, put};
+use text_stream::{RunFault, Sink, Source, TextFault, put};
 use words::words_on;
 
 // The words behind the line of a verdict: on the first entry that is not lawful, or none.
@@ -51,16 +51,16 @@ pub fn run_audit_explained<R: Source, W: Sink>(
 
     // Each fault comes under its own condition, the first one in their order.
     ensures stops { IfErr result (StopsAudit (R.remaining reader.old) (R.remaining reader.new)) }
-    ensures quiet { IfErr result (λ e. e ≢ RunFault.Output → writer.new ≡ writer.old) }
+    ensures quiet { WritesLast result writer.old writer.new }
 
     // A failed read or write is told where one has failed, and where all went well none did.
-    ensures failed_read { FailsBy RunFault.Input result (R.has_failed reader.old) (R.has_failed reader.new) }
-    ensures failed_write { FailsBy RunFault.Output result (W.has_failed writer.old) (W.has_failed writer.new) }
+    ensures failed_read { TellsFailedRead result (R.has_failed reader.old) (R.has_failed reader.new) }
+    ensures failed_write { TellsFailedWrite result (W.has_failed writer.old) (W.has_failed writer.new) }
 {
     let (config, entries) = read_history(alloc, reader)?;
     let verdict = judge(alloc, &config, &entries)?;
     let Ok(words) = explain(alloc, &config, &entries, verdict) else {
-        return Err(RunFault::Memory);
+        return Err(RunFault::Text(TextFault::Memory));
     };
     let legal = put_verdict(writer, verdict)?;
     put(writer, words.as_bytes())?;

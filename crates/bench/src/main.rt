@@ -1,21 +1,12 @@
-//! `bench`: what the parts of the scheduler cost on this machine. With no word it prints nothing.
+//! `bench`: what those parts of the scheduler cost on this machine that a program in C cannot measure. Each run prints
+//! the figures of one part once, and `checks/figures` takes the middle of several. With no word it prints nothing.
 #![tactic(auto)]
 
-mod calls;
-mod drawing;
-mod frames;
-mod held;
-mod locked;
-mod longest;
-mod mutexed;
+mod lock;
 mod readers;
 mod run;
-mod rwlocked;
 mod storms;
-mod table;
-mod tally;
 
-use std::alloc::Global;
 use std::process::ExitCode;
 use std::rt::Env;
 use std::{env, io};
@@ -27,14 +18,6 @@ fn word_of(rt: &(impl Env + AllocGlobal)) -> io::Result<Option<String>> {
     Ok(words.next())
 }
 
-// Ends with status 1 where a figure could not be taken or printed.
-fn status_of(printed: Option<()>) -> ExitCode {
-    match printed {
-        Some(()) => ExitCode::SUCCESS,
-        None => ExitCode::FAILURE,
-    }
-}
-
 fn main(rt: HostRuntime) -> ExitCode {
     let Ok(word) = word_of(&rt) else {
         return ExitCode::FAILURE;
@@ -42,16 +25,17 @@ fn main(rt: HostRuntime) -> ExitCode {
     let Some(word) = word else {
         return ExitCode::SUCCESS;
     };
-    match word.as_str() {
-        "calls" => status_of(table::print_script(&rt, rt.alloc())),
-        "lock" => status_of(table::print_lock(&rt, rt.alloc())),
-        "storm" => status_of(table::print_storm(&rt, rt.alloc())),
-        "readers" => status_of(table::print_readers(&rt, rt.alloc())),
-        "frames" => status_of(table::print_frames(&rt, rt.alloc())),
-        "longest" => status_of(table::print_longest(&rt, rt.alloc())),
+    let printed = match word.as_str() {
+        "lock" => lock::print(&rt, rt.alloc()),
+        "readers" => readers::print(&rt, rt.alloc()),
+        "storm" => storms::print(&rt, rt.alloc()),
         _ => {
-            let _ = rt.eprintln("usage: bench [calls|frames|lock|longest|readers|storm]");
-            ExitCode::from(2)
+            let _ = rt.eprintln("usage: bench [lock|readers|storm]");
+            return ExitCode::from(2);
         }
+    };
+    match printed {
+        Some(()) => ExitCode::SUCCESS,
+        None => ExitCode::FAILURE,
     }
 }

@@ -2,7 +2,7 @@
 ghost use Rattle.std.specs.Prelude.{◌≡◌, ◌+◌, ◌≤◌, true, [], length};
 ghost use Rattle.map_snapshot.specs.declared.printed.TheConstants.{MAX_BYTES};
 
-use crate::run::{Took, figure, now};
+use crate::run::{Took, figure, now, print_line};
 use map_snapshot::{MAX_BYTES, Press, Printed, Reader, open_press};
 use std::alloc::Global;
 use std::sync::Wait;
@@ -12,32 +12,23 @@ use std::thread;
 use std::thread::Threads;
 use std::time::{Clock, CpuClock, Duration};
 
-/// How often each reader reads in one run.
-pub const READS: usize = 300_000;
+// How often each reader reads in one run.
+const READS: usize = 300_000;
 
-/// How often a map is published while readers read.
+// How often a map is published while readers read.
 #[derive(Clone, Copy)]
-pub enum Pace {
-    /// Before they begin, and then no more.
+enum Pace {
+    // Before they begin, and then no more.
     Once,
-    /// A thousand times a second.
+    // A thousand times a second.
     Thousand,
-    /// Without a pause.
+    // Without a pause.
     Always,
 }
 
 impl Pace {
-    /// As the table has it.
-    pub fn name(self) -> &'static str {
-        match self {
-            Pace::Once => "none",
-            Pace::Thousand => "1000 a second",
-            Pace::Always => "at full speed",
-        }
-    }
-
-    /// Waits until the next map is to be published. It says whether there is one.
-    pub fn rest<R: Clock>(self, rt: &R) -> bool {
+    // Waits until the next map is to be published. It says whether there is one.
+    fn rest<R: Clock>(self, rt: &R) -> bool {
         match self {
             Pace::Once => false,
             Pace::Thousand => {
@@ -49,8 +40,8 @@ impl Pace {
     }
 }
 
-/// A map of the greatest length, of this version.
-pub fn printed(version: u64) -> Printed
+// A map of the greatest length, of this version.
+fn printed(version: u64) -> Printed
     ensures version { result.version ≡ version }
     ensures fits { result.len ≤ MAX_BYTES }
 {
@@ -61,8 +52,8 @@ pub fn printed(version: u64) -> Printed
     }
 }
 
-/// The bytes of a map, added up.
-pub fn sum_of(read: &Printed) -> u64 {
+// The bytes of a map, added up.
+fn sum_of(read: &Printed) -> u64 {
     let mut sum: u64 = 0;
     for byte in &read.bytes {
         sum = sum.wrapping_add(u64::from(*byte));
@@ -128,8 +119,8 @@ fn time_reads<R: Threads + Clock + CpuClock + Sync>(
     figure(start, end, sum.load(SeqCst) > 0)
 }
 
-/// What the reads of so many readers take, while maps are published at this pace.
-pub fn time_readers<R: Threads + Wait + Clock + CpuClock + Sync>(
+// What the reads of so many readers take, while maps are published at this pace.
+fn time_readers<R: Threads + Wait + Clock + CpuClock + Sync>(
     rt: &R,
     alloc: Global,
     count: usize,
@@ -153,4 +144,21 @@ pub fn time_readers<R: Threads + Wait + Clock + CpuClock + Sync>(
     );
     press.end(rt);
     took
+}
+
+/// Prints what each read of the newest map of a kilobyte takes, by the readers that read at once, and by how often a
+/// map is published meanwhile.
+pub fn print<R: Threads + Wait + Clock + CpuClock + Sync + Print>(
+    rt: &R,
+    alloc: Global,
+) -> Option<()> {
+    for (name, pace) in [
+        ("once", Pace::Once),
+        ("1000", Pace::Thousand),
+        ("always", Pace::Always),
+    ] {
+        print_line(rt, 1, name, time_readers(rt, alloc, 1, pace)?, READS)?;
+        print_line(rt, 3, name, time_readers(rt, alloc, 3, pace)?, READS)?;
+    }
+    Some(())
 }

@@ -1,29 +1,6 @@
-//! How long a run took.
+//! What a run took, and the line that tells it.
 
-use crate::tally::Added;
-use std::io;
 use std::time::{Clock, CpuClock, Duration, Instant};
-
-/// Threads that take turns at once, how many each takes, and what each turn adds.
-#[derive(Clone, Copy)]
-pub struct Load {
-    pub threads: usize,
-    pub turns: usize,
-    pub added: Added,
-}
-
-impl Load {
-    /// The turns of all threads.
-    pub fn all_turns(self) -> usize {
-        self.threads.saturating_mul(self.turns)
-    }
-
-    /// Whether these are the turns and the entries of such a run.
-    pub fn is_whole(self, counts: (usize, usize)) -> bool {
-        let turns = self.all_turns();
-        counts.0 == turns && counts.1 == self.added.entries(turns)
-    }
-}
 
 /// The moment, and the processor time of the process so far.
 #[derive(Clone, Copy)]
@@ -52,14 +29,6 @@ pub fn nanos_of(time: Duration) -> u64 {
     u64::try_from(time.as_nanos()).unwrap_or(u64::MAX)
 }
 
-/// The nanoseconds from one instant to another, or none at all where one was not told.
-pub fn nanos_between(start: io::Result<Instant>, end: io::Result<Instant>) -> u64 {
-    match (start, end) {
-        (Ok(start), Ok(end)) => nanos_of(end.duration_since(start)),
-        (_, _) => 0,
-    }
-}
-
 /// The times between two moments, of a run that did what it was to do. None of any other.
 pub fn figure(start: Option<Moment>, end: Option<Moment>, is_whole: bool) -> Option<Took> {
     let (start, end) = (start?, end?);
@@ -71,4 +40,28 @@ pub fn figure(start: Option<Moment>, end: Option<Moment>, is_whole: bool) -> Opt
     } else {
         None
     }
+}
+
+/// Prints a line: how many threads did what, and the nanoseconds by the clock and of all processors of each of so many
+/// calls.
+pub fn print_line<R: Print>(
+    rt: &R,
+    threads: usize,
+    what: &str,
+    took: Took,
+    calls: usize,
+) -> Option<()> {
+    let calls = (calls as u64).max(1);
+    let (wall, used) = (
+        took.wall.saturating_mul(10) / calls,
+        took.used.saturating_mul(10) / calls,
+    );
+    println!(rt;
+        "{threads} {what} {}.{} {}.{}",
+        wall / 10,
+        wall % 10,
+        used / 10,
+        used % 10
+    )
+    .ok()
 }

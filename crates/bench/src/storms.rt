@@ -1,9 +1,8 @@
 //! The same calls of a scheduler by the workers of a storm at once, and by one thread without a lock.
 
-use crate::frames::{WIDE, make};
-use crate::run::{figure, nanos_of, now};
+use crate::run::{Took, figure, nanos_of, now, print_line};
 use flow_book::FlowSpec;
-use minislots::{Checked, Config, Stamp};
+use minislots::{Config, Stamp};
 use sched_history::{Call, Entry, Reply, Scheduler};
 use sched_storm::{Gate, storm_with};
 use std::alloc::{AllocError, Global};
@@ -13,8 +12,33 @@ use std::sync::atomic::Ordering::SeqCst;
 use std::thread::Threads;
 use std::time::{Clock, CpuClock, Instant};
 
-/// How many calls each worker makes.
-pub const CALLS: usize = 40_000;
+// Frames of 1024 minislots of 25 microseconds, and the calls of eight workers.
+const WIDE: Config = Config {
+    ticks: 4,
+    bytes_per_slot: 16,
+    overhead: 2,
+    frame: 1024,
+    cycle: 64,
+    req_slots: 4,
+    poll_slots: 1,
+    lead: 0,
+    short_max: 8,
+    quantum: 64,
+    grant_cap: 64,
+    receivers: 1,
+    calls: 320_000,
+    start: 102_400,
+    ranging_start: 0,
+    ranging_end: 0,
+    data_start: 0,
+    data_end: 0,
+    channel: 3,
+    ucd_count: 1,
+    phy: 0,
+};
+
+// How many calls each worker makes.
+const CALLS: usize = 40_000;
 
 // The place of the last of them.
 const LAST: usize = CALLS - 1;
@@ -22,9 +46,9 @@ const LAST: usize = CALLS - 1;
 // How many of them are requests that are counted.
 const TAKEN: usize = CALLS / 2 - 1;
 
-/// The call with this number, of the worker with this one: a flow of its own and a build, and then requests and
-/// questions by turns.
-pub fn call_of(worker: usize, number: usize) -> Call {
+// The call with this number, of the worker with this one: a flow of its own and a build, and then requests and
+// questions by turns.
+fn call_of(worker: usize, number: usize) -> Call {
     let sid = (worker % 64) as u16 + 1;
     let spec = FlowSpec::BestEffort {
         priority: 3,
@@ -54,25 +78,8 @@ fn script_of(alloc: Global, worker: usize) -> Result<Vec<Call>, AllocError> {
     Ok(calls)
 }
 
-// A script for each worker.
-fn scripts_of(alloc: Global, workers: usize) -> Result<Vec<Vec<Call>>, AllocError> {
-    let mut scripts = Vec::with_capacity(alloc, workers)?;
-    for worker in 0..workers {
-        scripts.push(script_of(alloc, worker)?)?;
-    }
-    Ok(scripts)
-}
-
-// Makes the calls one after the other, without a lock.
-fn make_calls(scheduler: &mut Scheduler, calls: &[Call]) {
-    for (place, call) in calls.iter().enumerate() {
-        let ticket = place as u64;
-        make(scheduler, Stamp { seat: 0, ticket }, *call);
-    }
-}
-
-/// Whether a history has all calls of so many workers, and as many requests that were counted as they have.
-pub fn is_whole(history: &[Entry], workers: usize) -> bool {
+// Whether a history has all calls of so many workers, and as many requests that were counted as they have.
+fn is_whole(history: &[Entry], workers: usize) -> bool {
     let mut taken = 0usize;
     for entry in history {
         match entry.reply {
@@ -81,18 +88,6 @@ pub fn is_whole(history: &[Entry], workers: usize) -> bool {
         }
     }
     taken == workers.saturating_mul(TAKEN) && history.len() == workers.saturating_mul(CALLS)
-}
-
-/// A configuration that records the calls of eight workers.
-pub fn config() -> Option<Checked> {
-    let wanted = Config {
-        calls: 320_000,
-        ..WIDE
-    };
-    match wanted.check() {
-        Ok(checked) => Some(checked),
-        Err(_) => None,
-    }
 }
 
 // A gate that lets every call pass, and notes when the first was asked for and when the last was answered, in
@@ -105,29 +100,13 @@ struct Timed<'r, R> {
     last: AtomicU64,
 }
 
-impl<'r, R: Clock> Timed<'r, R> {
-    fn new(rt: &'r R, made: Instant) -> Timed<'r, R> {
-        Timed {
-            rt,
-            made,
-            first: AtomicU64::new(u64::MAX),
-            last: AtomicU64::new(0),
-        }
-    }
-
+impl<R: Clock> Timed<'_, R> {
     // The nanoseconds since it was made, or 0 where the clock cannot be read.
     fn nanos(&self) -> u64 {
         match Instant::now(self.rt) {
             Ok(at) => nanos_of(at.duration_since(self.made)),
             Err(_) => 0,
         }
-    }
-
-    // The nanoseconds from the first call to the last.
-    fn between(&self) -> u64 {
-        self.last
-            .load(SeqCst)
-            .saturating_sub(self.first.load(SeqCst))
     }
 }
 
@@ -146,57 +125,79 @@ impl<R: Clock + Sync> Gate for Timed<'_, R> {
     }
 }
 
-/// What calls take, in nanoseconds: with what comes before and after them, and by themselves.
+// What calls take, with what comes before and after them, and the nanoseconds of the calls by themselves.
 #[derive(Clone, Copy)]
-pub struct Span {
-    pub whole: u64,
-    pub calls: u64,
+struct Span {
+    whole: Took,
+    calls: u64,
 }
 
-/// Times a storm of so many workers, 1 to 16: from the opening of its scheduler to its close and the audit of its
-/// history, and from the first call of a worker to the last answer.
-pub fn time_storm<R: Threads + Wait + Sync + Clock + CpuClock>(
+// Times a storm of so many workers, 1 to 8: from the opening of its scheduler to its close and the audit of its
+// history, and from the first call of a worker to the last answer.
+fn time_storm<R: Threads + Wait + Sync + Clock + CpuClock>(
     rt: &R,
     alloc: Global,
     workers: usize,
 ) -> Option<Span> {
-    let checked = config()?;
-    let Ok(scripts) = scripts_of(alloc, workers) else {
-        return None;
+    let checked = WIDE.check().ok()?;
+    let mut scripts = Vec::with_capacity(alloc, workers).ok()?;
+    for worker in 0..workers {
+        scripts.push(script_of(alloc, worker).ok()?).ok()?;
+    }
+    let gate = Timed {
+        rt,
+        made: Instant::now(rt).ok()?,
+        first: AtomicU64::new(u64::MAX),
+        last: AtomicU64::new(0),
     };
-    let Ok(made) = Instant::now(rt) else {
-        return None;
-    };
-    let gate = Timed::new(rt, made);
     let start = now(rt);
-    let outcome = storm_with(rt, alloc, checked, scripts, &gate);
+    let tally = storm_with(rt, alloc, checked, scripts, &gate).ok()?;
     let end = now(rt);
-    let Ok(tally) = outcome else {
-        return None;
-    };
-    let took = figure(start, end, is_whole(&tally.history, workers))?;
+    let first = gate.first.load(SeqCst);
     Some(Span {
-        whole: took.wall,
-        calls: gate.between(),
+        whole: figure(start, end, is_whole(&tally.history, workers))?,
+        calls: gate.last.load(SeqCst).saturating_sub(first),
     })
 }
 
-/// Times the same calls of one worker without a lock: from the opening of its scheduler on, and the calls alone.
-pub fn time_bare<R: Clock + CpuClock>(rt: &R, alloc: Global) -> Option<Span> {
-    let checked = config()?;
-    let Ok(calls) = script_of(alloc, 0) else {
-        return None;
-    };
+// Times the calls of one worker without a lock: from the opening of its scheduler on, and the calls alone.
+fn time_bare<R: Clock + CpuClock>(rt: &R, alloc: Global) -> Option<Span> {
+    let checked = WIDE.check().ok()?;
+    let calls = script_of(alloc, 0).ok()?;
     let start = now(rt);
-    let Ok(mut scheduler) = Scheduler::open(alloc, checked) else {
-        return None;
-    };
+    let mut scheduler = Scheduler::open(alloc, checked).ok()?;
     let opened = now(rt);
-    make_calls(&mut scheduler, &calls);
+    for (place, call) in calls.iter().enumerate() {
+        let ticket = place as u64;
+        let _answer = scheduler.call(Stamp { seat: 0, ticket }, *call);
+    }
     let end = now(rt);
     let is_whole = is_whole(scheduler.history(), 1);
     Some(Span {
-        whole: figure(start, end, is_whole)?.wall,
+        whole: figure(start, end, is_whole)?,
         calls: figure(opened, end, is_whole)?.wall,
     })
+}
+
+// Prints what each call takes, as a part of the whole and by itself.
+fn print_span<R: Print>(rt: &R, workers: usize, span: Span) -> Option<()> {
+    let calls = CALLS.saturating_mul(workers.max(1));
+    print_line(rt, workers, "whole", span.whole, calls)?;
+    let alone = Took {
+        wall: span.calls,
+        used: 0,
+    };
+    print_line(rt, workers, "calls", alone, calls)
+}
+
+/// Prints what each call takes, of a scheduler without a lock, which stands as one of no workers, and of storms.
+pub fn print<R: Threads + Wait + Sync + Clock + CpuClock + Print>(
+    rt: &R,
+    alloc: Global,
+) -> Option<()> {
+    print_span(rt, 0, time_bare(rt, alloc)?)?;
+    for workers in [1, 2, 4, 8] {
+        print_span(rt, workers, time_storm(rt, alloc, workers)?)?;
+    }
+    Some(())
 }

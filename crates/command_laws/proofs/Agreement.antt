@@ -2,34 +2,33 @@
 use Rattle.std.proofs.Common.{◌≡◌, ℕ, List, Option, Some, None, Result, Ok, inl, inr, ap, ◌∙◌, subst}
 use Rattle.std.specs.Prelude.{option_map}
 use Rattle.text_stream.specs.declared.fault.TextFault.{TextFault}
-use Rattle.text_stream.specs.declared.fault.TextFault.TheVariants as texts
 use Rattle.script_reading.specs.Outcome.{outcome_of}
 use Rattle.script_reading.specs.StormScript.{storm_outcome}
 use Rattle.history_reading.specs.Recorded.{history_outcome}
 use Rattle.text_stream.proofs.Told.{all_bytes, IsTold, IsOfText}
 use Rattle.script_reading.proofs.Told.{script-told, script-stands, storm-told, storm-has}
-use Rattle.text_stream.specs.RunFault.{run_fault_of}
 use Rattle.text_stream.specs.declared.run_fault.RunFault.{RunFault}
-use Rattle.text_stream.specs.declared.run_fault.RunFault.TheVariants.{Input, TooLong, NotJson, Shape, Config, Memory}
-use Rattle.text_stream.specs.declared.run_fault.RunFault.TheVariants.{Output, Threads}
 use Rattle.script_reading.specs.Stops.{Stops}
 use Rattle.storm_command.specs.StormRun.{StopsStorm}
 use Rattle.audit_command.specs.Verdict.{StopsAudit}
-use Rattle.sched_check.specs.declared.kind.Kind.{Kind}
-use Rattle.sched_check.specs.declared.kind.Kind.TheVariants.{Script, Storm, History}
+use Rattle.json_fields.specs.declared.forms.Kind.{Kind}
+use Rattle.json_fields.specs.declared.forms.Kind.TheVariants.{Script, Storm, History}
 use Rattle.sched_check.specs.Kind.{kind_of}
 use Rattle.sched_check.specs.Found.{fault_in, fault_as, fault_of}
 use Rattle.sched_check.specs.Check.{Checks}
 use Rattle.command_laws.specs.Agree.{Agrees, AgreesWithCommands}
 use Rattle.sched_check.proofs.HistoryTold.{history-told, history-has}
+use Rattle.text_stream.specs.declared.fault.TextFault.TheVariants.{Input, TooLong, NotJson, Shape, Config, Memory}
+use Rattle.text_stream.specs.declared.fault.TextFault.TheVariants.{Output}
+use Rattle.text_stream.specs.declared.run_fault.RunFault.TheVariants.{Text, Threads}
 
 -- the fault of a command that an outcome is
 abbrev found_of : {A : Type 0} → Result A TextFault → Option RunFault
-found_of outcome = option_map run_fault_of (fault_in outcome)
+found_of outcome = option_map Text (fault_in outcome)
 
 module _ {A : Type 0} (found : Option RunFault) (outcome : Result A TextFault) (is : found ≡ found_of outcome) where
   -- the fault that is told is found
-  told : (fault : TextFault) → IsOfText fault → IsTold fault outcome → found ≡ Some (run_fault_of fault)
+  told : (fault : TextFault) → IsOfText fault → IsTold fault outcome → found ≡ Some (Text fault)
   told fault of_text (inl e) = absurd (subst IsOfText e of_text)
   told fault of_text (inr (inl e)) = absurd (subst IsOfText e of_text)
   told fault of_text (inr (inr e)) = is ∙ ap (λ (o : Result A TextFault). found_of o) e
@@ -41,34 +40,34 @@ module _ {A : Type 0} (found : Option RunFault) (outcome : Result A TextFault) (
 -- a run agrees with what is found in a script
 run-agrees : (text : List ℕ) (rest : Option (List ℕ)) (found : Option RunFault) → found ≡ found_of (outcome_of text)
     → (fault : RunFault) → Stops (Some text) rest fault → Agrees found fault
-run-agrees text rest found is Input stops = tt
-run-agrees text rest found is TooLong stops =
-    told found _ is texts.TooLong tt (script-told text rest texts.TooLong stops)
-run-agrees text rest found is NotJson stops =
-    told found _ is texts.NotJson tt (script-told text rest texts.NotJson stops)
-run-agrees text rest found is (Shape n) stops =
-    told found _ is (texts.Shape n) tt (script-told text rest (texts.Shape n) stops)
-run-agrees text rest found is (Config field) stops =
-    told found _ is (texts.Config field) tt (script-told text rest (texts.Config field) stops)
-run-agrees text rest found is Memory stops = tt
-run-agrees text rest found is Output stops = stands found _ is stops.0 (script-stands text rest stops.0 stops.1)
+run-agrees text rest found is (Text Input) stops = tt
+run-agrees text rest found is (Text TooLong) stops =
+    told found _ is TooLong tt (script-told text rest TooLong stops)
+run-agrees text rest found is (Text NotJson) stops =
+    told found _ is NotJson tt (script-told text rest NotJson stops)
+run-agrees text rest found is (Text (Shape n)) stops =
+    told found _ is (Shape n) tt (script-told text rest (Shape n) stops)
+run-agrees text rest found is (Text (Config field)) stops =
+    told found _ is (Config field) tt (script-told text rest (Config field) stops)
+run-agrees text rest found is (Text Memory) stops = tt
+run-agrees text rest found is (Text Output) stops = stands found _ is stops.0 (script-stands text rest stops.0 stops.1)
 run-agrees text rest found is Threads stops = absurd stops
 
 -- a storm agrees with what is found in its script
 storm-agrees : (text : List ℕ) (rest : Option (List ℕ)) (found : Option RunFault)
     → found ≡ found_of (storm_outcome text) → (fault : RunFault) → StopsStorm (Some text) rest fault
     → Agrees found fault
-storm-agrees text rest found is Input stops = tt
-storm-agrees text rest found is TooLong stops =
-    told found _ is texts.TooLong tt (storm-told text rest texts.TooLong stops)
-storm-agrees text rest found is NotJson stops =
-    told found _ is texts.NotJson tt (storm-told text rest texts.NotJson stops)
-storm-agrees text rest found is (Shape n) stops =
-    told found _ is (texts.Shape n) tt (storm-told text rest (texts.Shape n) stops)
-storm-agrees text rest found is (Config field) stops =
-    told found _ is (texts.Config field) tt (storm-told text rest (texts.Config field) stops)
-storm-agrees text rest found is Memory stops = tt
-storm-agrees text rest found is Output stops =
+storm-agrees text rest found is (Text Input) stops = tt
+storm-agrees text rest found is (Text TooLong) stops =
+    told found _ is TooLong tt (storm-told text rest TooLong stops)
+storm-agrees text rest found is (Text NotJson) stops =
+    told found _ is NotJson tt (storm-told text rest NotJson stops)
+storm-agrees text rest found is (Text (Shape n)) stops =
+    told found _ is (Shape n) tt (storm-told text rest (Shape n) stops)
+storm-agrees text rest found is (Text (Config field)) stops =
+    told found _ is (Config field) tt (storm-told text rest (Config field) stops)
+storm-agrees text rest found is (Text Memory) stops = tt
+storm-agrees text rest found is (Text Output) stops =
     stands found _ is stops.0 (storm-has text rest (Ok stops.0) stops.1)
 storm-agrees text rest found is Threads stops =
     stands found _ is stops.0 (storm-has text rest (Ok stops.0) stops.1)
@@ -77,34 +76,34 @@ storm-agrees text rest found is Threads stops =
 audit-agrees : (text : List ℕ) (rest : Option (List ℕ)) (found : Option RunFault)
     → found ≡ found_of (history_outcome text) → (fault : RunFault) → StopsAudit (Some text) rest fault
     → Agrees found fault
-audit-agrees text rest found is Input stops = tt
-audit-agrees text rest found is TooLong stops =
-    told found _ is texts.TooLong tt (history-told text rest texts.TooLong stops)
-audit-agrees text rest found is NotJson stops =
-    told found _ is texts.NotJson tt (history-told text rest texts.NotJson stops)
-audit-agrees text rest found is (Shape n) stops =
-    told found _ is (texts.Shape n) tt (history-told text rest (texts.Shape n) stops)
-audit-agrees text rest found is (Config field) stops =
-    told found _ is (texts.Config field) tt (history-told text rest (texts.Config field) stops)
-audit-agrees text rest found is Memory stops = tt
-audit-agrees text rest found is Output stops =
+audit-agrees text rest found is (Text Input) stops = tt
+audit-agrees text rest found is (Text TooLong) stops =
+    told found _ is TooLong tt (history-told text rest TooLong stops)
+audit-agrees text rest found is (Text NotJson) stops =
+    told found _ is NotJson tt (history-told text rest NotJson stops)
+audit-agrees text rest found is (Text (Shape n)) stops =
+    told found _ is (Shape n) tt (history-told text rest (Shape n) stops)
+audit-agrees text rest found is (Text (Config field)) stops =
+    told found _ is (Config field) tt (history-told text rest (Config field) stops)
+audit-agrees text rest found is (Text Memory) stops = tt
+audit-agrees text rest found is (Text Output) stops =
     stands found _ is stops.0 (history-has text rest (Ok stops.0) stops.1)
 audit-agrees text rest found is Threads stops = absurd stops
 
 module _ (text : List ℕ) (left before after : Option (List ℕ)) (found : Option RunFault)
     (checks : Checks (Some text) left before after found) where
   -- what is found in the text as a file of its kind
-  as_kind : (kind : Kind) → kind_of text ≡ kind → found ≡ option_map run_fault_of (fault_as kind text)
+  as_kind : (kind : Kind) → kind_of text ≡ kind → found ≡ option_map Text (fault_as kind text)
   as_kind kind e =
       checks.found_is
-      ∙ ap (λ (bytes : List ℕ). option_map run_fault_of (fault_of bytes)) (all_bytes text left checks.bytes checks.all)
-      ∙ ap (λ (k : Kind). option_map run_fault_of (fault_as k text)) e
+      ∙ ap (λ (bytes : List ℕ). option_map Text (fault_of bytes)) (all_bytes text left checks.bytes checks.all)
+      ∙ ap (λ (k : Kind). option_map Text (fault_as k text)) e
 
   -- with every run, storm and audit
   pub agreed : AgreesWithCommands text found
   agreed = record {
     run = λ kind rest fault stops. run-agrees text rest found (as_kind Script kind) fault stops;
-    ran = λ kind as_history rest b a ran.
+    ran = λ kind output rest b a ran.
         stands found _ (as_kind Script kind) ran.scenario (script-stands text rest ran.scenario ran.read);
     storm = λ kind rest fault stops. storm-agrees text rest found (as_kind Storm kind) fault stops;
     stormed = λ kind rest storm read.

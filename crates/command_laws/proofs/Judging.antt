@@ -1,5 +1,5 @@
 -- What a run wrote as its history is read again as that history, which is legal.
-use Rattle.std.proofs.Common.{◌≡◌, ℕ, ◌≤◌, List, [], length, true, Option, Some, Ok, Err, refl}
+use Rattle.std.proofs.Common.{◌≡◌, ℕ, ◌≤◌, List, [], length, Option, Some, Ok, Err, refl}
 use Rattle.std.proofs.Common.{sym}
 use Rattle.std.proofs.Common.{Result, ap, ◌∙◌, subst, arith}
 use Rattle.sched_history.specs.History.{IsLegal}
@@ -10,12 +10,14 @@ use Rattle.history_reading.specs.Recorded.{History, history_outcome, GivesHistor
 use Rattle.text_stream.proofs.Told.{all_bytes, too_many}
 use Rattle.history_laws.proofs.ReadAgain.{history_outcome-text}
 use Rattle.text_stream.specs.declared.run_fault.RunFault.{RunFault}
-use Rattle.text_stream.specs.declared.run_fault.RunFault.TheVariants.{Input, TooLong, NotJson, Shape, Config, Memory}
-use Rattle.text_stream.specs.declared.run_fault.RunFault.TheVariants.{Output, Threads}
 use Rattle.sched_lines.specs.Answer.{recorded_entries}
+use Rattle.run_command.specs.declared.output.RunOutput.TheVariants as outputs
 use Rattle.run_command.specs.Run.{Ran}
 use Rattle.audit_command.specs.Verdict.{StopsAudit}
 use Rattle.command_laws.specs.Judged.{IsOfMachine, IsJudgedLegal}
+use Rattle.text_stream.specs.declared.fault.TextFault.TheVariants.{Input, TooLong, NotJson, Shape, Config, Memory}
+use Rattle.text_stream.specs.declared.fault.TextFault.TheVariants.{Output}
+use Rattle.text_stream.specs.declared.run_fault.RunFault.TheVariants.{Text, Threads}
 
 -- of two values that are the same answer each is the other
 ok_same : {A E : Type 0} (x y : A) → ◌≡◌ {A = Result A E} (Ok x) (Ok y) → x ≡ y
@@ -37,13 +39,14 @@ module _ (text : List ℕ) (history : History) (is : history_outcome text ≡ Ok
   -- so nothing but the machine ends an audit of it
   of_machine : length text ≤ MAX_INPUT → (left : Option (List ℕ)) (fault : RunFault) → StopsAudit (Some text) left fault
       → IsOfMachine fault
-  of_machine short left Input stops = tt
-  of_machine short left TooLong stops = absurd (let long = too_many text left stops in omega (arith, long, short))
-  of_machine short left NotJson stops = no_fault left _ stops
-  of_machine short left (Shape n) stops = no_fault left _ stops
-  of_machine short left (Config field) stops = no_fault left _ stops
-  of_machine short left Memory stops = tt
-  of_machine short left Output stops = tt
+  of_machine short left (Text Input) stops = tt
+  of_machine short left (Text TooLong) stops =
+      absurd (let long = too_many text left stops in omega (arith, long, short))
+  of_machine short left (Text NotJson) stops = no_fault left _ stops
+  of_machine short left (Text (Shape n)) stops = no_fault left _ stops
+  of_machine short left (Text (Config field)) stops = no_fault left _ stops
+  of_machine short left (Text Memory) stops = tt
+  of_machine short left (Text Output) stops = tt
   of_machine short left Threads stops = stops
 
   -- and where it is legal, each audit says so
@@ -56,7 +59,7 @@ module _ (text : List ℕ) (history : History) (is : history_outcome text ≡ Ok
   }
 
 -- what a run wrote as its history is judged legal
-pub judged : (unread left : Option (List ℕ)) (text : List ℕ) → Ran true unread left (Some []) (Some text)
+pub judged : (unread left : Option (List ℕ)) (text : List ℕ) → Ran outputs.History unread left (Some []) (Some text)
     → length text ≤ MAX_INPUT → IsJudgedLegal text
 judged unread left text ran short =
     let c = ran.scenario.config in

@@ -1,9 +1,10 @@
 //! What the commands mean for one another, and what the check of a file means for the commands that read such a file.
 #![tactic(auto)]
 
-ghost use Rattle.std.specs.Prelude.{◌≤◌, ℕ, true, List, [], Option, Some, length};
+ghost use Rattle.std.specs.Prelude.{◌≤◌, ℕ, List, [], Option, Some, length};
 ghost use Rattle.text_stream.specs.declared.run_fault.RunFault.{RunFault};
 ghost use Rattle.text_stream.specs.declared.input.TheConstants.{MAX_INPUT};
+ghost use Rattle.run_command.specs.declared.output.RunOutput.TheVariants.{History};
 ghost use Rattle.run_command.specs.Run.{Ran};
 ghost use Rattle.sched_check.specs.Check.{Checks};
 ghost use Rattle.command_laws.specs.Agree.{AgreesWithCommands};
@@ -19,6 +20,6 @@ pub fn agrees_with_commands()
 /// What a run wrote as its history is legal to every audit that reads it to its end, where it has no more bytes than an
 /// input may have: then only a failed read, a failed write or want of memory ends an audit of it.
 pub fn judges_runs_legal()
-    ensures legal { (unread left : Option (List ℕ)) (text : List ℕ) → Ran true unread left (Some []) (Some text)
+    ensures legal { (unread left : Option (List ℕ)) (text : List ℕ) → Ran History unread left (Some []) (Some text)
         → length text ≤ MAX_INPUT → IsJudgedLegal text }
 {}

@@ -1,7 +1,7 @@
 //! What the help says beside the commands and their options.
 
-/// The version of the program.
-pub const VERSION: &str = "0.1.0";
+/// The version of the program, which the file VERSION at the top has too.
+pub const VERSION: &str = "0.2.0";
 
 /// The exit statuses.
 pub const STATUSES: &str = "Exit statuses:

@@ -1,10 +1,10 @@
 //! The table of a MAP, or a fault with what it means, for a text in hexadecimal.
 
-ghost use Rattle.std.specs.Prelude.{◌≡◌, ◌↔◌, ◌⊎◌, OnOk, IfOk, IfErr, IsTrue};
+ghost use Rattle.std.specs.Prelude.{◌≡◌, ◌↔◌, ◌⊎◌, IfOk, IfErr, IsTrue};
 ghost use Rattle.std.specs.Bool.{MatchBool};
-ghost use Rattle.std.specs.Io.KnownBytes.{Appends};
 ghost use Rattle.map_codec.specs.WireMap.{IsPayload};
-ghost use Rattle.text_stream.specs.Watched.{FailsBy};
+ghost use Rattle.text_stream.specs.Writing.{Writes};
+ghost use Rattle.text_stream.specs.RunFault.{TellsFailedWrite};
 ghost use Rattle.decode_command.specs.Table.{IsHexOfPayload, PutsMap, ShowsMap};
 ghost use Rattle.decode_command.specs.ExplainedFault.{fault_words, hex_words, digit_of, behind_words, counted};
 ghost use Rattle.decode_command.specs.ExplainedFault.{explained_fault, explained_hex, PutsExplained, ShowsExplained};
@@ -58,9 +58,7 @@ fn digit_of(fault: FromHexError) -> Option<usize>
 
 // A place behind words, where there is one.
 fn put_place<W: Sink>(writer: &mut W, place: Option<usize>) -> Result<(), TextFault>
-    ensures ok { OnOk result (Appends (W.contents writer.old) (W.contents writer.new) (behind_words place)) }
-    ensures err { IfErr result (λ e. e ≡ TextFault.Output) }
-    ensures failed { FailsBy TextFault.Output result (W.has_failed writer.old) (W.has_failed writer.new) }
+    ensures { Writes W.contents W.has_failed writer.old writer.new (behind_words place) result }
 {
     match place {
         None => put(writer, b""),
@@ -74,9 +72,8 @@ fn put_place<W: Sink>(writer: &mut W, place: Option<usize>) -> Result<(), TextFa
 // A line of words, with a place behind them where there is one.
 #[tactic(auto, unfolding(crate::specs::ExplainedFault::counted))]
 fn put_counted<W: Sink>(writer: &mut W, words: &[u8], place: Option<usize>) -> Result<(), TextFault>
-    ensures ok { OnOk result (Appends (W.contents writer.old) (W.contents writer.new) (counted words.now place)) }
-    ensures err { IfErr result (λ e. e ≡ TextFault.Output) }
-    ensures failed { FailsBy TextFault.Output result (W.has_failed writer.old) (W.has_failed writer.new) }
+    ensures { Writes W.contents W.has_failed writer.old writer.new
+        (counted words.now place) result }
 {
     put(writer, words)?;
     put_place(writer, place)?;
@@ -86,9 +83,7 @@ fn put_counted<W: Sink>(writer: &mut W, words: &[u8], place: Option<usize>) -> R
 // The line of a fault, and what it means.
 #[tactic(auto, unfolding(crate::specs::ExplainedFault::explained_fault))]
 fn put_explained<W: Sink>(writer: &mut W, fault: DecodeFault) -> Result<(), TextFault>
-    ensures ok { OnOk result (Appends (W.contents writer.old) (W.contents writer.new) (explained_fault fault)) }
-    ensures err { IfErr result (λ e. e ≡ TextFault.Output) }
-    ensures failed { FailsBy TextFault.Output result (W.has_failed writer.old) (W.has_failed writer.new) }
+    ensures { Writes W.contents W.has_failed writer.old writer.new (explained_fault fault) result }
 {
     put_fault(writer, fault)?;
     put_counted(writer, fault_words(fault), index_of(fault))
@@ -97,9 +92,7 @@ fn put_explained<W: Sink>(writer: &mut W, fault: DecodeFault) -> Result<(), Text
 // The line of a text that is not hexadecimal, and what is wrong with it.
 #[tactic(auto, unfolding(crate::specs::ExplainedFault::explained_hex))]
 fn put_explained_hex<W: Sink>(writer: &mut W, fault: FromHexError) -> Result<(), TextFault>
-    ensures ok { OnOk result (Appends (W.contents writer.old) (W.contents writer.new) (explained_hex fault)) }
-    ensures err { IfErr result (λ e. e ≡ TextFault.Output) }
-    ensures failed { FailsBy TextFault.Output result (W.has_failed writer.old) (W.has_failed writer.new) }
+    ensures { Writes W.contents W.has_failed writer.old writer.new (explained_hex fault) result }
 {
     put(writer, b"fault hex\n")?;
     put_counted(writer, hex_words(fault), digit_of(fault))
@@ -116,16 +109,16 @@ fn put_decoded<W: Sink>(
     ensures shown { IfOk result (λ is_payload. MatchBool is_payload
         (PutsMap columns bytes.now (W.contents writer.old) (W.contents writer.new))
         (PutsExplained bytes.now (W.contents writer.old) (W.contents writer.new))) }
-    ensures err { IfErr result (λ e. (e ≡ RunFault.Memory) ⊎ (e ≡ RunFault.Output)) }
-    ensures failed { FailsBy RunFault.Output result (W.has_failed writer.old) (W.has_failed writer.new) }
-    ensures quiet { IfErr result (λ e. e ≡ RunFault.Memory → writer.new ≡ writer.old) }
+    ensures err { IfErr result (λ e. (e ≡ RunFault.Text TextFault.Memory) ⊎ (e ≡ RunFault.Text TextFault.Output)) }
+    ensures failed { TellsFailedWrite result (W.has_failed writer.old) (W.has_failed writer.new) }
+    ensures quiet { IfErr result (λ e. e ≡ RunFault.Text TextFault.Memory → writer.new ≡ writer.old) }
 {
     match decode(alloc, bytes) {
         Ok(map) => {
             put_map(alloc, &map, columns, writer)?;
             Ok(true)
         }
-        Err(DecodeFault::Memory) => Err(RunFault::Memory),
+        Err(DecodeFault::Memory) => Err(RunFault::Text(TextFault::Memory)),
         Err(fault) => {
             put_explained(writer, fault)?;
             Ok(false)
@@ -151,13 +144,13 @@ pub fn decode_explained<W: Sink>(
         (ShowsExplained text.now (W.contents writer.old) (W.contents writer.new))) }
 
     // No other fault ends it; want of memory only before anything is written.
-    ensures err { IfErr result (λ e. (e ≡ RunFault.Memory) ⊎ (e ≡ RunFault.Output)) }
-    ensures failed { FailsBy RunFault.Output result (W.has_failed writer.old) (W.has_failed writer.new) }
-    ensures quiet { IfErr result (λ e. e ≡ RunFault.Memory → writer.new ≡ writer.old) }
+    ensures err { IfErr result (λ e. (e ≡ RunFault.Text TextFault.Memory) ⊎ (e ≡ RunFault.Text TextFault.Output)) }
+    ensures failed { TellsFailedWrite result (W.has_failed writer.old) (W.has_failed writer.new) }
+    ensures quiet { IfErr result (λ e. e ≡ RunFault.Text TextFault.Memory → writer.new ≡ writer.old) }
 {
     match hex::decode(alloc, text) {
         Ok(bytes) => put_decoded(alloc, &bytes, columns, writer),
-        Err(FromHexError::OutOfMemory) => Err(RunFault::Memory),
+        Err(FromHexError::OutOfMemory) => Err(RunFault::Text(TextFault::Memory)),
         Err(fault) => {
             put_explained_hex(writer, fault)?;
             Ok(false)

@@ -4,7 +4,8 @@ ghost use Rattle.std.specs.Prelude.{◌≡◌, ◌%◌, ◌≤◌, ◌↔◌, �
 ghost use Rattle.std.specs.Bool.{MatchBool};
 ghost use Rattle.std.specs.Io.KnownBytes.{Appends};
 ghost use Rattle.map_codec.specs.WireMap.{IsPayload, IsWellFormed};
-ghost use Rattle.text_stream.specs.Watched.{FailsBy};
+ghost use Rattle.text_stream.specs.Writing.{Writes};
+ghost use Rattle.text_stream.specs.RunFault.{TellsFailedWrite};
 ghost use Rattle.decode_command.specs.Table.{labelled, backoff_text, at_right, column, name_of, number_of, index_of};
 ghost use Rattle.decode_command.specs.Table.{counts_line, times_line, element_line, element_lines};
 ghost use Rattle.decode_command.specs.Table.{table_text, shown_text, fault_line};
@@ -27,9 +28,8 @@ pub(crate) fn put_labelled<W: Sink>(
     label: &[u8],
     number: u64,
 ) -> Result<(), TextFault>
-    ensures ok { OnOk result (Appends (W.contents writer.old) (W.contents writer.new) (labelled label.now number)) }
-    ensures err { IfErr result (λ e. e ≡ TextFault.Output) }
-    ensures failed { FailsBy TextFault.Output result (W.has_failed writer.old) (W.has_failed writer.new) }
+    ensures { Writes W.contents W.has_failed writer.old writer.new
+        (labelled label.now number) result }
 {
     let mut buffer = Buffer::new();
     put(writer, label)?;
@@ -40,9 +40,7 @@ pub(crate) fn put_labelled<W: Sink>(
 #[tactic(auto, unfolding(crate::specs::Table::at_right))]
 fn put_at_right<W: Sink>(writer: &mut W, places: usize, number: u16) -> Result<(), TextFault>
     requires { places ≤ 5 }
-    ensures ok { OnOk result (Appends (W.contents writer.old) (W.contents writer.new) (at_right places number)) }
-    ensures err { IfErr result (λ e. e ≡ TextFault.Output) }
-    ensures failed { FailsBy TextFault.Output result (W.has_failed writer.old) (W.has_failed writer.new) }
+    ensures { Writes W.contents W.has_failed writer.old writer.new (at_right places number) result }
 {
     let mut buffer = Buffer::new();
     let digits = buffer.format(number).as_bytes();
@@ -54,9 +52,7 @@ fn put_at_right<W: Sink>(writer: &mut W, places: usize, number: u16) -> Result<(
 #[tactic(auto, unfolding(crate::specs::Table::column))]
 fn put_column<W: Sink>(writer: &mut W, places: usize, number: u16) -> Result<(), TextFault>
     requires { places ≤ 5 }
-    ensures ok { OnOk result (Appends (W.contents writer.old) (W.contents writer.new) (column places number)) }
-    ensures err { IfErr result (λ e. e ≡ TextFault.Output) }
-    ensures failed { FailsBy TextFault.Output result (W.has_failed writer.old) (W.has_failed writer.new) }
+    ensures { Writes W.contents W.has_failed writer.old writer.new (column places number) result }
 {
     put_at_right(writer, places, number)?;
     put(writer, b" ")
@@ -86,9 +82,7 @@ fn name_of(code: u8) -> &'static [u8]
 // The first line of a table: the channel, the UCD count and the number of elements.
 #[tactic(auto, unfolding(crate::specs::Table::counts_line))]
 fn put_counts<W: Sink>(writer: &mut W, map: &WireMap) -> Result<(), TextFault>
-    ensures ok { OnOk result (Appends (W.contents writer.old) (W.contents writer.new) (counts_line map.now)) }
-    ensures err { IfErr result (λ e. e ≡ TextFault.Output) }
-    ensures failed { FailsBy TextFault.Output result (W.has_failed writer.old) (W.has_failed writer.new) }
+    ensures { Writes W.contents W.has_failed writer.old writer.new (counts_line map.now) result }
 {
     put_labelled(writer, b"channel ", u64::from(map.channel))?;
     put_labelled(writer, b" ucd ", u64::from(map.ucd_count))?;
@@ -100,10 +94,8 @@ fn put_counts<W: Sink>(writer: &mut W, map: &WireMap) -> Result<(), TextFault>
 // A backoff window: a label, its start and its end.
 #[tactic(auto, unfolding(crate::specs::Table::backoff_text))]
 fn put_backoff<W: Sink>(writer: &mut W, label: &[u8], start: u8, end: u8) -> Result<(), TextFault>
-    ensures ok { OnOk result (Appends (W.contents writer.old) (W.contents writer.new)
-        (backoff_text label.now start end)) }
-    ensures err { IfErr result (λ e. e ≡ TextFault.Output) }
-    ensures failed { FailsBy TextFault.Output result (W.has_failed writer.old) (W.has_failed writer.new) }
+    ensures { Writes W.contents W.has_failed writer.old writer.new
+        (backoff_text label.now start end) result }
 {
     put_labelled(writer, label, u64::from(start))?;
     put_labelled(writer, b" ", u64::from(end))
@@ -112,9 +104,7 @@ fn put_backoff<W: Sink>(writer: &mut W, label: &[u8], start: u8, end: u8) -> Res
 // The second line of a table: alloc start, acknowledge time and the two backoff windows.
 #[tactic(auto, unfolding(crate::specs::Table::times_line))]
 fn put_times<W: Sink>(writer: &mut W, map: &WireMap) -> Result<(), TextFault>
-    ensures ok { OnOk result (Appends (W.contents writer.old) (W.contents writer.new) (times_line map.now)) }
-    ensures err { IfErr result (λ e. e ≡ TextFault.Output) }
-    ensures failed { FailsBy TextFault.Output result (W.has_failed writer.old) (W.has_failed writer.new) }
+    ensures { Writes W.contents W.has_failed writer.old writer.new (times_line map.now) result }
 {
     put_labelled(writer, b"start ", u64::from(map.alloc_start))?;
     put_labelled(writer, b" ack ", u64::from(map.ack))?;
@@ -126,9 +116,8 @@ fn put_times<W: Sink>(writer: &mut W, map: &WireMap) -> Result<(), TextFault>
 // The line of an element: SID, IUC, offset and the IUC's name.
 #[tactic(auto, unfolding(crate::specs::Table::element_line))]
 fn put_element<W: Sink>(writer: &mut W, element: &Element) -> Result<(), TextFault>
-    ensures ok { OnOk result (Appends (W.contents writer.old) (W.contents writer.new) (element_line element.now)) }
-    ensures err { IfErr result (λ e. e ≡ TextFault.Output) }
-    ensures failed { FailsBy TextFault.Output result (W.has_failed writer.old) (W.has_failed writer.new) }
+    ensures { Writes W.contents W.has_failed writer.old writer.new
+        (element_line element.now) result }
 {
     put_column(writer, 5, element.sid)?;
     put_column(writer, 2, u16::from(element.iuc))?;
@@ -139,9 +128,8 @@ fn put_element<W: Sink>(writer: &mut W, element: &Element) -> Result<(), TextFau
 
 // The lines of elements.
 fn put_elements<W: Sink>(writer: &mut W, elements: &[Element]) -> Result<(), TextFault>
-    ensures ok { OnOk result (Appends (W.contents writer.old) (W.contents writer.new) (element_lines elements.now)) }
-    ensures err { IfErr result (λ e. e ≡ TextFault.Output) }
-    ensures failed { FailsBy TextFault.Output result (W.has_failed writer.old) (W.has_failed writer.new) }
+    ensures { Writes W.contents W.has_failed writer.old writer.new
+        (element_lines elements.now) result }
 {
     for element in elements {
         put_element(writer, element)?;
@@ -152,9 +140,7 @@ fn put_elements<W: Sink>(writer: &mut W, elements: &[Element]) -> Result<(), Tex
 /// Writes the table of a MAP: two lines of its header, and a line for each element.
 #[tactic(auto, unfolding(crate::specs::Table::table_text))]
 pub fn put_table<W: Sink>(writer: &mut W, map: &WireMap) -> Result<(), TextFault>
-    ensures ok { OnOk result (Appends (W.contents writer.old) (W.contents writer.new) (table_text map.now)) }
-    ensures err { IfErr result (λ e. e ≡ TextFault.Output) }
-    ensures failed { FailsBy TextFault.Output result (W.has_failed writer.old) (W.has_failed writer.new) }
+    ensures { Writes W.contents W.has_failed writer.old writer.new (table_text map.now) result }
 {
     put_counts(writer, map)?;
     put_times(writer, map)?;
@@ -192,9 +178,7 @@ pub(crate) fn index_of(fault: DecodeFault) -> Option<usize>
 // The line of a fault.
 #[tactic(auto, unfolding(crate::specs::Table::fault_line))]
 pub(crate) fn put_fault<W: Sink>(writer: &mut W, fault: DecodeFault) -> Result<(), TextFault>
-    ensures ok { OnOk result (Appends (W.contents writer.old) (W.contents writer.new) (fault_line fault)) }
-    ensures err { IfErr result (λ e. e ≡ TextFault.Output) }
-    ensures failed { FailsBy TextFault.Output result (W.has_failed writer.old) (W.has_failed writer.new) }
+    ensures { Writes W.contents W.has_failed writer.old writer.new (fault_line fault) result }
 {
     put_labelled(writer, b"fault ", number_of(fault))?;
     if let Some(i) = index_of(fault) {
@@ -212,16 +196,16 @@ pub(crate) fn put_map<W: Sink>(
 ) -> Result<(), RunFault>
     requires { IsWellFormed map.now }
     ensures ok { OnOk result (Appends (W.contents writer.old) (W.contents writer.new) (shown_text columns map.now)) }
-    ensures err { IfErr result (λ e. (e ≡ RunFault.Memory) ⊎ (e ≡ RunFault.Output)) }
-    ensures failed { FailsBy RunFault.Output result (W.has_failed writer.old) (W.has_failed writer.new) }
-    ensures quiet { IfErr result (λ e. e ≡ RunFault.Memory → writer.new ≡ writer.old) }
+    ensures err { IfErr result (λ e. (e ≡ RunFault.Text TextFault.Memory) ⊎ (e ≡ RunFault.Text TextFault.Output)) }
+    ensures failed { TellsFailedWrite result (W.has_failed writer.old) (W.has_failed writer.new) }
+    ensures quiet { IfErr result (λ e. e ≡ RunFault.Text TextFault.Memory → writer.new ≡ writer.old) }
 {
     let Some(columns) = columns else {
         put_table(writer, map)?;
         return Ok(());
     };
     let Ok(drawing) = draw_frame(alloc, map, columns) else {
-        return Err(RunFault::Memory);
+        return Err(RunFault::Text(TextFault::Memory));
     };
     put_table(writer, map)?;
     put(writer, &drawing)?;
@@ -239,17 +223,17 @@ fn put_decoded<W: Sink>(
     ensures shown { IfOk result (λ is_payload. MatchBool is_payload
         (PutsMap columns bytes.now (W.contents writer.old) (W.contents writer.new))
         (PutsFault bytes.now (W.contents writer.old) (W.contents writer.new))) }
-    ensures err { IfErr result (λ e. (e ≡ RunFault.Memory) ⊎ (e ≡ RunFault.Output)) }
-    ensures failed { FailsBy RunFault.Output result (W.has_failed writer.old) (W.has_failed writer.new) }
-    ensures quiet { IfErr result (λ e. e ≡ RunFault.Memory → writer.new ≡ writer.old) }
-    ensures payload { IfErr result (λ e. e ≡ RunFault.Memory → IsPayload bytes.now) }
+    ensures err { IfErr result (λ e. (e ≡ RunFault.Text TextFault.Memory) ⊎ (e ≡ RunFault.Text TextFault.Output)) }
+    ensures failed { TellsFailedWrite result (W.has_failed writer.old) (W.has_failed writer.new) }
+    ensures quiet { IfErr result (λ e. e ≡ RunFault.Text TextFault.Memory → writer.new ≡ writer.old) }
+    ensures payload { IfErr result (λ e. e ≡ RunFault.Text TextFault.Memory → IsPayload bytes.now) }
 {
     match decode(alloc, bytes) {
         Ok(map) => {
             put_map(alloc, &map, columns, writer)?;
             Ok(true)
         }
-        Err(DecodeFault::Memory) => Err(RunFault::Memory),
+        Err(DecodeFault::Memory) => Err(RunFault::Text(TextFault::Memory)),
         Err(fault) => {
             put_fault(writer, fault)?;
             Ok(false)
@@ -279,14 +263,14 @@ pub fn decode_text<W: Sink>(
 
     // No other fault ends it; want of memory only before anything is written, and not where the
     // digits are odd in number.
-    ensures err { IfErr result (λ e. (e ≡ RunFault.Memory) ⊎ (e ≡ RunFault.Output)) }
-    ensures failed { FailsBy RunFault.Output result (W.has_failed writer.old) (W.has_failed writer.new) }
-    ensures quiet { IfErr result (λ e. e ≡ RunFault.Memory → writer.new ≡ writer.old) }
-    ensures odd { length text.now % 2 ≡ 1 → IfErr result (λ e. e ≡ RunFault.Output) }
+    ensures err { IfErr result (λ e. (e ≡ RunFault.Text TextFault.Memory) ⊎ (e ≡ RunFault.Text TextFault.Output)) }
+    ensures failed { TellsFailedWrite result (W.has_failed writer.old) (W.has_failed writer.new) }
+    ensures quiet { IfErr result (λ e. e ≡ RunFault.Text TextFault.Memory → writer.new ≡ writer.old) }
+    ensures odd { length text.now % 2 ≡ 1 → IfErr result (λ e. e ≡ RunFault.Text TextFault.Output) }
 {
     match hex::decode(alloc, text) {
         Ok(bytes) => put_decoded(alloc, &bytes, columns, writer),
-        Err(FromHexError::OutOfMemory) => Err(RunFault::Memory),
+        Err(FromHexError::OutOfMemory) => Err(RunFault::Text(TextFault::Memory)),
         Err(_) => {
             put(writer, b"fault hex\n")?;
             Ok(false)

@@ -4,6 +4,7 @@ ghost use Rattle.std.specs.Prelude.{◌≡◌, ◌≢◌, ◌⊎◌, [], IfOk, O
 ghost use Rattle.script_reading.specs.Stops.{Stops};
 ghost use Rattle.draw_command.specs.Drawing.{lacks_memory, MakesWhole, DrawsLeaving, Drawn, DrawnLeaving};
 ghost use Rattle.text_stream.specs.Watched.{FailsBy};
+ghost use Rattle.text_stream.specs.RunFault.{TellsFailedRead, TellsFailedWrite, WritesLast};
 
 use frame_picture::{Span, put_picture};
 use minislots::Checked;
@@ -11,7 +12,7 @@ use sched_history::{Call, Reply, Scheduler, Unrecorded};
 use sched_lines::{count_unrecorded, make_call};
 use script_reading::read_script;
 use std::alloc::Global;
-use text_stream::{RunFault, Sink, Source};
+use text_stream::{RunFault, Sink, Source, TextFault};
 
 // Whether there was no memory for the call with this answer.
 fn lacks_memory(answer: &Result<Reply, Unrecorded>) -> bool
@@ -21,15 +22,16 @@ fn lacks_memory(answer: &Result<Reply, Unrecorded>) -> bool
 }
 
 // Makes the calls of a script one after the other, up to one for which there is no memory.
-fn make_whole(scheduler: &mut Scheduler, calls: &[Call]) -> Result<(), RunFault>
-    requires { scheduler.old.history ≡ [] }
+fn make_whole(scheduler: &mut Scheduler, calls: &[Call]) -> Result<(), TextFault>
+    requires empty { scheduler.old.history ≡ [] }
+    requires whole { scheduler.old.handed ≡ 0 }
     ensures ok { OnOk result (MakesWhole scheduler.old scheduler.new calls.now) }
-    ensures err { IfErr result (λ e. e ≡ RunFault.Memory) }
+    ensures err { IfErr result (λ e. e ≡ TextFault.Memory) }
 {
     for (place, call) in calls.iter().enumerate() {
         let answer = make_call(scheduler, place, *call);
         if lacks_memory(&answer) {
-            return Err(RunFault::Memory);
+            return Err(TextFault::Memory);
         }
     }
     Ok(())
@@ -43,15 +45,16 @@ fn draw_calls<W: Sink>(
     calls: &[Call],
     span: Span,
     writer: &mut W,
-) -> Result<usize, RunFault>
+) -> Result<usize, TextFault>
     requires empty { scheduler.old.history ≡ [] }
+    requires whole { scheduler.old.handed ≡ 0 }
     requires same { config.now ≡ scheduler.old.config }
 
     ensures ok { IfOk result (DrawsLeaving scheduler.old.config span calls.now (W.contents writer.old)
         (W.contents writer.new)) }
-    ensures err { IfErr result (λ e. (e ≡ RunFault.Memory) ⊎ (e ≡ RunFault.Output)) }
-    ensures failed { FailsBy RunFault.Output result (W.has_failed writer.old) (W.has_failed writer.new) }
-    ensures quiet { IfErr result (λ e. e ≢ RunFault.Output → writer.new ≡ writer.old) }
+    ensures err { IfErr result (λ e. (e ≡ TextFault.Memory) ⊎ (e ≡ TextFault.Output)) }
+    ensures failed { FailsBy TextFault.Output result (W.has_failed writer.old) (W.has_failed writer.new) }
+    ensures quiet { IfErr result (λ e. e ≢ TextFault.Output → writer.new ≡ writer.old) }
 {
     make_whole(scheduler, calls)?;
     // A history has no more entries than calls are recorded, and so few may be drawn.
@@ -74,15 +77,15 @@ pub fn draw_counting<R: Source, W: Sink>(
 
     // Each fault comes under its own condition, the first one in their order.
     ensures stops { IfErr result (Stops (R.remaining reader.old) (R.remaining reader.new)) }
-    ensures quiet { IfErr result (λ e. e ≢ RunFault.Output → writer.new ≡ writer.old) }
+    ensures quiet { WritesLast result writer.old writer.new }
 
     // A failed read or write is told where one has failed, and where all went well none did.
-    ensures failed_read { FailsBy RunFault.Input result (R.has_failed reader.old) (R.has_failed reader.new) }
-    ensures failed_write { FailsBy RunFault.Output result (W.has_failed writer.old) (W.has_failed writer.new) }
+    ensures failed_read { TellsFailedRead result (R.has_failed reader.old) (R.has_failed reader.new) }
+    ensures failed_write { TellsFailedWrite result (W.has_failed writer.old) (W.has_failed writer.new) }
 {
     let (config, calls) = read_script(alloc, reader)?;
     let Ok(mut scheduler) = Scheduler::open(alloc, config) else {
-        return Err(RunFault::Memory);
+        return Err(RunFault::Text(TextFault::Memory));
     };
     let unrecorded = draw_calls(&mut scheduler, &config, &calls, span, writer)?;
     Ok(unrecorded)
@@ -104,11 +107,11 @@ pub fn draw_script<R: Source, W: Sink>(
 
     // Each fault comes under its own condition, the first one in their order.
     ensures stops { IfErr result (Stops (R.remaining reader.old) (R.remaining reader.new)) }
-    ensures quiet { IfErr result (λ e. e ≢ RunFault.Output → writer.new ≡ writer.old) }
+    ensures quiet { WritesLast result writer.old writer.new }
 
     // A failed read or write is told where one has failed, and where all went well none did.
-    ensures failed_read { FailsBy RunFault.Input result (R.has_failed reader.old) (R.has_failed reader.new) }
-    ensures failed_write { FailsBy RunFault.Output result (W.has_failed writer.old) (W.has_failed writer.new) }
+    ensures failed_read { TellsFailedRead result (R.has_failed reader.old) (R.has_failed reader.new) }
+    ensures failed_write { TellsFailedWrite result (W.has_failed writer.old) (W.has_failed writer.new) }
 {
     draw_counting(alloc, reader, span, writer)?;
     Ok(())

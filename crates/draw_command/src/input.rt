@@ -6,7 +6,7 @@ use crate::recorded::draw_history;
 use frame_picture::Span;
 use sched_lines::tell_unrecorded;
 use std::io;
-use text_stream::{RunFault, Watched, read_all};
+use text_stream::{RunFault, TextFault, Watched, read_all};
 
 /// The command `draw`, from one frame on, counted from 0, and so many: of a script, or else of a history. A document
 /// that is no script by its members or its configuration has the faults of a history.
@@ -20,7 +20,7 @@ pub fn draw_input(
     let mut writer = Watched::new(io::writer(rt));
     match draw_counting(rt.alloc(), &mut text.as_slice(), span, &mut writer) {
         Ok(unrecorded) => tell_unrecorded(rt, unrecorded),
-        Err(RunFault::Shape(0)) => {
+        Err(RunFault::Text(TextFault::Shape(0))) => {
             draw_history(rt.alloc(), &mut text.as_slice(), span, &mut writer)?;
         }
         Err(fault) => return Err(fault),

@@ -1,8 +1,8 @@
 //! The picture of a history.
 
-ghost use Rattle.std.specs.Prelude.{◌≡◌, ◌≢◌, OnOk, IfErr};
+ghost use Rattle.std.specs.Prelude.{OnOk, IfErr};
 ghost use Rattle.draw_command.specs.Recorded.{DrawnHistory, StopsHistoryDrawing};
-ghost use Rattle.text_stream.specs.Watched.{FailsBy};
+ghost use Rattle.text_stream.specs.RunFault.{TellsFailedRead, TellsFailedWrite, WritesLast};
 
 use frame_picture::{Span, put_picture};
 use history_reading::read_history;
@@ -23,11 +23,11 @@ pub fn draw_history<R: Source, W: Sink>(
 
     // Each fault comes under its own condition, the first one in their order.
     ensures stops { IfErr result (StopsHistoryDrawing (R.remaining reader.old) (R.remaining reader.new)) }
-    ensures quiet { IfErr result (λ e. e ≢ RunFault.Output → writer.new ≡ writer.old) }
+    ensures quiet { WritesLast result writer.old writer.new }
 
     // A failed read or write is told where one has failed, and where all went well none did.
-    ensures failed_read { FailsBy RunFault.Input result (R.has_failed reader.old) (R.has_failed reader.new) }
-    ensures failed_write { FailsBy RunFault.Output result (W.has_failed writer.old) (W.has_failed writer.new) }
+    ensures failed_read { TellsFailedRead result (R.has_failed reader.old) (R.has_failed reader.new) }
+    ensures failed_write { TellsFailedWrite result (W.has_failed writer.old) (W.has_failed writer.new) }
 {
     let (config, entries) = read_history(alloc, reader)?;
     put_picture(writer, &config, span, &entries)?;

@@ -1,12 +1,15 @@
 -- What is drawn piece by piece.
-use Rattle.std.proofs.Common.{◌≡◌, ℕ, ◌+◌, List, [], ◌∷◌, ◌++◌, length, map, flat_map, Option, None, Some, refl, sym}
-use Rattle.std.proofs.Common.{ap, ◌∙◌, append_assoc, append-nil, arith}
+use Rattle.std.proofs.Common.{◌≡◌, ℕ, ◌+◌, Bool, true, List, [], ◌∷◌, ◌++◌, length, map, flat_map, refl, sym}
+use Rattle.std.proofs.Common.{Option, None, Some, Result, Ok, Err, ap, ◌∙◌, append_assoc, append-nil, arith}
+use Rattle.std.specs.Prelude.{MatchResult}
 use Rattle.std.specs.List.{range_with_len}
 use Rattle.std.specs.Io.KnownBytes.{Appends, append_known}
 use Rattle.std.proofs.KnownBytes.{Appends-trans}
 use Rattle.std.proofs.lemmas.Grind.{flat_map-append}
 use Rattle.std.proofs.lemmas.List.FromFn.{map-range_with_len_more}
 use Rattle.map_drawing.proofs.Ranges.{flat_map_next}
+use Rattle.text_stream.specs.declared.fault.TextFault.{TextFault}
+use Rattle.text_stream.specs.declared.fault.TextFault.TheVariants.{Output}
 use Rattle.frame_picture.specs.declared.bar.Bar.{Bar}
 use Rattle.frame_picture.specs.declared.layout.Scale.{Scale}
 use Rattle.frame_picture.specs.declared.span.Place.{Place}
@@ -27,6 +30,13 @@ module _ (a b c : Option (List ℕ)) where
       → Appends a c (flat_map f (range_with_len 0 (n + 1)))
   text_more f n before one =
       rw (flat_map_next f n) (Appends-trans a b c (flat_map f (range_with_len 0 n)) (f n) before one)
+
+-- what is written or waits, and a text behind it
+pub then_text : {A : Type 0} (a b c : Option (List ℕ)) (x y : List ℕ) (old mid new : Bool) (r : Result A TextFault)
+    → Appends a b x × (mid ≡ old) → MatchResult r (λ _. Appends b c y × (new ≡ mid)) (λ e. (e ≡ Output) × (new ≡ true))
+    → MatchResult r (λ _. Appends a c (x ++ y) × (new ≡ old)) (λ e. (e ≡ Output) × (new ≡ true))
+then_text a b c x y old mid new (Ok v) first next = (Appends-trans a b c x y first.0 next.0, next.1 ∙ first.1)
+then_text a b c x y old mid new (Err e) first next = next
 
 -- the rows of frames, and then of others
 pub rows_text-append : (scale : Scale) (from row : ℕ) (fs gs : List Frame)

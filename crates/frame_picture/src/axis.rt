@@ -1,9 +1,8 @@
 //! The axes of a picture: the minislots of a frame, and the milliseconds that they take.
 
-ghost use Rattle.std.specs.Prelude.{◌≡◌, ◌<◌, ◌≤◌, OnOk, IfErr};
-ghost use Rattle.std.specs.Io.KnownBytes.{Appends, append_known};
+ghost use Rattle.std.specs.Prelude.{◌≡◌, ◌<◌, ◌≤◌};
 ghost use Rattle.frame_picture.specs.Axis.{tick_step, tick_text, ticks_text, axis_text, axes_text};
-ghost use Rattle.text_stream.specs.Watched.{FailsBy};
+ghost use Rattle.text_stream.specs.Writing.{Puts};
 
 use crate::layout::{Scale, axes_of, axis_top, rows_under};
 use crate::text::put_labelled;
@@ -38,10 +37,8 @@ fn put_tick<W: Sink>(
 ) -> Result<(), TextFault>
     requires narrow { scale.units ≤ 1024 }
     requires near { slot ≤ 102400 }
-    ensures ok { OnOk result (Appends (append_known (W.contents writer.old) lines.old)
-        (append_known (W.contents writer.new) lines.new) (tick_text scale depth slot)) }
-    ensures err { IfErr result (λ e. e ≡ TextFault.Output) }
-    ensures failed { FailsBy TextFault.Output result (W.has_failed writer.old) (W.has_failed writer.new) }
+    ensures { Puts W.contents W.has_failed writer.old writer.new lines.old lines.new
+        (tick_text scale depth slot) result }
 {
     let x = u64::from(scale.units * slot);
     put_labelled(lines, writer, b"<path class='tick' d='M", x)?;
@@ -63,10 +60,8 @@ fn put_ticks<W: Sink>(
 ) -> Result<(), TextFault>
     requires narrow { scale.units ≤ 1024 }
     requires short { scale.frame ≤ 1024 }
-    ensures ok { OnOk result (Appends (append_known (W.contents writer.old) lines.old)
-        (append_known (W.contents writer.new) lines.new) (ticks_text scale depth)) }
-    ensures err { IfErr result (λ e. e ≡ TextFault.Output) }
-    ensures failed { FailsBy TextFault.Output result (W.has_failed writer.old) (W.has_failed writer.new) }
+    ensures { Puts W.contents W.has_failed writer.old writer.new lines.old lines.new
+        (ticks_text scale depth) result }
 {
     let step = tick_step(scale.frame);
     for i in 0..scale.frame / step + 1 {
@@ -87,10 +82,8 @@ fn put_axis<W: Sink>(
     requires narrow { scale.units ≤ 1024 }
     requires short { scale.frame ≤ 1024 }
     requires near { axis ≤ 16777216 }
-    ensures ok { OnOk result (Appends (append_known (W.contents writer.old) lines.old)
-        (append_known (W.contents writer.new) lines.new) (axis_text scale rows axis)) }
-    ensures err { IfErr result (λ e. e ≡ TextFault.Output) }
-    ensures failed { FailsBy TextFault.Output result (W.has_failed writer.old) (W.has_failed writer.new) }
+    ensures { Puts W.contents W.has_failed writer.old writer.new lines.old lines.new
+        (axis_text scale rows axis) result }
 {
     let top = axis_top(axis);
     put_labelled(
@@ -114,10 +107,8 @@ pub(crate) fn put_axes<W: Sink>(
     requires narrow { scale.units ≤ 1024 }
     requires short { scale.frame ≤ 1024 }
     requires few { rows ≤ 16777216 }
-    ensures ok { OnOk result (Appends (append_known (W.contents writer.old) lines.old)
-        (append_known (W.contents writer.new) lines.new) (axes_text scale rows)) }
-    ensures err { IfErr result (λ e. e ≡ TextFault.Output) }
-    ensures failed { FailsBy TextFault.Output result (W.has_failed writer.old) (W.has_failed writer.new) }
+    ensures { Puts W.contents W.has_failed writer.old writer.new lines.old lines.new
+        (axes_text scale rows) result }
 {
     for axis in 0..axes_of(rows) {
         put_axis(lines, writer, scale, rows, axis)?;

@@ -1,9 +1,8 @@
 //! The bars of a MAP: what is drawn of its allocations, and where.
 
 ghost use Rattle.std.specs.Prelude.{◌≡◌, ◌+◌, ◌<◌, ◌≤◌, length};
-ghost use Rattle.frame_picture.specs.Bar.{bar_with, StandsAtItsSlots};
+ghost use Rattle.frame_picture.specs.Bar.{bar_with, is_plain_grant, StandsAtItsSlots};
 
-use crate::usage::is_plain_grant;
 use map_codec::Element;
 use map_drawing::{Allocation, Usage, allocation_at};
 
@@ -22,6 +21,14 @@ pub struct Bar {
     pub width: u32,
     /// The bytes of the requests that it grants.
     pub bytes: u32,
+}
+
+// Whether the usage code is one of a channel without Advanced PHY for all grants, unsolicited ones among them.
+#[tactic(auto, unfolding(crate::specs::Bar::is_plain_grant))]
+fn is_plain_grant(usage: Usage) -> bool
+    ensures { result ≡ is_plain_grant usage }
+{
+    matches!(usage, Usage::ShortGrant | Usage::LongGrant)
 }
 
 /// The bar of the element at a place before another one, among the elements of a MAP with these byte counts, where the

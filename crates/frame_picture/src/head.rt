@@ -1,10 +1,9 @@
 //! The head of a picture: how its bars look, and what each look is for.
 
-ghost use Rattle.std.specs.Prelude.{◌≡◌, ◌≤◌, OnOk, IfErr};
-ghost use Rattle.std.specs.Io.KnownBytes.{Appends, append_known};
+ghost use Rattle.std.specs.Prelude.{◌≤◌};
 ghost use Rattle.frame_picture.specs.Head.{style_text, request_patterns, grant_patterns, legend_text, size_text};
 ghost use Rattle.frame_picture.specs.Head.{counts_text, head_text};
-ghost use Rattle.text_stream.specs.Watched.{FailsBy};
+ghost use Rattle.text_stream.specs.Writing.{Puts};
 
 use crate::layout::{Scale, depth_of};
 use crate::shade::put_shade_rules;
@@ -15,10 +14,8 @@ use text_stream::{Sink, TextBuffer, TextFault};
 // How the parts of a picture look.
 #[tactic(auto, unfolding(crate::specs::Head::style_text))]
 fn put_style<W: Sink>(lines: &mut TextBuffer, writer: &mut W) -> Result<(), TextFault>
-    ensures ok { OnOk result (Appends (append_known (W.contents writer.old) lines.old)
-        (append_known (W.contents writer.new) lines.new) (style_text)) }
-    ensures err { IfErr result (λ e. e ≡ TextFault.Output) }
-    ensures failed { FailsBy TextFault.Output result (W.has_failed writer.old) (W.has_failed writer.new) }
+    ensures { Puts W.contents W.has_failed writer.old writer.new lines.old lines.new
+        (style_text) result }
 {
     lines.put(
         writer,
@@ -45,10 +42,8 @@ fn put_style<W: Sink>(lines: &mut TextBuffer, writer: &mut W) -> Result<(), Text
 // The patterns of bars in which modems may ask.
 #[tactic(auto, unfolding(crate::specs::Head::request_patterns))]
 fn put_request_patterns<W: Sink>(lines: &mut TextBuffer, writer: &mut W) -> Result<(), TextFault>
-    ensures ok { OnOk result (Appends (append_known (W.contents writer.old) lines.old)
-        (append_known (W.contents writer.new) lines.new) (request_patterns)) }
-    ensures err { IfErr result (λ e. e ≡ TextFault.Output) }
-    ensures failed { FailsBy TextFault.Output result (W.has_failed writer.old) (W.has_failed writer.new) }
+    ensures { Puts W.contents W.has_failed writer.old writer.new lines.old lines.new
+        (request_patterns) result }
 {
     lines.put(
         writer,
@@ -71,10 +66,8 @@ fn put_request_patterns<W: Sink>(lines: &mut TextBuffer, writer: &mut W) -> Resu
 // The patterns of the other bars.
 #[tactic(auto, unfolding(crate::specs::Head::grant_patterns))]
 fn put_grant_patterns<W: Sink>(lines: &mut TextBuffer, writer: &mut W) -> Result<(), TextFault>
-    ensures ok { OnOk result (Appends (append_known (W.contents writer.old) lines.old)
-        (append_known (W.contents writer.new) lines.new) (grant_patterns)) }
-    ensures err { IfErr result (λ e. e ≡ TextFault.Output) }
-    ensures failed { FailsBy TextFault.Output result (W.has_failed writer.old) (W.has_failed writer.new) }
+    ensures { Puts W.contents W.has_failed writer.old writer.new lines.old lines.new
+        (grant_patterns) result }
 {
     lines.put(
         writer,
@@ -105,10 +98,8 @@ fn put_grant_patterns<W: Sink>(lines: &mut TextBuffer, writer: &mut W) -> Result
 // What each look is for, and what the numbers before a row are; each axis shows it.
 #[tactic(auto, unfolding(crate::specs::Head::legend_text))]
 fn put_legend<W: Sink>(lines: &mut TextBuffer, writer: &mut W) -> Result<(), TextFault>
-    ensures ok { OnOk result (Appends (append_known (W.contents writer.old) lines.old)
-        (append_known (W.contents writer.new) lines.new) (legend_text)) }
-    ensures err { IfErr result (λ e. e ≡ TextFault.Output) }
-    ensures failed { FailsBy TextFault.Output result (W.has_failed writer.old) (W.has_failed writer.new) }
+    ensures { Puts W.contents W.has_failed writer.old writer.new lines.old lines.new
+        (legend_text) result }
 {
     lines.put(
         writer,
@@ -152,10 +143,8 @@ fn put_legend<W: Sink>(lines: &mut TextBuffer, writer: &mut W) -> Result<(), Tex
 #[tactic(auto, unfolding(crate::specs::Head::size_text))]
 fn put_size<W: Sink>(lines: &mut TextBuffer, writer: &mut W, rows: u64) -> Result<(), TextFault>
     requires { rows ≤ 16777216 }
-    ensures ok { OnOk result (Appends (append_known (W.contents writer.old) lines.old)
-        (append_known (W.contents writer.new) lines.new) (size_text rows)) }
-    ensures err { IfErr result (λ e. e ≡ TextFault.Output) }
-    ensures failed { FailsBy TextFault.Output result (W.has_failed writer.old) (W.has_failed writer.new) }
+    ensures { Puts W.contents W.has_failed writer.old writer.new lines.old lines.new
+        (size_text rows) result }
 {
     let depth = depth_of(rows);
     put_labelled(
@@ -176,10 +165,8 @@ fn put_counts<W: Sink>(
     rows: u64,
     total: u64,
 ) -> Result<(), TextFault>
-    ensures ok { OnOk result (Appends (append_known (W.contents writer.old) lines.old)
-        (append_known (W.contents writer.new) lines.new) (counts_text scale rows total)) }
-    ensures err { IfErr result (λ e. e ≡ TextFault.Output) }
-    ensures failed { FailsBy TextFault.Output result (W.has_failed writer.old) (W.has_failed writer.new) }
+    ensures { Puts W.contents W.has_failed writer.old writer.new lines.old lines.new
+        (counts_text scale rows total) result }
 {
     let frame = u64::from(scale.frame);
     let label = b"<text class='head' x='16' y='26'>Frames drawn: ";
@@ -201,10 +188,8 @@ pub(crate) fn put_head<W: Sink>(
     total: u64,
 ) -> Result<(), TextFault>
     requires { rows ≤ 16777216 }
-    ensures ok { OnOk result (Appends (append_known (W.contents writer.old) lines.old)
-        (append_known (W.contents writer.new) lines.new) (head_text scale rows total)) }
-    ensures err { IfErr result (λ e. e ≡ TextFault.Output) }
-    ensures failed { FailsBy TextFault.Output result (W.has_failed writer.old) (W.has_failed writer.new) }
+    ensures { Puts W.contents W.has_failed writer.old writer.new lines.old lines.new
+        (head_text scale rows total) result }
 {
     put_size(lines, writer, rows)?;
     put_style(lines, writer)?;

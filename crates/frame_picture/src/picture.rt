@@ -1,14 +1,13 @@
 //! The picture of a history's frames.
 
-ghost use Rattle.std.specs.Prelude.{◌≡◌, ◌+◌, ◌<◌, ◌≤◌, ◌∷◌, [], length, get_or, false, OnOk, IfErr, IfSome};
+ghost use Rattle.std.specs.Prelude.{◌≡◌, ◌+◌, ◌<◌, ◌≤◌, ◌∷◌, [], length, get_or, false, IfSome};
 ghost use Rattle.std.specs.List.{AllByRecursion};
-ghost use Rattle.std.specs.Io.KnownBytes.{Appends, append_known};
 ghost use Rattle.sched_history.specs.History.{map_by};
 ghost use Rattle.sched_history.specs.Machine.{IsEncodable};
 ghost use Rattle.frame_picture.specs.Frames.{frame_by, frames_of, frames_in};
 ghost use Rattle.frame_picture.specs.Layout.{scale_of};
 ghost use Rattle.frame_picture.specs.Picture.{entry_text, rows_text, frames_text, picture_text};
-ghost use Rattle.text_stream.specs.Watched.{FailsBy};
+ghost use Rattle.text_stream.specs.Writing.{Puts, Writes};
 
 use crate::axis::put_axes;
 use crate::flows::{Flows, no_flows, note};
@@ -55,10 +54,8 @@ fn put_entry<W: Sink>(
     requires few { IfSome place (λ p. p.row ≤ 16777216) }
     requires narrow { scale.units ≤ 1024 }
     requires whole { IsEncodable entry.now.reply }
-    ensures ok { OnOk result (Appends (append_known (W.contents writer.old) lines.old)
-        (append_known (W.contents writer.new) lines.new) (entry_text scale place (λ sid. get_or flows.now sid false) entry.now.reply)) }
-    ensures err { IfErr result (λ e. e ≡ TextFault.Output) }
-    ensures failed { FailsBy TextFault.Output result (W.has_failed writer.old) (W.has_failed writer.new) }
+    ensures { Puts W.contents W.has_failed writer.old writer.new lines.old lines.new
+        (entry_text scale place (λ sid. get_or flows.now sid false) entry.now.reply) result }
 {
     let Some(place) = place else {
         return Ok(());
@@ -80,10 +77,8 @@ fn put_rows<W: Sink>(
     requires few { length entries.now ≤ 16777216 }
     requires narrow { scale.units ≤ 1024 }
     requires whole { AllByRecursion (λ e. IsEncodable e.reply) entries.now }
-    ensures ok { OnOk result (Appends (append_known (W.contents writer.old) lines.old)
-        (append_known (W.contents writer.new) lines.new) (rows_text scale span.from 0 (frames_in span (frames_of entries.now)))) }
-    ensures err { IfErr result (λ e. e ≡ TextFault.Output) }
-    ensures failed { FailsBy TextFault.Output result (W.has_failed writer.old) (W.has_failed writer.new) }
+    ensures { Puts W.contents W.has_failed writer.old writer.new lines.old lines.new
+        (rows_text scale span.from 0 (frames_in span (frames_of entries.now))) result }
 {
     let mut flows = no_flows();
     let mut number = 0;
@@ -109,11 +104,9 @@ fn put_all<W: Sink>(
     requires narrow { scale.units ≤ 1024 }
     requires few { length entries.now ≤ 16777216 }
     requires whole { AllByRecursion (λ e. IsEncodable e.reply) entries.now }
-    ensures ok { OnOk result (Appends (append_known (W.contents writer.old) lines.old)
-        (append_known (W.contents writer.new) lines.new) (frames_text scale (length (frames_of entries.now)) span.from
-        (frames_in span (frames_of entries.now)))) }
-    ensures err { IfErr result (λ e. e ≡ TextFault.Output) }
-    ensures failed { FailsBy TextFault.Output result (W.has_failed writer.old) (W.has_failed writer.new) }
+    ensures { Puts W.contents W.has_failed writer.old writer.new lines.old lines.new
+        (frames_text scale (length (frames_of entries.now)) span.from
+        (frames_in span (frames_of entries.now))) result }
 {
     let total = count_maps(entries);
     let rows = span.count.min(total.saturating_sub(span.from));
@@ -136,10 +129,8 @@ pub fn put_picture<W: Sink>(
     requires whole { AllByRecursion (λ e. IsEncodable e.reply) entries.now }
 
     // What was written is the picture, and nothing else.
-    ensures ok { OnOk result (Appends (W.contents writer.old) (W.contents writer.new)
-        (picture_text config.now span entries.now)) }
-    ensures err { IfErr result (λ e. e ≡ TextFault.Output) }
-    ensures failed { FailsBy TextFault.Output result (W.has_failed writer.old) (W.has_failed writer.new) }
+    ensures { Writes W.contents W.has_failed writer.old writer.new
+        (picture_text config.now span entries.now) result }
 {
     let mut lines = TextBuffer::new();
     put_all(&mut lines, writer, scale_of(config), span, entries)?;

@@ -1,12 +1,11 @@
 //! The row of a MAP, and its bars.
 
-ghost use Rattle.std.specs.Prelude.{◌≡◌, ◌≤◌, get_or, false, OnOk, IfErr};
-ghost use Rattle.std.specs.Io.KnownBytes.{Appends, append_known};
+ghost use Rattle.std.specs.Prelude.{◌≡◌, ◌≤◌, get_or, false};
 ghost use Rattle.map_codec.specs.Element.{nulls};
 ghost use Rattle.map_codec.specs.WireMap.{IsWellFormed};
 ghost use Rattle.frame_picture.specs.Bars.{shade_text, box_text, title_text, name_text, bar_text, bars_text};
 ghost use Rattle.frame_picture.specs.Picture.{start_text, map_text};
-ghost use Rattle.text_stream.specs.Watched.{FailsBy};
+ghost use Rattle.text_stream.specs.Writing.{Puts};
 
 use crate::bar::{Bar, bar_with};
 use crate::flows::Flows;
@@ -24,10 +23,8 @@ use text_stream::{Sink, TextBuffer, TextFault};
 // The name of a bar's shade.
 #[tactic(auto, unfolding(crate::specs::Bars::shade_text))]
 fn put_shade<W: Sink>(lines: &mut TextBuffer, writer: &mut W, bar: Bar) -> Result<(), TextFault>
-    ensures ok { OnOk result (Appends (append_known (W.contents writer.old) lines.old)
-        (append_known (W.contents writer.new) lines.new) (shade_text bar)) }
-    ensures err { IfErr result (λ e. e ≡ TextFault.Output) }
-    ensures failed { FailsBy TextFault.Output result (W.has_failed writer.old) (W.has_failed writer.new) }
+    ensures { Puts W.contents W.has_failed writer.old writer.new lines.old lines.new
+        (shade_text bar) result }
 {
     if !is_named(bar.usage) {
         return Ok(());
@@ -39,10 +36,8 @@ fn put_shade<W: Sink>(lines: &mut TextBuffer, writer: &mut W, bar: Bar) -> Resul
 // The box of a bar.
 #[tactic(auto, unfolding(crate::specs::Bars::box_text))]
 fn put_box<W: Sink>(lines: &mut TextBuffer, writer: &mut W, bar: Bar) -> Result<(), TextFault>
-    ensures ok { OnOk result (Appends (append_known (W.contents writer.old) lines.old)
-        (append_known (W.contents writer.new) lines.new) (box_text bar)) }
-    ensures err { IfErr result (λ e. e ≡ TextFault.Output) }
-    ensures failed { FailsBy TextFault.Output result (W.has_failed writer.old) (W.has_failed writer.new) }
+    ensures { Puts W.contents W.has_failed writer.old writer.new lines.old lines.new
+        (box_text bar) result }
 {
     lines.put(writer, b"<rect class='")?;
     lines.put(writer, look_of(bar))?;
@@ -55,10 +50,8 @@ fn put_box<W: Sink>(lines: &mut TextBuffer, writer: &mut W, bar: Bar) -> Result<
 // What a bar says of its allocation.
 #[tactic(auto, unfolding(crate::specs::Bars::title_text))]
 fn put_title<W: Sink>(lines: &mut TextBuffer, writer: &mut W, bar: Bar) -> Result<(), TextFault>
-    ensures ok { OnOk result (Appends (append_known (W.contents writer.old) lines.old)
-        (append_known (W.contents writer.new) lines.new) (title_text bar)) }
-    ensures err { IfErr result (λ e. e ≡ TextFault.Output) }
-    ensures failed { FailsBy TextFault.Output result (W.has_failed writer.old) (W.has_failed writer.new) }
+    ensures { Puts W.contents W.has_failed writer.old writer.new lines.old lines.new
+        (title_text bar) result }
 {
     let allocation = bar.allocation;
     put_labelled(lines, writer, b"<title>SID ", u64::from(allocation.sid))?;
@@ -74,10 +67,8 @@ fn put_title<W: Sink>(lines: &mut TextBuffer, writer: &mut W, bar: Bar) -> Resul
 // The SID on a bar that is wide enough.
 #[tactic(auto, unfolding(crate::specs::Bars::name_text))]
 fn put_name<W: Sink>(lines: &mut TextBuffer, writer: &mut W, bar: Bar) -> Result<(), TextFault>
-    ensures ok { OnOk result (Appends (append_known (W.contents writer.old) lines.old)
-        (append_known (W.contents writer.new) lines.new) (name_text bar)) }
-    ensures err { IfErr result (λ e. e ≡ TextFault.Output) }
-    ensures failed { FailsBy TextFault.Output result (W.has_failed writer.old) (W.has_failed writer.new) }
+    ensures { Puts W.contents W.has_failed writer.old writer.new lines.old lines.new
+        (name_text bar) result }
 {
     let sid = bar.allocation.sid;
     if !is_named(bar.usage) || name_width(sid) > bar.width {
@@ -96,10 +87,8 @@ fn put_name<W: Sink>(lines: &mut TextBuffer, writer: &mut W, bar: Bar) -> Result
 // A bar.
 #[tactic(auto, unfolding(crate::specs::Bars::bar_text))]
 fn put_bar<W: Sink>(lines: &mut TextBuffer, writer: &mut W, bar: Bar) -> Result<(), TextFault>
-    ensures ok { OnOk result (Appends (append_known (W.contents writer.old) lines.old)
-        (append_known (W.contents writer.new) lines.new) (bar_text bar)) }
-    ensures err { IfErr result (λ e. e ≡ TextFault.Output) }
-    ensures failed { FailsBy TextFault.Output result (W.has_failed writer.old) (W.has_failed writer.new) }
+    ensures { Puts W.contents W.has_failed writer.old writer.new lines.old lines.new
+        (bar_text bar) result }
 {
     put_box(lines, writer, bar)?;
     put_title(lines, writer, bar)?;
@@ -117,10 +106,8 @@ fn put_bars<W: Sink>(
 ) -> Result<(), TextFault>
     requires one { nulls elements.now ≡ 1 }
     requires narrow { units ≤ 1024 }
-    ensures ok { OnOk result (Appends (append_known (W.contents writer.old) lines.old)
-        (append_known (W.contents writer.new) lines.new) (bars_text units (λ sid. get_or flows.now sid false) elements.now bytes.now)) }
-    ensures err { IfErr result (λ e. e ≡ TextFault.Output) }
-    ensures failed { FailsBy TextFault.Output result (W.has_failed writer.old) (W.has_failed writer.new) }
+    ensures { Puts W.contents W.has_failed writer.old writer.new lines.old lines.new
+        (bars_text units (λ sid. get_or flows.now sid false) elements.now bytes.now) result }
 {
     for i in 0..front_len(elements) {
         let unsolicited = flows[usize::from(elements[i].sid)];
@@ -141,10 +128,8 @@ fn put_start<W: Sink>(
     start: u64,
 ) -> Result<(), TextFault>
     requires few { place.row ≤ 16777216 }
-    ensures ok { OnOk result (Appends (append_known (W.contents writer.old) lines.old)
-        (append_known (W.contents writer.new) lines.new) (start_text ticks place start)) }
-    ensures err { IfErr result (λ e. e ≡ TextFault.Output) }
-    ensures failed { FailsBy TextFault.Output result (W.has_failed writer.old) (W.has_failed writer.new) }
+    ensures { Puts W.contents W.has_failed writer.old writer.new lines.old lines.new
+        (start_text ticks place start) result }
 {
     let top = row_top(place.row);
     put_labelled(lines, writer, b"<g transform='translate(176 ", top)?;
@@ -170,10 +155,8 @@ pub(crate) fn put_row<W: Sink>(
     requires few { place.row ≤ 16777216 }
     requires narrow { scale.units ≤ 1024 }
     requires whole { IsWellFormed map.now.wire }
-    ensures ok { OnOk result (Appends (append_known (W.contents writer.old) lines.old)
-        (append_known (W.contents writer.new) lines.new) (map_text scale place (λ sid. get_or flows.now sid false) map.now)) }
-    ensures err { IfErr result (λ e. e ≡ TextFault.Output) }
-    ensures failed { FailsBy TextFault.Output result (W.has_failed writer.old) (W.has_failed writer.new) }
+    ensures { Puts W.contents W.has_failed writer.old writer.new lines.old lines.new
+        (map_text scale place (λ sid. get_or flows.now sid false) map.now) result }
 {
     put_start(lines, writer, scale.ticks, place, map.start)?;
     let elements = map.wire.elements.as_slice();

@@ -1,9 +1,8 @@
 //! The shades by which the flows of a kind are told apart.
 
-ghost use Rattle.std.specs.Prelude.{◌≡◌, ◌+◌, ◌<◌, ◌≤◌, OnOk, IfErr};
-ghost use Rattle.std.specs.Io.KnownBytes.{Appends, append_known};
+ghost use Rattle.std.specs.Prelude.{◌≡◌, ◌+◌, ◌<◌, ◌≤◌};
 ghost use Rattle.frame_picture.specs.Shade.{shade_of, opacity_of, shade_rule, shade_rules, TellsShadesApart};
-ghost use Rattle.text_stream.specs.Watched.{FailsBy};
+ghost use Rattle.text_stream.specs.Writing.{Puts};
 
 use crate::text::put_labelled;
 use text_stream::{Sink, TextBuffer, TextFault};
@@ -34,10 +33,8 @@ fn put_shade_rule<W: Sink>(
     shade: u32,
 ) -> Result<(), TextFault>
     requires { shade < 64 }
-    ensures ok { OnOk result (Appends (append_known (W.contents writer.old) lines.old)
-        (append_known (W.contents writer.new) lines.new) (shade_rule shade)) }
-    ensures err { IfErr result (λ e. e ≡ TextFault.Output) }
-    ensures failed { FailsBy TextFault.Output result (W.has_failed writer.old) (W.has_failed writer.new) }
+    ensures { Puts W.contents W.has_failed writer.old writer.new lines.old lines.new
+        (shade_rule shade) result }
 {
     put_labelled(lines, writer, b".s", u64::from(shade))?;
     put_labelled(
@@ -54,10 +51,8 @@ pub(crate) fn put_shade_rules<W: Sink>(
     lines: &mut TextBuffer,
     writer: &mut W,
 ) -> Result<(), TextFault>
-    ensures ok { OnOk result (Appends (append_known (W.contents writer.old) lines.old)
-        (append_known (W.contents writer.new) lines.new) (shade_rules)) }
-    ensures err { IfErr result (λ e. e ≡ TextFault.Output) }
-    ensures failed { FailsBy TextFault.Output result (W.has_failed writer.old) (W.has_failed writer.new) }
+    ensures { Puts W.contents W.has_failed writer.old writer.new lines.old lines.new
+        (shade_rules) result }
 {
     for shade in 0..SHADES {
         put_shade_rule(lines, writer, shade)?;

@@ -1,9 +1,8 @@
 //! Minislots in milliseconds.
 
-ghost use Rattle.std.specs.Prelude.{◌≡◌, ◌<◌, ◌≤◌, OnOk, IfErr};
-ghost use Rattle.std.specs.Io.KnownBytes.{Appends, append_known};
+ghost use Rattle.std.specs.Prelude.{◌≡◌, ◌<◌, ◌≤◌};
 ghost use Rattle.frame_picture.specs.Time.{fraction_digits, fraction_length, ms_text};
-ghost use Rattle.text_stream.specs.Watched.{FailsBy};
+ghost use Rattle.text_stream.specs.Writing.{Puts};
 
 use itoa::Buffer;
 use text_stream::{Sink, TextBuffer, TextFault};
@@ -49,10 +48,8 @@ pub(crate) fn put_ms<W: Sink>(
     ticks: u32,
     slots: u64,
 ) -> Result<(), TextFault>
-    ensures ok { OnOk result (Appends (append_known (W.contents writer.old) lines.old)
-        (append_known (W.contents writer.new) lines.new) (ms_text ticks slots)) }
-    ensures err { IfErr result (λ e. e ≡ TextFault.Output) }
-    ensures failed { FailsBy TextFault.Output result (W.has_failed writer.old) (W.has_failed writer.new) }
+    ensures { Puts W.contents W.has_failed writer.old writer.new lines.old lines.new
+        (ms_text ticks slots) result }
 {
     let all = u128::from(slots) * u128::from(ticks);
     let parts = (all % 160) as u32 * 125 / 2;

@@ -1,7 +1,6 @@
 //! How a bar looks.
 
 ghost use Rattle.std.specs.Prelude.{◌≡◌};
-ghost use Rattle.frame_picture.specs.Bar.{is_plain_grant};
 ghost use Rattle.frame_picture.specs.Bars.{usage_look, look_of, origin_of, is_named, name_width};
 
 use crate::bar::Bar;
@@ -26,14 +25,6 @@ fn usage_look(usage: Usage) -> &'static [u8]
         | Usage::DataAcknowledge
         | Usage::Reserved => b"other",
     }
-}
-
-// Whether the usage code is one of a channel without Advanced PHY for all grants, unsolicited ones among them.
-#[tactic(auto, unfolding(crate::specs::Bar::is_plain_grant))]
-pub(crate) fn is_plain_grant(usage: Usage) -> bool
-    ensures { result ≡ is_plain_grant usage }
-{
-    matches!(usage, Usage::ShortGrant | Usage::LongGrant)
 }
 
 // The name of the colour and the pattern of a bar.

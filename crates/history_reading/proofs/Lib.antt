@@ -6,3 +6,4 @@ pub mod Sizes
 pub mod FewEntries
 pub mod Encodable
 pub mod HistoryOutcome
+pub mod RowsForms

@@ -3,3 +3,5 @@ pub mod PlainValues
 pub mod Items
 pub mod Things
 pub mod UsualParts
+pub mod FormRows
+pub mod RowsForms

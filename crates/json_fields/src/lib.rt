@@ -4,6 +4,7 @@
 
 mod config;
 mod field;
+pub mod forms;
 mod plain;
 mod skipped;
 mod tree;

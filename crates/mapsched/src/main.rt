@@ -8,14 +8,14 @@ use clap::{ArgMatches, Error};
 use command_line::commands;
 use decode_command::show_text;
 use draw_command::draw_input;
-use run_command::{explain_input, history_input, run_input};
+use run_command::{RunOutput, Words, run_input};
 use sched_check::check_input;
 use std::alloc::Global;
 use std::process::ExitCode;
 use std::rt::Env;
 use std::{env, io};
 use storm_command::storm_input;
-use text_stream::RunFault;
+use text_stream::{RunFault, TextFault};
 
 // The words of the command line.
 fn words_of(rt: &(impl Env + AllocGlobal)) -> io::Result<Vec<String>> {
@@ -35,11 +35,11 @@ fn fail(rt: &impl Eprint, fault: RunFault) -> ExitCode {
 // Prints a fault of the command line, or the help that was asked for, which may fail.
 fn explain(rt: &(impl Print + Eprint), error: Error) -> ExitCode {
     if error.kind() == ErrorKind::OutOfMemory {
-        return fail(rt, RunFault::Memory);
+        return fail(rt, RunFault::Text(TextFault::Memory));
     }
     let printed = error.print(rt);
     if printed.is_err() && !error.use_stderr() {
-        return fail(rt, RunFault::Output);
+        return fail(rt, RunFault::Text(TextFault::Output));
     }
     ExitCode::from(error.exit_code() as u8)
 }
@@ -54,6 +54,17 @@ fn show(rt: &(impl Print + Env + AllocGlobal), decode: &ArgMatches) -> Result<bo
         decode.get_one("columns"),
         decode.get_flag("explain"),
     )
+}
+
+// What the command `run` is asked to write.
+fn output_of(run: &ArgMatches) -> RunOutput {
+    if run.get_flag("explain") {
+        return RunOutput::Lines(Words::Explained);
+    }
+    if run.get_flag("history") {
+        return RunOutput::History;
+    }
+    RunOutput::Lines(Words::Plain)
 }
 
 // The command `draw`: all frames, or those that are asked for.
@@ -77,7 +88,7 @@ fn check(rt: &(impl Input + Print + Eprint + AllocGlobal)) -> ExitCode {
 
 fn main(rt: HostRuntime) -> ExitCode {
     let Ok(words) = words_of(&rt) else {
-        return fail(&rt, RunFault::Memory);
+        return fail(&rt, RunFault::Text(TextFault::Memory));
     };
     let matches = match matches_of(rt.alloc(), &words) {
         Ok(matches) => matches,
@@ -89,9 +100,8 @@ fn main(rt: HostRuntime) -> ExitCode {
         Some(("audit", audit)) => audit_input(&rt, audit.get_flag("explain")),
         Some(("check", _)) => return check(&rt),
         Some(("storm", _)) => storm_input(&rt),
-        Some((_, run)) if run.get_flag("explain") => explain_input(&rt),
-        Some((_, run)) if run.get_flag("history") => history_input(&rt),
-        _ => run_input(&rt),
+        Some((_, run)) => run_input(&rt, output_of(run)),
+        None => run_input(&rt, RunOutput::Lines(Words::Plain)),
     };
     match outcome {
         Ok(true) => ExitCode::SUCCESS,

@@ -1,4 +1,4 @@
--- A place and its parts own what a box of a channel owns.
+-- A place and its parts own what a box of a scheduler owns.
 use mir.Syntax.{impl, tnil, dnil}
 use mathlib.Core.Bool.{Bool, true, false, ◌&&◌}
 use mathlib.Core.List.{[]}
@@ -9,22 +9,22 @@ use Rattle.std_alloc.proofs.BoxSteps.Form.{Bx}
 use Rattle.std_heap.specs.contracts.Global as Heap
 use Rattle.std_heap.specs.contracts.GlobalAllocator.TheImpl.{ghosts, dict}
 use Rattle.std_heap.proofs.Global.TheLaws as heap
-use Rattle.worker_sched.specs.contracts.channel.Channel as Channel
-use Rattle.worker_sched.proofs.channel.Channel.TheLaws as channel
+use Rattle.sched_desk.specs.contracts.keeping.WholeScheduler as WholeScheduler
+use Rattle.sched_desk.proofs.keeping.WholeScheduler.TheLaws as scheduler
 use Rattle.mapsched_c.specs.contracts.place.parts.Parts as Parts
 use Rattle.mapsched_c.specs.contracts.place.Place as Place
 
 -- the box, with its allocator
 abbrev pub E : Bx
 E = record {
-  row = Channel.the_row;
-  laws = channel.the_row_laws;
+  row = WholeScheduler.the_row;
+  laws = scheduler.the_row_laws;
   al = record { row = Heap.the_row; laws = heap.the_row_laws; g = ghosts; d = dict; drops = impl [] tnil dnil };
 }
 
 -- parts, by value
 abbrev pub FromParts : Slot 0
-FromParts = plain (λ _. Parts.the_row Channel.the_row Heap.the_row ghosts)
+FromParts = plain (λ _. Parts.the_row WholeScheduler.the_row Heap.the_row ghosts)
 
 -- a place, by value
 abbrev pub FromPlace : Slot 0

@@ -40,7 +40,8 @@ ChecksConfig c status = MatchOption (first_wrong c) (status ≡ OK) (λ fault. s
 -- a lawful configuration makes a scheduler without entries, or memory ran out and there is none
 abbrev pub OpensLawful : Option Machine → Config → ℕ → Type 0
 OpensLawful new c status =
-    ((status ≡ OK) × (new ≡ Some (record { config = c; history = [] }))) ⊎ ((status ≡ OUT_OF_MEMORY) × (new ≡ None))
+    ((status ≡ OK) × (new ≡ Some (record { config = c; history = []; handed = 0 })))
+    ⊎ ((status ≡ OUT_OF_MEMORY) × (new ≡ None))
 
 -- what an opening answers, and what is in the handle then: a handle that is full, and a wrong configuration, change
 -- nothing

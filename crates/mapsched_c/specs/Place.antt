@@ -1,4 +1,4 @@
--- What a place owns: what a box of a channel owns, or nothing.
+-- What a place owns: what a box of a scheduler owns, or nothing.
 use Rattle.std.specs.Prelude.{Option, None, Some}
 use Rattle.std.specs.Coded.{coded_option}
 use base.Fml.{Fml, ftrue}
@@ -8,9 +8,9 @@ use Rattle.std.specs.Box.Ownership.{box_owns}
 use Rattle.std.specs.Global.{Global}
 use Rattle.std_heap.specs.contracts.GlobalAllocator.TheImpl.{ghosts}
 use Rattle.sched_history.specs.Machine.{Machine}
-use Rattle.worker_sched.specs.contracts.channel.Channel.{the_row}
+use Rattle.sched_desk.specs.contracts.keeping.WholeScheduler.{the_row}
 
--- the channel at the pointer, with the right to free it
+-- the scheduler at the pointer, with the right to free it
 abbrev pub place_owns : Global → Ptr → Option Machine → Fml
 place_owns alloc at None = ftrue
 place_owns alloc at (Some m) = box_owns (ghosts.dealloc_token alloc) the_row at m

@@ -7,15 +7,15 @@ ghost use Rattle.mapsched_c.specs.Config.{config_of, ChecksConfig, Opens};
 ghost use Rattle.mapsched_c.specs.Entry.{count_over, entry_at, entry_over, entry_status, handle_status, stamp_of};
 
 use crate::call::PlainCall;
-use crate::channel::{answer, entries};
 use crate::config::PlainConfig;
 use crate::entry::{PlainEntry, PlainStamp, put_entry};
 use crate::handle::Handle;
 use crate::reply::PlainReply;
+use crate::scheduler::{answer, entries};
 use crate::status;
+use sched_desk::WholeScheduler;
 use std::alloc::Global;
 use text_stream::field_number;
-use worker_sched::Channel;
 
 /// Whether a configuration is lawful: `OK`, or `BAD_CONFIG` and the number of its first wrong field.
 #[unsafe(no_mangle)]
@@ -40,13 +40,13 @@ pub extern "C" fn mapsched_open(alloc: Global, scheduler: &mut Handle, config: &
         Ok(checked) => checked,
         Err(fault) => return status::BAD_CONFIG + u32::from(field_number(fault)),
     };
-    let Ok(channel) = Channel::open(alloc, checked) else {
+    let Ok(opened) = WholeScheduler::open(alloc, checked) else {
         return status::OUT_OF_MEMORY;
     };
-    let Ok(channel) = Box::new(alloc, channel) else {
+    let Ok(opened) = Box::new(alloc, opened) else {
         return status::OUT_OF_MEMORY;
     };
-    scheduler.put(channel);
+    scheduler.put(opened);
     status::OK
 }
 
@@ -62,14 +62,14 @@ pub extern "C" fn mapsched_call(
     ensures answer { Answers scheduler.old.place.machine scheduler.new.place.machine (stamp_of stamp.now)
         (call_of call.now) result reply.old reply.new }
 {
-    let Some(mut channel) = scheduler.take(alloc) else {
+    let Some(mut taken) = scheduler.take(alloc) else {
         return status::EMPTY;
     };
     let answered = match call.call() {
-        Some(call) => answer(&mut channel, stamp.stamp(), call, reply),
+        Some(call) => answer(&mut taken, stamp.stamp(), call, reply),
         None => status::BAD_CALL,
     };
-    scheduler.put(channel);
+    scheduler.put(taken);
     answered
 }
 
@@ -80,11 +80,11 @@ pub extern "C" fn mapsched_count(alloc: Global, scheduler: &mut Handle, count: &
     ensures count { count.new ≡ count_over count.old scheduler.old.place.machine }
     ensures same { scheduler.new.place.machine ≡ scheduler.old.place.machine }
 {
-    let Some(channel) = scheduler.take(alloc) else {
+    let Some(taken) = scheduler.take(alloc) else {
         return status::EMPTY;
     };
-    *count = channel.history().len();
-    scheduler.put(channel);
+    *count = taken.history().len();
+    scheduler.put(taken);
     status::OK
 }
 
@@ -100,11 +100,11 @@ pub extern "C" fn mapsched_entry(
     ensures entry { entry.new ≡ entry_over entry.old (entry_at scheduler.old.place.machine place) }
     ensures same { scheduler.new.place.machine ≡ scheduler.old.place.machine }
 {
-    let Some(channel) = scheduler.take(alloc) else {
+    let Some(taken) = scheduler.take(alloc) else {
         return status::EMPTY;
     };
-    let answered = put_entry(entries(&channel), place, entry);
-    scheduler.put(channel);
+    let answered = put_entry(entries(&taken), place, entry);
+    scheduler.put(taken);
     answered
 }
 
@@ -115,7 +115,7 @@ pub extern "C" fn mapsched_close(alloc: Global, scheduler: &mut Handle) -> u32
     ensures closed { scheduler.new.place.machine ≡ None }
 {
     match scheduler.take(alloc) {
-        Some(_channel) => status::OK,
+        Some(_taken) => status::OK,
         None => status::EMPTY,
     }
 }

@@ -4,9 +4,9 @@ ghost use Rattle.std.specs.Prelude.{◌≡◌, ◌≢◌, None, Some, IsSome, is
 
 use crate::place::Place;
 use crate::place::parts::Parts;
+use sched_desk::WholeScheduler;
 use std::alloc::Global;
 use std::mem::replace;
-use worker_sched::Channel;
 
 /// A scheduler that C holds, or none: all zeros are a handle that is empty. It is neither copied nor
 /// changed by C.
@@ -37,8 +37,8 @@ impl Handle {
         self.full != 0
     }
 
-    // Takes the channel out, where there is one.
-    pub(crate) fn take(&mut self, alloc: Global) -> Option<Box<Channel>>
+    // Takes the scheduler out, where there is one.
+    pub(crate) fn take(&mut self, alloc: Global) -> Option<Box<WholeScheduler>>
         ensures taken { option_map (λ b. b.value) result ≡ self.old.place.machine }
         ensures empty { self.new.place.machine ≡ None }
     {
@@ -49,14 +49,14 @@ impl Handle {
         Some(place.into_parts().into_box())
     }
 
-    // Puts a channel in, where there is none.
-    pub(crate) fn put(&mut self, channel: Box<Channel>)
+    // Puts a scheduler in, where there is none.
+    pub(crate) fn put(&mut self, scheduler: Box<WholeScheduler>)
         requires { self.old.place.machine ≡ None }
-        ensures { self.new.place.machine ≡ Some channel.value }
+        ensures { self.new.place.machine ≡ Some scheduler.value }
     {
         *self = Handle {
             full: 1,
-            place: Place::of_parts(Parts::of(channel)),
+            place: Place::of_parts(Parts::of(scheduler)),
         };
     }
 }

@@ -2,7 +2,6 @@
 #![tactic(auto)]
 
 mod call;
-mod channel;
 mod config;
 mod encode;
 mod entry;
@@ -12,6 +11,7 @@ mod maps;
 mod place;
 mod post;
 mod reply;
+mod scheduler;
 mod status;
 mod texts;
 mod worker_handle;

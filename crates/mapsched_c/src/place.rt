@@ -1,4 +1,4 @@
-//! A place in memory that C can hold: where a channel lies, or nothing.
+//! A place in memory that C can hold: where a scheduler lies, or nothing.
 
 ghost use Rattle.std.specs.Prelude.{◌≡◌, Option, None, Some, IsSome};
 ghost use Rattle.sched_history.specs.Machine.{Machine};
@@ -7,12 +7,12 @@ ghost use Rattle.mapsched_c.specs.Place.{place_owns, machine_coded};
 pub(crate) mod parts;
 
 use parts::Parts;
+use sched_desk::WholeScheduler;
 use std::alloc::Global;
 use std::marker::Model;
 use std::ptr::null_mut;
-use worker_sched::Channel;
 
-/// Where a channel lies. It owns the channel that contracts see in it, and nothing where they see none.
+/// Where a scheduler lies. It owns the scheduler that contracts see in it, and nothing where they see none.
 #[repr(C)]
 #[derive(Drop)]
 pub struct Place {
@@ -26,7 +26,7 @@ impl Model for Place {
 }
 
 impl Place {
-    // The place of no channel.
+    // The place of no scheduler.
     pub(crate) fn empty(alloc: Global) -> Place
         ensures { result.machine ≡ None }
     {
@@ -36,8 +36,8 @@ impl Place {
         }
     }
 
-    // The place of the channel in these parts.
-    pub(crate) fn of_parts(parts: Parts<Channel, Global>) -> Place
+    // The place of the scheduler in these parts.
+    pub(crate) fn of_parts(parts: Parts<WholeScheduler, Global>) -> Place
         ensures { result.machine ≡ Some parts.value }
     {
         let Parts { ptr, alloc } = parts;
@@ -47,14 +47,14 @@ impl Place {
         }
     }
 
-    // The parts of the channel in this place.
-    pub(crate) fn into_parts(self) -> Parts<Channel, Global>
+    // The parts of the scheduler in this place.
+    pub(crate) fn into_parts(self) -> Parts<WholeScheduler, Global>
         requires { IsSome self.machine }
         ensures { Some result.value ≡ self.machine }
     {
         let Place { at, alloc } = self;
         Parts {
-            ptr: at as *mut Channel,
+            ptr: at as *mut WholeScheduler,
             alloc,
         }
     }

@@ -4,8 +4,8 @@ ghost use Rattle.std.specs.Prelude.{◌≡◌, ◌≤◌, length};
 ghost use Rattle.sched_history.specs.declared.reply.TheConstants.{MAX_ENTRIES};
 ghost use Rattle.mapsched_c.specs.Text.{GivesText, GivesHistoryText, Judges, Audits};
 
-use crate::channel::text_of;
 use crate::handle::Handle;
+use crate::scheduler::text_of;
 use crate::status;
 use history_reading::read_history;
 use minislots::Checked;
@@ -37,14 +37,14 @@ pub extern "C" fn mapsched_history(
     ensures text { GivesHistoryText scheduler.old.place.machine result room.old room.new length.old length.new }
     ensures same { scheduler.new.place.machine ≡ scheduler.old.place.machine }
 {
-    let Some(channel) = scheduler.take(alloc) else {
+    let Some(taken) = scheduler.take(alloc) else {
         return status::EMPTY;
     };
-    let answered = match text_of(alloc, &channel) {
+    let answered = match text_of(alloc, &taken) {
         Ok(text) => put_text(&text, room, length),
         Err(_) => status::OUT_OF_MEMORY,
     };
-    scheduler.put(channel);
+    scheduler.put(taken);
     answered
 }
 

@@ -177,8 +177,8 @@ pub extern "C" fn mapsched_close_workers(
         return status::FULL;
     }
     match closing.close() {
-        Ok(channel) => {
-            scheduler.put(channel);
+        Ok(taken) => {
+            scheduler.put(taken);
             status::OK
         }
         Err(fault) => {

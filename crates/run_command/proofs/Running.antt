@@ -1,5 +1,5 @@
 -- How far a run has come.
-use Rattle.std.proofs.Common.{◌≡◌, ℕ, ◌+◌, ◌<◌, ◌≤◌, true, false, List, [], ◌∷◌, ◌++◌, length, get_or, take}
+use Rattle.std.proofs.Common.{◌≡◌, ℕ, ◌+◌, ◌<◌, ◌≤◌, List, [], ◌∷◌, ◌++◌, length, get_or, take}
 use Rattle.std.proofs.Common.{Option, ap}
 use Rattle.std.specs.Prelude.{flat_map}
 use Rattle.std.specs.Io.KnownBytes.{Appends, append_known}
@@ -10,13 +10,12 @@ use Rattle.sched_history.specs.declared.call.Call.{Call}
 use Rattle.sched_history.specs.Machine.{Machine}
 use Rattle.sched_lines.specs.Line.{Answer}
 use Rattle.sched_lines.specs.Answer.{MakesCall, MakesCalls}
-use Rattle.sched_lines.specs.Line.{line_of}
-use Rattle.sched_lines.specs.Meaning.{explained_line}
 use Rattle.text_stream.proofs.Written.{Appends-out}
 use Rattle.history_writing.specs.HistoryText.{history_text}
 use Rattle.sched_lines.proofs.Made.{MakesCalls-push, MakesCalls-legal}
-use Rattle.run_command.specs.Run.{HistoryFits, AnswersLeaving}
-use Rattle.run_command.specs.Explained.{ExplainsEach}
+use Rattle.run_command.specs.declared.output.Words.{Words}
+use Rattle.run_command.specs.declared.output.RunOutput.TheVariants.{Lines, History}
+use Rattle.run_command.specs.Run.{HistoryFits, AnswersLeaving, line_with}
 use Rattle.sched_lines.proofs.Leaving.{MakesCalls-count}
 
 -- from one state of the scheduler and the writer these calls led to others, and such lines of their answers were
@@ -52,40 +51,29 @@ Runs-written line old new calls before between after waiting runs out = record {
 }
 
 -- all calls, with their lines
-pub Runs-whole : (old new : Machine) (calls : List Call) (n : ℕ) (before after : Option (List ℕ)) (unrecorded : ℕ)
-    → length calls ≤ n → Runs line_of old new (take n calls) before after
-    → unrecorded + length new.history ≡ length calls → AnswersLeaving false old.config calls before after unrecorded
-Runs-whole old new calls n before after unrecorded all runs count =
+pub Runs-whole : (words : Words) (old new : Machine) (calls : List Call) (n : ℕ)
+    (before after : Option (List ℕ)) (unrecorded : ℕ) → length calls ≤ n
+    → Runs (line_with words) old new (take n calls) before after
+    → unrecorded + length new.history ≡ length calls
+    → AnswersLeaving (Lines words) old.config calls before after unrecorded
+Runs-whole words old new calls n before after unrecorded all runs count =
     let makes : MakesCalls old new calls runs.answers = rw (take_all n calls all) at runs.makes in
     record {
       answered = record {
         answers = runs.answers;
         each = makes.each;
         legal = MakesCalls-legal old new calls runs.answers makes;
-        fits = λ text. absurd (let no : false ≡ true = text in cc);
+        fits = λ text. absurd (let no : Lines words ≡ History = text in cc);
         written = runs.written;
       };
       count = MakesCalls-count old new calls runs.answers unrecorded makes count;
-    }
-
--- all calls, with their explained lines
-pub Runs-explained : (old new : Machine) (calls : List Call) (n : ℕ) (before after : Option (List ℕ))
-    → length calls ≤ n → Runs explained_line old new (take n calls) before after
-    → ExplainsEach old.config calls before after
-Runs-explained old new calls n before after all runs =
-    let makes : MakesCalls old new calls runs.answers = rw (take_all n calls all) at runs.makes in
-    record {
-      answers = runs.answers;
-      each = makes.each;
-      legal = MakesCalls-legal old new calls runs.answers makes;
-      written = runs.written;
     }
 
 -- all calls, with the text of their history
 pub history-written : (old new : Machine) (calls : List Call) (answers : List Answer) (before after : Option (List ℕ))
     (unrecorded : ℕ) → MakesCalls old new calls answers → HistoryFits old.config new.history
     → Appends before after (history_text old.config new.history) → unrecorded + length new.history ≡ length calls
-    → AnswersLeaving true old.config calls before after unrecorded
+    → AnswersLeaving History old.config calls before after unrecorded
 history-written old new calls answers before after unrecorded makes fits written count = record {
   answered = record {
     answers = answers;

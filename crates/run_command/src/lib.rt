@@ -1,11 +1,11 @@
-//! The run of a script, plain or with its refusals explained.
+//! The run of a script: the lines of its answers, plain or with words behind refusals, or their history.
 #![tactic(auto)]
 
-mod explain;
 mod fits;
 mod input;
+mod output;
 mod run;
 
-pub use explain::run_explained;
-pub use input::{explain_input, history_input, run_input};
-pub use run::{run_counting, run_script};
+pub use input::run_input;
+pub use output::{RunOutput, Words};
+pub use run::{run_script, run_with};

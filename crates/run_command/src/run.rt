@@ -1,20 +1,40 @@
 //! A run of a script.
 
-ghost use Rattle.std.specs.Prelude.{◌≡◌, ◌≢◌, ◌⊎◌, [], true, false, List, IfOk, OnOk, IfErr};
+ghost use Rattle.std.specs.Prelude.{◌≡◌, ◌≢◌, ◌⊎◌, [], List, IfOk, OnOk, IfErr};
 ghost use Rattle.sched_lines.specs.Line.{Answer, HasLine};
 ghost use Rattle.text_stream.specs.Watched.{FailsBy};
+ghost use Rattle.text_stream.specs.Writing.{Puts};
+ghost use Rattle.text_stream.specs.RunFault.{TellsFailedRead, TellsFailedWrite, WritesLast};
 ghost use Rattle.sched_lines.specs.Answer.{MakesCall, MakesCalls};
 ghost use Rattle.script_reading.specs.Stops.{Stops};
-ghost use Rattle.run_command.specs.Run.{AnswersLeaving, Ran, RanLeaving};
+ghost use Rattle.run_command.specs.Run.{line_with, output_asked, AnswersLeaving, Ran, RanLeaving};
 
 use crate::fits::history_fits;
+use crate::output::{RunOutput, Words, output_asked};
 use history_writing::put_history;
 use minislots::Checked;
-use sched_history::{Call, Scheduler};
+use sched_history::{Call, Reply, Scheduler, Unrecorded};
 use sched_lines::{LineBuffer, count_unrecorded, make_call};
 use script_reading::read_script;
 use std::alloc::Global;
 use text_stream::{RunFault, Sink, Source, TextFault};
+
+// Puts the line of an answer behind those that wait.
+fn put_answer<W: Sink>(
+    lines: &mut LineBuffer,
+    writer: &mut W,
+    answer: &Result<Reply, Unrecorded>,
+    words: Words,
+) -> Result<(), TextFault>
+    requires { HasLine answer.now }
+    ensures { Puts W.contents W.has_failed writer.old writer.new lines.old lines.new
+        (line_with words answer.now) result }
+{
+    match words {
+        Words::Plain => lines.put_line(writer, answer),
+        Words::Explained => lines.put_explained(writer, answer),
+    }
+}
 
 // Makes the calls of a script one after the other, and writes the line of each answer, many lines at a time. Answers
 // how many calls were not recorded, here and below.
@@ -22,10 +42,12 @@ fn run_calls<W: Sink>(
     scheduler: &mut Scheduler,
     calls: &[Call],
     writer: &mut W,
+    words: Words,
 ) -> Result<usize, TextFault>
-    requires { scheduler.old.history ≡ [] }
+    requires empty { scheduler.old.history ≡ [] }
+    requires whole { scheduler.old.handed ≡ 0 }
 
-    ensures ok { IfOk result (AnswersLeaving false scheduler.old.config calls.now
+    ensures ok { IfOk result (AnswersLeaving (RunOutput.Lines words) scheduler.old.config calls.now
         (W.contents writer.old) (W.contents writer.new)) }
     ensures err { IfErr result (λ e. e ≡ TextFault.Output) }
     ensures failed { FailsBy TextFault.Output result (W.has_failed writer.old) (W.has_failed writer.new) }
@@ -33,7 +55,7 @@ fn run_calls<W: Sink>(
     let mut lines = LineBuffer::new();
     for (place, call) in calls.iter().enumerate() {
         let answer = make_call(scheduler, place, *call);
-        lines.put_line(writer, &answer)?;
+        put_answer(&mut lines, writer, &answer, words)?;
     }
     lines.write_out(writer)?;
     Ok(count_unrecorded(scheduler, calls))
@@ -41,7 +63,8 @@ fn run_calls<W: Sink>(
 
 // Makes the calls of a script one after the other.
 fn make_calls(scheduler: &mut Scheduler, calls: &[Call])
-    requires { scheduler.old.history ≡ [] }
+    requires empty { scheduler.old.history ≡ [] }
+    requires whole { scheduler.old.handed ≡ 0 }
     ensures { (answers : List Answer) × MakesCalls scheduler.old scheduler.new calls.now answers }
 {
     for (place, call) in calls.iter().enumerate() {
@@ -59,9 +82,10 @@ fn run_history<W: Sink>(
     writer: &mut W,
 ) -> Result<usize, TextFault>
     requires empty { scheduler.old.history ≡ [] }
+    requires whole { scheduler.old.handed ≡ 0 }
     requires same { config.now ≡ scheduler.old.config }
 
-    ensures ok { IfOk result (AnswersLeaving true scheduler.old.config calls.now
+    ensures ok { IfOk result (AnswersLeaving RunOutput.History scheduler.old.config calls.now
         (W.contents writer.old) (W.contents writer.new)) }
     ensures err { IfErr result (λ e. (e ≡ TextFault.Memory) ⊎ (e ≡ TextFault.Output)) }
     ensures failed { FailsBy TextFault.Output result (W.has_failed writer.old) (W.has_failed writer.new) }
@@ -81,56 +105,56 @@ fn answer_calls<W: Sink>(
     config: &Checked,
     calls: &[Call],
     writer: &mut W,
-    as_history: bool,
+    output: RunOutput,
 ) -> Result<usize, TextFault>
     requires empty { scheduler.old.history ≡ [] }
+    requires whole { scheduler.old.handed ≡ 0 }
     requires same { config.now ≡ scheduler.old.config }
 
-    ensures ok { IfOk result (AnswersLeaving as_history scheduler.old.config calls.now
+    ensures ok { IfOk result (AnswersLeaving output scheduler.old.config calls.now
         (W.contents writer.old) (W.contents writer.new)) }
     ensures err { IfErr result (λ e. (e ≡ TextFault.Memory) ⊎ (e ≡ TextFault.Output)) }
     ensures failed { FailsBy TextFault.Output result (W.has_failed writer.old) (W.has_failed writer.new) }
     ensures quiet { IfErr result (λ e. e ≢ TextFault.Output → writer.new ≡ writer.old) }
 {
-    if as_history {
-        run_history(alloc, scheduler, config, calls, writer)
-    } else {
-        run_calls(scheduler, calls, writer)
+    match output {
+        RunOutput::Lines(words) => run_calls(scheduler, calls, writer, words),
+        RunOutput::History => run_history(alloc, scheduler, config, calls, writer),
     }
-}
-
-/// Runs a script as [`run_script`] does, and answers how many of its calls were not recorded.
-pub fn run_counting<R: Source, W: Sink>(
-    alloc: Global,
-    reader: &mut R,
-    writer: &mut W,
-    as_history: bool,
-) -> Result<usize, RunFault>
-    // What was written is the lines of the answers, or the text of their history, and nothing else; and so many calls
-    // were not recorded.
-    ensures ok { IfOk result (RanLeaving as_history (R.remaining reader.old) (R.remaining reader.new)
-        (W.contents writer.old) (W.contents writer.new)) }
-
-    // Each fault comes under its own condition, the first one in their order.
-    ensures stops { IfErr result (Stops (R.remaining reader.old) (R.remaining reader.new)) }
-    ensures quiet { IfErr result (λ e. e ≢ RunFault.Output → writer.new ≡ writer.old) }
-
-    // A failed read or write is told where one has failed, and where all went well none did.
-    ensures failed_read { FailsBy RunFault.Input result (R.has_failed reader.old) (R.has_failed reader.new) }
-    ensures failed_write { FailsBy RunFault.Output result (W.has_failed writer.old) (W.has_failed writer.new) }
-{
-    let (config, calls) = read_script(alloc, reader)?;
-    let Ok(mut scheduler) = Scheduler::open(alloc, config) else {
-        return Err(RunFault::Memory);
-    };
-    let unrecorded = answer_calls(alloc, &mut scheduler, &config, &calls, writer, as_history)?;
-    Ok(unrecorded)
 }
 
 /// Reads a script, a configuration and calls in JSON, to the reader's end, and makes its calls one after
 /// the other on a new scheduler. The call at place i, from 0, has the stamp of seat 0 and ticket i.
 /// Writes one line for the answer to each call, and then only a fault of output comes after a line was
-/// written; or with `as_history` the history of the recorded calls in JSON, in one line.
+/// written; or the history of the recorded calls in JSON, in one line. Answers how many calls were not recorded.
+pub fn run_with<R: Source, W: Sink>(
+    alloc: Global,
+    reader: &mut R,
+    writer: &mut W,
+    output: RunOutput,
+) -> Result<usize, RunFault>
+    // What was written is the lines of the answers, or the text of their history, and nothing else; and so many calls
+    // were not recorded.
+    ensures ok { IfOk result (RanLeaving output (R.remaining reader.old) (R.remaining reader.new)
+        (W.contents writer.old) (W.contents writer.new)) }
+
+    // Each fault comes under its own condition, the first one in their order.
+    ensures stops { IfErr result (Stops (R.remaining reader.old) (R.remaining reader.new)) }
+    ensures quiet { WritesLast result writer.old writer.new }
+
+    // A failed read or write is told where one has failed, and where all went well none did.
+    ensures failed_read { TellsFailedRead result (R.has_failed reader.old) (R.has_failed reader.new) }
+    ensures failed_write { TellsFailedWrite result (W.has_failed writer.old) (W.has_failed writer.new) }
+{
+    let (config, calls) = read_script(alloc, reader)?;
+    let Ok(mut scheduler) = Scheduler::open(alloc, config) else {
+        return Err(RunFault::Text(TextFault::Memory));
+    };
+    let unrecorded = answer_calls(alloc, &mut scheduler, &config, &calls, writer, output)?;
+    Ok(unrecorded)
+}
+
+/// Runs a script as [`run_with`] does: the plain lines of its answers are written, or with `as_history` their history.
 pub fn run_script<R: Source, W: Sink>(
     alloc: Global,
     reader: &mut R,
@@ -138,17 +162,17 @@ pub fn run_script<R: Source, W: Sink>(
     as_history: bool,
 ) -> Result<(), RunFault>
     // What was written is the lines of the answers, or the text of their history, and nothing else.
-    ensures ok { OnOk result (Ran as_history (R.remaining reader.old) (R.remaining reader.new)
+    ensures ok { OnOk result (Ran (output_asked as_history) (R.remaining reader.old) (R.remaining reader.new)
         (W.contents writer.old) (W.contents writer.new)) }
 
     // Each fault comes under its own condition, the first one in their order.
     ensures stops { IfErr result (Stops (R.remaining reader.old) (R.remaining reader.new)) }
-    ensures quiet { IfErr result (λ e. e ≢ RunFault.Output → writer.new ≡ writer.old) }
+    ensures quiet { WritesLast result writer.old writer.new }
 
     // A failed read or write is told where one has failed, and where all went well none did.
-    ensures failed_read { FailsBy RunFault.Input result (R.has_failed reader.old) (R.has_failed reader.new) }
-    ensures failed_write { FailsBy RunFault.Output result (W.has_failed writer.old) (W.has_failed writer.new) }
+    ensures failed_read { TellsFailedRead result (R.has_failed reader.old) (R.has_failed reader.new) }
+    ensures failed_write { TellsFailedWrite result (W.has_failed writer.old) (W.has_failed writer.new) }
 {
-    run_counting(alloc, reader, writer, as_history)?;
+    run_with(alloc, reader, writer, output_asked(as_history))?;
     Ok(())
 }

@@ -8,8 +8,8 @@ use Rattle.sched_lines.specs.Line.{number_text}
 use Rattle.script_reading.specs.Outcome.{outcome_of}
 use Rattle.script_reading.specs.StormScript.{storm_outcome}
 use Rattle.history_reading.specs.Recorded.{history_outcome}
-use Rattle.sched_check.specs.declared.kind.Kind.{Kind}
-use Rattle.sched_check.specs.declared.kind.Kind.TheVariants.{Script, Storm, History}
+use Rattle.json_fields.specs.declared.forms.Kind.{Kind}
+use Rattle.json_fields.specs.declared.forms.Kind.TheVariants.{Script, Storm, History}
 use Rattle.sched_check.specs.Kind.{kind_of}
 
 -- the fault that an outcome is, where it is one

@@ -4,8 +4,8 @@ use Rattle.serde_json.specs.Data.{Data}
 use Rattle.text_stream.specs.declared.fault.TextFault.{TextFault}
 use Rattle.text_stream.specs.Input.{value_of}
 use Rattle.history_reading.specs.Replies.{has}
-use Rattle.sched_check.specs.declared.kind.Kind.{Kind}
-use Rattle.sched_check.specs.declared.kind.Kind.TheVariants.{Script, Storm, History}
+use Rattle.json_fields.specs.declared.forms.Kind.{Kind}
+use Rattle.json_fields.specs.declared.forms.Kind.TheVariants.{Script, Storm, History}
 
 -- the kind of file that a document seems to be: a script where none of the members is there
 abbrev pub kind_in : Data → Kind

@@ -2,8 +2,8 @@
 use Rattle.std.specs.Prelude.{Option, Some, None}
 use Rattle.serde_json.specs.declared.value.Value.{Value}
 use Rattle.serde_json.specs.View.{view}
-use Rattle.sched_check.specs.declared.kind.Kind.{Kind}
-use Rattle.sched_check.specs.declared.kind.Kind.TheVariants.{Script}
+use Rattle.json_fields.specs.declared.forms.Kind.{Kind}
+use Rattle.json_fields.specs.declared.forms.Kind.TheVariants.{Script}
 use Rattle.sched_check.specs.Kind.{kind_in}
 
 -- the kind of file that it seems to be: a script where there is none

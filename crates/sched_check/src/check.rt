@@ -1,15 +1,15 @@
 //! The check of a file, from its text to the report.
 
-ghost use Rattle.std.specs.Prelude.{◌≡◌, ◌≢◌, ◌++◌, OnOk, IfOk, IfErr, option_map};
-ghost use Rattle.std.specs.Io.KnownBytes.{Appends};
+ghost use Rattle.std.specs.Prelude.{◌≡◌, ◌++◌, IfOk, IfErr, option_map};
 ghost use Rattle.sched_lines.specs.Line.{number_text};
-ghost use Rattle.text_stream.specs.Watched.{FailsBy};
-ghost use Rattle.text_stream.specs.RunFault.{run_fault_of};
+ghost use Rattle.text_stream.specs.Writing.{Writes};
+ghost use Rattle.text_stream.specs.RunFault.{TellsFailedRead, TellsFailedWrite, WritesLast};
+ghost use Rattle.text_stream.specs.declared.run_fault.RunFault.TheVariants.{Text};
 ghost use Rattle.sched_check.specs.Found.{fault_text, praise, verdict_text, verdict_line};
 ghost use Rattle.sched_check.specs.Check.{Checks, StopsCheck};
 
-use crate::kind::Kind;
 use crate::report::report_on;
+use json_fields::forms::Kind;
 use sched_lines::put_number;
 use std::alloc::Global;
 use text_stream::{RunFault, Sink, Source, TextFault, field_number, put, read_all};
@@ -27,10 +27,8 @@ fn praise(kind: Kind) -> &'static [u8]
 
 // A number behind words.
 fn put_numbered<W: Sink>(writer: &mut W, words: &[u8], number: u64) -> Result<(), TextFault>
-    ensures ok { OnOk result (Appends (W.contents writer.old) (W.contents writer.new)
-        (words.now ++ number_text number)) }
-    ensures err { IfErr result (λ e. e ≡ TextFault.Output) }
-    ensures failed { FailsBy TextFault.Output result (W.has_failed writer.old) (W.has_failed writer.new) }
+    ensures { Writes W.contents W.has_failed writer.old writer.new
+        (words.now ++ number_text number) result }
 {
     put(writer, words)?;
     put_number(writer, number)
@@ -38,9 +36,7 @@ fn put_numbered<W: Sink>(writer: &mut W, words: &[u8], number: u64) -> Result<()
 
 // The text of a fault, as the program ends by it.
 fn put_fault<W: Sink>(writer: &mut W, fault: TextFault) -> Result<(), TextFault>
-    ensures ok { OnOk result (Appends (W.contents writer.old) (W.contents writer.new) (fault_text fault)) }
-    ensures err { IfErr result (λ e. e ≡ TextFault.Output) }
-    ensures failed { FailsBy TextFault.Output result (W.has_failed writer.old) (W.has_failed writer.new) }
+    ensures { Writes W.contents W.has_failed writer.old writer.new (fault_text fault) result }
 {
     match fault {
         TextFault::Input => put(writer, b"input failed"),
@@ -63,9 +59,8 @@ fn put_verdict<W: Sink>(
     kind: Kind,
     found: Option<TextFault>,
 ) -> Result<(), TextFault>
-    ensures ok { OnOk result (Appends (W.contents writer.old) (W.contents writer.new) (verdict_text kind found)) }
-    ensures err { IfErr result (λ e. e ≡ TextFault.Output) }
-    ensures failed { FailsBy TextFault.Output result (W.has_failed writer.old) (W.has_failed writer.new) }
+    ensures { Writes W.contents W.has_failed writer.old writer.new
+        (verdict_text kind found) result }
 {
     match found {
         None => put(writer, praise(kind)),
@@ -81,10 +76,8 @@ fn put_report<W: Sink>(
     found: Option<TextFault>,
     words: &[u8],
 ) -> Result<(), TextFault>
-    ensures ok { OnOk result (Appends (W.contents writer.old) (W.contents writer.new)
-        (verdict_line kind found ++ words.now)) }
-    ensures err { IfErr result (λ e. e ≡ TextFault.Output) }
-    ensures failed { FailsBy TextFault.Output result (W.has_failed writer.old) (W.has_failed writer.new) }
+    ensures { Writes W.contents W.has_failed writer.old writer.new
+        (verdict_line kind found ++ words.now) result }
 {
     put_verdict(writer, kind, found)?;
     put(writer, b"\n")?;
@@ -93,7 +86,7 @@ fn put_report<W: Sink>(
 
 // The fault by which a command ends.
 fn told(found: Option<TextFault>) -> Option<RunFault>
-    ensures { result ≡ option_map run_fault_of found }
+    ensures { result ≡ option_map Text found }
 {
     match found {
         None => None,
@@ -116,11 +109,11 @@ pub fn run_check<R: Source, W: Sink>(
 
     // Each fault comes under its own condition, the first one in their order.
     ensures stops { IfErr result (StopsCheck (R.remaining reader.old) (R.remaining reader.new)) }
-    ensures quiet { IfErr result (λ e. e ≢ RunFault.Output → writer.new ≡ writer.old) }
+    ensures quiet { WritesLast result writer.old writer.new }
 
     // A failed read or write is told where one has failed, and where all went well none did.
-    ensures failed_read { FailsBy RunFault.Input result (R.has_failed reader.old) (R.has_failed reader.new) }
-    ensures failed_write { FailsBy RunFault.Output result (W.has_failed writer.old) (W.has_failed writer.new) }
+    ensures failed_read { TellsFailedRead result (R.has_failed reader.old) (R.has_failed reader.new) }
+    ensures failed_write { TellsFailedWrite result (W.has_failed writer.old) (W.has_failed writer.new) }
 {
     let bytes = read_all(alloc, reader)?;
     let report = report_on(alloc, &bytes)?;

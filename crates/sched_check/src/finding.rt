@@ -4,8 +4,8 @@ ghost use Rattle.std.specs.Prelude.{◌≡◌, ◌⊎◌, IfOk, IfErr};
 ghost use Rattle.sched_check.specs.Found.{fault_as};
 ghost use Rattle.sched_check.specs.Finding.{fault_found};
 
-use crate::kind::Kind;
 use history_reading::read_history;
+use json_fields::forms::Kind;
 use minislots::Checked;
 use script_reading::{read_script, read_storm};
 use std::alloc::Global;

@@ -1,22 +1,12 @@
-//! The kinds of file that the program reads.
+//! The kind of file that a document seems to be.
 
 ghost use Rattle.std.specs.Prelude.{◌≡◌, IsTrue};
 ghost use Rattle.serde_json.specs.View.{view};
 ghost use Rattle.history_reading.specs.Replies.{has};
 ghost use Rattle.sched_check.specs.Kind.{kind_in};
 
+use json_fields::forms::Kind;
 use serde_json::Value;
-
-/// A kind of file that the program reads.
-#[derive(Clone, Copy, Debug, PartialEq, Eq)]
-pub enum Kind {
-    /// The script of a run.
-    Script,
-    /// The script of a storm.
-    Storm,
-    /// A history.
-    History,
-}
 
 // Whether something stands under this key.
 fn has(value: &Value, key: &str) -> bool

@@ -7,7 +7,6 @@ mod finding;
 mod input;
 mod kind;
 mod report;
-mod words;
 
 pub use check::run_check;
 pub use input::check_input;

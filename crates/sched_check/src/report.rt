@@ -6,8 +6,9 @@ ghost use Rattle.sched_check.specs.Report.{kind_shown};
 ghost use Rattle.sched_check.specs.Found.{fault_of};
 
 use crate::finding::{Finding, find_as};
-use crate::kind::{Kind, kind_in};
-use crate::words::{words_on, words_on_text};
+use crate::kind::kind_in;
+use file_words::{words_on, words_on_text};
+use json_fields::forms::Kind;
 use serde_json::Value;
 use std::alloc::{AllocError, Global};
 use text_stream::{TextFault, parse};
@@ -53,8 +54,12 @@ fn words_of(
     document: &Option<Value>,
     finding: &Finding,
 ) -> Result<String, AllocError> {
+    let found = match finding {
+        Finding::Good(config) => Ok(config.config()),
+        Finding::Fault(fault) => Err(*fault),
+    };
     match document {
-        Some(document) => words_on(alloc, bytes, kind, document, finding),
+        Some(document) => words_on(alloc, bytes, kind, document, found),
         None => words_on_text(alloc, bytes),
     }
 }

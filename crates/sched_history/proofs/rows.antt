@@ -11,5 +11,6 @@ pub mod Periodic
 pub mod Polled
 pub mod Unlawful
 pub mod Memory
+pub mod HandingOver
 pub mod Limits
 pub mod Facts

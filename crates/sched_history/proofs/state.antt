@@ -4,6 +4,7 @@ pub mod Present
 pub mod Sums
 pub mod Moves
 pub mod Recording
+pub mod Whole
 pub mod Building
 pub mod Following
 pub mod SameMaps

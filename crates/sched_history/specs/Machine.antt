@@ -1,5 +1,5 @@
--- What callers see of a scheduler, and which of its calls may lack memory.
-use Rattle.std.specs.Prelude.{◌≡◌, List, None}
+-- What callers see of a scheduler, when it is full, and which of its calls may lack memory.
+use Rattle.std.specs.Prelude.{◌≡◌, ℕ, Bool, ◌||◌, nat_le, List, length, drop, None}
 use Rattle.minislots.specs.declared.config.Config.{Config}
 use Rattle.map_codec.specs.WireMap.{IsWellFormed}
 use Rattle.flow_book.specs.declared.spec.FlowSpec.{FlowSpec}
@@ -8,6 +8,7 @@ use Rattle.periodic.specs.declared.placement.Placement.{Placement}
 use Rattle.periodic.specs.Placement.{IsPlacement}
 use Rattle.sched_history.specs.declared.call.Call.{Call}
 use Rattle.sched_history.specs.declared.call.Call.TheVariants.{Admit, Remove, Ask, Heard, Build, Skip, Status}
+use Rattle.sched_history.specs.declared.reply.TheConstants.{MAX_WHOLE_HISTORY}
 use Rattle.sched_history.specs.declared.reply.Reply.{Reply}
 use Rattle.sched_history.specs.declared.reply.Reply.TheVariants as replies
 use Rattle.sched_history.specs.declared.reply.Entry.{Entry}
@@ -15,10 +16,28 @@ use Rattle.sched_history.specs.Life.{table_of}
 use Rattle.sched_history.specs.Time.{next_after}
 use Rattle.sched_history.specs.Refusal.{refusal_of}
 
--- a configuration, and the history under it
+-- a configuration, the whole history under it, and how many entries at its front were handed over
 pub record Machine : Type 0 where
   pub config : Config
   pub history : List Entry
+  pub handed : ℕ
+
+-- a configuration, and a history under it
+pub record Past : Type 0 where
+  pub config : Config
+  pub history : List Entry
+
+-- what has been under the configuration of a machine
+abbrev pub past_of : Machine → Past
+past_of m = record { config = m.config; history = m.history }
+
+-- the entries that are kept: the whole history where nothing was handed over
+abbrev pub kept_of : Machine → List Entry
+kept_of m = drop m.handed m.history
+
+-- as many entries are kept as the configuration allows, or the whole history has as many as one may have
+abbrev pub is_full : Machine → Bool
+is_full m = nat_le m.config.calls (length (kept_of m)) || nat_le MAX_WHOLE_HISTORY (length m.history)
 
 -- a MAP in the reply has bytes
 abbrev pub IsEncodable : Reply → Type 0

@@ -1,5 +1,5 @@
 -- What callers see of a planned build, and when a scheduler may commit it.
-use Rattle.std.specs.Prelude.{◌≡◌, ℕ, ◌<◌, List, [], ◌∷◌, ◌++◌, None, length}
+use Rattle.std.specs.Prelude.{◌≡◌, ℕ, false, List, [], ◌∷◌, ◌++◌, None}
 use Rattle.minislots.specs.declared.config.Config.{Config}
 use Rattle.minislots.specs.declared.stamp.Stamp.{Stamp}
 use Rattle.map_codec.specs.WireMap.{IsWellFormed}
@@ -7,10 +7,10 @@ use Rattle.flow_book.specs.Flows.{LiveFlow}
 use Rattle.map_build.specs.declared.frame_map.FrameMap.{FrameMap}
 use Rattle.sched_history.specs.declared.call.Call.TheVariants.{Build}
 use Rattle.sched_history.specs.declared.reply.Reply.TheVariants.{Built}
-use Rattle.sched_history.specs.declared.reply.Entry.{Entry}
 use Rattle.sched_history.specs.Life.{flows_of}
 use Rattle.sched_history.specs.Refusal.{refusal_of}
 use Rattle.sched_history.specs.History.{IsNextMap}
+use Rattle.sched_history.specs.Machine.{Machine, is_full}
 
 -- a build's clock and its MAP, and the live flows of the channel after it
 pub record PlannedBuild : Type 0 where
@@ -19,13 +19,13 @@ pub record PlannedBuild : Type 0 where
   pub map : FrameMap
   pub flows : List LiveFlow
 
--- The build may follow the history, where there is room: no test refuses it, its MAP is the lawful one of the next
+-- The build may follow the history, where it is not full: no test refuses it, its MAP is the lawful one of the next
 -- frame and has bytes, and the flows are those after it
-pub record IsPlanAfter (c : Config) (h : List Entry) (p : PlannedBuild) : Type 0 where
-  pub room : length h < c.calls
-  pub unrefused : refusal_of c h (Build p.clock) ≡ None
-  pub lawful : IsNextMap c h p.map
+pub record IsPlanAfter (m : Machine) (p : PlannedBuild) : Type 0 where
+  pub room : is_full m ≡ false
+  pub unrefused : refusal_of m.config m.history (Build p.clock) ≡ None
+  pub lawful : IsNextMap m.config m.history p.map
   pub encodable : IsWellFormed p.map.wire
-  pub config : p.config ≡ c
+  pub config : p.config ≡ m.config
   pub flows : (stamp : Stamp) → p.flows
-      ≡ flows_of (h ++ record { stamp = stamp; call = Build p.clock; reply = Built p.map } ∷ [])
+      ≡ flows_of (m.history ++ record { stamp = stamp; call = Build p.clock; reply = Built p.map } ∷ [])

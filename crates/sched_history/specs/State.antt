@@ -1,5 +1,5 @@
 -- What a scheduler keeps of its history, and what is true of each scheduler.
-use Rattle.std.specs.Prelude.{◌≡◌, ℕ, ◌+◌, ◌*◌, ◌%◌, ◌<◌, ◌≤◌, false, None, List, [], ◌∷◌}
+use Rattle.std.specs.Prelude.{◌≡◌, ℕ, ◌+◌, ◌-◌, ◌*◌, ◌%◌, ◌<◌, ◌≤◌, false, None, List, [], ◌∷◌}
 use Rattle.std.specs.Prelude.{◌++◌, length, slice_index, vec_capacity}
 use Rattle.std.specs.List.{AllByRecursion}
 use Rattle.minislots.specs.declared.config.Config.{Config}
@@ -14,7 +14,7 @@ use Rattle.sched_history.specs.declared.scheduler.answering.Answer.{Answer}
 use Rattle.sched_history.specs.declared.scheduler.Scheduler.TheInside.{Inside}
 use Rattle.sched_history.specs.declared.call.Call.{Call}
 use Rattle.sched_history.specs.declared.call.Call.TheVariants.{Build}
-use Rattle.sched_history.specs.declared.reply.TheConstants.{MAX_ENTRIES}
+use Rattle.sched_history.specs.declared.reply.TheConstants.{MAX_WHOLE_HISTORY}
 use Rattle.sched_history.specs.declared.reply.Reply.{Reply}
 use Rattle.sched_history.specs.declared.reply.Reply.TheVariants.{Built}
 use Rattle.sched_history.specs.declared.reply.Entry.{Entry}
@@ -24,7 +24,7 @@ use Rattle.sched_history.specs.Refusal.{most_bytes, most_ahead, last_clock, refu
 use Rattle.sched_history.specs.History.{Answers, IsStep, IsLegal, IsNextMap}
 use Rattle.sched_history.specs.Planned.{PlannedBuild}
 use Rattle.sched_history.specs.Facts.{IsWithinAsked}
-use Rattle.sched_history.specs.Machine.{Machine, IsEncodable, TakesMemory}
+use Rattle.sched_history.specs.Machine.{Machine, kept_of, IsEncodable, TakesMemory}
 
 -- The bounds of what a scheduler keeps, after so many calls
 pub record IsBounded (c : Config) (flows : List LiveFlow) (next calls : ℕ) : Type 0 where
@@ -47,16 +47,23 @@ pub record IsStateAfter (s : State) (h : List Entry) : Type 0 where
   pub progress : (receiver : ℕ) → receiver < s.config.receivers
       → slice_index s.progress receiver ≡ progress_of s.config receiver h
 
--- what contracts see of a scheduler
+-- what contracts see of a scheduler: what it does not keep of the ledger's entries was handed over
 abbrev pub machine_of : Inside → Machine
-machine_of a = record { config = a.state.config; history = a.entries.items }
+machine_of a = record {
+  config = a.state.config;
+  history = a.ledger;
+  handed = length a.ledger - length a.entries.items;
+}
 
--- The fields are those after the history, which is legal and can be encoded; they keep to bounds and reserved room
+-- The fields are those after the whole history, which is legal and can be encoded; its last entries are kept, in
+-- reserved room
 pub record IsSound (a : Inside) : Type 0 where
-  pub is_after : IsStateAfter a.state a.entries.items
-  pub bounded : IsBounded a.state.config a.state.book.flows a.state.next (length a.entries.items)
-  pub legal : IsLegal a.state.config a.entries.items
-  pub encodable : AllByRecursion (λ e. IsEncodable e.reply) a.entries.items
+  pub is_after : IsStateAfter a.state a.ledger
+  pub bounded : IsBounded a.state.config a.state.book.flows a.state.next (length a.ledger)
+  pub legal : IsLegal a.state.config a.ledger
+  pub encodable : AllByRecursion (λ e. IsEncodable e.reply) a.ledger
+  pub few : length a.entries.items ≤ length a.ledger
+  pub kept : kept_of (machine_of a) ≡ a.entries.items
   pub within : length a.entries.items ≤ a.state.config.calls
   pub reserved : a.state.config.calls ≤ vec_capacity a.entries
 
@@ -66,12 +73,12 @@ pub record IsKeptOf (s : State) (h : List Entry) : Type 0 where
   pub bounded : IsBounded s.config s.book.flows s.next (length h)
   pub legal : IsLegal s.config h
 
--- No test refuses the call after the history that the fields stand for, which is no longer than any that is recorded
+-- No test refuses the call after the history that the fields stand for, and one entry more may follow it
 pub record IsOpenTo (s : State) (call : Call) (h : List Entry) : Type 0 where
   pub is_after : IsStateAfter s h
   pub bounded : IsBounded s.config s.book.flows s.next (length h)
   pub legal : IsLegal s.config h
-  pub short : length h < MAX_ENTRIES
+  pub short : length h < MAX_WHOLE_HISTORY
   pub unrefused : refusal_of s.config h call ≡ None
 
 -- The MAP of the build is the lawful one of the next frame after the history and has bytes, and the flows are those
@@ -104,10 +111,20 @@ AnswersOpen old new call a = (h : List Entry) → IsOpenTo old call h → IsAnsw
 abbrev pub TakesMemoryOpen : State → Call → Type 0
 TakesMemoryOpen s call = (h : List Entry) → IsOpenTo s call h → TakesMemory s.config h call
 
--- The reply is the answer to the call after the history, and the fields are those with one entry more
+-- after each history that the fields stand for the reply is an answer
+abbrev pub AnsweredOpen : State → Call → Reply → Type 0
+AnsweredOpen s call reply = (h : List Entry) → IsOpenTo s call h → Answers s.config h call reply
+
+-- The fields are those after the entries that were taken, which are legal and can be encoded
+pub record IsAuditorOf (s : State) (taken : List Entry) : Type 0 where
+  pub kept : IsKeptOf s taken
+  pub encodable : AllByRecursion (λ e. IsEncodable e.reply) taken
+
+-- The reply is the answer to the call after the history and has bytes, and the fields are those with one entry more
 pub record IsFollowed (old new : State) (call : Call) (reply : Reply) (h : List Entry) : Type 0 where
   pub config : new.config ≡ old.config
   pub answers : Answers old.config h call reply
+  pub encodable : IsEncodable reply
   pub is_after : (stamp : Stamp) → IsStateAfter new (h ++ record { stamp = stamp; call = call; reply = reply } ∷ [])
 
 -- after each history that the fields stand for it is

@@ -3,10 +3,14 @@
 
 mod auditing;
 mod call;
+mod ledger;
 mod reply;
 mod scheduler;
 
-pub use auditing::{audit, lawful_reply};
+pub use auditing::{Auditor, audit, lawful_reply};
 pub use call::{Call, MAX_SCRIPTS};
-pub use reply::{AuditFault, Entry, MAX_ENTRIES, PlanFault, Refusal, Reply, Unrecorded};
-pub use scheduler::{Planned, Scheduler};
+pub use reply::{
+    AuditFault, Entry, JudgeFault, MAX_ENTRIES, MAX_WHOLE_HISTORY, PlanFault, Refusal, Reply,
+    Unrecorded,
+};
+pub use scheduler::{HandedOver, Planned, Scheduler};

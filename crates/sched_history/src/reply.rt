@@ -11,8 +11,11 @@ use periodic::{Placement, Starts};
 use std::alloc::{AllocError, Global};
 use thiserror::Error;
 
-/// The most entries of a history.
+/// The most entries of a history that are in memory at a time.
 pub const MAX_ENTRIES: usize = 16_777_216;
+
+/// The most entries of a whole history, 2^44, with those that were handed over: each sum over them fits its type.
+pub const MAX_WHOLE_HISTORY: u64 = 17_592_186_044_416;
 
 /// Why a call is refused. The tests are made in this order, and the first that holds is answered. A
 /// refusal is recorded, and changes nothing else.
@@ -134,7 +137,7 @@ pub struct Entry {
 /// Why a call was not recorded. It changed nothing.
 #[derive(Clone, Copy, Debug, PartialEq, Eq, Error)]
 pub enum Unrecorded {
-    /// The history has as many entries as are recorded.
+    /// As many entries are kept as the configuration allows, or the whole history has [`MAX_WHOLE_HISTORY`].
     #[error("history full")]
     HistoryFull,
     /// Memory ran out.
@@ -148,9 +151,23 @@ pub enum PlanFault {
     /// The build is refused.
     #[error("refused")]
     Refused(Refusal),
-    /// The history has as many entries as are recorded.
+    /// As many entries are kept as the configuration allows, or the whole history has [`MAX_WHOLE_HISTORY`].
     #[error("history full")]
     HistoryFull,
+    /// Memory ran out.
+    #[error("out of memory")]
+    Memory,
+}
+
+/// Why an entry was not taken. It changed nothing.
+#[derive(Clone, Copy, Debug, PartialEq, Eq, Error)]
+pub enum JudgeFault {
+    /// [`MAX_WHOLE_HISTORY`] entries were taken.
+    #[error("history full")]
+    Full,
+    /// Its reply may not follow the entries that were taken.
+    #[error("illegal")]
+    Illegal,
     /// Memory ran out.
     #[error("out of memory")]
     Memory,

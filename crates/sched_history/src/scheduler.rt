@@ -1,24 +1,28 @@
 //! The scheduler of one thread, with its history.
 
-ghost use Rattle.std.specs.Prelude.{◌≡◌, ◌<◌, ◌≤◌, ◌↔◌, ◌++◌, ◌∷◌, [], Some, length, nat_le};
+ghost use Rattle.std.specs.Prelude.{◌≡◌, ◌≤◌, ◌↔◌, ◌++◌, ◌∷◌, [], true, false, Some, length, nat_le};
 ghost use Rattle.std.specs.Prelude.{IfOk, OnOk, OnErr, IsErrOf};
 ghost use Rattle.std.specs.List.{AllByRecursion};
 ghost use Rattle.sched_history.specs.Facts.{FollowsAlways};
 ghost use Rattle.sched_history.specs.History.{IsStep, IsLegal};
-ghost use Rattle.sched_history.specs.Machine.{IsEncodable, MayLackMemory};
+ghost use Rattle.sched_history.specs.Machine.{past_of, kept_of, is_full, IsEncodable, MayLackMemory};
 ghost use Rattle.sched_history.specs.Planned.{IsPlanAfter};
 ghost use Rattle.sched_history.specs.Refusal.{refusal_of};
 
 mod answering;
 mod following;
+mod handing_over;
 mod planned;
 mod present;
 mod recording;
 mod refusing;
+mod resuming;
 mod state;
 
 use crate::call::Call;
-use crate::reply::{Entry, PlanFault, Refusal, Reply, Unrecorded};
+use crate::ledger::Ledger;
+use crate::reply::{Entry, MAX_WHOLE_HISTORY, PlanFault, Refusal, Reply, Unrecorded};
+pub use handing_over::HandedOver;
 use minislots::{Checked, Stamp};
 pub use planned::Planned;
 pub(crate) use present::Present;
@@ -27,10 +31,15 @@ pub(crate) use state::State;
 use std::alloc::{AllocError, Global};
 use std::marker::Model;
 
-/// A scheduler with its history. Contracts see its configuration and the entries.
+/// A scheduler with what it keeps of its history. Contracts see its configuration, its whole history, that is the list
+/// of all calls since it was opened, and how many entries at the front of that list were handed over. The others are
+/// kept. What is said of a history is said of the whole one; where nothing was handed over all of it is kept.
 #[derive(Drop)]
 pub struct Scheduler {
     state: State,
+    // All entries of the history.
+    ledger: Ledger,
+    // Those that are kept.
     entries: Vec<Entry>,
 }
 
@@ -47,22 +56,23 @@ impl Model for Scheduler {
 }
 
 impl Scheduler {
-    /// A scheduler that has recorded no call, with room for as many as its configuration says.
+    /// A scheduler that has recorded no call, with room to keep as many as its configuration says.
     pub fn open(alloc: Global, config: Checked) -> Result<Scheduler, AllocError>
-        ensures { IfOk result (λ s. s ≡ record { config = config; history = [] }) }
+        ensures { IfOk result (λ s. s ≡ record { config = config; history = []; handed = 0 }) }
     {
         let calls = config.calls() as usize;
         let state = State::open(alloc, config)?;
         Ok(Scheduler {
             state,
+            ledger: Ledger::empty(),
             entries: Vec::with_capacity(alloc, calls)?,
         })
     }
 
     /// Answers a call and records it, with its stamp and its reply. A call that is not recorded changes
-    /// nothing: one where the history has as many entries as the configuration allows, before any
-    /// refusal, and an admission or a build that no refusal meets, where memory ran out. Every other call
-    /// takes no memory.
+    /// nothing: one where as many entries are kept as the configuration allows, or the whole history has
+    /// [`MAX_WHOLE_HISTORY`](crate::MAX_WHOLE_HISTORY), before any refusal, and an admission or a build that no refusal
+    /// meets, where memory ran out. Every other call takes no memory.
     pub fn call(&mut self, stamp: Stamp, call: Call) -> Result<Reply, Unrecorded>
         // A reply is recorded, and may follow the history.
         ensures recorded { IfOk result (λ reply. self.new ≡ record self.old {
@@ -70,12 +80,16 @@ impl Scheduler {
         }) }
         ensures step { IfOk result (λ reply. IsStep self.old.config self.old.history call reply) }
         ensures encodable { IfOk result IsEncodable }
-        ensures room { OnOk result (length self.old.history < self.old.config.calls) }
+        ensures room { OnOk result (is_full self.old ≡ false) }
 
         // Else nothing changes.
         ensures err { OnErr result (self.new ≡ self.old) }
-        ensures full { IsErrOf result Unrecorded.HistoryFull ↔ (self.old.config.calls ≤ length self.old.history) }
+        ensures full { IsErrOf result Unrecorded.HistoryFull ↔ (is_full self.old ≡ true) }
         ensures memory { IsErrOf result Unrecorded.Memory → MayLackMemory self.old.config self.old.history call }
+
+        // Where nothing was handed over the whole history is kept.
+        ensures whole { self.old.handed ≡ 0 →
+            is_full self.old ≡ nat_le self.old.config.calls (length self.old.history) }
 
         ensures legal { IsLegal self.new.config self.new.history }
     {
@@ -96,14 +110,18 @@ impl Scheduler {
     /// is full, before any refusal; its first refusal, which is not recorded here; or memory ran out.
     pub fn plan(&mut self, now: u64) -> Result<Planned, PlanFault>
         ensures clock { IfOk result (λ planned. planned.clock ≡ now) }
-        ensures fits { IfOk result (IsPlanAfter self.old.config self.old.history) }
+        ensures fits { IfOk result (IsPlanAfter self.old) }
         ensures same { self.new ≡ self.old }
 
-        ensures full { IsErrOf result PlanFault.HistoryFull ↔ (self.old.config.calls ≤ length self.old.history) }
+        ensures full { IsErrOf result PlanFault.HistoryFull ↔ (is_full self.old ≡ true) }
         ensures refused { (refusal : Refusal) → IsErrOf result (PlanFault.Refused refusal) →
             refusal_of self.old.config self.old.history (Call.Build now) ≡ Some refusal }
         ensures memory { IsErrOf result PlanFault.Memory →
             MayLackMemory self.old.config self.old.history (Call.Build now) }
+
+        // Where nothing was handed over the whole history is kept.
+        ensures whole { self.old.handed ≡ 0 →
+            is_full self.old ≡ nat_le self.old.config.calls (length self.old.history) }
     {
         if self.is_full() {
             return Err(PlanFault::HistoryFull);
@@ -118,9 +136,9 @@ impl Scheduler {
     }
 
     /// Records a planned build with its stamp, and answers its MAP. Takes no memory. No call came between
-    /// it and its plan.
+    /// it and its plan, and nothing was handed over.
     pub fn commit(&mut self, stamp: Stamp, planned: Planned) -> Reply
-        requires { IsPlanAfter self.old.config self.old.history planned }
+        requires { IsPlanAfter self.old planned }
         ensures built { result ≡ Reply.Built planned.map }
         ensures recorded { self.new ≡ record self.old {
           history = self.old.history
@@ -132,15 +150,18 @@ impl Scheduler {
     {
         let call = Call::Build { now: planned.clock };
         let answer = self.state.commit(planned);
-        note(&mut self.entries, stamp, call, answer)
+        note(&mut self.ledger, &mut self.entries, stamp, call, answer)
     }
 
-    // Whether as many calls are recorded as the configuration allows.
+    // Whether as many entries are kept as the configuration allows, or there are as many as a whole history may have.
     fn is_full(&self) -> bool
-        ensures value { result ≡ nat_le self.now.config.calls (length self.now.history) }
+        ensures value { result ≡ is_full self.now }
+        ensures whole { self.now.handed ≡ 0 →
+            is_full self.now ≡ nat_le self.now.config.calls (length self.now.history) }
         ensures legal { IsLegal self.now.config self.now.history }
     {
-        self.present().is_full()
+        self.entries.len() >= self.state.config.calls() as usize
+            || self.ledger.len() >= MAX_WHOLE_HISTORY
     }
 
     // The first refusal of a call.
@@ -150,37 +171,47 @@ impl Scheduler {
         self.present().refusal_of(call)
     }
 
-    // The present of the history.
+    // The present of the whole history.
     fn present(&self) -> Present<'_>
-        ensures { result ≡ self.now }
+        ensures { result ≡ past_of self.now }
     {
         Present {
             state: &self.state,
-            entries: &self.entries,
+            ledger: &self.ledger,
         }
     }
 
-    /// The calls that were recorded, with their replies, in order. What follows for the plant from a legal
-    /// history is told beside it, for every front of the list.
+    /// Its configuration.
+    pub fn config(&self) -> &Checked
+        ensures { result.now ≡ self.now.config }
+    {
+        &self.state.config
+    }
+
+    /// The entries that are kept, that is the calls that were recorded and not handed over, with their replies, in
+    /// order: the whole history where nothing was handed over. What follows for the plant from a legal history is told
+    /// beside them, for every front of the whole one.
     #[tactic(auto, using(crate::proofs::facts::FactsOf::facts_of))]
     pub fn history(&self) -> &[Entry]
-        ensures value { result.now ≡ self.now.history }
+        ensures value { result.now ≡ kept_of self.now }
         ensures legal { IsLegal self.now.config self.now.history }
         ensures facts { FollowsAlways self.now.config self.now.history }
         ensures encodable { AllByRecursion (λ e. IsEncodable e.reply) self.now.history }
-        ensures within { length self.now.history ≤ self.now.config.calls }
+        ensures within { length (kept_of self.now) ≤ self.now.config.calls }
+        ensures front { self.now.handed ≤ length self.now.history }
     {
         self.entries.as_slice()
     }
 
-    /// The calls that were recorded, with their replies, in order.
+    /// The entries that are kept, in order: the whole history where nothing was handed over.
     #[tactic(auto, using(crate::proofs::facts::FactsOf::facts_of))]
     pub fn into_history(self) -> Vec<Entry>
-        ensures value { result.items ≡ self.history }
+        ensures value { result.items ≡ kept_of self }
         ensures legal { IsLegal self.config self.history }
         ensures facts { FollowsAlways self.config self.history }
         ensures encodable { AllByRecursion (λ e. IsEncodable e.reply) self.history }
-        ensures within { length self.history ≤ self.config.calls }
+        ensures within { length (kept_of self) ≤ self.config.calls }
+        ensures front { self.handed ≤ length self.history }
     {
         let Scheduler { entries, .. } = self;
         entries

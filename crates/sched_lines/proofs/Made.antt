@@ -19,8 +19,8 @@ abbrev pub entry_of : ℕ → Call → Reply → Entry
 entry_of ticket call reply = record { stamp = record { seat = 0; ticket = ticket }; call = call; reply = reply }
 
 -- nothing is added to a history
-nothing-added : (m : Machine) → m ≡ record { config = m.config; history = m.history ++ [] }
-nothing-added m = ap (λ (h : List Entry). record { config = m.config; history = h }) (sym (append-nil m.history))
+nothing-added : (m : Machine) → m ≡ record m { history = m.history ++ [] }
+nothing-added m = ap (λ (h : List Entry). record m { history = h }) (sym (append-nil m.history))
 
 -- an answer has one reason
 two_reasons : IsErrOf {T = Reply} (Err Memory) HistoryFull → ⊥
@@ -47,6 +47,11 @@ MakesCall-from old new ticket call (Err Memory) kept step room err full memory =
   state = err ∙ nothing-added old;
 }
 
+-- calls hand nothing over
+pub MakesCalls-handed : (old new : Machine) (calls : List Call) (answers : List Answer)
+    → MakesCalls old new calls answers → new.handed ≡ 0
+MakesCalls-handed old new calls answers makes = ap (λ (m : Machine). m.handed) makes.state
+
 -- one call more
 pub MakesCalls-push : (old mid new : Machine) (calls : List Call) (i : ℕ) (d : Call) (answers : List Answer)
     (answer : Answer) → i < length calls
@@ -59,6 +64,7 @@ MakesCalls-push old mid new calls i d answers answer below makes one =
     let call = get_or calls i d in
     let same_config : mid.config ≡ c = ap (λ (m : Machine). m.config) makes.state in
     let same_history : mid.history ≡ entries = ap (λ (m : Machine). m.history) makes.state in
+    let same_handed : mid.handed ≡ 0 = MakesCalls-handed old mid before answers makes in
     let place : 0 + length before ≡ i = omega (arith, length-take i calls) in
     let may : MayGet c entries call answer = rw (same_config, same_history) at one.may in
     let pushed : recorded_entries 0 (before ++ call ∷ []) (answers ++ answer ∷ []) ≡ entries ++ recorded i call answer
@@ -66,7 +72,7 @@ MakesCalls-push old mid new calls i d answers answer below makes one =
     ∙ ap (λ (n : ℕ). entries ++ recorded n call answer) place in
     rw (take_more calls i d below) (record {
       each = MayGetEach-push c [] 0 before answers call answer makes.each may;
-      state = one.state ∙ rw (same_config, same_history, pushed) refl;
+      state = one.state ∙ rw (same_config, same_history, same_handed, pushed) refl;
     })
 
 -- what all calls make is a legal history

@@ -35,12 +35,12 @@ recorded_entries ticket (call ∷ calls) [] = []
 recorded_entries ticket (call ∷ calls) (answer ∷ answers) =
     recorded ticket call answer ++ recorded_entries (ticket + 1) calls answers
 
--- from one state of a scheduler this call, with this answer, led to another
+-- from one state of a scheduler that keeps its whole history this call, with this answer, led to another
 pub record MakesCall (old new : Machine) (ticket : ℕ) (call : Call) (answer : Answer) : Type 0 where
   pub may : MayGet old.config old.history call answer
-  pub state : new ≡ record { config = old.config; history = old.history ++ recorded ticket call answer }
+  pub state : new ≡ record old { history = old.history ++ recorded ticket call answer }
 
--- from a state of a scheduler without entries these calls, with these answers, led to another
+-- from a state of a scheduler without entries these calls, with these answers, led to another, which keeps all entries
 pub record MakesCalls (old new : Machine) (calls : List Call) (answers : List Answer) : Type 0 where
   pub each : MayGetEach old.config [] 0 calls answers
-  pub state : new ≡ record { config = old.config; history = recorded_entries 0 calls answers }
+  pub state : new ≡ record { config = old.config; history = recorded_entries 0 calls answers; handed = 0 }

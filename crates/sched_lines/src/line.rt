@@ -1,14 +1,13 @@
 //! The lines of a run: one for the answer to each call.
 
-ghost use Rattle.std.specs.Prelude.{◌≡◌, ◌*◌, ◌≤◌, ◌++◌, [], ◌∷◌, length, take, OnOk, IfErr, codes, decimal, Option};
+ghost use Rattle.std.specs.Prelude.{◌≡◌, ◌*◌, ◌≤◌, ◌++◌, [], ◌∷◌, length, take, codes, decimal, Option};
 ghost use Rattle.std.specs.Prelude.{Some};
-ghost use Rattle.std.specs.Io.KnownBytes.{Appends};
 ghost use Rattle.map_codec.specs.WireMap.{IsWellFormed, spelling};
 ghost use Rattle.hex.specs.Hex.{encode_lower};
 ghost use Rattle.sched_lines.specs.Line.{number_text, numbers_text, fault_number, refusal_number, refusal_value};
 ghost use Rattle.sched_lines.specs.Line.{value_text, reply_text, answer_text, line_of, HasLine};
 ghost use Rattle.sched_history.specs.Machine.{IsEncodable};
-ghost use Rattle.text_stream.specs.Watched.{FailsBy};
+ghost use Rattle.text_stream.specs.Writing.{Writes};
 
 use flow_book::FlowFault;
 use itoa::Buffer;
@@ -20,9 +19,7 @@ use text_stream::{Sink, TextFault, put};
 /// A space, and a number in decimal.
 #[tactic(auto, unfolding(crate::specs::Line::number_text))]
 pub fn put_number<W: Sink>(writer: &mut W, number: u64) -> Result<(), TextFault>
-    ensures ok { OnOk result (Appends (W.contents writer.old) (W.contents writer.new) (number_text number)) }
-    ensures err { IfErr result (λ e. e ≡ TextFault.Output) }
-    ensures failed { FailsBy TextFault.Output result (W.has_failed writer.old) (W.has_failed writer.new) }
+    ensures { Writes W.contents W.has_failed writer.old writer.new (number_text number) result }
 {
     let mut buffer = Buffer::new();
     put(writer, b" ")?;
@@ -31,9 +28,8 @@ pub fn put_number<W: Sink>(writer: &mut W, number: u64) -> Result<(), TextFault>
 
 // Numbers, each after a space.
 fn put_numbers<W: Sink>(writer: &mut W, numbers: &[u16]) -> Result<(), TextFault>
-    ensures ok { OnOk result (Appends (W.contents writer.old) (W.contents writer.new) (numbers_text numbers.now)) }
-    ensures err { IfErr result (λ e. e ≡ TextFault.Output) }
-    ensures failed { FailsBy TextFault.Output result (W.has_failed writer.old) (W.has_failed writer.new) }
+    ensures { Writes W.contents W.has_failed writer.old writer.new
+        (numbers_text numbers.now) result }
 {
     for number in numbers {
         put_number(writer, u64::from(*number))?;
@@ -43,10 +39,8 @@ fn put_numbers<W: Sink>(writer: &mut W, numbers: &[u16]) -> Result<(), TextFault
 
 // A word, and numbers behind it.
 fn put_words<W: Sink>(writer: &mut W, word: &[u8], numbers: &[u64]) -> Result<(), TextFault>
-    ensures ok { OnOk result (Appends (W.contents writer.old) (W.contents writer.new)
-        (word.now ++ numbers_text numbers.now)) }
-    ensures err { IfErr result (λ e. e ≡ TextFault.Output) }
-    ensures failed { FailsBy TextFault.Output result (W.has_failed writer.old) (W.has_failed writer.new) }
+    ensures { Writes W.contents W.has_failed writer.old writer.new
+        (word.now ++ numbers_text numbers.now) result }
 {
     put(writer, word)?;
     for number in numbers {
@@ -111,10 +105,8 @@ pub fn refusal_value(refusal: Refusal) -> Option<u64>
 }
 
 fn put_refusal<W: Sink>(writer: &mut W, refusal: Refusal) -> Result<(), TextFault>
-    ensures ok { OnOk result (Appends (W.contents writer.old) (W.contents writer.new)
-        (reply_text (Reply.Refused refusal))) }
-    ensures err { IfErr result (λ e. e ≡ TextFault.Output) }
-    ensures failed { FailsBy TextFault.Output result (W.has_failed writer.old) (W.has_failed writer.new) }
+    ensures { Writes W.contents W.has_failed writer.old writer.new
+        (reply_text (Reply.Refused refusal)) result }
 {
     let number = refusal_number(refusal);
     match refusal_value(refusal) {
@@ -124,10 +116,8 @@ fn put_refusal<W: Sink>(writer: &mut W, refusal: Refusal) -> Result<(), TextFaul
 }
 
 fn put_placement<W: Sink>(writer: &mut W, placement: &Placement) -> Result<(), TextFault>
-    ensures ok { OnOk result (Appends (W.contents writer.old) (W.contents writer.new)
-        (reply_text (Reply.Admitted (Some placement.now)))) }
-    ensures err { IfErr result (λ e. e ≡ TextFault.Output) }
-    ensures failed { FailsBy TextFault.Output result (W.has_failed writer.old) (W.has_failed writer.new) }
+    ensures { Writes W.contents W.has_failed writer.old writer.new
+        (reply_text (Reply.Admitted (Some placement.now))) result }
 {
     put_words(writer, b"admitted", &[placement.reference])?;
     put_numbers(writer, placement.starts.as_slice())
@@ -136,9 +126,7 @@ fn put_placement<W: Sink>(writer: &mut W, placement: &Placement) -> Result<(), T
 // The lower-case hexadecimal of these bytes.
 fn put_hex<W: Sink>(writer: &mut W, bytes: &[u8]) -> Result<(), TextFault>
     requires { length bytes.now ≤ 976 }
-    ensures ok { OnOk result (Appends (W.contents writer.old) (W.contents writer.new) (encode_lower bytes.now)) }
-    ensures err { IfErr result (λ e. e ≡ TextFault.Output) }
-    ensures failed { FailsBy TextFault.Output result (W.has_failed writer.old) (W.has_failed writer.new) }
+    ensures { Writes W.contents W.has_failed writer.old writer.new (encode_lower bytes.now) result }
 {
     let mut text = [0u8; 2 * MAX_BYTES];
     let text = &mut text[..2 * bytes.len()];
@@ -149,10 +137,8 @@ fn put_hex<W: Sink>(writer: &mut W, bytes: &[u8]) -> Result<(), TextFault>
 // A word, and the payload of a MAP in lower-case hexadecimal.
 fn put_payload<W: Sink>(writer: &mut W, word: &[u8], map: &WireMap) -> Result<(), TextFault>
     requires { IsWellFormed map.now }
-    ensures ok { OnOk result (Appends (W.contents writer.old) (W.contents writer.new)
-        (word.now ++ encode_lower (spelling map.now))) }
-    ensures err { IfErr result (λ e. e ≡ TextFault.Output) }
-    ensures failed { FailsBy TextFault.Output result (W.has_failed writer.old) (W.has_failed writer.new) }
+    ensures { Writes W.contents W.has_failed writer.old writer.new
+        (word.now ++ encode_lower (spelling map.now)) result }
 {
     let mut payload = [0u8; MAX_BYTES];
     let len = encode(map, &mut payload);
@@ -162,9 +148,7 @@ fn put_payload<W: Sink>(writer: &mut W, word: &[u8], map: &WireMap) -> Result<()
 
 fn put_reply<W: Sink>(writer: &mut W, reply: &Reply) -> Result<(), TextFault>
     requires { IsEncodable reply.now }
-    ensures ok { OnOk result (Appends (W.contents writer.old) (W.contents writer.new) (reply_text reply.now)) }
-    ensures err { IfErr result (λ e. e ≡ TextFault.Output) }
-    ensures failed { FailsBy TextFault.Output result (W.has_failed writer.old) (W.has_failed writer.new) }
+    ensures { Writes W.contents W.has_failed writer.old writer.new (reply_text reply.now) result }
 {
     match reply {
         Reply::Admitted(None) => put(writer, b"admitted"),
@@ -189,9 +173,7 @@ pub(crate) fn put_answer<W: Sink>(
     answer: &Result<Reply, Unrecorded>,
 ) -> Result<(), TextFault>
     requires { HasLine answer.now }
-    ensures ok { OnOk result (Appends (W.contents writer.old) (W.contents writer.new) (answer_text answer.now)) }
-    ensures err { IfErr result (λ e. e ≡ TextFault.Output) }
-    ensures failed { FailsBy TextFault.Output result (W.has_failed writer.old) (W.has_failed writer.new) }
+    ensures { Writes W.contents W.has_failed writer.old writer.new (answer_text answer.now) result }
 {
     match answer {
         Ok(reply) => put_reply(writer, reply),
@@ -207,9 +189,7 @@ pub fn put_line<W: Sink>(
     answer: &Result<Reply, Unrecorded>,
 ) -> Result<(), TextFault>
     requires { HasLine answer.now }
-    ensures ok { OnOk result (Appends (W.contents writer.old) (W.contents writer.new) (line_of answer.now)) }
-    ensures err { IfErr result (λ e. e ≡ TextFault.Output) }
-    ensures failed { FailsBy TextFault.Output result (W.has_failed writer.old) (W.has_failed writer.new) }
+    ensures { Writes W.contents W.has_failed writer.old writer.new (line_of answer.now) result }
 {
     put_answer(writer, answer)?;
     put(writer, b"\n")

@@ -1,8 +1,7 @@
 //! The lines of a run on their way to a writer.
 
-ghost use Rattle.std.specs.Prelude.{◌≡◌, [], OnOk, IfErr};
-ghost use Rattle.std.specs.Io.KnownBytes.{Appends, append_known};
-ghost use Rattle.text_stream.specs.Watched.{FailsBy};
+ghost use Rattle.std.specs.Prelude.{◌≡◌, [], OnOk};
+ghost use Rattle.text_stream.specs.Writing.{Puts, Writes};
 ghost use Rattle.sched_lines.specs.Line.{line_of, HasLine};
 
 mod explained;
@@ -51,10 +50,8 @@ impl LineBuffer {
         answer: &Result<Reply, Unrecorded>,
     ) -> Result<(), TextFault>
         requires { HasLine answer.now }
-        ensures ok { OnOk result (Appends (append_known (W.contents writer.old) self.old)
-            (append_known (W.contents writer.new) self.new) (line_of answer.now)) }
-        ensures err { IfErr result (λ e. e ≡ TextFault.Output) }
-        ensures failed { FailsBy TextFault.Output result (W.has_failed writer.old) (W.has_failed writer.new) }
+        ensures { Puts W.contents W.has_failed writer.old writer.new self.old self.new
+            (line_of answer.now) result }
     {
         self.line.clear();
         if line::put_line(&mut self.line, answer).is_ok() {
@@ -66,10 +63,8 @@ impl LineBuffer {
 
     /// Writes the lines that wait.
     pub fn write_out<W: Sink>(&mut self, writer: &mut W) -> Result<(), TextFault>
-        ensures ok { OnOk result (Appends (W.contents writer.old) (W.contents writer.new) self.old) }
+        ensures written { Writes W.contents W.has_failed writer.old writer.new self.old result }
         ensures empty { OnOk result (self.new ≡ []) }
-        ensures err { IfErr result (λ e. e ≡ TextFault.Output) }
-        ensures failed { FailsBy TextFault.Output result (W.has_failed writer.old) (W.has_failed writer.new) }
     {
         self.waiting.write_out(writer)
     }

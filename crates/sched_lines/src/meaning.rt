@@ -1,11 +1,10 @@
 //! What a refusal means, in words behind its line.
 
-ghost use Rattle.std.specs.Prelude.{◌≡◌, OnOk, IfErr};
-ghost use Rattle.std.specs.Io.KnownBytes.{Appends};
+ghost use Rattle.std.specs.Prelude.{◌≡◌};
 ghost use Rattle.sched_lines.specs.Line.{HasLine};
 ghost use Rattle.sched_lines.specs.Meaning.{fault_words, words_before, number_told, words_behind, digits_of};
 ghost use Rattle.sched_lines.specs.Meaning.{meaning_of, refusal_in, remark_of, explained_line};
-ghost use Rattle.text_stream.specs.Watched.{FailsBy};
+ghost use Rattle.text_stream.specs.Writing.{Writes};
 
 use crate::line::put_answer;
 use flow_book::{FlowFault, MAX_FLOWS};
@@ -89,9 +88,7 @@ fn words_behind(refusal: Refusal) -> &'static [u8]
 
 // A number in decimal, where there is one.
 fn put_digits<W: Sink>(writer: &mut W, number: Option<u64>) -> Result<(), TextFault>
-    ensures ok { OnOk result (Appends (W.contents writer.old) (W.contents writer.new) (digits_of number)) }
-    ensures err { IfErr result (λ e. e ≡ TextFault.Output) }
-    ensures failed { FailsBy TextFault.Output result (W.has_failed writer.old) (W.has_failed writer.new) }
+    ensures { Writes W.contents W.has_failed writer.old writer.new (digits_of number) result }
 {
     match number {
         None => put(writer, b""),
@@ -102,9 +99,7 @@ fn put_digits<W: Sink>(writer: &mut W, number: Option<u64>) -> Result<(), TextFa
 // What a refusal means.
 #[tactic(auto, unfolding(crate::specs::Meaning::meaning_of))]
 fn put_meaning<W: Sink>(writer: &mut W, refusal: Refusal) -> Result<(), TextFault>
-    ensures ok { OnOk result (Appends (W.contents writer.old) (W.contents writer.new) (meaning_of refusal)) }
-    ensures err { IfErr result (λ e. e ≡ TextFault.Output) }
-    ensures failed { FailsBy TextFault.Output result (W.has_failed writer.old) (W.has_failed writer.new) }
+    ensures { Writes W.contents W.has_failed writer.old writer.new (meaning_of refusal) result }
 {
     put(writer, words_before(refusal))?;
     put_digits(writer, number_told(refusal))?;
@@ -123,9 +118,7 @@ fn refusal_in(answer: &Result<Reply, Unrecorded>) -> Option<Refusal>
 
 // What stands behind the text of an answer: what a refusal means.
 fn put_remark<W: Sink>(writer: &mut W, refusal: Option<Refusal>) -> Result<(), TextFault>
-    ensures ok { OnOk result (Appends (W.contents writer.old) (W.contents writer.new) (remark_of refusal)) }
-    ensures err { IfErr result (λ e. e ≡ TextFault.Output) }
-    ensures failed { FailsBy TextFault.Output result (W.has_failed writer.old) (W.has_failed writer.new) }
+    ensures { Writes W.contents W.has_failed writer.old writer.new (remark_of refusal) result }
 {
     match refusal {
         None => put(writer, b""),
@@ -144,9 +137,8 @@ pub fn put_explained<W: Sink>(
     answer: &Result<Reply, Unrecorded>,
 ) -> Result<(), TextFault>
     requires { HasLine answer.now }
-    ensures ok { OnOk result (Appends (W.contents writer.old) (W.contents writer.new) (explained_line answer.now)) }
-    ensures err { IfErr result (λ e. e ≡ TextFault.Output) }
-    ensures failed { FailsBy TextFault.Output result (W.has_failed writer.old) (W.has_failed writer.new) }
+    ensures { Writes W.contents W.has_failed writer.old writer.new
+        (explained_line answer.now) result }
 {
     put_answer(writer, answer)?;
     put_remark(writer, refusal_in(answer))?;

@@ -1,8 +1,6 @@
 //! The line of a number under a name.
 
-ghost use Rattle.std.specs.Prelude.{◌≡◌, OnOk, IfErr};
-ghost use Rattle.std.specs.Io.KnownBytes.{Appends};
-ghost use Rattle.text_stream.specs.Watched.{FailsBy};
+ghost use Rattle.text_stream.specs.Writing.{Writes};
 ghost use Rattle.sched_lines.specs.Line.{number_line};
 
 use crate::line::put_number;
@@ -11,9 +9,8 @@ use text_stream::{Sink, TextFault, put};
 /// The line of a number under this name.
 #[tactic(auto, unfolding(crate::specs::Line::number_line))]
 pub fn put_named<W: Sink>(writer: &mut W, name: &[u8], number: u64) -> Result<(), TextFault>
-    ensures ok { OnOk result (Appends (W.contents writer.old) (W.contents writer.new) (number_line name.now number)) }
-    ensures err { IfErr result (λ e. e ≡ TextFault.Output) }
-    ensures failed { FailsBy TextFault.Output result (W.has_failed writer.old) (W.has_failed writer.new) }
+    ensures { Writes W.contents W.has_failed writer.old writer.new
+        (number_line name.now number) result }
 {
     put(writer, name)?;
     put_number(writer, number)?;

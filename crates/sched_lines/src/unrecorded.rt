@@ -9,7 +9,7 @@ pub fn count_unrecorded(scheduler: &Scheduler, calls: &[Call]) -> usize
     requires { length scheduler.now.history ≤ length calls.now }
     ensures { result + length scheduler.now.history ≡ length calls.now }
 {
-    calls.len() - scheduler.history().len()
+    calls.len() - scheduler.recorded() as usize
 }
 
 /// Tells on standard error how many calls were not recorded, where there are any.

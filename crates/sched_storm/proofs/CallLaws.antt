@@ -13,9 +13,10 @@ use Rattle.sched_history.specs.declared.reply.Unrecorded.TheVariants.{HistoryFul
 use Rattle.ticket_lock.specs.declared.board.Logged.{Logged}
 use Rattle.ticket_lock.specs.Rule.{entry_of, IsOfOthers}
 use Rattle.ticket_lock.specs.Standing.{Standing, opening_of, seen, stamp_of}
-use Rattle.shared_sched.specs.Desk.{FixedDesk, maker_of}
-use Rattle.shared_sched.specs.Calls.{added_by, AnswersHeld, AnswersCall}
-use Rattle.shared_sched.specs.Closed.{entries_of}
+use Rattle.sched_desk.specs.Desk.{FixedDesk, maker_of}
+use Rattle.sched_desk.specs.Calls.{added_by, AnswersHeld}
+use Rattle.shared_sched.specs.Calls.{AnswersCall}
+use Rattle.sched_desk.specs.Closed.{entries_of}
 use Rattle.sched_storm.specs.Made.{MadeCall, list_left, MayBeLeftOut, GrowsByOthers, IsMadeAfter}
 use Rattle.sched_storm.specs.Work.{MakesOne}
 use Rattle.sched_storm.proofs.MadeLaws.{entries_of-append, GrowsByOthers-same}

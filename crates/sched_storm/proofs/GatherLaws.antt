@@ -9,7 +9,7 @@ use Rattle.minislots.specs.declared.config.Config.{Config}
 use Rattle.sched_history.specs.declared.call.Call.{Call}
 use Rattle.sched_history.specs.declared.reply.Entry.{Entry}
 use Rattle.ticket_lock.specs.Standing.{Standing}
-use Rattle.shared_sched.specs.Desk.{FixedDesk}
+use Rattle.sched_desk.specs.Desk.{FixedDesk}
 use Rattle.sched_storm.specs.declared.gather.Gathered.{Gathered}
 use Rattle.sched_storm.specs.declared.jobs.Job.{Job}
 use Rattle.sched_storm.specs.declared.jobs.Job.TheVariants.{Started, Refused}

@@ -9,7 +9,7 @@ use Rattle.ticket_lock.specs.Rule.{Every}
 use Rattle.ticket_lock.specs.Standing.{Lock, Standing}
 use Rattle.ticket_lock.proofs.Logs.{Every-front}
 use Rattle.ticket_lock.proofs.Gathered.{Every-back}
-use Rattle.shared_sched.specs.Desk.{FixedDesk}
+use Rattle.sched_desk.specs.Desk.{FixedDesk}
 use Rattle.sched_storm.specs.Jobs.{EachOf, calls_each}
 
 -- a list without members

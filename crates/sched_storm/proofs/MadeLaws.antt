@@ -10,7 +10,7 @@ use mathlib.Core.List.{IsPrefix}
 use Rattle.minislots.specs.declared.config.Config.{Config}
 use Rattle.sched_history.specs.declared.call.Call.{Call}
 use Rattle.sched_history.specs.declared.reply.Entry.{Entry}
-use Rattle.shared_sched.specs.Closed.{entries_of}
+use Rattle.sched_desk.specs.Closed.{entries_of}
 use Rattle.sched_storm.specs.Made.{MadeCall, is_recorded, list_left, calls_made, calls_recorded, calls_in}
 use Rattle.sched_storm.specs.Made.{left_out_count, GrowsByOthers, IsMadeAfter, Leads}
 

@@ -4,8 +4,8 @@ use Rattle.sched_history.specs.declared.reply.Entry.{Entry}
 use Rattle.flow_book.proofs.Removal.{map-filter}
 use Rattle.ticket_lock.specs.Rule.{entry_of, Every}
 use Rattle.ticket_lock.specs.Standing.{Lock, Standing, opening_of, seen, own}
-use Rattle.shared_sched.specs.Desk.{FixedDesk, maker_of}
-use Rattle.shared_sched.specs.Closed.{entries_of}
+use Rattle.sched_desk.specs.Desk.{FixedDesk, maker_of}
+use Rattle.sched_desk.specs.Closed.{entries_of}
 
 -- a fact of what is made of each member is one of the members
 pub Every-map : {X Y : Type 0} (P : Y → Type 0) (f : X → Y) (xs : List X) → Every P (map f xs)

@@ -12,8 +12,8 @@ use Rattle.ticket_lock.specs.Rule.{Every}
 use Rattle.ticket_lock.specs.Standing.{Lock, Standing, opening_in, seats_in, seats_of}
 use Rattle.ticket_lock.specs.Calls.{Opens, new_standing}
 use Rattle.ticket_lock.proofs.Dealt.{new_standings-own, length-new_standings}
-use Rattle.shared_sched.specs.Desk.{FixedDesk, fixed_of, history_of, empty_desk}
-use Rattle.shared_sched.specs.Closed.{ClosesTo}
+use Rattle.sched_desk.specs.Desk.{FixedDesk, fixed_of, history_of, empty_desk}
+use Rattle.sched_desk.specs.Closed.{ClosesTo}
 use Rattle.sched_storm.specs.declared.gather.Gathered.{Gathered}
 use Rattle.sched_storm.specs.declared.tally.StormFault.{StormFault}
 use Rattle.sched_storm.specs.declared.tally.Tally.{Tally}

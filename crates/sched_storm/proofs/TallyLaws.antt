@@ -13,8 +13,8 @@ use Rattle.sched_history.specs.declared.reply.Entry.{Entry}
 use Rattle.ticket_lock.specs.Rule.{Every}
 use Rattle.ticket_lock.specs.Standing.{Lock, Standing, opening_of, seen, own}
 use Rattle.ticket_lock.specs.Calls.{new_standing}
-use Rattle.shared_sched.specs.Desk.{FixedDesk, maker_of}
-use Rattle.shared_sched.specs.Closed.{entries_of}
+use Rattle.sched_desk.specs.Desk.{FixedDesk, maker_of}
+use Rattle.sched_desk.specs.Closed.{entries_of}
 use Rattle.sched_storm.specs.declared.worker.Ended.{Ended}
 use Rattle.sched_storm.specs.declared.worker.Ended.TheVariants.{Done, Held, Stopped}
 use Rattle.sched_storm.specs.declared.worker.Worked.{Worked}

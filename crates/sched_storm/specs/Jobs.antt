@@ -9,7 +9,7 @@ use Rattle.sched_history.specs.declared.call.TheConstants.{MAX_SCRIPTS}
 use Rattle.sched_history.specs.declared.reply.Entry.{Entry}
 use Rattle.ticket_lock.specs.Rule.{Every}
 use Rattle.ticket_lock.specs.Standing.{Lock, Standing}
-use Rattle.shared_sched.specs.Desk.{FixedDesk}
+use Rattle.sched_desk.specs.Desk.{FixedDesk}
 use Rattle.sched_storm.specs.declared.worker.Ended.{Ended}
 use Rattle.sched_storm.specs.declared.worker.Ended.TheVariants.{Done, Held, Stopped}
 use Rattle.sched_storm.specs.declared.worker.Worked.{Worked}

@@ -8,7 +8,7 @@ use Rattle.minislots.specs.declared.config.Config.{Config}
 use Rattle.sched_history.specs.declared.call.Call.{Call}
 use Rattle.sched_history.specs.declared.reply.Entry.{Entry}
 use Rattle.sched_history.specs.Machine.{MayLackMemory}
-use Rattle.shared_sched.specs.Closed.{entries_of}
+use Rattle.sched_desk.specs.Closed.{entries_of}
 
 -- a call that a worker made: the list entered with it, and the entry that it added to that list, if any
 pub record MadeCall : Type 0 where

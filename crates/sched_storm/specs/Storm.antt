@@ -10,8 +10,8 @@ use Rattle.sched_history.specs.Facts.{maps_of}
 use Rattle.sched_history.specs.History.{IsLegal}
 use Rattle.ticket_lock.specs.Rule.{Every}
 use Rattle.ticket_lock.specs.Standing.{Lock, Standing, seats_of}
-use Rattle.shared_sched.specs.Desk.{FixedDesk}
-use Rattle.shared_sched.specs.Closed.{entries_of, ClosesTo}
+use Rattle.sched_desk.specs.Desk.{FixedDesk}
+use Rattle.sched_desk.specs.Closed.{entries_of, ClosesTo}
 use Rattle.sched_storm.specs.declared.gather.Gathered.{Gathered}
 use Rattle.sched_storm.specs.declared.tally.Tally.{Tally}
 use Rattle.sched_storm.specs.Made.{MadeCall, calls_made, calls_recorded, calls_in, left_out_count, Leads}

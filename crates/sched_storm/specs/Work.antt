@@ -5,7 +5,7 @@ use Rattle.minislots.specs.declared.config.Config.{Config}
 use Rattle.sched_history.specs.declared.call.Call.{Call}
 use Rattle.sched_history.specs.declared.reply.Entry.{Entry}
 use Rattle.ticket_lock.specs.Standing.{Standing, seen}
-use Rattle.shared_sched.specs.Desk.{FixedDesk}
+use Rattle.sched_desk.specs.Desk.{FixedDesk}
 use Rattle.sched_storm.specs.declared.worker.Ended.{Ended}
 use Rattle.sched_storm.specs.declared.worker.Ended.TheVariants.{Done, Held, Stopped}
 use Rattle.sched_storm.specs.Made.{MadeCall, is_recorded, calls_made, left_out_count, Leads}

@@ -8,9 +8,10 @@ use Rattle.sched_history.specs.declared.reply.Unrecorded.{Unrecorded}
 use Rattle.ticket_lock.specs.Rule.{entry_of, IsOfOthers}
 use Rattle.ticket_lock.specs.Standing.{Standing, own}
 use Rattle.ticket_lock.specs.Calls.{Draws, Enters}
-use Rattle.shared_sched.specs.Desk.{DeskState, FixedDesk, fixed_of, history_of, maker_of}
-use Rattle.shared_sched.specs.Calls.{added_by, AnswersHeld, AnswersCall}
-use Rattle.shared_sched.proofs.Own.{own-others}
+use Rattle.sched_desk.specs.Desk.{DeskState, FixedDesk, fixed_of, history_of, maker_of}
+use Rattle.sched_desk.specs.Calls.{added_by, AnswersHeld}
+use Rattle.sched_desk.proofs.Own.{own-others}
+use Rattle.shared_sched.specs.Calls.{AnswersCall}
 
 -- a seat that drew, entered and was answered as a holder was answered
 pub calls : (c : Config) (s t h w : Standing FixedDesk Entry) (x : DeskState) (call : Call)

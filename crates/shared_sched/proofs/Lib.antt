@@ -1,10 +1,1 @@
-pub mod Published
-pub mod Plain
-pub mod Recorded
-pub mod Own
-pub mod Held
 pub mod Called
-pub mod Counts
-pub mod Maps
-pub mod AtClose
-pub mod Whole

@@ -2,14 +2,12 @@
 ghost use Rattle.std.specs.Prelude.{◌≡◌, [], length};
 ghost use Rattle.ticket_lock.specs.Rule.{Every};
 ghost use Rattle.ticket_lock.specs.Standing.{seats_of};
-ghost use Rattle.shared_sched.specs.Closed.{ClosesTo};
-ghost use Rattle.shared_sched.specs.Desk.{published};
+ghost use Rattle.sched_desk.specs.Closed.{ClosesTo};
+ghost use Rattle.sched_desk.specs.Desk.{published};
 
-use crate::counting::count_each;
-use crate::desk::Desk;
-use crate::recorder::Recorder;
-use crate::shared::Shared;
+use crate::shared::{Desk, Shared};
 use map_snapshot::Press;
+use sched_desk::close;
 use sched_history::Entry;
 use ticket_core::MAX_SEATS;
 use ticket_lock::Seat;
@@ -38,20 +36,16 @@ impl Shared {
     {
         let Shared {
             lock,
-            config: _,
+            config,
             told: _,
         } = self;
-        let Recorder {
-            scheduler,
-            press,
-            maps: _,
-        } = lock.close(seats).into_recorder();
+        let (recorder, counts) = close(config, lock, seats);
+        let (scheduler, press) = Box::into_inner(recorder).into_parts();
         let history = scheduler.into_history();
-        let counts = count_each(&history);
         Closed {
             history,
             counts,
-            press: press.into_press(),
+            press,
         }
     }
 }

@@ -2,22 +2,13 @@
 //! with no lock.
 #![tactic(auto)]
 
-mod building;
-mod calling;
 mod closing;
-mod counting;
-mod desk;
 mod fault;
-mod kept;
-mod laws;
 mod opening;
-mod recorder;
 mod shared;
 
 pub use closing::Closed;
-pub use counting::count_each;
-pub use desk::{Desk, DeskHead};
 pub use fault::OpenFault;
-pub use laws::one_holder;
 pub use opening::open;
-pub use shared::Shared;
+pub use sched_desk::{DeskHead, count_each, one_holder};
+pub use shared::{Desk, Shared};

@@ -4,14 +4,13 @@ ghost use Rattle.map_snapshot.specs.declared.opening.TheConstants.{MAX_READERS};
 ghost use Rattle.map_snapshot.specs.Maps.{unread};
 ghost use Rattle.ticket_core.specs.declared.TheConstants.{MAX_SEATS};
 ghost use Rattle.ticket_lock.specs.Calls.{Opens};
-ghost use Rattle.shared_sched.specs.Desk.{fixed_of, history_of, empty_desk};
+ghost use Rattle.sched_desk.specs.Desk.{fixed_of, history_of, empty_desk};
 
-use crate::desk::Desk;
 use crate::fault::OpenFault;
-use crate::recorder::Recorder;
-use crate::shared::Shared;
+use crate::shared::{Desk, Shared};
 use map_snapshot::{MAX_READERS, Press, Reader, Whole, open_press};
 use minislots::Checked;
+use sched_desk::Recorder;
 use sched_history::Scheduler;
 use std::alloc::Global;
 use std::sync::Wait;
@@ -31,7 +30,7 @@ fn lay(
     let desk = Desk::new(alloc, recorder)?;
     match TicketLock::open(alloc, desk, seats, 0) {
         Ok(opened) => Ok(opened),
-        Err((_, desk)) => Err(desk.into_recorder()),
+        Err((_, desk)) => Err(Box::into_inner(desk.into_recorder())),
     }
 }
 
@@ -45,7 +44,7 @@ fn share<R: Wait>(
     press: Press,
     seats: usize,
 ) -> Result<(Shared, Vec<Seat<Desk>>), Whole>
-    requires new { scheduler ≡ record { config = checked; history = [] } }
+    requires new { scheduler ≡ record { config = checked; history = []; handed = 0 } }
     requires unread { (press.list ≡ []) × (press.waiting ≡ []) }
     requires count { (1 ≤ seats) × (seats ≤ MAX_SEATS) }
     ensures config { IfOk result (λ r. r.0.config ≡ checked) }

@@ -1,15 +1,19 @@
 //! The scheduler that threads share, and its calls.
 ghost use Rattle.std.specs.Prelude.{◌≡◌};
-ghost use Rattle.shared_sched.specs.Desk.{IsDeskLock, HasPress};
-ghost use Rattle.shared_sched.specs.Calls.{IsEntered, AnswersHeld, AnswersCall};
+ghost use Rattle.sched_desk.specs.Desk.{IsDeskLock, HasPress};
+ghost use Rattle.sched_desk.specs.Calls.{IsEntered, AnswersHeld};
+ghost use Rattle.shared_sched.specs.Calls.{AnswersCall};
 
-use crate::desk::Desk;
 use map_snapshot::Told;
 use minislots::Checked;
+use sched_desk::Recorder;
 use sched_history::{Call, Reply, Unrecorded};
 use std::marker::Model;
 use std::sync::Wait;
 use ticket_lock::{Held, Seat, TicketLock};
+
+/// The desk of a scheduler with its press: what is published is the encodings of the history's MAPs, in their order.
+pub type Desk = sched_desk::Desk<Recorder>;
 
 /// A scheduler under a ticket lock. Threads share it by a reference, each with a seat of its own. It
 /// has no `Drop`, so it has to be closed.
@@ -23,7 +27,7 @@ pub struct Shared {
 
 // Clauses see the configuration, which press it has, and the lock round the desk.
 impl Model for Shared {
-    ghost use Rattle.shared_sched.specs.Desk.{SharedDesk, IsDeskLock, HasPress};
+    ghost use Rattle.sched_desk.specs.Desk.{SharedDesk, IsDeskLock, HasPress};
 
     ghost Value = { SharedDesk };
 
@@ -73,9 +77,9 @@ impl Shared {
         requires entered { IsEntered held desk }
         ensures answered { AnswersHeld self.now.config held call result.0 result.1 }
     {
-        let mut desk = desk;
-        let answer = desk.call(rt, held.stamp(), call);
-        let seat = self.lock.leave(held, desk);
+        let mut recorder = desk.into_recorder();
+        let answer = recorder.call(rt, held.stamp(), call);
+        let seat = self.lock.leave(held, Desk::of(recorder));
         (seat, answer)
     }
 }

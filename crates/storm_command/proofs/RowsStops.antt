@@ -2,17 +2,17 @@
 use Rattle.std.proofs.Common.{◌≡◌, ℕ, List, Option, Some, Ok, Err}
 use Rattle.minislots.specs.declared.config.ConfigFault.{ConfigFault}
 use Rattle.text_stream.specs.declared.fault.TextFault.{TextFault}
-use Rattle.text_stream.specs.declared.fault.TextFault.TheVariants as texts
-use Rattle.text_stream.specs.declared.run_fault.RunFault.TheVariants.{TooLong, NotJson, Shape, Config, Output, Threads}
 use Rattle.text_stream.proofs.Told.{not-told}
 use Rattle.script_reading.specs.StormScript.{Storm, storm_outcome}
 use Rattle.script_reading.proofs.Told.{storm-has, storm-told}
 use Rattle.storm_command.specs.StormRun.{StopsStorm}
+use Rattle.text_stream.specs.declared.fault.TextFault.TheVariants.{TooLong, NotJson, Shape, Config, Output}
+use Rattle.text_stream.specs.declared.run_fault.RunFault.TheVariants.{Text, Threads}
 
 module _ (text : List ℕ) (left : Option (List ℕ)) where
   -- neither an output nor a thread fails before a whole script of a storm was read
   pub no_output_before_a_storm : (fault : TextFault) → storm_outcome text ≡ Err fault
-      → StopsStorm (Some text) left Output → ⊥
+      → StopsStorm (Some text) left (Text Output) → ⊥
   no_output_before_a_storm fault is (storm, gives) =
       let whole = storm-has text left (Ok storm) gives in absurd cc
 
@@ -23,11 +23,11 @@ module _ (text : List ℕ) (left : Option (List ℕ)) where
 
   -- a whole script of a storm is not too long, is JSON, and has no broken call and no wrong field
   pub no_fault_of_a_storm : (storm : Storm) (n : ℕ) (field : ConfigFault) → storm_outcome text ≡ Ok storm
-      → (StopsStorm (Some text) left TooLong → ⊥) × (StopsStorm (Some text) left NotJson → ⊥)
-      × (StopsStorm (Some text) left (Shape n) → ⊥) × (StopsStorm (Some text) left (Config field) → ⊥)
+      → (StopsStorm (Some text) left (Text TooLong) → ⊥) × (StopsStorm (Some text) left (Text NotJson) → ⊥)
+      × (StopsStorm (Some text) left (Text (Shape n)) → ⊥) × (StopsStorm (Some text) left (Text (Config field)) → ⊥)
   no_fault_of_a_storm storm n field whole = (
-    λ stops. not-told texts.TooLong _ storm tt whole (storm-told text left texts.TooLong stops),
-    λ stops. not-told texts.NotJson _ storm tt whole (storm-told text left texts.NotJson stops),
-    λ stops. not-told (texts.Shape n) _ storm tt whole (storm-told text left (texts.Shape n) stops),
-    λ stops. not-told (texts.Config field) _ storm tt whole (storm-told text left (texts.Config field) stops),
+    λ stops. not-told TooLong _ storm tt whole (storm-told text left TooLong stops),
+    λ stops. not-told NotJson _ storm tt whole (storm-told text left NotJson stops),
+    λ stops. not-told (Shape n) _ storm tt whole (storm-told text left (Shape n) stops),
+    λ stops. not-told (Config field) _ storm tt whole (storm-told text left (Config field) stops),
   )

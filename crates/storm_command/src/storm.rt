@@ -1,7 +1,7 @@
 //! A storm from its script to the lines of its tally.
 
-ghost use Rattle.std.specs.Prelude.{◌≡◌, ◌≢◌, ◌↔◌, true, None, IfOk, IfErr};
-ghost use Rattle.text_stream.specs.Watched.{FailsBy};
+ghost use Rattle.std.specs.Prelude.{◌≡◌, ◌↔◌, true, None, IfOk, IfErr};
+ghost use Rattle.text_stream.specs.RunFault.{TellsFailedRead, TellsFailedWrite, WritesLast};
 ghost use Rattle.storm_command.specs.StormRun.{Stormed, StopsStorm};
 
 mod line;
@@ -11,7 +11,7 @@ use sched_storm::{Gate, Starts, StormFault, Tally, storm_with};
 use script_reading::read_storm;
 use std::alloc::Global;
 use std::sync::Wait;
-use text_stream::{RunFault, Sink, Source};
+use text_stream::{RunFault, Sink, Source, TextFault};
 
 // Whether no worker was held and the history is legal.
 fn went_well(tally: &Tally) -> bool
@@ -38,19 +38,19 @@ pub fn run_storm<R: Starts + Wait + Sync, I: Source, W: Sink, G: Gate>(
 
     // Each fault comes under its own condition, the first one in their order.
     ensures stops { IfErr result (StopsStorm (I.remaining reader.old) (I.remaining reader.new)) }
-    ensures quiet { IfErr result (λ e. e ≢ RunFault.Output → writer.new ≡ writer.old) }
+    ensures quiet { WritesLast result writer.old writer.new }
     ensures no_thread { IfErr result (λ e. e ≡ RunFault.Threads → R.lacks_thread) }
 
     // A failed read or write is told where one has failed, and where all went well none did.
-    ensures failed_read { FailsBy RunFault.Input result (I.has_failed reader.old) (I.has_failed reader.new) }
-    ensures failed_write { FailsBy RunFault.Output result (W.has_failed writer.old) (W.has_failed writer.new) }
+    ensures failed_read { TellsFailedRead result (I.has_failed reader.old) (I.has_failed reader.new) }
+    ensures failed_write { TellsFailedWrite result (W.has_failed writer.old) (W.has_failed writer.new) }
 {
     let (config, scripts) = read_storm(alloc, reader)?;
     let workers = scripts.len();
     let tally = match storm_with(rt, alloc, config, scripts, gate) {
         Ok(tally) => tally,
         Err(StormFault::Threads) => return Err(RunFault::Threads),
-        Err(StormFault::Memory) => return Err(RunFault::Memory),
+        Err(StormFault::Memory) => return Err(RunFault::Text(TextFault::Memory)),
         // The number of scripts was tested as they were read.
         Err(StormFault::ScriptCount) => unreachable!(),
     };

@@ -1,12 +1,10 @@
-//! The tests of all crates: what no clause says, and the program cannot show.
+//! The tests of all crates: what no clause says, and neither the program nor the library for C can show.
 #![tactic(auto)]
 
 #[cfg(test)]
 mod base;
 #[cfg(test)]
 mod flow_book_rows;
-#[cfg(test)]
-mod map_snapshot_rows;
 #[cfg(test)]
 mod periodic_rows;
 #[cfg(test)]
@@ -17,10 +15,6 @@ mod refused_rows;
 mod sched_storm_rows;
 #[cfg(test)]
 mod shared_sched_rows;
-#[cfg(test)]
-mod storm_command_rows;
-#[cfg(test)]
-mod ticket_core_rows;
 #[cfg(test)]
 mod ticket_lock_rows;
 #[cfg(test)]

@@ -1,24 +1,22 @@
-//! A scheduler that two seats share.
+//! A scheduler that two seats share, and a reader of its MAPs.
 
-ghost use Rattle.std.specs.Prelude.{◌≡◌, replicate, IfOk};
+ghost use Rattle.std.specs.Prelude.{◌≡◌, replicate};
 ghost use Rattle.map_snapshot.specs.Maps.{unread};
-ghost use Rattle.sched_history.specs.Machine.{IsEncodable};
 ghost use Rattle.ticket_lock.specs.Standing.{seats_of};
 ghost use Rattle.ticket_lock.specs.Calls.{new_standing};
-ghost use Rattle.shared_sched.specs.Calls.{IsEntered};
 
-use crate::base::{BASE, checked, is_shown};
-use map_snapshot::Reader;
+use crate::base::{BASE, checked};
+use map_build::FrameMap;
+use map_codec::decode;
+use map_snapshot::{Printed, Reader};
 use minislots::{Config, Stamp};
-use sched_history::{Call, Reply, Unrecorded};
-use sched_lines::put_line;
-use shared_sched::{Closed, Desk, OpenFault, Shared, open};
+use sched_history::{Call, Entry, Refusal, Reply, Unrecorded};
+use shared_sched::{Closed, Desk, Shared, open};
 use std::alloc::{AllocGlobal, Global};
 use std::process::Abort;
 use std::sync::Wait;
-use ticket_lock::{Held, Seat, Ticket, TicketLock};
+use ticket_lock::Seat;
 
-mod reading;
 mod threads;
 
 // A scheduler with two seats and so many readers, which records so many calls.
@@ -62,23 +60,13 @@ fn watched<R: Wait + Abort + AllocGlobal>(
     (shared, zero, one, reader)
 }
 
-// A scheduler with two seats, which records so many calls.
-fn pair<R: Wait + Abort + AllocGlobal>(rt: &R, calls: u32) -> (Shared, Seat<Desk>, Seat<Desk>)
-    ensures zero { result.1 ≡ new_standing result.0.lock 0 }
-    ensures one { result.2 ≡ new_standing result.0.lock 1 }
-    ensures count { seats_of result.0.lock ≡ 2 }
-{
-    let (shared, zero, one, _readers) = opened(rt, calls, 0);
-    (shared, zero, one)
-}
-
-// Closes a scheduler with two seats.
-fn close_pair<R: Abort + AllocGlobal>(
+// Closes a scheduler with two seats, and ends its press: the history, and how many calls each seat has recorded.
+fn close_pair<R: Wait + Abort + AllocGlobal>(
     rt: &R,
     shared: Shared,
     zero: Seat<Desk>,
     one: Seat<Desk>,
-) -> Closed
+) -> (Vec<Entry>, [u64; 2])
     requires zero { zero.lock ≡ shared.lock }
     requires one { one.lock ≡ shared.lock }
     requires count { seats_of shared.lock ≡ 2 }
@@ -88,114 +76,156 @@ fn close_pair<R: Abort + AllocGlobal>(
     };
     seats.push_reserved(zero);
     seats.push_reserved(one);
-    shared.close(seats)
-}
-
-// The ticket is not served yet.
-fn turned_away(rt: &impl Abort, lock: &TicketLock<Desk>, ticket: Ticket<Desk>) -> Ticket<Desk>
-    requires own { ticket.lock ≡ lock.now }
-    ensures own { result.lock ≡ lock.now }
-{
-    match lock.try_enter(ticket) {
-        Ok(_entered) => panic!(rt; "the ticket is not served"),
-        Err(back) => back,
-    }
-}
-
-// The ticket is served.
-fn let_in(rt: &impl Abort, lock: &TicketLock<Desk>, ticket: Ticket<Desk>) -> (Held<Desk>, Desk)
-    requires own { ticket.lock ≡ lock.now }
-    ensures own { result.0.lock ≡ lock.now }
-    ensures entered { IsEntered result.0 result.1 }
-{
-    match lock.try_enter(ticket) {
-        Ok(entered) => entered,
-        Err(_back) => panic!(rt; "the ticket is served"),
-    }
-}
-
-// The answer has this line.
-fn has_line<R: Abort + AllocGlobal>(rt: &R, answer: Result<Reply, Unrecorded>, expected: &str)
-    requires { IfOk answer IsEncodable }
-{
-    let mut line = Vec::new(rt.alloc());
-    put_line(&mut line, &answer).expect(rt, "memory");
-    assert!(rt; line.pop() == Some(b'\n'), "{expected}");
-    assert!(rt; line.as_slice() == expected.as_bytes(), "{expected}");
-}
-
-// Each of the two seats has recorded one call.
-fn has_one_each<R: Wait + Abort + AllocGlobal>(rt: &R, closed: Closed) {
     let Closed {
         history,
         counts,
         press,
-    } = closed;
+    } = shared.close(seats);
     press.end(rt);
+    (history, [counts[0], counts[1]])
+}
+
+// Whether what was read is this MAP: the two have the same fields and elements.
+fn is_map(alloc: Global, read: &Printed, map: &FrameMap) -> bool {
+    let Some(bytes) = read.bytes.get(..read.len) else {
+        return false;
+    };
+    let Ok(found) = decode(alloc, bytes) else {
+        return false;
+    };
+    found.alloc_start == map.wire.alloc_start
+        && found.ack == map.wire.ack
+        && found.elements.as_slice() == map.wire.elements.as_slice()
+}
+
+/// The version that a reader reads, or 0.
+pub fn version_read(reader: &mut Reader) -> u64
+    ensures press { reader.new.press ≡ reader.old.press }
+{
+    match reader.newest() {
+        Some(printed) => printed.version,
+        None => 0,
+    }
+}
+
+// What a call is answered, and the version that is read behind it.
+#[derive(Clone, Copy)]
+enum Answer {
+    Map(u64),
+    Refused(Refusal, u64),
+    Full(u64),
+}
+
+// Makes a call by this seat, which is answered so. Behind a build its MAP is read.
+fn answers<R: Wait + Abort + AllocGlobal>(
+    rt: &R,
+    shared: &Shared,
+    seat: Seat<Desk>,
+    reader: &mut Reader,
+    call: Call,
+    expected: Answer,
+) -> Seat<Desk>
+    requires own { seat.lock ≡ shared.now.lock }
+    ensures own { result.lock ≡ shared.now.lock }
+{
+    let (seat, answer) = shared.call(rt, seat, call);
+    let Some(read) = reader.newest() else {
+        panic!(rt; "nothing is read")
+    };
+    let (is_so, version) = match (answer, expected) {
+        (Ok(Reply::Built(map)), Answer::Map(version)) => (is_map(rt.alloc(), &read, &map), version),
+        (Ok(Reply::Refused(found)), Answer::Refused(refusal, version)) => (
+            found == refusal,
+            version,
+        ),
+        (Err(Unrecorded::HistoryFull), Answer::Full(version)) => (true, version),
+        _ => (false, 0),
+    };
+    assert!(rt;
+        is_so && read.version == version,
+        "{call:?}, version {}",
+        read.version
+    );
+    seat
+}
+
+// The calls of each of two seats are recorded, in the order of their tickets.
+fn has_one_each(rt: &impl Abort, closed: (Vec<Entry>, [u64; 2])) {
     let stamps = [Stamp { seat: 0, ticket: 0 }, Stamp { seat: 1, ticket: 1 }];
+    let (history, counts) = closed;
     let made = history.iter().map(|entry| entry.stamp);
-    assert!(rt; made.eq(stamps), "the stamps");
-    is_shown(rt, (counts[0], counts[1], counts[2]), "(1, 1, 0)");
+    assert!(rt; made.eq(stamps) && counts == [1, 1], "the stamps");
 }
 
 #[test]
 fn the_second_ticket_reads_the_build_of_the_first(rt: HostRuntime) {
-    let (shared, zero, one) = pair(&rt, 1000);
+    let (shared, zero, one, mut reader) = watched(&rt, 1000);
     let lock = shared.lock();
     let zero = lock.draw(zero);
     let one = lock.draw(one);
-    is_shown(&rt, (zero.number(), one.number()), "(0, 1)");
-    let one = turned_away(&rt, lock, one);
-    let (held, desk) = let_in(&rt, lock, zero);
+    assert!(rt; zero.number() == 0 && one.number() == 1, "the tickets");
+    let one = match lock.try_enter(one) {
+        Ok(_entered) => panic!(rt; "ticket 1 is not served"),
+        Err(back) => back,
+    };
+    let (held, desk) = match lock.try_enter(zero) {
+        Ok(entered) => entered,
+        Err(_back) => panic!(rt; "ticket 0 is served"),
+    };
     let (zero, answer) = shared.call_held(&rt, held, desk, Call::Build { now: 760 });
-    has_line(
-        &rt,
-        answer,
-        "map 03010300000003200000032000000000fffc4000000180040001c028",
+    assert!(rt;
+        matches!(answer, Ok(Reply::Built(_))),
+        "the build of ticket 0"
     );
-    let (held, desk) = let_in(&rt, lock, one);
+    let (held, mut desk) = match lock.try_enter(one) {
+        Ok(entered) => entered,
+        Err(_back) => panic!(rt; "ticket 1 is served"),
+    };
+    reader.learn(desk.tell());
+    assert!(rt;
+        version_read(&mut reader) == 1,
+        "what was published is told"
+    );
     let (one, answer) = shared.call_held(&rt, held, desk, Call::Build { now: 801 });
-    has_line(&rt, answer, "refused 16 840");
+    let is_late = matches!(answer, Ok(Reply::Refused(Refusal::Late(840))));
+    assert!(rt; is_late, "ticket 1 reads the build of ticket 0");
     has_one_each(&rt, close_pair(&rt, shared, zero, one));
+}
+
+#[test]
+fn a_reader_reads_each_build_and_never_one_before_it(rt: HostRuntime) {
+    let (shared, zero, one, mut reader) = watched(&rt, 4);
+    assert!(rt; reader.newest().is_none(), "nothing is built");
+    let build = Call::Build { now: 760 };
+    let zero = answers(&rt, &shared, zero, &mut reader, build, Answer::Map(1));
+    let build = Call::Build { now: 800 };
+    let one = answers(&rt, &shared, one, &mut reader, build, Answer::Map(2));
+    let build = Call::Build { now: 840 };
+    let zero = answers(&rt, &shared, zero, &mut reader, build, Answer::Map(3));
+    let (build, late) = (Call::Build { now: 881 }, Refusal::Late(920));
+    let one = answers(
+        &rt,
+        &shared,
+        one,
+        &mut reader,
+        build,
+        Answer::Refused(late, 3),
+    );
+    let (history, _counts) = close_pair(&rt, shared, zero, one);
+    assert!(rt;
+        history.len() == 4 && version_read(&mut reader) == 3,
+        "behind the close"
+    );
 }
 
 #[test]
 fn a_full_history_records_no_call_of_any_seat(rt: HostRuntime) {
-    let (shared, zero, one) = pair(&rt, 2);
-    let (zero, answer) = shared.call(&rt, zero, Call::Build { now: 760 });
-    has_line(
-        &rt,
-        answer,
-        "map 03010300000003200000032000000000fffc4000000180040001c028",
-    );
-    let (one, answer) = shared.call(&rt, one, Call::Status(17));
-    has_line(&rt, answer, "refused 7");
-    let (zero, answer) = shared.call(&rt, zero, Call::Build { now: 800 });
-    has_line(&rt, answer, "history full");
+    let (shared, zero, one, mut reader) = watched(&rt, 2);
+    let build = Call::Build { now: 760 };
+    let zero = answers(&rt, &shared, zero, &mut reader, build, Answer::Map(1));
+    let unknown = Answer::Refused(Refusal::NoFlow, 1);
+    let one = answers(&rt, &shared, one, &mut reader, Call::Status(17), unknown);
+    let build = Call::Build { now: 800 };
+    let zero = answers(&rt, &shared, zero, &mut reader, build, Answer::Full(1));
     has_one_each(&rt, close_pair(&rt, shared, zero, one));
-}
-
-// The fault of a scheduler with so many seats and readers.
-fn fault_of<R: Wait + Abort + AllocGlobal>(rt: &R, seats: usize, readers: usize) -> OpenFault {
-    match open(rt, rt.alloc(), checked(rt, BASE), seats, readers) {
-        Ok(_opened) => panic!(rt; "{seats} seats and {readers} readers"),
-        Err(fault) => fault,
-    }
-}
-
-#[test]
-fn a_scheduler_has_one_to_64_seats(rt: HostRuntime) {
-    for seats in [0, 65] {
-        assert!(rt;
-            fault_of(&rt, seats, 0) == OpenFault::SeatCount,
-            "{seats} seats"
-        );
-    }
-}
-
-#[test]
-fn a_scheduler_has_at_most_16_readers(rt: HostRuntime) {
-    assert!(rt; fault_of(&rt, 65, 17) == OpenFault::SeatCount);
-    assert!(rt; fault_of(&rt, 64, 17) == OpenFault::ReaderCount);
-    assert!(rt; fault_of(&rt, 1, usize::MAX) == OpenFault::ReaderCount);
 }

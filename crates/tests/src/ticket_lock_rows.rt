@@ -1,16 +1,13 @@
 //! A vector of stamps under the lock.
 
-ghost use Rattle.std.specs.Prelude.{◌≡◌, ◌+◌, Some};
-ghost use Rattle.minislots.specs.declared.stamp.Stamp.{Stamp};
-ghost use Rattle.tests.specs.declared.ticket_lock_rows.Stamps.{Stamps};
+ghost use Rattle.std.specs.Prelude.{◌≡◌, Some};
 ghost use Rattle.ticket_lock.specs.Standing.{seats_of, head_of, seen};
-ghost use Rattle.ticket_lock.specs.Calls.{new_standing, Enters};
+ghost use Rattle.ticket_lock.specs.Calls.{new_standing};
 
-use crate::base::is_shown;
 use minislots::Stamp;
 use std::alloc::{AllocGlobal, Global};
 use std::process::Abort;
-use ticket_lock::{Held, Journal, LockFault, Seat, Ticket, TicketLock};
+use ticket_lock::{Held, Journal, Seat, TicketLock};
 
 mod letting_go;
 mod threads;
@@ -106,107 +103,47 @@ fn close_pair(
     list
 }
 
-// The ticket is not served yet.
-fn turned_away(rt: &impl Abort, lock: &TicketLock<Stamps>, ticket: Ticket<Stamps>) -> Ticket<Stamps>
-    requires own { ticket.lock ≡ lock.now }
-    ensures same { result ≡ record ticket { looks = ticket.looks + 1 } }
-{
-    match lock.try_enter(ticket) {
-        Ok(_entered) => panic!(rt; "the ticket is not served"),
-        Err(back) => back,
-    }
-}
-
-// The ticket is served.
-fn let_in(
-    rt: &impl Abort,
-    lock: &TicketLock<Stamps>,
-    ticket: Ticket<Stamps>,
-) -> (Held<Stamps>, Stamps)
-    requires own { ticket.lock ≡ lock.now }
-    ensures entered { Enters (λ (e : Stamp). e) (λ _. tt) (λ (s : Stamps). s.list.items) ticket result.0 result.1 }
-{
-    match lock.try_enter(ticket) {
-        Ok(entered) => entered,
-        Err(_back) => panic!(rt; "the ticket is served"),
-    }
-}
-
 // Two seats draw, the second is turned away until the first has left, and only the second adds an entry.
-fn turns(rt: &impl Abort, alloc: Global, first: u64, second: u64) {
+fn take_two_turns(rt: &impl Abort, alloc: Global, first: u64) {
     let (lock, zero, one) = pair(rt, alloc, first);
-    let zero = lock.draw(zero);
-    let one = lock.draw(one);
+    let (zero, one) = (lock.draw(zero), lock.draw(one));
+    let second = one.number();
     assert!(rt;
-        zero.number() == first && one.number() == second,
+        zero.number() == first && second == first.wrapping_add(1),
         "the tickets"
     );
-    let one = turned_away(rt, &lock, one);
-    let (held, value) = let_in(rt, &lock, zero);
+    let one = match lock.try_enter(one) {
+        Ok(_entered) => panic!(rt; "ticket {second} is not served"),
+        Err(back) => back,
+    };
+    let (held, value) = match lock.try_enter(zero) {
+        Ok(entered) => entered,
+        Err(_back) => panic!(rt; "ticket {first} is served"),
+    };
     let stamp = held.stamp();
     assert!(rt;
         stamp.seat == 0 && stamp.ticket == first && value.len() == 0,
         "the holder"
     );
     let zero = end_turn(&lock, held, value, false);
-    let (held, value) = let_in(rt, &lock, one);
+    let (held, value) = match lock.try_enter(one) {
+        Ok(entered) => entered,
+        Err(_back) => panic!(rt; "ticket {second} is served"),
+    };
     let one = end_turn(&lock, held, value, true);
-    assert!(rt; zero.number() == 0 && one.number() == 1, "the seats");
     let list = close_pair(rt, alloc, lock, zero, one);
     let added = [Stamp {
         seat: 1,
         ticket: second,
     }];
-    assert!(rt; list.as_slice() == added.as_slice(), "the list");
+    assert!(rt;
+        list.as_slice() == added.as_slice(),
+        "the list behind {first}"
+    );
 }
 
 #[test]
 fn seats_enter_in_the_order_of_their_tickets(rt: HostRuntime) {
-    turns(&rt, rt.alloc(), 0, 1);
-    turns(&rt, rt.alloc(), u64::MAX, 0);
-}
-
-// A journal with one entry.
-fn one_entry(rt: &impl Abort, alloc: Global) -> Stamps {
-    let mut list = Vec::new(alloc);
-    let made = Stamp { seat: 9, ticket: 7 };
-    assert!(rt; list.push(made).is_ok(), "no memory");
-    Stamps { list }
-}
-
-// The journal has that entry alone.
-fn has_one_entry<R: Abort + AllocGlobal>(rt: &R, value: &Stamps) {
-    is_shown(
-        rt,
-        (value.len(), value.stamp_at(0)),
-        "(1, Some(Stamp { seat: 9, ticket: 7 }))",
-    );
-}
-
-// With so many seats no lock is opened, and the value comes back.
-fn is_refused<R: Abort + AllocGlobal>(rt: &R, seats: usize) {
-    match TicketLock::open(rt.alloc(), one_entry(rt, rt.alloc()), seats, 0) {
-        Ok(_opened) => panic!(rt; "{seats} seats are too few or too many"),
-        Err((fault, back)) => {
-            assert!(rt; fault == LockFault::SeatCount, "{seats} seats");
-            has_one_entry(rt, &back);
-        }
-    }
-}
-
-// With so many seats a lock is opened, and the value comes back at its close.
-fn opened_and_closed<R: Abort + AllocGlobal>(rt: &R, seats: usize) {
-    let Ok((lock, row)) = TicketLock::open(rt.alloc(), one_entry(rt, rt.alloc()), seats, 0) else {
-        panic!(rt; "{seats} seats are allowed")
-    };
-    assert!(rt; row.len() == seats, "{seats} seats");
-    has_one_entry(rt, &lock.close(row));
-}
-
-#[test]
-fn a_lock_has_one_to_64_seats(rt: HostRuntime) {
-    is_refused(&rt, 0);
-    is_refused(&rt, 65);
-    opened_and_closed(&rt, 1);
-    opened_and_closed(&rt, 64);
+    take_two_turns(&rt, rt.alloc(), 0);
+    take_two_turns(&rt, rt.alloc(), u64::MAX);
 }

@@ -2,10 +2,11 @@
 use Rattle.std.proofs.Common.{◌≡◌, ℕ, ◌+◌, ◌-◌, List, [], ◌++◌, Option, None, Some, length, take, drop, sym, ap, ◌∙◌}
 use Rattle.std.proofs.Common.{Result, Ok, Err, append_assoc, append-nil, arith}
 use Rattle.std.proofs.lemmas.Bool.{true≢false}
-use Rattle.std.specs.Prelude.{IsOk, OnOk}
+use Rattle.std.specs.Prelude.{IsOk, OnOk, MatchResult}
 use Rattle.std.proofs.Math.Seq.{take-add}
 use Rattle.std.proofs.lemmas.List.{take_all, length-drop}
 use Rattle.std.specs.Io.KnownBytes.{Appends, append_known}
+use Rattle.text_stream.specs.declared.fault.TextFault.{TextFault}
 use Rattle.std.proofs.KnownBytes.{Appends-trans}
 
 -- a front, and so many bytes behind it
@@ -20,6 +21,12 @@ Appends-part a b c bytes at n front more =
 pub where_ok : {A E P Q : Type 0} (r : Result A E) → (P → Q) → OnOk r P → OnOk r Q
 where_ok (Ok x) follows holds = follows holds
 where_ok (Err e) follows holds = tt
+
+-- what follows from what was written and from no failed write, where a text is written behind that
+pub where_written : {A P Q F G : Type 0} (Ends : TextFault → Type 0) (r : Result A TextFault) → (P → Q) → (F → G)
+    → MatchResult r (λ _. P × F) Ends → MatchResult r (λ _. Q × G) Ends
+where_written Ends (Ok x) follows stays holds = (follows holds.0, stays holds.1)
+where_written Ends (Err e) follows stays holds = holds
 
 -- a fact that holds where there is a value, of which there is one
 pub holds_at : {A E P : Type 0} (r : Result A E) → IsOk r → OnOk r P → P

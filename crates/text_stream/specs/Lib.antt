@@ -1,5 +1,6 @@
 pub mod Fault
 pub mod RunFault
 pub mod Watched
+pub mod Writing
 pub mod Input
 pub mod Outcome

@@ -1,9 +1,8 @@
 //! Text on its way to a writer.
 
-ghost use Rattle.std.specs.Prelude.{◌≡◌, ◌≤◌, [], length, OnOk, IfErr};
-ghost use Rattle.std.specs.Io.KnownBytes.{Appends, append_known};
+ghost use Rattle.std.specs.Prelude.{◌≡◌, ◌≤◌, [], length, OnOk};
 ghost use Rattle.text_stream.specs.declared.buffer.TheConstants.{ROOM};
-ghost use Rattle.text_stream.specs.Watched.{FailsBy};
+ghost use Rattle.text_stream.specs.Writing.{Puts, Writes};
 
 use crate::fault::TextFault;
 use crate::output::put;
@@ -33,10 +32,9 @@ impl Model for TextBuffer {
 
 // Writes the bytes that wait.
 fn write_waiting<W: Sink>(waiting: &mut Waiting, writer: &mut W) -> Result<(), TextFault>
-    ensures ok { OnOk result (Appends (W.contents writer.old) (W.contents writer.new) waiting.old.items) }
+    ensures written { Writes W.contents W.has_failed writer.old writer.new
+        waiting.old.items result }
     ensures empty { OnOk result (waiting.new.items ≡ []) }
-    ensures err { IfErr result (λ e. e ≡ TextFault.Output) }
-    ensures failed { FailsBy TextFault.Output result (W.has_failed writer.old) (W.has_failed writer.new) }
 {
     put(writer, waiting.as_slice())?;
     waiting.clear();
@@ -46,10 +44,8 @@ fn write_waiting<W: Sink>(waiting: &mut Waiting, writer: &mut W) -> Result<(), T
 // Puts a text behind those that wait, which are written first where there is no room for it.
 fn append<W: Sink>(waiting: &mut Waiting, writer: &mut W, text: &[u8]) -> Result<(), TextFault>
     requires { length text.now ≤ ROOM }
-    ensures ok { OnOk result (Appends (append_known (W.contents writer.old) waiting.old.items)
-        (append_known (W.contents writer.new) waiting.new.items) text.now) }
-    ensures err { IfErr result (λ e. e ≡ TextFault.Output) }
-    ensures failed { FailsBy TextFault.Output result (W.has_failed writer.old) (W.has_failed writer.new) }
+    ensures { Puts W.contents W.has_failed writer.old writer.new waiting.old.items waiting.new.items
+        text.now result }
 {
     if waiting.try_extend_from_slice(text).is_err() {
         write_waiting(waiting, writer)?;
@@ -71,10 +67,8 @@ impl TextBuffer {
     /// Puts a text behind those that wait. Where there is no room for it, those are written first; a text that is
     /// longer than the buffer is then written too.
     pub fn put<W: Sink>(&mut self, writer: &mut W, text: &[u8]) -> Result<(), TextFault>
-        ensures ok { OnOk result (Appends (append_known (W.contents writer.old) self.old)
-            (append_known (W.contents writer.new) self.new) text.now) }
-        ensures err { IfErr result (λ e. e ≡ TextFault.Output) }
-        ensures failed { FailsBy TextFault.Output result (W.has_failed writer.old) (W.has_failed writer.new) }
+        ensures { Puts W.contents W.has_failed writer.old writer.new self.old self.new
+            text.now result }
     {
         if text.len() <= ROOM {
             return append(&mut self.waiting, writer, text);
@@ -85,10 +79,8 @@ impl TextBuffer {
 
     /// Writes the texts that wait.
     pub fn write_out<W: Sink>(&mut self, writer: &mut W) -> Result<(), TextFault>
-        ensures ok { OnOk result (Appends (W.contents writer.old) (W.contents writer.new) self.old) }
+        ensures written { Writes W.contents W.has_failed writer.old writer.new self.old result }
         ensures empty { OnOk result (self.new ≡ []) }
-        ensures err { IfErr result (λ e. e ≡ TextFault.Output) }
-        ensures failed { FailsBy TextFault.Output result (W.has_failed writer.old) (W.has_failed writer.new) }
     {
         write_waiting(&mut self.waiting, writer)
     }

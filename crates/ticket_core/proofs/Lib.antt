@@ -1,6 +1,7 @@
 pub mod Fields
 pub mod Grants
 pub mod Lawful
+pub mod RowsTurns
 pub mod Seats
 pub mod Steps
 pub mod Turns

@@ -2,8 +2,7 @@
 use Rattle.std.proofs.Common.{◌≡◌, ℕ, List, ◌++◌, Option, None, IsSome, refl, subst, option_to_list}
 use Rattle.minislots.specs.declared.config.Config.{Config}
 use Rattle.ticket_lock.specs.Calls.{Opens}
-use Rattle.shared_sched.specs.Desk.{SharedDesk, fixed_of, history_of, empty_desk}
-use Rattle.worker_sched.specs.Desk.{no_press}
+use Rattle.sched_desk.specs.Desk.{SharedDesk, fixed_of, history_of, empty_desk, no_press}
 use Rattle.worker_sched.specs.Worker.{Stands, HasOwn, IsFirstWorker}
 use Rattle.worker_sched.proofs.Seats.{Every-left, Every-taken, opens_own}
 

@@ -1,4 +1,3 @@
-pub mod Called
 pub mod Turned
 pub mod Opened
 pub mod Seats

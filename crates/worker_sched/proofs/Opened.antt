@@ -7,8 +7,7 @@ use Rattle.ticket_lock.specs.declared.board.About.{About}
 use Rattle.ticket_lock.specs.Calls.{Opens}
 use Rattle.ticket_lock.specs.Rule.{head_in}
 use Rattle.ticket_lock.specs.Standing.{Lock, Standing, head_of, seats_of, opening_in, seats_in, first_in}
-use Rattle.shared_sched.specs.Desk.{DeskState, FixedDesk, fixed_of, history_of, IsDeskLock, HasPress}
-use Rattle.worker_sched.specs.Desk.{no_press, desk_of}
+use Rattle.sched_desk.specs.Desk.{DeskState, FixedDesk, fixed_of, history_of, IsDeskLock, HasPress, no_press, desk_of}
 
 -- what such a lock is about
 abbrev about_desk : ℕ → DeskState → Option (About FixedDesk Entry)
@@ -16,11 +15,11 @@ about_desk count d = Some (record { head = fixed_of d ∷ []; opening = history_
 
 -- it is one of a desk without a press
 pub is_desk_lock : (c : Config) (d : DeskState) (count : ℕ) (lock : Lock FixedDesk Entry)
-    (seats : List (Standing FixedDesk Entry)) → d ≡ desk_of (record { config = c; history = [] }) → 1 ≤ count
+    (seats : List (Standing FixedDesk Entry)) → d ≡ desk_of (record { config = c; history = []; handed = 0 }) → 1 ≤ count
     → count ≤ MAX_SEATS → Opens fixed_of history_of d count 0 lock seats
     → IsDeskLock c lock × HasPress c no_press lock × (count ≡ seats_of lock)
 is_desk_lock c d count lock seats desk some few opens =
-    let about : lock.about ≡ about_desk count (desk_of (record { config = c; history = [] })) =
+    let about : lock.about ≡ about_desk count (desk_of (record { config = c; history = []; handed = 0 })) =
     opens.about_is ∙ ap (about_desk count) desk in
     let head : head_of lock ≡ Some (record { config = c; press = no_press }) = ap head_in about in
     let all : seats_of lock ≡ count = ap seats_in about in (

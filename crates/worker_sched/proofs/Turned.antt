@@ -8,9 +8,9 @@ use Rattle.sched_history.specs.declared.reply.Unrecorded.{Unrecorded}
 use Rattle.ticket_lock.specs.Rule.{entry_of}
 use Rattle.ticket_lock.specs.Standing.{Standing, own}
 use Rattle.ticket_lock.specs.Calls.{Enters}
-use Rattle.shared_sched.specs.Desk.{DeskState, FixedDesk, fixed_of, history_of, maker_of}
-use Rattle.shared_sched.specs.Calls.{added_by, AnswersHeld}
-use Rattle.shared_sched.proofs.Own.{own-others}
+use Rattle.sched_desk.specs.Desk.{DeskState, FixedDesk, fixed_of, history_of, maker_of}
+use Rattle.sched_desk.specs.Calls.{added_by, AnswersHeld}
+use Rattle.sched_desk.proofs.Own.{own-others}
 use Rattle.worker_sched.specs.Workplace.{AnswersTurn}
 
 -- a seat that entered and was answered as a holder has had its turn

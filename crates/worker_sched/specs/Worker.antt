@@ -7,13 +7,12 @@ use Rattle.sched_history.specs.declared.reply.Entry.{Entry}
 use Rattle.ticket_lock.specs.Rule.{Every}
 use Rattle.ticket_lock.specs.Standing.{Standing, seats_of}
 use Rattle.ticket_lock.specs.Calls.{Opens, Draws}
-use Rattle.shared_sched.specs.Desk.{FixedDesk, SharedDesk, fixed_of, history_of, maker_of, empty_desk}
+use Rattle.sched_desk.specs.Desk.{FixedDesk, SharedDesk, fixed_of, history_of, maker_of, empty_desk, no_press}
 use Rattle.worker_sched.specs.declared.worker.Turn.{Turn}
 use Rattle.worker_sched.specs.declared.worker.Turn.TheVariants.{Ended, NotYet, NoTicket}
 use Rattle.worker_sched.specs.declared.worker.CloseFault.{CloseFault}
 use Rattle.worker_sched.specs.declared.worker.CloseFault.TheVariants.{HasTicket, Others, NotServed}
 use Rattle.sched_history.specs.Machine.{Machine}
-use Rattle.worker_sched.specs.Desk.{no_press}
 use Rattle.worker_sched.specs.Workplace.{AnswersTurn, EndsWith, IsNotServed}
 
 -- where a seat stands
@@ -74,7 +73,7 @@ abbrev pub TakesTurn : WorkerState → WorkerState → Call → Turn → Type 0
 TakesTurn old new call turn = MatchOption old.ticket ((turn ≡ NoTicket) × (new ≡ old))
     (λ t. TakesTurnWith t old new call turn)
 
--- a worker has closed its workplace: its seat is spent, and this is the channel
+-- a worker has closed its workplace: its seat is spent, and this is the scheduler
 pub record ClosesWorker (old new : WorkerState) (m : Machine) : Type 0 where
   pub seat : Stands
   pub seat_is : old.seat ≡ Some seat

@@ -9,8 +9,8 @@ use Rattle.ticket_lock.specs.declared.board.Logged.{Logged}
 use Rattle.ticket_lock.specs.Rule.{entry_of, IsOfOthers, IsOrdered}
 use Rattle.ticket_lock.specs.Standing.{Standing, own, seats_of, seen}
 use Rattle.ticket_lock.specs.Calls.{Draws}
-use Rattle.shared_sched.specs.Calls.{added_by, AnswersHeld}
-use Rattle.shared_sched.specs.Desk.{FixedDesk, maker_of}
+use Rattle.sched_desk.specs.Calls.{added_by, AnswersHeld}
+use Rattle.sched_desk.specs.Desk.{FixedDesk, maker_of}
 use Rattle.sched_history.specs.History.{IsLegal}
 use Rattle.sched_history.specs.Machine.{Machine}
 
@@ -32,7 +32,7 @@ IsNotServed s t =
     (drawn : Standing FixedDesk Entry) × Draws maker_of s drawn × (t ≡ record drawn { looks = drawn.looks + 1 })
 
 module _ (c : Config) (s : Standing FixedDesk Entry) where
-  -- what a seat takes out for good: a channel whose history begins with all that the seat has seen, and goes on with
+  -- what a seat takes out for good: a scheduler whose history begins with all that the seat has seen, and goes on with
   -- entries of other seats alone
   pub record EndsWith (m : Machine) : Type 0 where
     pub config : m.config ≡ c

@@ -1,7 +1,7 @@
 //! Tokens of the lock that are with a worker.
 ghost use Rattle.std.specs.Prelude.{◌≡◌};
 
-use crate::desk::Desk;
+use crate::workplace::Desk;
 use std::marker::Model;
 use std::mem::ManuallyDrop;
 use ticket_lock::{Held, Ticket};
@@ -17,7 +17,7 @@ pub struct Drawn {
 impl Model for Drawn {
     ghost use Rattle.std.specs.Mem.{manually_drop_value};
     ghost use Rattle.sched_history.specs.declared.reply.Entry.{Entry};
-    ghost use Rattle.shared_sched.specs.Desk.{FixedDesk};
+    ghost use Rattle.sched_desk.specs.Desk.{FixedDesk};
     ghost use Rattle.ticket_lock.specs.Standing.{Standing};
 
     ghost Value = { Standing FixedDesk Entry };

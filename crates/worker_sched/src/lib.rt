@@ -1,18 +1,14 @@
 //! The scheduler under the ticket lock without a press: workers, one for each thread, call it, and no call waits.
 #![tactic(auto)]
 
-mod channel;
 mod closed;
-mod desk;
 mod drawn;
 mod opening;
 mod worker;
 mod workplace;
 
-pub use channel::Channel;
 pub use closed::Closed;
-pub use desk::Desk;
 pub use drawn::Drawn;
 pub use opening::open;
 pub use worker::{CloseFault, HireFault, Turn, Worker};
-pub use workplace::Workplace;
+pub use workplace::{Desk, Workplace};

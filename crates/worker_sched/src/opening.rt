@@ -2,13 +2,11 @@
 ghost use Rattle.std.specs.Prelude.{◌≡◌, ◌⊎◌, ◌<◌, ◌↔◌, IfOk, IsErrOf};
 ghost use Rattle.ticket_core.specs.declared.TheConstants.{MAX_SEATS};
 ghost use Rattle.ticket_lock.specs.Calls.{Opens};
-ghost use Rattle.shared_sched.specs.Desk.{fixed_of, history_of, empty_desk};
-ghost use Rattle.worker_sched.specs.Desk.{no_press};
+ghost use Rattle.sched_desk.specs.Desk.{fixed_of, history_of, empty_desk, no_press};
 
-use crate::channel::Channel;
-use crate::desk::Desk;
-use crate::workplace::Workplace;
+use crate::workplace::{Desk, Workplace};
 use minislots::Checked;
+use sched_desk::WholeScheduler;
 use std::alloc::Global;
 use ticket_core::MAX_SEATS;
 use ticket_lock::{LockFault, QuietLock, Seat, TicketLock};
@@ -28,10 +26,10 @@ pub fn open(
     if seats == 0 || seats > MAX_SEATS {
         return Err(LockFault::SeatCount);
     }
-    let Ok(channel) = Channel::open(alloc, checked) else {
+    let Ok(scheduler) = WholeScheduler::open(alloc, checked) else {
         return Err(LockFault::Memory);
     };
-    let Ok(desk) = Desk::new(alloc, channel) else {
+    let Ok(desk) = Desk::new(alloc, scheduler) else {
         return Err(LockFault::Memory);
     };
     match TicketLock::open(alloc, desk, seats, 0) {

@@ -7,12 +7,11 @@ ghost use Rattle.ticket_lock.specs.Standing.{seats_of};
 ghost use Rattle.worker_sched.specs.Worker.{IsFirstWorker, Hires, DrawsTicket, TakesTurn, is_busy, ClosesWorker};
 ghost use Rattle.worker_sched.specs.Worker.{StaysOpen};
 
-use crate::channel::Channel;
-use crate::desk::Desk;
 use crate::drawn::Drawn;
 use crate::opening::open;
-use crate::workplace::Workplace;
+use crate::workplace::{Desk, Workplace};
 use minislots::Checked;
+use sched_desk::WholeScheduler;
 use sched_history::{Call, Reply, Unrecorded};
 use std::alloc::Global;
 use std::marker::Model;
@@ -212,10 +211,10 @@ impl Worker {
         self.place.seats() <= self.spare.len() + 1
     }
 
-    /// Closes the workplace, where this is its last worker and has no ticket: draws one, enters, and takes the channel
+    /// Closes the workplace, where this is its last worker and has no ticket: draws one, enters, and takes the scheduler
     /// out, in the memory that it has. It takes no memory and waits for nobody. That others are left is answered only
     /// where seats are not with this worker; that no other is left at a close is counted, and no clause tells of it.
-    pub fn close(&mut self) -> Result<Box<Channel>, CloseFault>
+    pub fn close(&mut self) -> Result<Box<WholeScheduler>, CloseFault>
         ensures closed { IfOk result (λ b. ClosesWorker self.old self.new b.value) }
         ensures stays { IfErr result (StaysOpen self.old self.new) }
     {
@@ -229,7 +228,7 @@ impl Worker {
             unreachable!()
         };
         match self.place.take_out(seat) {
-            Ok(channel) => Ok(channel),
+            Ok(scheduler) => Ok(scheduler),
             Err(ticket) => {
                 self.ticket = Some(Drawn::of(ticket));
                 Err(CloseFault::NotServed)

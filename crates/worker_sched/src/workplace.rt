@@ -2,21 +2,21 @@
 ghost use Rattle.std.specs.Prelude.{◌≡◌, ◌+◌, IfOk, IfErr, length};
 ghost use Rattle.ticket_lock.specs.Rule.{Every};
 ghost use Rattle.ticket_lock.specs.Standing.{seats_of};
-ghost use Rattle.shared_sched.specs.Desk.{IsDeskLock, HasPress};
-ghost use Rattle.shared_sched.specs.Calls.{IsEntered, AnswersHeld};
-ghost use Rattle.shared_sched.specs.Closed.{ClosesTo};
-ghost use Rattle.worker_sched.specs.Desk.{no_press};
+ghost use Rattle.sched_desk.specs.Desk.{IsDeskLock, HasPress, no_press, desk_of};
+ghost use Rattle.sched_desk.specs.Calls.{IsEntered, HasCalled, AnswersHeld};
+ghost use Rattle.sched_desk.specs.Closed.{ClosesTo};
 ghost use Rattle.worker_sched.specs.Workplace.{AnswersTurn, EndsWith, IsNotServed};
 
-use crate::channel::Channel;
 use crate::closed::Closed;
-use crate::desk::Desk;
 use crate::drawn::let_go;
-use minislots::Checked;
+use minislots::{Checked, Stamp};
+use sched_desk::{WholeScheduler, close};
 use sched_history::{Call, Reply, Unrecorded};
-use shared_sched::count_each;
 use std::marker::Model;
 use ticket_lock::{Held, QuietLock, Seat, Ticket};
+
+/// The desk of a scheduler that publishes to nobody.
+pub type Desk = sched_desk::Desk<WholeScheduler>;
 
 /// A scheduler under a ticket lock, which publishes to nobody. Threads share it by a reference, or an `Arc`, each with
 /// a seat of its own. One that is not closed goes with its history.
@@ -30,10 +30,9 @@ pub struct Workplace {
 
 // Clauses see the configuration, that there is no press, and the lock round the desk.
 impl Model for Workplace {
-    ghost use Rattle.shared_sched.specs.Desk.{SharedDesk, IsDeskLock, HasPress};
+    ghost use Rattle.sched_desk.specs.Desk.{SharedDesk, IsDeskLock, HasPress, no_press};
     ghost use Rattle.std.specs.Prelude.{◌≡◌};
     ghost use Rattle.ticket_lock.specs.Standing.{seats_of};
-    ghost use Rattle.worker_sched.specs.Desk.{no_press};
 
     ghost Value = { SharedDesk };
 
@@ -53,6 +52,13 @@ impl Drop for Workplace {
         } = self;
         lock.into_lock().discard();
     }
+}
+
+// Makes a call of the holder's scheduler and records it, with this stamp.
+fn record(scheduler: &mut WholeScheduler, stamp: Stamp, call: Call) -> Result<Reply, Unrecorded>
+    ensures called { HasCalled (desk_of scheduler.old) stamp call (desk_of scheduler.new) result }
+{
+    scheduler.call(stamp, call)
 }
 
 impl Workplace {
@@ -106,24 +112,24 @@ impl Workplace {
         requires entered { IsEntered held desk }
         ensures answered { AnswersHeld self.now.config held call result.0 result.1 }
     {
-        let mut desk = desk;
-        let answer = desk.call(held.stamp(), call);
-        let seat = self.lock.leave(held, desk);
+        let mut scheduler = desk.into_recorder();
+        let answer = record(&mut scheduler, held.stamp(), call);
+        let seat = self.lock.leave(held, Desk::of(scheduler));
         (seat, answer)
     }
 
-    // Takes the channel out of the workplace for good, if the next ticket is served: after this none is. Else gives the
-    // ticket back. One look, no wait, no memory.
-    pub(crate) fn take_out(&self, seat: Seat<Desk>) -> Result<Box<Channel>, Ticket<Desk>>
+    // Takes the scheduler out of the workplace for good, if the next ticket is served: after this none is. Else gives
+    // the ticket back. One look, no wait, no memory.
+    pub(crate) fn take_out(&self, seat: Seat<Desk>) -> Result<Box<WholeScheduler>, Ticket<Desk>>
         requires own { seat.lock ≡ self.now.lock }
         ensures ended { IfOk result (λ b. EndsWith self.now.config seat b.value) }
         ensures given_back { IfErr result (IsNotServed seat) }
     {
         let (held, desk) = self.lock.try_enter(self.lock.draw(seat))?;
-        let channel = desk.into_channel();
-        let _history = channel.history();
+        let scheduler = desk.into_recorder();
+        let _history = scheduler.history();
         let_go(held);
-        Ok(channel)
+        Ok(scheduler)
     }
 
     /// Takes the workplace apart, and gives its scheduler. All its seats come back, each once, in any order.
@@ -135,13 +141,13 @@ impl Workplace {
     {
         let Workplace {
             lock,
-            config: _,
+            config,
             seats: _,
         } = self;
-        let scheduler = Box::into_inner(
-            lock.into_lock().close(seats).into_channel(),
-        ).into_scheduler();
-        let counts = count_each(scheduler.history());
-        Closed { scheduler, counts }
+        let (scheduler, counts) = close(config, lock.into_lock(), seats);
+        Closed {
+            scheduler: Box::into_inner(scheduler),
+            counts,
+        }
     }
 }

@@ -85,7 +85,7 @@ IsPlain-told c h (Skip now) r told answers =
 IsPlain-told c h (Status sid) r told answers = IsPlain-status sid (life_of sid h) r answers
 
 -- the answer is one
-told-one : (c : Config) (h : List Entry) (call : Call) (r r' : Reply) → is_told call ≡ true → Answers c h call r
+pub told-one : (c : Config) (h : List Entry) (call : Call) (r r' : Reply) → is_told call ≡ true → Answers c h call r
     → Answers c h call r' → r ≡ r'
 told-one c h (Admit sid (Unsolicited size interval jitter grants)) r r' told answers other = absurd cc
 told-one c h (Admit sid (Polled interval jitter rate burst)) r r' told answers other = absurd cc

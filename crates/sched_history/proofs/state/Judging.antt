@@ -7,7 +7,7 @@ use Rattle.std.proofs.lemmas.List.{append-nil}
 use Rattle.std.proofs.lemmas.Option.{same_Some}
 use Rattle.map_build.specs.EachAfter.{EachAfter}
 use Rattle.minislots.specs.declared.config.Config.{Config}
-use Rattle.sched_history.specs.declared.reply.TheConstants.{MAX_ENTRIES}
+use Rattle.sched_history.specs.declared.reply.TheConstants.{MAX_WHOLE_HISTORY}
 use Rattle.sched_history.specs.declared.scheduler.state.State.{State}
 use Rattle.sched_history.specs.declared.reply.Refusal.{Refusal}
 use Rattle.sched_history.specs.declared.reply.Reply.TheVariants.{Refused}
@@ -67,7 +67,7 @@ module _ (s : State) (h : List Entry) (e : Entry) (kept : IsKeptOf s h) where
       IsKeptOf-push s s h e kept refl step
       (IsStateAfter-quiet s h kept.is_after e.stamp e.call e.reply (rw same (IsQuiet-refused e.call refusal)))
 
-  module _ (short : length h < MAX_ENTRIES) (unrefused : refusal_of s.config h e.call ≡ None) where
+  module _ (short : length h < MAX_WHOLE_HISTORY) (unrefused : refusal_of s.config h e.call ≡ None) where
     -- a call that no test refuses is open
     pub IsOpenTo-kept : IsOpenTo s e.call h
     IsOpenTo-kept = record {

@@ -45,13 +45,15 @@ IsStateAfter-open s lawful book_config flows table_config placed next progress =
     }
 
 -- A scheduler without entries is sound, where its fields stand for the empty history
-pub IsSound-open : (a : Inside) → IsStateAfter a.state [] → a.entries.items ≡ []
+pub IsSound-open : (a : Inside) → IsStateAfter a.state [] → a.ledger ≡ [] → a.entries.items ≡ []
     → a.state.config.calls ≤ vec_capacity a.entries → IsSound a
-IsSound-open a is_after empty reserved = record {
-  is_after = rw empty is_after;
-  bounded = rw (empty, is_after.flows, is_after.next) (IsBounded-legal a.state.config [] is_after.lawful tt);
-  legal = rw empty tt;
-  encodable = rw empty tt;
+IsSound-open a is_after none empty reserved = record {
+  is_after = rw none is_after;
+  bounded = rw (none, is_after.flows, is_after.next) (IsBounded-legal a.state.config [] is_after.lawful tt);
+  legal = rw none tt;
+  encodable = rw none tt;
+  few = rw empty (omega arith);
+  kept = rw (none, empty) refl;
   within = rw empty (omega arith);
   reserved = reserved;
 }

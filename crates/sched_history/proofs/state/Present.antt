@@ -21,6 +21,7 @@ use Rattle.sched_history.specs.Life.{Life, life_of, flow_in_life, placed_in_life
 use Rattle.sched_history.specs.Refusal.{bad_sid, is_live, most_bytes}
 use Rattle.sched_history.specs.Time.{next_after}
 use Rattle.sched_history.specs.History.{AnswersAdmit, PlacesOrRefuses, IsLegal, flow_status}
+use Rattle.sched_history.specs.Machine.{IsPlaceable}
 use Rattle.sched_history.specs.State.{IsStateAfter}
 use Rattle.sched_history.proofs.lives.Finding.{flow_of-flows_of, find-table_of, good_sid, life_of-dead}
 use Rattle.sched_history.proofs.placements.Counts.{IsPaired, life_of-pairs}
@@ -95,7 +96,7 @@ without_placed-none sid (p ∷ placed) none =
     rw (both.0) (ap (λ ps. p ∷ ps) (without_placed-none sid placed both.1))
 
 -- the bytes of one request more fit 64 bits
-pub asked-fits : (s : State) (h : List Entry) (sid bytes : ℕ) → bytes < 2 ^ 32 → length h ≤ 16777216
+pub asked-fits : (s : State) (h : List Entry) (sid bytes : ℕ) → bytes < 2 ^ 32 → length h ≤ 17592186044416
     → AllByRecursion (λ f. f.asked ≤ most_bytes * length h) s.book.flows
     → IfSome (flow_of sid s.book.flows) (λ f. f.asked + bytes < 2 ^ 64)
 asked-fits s h sid bytes low short all =
@@ -176,6 +177,15 @@ placement-after s h spec p is_after lawful =
     subst (λ next. IsPlacement s.config (table_of h) spec next p) is_after.next
     (subst (λ placed. IsPlacement s.config placed spec s.next p) is_after.placed
     (subst (λ c. IsPlacement c s.table.placed spec s.next p) is_after.table_config lawful))
+
+-- so there is a place for the flow
+pub IsPlaceable-after : (s : State) (h : List Entry) (spec : FlowSpec) (p : Placement) → IsStateAfter s h
+    → IsPlacement s.table.config s.table.placed spec s.next p → IsPlaceable s.config h spec
+IsPlaceable-after s h (Unsolicited size interval jitter grants) p is_after lawful =
+    (p, placement-after s h (Unsolicited size interval jitter grants) p is_after lawful)
+IsPlaceable-after s h (Polled interval jitter rate burst) p is_after lawful =
+    (p, placement-after s h (Polled interval jitter rate burst) p is_after lawful)
+IsPlaceable-after s h (BestEffort priority rate burst) p is_after lawful = tt
 
 -- where the table has no place for it there is none after the history
 pub no_placement-after : (s : State) (h : List Entry) (spec : FlowSpec) → IsStateAfter s h

@@ -1,26 +1,27 @@
 -- A scheduler with one entry more.
-use Rattle.std.proofs.Common.{◌≡◌, ◌<◌, List, [], ◌∷◌, ◌++◌, None, length, refl, sym, ap, ◌∙◌, subst, arith}
+use Rattle.std.proofs.Common.{◌≡◌, ℕ, ◌+◌, ◌<◌, ◌≤◌, false, nat_le, List, [], ◌∷◌, ◌++◌, None, length, drop}
+use Rattle.std.proofs.Common.{refl, sym, ap, ◌∙◌, subst, arith}
 use Rattle.std.specs.Prelude.{vec_capacity}
 use Rattle.std.specs.List.{AllByRecursion}
-use Rattle.std.proofs.lemmas.List.{length_push}
+use Rattle.std.proofs.lemmas.List.{length_push, drop-append-le}
 use Rattle.minislots.specs.declared.config.Config.{Config}
 use Rattle.minislots.specs.declared.stamp.Stamp.{Stamp}
-use Rattle.minislots.proofs.Bounds.{bounds_of}
 use Rattle.sched_history.specs.declared.scheduler.answering.Answer.{Answer}
 use Rattle.sched_history.specs.declared.scheduler.Scheduler.TheInside.{Inside}
 use Rattle.sched_history.specs.declared.call.Call.{Call}
 use Rattle.sched_history.specs.declared.call.Call.TheVariants.{Build}
+use Rattle.sched_history.specs.declared.reply.TheConstants.{MAX_WHOLE_HISTORY}
 use Rattle.sched_history.specs.declared.reply.Reply.{Reply}
 use Rattle.sched_history.specs.declared.reply.Entry.{Entry}
 use Rattle.sched_history.specs.Refusal.{refusal_of}
 use Rattle.sched_history.specs.History.{IsStep, IsLegal}
-use Rattle.sched_history.specs.Machine.{Machine, IsEncodable}
+use Rattle.sched_history.specs.Machine.{Machine, kept_of, is_full, IsEncodable}
 use Rattle.sched_history.specs.Planned.{PlannedBuild, IsPlanAfter}
 use Rattle.sched_history.specs.State.{IsStateAfter, machine_of, IsSound, IsKeptOf, IsOpenTo, IsBuildAfter, IsAnswered}
 use Rattle.sched_history.specs.State.{IsRecorded}
+use Rattle.sched_history.proofs.steps.Passed.{above, neither}
 use Rattle.sched_history.proofs.steps.Steps.{IsLegal-push, IsStep-answered}
 use Rattle.sched_history.proofs.steps.Bounded.{IsBounded-legal}
-use Rattle.sched_history.proofs.rows.Limits.{most_entries}
 
 -- what holds of all and of one more
 all-push : {X : Type 0} (P : X → Type 0) (xs : List X) (x : X) → AllByRecursion P xs → P x
@@ -28,38 +29,89 @@ all-push : {X : Type 0} (P : X → Type 0) (xs : List X) (x : X) → AllByRecurs
 all-push P [] x all here = (here, tt)
 all-push P (y ∷ xs) x all here = (all.0, all-push P xs x all.1 here)
 
--- A scheduler with one entry more is sound, where its fields stand for the history
-pub IsSound-push : (a b : Inside) (e : Entry) → IsSound a → b.entries.items ≡ a.entries.items ++ e ∷ []
-    → vec_capacity b.entries ≡ vec_capacity a.entries → b.state.config ≡ a.state.config
-    → length a.entries.items < a.state.config.calls → IsStep a.state.config a.entries.items e.call e.reply
-    → IsEncodable e.reply
-    → IsStateAfter b.state (a.entries.items ++ e ∷ []) → IsSound b
-IsSound-push a b e sound items capacity config room step encodable is_after =
-    let legal : IsLegal a.state.config (a.entries.items ++ e ∷ []) =
-    IsLegal-push a.state.config a.entries.items e sound.legal step in
-    record {
-      is_after = rw items is_after;
-      bounded = rw (items, is_after.flows, is_after.next, config)
-          (IsBounded-legal a.state.config (a.entries.items ++ e ∷ []) sound.is_after.lawful legal);
-      legal = rw (config, items) legal;
-      encodable = rw items (all-push (λ x. IsEncodable x.reply) a.entries.items e sound.encodable encodable);
-      within = rw (config, items) (omega (arith, length_push a.entries.items e));
-      reserved = rw (config, capacity) sound.reserved;
-    }
+-- there is room for one entry more
+pub room-kept : (m : Machine) → is_full m ≡ false → length (kept_of m) < m.config.calls
+room-kept m room =
+    above m.config.calls (length (kept_of m)) (neither (nat_le m.config.calls (length (kept_of m))) _ room).0
+
+-- and the whole history may have one
+pub room-whole : (m : Machine) → is_full m ≡ false → length m.history < MAX_WHOLE_HISTORY
+room-whole m room =
+    above MAX_WHOLE_HISTORY (length m.history) (neither (nat_le m.config.calls (length (kept_of m))) _ room).1
+
+-- so the room for its entries has some left
+pub room-reserved : (a : Inside) (m : Machine) → machine_of a ≡ m → IsSound a → is_full m ≡ false
+    → length a.entries.items < vec_capacity a.entries
+room-reserved a m is sound room =
+    let below : length a.entries.items < a.state.config.calls =
+    subst (λ h. length h < a.state.config.calls) sound.kept
+    (room-kept (machine_of a) (subst (λ n. is_full n ≡ false) (sym is) room)) in
+    omega (arith, below, sound.reserved)
+
+-- and the ledger can count one more
+pub room-ledger : (a : Inside) (m : Machine) → machine_of a ≡ m → is_full m ≡ false
+    → length a.ledger < MAX_WHOLE_HISTORY
+room-ledger a m is room = room-whole (machine_of a) (subst (λ n. is_full n ≡ false) (sym is) room)
+
+-- A scheduler with one entry more
+module _ (a b : Inside) (e : Entry) (sound : IsSound a) (ledger : b.ledger ≡ a.ledger ++ e ∷ [])
+    (items : b.entries.items ≡ a.entries.items ++ e ∷ []) where
+  more : length b.ledger ≡ length a.ledger + 1
+  more = ap length ledger ∙ length_push a.ledger e
+
+  more-kept : length b.entries.items ≡ length a.entries.items + 1
+  more-kept = ap length items ∙ length_push a.entries.items e
+
+  few-push : length b.entries.items ≤ length b.ledger
+  few-push = omega (arith, more, more-kept, sound.few)
+
+  -- has handed over as many
+  pub handed-push : (machine_of b).handed ≡ (machine_of a).handed
+  handed-push = omega (arith, more, more-kept)
+
+  -- and keeps the one
+  kept-push : kept_of (machine_of b) ≡ b.entries.items
+  kept-push =
+      ap (λ n. drop n b.ledger) handed-push
+      ∙ ap (drop (machine_of a).handed) ledger
+      ∙ drop-append-le (machine_of a).handed a.ledger (e ∷ []) (omega (arith, sound.few))
+      ∙ ap (λ h. h ++ e ∷ []) sound.kept
+      ∙ sym items
+
+  -- is sound, where its fields stand for the history
+  pub IsSound-push : vec_capacity b.entries ≡ vec_capacity a.entries → b.state.config ≡ a.state.config
+      → is_full (machine_of a) ≡ false → IsStep a.state.config a.ledger e.call e.reply → IsEncodable e.reply
+      → IsStateAfter b.state (a.ledger ++ e ∷ []) → IsSound b
+  IsSound-push capacity config room step encodable is_after =
+      let legal : IsLegal a.state.config (a.ledger ++ e ∷ []) =
+      IsLegal-push a.state.config a.ledger e sound.legal step in
+      let below : length a.entries.items < a.state.config.calls =
+      subst (λ h. length h < a.state.config.calls) sound.kept (room-kept (machine_of a) room) in
+      record {
+        is_after = rw ledger is_after;
+        bounded = rw (ledger, is_after.flows, is_after.next, config)
+            (IsBounded-legal a.state.config (a.ledger ++ e ∷ []) sound.is_after.lawful legal);
+        legal = rw (config, ledger) legal;
+        encodable = rw ledger (all-push (λ x. IsEncodable x.reply) a.ledger e sound.encodable encodable);
+        few = few-push;
+        kept = kept-push;
+        within = rw config (omega (arith, more-kept, below));
+        reserved = rw (config, capacity) sound.reserved;
+      }
 
 -- what is kept is that of the history
-pub IsKeptOf-inside : (a : Inside) → IsSound a → IsKeptOf a.state a.entries.items
+pub IsKeptOf-inside : (a : Inside) → IsSound a → IsKeptOf a.state a.ledger
 IsKeptOf-inside a sound = record { is_after = sound.is_after; bounded = sound.bounded; legal = sound.legal }
 
 -- a planned build may follow
-pub IsBuildAfter-planned : (c : Config) (h : List Entry) (p : PlannedBuild) → IsPlanAfter c h p → IsBuildAfter c h p
-IsBuildAfter-planned c h p fits =
+pub IsBuildAfter-planned : (m : Machine) (p : PlannedBuild) → IsPlanAfter m p → IsBuildAfter m.config m.history p
+IsBuildAfter-planned m p fits =
     record { lawful = fits.lawful; encodable = fits.encodable; config = fits.config; flows = fits.flows }
 
 -- and is planned, where there is room and no test refuses it
-pub IsPlanAfter-build : (c : Config) (h : List Entry) (p : PlannedBuild) → length h < c.calls
-    → refusal_of c h (Build p.clock) ≡ None → IsBuildAfter c h p → IsPlanAfter c h p
-IsPlanAfter-build c h p room unrefused fits =
+pub IsPlanAfter-build : (m : Machine) (p : PlannedBuild) → is_full m ≡ false
+    → refusal_of m.config m.history (Build p.clock) ≡ None → IsBuildAfter m.config m.history p → IsPlanAfter m p
+IsPlanAfter-build m p room unrefused fits =
     record {
       room = room;
       unrefused = unrefused;
@@ -71,76 +123,81 @@ IsPlanAfter-build c h p room unrefused fits =
 
 -- a call that no test refuses is open
 pub IsOpenTo-inside : (a : Inside) (m : Machine) → machine_of a ≡ m → (call : Call) → IsSound a
-    → length m.history < m.config.calls → refusal_of m.config m.history call ≡ None
-    → IsOpenTo a.state call a.entries.items
+    → is_full m ≡ false → refusal_of m.config m.history call ≡ None → IsOpenTo a.state call a.ledger
 IsOpenTo-inside a m is call sound room none = record {
   is_after = sound.is_after;
   bounded = sound.bounded;
   legal = sound.legal;
-  short =
-      (let some : length a.entries.items < a.state.config.calls =
-      subst (λ n. length n.history < n.config.calls) (sym is) room in
-      omega (arith, most_entries, (bounds_of a.state.config sound.is_after.lawful).calls_most));
+  short = room-ledger a m is room;
   unrefused = subst (λ n. refusal_of n.config n.history call ≡ None) (sym is) none;
 }
 
--- the same configuration with the same history
-machine-same : (c d : Config) (h k : List Entry) → c ≡ d → h ≡ k
-    → ◌≡◌ {A = Machine} (record { config = c; history = h })
-    (record { config = d; history = k })
-machine-same c d h k config history = rw (config, history) refl
+-- the same configuration with the same history, of which as many entries were handed over
+machine-same : (c d : Config) (h k : List Entry) (m n : ℕ) → c ≡ d → h ≡ k → m ≡ n
+    → ◌≡◌ {A = Machine} (record { config = c; history = h; handed = m })
+    (record { config = d; history = k; handed = n })
+machine-same c d h k m n config history handed = rw (config, history, handed) refl
 
 -- A scheduler in which the answer to an open call is entered
 module _ (a b : Inside) (stamp : Stamp) (call : Call) (t : Answer) (sound : IsSound a)
-    (opens : IsOpenTo a.state call a.entries.items) (answered : IsAnswered a.state b.state call t a.entries.items)
+    (opens : IsOpenTo a.state call a.ledger) (answered : IsAnswered a.state b.state call t a.ledger)
+    (counted : b.ledger ≡ a.ledger ++ record { stamp = stamp; call = call; reply = t.kept } ∷ [])
     (entered : b.entries.items ≡ a.entries.items ++ record { stamp = stamp; call = call; reply = t.kept } ∷ []) where
-  items-are : b.entries.items ≡ a.entries.items ++ record { stamp = stamp; call = call; reply = t.reply } ∷ []
+  abbrev told : Entry
+  told = record { stamp = stamp; call = call; reply = t.reply }
+
+  ledger-is : b.ledger ≡ a.ledger ++ told ∷ []
+  ledger-is = counted
+      ∙ ap (λ (r : Reply). a.ledger ++ record { stamp = stamp; call = call; reply = r } ∷ []) answered.twice
+
+  items-are : b.entries.items ≡ a.entries.items ++ told ∷ []
   items-are = entered
       ∙ ap (λ (r : Reply). a.entries.items ++ record { stamp = stamp; call = call; reply = r } ∷ []) answered.twice
 
-  step-is : IsStep a.state.config a.entries.items call t.reply
-  step-is = IsStep-answered a.state.config a.entries.items call t.reply opens.unrefused answered.answers
+  step-is : IsStep a.state.config a.ledger call t.reply
+  step-is = IsStep-answered a.state.config a.ledger call t.reply opens.unrefused answered.answers
 
   -- is sound, where there was room
-  pub IsSound-answered : vec_capacity b.entries ≡ vec_capacity a.entries
-      → length a.entries.items < a.state.config.calls → IsSound b
+  pub IsSound-answered : vec_capacity b.entries ≡ vec_capacity a.entries → is_full (machine_of a) ≡ false → IsSound b
   IsSound-answered capacity room =
-      IsSound-push a b (record { stamp = stamp; call = call; reply = t.reply }) sound items-are capacity
-      answered.config room step-is answered.encodable (answered.is_after stamp)
+      IsSound-push a b told sound ledger-is items-are capacity answered.config room step-is answered.encodable
+      (answered.is_after stamp)
 
   -- and has recorded it
   pub IsRecorded-answered : (m : Machine) → machine_of a ≡ m → IsRecorded m (machine_of b) stamp call t.reply
   IsRecorded-answered m is = subst (λ n. IsRecorded n (machine_of b) stamp call t.reply) is (record {
-    entered = machine-same b.state.config a.state.config b.entries.items _ answered.config items-are;
+    entered = machine-same b.state.config a.state.config b.ledger _ _ _ answered.config ledger-is
+        (handed-push a b told sound ledger-is items-are);
     step = step-is;
     encodable = answered.encodable;
   })
 
 -- A scheduler in which a planned build is entered
 module _ (a b : Inside) (m : Machine) (is : machine_of a ≡ m) (stamp : Stamp) (p : PlannedBuild) (t : Answer)
-    (sound : IsSound a) (fits : IsPlanAfter m.config m.history p)
+    (sound : IsSound a) (fits : IsPlanAfter m p)
     (answered : (h : List Entry) → IsOpenTo a.state (Build p.clock) h → IsBuildAfter a.state.config h p
     → IsAnswered a.state b.state (Build p.clock) t h)
+    (counted : b.ledger ≡ a.ledger ++ record { stamp = stamp; call = Build p.clock; reply = t.kept } ∷ [])
     (entered : b.entries.items ≡ a.entries.items
     ++ record { stamp = stamp; call = Build p.clock; reply = t.kept } ∷ []) where
-  opens-planned : IsOpenTo a.state (Build p.clock) a.entries.items
+  opens-planned : IsOpenTo a.state (Build p.clock) a.ledger
   opens-planned = IsOpenTo-inside a m is (Build p.clock) sound fits.room fits.unrefused
 
-  answers-planned : IsAnswered a.state b.state (Build p.clock) t a.entries.items
+  answers-planned : IsAnswered a.state b.state (Build p.clock) t a.ledger
   answers-planned =
-      answered a.entries.items opens-planned
-      (subst (λ n. IsBuildAfter n.config n.history p) (sym is) (IsBuildAfter-planned m.config m.history p fits))
+      answered a.ledger opens-planned
+      (subst (λ n. IsBuildAfter n.config n.history p) (sym is) (IsBuildAfter-planned m p fits))
 
   -- is sound
   pub IsSound-planned : vec_capacity b.entries ≡ vec_capacity a.entries → IsSound b
   IsSound-planned capacity =
-      IsSound-answered a b stamp (Build p.clock) t sound opens-planned answers-planned entered capacity
-      (subst (λ n. length n.history < n.config.calls) (sym is) fits.room)
+      IsSound-answered a b stamp (Build p.clock) t sound opens-planned answers-planned counted entered capacity
+      (subst (λ n. is_full n ≡ false) (sym is) fits.room)
 
   -- and has recorded it
   pub IsRecorded-planned : IsRecorded m (machine_of b) stamp (Build p.clock) t.reply
   IsRecorded-planned =
-      IsRecorded-answered a b stamp (Build p.clock) t sound opens-planned answers-planned entered m is
+      IsRecorded-answered a b stamp (Build p.clock) t sound opens-planned answers-planned counted entered m is
 
 -- a recorded call keeps the history legal
 pub IsLegal-recorded : (old new : Machine) (stamp : Stamp) (call : Call) (reply : Reply)

@@ -41,6 +41,11 @@ kept : (b : Bool) → not b ≡ false → b ≡ true
 kept true e = refl
 kept false e = absurd cc
 
+-- two tests that failed
+pub neither : (a b : Bool) → (a || b) ≡ false → (a ≡ false) × (b ≡ false)
+neither true b e = absurd cc
+neither false b e = (refl, e)
+
 either : (a b : Bool) → (a || b) ≡ false → b ≡ false
 either true b e = absurd cc
 either false b e = e

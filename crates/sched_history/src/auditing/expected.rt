@@ -4,12 +4,10 @@ ghost use Rattle.std.specs.Prelude.{◌≡◌, ◌<◌, ◌≤◌, length, IfOk}
 ghost use Rattle.sched_history.specs.declared.reply.TheConstants.{MAX_ENTRIES};
 ghost use Rattle.sched_history.specs.History.{IsStep, IsLegal};
 ghost use Rattle.sched_history.specs.Machine.{IsEncodable};
-ghost use Rattle.sched_history.specs.State.{IsKeptOf};
 
-use super::follows;
+use super::Auditor;
 use crate::call::Call;
-use crate::reply::{Entry, Reply};
-use crate::scheduler::{Present, State};
+use crate::reply::{Entry, JudgeFault, Reply};
 use minislots::Checked;
 use std::alloc::{AllocError, Global};
 
@@ -27,42 +25,26 @@ pub fn lawful_reply(
     ensures step { IfOk result (IsStep config.now entries.now call) }
     ensures encodable { IfOk result IsEncodable }
 {
-    let mut state = kept_of(alloc, config, entries)?;
-    reply_after(alloc, &mut state, entries, call)
+    let auditor = auditor_after(alloc, config, entries)?;
+    auditor.reply_to(call)
 }
 
-// What is kept of a legal history.
-fn kept_of(alloc: Global, config: &Checked, entries: &[Entry]) -> Result<State, AllocError>
+// An auditor that has taken a legal history.
+fn auditor_after(alloc: Global, config: &Checked, entries: &[Entry]) -> Result<Auditor, AllocError>
     requires few { length entries.now ≤ MAX_ENTRIES }
     requires legal { IsLegal config.now entries.now }
-    ensures config { IfOk result (λ state. state.config ≡ config.now) }
-    ensures kept { IfOk result (λ state. IsKeptOf state entries.now) }
+    ensures { IfOk result (λ a. a ≡ record { config = config.now; history = entries.now }) }
 {
-    let mut state = State::open(alloc, *config)?;
+    let mut auditor = Auditor::open(alloc, *config)?;
     for index in 0..entries.len() {
-        if !follows(alloc, &mut state, &entries[..index], &entries[index])? {
+        match auditor.judge(&entries[index]) {
+            Ok(()) => {}
+            Err(JudgeFault::Memory) => return Err(AllocError),
             // Each reply of a legal history may follow.
-            unreachable!();
+            Err(JudgeFault::Illegal) => unreachable!(),
+            // There are fewer than an auditor takes.
+            Err(JudgeFault::Full) => unreachable!(),
         }
     }
-    Ok(state)
-}
-
-// The reply to a call after the entries of which this is kept.
-fn reply_after(
-    alloc: Global,
-    state: &mut State,
-    entries: &[Entry],
-    call: Call,
-) -> Result<Reply, AllocError>
-    requires kept { IsKeptOf state.old entries.now }
-    requires short { length entries.now < MAX_ENTRIES }
-    ensures step { IfOk result (IsStep state.old.config entries.now call) }
-    ensures encodable { IfOk result IsEncodable }
-{
-    let present = Present { state, entries };
-    match present.refusal_of(call) {
-        Some(refusal) => Ok(Reply::Refused(refusal)),
-        None => Ok(state.answer(alloc, call)?.reply),
-    }
+    Ok(auditor)
 }

@@ -1,8 +1,9 @@
 //! The answer to each call that no test refuses, and what it changes.
 
-ghost use Rattle.std.specs.Prelude.{◌≡◌, List, false, true, IfOk, OnErr};
+ghost use Rattle.std.specs.Prelude.{◌≡◌, ◌+◌, List, false, true, IfOk, OnErr};
 ghost use Rattle.flow_book.specs.FlowSpec.{is_periodic};
 ghost use Rattle.sched_history.specs.declared.reply.Entry.{Entry};
+ghost use Rattle.sched_history.specs.Time.{IsFirstStart};
 ghost use Rattle.sched_history.specs.State.{IsOpenTo, IsOpen, IsBuildAfter, AnswersOpen, TakesMemoryOpen, IsAnswered};
 
 use super::planned::Planned;
@@ -149,16 +150,24 @@ impl State {
         requires { IsOpen self.old (Call.Skip now) }
         ensures { AnswersOpen self.old self.new (Call.Skip now) result }
     {
-        let lead = u64::from(self.config.lead());
-        self.next = self.first_start(now + lead);
+        self.next = self.start_after(now);
         Answer {
             reply: Reply::Skipped(self.next),
             kept: Reply::Skipped(self.next),
         }
     }
 
+    // Where the next frame starts after a skip.
+    pub(super) fn start_after(&self, now: u64) -> u64
+        requires { IsOpen self.now (Call.Skip now) }
+        ensures { IsFirstStart self.now.config (now + self.now.config.lead) result }
+    {
+        let lead = u64::from(self.config.lead());
+        self.first_start(now + lead)
+    }
+
     // Tells a flow's bytes.
-    fn tell(&self, sid: u16) -> Answer
+    pub(super) fn tell(&self, sid: u16) -> Answer
         requires { IsOpen self.now (Call.Status sid) }
         ensures { AnswersOpen self.now self.now (Call.Status sid) result }
     {

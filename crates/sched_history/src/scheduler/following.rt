@@ -1,8 +1,8 @@
 //! Whether a reply that is handed in is an answer to a call that no test refuses, and what is kept after it.
 
-ghost use Rattle.std.specs.Prelude.{◌≡◌, true, false, Some, IfOk};
+ghost use Rattle.std.specs.Prelude.{◌≡◌, true, false, Some, IfOk, OnErr};
 ghost use Rattle.flow_book.specs.FlowSpec.{is_periodic};
-ghost use Rattle.sched_history.specs.State.{IsOpen, FollowsOpen, DiffersOpen};
+ghost use Rattle.sched_history.specs.State.{IsOpen, AnsweredOpen, FollowsOpen, DiffersOpen, TakesMemoryOpen};
 ghost use Rattle.sched_history.specs.Audit.{is_told};
 
 use super::refusing::is_periodic;
@@ -17,7 +17,7 @@ use std::alloc::{AllocError, Global};
 
 impl State {
     // Whether this is an answer to a call that no test refuses: any lawful one. Where it is, the state is
-    // that after it.
+    // that after it, and else nothing changes.
     pub(crate) fn follow(
         &mut self,
         alloc: Global,
@@ -27,6 +27,9 @@ impl State {
         requires { IsOpen self.old call }
         ensures follows { IfOk result (λ is. is ≡ true → FollowsOpen self.old self.new call reply.now) }
         ensures differs { IfOk result (λ is. is ≡ false → DiffersOpen self.old call reply.now) }
+        ensures same { IfOk result (λ is. is ≡ false → self.new ≡ self.old) }
+        ensures err { OnErr result (self.new ≡ self.old) }
+        ensures memory { OnErr result (TakesMemoryOpen self.old call) }
     {
         match call {
             Call::Admit(sid, spec) if is_periodic(spec) => self.follow_admission(sid, spec, reply),
@@ -41,9 +44,33 @@ impl State {
         requires told { is_told call ≡ true }
         ensures follows { IfOk result (λ is. is ≡ true → FollowsOpen self.old self.new call reply.now) }
         ensures differs { IfOk result (λ is. is ≡ false → DiffersOpen self.old call reply.now) }
+        ensures same { IfOk result (λ is. is ≡ false → self.new ≡ self.old) }
+        ensures err { OnErr result (self.new ≡ self.old) }
+        ensures memory { OnErr result (TakesMemoryOpen self.old call) }
     {
-        let answer = self.answer(alloc, call)?;
-        Ok(is_same_plain(&answer.reply, reply))
+        if !is_same_plain(&self.told(call), reply) {
+            return Ok(false);
+        }
+        self.answer(alloc, call)?;
+        Ok(true)
+    }
+
+    // The answer to such a call.
+    fn told(&self, call: Call) -> Reply
+        requires open { IsOpen self.now call }
+        requires told { is_told call ≡ true }
+        ensures { AnsweredOpen self.now call result }
+    {
+        match call {
+            Call::Admit(_, _) => Reply::Admitted(None),
+            Call::Remove(_) => Reply::Removed,
+            Call::Ask { .. } => Reply::Taken,
+            Call::Heard { .. } => Reply::Noted,
+            // A build is answered by a MAP.
+            Call::Build { .. } => unreachable!(),
+            Call::Skip { now } => Reply::Skipped(self.start_after(now)),
+            Call::Status(sid) => self.tell(sid).reply,
+        }
     }
 
     // The same for the admission of a periodic flow: it has a lawful placement, or there is none.
@@ -58,6 +85,9 @@ impl State {
         ensures follows { IfOk result (λ is. is ≡ true →
             FollowsOpen self.old self.new (Call.Admit sid spec) reply.now) }
         ensures differs { IfOk result (λ is. is ≡ false → DiffersOpen self.old (Call.Admit sid spec) reply.now) }
+        ensures same { IfOk result (λ is. is ≡ false → self.new ≡ self.old) }
+        ensures err { OnErr result (self.new ≡ self.old) }
+        ensures memory { OnErr result (TakesMemoryOpen self.old (Call.Admit sid spec)) }
     {
         if let Some(placement) = placement_in(reply) {
             return self.adopt(sid, spec, placement);
@@ -73,15 +103,23 @@ impl State {
             FollowsOpen self.old self.new (Call.Admit sid spec) (Reply.Admitted (Some placement.now))) }
         ensures differs { IfOk result (λ is. is ≡ false →
             DiffersOpen self.old (Call.Admit sid spec) (Reply.Admitted (Some placement.now))) }
+        ensures same { IfOk result (λ is. is ≡ false → self.new ≡ self.old) }
+        ensures err { OnErr result (self.new ≡ self.old) }
+        ensures memory { OnErr result (TakesMemoryOpen self.old (Call.Admit sid spec)) }
     {
         if !self.table.adopt(sid, &spec, self.next, placement)? {
             return Ok(false);
         }
-        self.book.admit(sid, spec)?;
-        Ok(true)
+        match self.book.admit(sid, spec) {
+            Ok(()) => Ok(true),
+            Err(_) => {
+                self.table.remove(sid);
+                Err(AllocError)
+            }
+        }
     }
 
-    // Whether no placement is lawful for the flow.
+    // Whether no placement is lawful for the flow. One that is found is taken out again.
     fn has_no_place(&mut self, sid: u16, spec: FlowSpec) -> bool
         requires open { IsOpen self.old (Call.Admit sid spec) }
         requires periodic { is_periodic spec ≡ true }
@@ -89,11 +127,14 @@ impl State {
             FollowsOpen self.old self.new (Call.Admit sid spec) (Reply.Refused Refusal.NoPlace) }
         ensures differs { result ≡ false →
             DiffersOpen self.old (Call.Admit sid spec) (Reply.Refused Refusal.NoPlace) }
+        ensures same { self.new ≡ self.old }
     {
-        let Err(PlaceFault::NoPlace) = self.table.place(sid, &spec, self.next) else {
-            return false;
-        };
-        true
+        match self.table.place(sid, &spec, self.next) {
+            Ok(_) => self.table.remove(sid),
+            Err(PlaceFault::NoPlace) => return true,
+            Err(PlaceFault::Memory) => {}
+        }
+        false
     }
 
     // The same for a build: it has the lawful MAP of the next frame.
@@ -101,6 +142,9 @@ impl State {
         requires open { IsOpen self.old (Call.Build now) }
         ensures follows { IfOk result (λ is. is ≡ true → FollowsOpen self.old self.new (Call.Build now) reply.now) }
         ensures differs { IfOk result (λ is. is ≡ false → DiffersOpen self.old (Call.Build now) reply.now) }
+        ensures same { IfOk result (λ is. is ≡ false → self.new ≡ self.old) }
+        ensures err { OnErr result (self.new ≡ self.old) }
+        ensures memory { OnErr result (TakesMemoryOpen self.old (Call.Build now)) }
     {
         let Some(map) = map_in(reply) else {
             return Ok(false);
@@ -115,6 +159,9 @@ impl State {
             FollowsOpen self.old self.new (Call.Build now) (Reply.Built map.now)) }
         ensures differs { IfOk result (λ is. is ≡ false →
             DiffersOpen self.old (Call.Build now) (Reply.Built map.now)) }
+        ensures same { IfOk result (λ is. is ≡ false → self.new ≡ self.old) }
+        ensures err { OnErr result (self.new ≡ self.old) }
+        ensures memory { OnErr result (TakesMemoryOpen self.old (Call.Build now)) }
     {
         let planned = self.plan(alloc, now)?;
         if !is_same_map(planned.map(), map) {

@@ -1,22 +1,33 @@
 //! How a call is recorded with its answer.
 
-ghost use Rattle.std.specs.Prelude.{◌≡◌, ◌<◌, ◌++◌, ◌∷◌, [], None, length, IfOk, OnErr, vec_capacity};
+ghost use Rattle.std.specs.Prelude.{◌≡◌, ◌<◌, ◌++◌, ◌∷◌, [], false, None, length, IfOk, OnErr, vec_capacity};
+ghost use Rattle.sched_history.specs.declared.reply.TheConstants.{MAX_WHOLE_HISTORY};
 ghost use Rattle.sched_history.specs.Refusal.{refusal_of};
 ghost use Rattle.sched_history.specs.History.{IsStep};
-ghost use Rattle.sched_history.specs.Machine.{TakesMemory};
+ghost use Rattle.sched_history.specs.Machine.{is_full, TakesMemory};
 ghost use Rattle.sched_history.specs.State.{IsRecorded};
 
 use super::Scheduler;
 use super::answering::Answer;
 use crate::call::Call;
+use crate::ledger::Ledger;
 use crate::reply::{Entry, Refusal, Reply};
 use minislots::Stamp;
 use std::alloc::AllocError;
 
 // Records a call as it came, where there is room reserved, and gives its reply.
-pub(super) fn note(entries: &mut Vec<Entry>, stamp: Stamp, call: Call, answer: Answer) -> Reply
-    requires { length entries.old.items < vec_capacity entries.old }
+pub(super) fn note(
+    ledger: &mut Ledger,
+    entries: &mut Vec<Entry>,
+    stamp: Stamp,
+    call: Call,
+    answer: Answer,
+) -> Reply
+    requires few { length ledger.old < MAX_WHOLE_HISTORY }
+    requires room { length entries.old.items < vec_capacity entries.old }
     ensures reply { result ≡ answer.reply }
+    ensures counted { ledger.new
+        ≡ ledger.old ++ record { stamp = stamp; call = call; reply = answer.kept } ∷ [] }
     ensures items { entries.new.items
         ≡ entries.old.items ++ record { stamp = stamp; call = call; reply = answer.kept } ∷ [] }
     ensures capacity { vec_capacity entries.new ≡ vec_capacity entries.old }
@@ -27,6 +38,7 @@ pub(super) fn note(entries: &mut Vec<Entry>, stamp: Stamp, call: Call, answer: A
         call,
         reply: kept,
     };
+    ledger.add(&entry);
     entries.push_reserved(entry);
     reply
 }
@@ -34,7 +46,7 @@ pub(super) fn note(entries: &mut Vec<Entry>, stamp: Stamp, call: Call, answer: A
 impl Scheduler {
     // Refuses a call.
     pub(super) fn refuse(&mut self, stamp: Stamp, call: Call, refusal: Refusal) -> Reply
-        requires room { length self.old.history < self.old.config.calls }
+        requires room { is_full self.old ≡ false }
         requires step { IsStep self.old.config self.old.history call (Reply.Refused refusal) }
         ensures refused { result ≡ Reply.Refused refusal }
         ensures recorded { IsRecorded self.old self.new stamp call result }
@@ -43,12 +55,12 @@ impl Scheduler {
             reply: Reply::Refused(refusal),
             kept: Reply::Refused(refusal),
         };
-        note(&mut self.entries, stamp, call, answer)
+        note(&mut self.ledger, &mut self.entries, stamp, call, answer)
     }
 
     // Answers a call that no test refuses.
     pub(super) fn accept(&mut self, stamp: Stamp, call: Call) -> Result<Reply, AllocError>
-        requires room { length self.old.history < self.old.config.calls }
+        requires room { is_full self.old ≡ false }
         requires unrefused { refusal_of self.old.config self.old.history call ≡ None }
         ensures recorded { IfOk result (IsRecorded self.old self.new stamp call) }
         ensures err { OnErr result (self.new ≡ self.old) }
@@ -56,6 +68,6 @@ impl Scheduler {
     {
         let alloc = *self.entries.allocator();
         let answer = self.state.answer(alloc, call)?;
-        Ok(note(&mut self.entries, stamp, call, answer))
+        Ok(note(&mut self.ledger, &mut self.entries, stamp, call, answer))
     }
 }

@@ -1,10 +1,8 @@
 //! Lines that are explained, on their way to a writer.
 
-ghost use Rattle.std.specs.Prelude.{◌≡◌, OnOk, IfErr};
-ghost use Rattle.std.specs.Io.KnownBytes.{Appends, append_known};
 ghost use Rattle.sched_lines.specs.Line.{HasLine};
 ghost use Rattle.sched_lines.specs.Meaning.{explained_line};
-ghost use Rattle.text_stream.specs.Watched.{FailsBy};
+ghost use Rattle.text_stream.specs.Writing.{Puts};
 
 use super::LineBuffer;
 use crate::meaning;
@@ -20,10 +18,8 @@ impl LineBuffer {
         answer: &Result<Reply, Unrecorded>,
     ) -> Result<(), TextFault>
         requires { HasLine answer.now }
-        ensures ok { OnOk result (Appends (append_known (W.contents writer.old) self.old)
-            (append_known (W.contents writer.new) self.new) (explained_line answer.now)) }
-        ensures err { IfErr result (λ e. e ≡ TextFault.Output) }
-        ensures failed { FailsBy TextFault.Output result (W.has_failed writer.old) (W.has_failed writer.new) }
+        ensures { Puts W.contents W.has_failed writer.old writer.new self.old self.new
+            (explained_line answer.now) result }
     {
         self.line.clear();
         if meaning::put_explained(&mut self.line, answer).is_ok() {

@@ -1,8 +1,7 @@
 //! The lines of a tally.
 
-ghost use Rattle.std.specs.Prelude.{◌≡◌, ◌≤◌, OnOk, IfErr};
-ghost use Rattle.std.specs.Io.KnownBytes.{Appends};
-ghost use Rattle.text_stream.specs.Watched.{FailsBy};
+ghost use Rattle.std.specs.Prelude.{◌≤◌};
+ghost use Rattle.text_stream.specs.Writing.{Writes};
 ghost use Rattle.storm_command.specs.StormLines.{seat_line, seat_lines};
 ghost use Rattle.storm_command.specs.StormLines.{newest_line, held_line, audit_line, tally_text};
 
@@ -14,9 +13,7 @@ use ticket_core::MAX_SEATS;
 // The line of a seat: its number and its count.
 #[tactic(auto, unfolding(crate::specs::StormLines::seat_line))]
 fn put_seat<W: Sink>(writer: &mut W, number: u64, count: u64) -> Result<(), TextFault>
-    ensures ok { OnOk result (Appends (W.contents writer.old) (W.contents writer.new) (seat_line number count)) }
-    ensures err { IfErr result (λ e. e ≡ TextFault.Output) }
-    ensures failed { FailsBy TextFault.Output result (W.has_failed writer.old) (W.has_failed writer.new) }
+    ensures { Writes W.contents W.has_failed writer.old writer.new (seat_line number count) result }
 {
     put(writer, b"seat")?;
     put_number(writer, number)?;
@@ -31,9 +28,8 @@ fn put_seats<W: Sink>(
     workers: usize,
 ) -> Result<(), TextFault>
     requires { workers ≤ 64 }
-    ensures ok { OnOk result (Appends (W.contents writer.old) (W.contents writer.new) (seat_lines counts.now workers)) }
-    ensures err { IfErr result (λ e. e ≡ TextFault.Output) }
-    ensures failed { FailsBy TextFault.Output result (W.has_failed writer.old) (W.has_failed writer.new) }
+    ensures { Writes W.contents W.has_failed writer.old writer.new
+        (seat_lines counts.now workers) result }
 {
     for number in 0..workers {
         put_seat(writer, number as u64, counts[number])?;
@@ -43,9 +39,7 @@ fn put_seats<W: Sink>(
 
 // The line of the version that was read last, or of none.
 fn put_newest<W: Sink>(writer: &mut W, newest: Option<u64>) -> Result<(), TextFault>
-    ensures ok { OnOk result (Appends (W.contents writer.old) (W.contents writer.new) (newest_line newest)) }
-    ensures err { IfErr result (λ e. e ≡ TextFault.Output) }
-    ensures failed { FailsBy TextFault.Output result (W.has_failed writer.old) (W.has_failed writer.new) }
+    ensures { Writes W.contents W.has_failed writer.old writer.new (newest_line newest) result }
 {
     match newest {
         Some(version) => put_named(writer, b"newest", version),
@@ -55,9 +49,7 @@ fn put_newest<W: Sink>(writer: &mut W, newest: Option<u64>) -> Result<(), TextFa
 
 // The line of the worker that was held, if any.
 fn put_held<W: Sink>(writer: &mut W, held: Option<usize>) -> Result<(), TextFault>
-    ensures ok { OnOk result (Appends (W.contents writer.old) (W.contents writer.new) (held_line held)) }
-    ensures err { IfErr result (λ e. e ≡ TextFault.Output) }
-    ensures failed { FailsBy TextFault.Output result (W.has_failed writer.old) (W.has_failed writer.new) }
+    ensures { Writes W.contents W.has_failed writer.old writer.new (held_line held) result }
 {
     match held {
         Some(worker) => put_named(writer, b"held", worker as u64),
@@ -67,9 +59,7 @@ fn put_held<W: Sink>(writer: &mut W, held: Option<usize>) -> Result<(), TextFaul
 
 // The line of the audit.
 fn put_audit<W: Sink>(writer: &mut W, legal: bool) -> Result<(), TextFault>
-    ensures ok { OnOk result (Appends (W.contents writer.old) (W.contents writer.new) (audit_line legal)) }
-    ensures err { IfErr result (λ e. e ≡ TextFault.Output) }
-    ensures failed { FailsBy TextFault.Output result (W.has_failed writer.old) (W.has_failed writer.new) }
+    ensures { Writes W.contents W.has_failed writer.old writer.new (audit_line legal) result }
 {
     put(
         writer,
@@ -85,9 +75,8 @@ fn put_audit<W: Sink>(writer: &mut W, legal: bool) -> Result<(), TextFault>
 #[tactic(auto, unfolding(crate::specs::StormLines::tally_text))]
 pub fn put_tally<W: Sink>(writer: &mut W, workers: usize, tally: &Tally) -> Result<(), TextFault>
     requires { workers ≤ 64 }
-    ensures ok { OnOk result (Appends (W.contents writer.old) (W.contents writer.new) (tally_text workers tally.now)) }
-    ensures err { IfErr result (λ e. e ≡ TextFault.Output) }
-    ensures failed { FailsBy TextFault.Output result (W.has_failed writer.old) (W.has_failed writer.new) }
+    ensures { Writes W.contents W.has_failed writer.old writer.new
+        (tally_text workers tally.now) result }
 {
     put_seats(writer, &tally.counts, workers)?;
     put_named(writer, b"unrecorded", tally.unrecorded)?;

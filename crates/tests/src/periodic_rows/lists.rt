@@ -7,7 +7,7 @@ use crate::base::{BASE, checked};
 use flow_book::FlowSpec;
 use minislots::{Checked, Config, Stamp};
 use periodic::Placement;
-use sched_history::{Call, Refusal, Reply, Scheduler, Unrecorded};
+use sched_history::{Call, Refusal, Reply, Scheduler};
 use std::alloc::{AllocError, AllocGlobal};
 use std::process::Abort;
 use std::test::Fail;
@@ -46,15 +46,6 @@ fn spec_of(draws: &mut Draws, frame: u32, bytes: u32) -> FlowSpec {
     }
 }
 
-// The grants in an interval of this flow and of these together.
-fn grants_with(flows: &[SlowFlow], spec: &FlowSpec) -> u32 {
-    let mut all = u32::from(spec.grants());
-    for flow in flows {
-        all = all.saturating_add(u32::from(flow.spec.grants()));
-    }
-    all
-}
-
 // The flow stands where the slow reference has it.
 fn stands(rt: &impl Abort, placement: &Placement, flow: &SlowFlow) {
     let sid = flow.sid;
@@ -76,44 +67,33 @@ impl Twins {
         })
     }
 
-    // Compares the answer to an admission with what the slow reference found.
-    fn compare(
-        &mut self,
-        rt: &impl Abort,
-        answer: Result<Reply, Unrecorded>,
-        found: Option<SlowFlow>,
-    ) -> Result<(), AllocError> {
-        match (answer, found) {
-            (Ok(Reply::Admitted(Some(placement))), Some(flow)) => {
-                stands(rt, &placement, &flow);
-                self.placed = self.placed.saturating_add(1);
-                self.flows.push(flow)?;
-            }
-            (Ok(Reply::Refused(Refusal::NoPlace)), None) => {
-                self.refused = self.refused.saturating_add(1);
-            }
-            (answer, found) => {
-                let has_place = found.is_some();
-                panic!(rt; "{answer:?} where has_place is {has_place}");
-            }
-        }
-        Ok(())
-    }
-
-    // Admits a flow, where none has its SID and there are not too many grants in an interval.
+    // Admits a flow. Where it is placed or finds no place, the slow reference says the same; any other refusal changes
+    // nothing.
     fn admit(
         &mut self,
         rt: &(impl Abort + AllocGlobal),
         sid: u16,
         spec: FlowSpec,
     ) -> Result<(), AllocError> {
-        let is_live = self.flows.iter().any(|flow| flow.sid == sid);
-        if is_live || grants_with(&self.flows, &spec) > 40 {
-            return Ok(());
-        }
+        let placed = match self.scheduler.call(STAMP, Call::Admit(sid, spec)) {
+            Ok(Reply::Admitted(Some(placement))) => Some(placement),
+            Ok(Reply::Refused(Refusal::NoPlace)) => None,
+            _ => return Ok(()),
+        };
         let found = place(&self.flows, &self.config, rt.alloc(), sid, spec, self.next)?;
-        let answer = self.scheduler.call(STAMP, Call::Admit(sid, spec));
-        self.compare(rt, answer, found)
+        match (placed, found) {
+            (Some(placement), Some(flow)) => {
+                stands(rt, &placement, &flow);
+                self.placed = self.placed.saturating_add(1);
+                self.flows.push(flow)?;
+            }
+            (None, None) => self.refused = self.refused.saturating_add(1),
+            (_, found) => {
+                let has_place = found.is_some();
+                panic!(rt; "{spec:?} where has_place is {has_place}");
+            }
+        }
+        Ok(())
     }
 
     // Removes the flow of this SID, where there is one.

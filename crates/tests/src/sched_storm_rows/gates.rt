@@ -1,33 +1,34 @@
 //! Gates that hold workers, and tell whether they run at the same time.
 
 use sched_storm::Gate;
+use std::sync::atomic::AtomicU64;
 use std::sync::atomic::Ordering::SeqCst;
-use std::sync::atomic::{AtomicBool, AtomicU64};
 use std::thread::yield_now;
+
+/// How often a gate is asked about a call before its worker gives up.
+pub const MOST: u64 = 1_000_000;
 
 /// When a worker passes.
 #[derive(Clone, Copy)]
 pub enum Rule {
-    /// This worker never does.
-    Shut(usize),
+    /// This worker makes the first so many of its calls, each after the one before was told once.
+    Counting(usize, usize),
     /// This worker makes its first call once that of the other was answered.
     After(usize, usize),
-    /// Each of two workers looks for the other within one call of the gate.
+    /// Each of two workers looks for the other within one call of the gate, which lets it pass where it found it.
     Meeting,
     /// Worker 1 waits until worker 0 tells that its call was answered, and worker 0 there until worker 1's call was
     /// answered.
     Handover,
-    /// This worker makes the first so many of its calls, each after the one before was told once.
-    Counting(usize, usize),
     /// Each worker waits until the next one was told that its call was answered; the last of so many waits for nobody.
     FromTheLast(u64),
     /// The first call passes at once, and each other one when it was asked so often before.
     Slow(u64),
 }
 
-// Counts for each of three calls of three workers, one worker after the other.
+/// Counts for each of three calls of three workers, one worker after the other.
 #[derive(Drop)]
-struct Counts {
+pub struct Counts {
     each: [AtomicU64; 9],
 }
 
@@ -55,8 +56,8 @@ impl Counts {
         }
     }
 
-    // The count for this call of a worker.
-    fn at(&self, worker: usize, index: usize) -> u64 {
+    /// The count for this call of a worker.
+    pub fn at(&self, worker: usize, index: usize) -> u64 {
         if worker < 3 && index < 3 {
             self.each[3 * worker + index].load(SeqCst)
         } else {
@@ -66,7 +67,7 @@ impl Counts {
 
     // Whether this is counted for the first call of a worker, which is looked at up to a million times.
     fn has_first_in_time(&self, worker: usize) -> bool {
-        for _ in 0..1_000_000 {
+        for _ in 0..MOST {
             if self.at(worker, 0) > 0 {
                 return true;
             }
@@ -80,9 +81,8 @@ impl Counts {
 #[derive(Drop)]
 pub struct Ruled {
     rule: Rule,
-    asked: Counts,
-    told: Counts,
-    met: [AtomicBool; 2],
+    pub asked: Counts,
+    pub told: Counts,
 }
 
 impl Ruled {
@@ -92,26 +92,7 @@ impl Ruled {
             rule,
             asked: Counts::new(),
             told: Counts::new(),
-            met: [AtomicBool::new(false), AtomicBool::new(false)],
         }
-    }
-
-    /// Which of the first two workers have met the other.
-    pub fn met(&self) -> (bool, bool) {
-        (self.met[0].load(SeqCst), self.met[1].load(SeqCst))
-    }
-
-    /// How often a worker asked about each call, and how often it told of each.
-    pub fn counts(&self, worker: usize) -> ([u64; 3], [u64; 3]) {
-        let (asked, told) = (&self.asked, &self.told);
-        (
-            [
-                asked.at(worker, 0),
-                asked.at(worker, 1),
-                asked.at(worker, 2),
-            ],
-            [told.at(worker, 0), told.at(worker, 1), told.at(worker, 2)],
-        )
     }
 }
 
@@ -120,18 +101,12 @@ impl Gate for Ruled {
         self.asked.add(worker, index);
         let told = &self.told;
         match self.rule {
-            Rule::Shut(held) => worker != held,
-            Rule::After(held, other) => worker != held || index != 0 || told.at(other, 0) > 0,
-            Rule::Meeting => {
-                if worker < 2 && self.asked.has_first_in_time(1 - worker) {
-                    self.met[worker].store(true, SeqCst);
-                }
-                true
-            }
-            Rule::Handover => worker == 0 || told.at(0, 0) > 0,
             Rule::Counting(held, allowed) => {
                 worker != held || index < allowed && (index == 0 || told.at(held, index - 1) == 1)
             }
+            Rule::After(held, other) => worker != held || index != 0 || told.at(other, 0) > 0,
+            Rule::Meeting => worker > 1 || self.asked.has_first_in_time(1 - worker),
+            Rule::Handover => worker == 0 || told.at(0, 0) > 0,
             Rule::FromTheLast(workers) => {
                 let both = told.at(0, 0).saturating_add(told.at(1, 0));
                 let all = both.saturating_add(told.at(2, 0));

@@ -15,6 +15,6 @@ returns-clause-ok g c =
       read = c.in_ok-config.ensures.ok;
       verdict = verdict;
       verdict_is = judged;
-      written = told.ensures.ok;
+      written = told.ensures.written.0;
       legal_is = legal-verdict config entries verdict told.legal judged told.ensures.legal;
     }

@@ -12,7 +12,7 @@ returns-clause-ok g c =
     let verdict = c.in_ok-verdict.verdict in
     let told = c.in_ok-legal in
     let judged : IsVerdict config entries verdict = rw (c.deref.ensures.value) at c.in_ok-verdict.ensures.ok in
-    let worded = rw (c.as_bytes.ensures.value) at c.in_ok-put.ensures.ok in
+    let worded = rw (c.as_bytes.ensures.value) at c.in_ok-put.ensures.0 in
     record {
       history = record { config = config; entries = entries };
       read = c.in_ok-config.ensures.ok;
@@ -20,6 +20,6 @@ returns-clause-ok g c =
       verdict_is = judged;
       words = string_bytes c.in-Ok.words;
       quiet = c.in-Ok.ensures;
-      written = Appends-trans _ _ _ _ _ told.ensures.ok worded;
+      written = Appends-trans _ _ _ _ _ told.ensures.written.0 worded;
       legal_is = legal-verdict config entries verdict told.legal judged told.ensures.legal;
     }

@@ -4,6 +4,6 @@ use Rattle.std.proofs.lemmas.Grind.{common_steps}
 use Rattle.decode_command.specs.Table.{times_line}
 use Rattle.decode_command.proofs.table.put_times.Goals as goal
 
-pub returns-clause-ok : goal.returns-clause-ok
+pub returns : goal.returns
 unfolding times_line
-returns-clause-ok g c = grind (arith, common_steps)
+returns g c = grind (arith, common_steps)

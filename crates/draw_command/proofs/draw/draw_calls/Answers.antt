@@ -1,9 +1,11 @@
 -- The calls are made, and their picture is written.
-use Rattle.std.proofs.Common.{◌≡◌, length, ap, arith}
+use Rattle.std.proofs.Common.{◌≡◌, length, ap, ◌∙◌, arith}
 use Rattle.minislots.specs.declared.config.Config.{Config}
 use Rattle.minislots.proofs.Bounds.{bounds_of}
 use Rattle.sched_history.specs.Machine.{Machine}
+use Rattle.sched_history.proofs.state.Whole.{kept-whole}
 use Rattle.sched_lines.proofs.Leaving.{MakesCalls-few}
+use Rattle.sched_lines.proofs.Made.{MakesCalls-handed}
 use Rattle.draw_command.proofs.Drawing.{Draws-whole}
 use Rattle.draw_command.proofs.draw.draw_calls.Goals as goal
 
@@ -22,6 +24,8 @@ count_unrecorded-requires g c =
 
 pub returns-clause-ok : goal.returns-clause-ok
 returns-clause-ok g c =
-    let drawn = c.in_ok-put_picture.ensures.ok in
-    let written = rw (c.requires.same, c.history.ensures.value) at drawn in
+    let drawn = c.in_ok-put_picture.ensures.0 in
+    let whole = c.in_ok-make_whole.ensures.ok in
+    let kept = kept-whole c.make_whole.new.scheduler (MakesCalls-handed _ _ _ whole.answers whole.makes) in
+    let written = rw (c.requires.same, c.history.ensures.value ∙ kept) at drawn in
     Draws-whole _ _ c.args.span c.args.calls.now _ _ _ c.in_ok-make_whole.ensures.ok written c.count_unrecorded.ensures

@@ -7,6 +7,6 @@ use Rattle.frame_picture.proofs.axis.put_axes.Goals as goal
 pub loop-axis-preserved : goal.loop-axis-preserved
 loop-axis-preserved g c = (
   text_more _ _ _ (axis_text c.args.scale c.args.rows) c.loop-axis.axis c.loop-axis.invariant.0
-      c.in_ok-put_axis.ensures.ok,
-  c.in_ok-put_axis.ensures.failed ∙ c.loop-axis.invariant.1,
+      c.in_ok-put_axis.ensures.0,
+  c.in_ok-put_axis.ensures.1 ∙ c.loop-axis.invariant.1,
 )

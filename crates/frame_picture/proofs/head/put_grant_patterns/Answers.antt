@@ -1,15 +1,13 @@
 -- Line by line.
-use Rattle.std.proofs.KnownBytes.{Appends-trans}
-use Rattle.text_stream.proofs.Written.{where_ok}
 use Rattle.frame_picture.specs.Head.{grant_patterns}
+use Rattle.frame_picture.proofs.Drawn.{then_text}
 use Rattle.frame_picture.proofs.head.put_grant_patterns.Goals as goal
 
-pub returns-clause-ok : goal.returns-clause-ok
+pub returns : goal.returns
 unfolding grant_patterns
-returns-clause-ok g c =
-    where_ok c.put-6.result (λ last.
-    Appends-trans _ _ _ _ _ c.in_ok-put.ensures.ok
-    (Appends-trans _ _ _ _ _ c.in_ok-put-2.ensures.ok
-    (Appends-trans _ _ _ _ _ c.in_ok-put-3.ensures.ok
-    (Appends-trans _ _ _ _ _ c.in_ok-put-4.ensures.ok
-    (Appends-trans _ _ _ _ _ c.in_ok-put-5.ensures.ok last))))) c.put-6.ensures.ok
+returns g c =
+    then_text _ _ _ _ _ _ _ _ _ c.in_ok-put.ensures
+    (then_text _ _ _ _ _ _ _ _ _ c.in_ok-put-2.ensures
+    (then_text _ _ _ _ _ _ _ _ _ c.in_ok-put-3.ensures
+    (then_text _ _ _ _ _ _ _ _ _ c.in_ok-put-4.ensures
+    (then_text _ _ _ _ _ _ _ _ _ c.in_ok-put-5.ensures c.put-6.ensures))))

@@ -59,6 +59,6 @@ loop-entry-preserved g c =
       subst (TellsUnsolicited c.note.new.flows) (sym longer) (c.note.ensures (take i h) c.loop-entry.invariant.1),
       rows_more _ _ _ c.args.scale c.args.span c.loop-entry.flows h i d c.loop-entry.number c.loop-entry-test.true
           c.entry-item.is whole so_far c.loop-entry.invariant.1 c.loop-entry.invariant.2
-          (rw c.place_in-place.ensures.value at c.in_ok-put_entry.ensures.ok),
-      c.in_ok-put_entry.ensures.failed ∙ c.loop-entry.invariant.3,
+          (rw c.place_in-place.ensures.value at c.in_ok-put_entry.ensures.0),
+      c.in_ok-put_entry.ensures.1 ∙ c.loop-entry.invariant.3,
     )

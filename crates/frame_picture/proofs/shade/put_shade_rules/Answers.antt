@@ -6,6 +6,6 @@ use Rattle.frame_picture.proofs.shade.put_shade_rules.Goals as goal
 
 pub loop-shade-preserved : goal.loop-shade-preserved
 loop-shade-preserved g c = (
-  text_more _ _ _ shade_rule c.loop-shade.shade c.loop-shade.invariant.0 c.in_ok-put_shade_rule.ensures.ok,
-  c.in_ok-put_shade_rule.ensures.failed ∙ c.loop-shade.invariant.1,
+  text_more _ _ _ shade_rule c.loop-shade.shade c.loop-shade.invariant.0 c.in_ok-put_shade_rule.ensures.0,
+  c.in_ok-put_shade_rule.ensures.1 ∙ c.loop-shade.invariant.1,
 )

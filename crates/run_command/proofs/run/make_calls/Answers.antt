@@ -1,6 +1,6 @@
 -- Each call leads the run one step on.
 use Rattle.std.proofs.Common.{◌++◌, ◌∷◌, []}
-use Rattle.sched_lines.proofs.Made.{MakesCalls-push}
+use Rattle.sched_lines.proofs.Made.{MakesCalls-push, MakesCalls-handed}
 use Rattle.run_command.proofs.run.make_calls.Goals as goal
 
 pub loop-place-preserved : goal.loop-place-preserved
@@ -12,3 +12,6 @@ loop-place-preserved c =
       MakesCalls-push _ _ _ c.args.calls.now at.place _ before.0 one.result
           c.loop-place-test.true before.1 one.ensures.made,
     )
+
+pub make_call-requires : goal.make_call-requires
+make_call-requires c = MakesCalls-handed _ _ _ c.loop-place.invariant.0 c.loop-place.invariant.1

@@ -1,18 +1,19 @@
 -- Each call leads the run one step on, and the lines that wait at the end are written.
 use Rattle.std.proofs.Common.{◌∙◌}
 use Rattle.std.proofs.lemmas.List.{take_all}
-use Rattle.sched_lines.specs.Line.{line_of}
+use Rattle.run_command.specs.Run.{line_with}
 use Rattle.sched_lines.proofs.Leaving.{MakesCalls-few}
 use Rattle.run_command.proofs.Running.{Runs-push, Runs-written, Runs-whole}
+use Rattle.sched_lines.proofs.Made.{MakesCalls-handed}
 use Rattle.run_command.proofs.run.run_calls.Goals as goal
 
 pub loop-place-preserved : goal.loop-place-preserved
 loop-place-preserved g c =
     let at = c.loop-place in (
-      Runs-push line_of _ _ _ c.args.calls.now at.place _ c.make_call-answer.result _ _ _
+      Runs-push (line_with c.args.words) _ _ _ c.args.calls.now at.place _ c.make_call-answer.result _ _ _
           c.loop-place-test.true at.invariant.0
-          c.make_call-answer.ensures.made c.in_ok-put_line.ensures.ok,
-      c.in_ok-put_line.ensures.failed ∙ at.invariant.1,
+          c.make_call-answer.ensures.made c.in_ok-put_answer.ensures.0,
+      c.in_ok-put_answer.ensures.1 ∙ at.invariant.1,
     )
 
 pub count_unrecorded-requires : goal.count_unrecorded-requires
@@ -25,5 +26,11 @@ count_unrecorded-requires g c =
 pub returns-clause-ok : goal.returns-clause-ok
 returns-clause-ok g c =
     let at = c.loop-place in
-    Runs-whole _ _ c.args.calls.now at.place _ _ _ c.loop-place-test.false
-    (Runs-written line_of _ _ _ _ _ _ _ at.invariant.0 c.in_ok-write_out.ensures.ok) c.count_unrecorded.ensures
+    Runs-whole c.args.words _ _ c.args.calls.now at.place _ _ _ c.loop-place-test.false
+    (Runs-written (line_with c.args.words) _ _ _ _ _ _ _ at.invariant.0 c.in_ok-write_out.ensures.written.0)
+    c.count_unrecorded.ensures
+
+pub make_call-answer-requires : goal.make_call-answer-requires
+make_call-answer-requires g c =
+    let runs = c.loop-place.invariant.0 in
+    MakesCalls-handed _ _ _ runs.answers runs.makes

@@ -1,5 +1,8 @@
 -- The calls are made, and the text of their history is written.
+use Rattle.std.proofs.Common.{◌∙◌}
+use Rattle.sched_history.proofs.state.Whole.{kept-whole}
 use Rattle.sched_lines.proofs.Leaving.{MakesCalls-few}
+use Rattle.sched_lines.proofs.Made.{MakesCalls-handed}
 use Rattle.run_command.proofs.Running.{history-written}
 use Rattle.run_command.proofs.run.run_history.Goals as goal
 
@@ -10,7 +13,8 @@ count_unrecorded-requires g c =
 pub returns-clause-ok : goal.returns-clause-ok
 returns-clause-ok g c =
     let makes = c.make_calls.ensures in
-    let fits = rw (c.history.ensures.value, c.requires.same) at c.history_fits.ensures in
-    let written = rw (c.config.ensures.value, c.requires.same, c.history-2.ensures.value)
+    let kept = kept-whole c.make_calls.new.scheduler (MakesCalls-handed _ _ _ makes.0 makes.1) in
+    let fits = rw (c.history.ensures.value ∙ kept, c.requires.same) at c.history_fits.ensures in
+    let written = rw (c.config.ensures.value, c.requires.same, c.history-2.ensures.value ∙ kept)
     at c.in_ok-put_history.ensures.ok in
     history-written _ _ c.args.calls.now makes.0 _ _ _ makes.1 fits written c.count_unrecorded.ensures

@@ -2,4 +2,4 @@
 use Rattle.run_command.proofs.run.run_script.Goals as goal
 
 pub returns-clause-ok : goal.returns-clause-ok
-returns-clause-ok g c = c.in_ok-run_counting.ensures.ok.ran
+returns-clause-ok g c = rw (c.output_asked.ensures) at c.in_ok-run_with.ensures.ok.ran

@@ -2,7 +2,7 @@
 use Rattle.std.proofs.Common.{◌≡◌, Option, ap, ◌∙◌}
 use Rattle.std.specs.Prelude.{option_map}
 use Rattle.text_stream.specs.declared.fault.TextFault.{TextFault}
-use Rattle.text_stream.specs.RunFault.{run_fault_of}
+use Rattle.text_stream.specs.declared.run_fault.RunFault.TheVariants.{Text}
 use Rattle.sched_check.specs.Kind.{kind_of}
 use Rattle.sched_check.specs.Found.{fault_of}
 use Rattle.sched_check.proofs.check.run_check.Goals as goal
@@ -16,7 +16,7 @@ returns-clause-ok g c =
     record {
       bytes = bytes;
       all = c.in_ok-bytes.ensures.ok;
-      found_is = c.told.ensures ∙ ap (λ (o : Option TextFault). option_map run_fault_of o) fault;
+      found_is = c.told.ensures ∙ ap (λ (o : Option TextFault). option_map Text o) fault;
       words = c.as_bytes.result.now;
-      written = rw (kind, fault) at c.in_ok-put_report.ensures.ok;
+      written = rw (kind, fault) at c.in_ok-put_report.ensures.0;
     }

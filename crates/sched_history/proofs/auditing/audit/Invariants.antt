@@ -1,10 +1,11 @@
--- The entries gone through are legal, and what is kept is that after them.
+-- The entries gone through are taken, and are legal.
 use Rattle.std.proofs.Common.{◌≡◌, take}
-use Rattle.sched_history.specs.State.{IsKeptOf}
+use Rattle.sched_history.specs.History.{IsLegal}
+use Rattle.sched_history.specs.Machine.{Past}
 use Rattle.sched_history.proofs.auditing.audit.Given as goal
 
 abbrev pub invariant-loop-index : goal.invariant-loop-index
 invariant-loop-index l = record {
-  config : l.state.config ≡ l.config;
-  kept : IsKeptOf l.state (take l.index l.entries);
+  taken : ◌≡◌ {A = Past} l.auditor (record { config = l.config; history = take l.index l.entries });
+  legal : IsLegal l.config (take l.index l.entries);
 }

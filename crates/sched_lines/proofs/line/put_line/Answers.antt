@@ -4,6 +4,6 @@ use Rattle.std.proofs.lemmas.Grind.{common_steps}
 use Rattle.sched_lines.specs.Line.{line_of}
 use Rattle.sched_lines.proofs.line.put_line.Goals as goal
 
-pub returns-clause-ok : goal.returns-clause-ok
+pub returns : goal.returns
 unfolding line_of
-returns-clause-ok g c = grind (arith, common_steps)
+returns g c = grind (arith, common_steps)

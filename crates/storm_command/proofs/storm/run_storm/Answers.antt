@@ -19,6 +19,6 @@ returns-clause-ok g c =
       tally_is = c.in-Ok.ensures.gated;
       written = subst
           (λ n. Appends (contents c.args.writer.now) (contents c.put_tally.new.writer) (tally_text n c.in-Ok.tally))
-          workers c.in_ok-put_tally.ensures.ok;
+          workers c.in_ok-put_tally.ensures.0;
       free_is = c.went_well.ensures;
     }

@@ -2,8 +2,7 @@
 use Rattle.std.proofs.Common.{◌≡◌, sym, ap, ◌∙◌, subst, arith}
 use Rattle.sched_history.specs.declared.reply.Entry.{Entry}
 use Rattle.ticket_lock.specs.Standing.{Lock, seats_of}
-use Rattle.shared_sched.specs.Desk.{FixedDesk, IsDeskLock, HasPress}
-use Rattle.worker_sched.specs.Desk.{no_press, desk_of}
+use Rattle.sched_desk.specs.Desk.{FixedDesk, IsDeskLock, HasPress, no_press, desk_of}
 use Rattle.worker_sched.proofs.Opened.{is_desk_lock}
 use Rattle.worker_sched.proofs.opening.open.Goals as goal
 

@@ -1,4 +1,4 @@
--- What a place owns may go to another thread, since a channel and the right to free its memory may.
+-- What a place owns may go to another thread, since a scheduler and the right to free its memory may.
 use mir.Raw.{raw}
 use base.Shift.{Keyless}
 use denote.Memory.{lone}
@@ -13,16 +13,16 @@ use Rattle.std_alloc.proofs.SendSync.{quiet, lies}
 use Rattle.std_heap.proofs.Global.TheSendSync as handle
 use Rattle.sched_history.specs.Machine.{Machine}
 use Rattle.mapsched_c.specs.Place.{place_owns}
-use Rattle.worker_sched.specs.contracts.channel.Channel as Channel
-use Rattle.worker_sched.proofs.channel.Channel.TheSendSync.{the_send as channel}
+use Rattle.sched_desk.specs.contracts.keeping.WholeScheduler as WholeScheduler
+use Rattle.sched_desk.proofs.keeping.WholeScheduler.TheSendSync.{the_send as scheduler}
 use Rattle.mapsched_c.specs.contracts.place.Place.{the_row, the_type}
 
 crosses : (alloc : Global) (at : Ptr) (o : Option Machine) → Keyless (place_owns alloc at o)
 crosses alloc at None = tt
 crosses alloc at (Some m) = (
-  lies Channel.the_row channel at m,
+  lies WholeScheduler.the_row scheduler at m,
   heap.frees.frees alloc
-      (raw (lone Channel.the_row.mir)) at,
+      (raw (lone WholeScheduler.the_row.mir)) at,
 )
 
 pub send : IsSend the_row

@@ -1,13 +1,14 @@
 -- The answer to an open call is entered.
-use Rattle.std.proofs.Common.{◌<◌, length, sym, subst, Result, Ok, Err, OnErr}
-use Rattle.sched_history.specs.Machine.{TakesMemory}
+use Rattle.std.proofs.Common.{◌≡◌, false, sym, subst, Result, Ok, Err, OnErr}
+use Rattle.sched_history.specs.Machine.{is_full, TakesMemory}
 use Rattle.sched_history.proofs.state.Recording.{IsOpenTo-inside, IsSound-answered, IsRecorded-answered}
+use Rattle.sched_history.proofs.state.Recording.{room-ledger, room-reserved}
 use Rattle.sched_history.proofs.scheduler.Scheduler.accept.Goals as goal
 
 pub answer-requires : goal.answer-requires
 answer-requires c =
     let a = c.self.inside in (
-      a.entries.items,
+      a.ledger,
       IsOpenTo-inside a c.args.self.now c.self.view_is c.args.call c.self.invariant c.requires.room
           c.requires.unrefused,
     )
@@ -23,7 +24,7 @@ returns-in_err-answer-clause-memory c =
     c.requires.unrefused in
     on-err c.from_residual.result _
     (subst (λ m. TakesMemory m.config m.history c.args.call) c.self.view_is
-    (c.in_err-answer.ensures.memory a.entries.items opens))
+    (c.in_err-answer.ensures.memory a.ledger opens))
 
 pub returns-clause-recorded : goal.returns-clause-recorded
 returns-clause-recorded c =
@@ -31,9 +32,11 @@ returns-clause-recorded c =
     let opens = IsOpenTo-inside a c.args.self.now c.self.view_is c.args.call c.self.invariant c.requires.room
     c.requires.unrefused in
     rw (c.note.ensures.reply)
-    (IsRecorded-answered a (record { state = c.answer.new.self; entries = c.note.new.entries }) c.args.stamp c.args.call
-    c.in_ok-answer.answer c.self.invariant opens (c.in_ok-answer.ensures.answered a.entries.items opens)
-    c.note.ensures.items c.args.self.now c.self.view_is)
+    (IsRecorded-answered a
+    (record { state = c.answer.new.self; ledger = c.note.new.ledger; entries = c.note.new.entries })
+    c.args.stamp c.args.call
+    c.in_ok-answer.answer c.self.invariant opens (c.in_ok-answer.ensures.answered a.ledger opens)
+    c.note.ensures.counted c.note.ensures.items c.args.self.now c.self.view_is)
 
 pub invariant_of-self-2 : goal.invariant_of-self-2
 invariant_of-self-2 c =
@@ -41,5 +44,12 @@ invariant_of-self-2 c =
     let opens = IsOpenTo-inside a c.args.self.now c.self.view_is c.args.call c.self.invariant c.requires.room
     c.requires.unrefused in
     IsSound-answered a _ c.args.stamp c.args.call c.in_ok-answer.answer c.self.invariant opens
-    (c.in_ok-answer.ensures.answered a.entries.items opens) c.note.ensures.items c.note.ensures.capacity
-    (subst (λ m. length m.history < m.config.calls) (sym c.self.view_is) c.requires.room)
+    (c.in_ok-answer.ensures.answered a.ledger opens) c.note.ensures.counted c.note.ensures.items
+    c.note.ensures.capacity (subst (λ m. is_full m ≡ false) (sym c.self.view_is) c.requires.room)
+
+pub note-requires-clause-few : goal.note-requires-clause-few
+note-requires-clause-few c = room-ledger c.self.inside c.args.self.now c.self.view_is c.requires.room
+
+pub note-requires-clause-room : goal.note-requires-clause-room
+note-requires-clause-room c =
+    room-reserved c.self.inside c.args.self.now c.self.view_is c.self.invariant c.requires.room

@@ -1,8 +1,8 @@
 -- A build that no test refuses is planned.
-use Rattle.std.proofs.Common.{◌<◌, length, sym, subst}
+use Rattle.std.proofs.Common.{◌≡◌, false, sym, subst}
 use Rattle.sched_history.specs.declared.call.Call.TheVariants.{Build}
+use Rattle.sched_history.specs.Machine.{is_full}
 use Rattle.sched_history.specs.State.{IsBuildAfter}
-use Rattle.sched_history.proofs.steps.Passed.{above}
 use Rattle.sched_history.proofs.state.Recording.{IsOpenTo-inside, IsPlanAfter-build}
 use Rattle.sched_history.proofs.scheduler.Scheduler.plan.Goals as goal
 use Rattle.sched_history.proofs.scheduler.Scheduler.plan.Goals.{in-Ok, in-Err}
@@ -11,24 +11,23 @@ pub plan-requires : goal.plan-requires
 plan-requires c =
     let a = c.self.inside in
     let m = c.args.self.now in (
-      a.entries.items,
-      IsOpenTo-inside a m c.self.view_is (Build c.args.now) c.self.invariant
-          (above m.config.calls (length m.history) (sym c.if-is_full.ensures.value)) (sym c.in_default.ensures),
+      a.ledger,
+      IsOpenTo-inside a m c.self.view_is (Build c.args.now) c.self.invariant (sym c.if-is_full.ensures.value)
+          (sym c.in_default.ensures),
     )
 
 pub returns-clause-fits : goal.returns-clause-fits
 returns-clause-fits c =
     let a = c.self.inside in
     let m = c.args.self.now in
-    let room : length m.history < m.config.calls =
-    above m.config.calls (length m.history) (sym c.if-is_full.ensures.value) in
+    let room : is_full m ≡ false = sym c.if-is_full.ensures.value in
     let opens = IsOpenTo-inside a m c.self.view_is (Build c.args.now) c.self.invariant room
     (sym c.in_default.ensures) in
     elim c.match-plan.branch [
       | in-Ok w ↦ rw w.result-is
-          (IsPlanAfter-build m.config m.history w.in-Ok.planned room
+          (IsPlanAfter-build m w.in-Ok.planned room
           (rw w.in-Ok.ensures.clock (sym c.in_default.ensures))
           (subst (λ n. IsBuildAfter n.config n.history w.in-Ok.planned) c.self.view_is
-          (w.in-Ok.ensures.fits a.entries.items opens)))
+          (w.in-Ok.ensures.fits a.ledger opens)))
       | in-Err w ↦ rw w.result-is tt
     ]

@@ -1,10 +1,11 @@
 -- A refusal is entered, and changes nothing else.
-use Rattle.std.proofs.Common.{◌<◌, length, refl, sym, subst}
+use Rattle.std.proofs.Common.{◌≡◌, false, refl, sym, subst}
 use Rattle.sched_history.specs.declared.reply.Reply.TheVariants.{Refused}
 use Rattle.sched_history.specs.History.{IsStep}
+use Rattle.sched_history.specs.Machine.{is_full}
 use Rattle.sched_history.proofs.flows.Refused.{IsQuiet-refused}
 use Rattle.sched_history.proofs.state.Moves.{IsStateAfter-quiet}
-use Rattle.sched_history.proofs.state.Recording.{IsSound-push}
+use Rattle.sched_history.proofs.state.Recording.{IsSound-push, room-ledger, room-reserved}
 use Rattle.sched_history.proofs.scheduler.Scheduler.refuse.Goals as goal
 
 pub invariant_of-self : goal.invariant_of-self
@@ -13,8 +14,15 @@ invariant_of-self c =
     let was = sym c.self.view_is in
     let reply = Refused c.args.refusal in
     IsSound-push a _ (record { stamp = c.args.stamp; call = c.args.call; reply = reply }) c.self.invariant
-    c.note.ensures.items c.note.ensures.capacity refl
-    (subst (λ m. length m.history < m.config.calls) was c.requires.room)
+    c.note.ensures.counted c.note.ensures.items c.note.ensures.capacity refl
+    (subst (λ m. is_full m ≡ false) was c.requires.room)
     (subst (λ m. IsStep m.config m.history c.args.call reply) was c.requires.step) tt
-    (IsStateAfter-quiet a.state a.entries.items c.self.invariant.is_after c.args.stamp c.args.call reply
+    (IsStateAfter-quiet a.state a.ledger c.self.invariant.is_after c.args.stamp c.args.call reply
     (IsQuiet-refused c.args.call c.args.refusal))
+
+pub note-requires-clause-few : goal.note-requires-clause-few
+note-requires-clause-few c = room-ledger c.self.inside c.args.self.now c.self.view_is c.requires.room
+
+pub note-requires-clause-room : goal.note-requires-clause-room
+note-requires-clause-room c =
+    room-reserved c.self.inside c.args.self.now c.self.view_is c.self.invariant c.requires.room

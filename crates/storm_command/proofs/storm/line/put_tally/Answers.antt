@@ -4,6 +4,6 @@ use Rattle.std.proofs.lemmas.Grind.{common_steps}
 use Rattle.storm_command.specs.StormLines.{tally_text}
 use Rattle.storm_command.proofs.storm.line.put_tally.Goals as goal
 
-pub returns-clause-ok : goal.returns-clause-ok
+pub returns : goal.returns
 unfolding tally_text
-returns-clause-ok g c = grind (arith, common_steps)
+returns g c = grind (arith, common_steps)

@@ -2,7 +2,7 @@
 use Rattle.std.proofs.Common.{◌≡◌, None, IsSome, length, inl, sym, ap, ◌∙◌, subst, arith}
 use Rattle.std.proofs.lemmas.List.FromFn.{length-map-range_with_len}
 use Rattle.ticket_lock.specs.Calls.{new_standing}
-use Rattle.shared_sched.specs.Desk.{SharedDesk}
+use Rattle.sched_desk.specs.Desk.{SharedDesk}
 use Rattle.worker_sched.specs.Worker.{HasOwn, IsFirstWorker}
 use Rattle.worker_sched.proofs.First.{has_own, is_first}
 use Rattle.worker_sched.proofs.worker.Worker.open.Goals as goal

@@ -4,7 +4,7 @@ use Rattle.sched_history.proofs.scheduler.present.Present.periodic_grants.Goals 
 
 pub returns-clause-value : goal.returns-clause-value
 returns-clause-value c = rw (← c.self.view_is)
-    (c.grants.ensures.value ∙ grants-placed_by c.self.inside.state.now c.self.inside.entries.now
+    (c.grants.ensures.value ∙ grants-placed_by c.self.inside.state.now c.self.inside.ledger.now
     c.self.invariant.is_after c.self.invariant.legal)
 
 pub returns-clause-most : goal.returns-clause-most

@@ -1,14 +1,17 @@
 -- A periodic flow is admitted with the place that is handed in.
-use Rattle.std.proofs.Common.{Some, refl, inl, arith}
-use Rattle.periodic.specs.Placement.{IsPlacement}
+use Rattle.std.proofs.Common.{Some, refl, ap, inl, arith, Result, Ok, Err, OnErr}
+use Rattle.periodic.specs.Placement.{Placed, IsPlacement}
+use Rattle.periodic.specs.Table.{TableView}
+use Rattle.sched_history.specs.declared.scheduler.state.State.{State}
 use Rattle.sched_history.specs.declared.reply.Reply.TheVariants as replies
 use Rattle.sched_history.specs.Life.{table_of}
 use Rattle.sched_history.specs.Time.{next_after}
 use Rattle.sched_history.proofs.lives.Finding.{good_sid, life_of-dead}
 use Rattle.sched_history.proofs.placements.Counts.{grants-placed_by}
+use Rattle.sched_history.proofs.placements.Tables.{find-with_placed, table-undone}
 use Rattle.sched_history.proofs.steps.Passed.{passed-admit}
 use Rattle.sched_history.proofs.state.Present.{flow_of-fresh, find-fresh, answers-periodic}
-use Rattle.sched_history.proofs.state.Present.{placement-after}
+use Rattle.sched_history.proofs.state.Present.{placement-after, IsPlaceable-after}
 use Rattle.sched_history.proofs.state.Moves.{IsStateAfter-placed}
 use Rattle.sched_history.proofs.scheduler.state.State.adopt.Goals as goal
 
@@ -37,8 +40,40 @@ admit-requires c =
     let admits = passed-admit s.config c.requires.open.0 c.args.sid c.args.spec opens.unrefused in
     flow_of-fresh s c.requires.open.0 c.args.sid opens.is_after admits.good admits.fresh
 
-pub returns-clause-follows : goal.returns-clause-follows
-returns-clause-follows c = λ is h opens.
+pub remove-requires : goal.remove-requires
+remove-requires c =
+    let p : Placed = record { sid = c.args.sid; spec = c.args.spec; placement = c.args.placement.now } in
+    rw (c.in_ok-adopt.ensures.placed c.if-not-branch.false)
+    (find-with_placed p c.args.self.now.table.placed)
+
+pub returns-in-Err-clause-err : goal.returns-in-Err-clause-err
+returns-in-Err-clause-err c =
+    let old : State = c.args.self.now in
+    let p : Placed = record { sid = c.args.sid; spec = c.args.spec; placement = c.args.placement.now } in
+    let opens = c.requires.open.1 in
+    let admits = passed-admit old.config c.requires.open.0 c.args.sid c.args.spec opens.unrefused in
+    let put : TableView = c.adopt.new.self in
+    rw (c.remove.ensures, c.in-Err.ensures.err)
+    (ap (λ (t : TableView). record old { table = t })
+    (table-undone old.table put p (find-fresh old c.requires.open.0 c.args.sid opens.is_after admits.good admits.fresh)
+    c.in_ok-adopt.ensures.config (c.in_ok-adopt.ensures.placed c.if-not-branch.false)))
+
+on-err : {X Y : Type 0} (r : Result X Y) (P : Type 0) → P → OnErr r P
+on-err (Ok x) P p = tt
+on-err (Err e) P p = p
+
+pub returns-in_err-adopt-clause-memory : goal.returns-in_err-adopt-clause-memory
+returns-in_err-adopt-clause-memory c =
+    on-err c.from_residual.result _ (λ h opens.
+    IsPlaceable-after c.args.self.now h c.args.spec c.args.placement.now opens.is_after c.in_err-adopt.ensures.memory)
+
+pub returns-in-Err-clause-memory : goal.returns-in-Err-clause-memory
+returns-in-Err-clause-memory c = λ h opens.
+    IsPlaceable-after c.args.self.now h c.args.spec c.args.placement.now opens.is_after
+    (c.in_ok-adopt.ensures.lawful c.if-not-branch.false)
+
+pub returns-in-Ok-clause-follows : goal.returns-in-Ok-clause-follows
+returns-in-Ok-clause-follows c = λ is h opens.
     let s = c.args.self.now in
     let sid = c.args.sid in
     let spec = c.args.spec in
@@ -52,8 +87,9 @@ returns-clause-follows c = λ is h opens.
       config = refl;
       answers = answers-periodic s.config h spec (replies.Admitted (Some p)) c.requires.periodic
           (inl (p, lawful, refl));
+      encodable = tt;
       is_after = λ stamp. IsStateAfter-placed s h opens.is_after stamp sid spec p
           (record s { book = c.admit.new.self; table = c.adopt.new.self }) refl
-          (life_of-dead sid h admits.fresh) good.0 good.1 c.in_ok-admit.ensures.config c.in_ok-admit.ensures.ok
+          (life_of-dead sid h admits.fresh) good.0 good.1 c.in-Ok.ensures.config c.in-Ok.ensures.ok
           taken.config (taken.placed c.if-not-branch.false);
     }

@@ -2,7 +2,7 @@
 use Rattle.std.proofs.Common.{refl, arith}
 use Rattle.sched_history.proofs.steps.Passed.{passed-ask}
 use Rattle.sched_history.proofs.state.Present.{IsLive-after, asked-fits}
-use Rattle.sched_history.proofs.rows.Limits.{most_entries}
+use Rattle.sched_history.proofs.rows.Limits.{most_history}
 use Rattle.sched_history.proofs.state.Moves.{IsStateAfter-asked}
 use Rattle.sched_history.proofs.scheduler.state.State.answer.Goals as goal
 
@@ -20,7 +20,7 @@ ask-requires-clause-fits c =
     let h = c.requires.0 in
     let opens = rw c.in-Ask.is at c.requires.1 in
     let asks = passed-ask s.config h c.in-Ask.receiver c.in-Ask.sid c.in-Ask.bytes c.in-Ask.heard opens.unrefused in
-    asked-fits s h c.in-Ask.sid c.in-Ask.bytes (omega (arith, asks.most)) (omega (arith, opens.short, most_entries))
+    asked-fits s h c.in-Ask.sid c.in-Ask.bytes (omega (arith, asks.most)) (omega (arith, opens.short, most_history))
     opens.bounded.asked
 
 pub returns-in-Ask-clause-answered : goal.returns-in-Ask-clause-answered

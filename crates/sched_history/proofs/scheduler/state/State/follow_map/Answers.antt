@@ -4,6 +4,7 @@ use Rattle.std.proofs.lemmas.Option.{same_Some}
 use Rattle.sched_history.specs.declared.call.Call.TheVariants.{Build}
 use Rattle.sched_history.specs.declared.reply.Reply.TheVariants.{Built}
 use Rattle.sched_history.specs.History.{map_by}
+use Rattle.sched_history.specs.Machine.{IsEncodable}
 use Rattle.sched_history.specs.State.{IsStateAfter}
 use Rattle.sched_history.proofs.scheduler.state.State.follow_map.Goals as goal
 
@@ -25,6 +26,7 @@ returns-clause-follows c = λ is h opens.
     record {
       config = answered.config;
       answers = (planned.map, fits.lawful, ap (λ m. Built m) same);
+      encodable = subst (λ r. IsEncodable r) reply answered.encodable;
       is_after = λ stamp. subst
           (λ r. IsStateAfter c.commit.new.self
           (h ++ record { stamp = stamp; call = Build c.args.now; reply = r } ∷ [])) reply

@@ -1,15 +1,20 @@
 -- There is no place for a periodic flow.
-use Rattle.std.proofs.Common.{refl, inr, arith}
+use Rattle.std.proofs.Common.{refl, ap, ◌∙◌, inr, arith}
+use Rattle.periodic.specs.Placement.{Placed}
+use Rattle.periodic.specs.Table.{TableView}
+use Rattle.sched_history.specs.declared.scheduler.state.State.{State}
 use Rattle.sched_history.specs.declared.call.Call.TheVariants as calls
 use Rattle.sched_history.specs.declared.reply.Refusal.TheVariants.{NoPlace}
 use Rattle.sched_history.specs.declared.reply.Reply.TheVariants as replies
 use Rattle.sched_history.proofs.flows.Refused.{IsQuiet-refused}
 use Rattle.sched_history.proofs.placements.Counts.{grants-placed_by}
+use Rattle.sched_history.proofs.placements.Tables.{find-with_placed, table-undone}
 use Rattle.sched_history.proofs.steps.Passed.{passed-admit}
 use Rattle.sched_history.proofs.state.Present.{find-fresh, answers-periodic}
 use Rattle.sched_history.proofs.state.Present.{no_placement-after}
 use Rattle.sched_history.proofs.state.Moves.{IsStateAfter-quiet}
 use Rattle.sched_history.proofs.scheduler.state.State.has_no_place.Goals as goal
+use Rattle.sched_history.proofs.scheduler.state.State.has_no_place.Goals.{in-Ok, in-Err-Memory}
 
 pub place-requires-clause-is_new : goal.place-requires-clause-is_new
 place-requires-clause-is_new c =
@@ -29,14 +34,36 @@ place-requires-clause-room c =
       admits.few_grants c.requires.periodic,
     )
 
-pub returns-clause-follows : goal.returns-clause-follows
-returns-clause-follows c = λ is h opens.
+pub remove-requires : goal.remove-requires
+remove-requires c =
+    let p : Placed = record { sid = c.args.sid; spec = c.args.spec; placement = c.in-Ok.field-0 } in
+    rw (c.in-Ok.ensures.placed) (find-with_placed p c.args.self.now.table.placed)
+
+pub returns-clause-same : goal.returns-clause-same
+returns-clause-same c =
+    let old : State = c.args.self.now in
+    let opens = c.requires.open.1 in
+    let admits = passed-admit old.config c.requires.open.0 c.args.sid c.args.spec opens.unrefused in
+    let fresh = find-fresh old c.requires.open.0 c.args.sid opens.is_after admits.good admits.fresh in
+    let put : TableView = c.place.new.self in
+    elim c.match-place.branch [
+      | in-Ok w ↦ (
+          let p : Placed = record { sid = c.args.sid; spec = c.args.spec; placement = w.in-Ok.field-0 } in
+          w.self-is ∙ rw (w.remove.ensures)
+          (ap (λ (t : TableView). record old { table = t })
+          (table-undone old.table put p fresh w.in-Ok.ensures.config w.in-Ok.ensures.placed)))
+      | in-Err-Memory w ↦ w.self-is ∙ rw (w.in-Err-Memory.ensures.err) (refl {a = old})
+    ]
+
+pub returns-in-Err-NoPlace-clause-follows : goal.returns-in-Err-NoPlace-clause-follows
+returns-in-Err-NoPlace-clause-follows c = λ is h opens.
     let s = c.args.self.now in
     let none = (rw c.in-Err-NoPlace.field-0-is at c.in-Err-NoPlace.ensures).no_place.0 refl in
     rw (c.in-Err-NoPlace.ensures.err) (record {
       config = refl;
       answers = answers-periodic s.config h c.args.spec (replies.Refused NoPlace) c.requires.periodic
           (inr (no_placement-after s h c.args.spec opens.is_after none, refl));
+      encodable = tt;
       is_after = λ stamp. IsStateAfter-quiet s h opens.is_after stamp (calls.Admit c.args.sid c.args.spec)
           (replies.Refused NoPlace) (IsQuiet-refused (calls.Admit c.args.sid c.args.spec) NoPlace);
     })

@@ -1,0 +1,18 @@
+//! What is said of a file that is read: where its faults are and what was expected there, or what it has.
+#![tactic(auto)]
+
+mod config;
+mod counts;
+mod json_text;
+mod lines;
+mod nearest;
+mod notes;
+mod objects;
+mod place;
+mod sort;
+mod tell;
+mod walk;
+mod words;
+mod written;
+
+pub use words::{words_on, words_on_text};

@@ -1,0 +1,102 @@
+//! What is said of an object by the form of its sort.
+
+use super::nearest::nearest;
+use super::notes::Notes;
+use super::place::Place;
+use super::sort::{forms_of, name_key, named};
+use super::tell::tell_near;
+use super::written::{Part, find, shown, text_of};
+use json_fields::forms::{Form, Holds, Member, Missing, Sort};
+use std::alloc::AllocError;
+use std::fmt::Write;
+
+impl Notes {
+    // One more object of a form.
+    fn count(&mut self, sort: Sort, name: &str) {
+        match sort {
+            Sort::Call => self.calls.add(name),
+            Sort::Flow => self.flows.add(name),
+            Sort::Reply => self.replies.add(name),
+            Sort::Document(_) | Sort::Config | Sort::Entry => {}
+        }
+    }
+
+    // That no form of these has a name, which is written so.
+    fn tell_name(
+        &mut self,
+        place: Place,
+        key: &str,
+        forms: &[Form],
+        name: &str,
+        written: &[u8],
+    ) -> Result<(), AllocError> {
+        let mut names = Vec::new(self.alloc);
+        for form in forms {
+            names.push(form.0)?;
+        }
+        let near = nearest(self.alloc, name, &names)?;
+        let found = shown(written);
+        write!(self.here, "{place}: \"{key}\" is {found}")?;
+        tell_near(&mut self.here, near, &names)
+    }
+
+    // The form of an object, by its name where there is more than one. What is wrong with the name is told.
+    fn form_of(
+        &mut self,
+        place: Place,
+        sort: Sort,
+        parts: &[Part],
+    ) -> Result<Option<&'static Form>, AllocError> {
+        let forms = forms_of(sort);
+        let Some(key) = name_key(sort) else {
+            return Ok(forms.first());
+        };
+        let written = find(self.alloc, parts, key)?.0.unwrap_or(b"");
+        let Some(name) = text_of(self.alloc, written)? else {
+            let members = [(key, Holds::Name, Missing::Fault)];
+            self.tell_members(place, &members, parts)?;
+            self.tell_keys(place, &members, parts, false)?;
+            return Ok(None);
+        };
+        let form = named(forms, &name);
+        match form {
+            Some(_) => self.count(sort, &name),
+            None => self.tell_name(place, key, forms, &name, written)?,
+        }
+        Ok(form)
+    }
+
+    /// What is wrong with an object of a sort and with the objects in it, so many deep.
+    pub fn tell_object(
+        &mut self,
+        place: Place,
+        sort: Sort,
+        parts: &[Part],
+        depth: usize,
+    ) -> Result<(), AllocError> {
+        let Some((name, members)) = self.form_of(place, sort, parts)? else {
+            return Ok(());
+        };
+        self.tell_members(place, members, parts)?;
+        self.tell_keys(place, members, parts, true)?;
+        for member in *members {
+            let Some((key, inner)) = object_in(*member) else {
+                continue;
+            };
+            if let Some(parts) = self.inner(parts, key)?
+                && depth > 0
+            {
+                self.tell_object(place.under(key), inner, &parts, depth - 1)?;
+            }
+        }
+        self.tell_pair(place, sort, name, parts)
+    }
+}
+
+// The key of an object that is a member, and its sort.
+fn object_in(member: Member) -> Option<(&'static str, Sort)> {
+    match member {
+        (key, Holds::Object(sort), _) => Some((key, sort)),
+        _ => None,
+    }
+}

@@ -1,0 +1,172 @@
+//! A file is looked through, from its document to the calls or the entries.
+
+use super::notes::Notes;
+use super::place::Place;
+use super::sort::list_of;
+use super::written::{Part, begins, find, parts, shown, whole};
+use json_fields::forms::{Holds, Kind, Member, Sort};
+use std::alloc::AllocError;
+use std::fmt::Write;
+
+/// How deep objects stand in an object: a flow in the call of an entry.
+const DEPTH: usize = 2;
+
+// Whether a refusal has this number, with this value or none.
+fn is_refusal(number: u64, value: Option<u64>) -> bool {
+    match (number, value) {
+        (3, Some(reason)) => 1 <= reason && reason <= 7,
+        (11 | 12 | 13 | 15 | 16 | 17, value) => value.is_some(),
+        (1..=17, None) => number != 3,
+        _ => false,
+    }
+}
+
+impl Notes {
+    // What is wrong with the value of a refusal.
+    fn tell_refusal(&mut self, place: Place, parts: &[Part]) -> Result<(), AllocError> {
+        let (number, value) = (
+            find(self.alloc, parts, "number")?.0.and_then(whole),
+            find(self.alloc, parts, "value")?.0,
+        );
+        match (number, value, value.and_then(whole)) {
+            (None, _, _) | (_, Some(_), None) => Ok(()),
+            (Some(number), _, value) if is_refusal(number, value) => Ok(()),
+            _ => writeln!(
+                self.here,
+                "{place}: no refusal has this number, with this value or none"
+            ),
+        }
+    }
+
+    // What is wrong with a reference without starts, or with starts without a reference.
+    fn tell_placement(&mut self, place: Place, parts: &[Part]) -> Result<(), AllocError> {
+        let has_reference = find(self.alloc, parts, "reference")?.0.is_some();
+        let has_starts = find(self.alloc, parts, "starts")?.0.is_some();
+        if has_reference == has_starts {
+            return Ok(());
+        }
+        writeln!(
+            self.here,
+            "{place}: \"reference\" and \"starts\" stand together or not at all"
+        )
+    }
+
+    /// What is wrong with members of an object of this form that do not fit each other.
+    pub fn tell_pair(
+        &mut self,
+        place: Place,
+        sort: Sort,
+        name: &str,
+        parts: &[Part],
+    ) -> Result<(), AllocError> {
+        match (sort, name) {
+            (Sort::Reply, "refused") => self.tell_refusal(place, parts),
+            (Sort::Reply, "admitted") => self.tell_placement(place, parts),
+            _ => Ok(()),
+        }
+    }
+
+    // What is wrong with the call or the entry of a number.
+    fn tell_item(&mut self, kind: Kind, number: u64, written: &[u8]) -> Result<(), AllocError> {
+        let (what, sort) = match kind {
+            Kind::Script | Kind::Storm => ("call", Sort::Call),
+            Kind::History => ("entry", Sort::Entry),
+        };
+        let place = Place::item(what, number);
+        if let Some(parts) = self.object(place, written)? {
+            self.tell_object(place, sort, &parts, DEPTH)?;
+        }
+        if !self.here.is_empty() && self.faulty.takes_one() {
+            self.faulty.words.push_str(&self.here)?;
+        }
+        self.here.clear();
+        Ok(())
+    }
+
+    // What is wrong with the calls or the entries of an array, of which so many stand before; how many there are then.
+    fn tell_items(&mut self, kind: Kind, before: u64, array: &[u8]) -> Result<u64, AllocError> {
+        let mut number = before;
+        for part in &parts(self.alloc, array)? {
+            number = number.saturating_add(1);
+            self.tell_item(kind, number, part.value)?;
+        }
+        Ok(number)
+    }
+
+    // What is wrong with the calls of all scripts.
+    fn tell_scripts(&mut self, scripts: &[Part]) -> Result<(), AllocError> {
+        let mut before = 0;
+        for script in scripts {
+            if begins(script.value, b'[') {
+                before = self.tell_items(Kind::Storm, before, script.value)?;
+            }
+        }
+        Ok(())
+    }
+
+    // What is wrong with the scripts of a storm as arrays.
+    fn tell_arrays(&mut self, scripts: &[Part], most: usize) -> Result<(), AllocError> {
+        let count = scripts.len();
+        if count == 0 || count > most {
+            return writeln!(
+                self.faulty.words,
+                "document: \"scripts\" has {count} arrays, and not 1 to {most}"
+            );
+        }
+        for (index, script) in scripts.iter().enumerate() {
+            if !begins(script.value, b'[') {
+                let found = shown(script.value);
+                let number = index.saturating_add(1);
+                writeln!(
+                    self.faulty.words,
+                    "document: script {number} is {found}, and not an array"
+                )?;
+            }
+        }
+        Ok(())
+    }
+
+    // What is wrong with the members of a document and with its configuration.
+    fn tell_head(&mut self, kind: Kind, document: &[Part]) -> Result<(), AllocError> {
+        if find(self.alloc, document, list_of(kind).0)?.0.is_none() {
+            self.here.push_str(
+                "document: a script has \"calls\", that of a storm \"scripts\", a history \"entries\"\n",
+            )?;
+        }
+        self.tell_object(
+            Place::outer("document"),
+            Sort::Document(kind),
+            document,
+            DEPTH,
+        )?;
+        self.faulty.words.push_str(&self.here)?;
+        self.here.clear();
+        Ok(())
+    }
+
+    // What is wrong with the scripts of a storm, of which there may be so many, and how many there are.
+    fn tell_storm(&mut self, list: &[u8], most: usize) -> Result<usize, AllocError> {
+        let scripts = parts(self.alloc, list)?;
+        self.tell_arrays(&scripts, most)?;
+        self.tell_scripts(&scripts)?;
+        Ok(scripts.len())
+    }
+
+    /// What is wrong with the document of a file of this kind, and how many scripts a storm has.
+    pub fn tell_document(&mut self, kind: Kind, written: &[u8]) -> Result<usize, AllocError> {
+        let Some(document) = self.object(Place::outer("document"), written)? else {
+            self.faulty.words.push_str(&self.here)?;
+            return Ok(0);
+        };
+        self.tell_head(kind, &document)?;
+        let (key, holds, _) = list_of(kind);
+        match (find(self.alloc, &document, key)?.0, holds) {
+            (Some(list), Holds::Lists(most)) if begins(list, b'[') => self.tell_storm(list, most),
+            (Some(list), _) if begins(list, b'[') => {
+                self.tell_items(kind, 0, list)?;
+                Ok(0)
+            }
+            _ => Ok(0),
+        }
+    }
+}

@@ -1,0 +1,91 @@
+-- Whether a reader takes the objects of a form and no others: worked on an object that has all of its members, on that
+-- without each, and on that with a value under each key that must not stand there.
+use Rattle.std.specs.Prelude.{ℕ, ◌+◌, Bool, true, false, not, ◌&&◌, ◌||◌, if◌then◌else◌, List, [], ◌∷◌, bytes_eq, codes}
+use Rattle.serde_json.specs.Data.{Data, null, number, unsigned, string, array, object, no_items, item}
+use Rattle.serde_json.specs.Data.{Members, no_members, put}
+use Rattle.json_fields.specs.declared.forms.Sort.{Sort}
+use Rattle.json_fields.specs.declared.forms.Holds.{Holds}
+use Rattle.json_fields.specs.declared.forms.Holds.TheVariants.{Number, Lawful, Numbers, Payload, Name, Object, Objects}
+use Rattle.json_fields.specs.declared.forms.Holds.TheVariants.{Lists}
+use Rattle.json_fields.specs.declared.forms.Missing.{Missing}
+use Rattle.json_fields.specs.declared.forms.Missing.TheVariants as missing
+
+-- a member, and a form
+abbrev pub Member : Type 0
+Member = record { now : List ℕ } × Holds × Missing
+
+abbrev pub Form : Type 0
+Form = record { now : List ℕ } × record { now : List Member }
+
+-- the payload of a MAP of one frame, in hexadecimal
+abbrev payload : List ℕ
+payload = codes "03010300000003200000032000000000fffc4000000180040001c028"
+
+-- what may stand under a key, the greatest number where it is one, in an object of this name with these objects in it
+abbrev pub taken : List ℕ → (Sort → Data) → Holds → Data
+taken name inner (Number most) = number (unsigned most)
+taken name inner (Lawful most low high) = number (unsigned most)
+taken name inner (Numbers most) = array (item (number (unsigned most)) no_items)
+taken name inner Payload = string payload
+taken name inner Name = string name
+taken name inner (Object sort) = inner sort
+taken name inner Objects = array no_items
+taken name inner (Lists most) = array (item (array no_items) no_items)
+
+-- what may not, the next number where it is one
+abbrev pub not_taken : Holds → Data
+not_taken (Number most) = number (unsigned (most + 1))
+not_taken (Lawful most low high) = number (unsigned (most + 1))
+not_taken (Numbers most) = array (item (number (unsigned (most + 1))) no_items)
+not_taken Payload = string []
+not_taken Name = null
+not_taken (Object sort) = null
+not_taken Objects = null
+not_taken (Lists most) = null
+
+abbrev is_together : Missing → Bool
+is_together missing.Fault = false
+is_together missing.Nothing = false
+is_together missing.Together = true
+is_together (missing.Number n) = false
+
+abbrev may_be_missing : Missing → Bool
+may_be_missing missing.Fault = false
+may_be_missing missing.Nothing = true
+may_be_missing missing.Together = true
+may_be_missing (missing.Number n) = true
+
+-- whether a member goes where another one does
+abbrev goes_with : Member → Member → Bool
+goes_with m n = bytes_eq m.0.now n.0.now || (is_together m.2 && is_together n.2)
+
+-- the members of a form with their values, all or all but those that go with one
+abbrev pub all_of : (Holds → Data) → List Member → Members
+all_of value [] = no_members
+all_of value (m ∷ ms) = put m.0.now (value m.1) (all_of value ms)
+
+abbrev all_but : (Holds → Data) → Member → List Member → Members
+all_but value m [] = no_members
+all_but value m (n ∷ ns) = if goes_with m n then all_but value m ns else put n.0.now (value n.1) (all_but value m ns)
+
+-- whether an object of this form is read without one of its members exactly where that may be missing, and is not with
+-- what may not stand under its key
+abbrev agrees : (Data → Bool) → (Holds → Data) → List Member → Member → Bool
+agrees is_read value ms m =
+    (if is_read (object (all_but value m ms)) then may_be_missing m.2 else not (may_be_missing m.2))
+    && not (is_read (object (put m.0.now (not_taken m.1) (all_of value ms))))
+
+abbrev each_agrees : (Data → Bool) → (Holds → Data) → List Member → List Member → Bool
+each_agrees is_read value ms [] = true
+each_agrees is_read value ms (n ∷ ns) = agrees is_read value ms n && each_agrees is_read value ms ns
+
+-- whether the objects of a form are read, and no others
+abbrev pub takes_form : (Data → Bool) → (Sort → Data) → Form → Bool
+takes_form is_read inner f =
+    is_read (object (all_of (taken f.0.now inner) f.1.now))
+    && each_agrees is_read (taken f.0.now inner) f.1.now f.1.now
+
+-- whether those of each form are
+abbrev pub takes_forms : (Data → Bool) → (Sort → Data) → List Form → Bool
+takes_forms is_read inner [] = true
+takes_forms is_read inner (f ∷ fs) = takes_form is_read inner f && takes_forms is_read inner fs

@@ -1,0 +1,232 @@
+//! The objects in the files that are read: which members each has, what must stand under their keys, and what is read
+//! where one is missing. The readers take such objects and no others (`proofs/RowsForms.antt` here, in `call_reading` and
+//! in `history_reading`), and the words on a file are made from these tables.
+
+/// What stands under a key.
+#[derive(Clone, Copy)]
+pub enum Holds {
+    /// A whole number from 0 to this.
+    Number(u64),
+    /// A whole number from 0 to the first. A call in which it is not from the second to the third is refused.
+    Lawful(u64, u64, u64),
+    /// An array of whole numbers, each from 0 to this.
+    Numbers(u64),
+    /// The payload of a MAP in hexadecimal.
+    Payload,
+    /// A text, which is the name of the object.
+    Name,
+    /// An object of this sort.
+    Object(Sort),
+    /// An array of objects.
+    Objects,
+    /// An array of arrays of objects: one, or more up to so many.
+    Lists(usize),
+}
+
+/// What is read where a key is missing.
+#[derive(Clone, Copy)]
+pub enum Missing {
+    /// That the object has not this form.
+    Fault,
+    /// Nothing.
+    Nothing,
+    /// Nothing, where each such member of the object is missing. Where one is there, all are.
+    Together,
+    /// This number.
+    Number(u64),
+}
+
+/// A member of an object: its key, what stands there, and what is read where it is missing.
+pub type Member = (&'static str, Holds, Missing);
+
+/// The form of an object: the name that tells it among others of its sort, and the members in the order in which they
+/// are told.
+pub type Form = (&'static str, &'static [Member]);
+
+/// The kinds of file that are read.
+#[derive(Clone, Copy)]
+pub enum Kind {
+    /// The script of a run.
+    Script,
+    /// The script of a storm.
+    Storm,
+    /// A history.
+    History,
+}
+
+/// The sorts of object in a file.
+#[derive(Clone, Copy)]
+pub enum Sort {
+    /// The document of a file, which has one form.
+    Document(Kind),
+    /// A configuration, which has one form.
+    Config,
+    /// An entry of a history, which has one form.
+    Entry,
+    /// A call. The name of its form stands under `call`.
+    Call,
+    /// The flow of an admission. The name of its form stands under `kind`.
+    Flow,
+    /// A reply. The name of its form stands under `kind`.
+    Reply,
+}
+
+const MUST: Missing = Missing::Fault;
+
+const U8: Holds = Holds::Number(u8::MAX as u64);
+
+const U32: Holds = Holds::Number(u32::MAX as u64);
+
+const U64: Holds = Holds::Number(u64::MAX);
+
+/// The one form of a configuration. Its first nineteen members are those that can be wrong, in their order.
+pub static CONFIGS: [Form; 1] = [(
+    "",
+    &[
+        ("ticks", U32, MUST),
+        ("bytes_per_slot", U32, MUST),
+        ("overhead", U32, MUST),
+        ("frame", U32, MUST),
+        ("cycle", U32, MUST),
+        ("req_slots", U32, MUST),
+        ("poll_slots", U32, MUST),
+        ("lead", U32, MUST),
+        ("short_max", U32, MUST),
+        ("quantum", U32, MUST),
+        ("grant_cap", U32, MUST),
+        ("receivers", U8, MUST),
+        ("calls", U32, MUST),
+        ("start", U64, MUST),
+        ("ranging_start", U8, MUST),
+        ("ranging_end", U8, MUST),
+        ("data_start", U8, MUST),
+        ("data_end", U8, MUST),
+        ("phy", U8, Missing::Number(0)),
+        ("channel", U8, MUST),
+        ("ucd_count", U8, MUST),
+    ],
+)];
+
+const CONFIG: Member = ("config", Holds::Object(Sort::Config), MUST);
+
+/// The calls of a script.
+pub const LIST_OF_CALLS: Member = ("calls", Holds::Objects, MUST);
+
+/// The scripts of a storm.
+pub const LIST_OF_SCRIPTS: Member = ("scripts", Holds::Lists(16), MUST);
+
+/// The entries of a history.
+pub const LIST_OF_ENTRIES: Member = ("entries", Holds::Objects, MUST);
+
+/// The one form of a script.
+pub static SCRIPTS: [Form; 1] = [("", &[CONFIG, LIST_OF_CALLS])];
+
+/// The one form of the script of a storm.
+pub static STORMS: [Form; 1] = [("", &[CONFIG, LIST_OF_SCRIPTS])];
+
+/// The one form of a history.
+pub static HISTORIES: [Form; 1] = [("", &[CONFIG, LIST_OF_ENTRIES])];
+
+const CALL: Member = ("call", Holds::Name, MUST);
+
+const SID: Member = ("sid", Holds::Lawful(u16::MAX as u64, 1, 8191), MUST);
+
+const FLOW: Member = ("flow", Holds::Object(Sort::Flow), MUST);
+
+const RECEIVER: Member = ("receiver", U8, MUST);
+
+const BYTES: Member = ("bytes", Holds::Lawful(u32::MAX as u64, 1, 1_048_560), MUST);
+
+const HEARD: Member = ("heard", U64, MUST);
+
+const UPTO: Member = ("upto", U64, MUST);
+
+const NOW: Member = ("now", Holds::Lawful(u64::MAX, 0, 1 << 60), MUST);
+
+/// The forms of a call.
+pub static CALLS: [Form; 7] = [
+    ("admit", &[CALL, SID, FLOW]),
+    ("remove", &[CALL, SID]),
+    ("ask", &[CALL, RECEIVER, SID, BYTES, HEARD]),
+    ("heard", &[CALL, RECEIVER, UPTO]),
+    ("build", &[CALL, NOW]),
+    ("skip", &[CALL, NOW]),
+    ("status", &[CALL, SID]),
+];
+
+const KIND: Member = ("kind", Holds::Name, MUST);
+
+const SIZE: Member = ("size", U32, MUST);
+
+const INTERVAL: Member = ("interval_us", U32, MUST);
+
+const JITTER: Member = ("jitter_us", U32, MUST);
+
+const GRANTS: Member = (
+    "grants",
+    Holds::Lawful(u8::MAX as u64, 1, 8),
+    Missing::Number(1),
+);
+
+const PRIORITY: Member = ("priority", Holds::Lawful(u8::MAX as u64, 0, 7), MUST);
+
+const RATE: Member = ("rate", U32, MUST);
+
+const BURST: Member = ("burst", U32, MUST);
+
+/// The forms of a flow.
+pub static FLOWS: [Form; 3] = [
+    ("unsolicited", &[KIND, SIZE, INTERVAL, JITTER, GRANTS]),
+    ("polled", &[KIND, INTERVAL, JITTER, RATE, BURST]),
+    ("best_effort", &[KIND, PRIORITY, RATE, BURST]),
+];
+
+/// The one form of an entry.
+pub static ENTRIES: [Form; 1] = [(
+    "",
+    &[
+        ("seat", U32, MUST),
+        ("ticket", U64, MUST),
+        ("call", Holds::Object(Sort::Call), MUST),
+        ("reply", Holds::Object(Sort::Reply), MUST),
+    ],
+)];
+
+const REFERENCE: Member = ("reference", U64, Missing::Together);
+
+const STARTS: Member = ("starts", Holds::Numbers(u16::MAX as u64), Missing::Together);
+
+const START: Member = ("start", U64, MUST);
+
+const ACK: Member = ("ack", U64, MUST);
+
+const HEX: Member = ("hex", Holds::Payload, MUST);
+
+const EACH_BYTES: Member = ("bytes", Holds::Numbers(u32::MAX as u64), MUST);
+
+const NEXT: Member = ("next", U64, MUST);
+
+const ASKED: Member = ("asked", U64, MUST);
+
+const GRANTED: Member = ("granted", U64, MUST);
+
+const OUTSTANDING: Member = ("outstanding", U64, MUST);
+
+const NUMBER: Member = ("number", U64, MUST);
+
+const VALUE: Member = ("value", U64, Missing::Nothing);
+
+/// The most forms that a sort has.
+pub const MOST_FORMS: usize = 8;
+
+/// The forms of a reply.
+pub static REPLIES: [Form; MOST_FORMS] = [
+    ("admitted", &[KIND, REFERENCE, STARTS]),
+    ("removed", &[KIND]),
+    ("taken", &[KIND]),
+    ("noted", &[KIND]),
+    ("map", &[KIND, START, ACK, HEX, EACH_BYTES]),
+    ("skipped", &[KIND, NEXT]),
+    ("flow", &[KIND, ASKED, GRANTED, OUTSTANDING]),
+    ("refused", &[KIND, NUMBER, VALUE]),
+];

@@ -1,0 +1,68 @@
+-- Which calls build no MAP.
+use Rattle.std.proofs.Common.{◌≡◌, ◌≢◌, ℕ, Bool, true, false, cond, List, Option, Some, None, MatchOption, refl, ap}
+use Rattle.std.proofs.Common.{◌∙◌}
+use Rattle.std.proofs.Common.{subst, ⊎_elim}
+use Rattle.minislots.specs.declared.config.Config.{Config}
+use Rattle.flow_book.specs.declared.spec.FlowSpec.{FlowSpec}
+use Rattle.flow_book.specs.declared.spec.FlowSpec.TheVariants.{Unsolicited, Polled, BestEffort}
+use Rattle.flow_book.specs.FlowSpec.{takes_requests}
+use Rattle.flow_book.specs.Flows.{LiveFlow, granted, outstanding}
+use Rattle.sched_history.specs.declared.call.Call.{Call}
+use Rattle.sched_history.specs.declared.call.Call.TheVariants as calls
+use Rattle.sched_history.specs.declared.reply.Entry.{Entry}
+use Rattle.sched_history.specs.declared.reply.Refusal.{Refusal}
+use Rattle.sched_history.specs.declared.reply.Reply.{Reply}
+use Rattle.sched_history.specs.declared.reply.Reply.TheVariants as replies
+use Rattle.sched_history.specs.History.{PlacesOrRefuses, AnswersAdmit, flow_status, map_by, Answers}
+use Rattle.sched_history.specs.Life.{Life, life_of, flow_in_life}
+use Rattle.sched_history.specs.Refusal.{refusal_of}
+use Rattle.sched_desk.specs.Build.{BuildsNoMap}
+
+module _ (c : Config) (h : List Entry) where
+  placed : (spec : FlowSpec) (reply : Reply) → PlacesOrRefuses c h spec reply → map_by reply ≡ None
+  placed spec reply answers = ⊎_elim (λ one. ap map_by one.2) (λ none_there. ap map_by none_there.1) answers
+
+  admitted : (spec : FlowSpec) (reply : Reply) → AnswersAdmit c h spec reply → map_by reply ≡ None
+  admitted (Unsolicited size interval jitter grants) reply answers =
+      placed (Unsolicited size interval jitter grants) reply answers
+  admitted (Polled interval jitter rate burst) reply answers = placed (Polled interval jitter rate burst) reply answers
+  admitted (BestEffort priority rate burst) reply answers = ap map_by answers
+
+  status : (f : LiveFlow) → map_by (flow_status f) ≡ None
+  status f = by (takes_requests f.spec)
+    where
+      by : (asks : Bool)
+          → map_by (cond asks (replies.Flow f.asked (granted f) (outstanding f)) (replies.Flow 0 0 0)) ≡ None
+      by true = refl
+      by false = refl
+
+  shown : (life : Option Life) (sid : ℕ) (reply : Reply)
+      → MatchOption life ⊥ (λ l. reply ≡ flow_status (flow_in_life sid l)) → map_by reply ≡ None
+  shown None sid reply answers = absurd answers
+  shown (Some l) sid reply answers = ap map_by answers ∙ status (flow_in_life sid l)
+
+  answered : (call : Call) → ((now : ℕ) → call ≢ calls.Build now) → (reply : Reply) → Answers c h call reply
+      → map_by reply ≡ None
+  answered (calls.Admit sid spec) other reply answers = admitted spec reply answers
+  answered (calls.Remove sid) other reply answers = ap map_by answers
+  answered (calls.Ask receiver sid bytes heard) other reply answers = ap map_by answers
+  answered (calls.Heard receiver upto) other reply answers = ap map_by answers
+  answered (calls.Build now) other reply answers = absurd (other now refl)
+  answered (calls.Skip now) other reply answers = ap map_by answers.2
+  answered (calls.Status sid) other reply answers = shown (life_of sid h) sid reply answers
+
+  by_refusal : (o : Option Refusal) (call : Call) → ((now : ℕ) → call ≢ calls.Build now) → (reply : Reply)
+      → MatchOption o (Answers c h call reply) (λ refusal. reply ≡ replies.Refused refusal) → map_by reply ≡ None
+  by_refusal None call other reply step = answered call other reply step
+  by_refusal (Some refusal) call other reply step = ap map_by step
+
+  -- a call that is not a build
+  pub BuildsNoMap-other : (call : Call) → ((now : ℕ) → call ≢ calls.Build now) → BuildsNoMap c h call
+  BuildsNoMap-other call other reply step = by_refusal (refusal_of c h call) call other reply step
+
+  -- a call that is refused
+  pub BuildsNoMap-refused : (call : Call) (refusal : Refusal) → refusal_of c h call ≡ Some refusal
+      → BuildsNoMap c h call
+  BuildsNoMap-refused call refusal refused reply step =
+      ap map_by
+      (subst (λ o. MatchOption o (Answers c h call reply) (λ r. reply ≡ replies.Refused r)) refused step)

@@ -1,0 +1,34 @@
+-- How a build shows its MAP before it is recorded.
+use Rattle.std.specs.Prelude.{◌≡◌, ℕ, List, [], ◌∷◌, ◌++◌, length, None}
+use Rattle.minislots.specs.declared.config.Config.{Config}
+use Rattle.map_snapshot.specs.declared.printed.Printed.{Printed}
+use Rattle.map_snapshot.specs.Maps.{Printing, map_in}
+use Rattle.sched_history.specs.declared.call.Call.{Call}
+use Rattle.sched_history.specs.declared.reply.Entry.{Entry}
+use Rattle.sched_history.specs.declared.reply.Reply.{Reply}
+use Rattle.sched_history.specs.History.{IsStep, map_by}
+use Rattle.sched_history.specs.Machine.{Machine}
+use Rattle.sched_desk.specs.Desk.{DeskState, HasFewCalls, published}
+
+-- a desk with this scheduler and this press
+abbrev pub desk_with : Machine → Printing → DeskState
+desk_with m p = record { config = m.config; press = p.press; history = m.history }
+
+-- the second press is the first with a MAP of these bytes, which waits to be published
+pub record Appends (p : Printing) (bytes : List ℕ) (q : Printing) : Type 0 where
+  pub printed : Printed
+  pub bytes_are : map_in printed ≡ bytes
+  pub appended : q ≡ record p { waiting = printed ∷ [] }
+
+-- the press shows what is published of the scheduler's history, of which this is the length, and then these bytes;
+-- nothing of the history was handed over
+pub record ShowsPlan (m : Machine) (p : Printing) (maps : ℕ) (bytes : List ℕ) : Type 0 where
+  pub shown : p.list ≡ published m.history ++ bytes ∷ []
+  pub settled : p.waiting ≡ []
+  pub count : maps ≡ length (published m.history)
+  pub few : HasFewCalls m.config
+  pub whole : m.handed ≡ 0
+
+-- no reply to this call is a MAP
+abbrev pub BuildsNoMap : Config → List Entry → Call → Type 0
+BuildsNoMap c h call = (reply : Reply) → IsStep c h call reply → map_by reply ≡ None

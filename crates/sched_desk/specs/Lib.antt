@@ -1,0 +1,4 @@
+pub mod Desk
+pub mod Build
+pub mod Calls
+pub mod Closed

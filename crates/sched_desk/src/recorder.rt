@@ -1,0 +1,92 @@
+//! The scheduler with its press, as a desk may have it.
+ghost use Rattle.std.specs.Prelude.{◌≡◌, [], length};
+ghost use Rattle.sched_desk.specs.Build.{desk_with};
+ghost use Rattle.sched_desk.specs.Desk.{HasFewCalls, published};
+
+use crate::kept::Kept;
+use crate::records::Records;
+use map_snapshot::{Press, Told, Whole};
+use sched_history::{Entry, Scheduler};
+use std::marker::Model;
+use std::sync::Wait;
+
+/// A scheduler with its press. What is published is the encodings of the history's MAPs, in their order.
+#[derive(Drop)]
+pub struct Recorder {
+    pub(crate) scheduler: Scheduler,
+    pub(crate) press: Kept,
+    // How many MAPs the history has.
+    pub(crate) maps: u64,
+}
+
+impl Model for Recorder {
+    ghost use Rattle.sched_desk.specs.Desk.{DeskState, ShowsHistory};
+    ghost use Rattle.sched_desk.specs.Build.{desk_with};
+
+    ghost Value = { DeskState };
+
+    ghost view = { λ r. desk_with r.scheduler r.press };
+
+    ghost invariant = { λ r. ShowsHistory r.scheduler r.press r.maps };
+}
+
+impl Records for Recorder {
+    ghost desk = { λ r. r };
+
+    fn entries(&self) -> &[Entry] {
+        self.scheduler.history()
+    }
+}
+
+impl Recorder {
+    /// One that has recorded no call, with a press that has published nothing.
+    pub fn new(scheduler: Scheduler, press: Press) -> Recorder
+        requires empty { scheduler.history ≡ [] }
+        requires few { HasFewCalls scheduler.config }
+        requires whole { scheduler.handed ≡ 0 }
+        requires unread { (press.list ≡ []) × (press.waiting ≡ []) }
+        ensures made { result ≡ desk_with scheduler press }
+    {
+        Recorder {
+            scheduler,
+            press: Kept::new(press),
+            maps: 0,
+        }
+    }
+
+    /// What its press tells: the encodings of the history's MAPs. It takes no memory, and waits for nobody.
+    pub fn tell(&mut self) -> Told
+        ensures same { self.new ≡ self.old }
+        ensures told { result ≡ record { press = self.old.press; list = published self.old.history } }
+    {
+        self.press.tell()
+    }
+
+    /// Its scheduler, and its press, which has to end.
+    pub fn into_parts(self) -> (Scheduler, Press)
+        ensures parts { desk_with result.0 result.1 ≡ self }
+        ensures whole { result.0.handed ≡ 0 }
+        ensures published { result.1.list ≡ published self.history }
+        ensures none_waits { result.1.waiting ≡ [] }
+    {
+        let Recorder {
+            scheduler,
+            press,
+            maps: _,
+        } = self;
+        (scheduler, press.into_press())
+    }
+
+    /// Ends its press, which tells all that it has published: the encodings of the history's MAPs. It may wait for
+    /// readers.
+    pub fn end<R: Wait>(self, rt: &R) -> Whole
+        ensures whole { result ≡ record { press = self.press; list = published self.history } }
+    {
+        let Recorder {
+            scheduler: _,
+            press,
+            maps: _,
+        } = self;
+        press.end(rt)
+    }
+}

@@ -1,0 +1,19 @@
+-- Each call that is told has one answer.
+use Rattle.std.proofs.Common.{◌≡◌, Bool, true, false, not, refl}
+use Rattle.sched_history.proofs.state.Present.{answers-best_effort}
+use Rattle.sched_history.proofs.scheduler.state.State.told.Goals as goal
+
+negated : (b : Bool) → not b ≡ true → b ≡ false
+negated true is = absurd cc
+negated false is = refl
+
+pub returns-in-Admit : goal.returns-in-Admit
+returns-in-Admit c = λ h opens. rw c.in-Admit.is (
+    answers-best_effort c.args.self.now.config h c.in-Admit.field-1
+    (negated _ (rw c.in-Admit.is at c.requires.told)))
+
+pub returns-in-Skip : goal.returns-in-Skip
+returns-in-Skip c = λ h opens. rw c.in-Skip.is (c.start_after.result, c.start_after.ensures, refl)
+
+pub returns-in-Status : goal.returns-in-Status
+returns-in-Status c = λ h opens. rw c.in-Status.is (c.tell.ensures h (rw c.in-Status.is at opens)).answers

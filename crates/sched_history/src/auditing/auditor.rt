@@ -1,0 +1,172 @@
+//! A history that is judged entry by entry.
+
+ghost use Rattle.std.specs.Prelude.{◌≡◌, ◌<◌, ◌≤◌, ◌↔◌, ◌++◌, ◌∷◌, [], true, false, length};
+ghost use Rattle.std.specs.Prelude.{IfOk, IfErr, OnOk, OnErr, IsErrOf};
+ghost use Rattle.sched_history.specs.declared.reply.TheConstants.{MAX_WHOLE_HISTORY};
+ghost use Rattle.sched_history.specs.History.{IsStep, IsLegal};
+ghost use Rattle.sched_history.specs.Machine.{IsEncodable, MayLackMemory};
+ghost use Rattle.sched_history.specs.State.{IsKeptOf};
+
+use super::sameness::is_refused;
+use crate::call::Call;
+use crate::ledger::Ledger;
+use crate::reply::{Entry, JudgeFault, MAX_WHOLE_HISTORY, Reply};
+use crate::scheduler::{Present, Scheduler, State};
+use minislots::Checked;
+use std::alloc::{AllocError, Global};
+use std::marker::Model;
+
+/// Judges a history entry by entry: whether each reply is one that the scheduler may give after the entries before it,
+/// as [`audit`](crate::audit) judges a list. It keeps no entry, so however many it takes, its memory is that of what a
+/// scheduler keeps beside its history. Contracts see the configuration and the entries that it took, which are legal.
+#[derive(Drop)]
+pub struct Auditor {
+    alloc: Global,
+    state: State,
+    ledger: Ledger,
+}
+
+impl Model for Auditor {
+    ghost use Rattle.sched_history.specs.Machine.{Past};
+
+    ghost Value = { Past };
+
+    ghost use Rattle.sched_history.specs.State.{IsAuditorOf};
+
+    ghost view = { λ a. record { config = a.state.config; history = a.ledger } };
+
+    ghost invariant = { λ a. IsAuditorOf a.state a.ledger };
+}
+
+impl Auditor {
+    /// An auditor under this configuration, which has taken no entry.
+    pub fn open(alloc: Global, config: Checked) -> Result<Auditor, AllocError>
+        ensures { IfOk result (λ a. a ≡ record { config = config; history = [] }) }
+    {
+        Ok(Auditor {
+            alloc,
+            state: State::open(alloc, config)?,
+            ledger: Ledger::empty(),
+        })
+    }
+
+    /// Judges one entry, and takes it where its reply may follow the entries that were taken: every lawful placement
+    /// may, whichever a scheduler would take, and a refusal for want of a place where there is none. Its stamp is not
+    /// judged. An entry that is not taken changes nothing; the fault tells why, an entry above [`MAX_WHOLE_HISTORY`]
+    /// before any other. After a want of memory the entry may be judged again.
+    pub fn judge(&mut self, entry: &Entry) -> Result<(), JudgeFault>
+        // An entry that is taken is a step, and stands behind those before it.
+        ensures taken { OnOk result (self.new ≡ record self.old { history = self.old.history ++ entry.now ∷ [] }) }
+        ensures step { OnOk result (IsStep self.old.config self.old.history entry.now.call entry.now.reply) }
+
+        // Else nothing changes.
+        ensures err { OnErr result (self.new ≡ self.old) }
+        ensures full { IsErrOf result JudgeFault.Full ↔ (MAX_WHOLE_HISTORY ≤ length self.old.history) }
+        ensures illegal { IsErrOf result JudgeFault.Illegal →
+            IsStep self.old.config self.old.history entry.now.call entry.now.reply → ⊥ }
+        ensures memory { IsErrOf result JudgeFault.Memory →
+            MayLackMemory self.old.config self.old.history entry.now.call }
+
+        ensures legal { IsLegal self.new.config self.new.history }
+    {
+        if self.ledger.len() >= MAX_WHOLE_HISTORY {
+            return Err(JudgeFault::Full);
+        }
+        match follows(self.alloc, &mut self.state, &self.ledger, entry) {
+            Ok(true) => {
+                self.ledger.add(entry);
+                Ok(())
+            }
+            Ok(false) => Err(JudgeFault::Illegal),
+            Err(_) => Err(JudgeFault::Memory),
+        }
+    }
+
+    /// How many entries were taken.
+    pub fn taken(&self) -> u64
+        ensures value { result ≡ length self.now.history }
+        ensures most { result ≤ MAX_WHOLE_HISTORY }
+        ensures legal { IsLegal self.now.config self.now.history }
+    {
+        self.ledger.len()
+    }
+
+    /// A scheduler that goes on after the entries that were taken: they are its whole history, all of them handed over,
+    /// and it has room to keep as many as its configuration says. Where memory for that ran out the auditor comes back.
+    pub fn into_scheduler(self) -> Result<Scheduler, Auditor>
+        ensures resumed { IfOk result (λ s. s ≡ record {
+          config = self.config;
+          history = self.history;
+          handed = length self.history;
+        }) }
+        ensures back { IfErr result (λ back. back ≡ self) }
+    {
+        let calls = self.state.config.calls() as usize;
+        let Ok(room) = Vec::with_capacity(self.alloc, calls) else {
+            return Err(self);
+        };
+        let Auditor { state, ledger, .. } = self;
+        Ok(Scheduler::resume(state, ledger, room))
+    }
+
+    // The reply that the scheduler gives to a call after the entries that were taken.
+    pub(super) fn reply_to(self, call: Call) -> Result<Reply, AllocError>
+        requires { length self.history < MAX_WHOLE_HISTORY }
+        ensures step { IfOk result (IsStep self.config self.history call) }
+        ensures encodable { IfOk result IsEncodable }
+    {
+        let Auditor {
+            alloc,
+            mut state,
+            ledger,
+        } = self;
+        reply_after(alloc, &mut state, &ledger, call)
+    }
+}
+
+// Whether the reply of an entry may follow the entries that were taken. Where it may, the state is that
+// with this entry more, and else nothing changes.
+fn follows(
+    alloc: Global,
+    state: &mut State,
+    ledger: &Ledger,
+    entry: &Entry,
+) -> Result<bool, AllocError>
+    requires kept { IsKeptOf state.old ledger.now }
+    requires short { length ledger.now < MAX_WHOLE_HISTORY }
+    ensures step { IfOk result (λ is. is ≡ true →
+        IsStep state.old.config ledger.now entry.now.call entry.now.reply) }
+    ensures kept { IfOk result (λ is. is ≡ true → IsKeptOf state.new (ledger.now ++ entry.now ∷ [])) }
+    ensures config { IfOk result (λ is. is ≡ true → state.new.config ≡ state.old.config) }
+    ensures encodable { IfOk result (λ is. is ≡ true → IsEncodable entry.now.reply) }
+    ensures no_step { IfOk result (λ is. is ≡ false →
+        IsStep state.old.config ledger.now entry.now.call entry.now.reply → ⊥) }
+    ensures same { IfOk result (λ is. is ≡ false → state.new ≡ state.old) }
+    ensures err { OnErr result (state.new ≡ state.old) }
+    ensures memory { OnErr result (MayLackMemory state.old.config ledger.now entry.now.call) }
+{
+    let present = Present { state, ledger };
+    match present.refusal_of(entry.call) {
+        Some(refusal) => Ok(is_refused(&entry.reply, refusal)),
+        None => state.follow(alloc, entry.call, &entry.reply),
+    }
+}
+
+// The reply to a call after the entries of which this is kept.
+fn reply_after(
+    alloc: Global,
+    state: &mut State,
+    ledger: &Ledger,
+    call: Call,
+) -> Result<Reply, AllocError>
+    requires kept { IsKeptOf state.old ledger.now }
+    requires short { length ledger.now < MAX_WHOLE_HISTORY }
+    ensures step { IfOk result (IsStep state.old.config ledger.now call) }
+    ensures encodable { IfOk result IsEncodable }
+{
+    let present = Present { state, ledger };
+    match present.refusal_of(call) {
+        Some(refusal) => Ok(Reply::Refused(refusal)),
+        None => Ok(state.answer(alloc, call)?.reply),
+    }
+}

@@ -1,7 +1,0 @@
--- The stamp of the entry at the place.
-use Rattle.std.proofs.Common.{arith}
-use Rattle.std.proofs.lemmas.Option.{gets}
-use Rattle.shared_sched.proofs.desk.DeskJournal.stamp_at.Goals as goal
-
-pub returns : goal.returns
-returns c = grind (arith, gets)

@@ -1,6 +1,0 @@
--- The law of the lock, at the desk.
-use Rattle.std.proofs.Common.{rules}
-use Rattle.shared_sched.proofs.laws.one_holder.Goals as goal
-
-pub returns-clause-holder : goal.returns-clause-holder
-returns-clause-holder c = search rules

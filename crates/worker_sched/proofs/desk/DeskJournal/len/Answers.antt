@@ -1,6 +1,0 @@
--- The list is the history.
-use Rattle.std.proofs.Common.{rules}
-use Rattle.worker_sched.proofs.desk.DeskJournal.len.Goals as goal
-
-pub returns : goal.returns
-returns c = search rules
