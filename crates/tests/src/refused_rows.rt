@@ -1,11 +1,13 @@
 //! What holds with any one request for memory refused: a call that found no memory is made again, and nothing was lost.
-//! With ample memory this test says the same; `checks/refused_growth` runs it with every request refused in turn. Calls
-//! on a scheduler alone are made so from C, by `checks/from_c`.
+//! With ample memory these tests say the same; `checks/refused_growth` runs them with every request refused in turn.
+//! Calls on a scheduler alone are made so from C, by `checks/from_c`.
 
 ghost use Rattle.std.specs.Prelude.{◌≡◌, ◌∷◌, [], replicate};
 ghost use Rattle.map_snapshot.specs.Maps.{unread};
 ghost use Rattle.ticket_lock.specs.Standing.{seats_of};
 ghost use Rattle.ticket_lock.specs.Calls.{new_standing};
+
+mod handing_over;
 
 use crate::base::{BASE, checked};
 use crate::shared_sched_rows::version_read;
