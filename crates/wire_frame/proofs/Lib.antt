@@ -7,6 +7,8 @@ pub mod Entries
 pub mod Generators
 pub mod Requests
 pub mod Placed
+pub mod MapFrames
+pub mod Frames
 pub mod Rows
 pub mod SetBits
 pub mod LeftBy

@@ -68,7 +68,7 @@ pair-lt a b p q zero = p
 pair-lt a b p q (suc zero) = q
 pair-lt a b p q (suc (suc i)) = omega arith
 
-be_pair : (a b : ℕ) → a < 256 → b < 256 → to_be_bytes w16 (from_be_bytes w16 (a ∷ b ∷ [])) ≡ a ∷ b ∷ []
+pub be_pair : (a b : ℕ) → a < 256 → b < 256 → to_be_bytes w16 (from_be_bytes w16 (a ∷ b ∷ [])) ≡ a ∷ b ∷ []
 be_pair a b p q = be_bytes_2 (a ∷ b ∷ []) _ refl (pair-lt a b p q) refl
 
 le_pair : (a b : ℕ) → a < 256 → b < 256 → to_le_bytes w16 (from_le_bytes w16 (a ∷ b ∷ [])) ≡ a ∷ b ∷ []

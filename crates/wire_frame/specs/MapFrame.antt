@@ -1,7 +1,9 @@
 -- The MAC management message of a MAP, as a downstream channel carries it.
-use Rattle.std.specs.Prelude.{◌≡◌, ℕ, ◌+◌, ◌^◌, ◌<◌, List, [], ◌∷◌, ◌++◌, length}
+use Rattle.std.specs.Prelude.{◌≡◌, ℕ, ◌+◌, ◌-◌, ◌^◌, ◌<◌, ◌↔◌, List, [], ◌∷◌, ◌++◌, length}
 use Rattle.std.specs.Int.{w16, w32, to_be_bytes, to_le_bytes}
+use Rattle.wire_frame.specs.declared.tables.TheConstants.{CCITT, ETHERNET}
 use Rattle.wire_frame.specs.Checksum.{IsHcs, IsCrc}
+use Rattle.wire_frame.specs.Register.{after_bytes}
 
 -- the address to which MAPs go: all modems
 abbrev pub all_modems : List ℕ
@@ -33,3 +35,31 @@ pub record IsMapFrame (address payload frame : List ℕ) : Type 0 where
   pub bytes : frame
       ≡ (mac_header (message address payload) ++ to_le_bytes w16 hcs)
       ++ (message address payload ++ to_le_bytes w32 crc)
+
+-- the two checksums as functions of the bytes; EachHasOneFrame says that they are the remainders
+abbrev pub hcs_of : List ℕ → ℕ
+hcs_of bytes = 2 ^ 16 - 1 - after_bytes CCITT (2 ^ 16 - 1) bytes
+
+abbrev pub crc_of : List ℕ → ℕ
+crc_of bytes = 2 ^ 32 - 1 - after_bytes ETHERNET (2 ^ 32 - 1) bytes
+
+-- the frame as a function, for texts that are made of many
+unfoldable pub frame_of_map : List ℕ → List ℕ → List ℕ
+frame_of_map address payload =
+    (mac_header (message address payload) ++ to_le_bytes w16 (hcs_of (mac_header (message address payload))))
+    ++ (message address payload ++ to_le_bytes w32 (crc_of (message address payload)))
+
+-- a payload that fits has one frame from an address, which is that function's value
+abbrev pub EachHasOneFrame : Type 0
+EachHasOneFrame =
+    (address payload frame : List ℕ)
+    → length (message address payload) + 4 < 2 ^ 16
+    → (IsMapFrame address payload frame ↔ frame ≡ frame_of_map address payload)
+
+-- and a frame is of one address, of six bytes, and of one payload
+abbrev pub EachIsOfOneMap : Type 0
+EachIsOfOneMap =
+    (address payload another other frame : List ℕ)
+    → length address ≡ 6 → length another ≡ 6
+    → IsMapFrame address payload frame → IsMapFrame another other frame
+    → (another ≡ address) × (other ≡ payload)

@@ -2,7 +2,7 @@
 
 ghost use Rattle.std.specs.Prelude.{◌≡◌, ◌+◌, ◌≤◌, ◌∷◌, ◌++◌, length, take, drop};
 ghost use Rattle.std.specs.Int.{w16, to_be_bytes};
-ghost use Rattle.wire_frame.specs.MapFrame.{all_modems, map_type, message, IsMapFrame};
+ghost use Rattle.wire_frame.specs.MapFrame.{all_modems, map_type, message, IsMapFrame, frame_of_map};
 
 use crate::checksum::{crc, hcs};
 use map_codec::MAX_BYTES;
@@ -13,14 +13,14 @@ pub const OVERHEAD: usize = 30;
 pub const MAX_FRAME_BYTES: usize = 1006;
 
 // The address to which MAPs go.
-fn all_modems() -> [u8; 6]
+pub(crate) fn all_modems() -> [u8; 6]
     ensures { result ≡ all_modems }
 {
     [0x01, 0xE0, 0x2F, 0x00, 0x00, 0x01]
 }
 
 // What message it is.
-fn map_type() -> [u8; 6]
+pub(crate) fn map_type() -> [u8; 6]
     ensures { result ≡ map_type }
 {
     [0x00, 0x00, 0x03, 0x01, 0x03, 0x00]
@@ -62,7 +62,9 @@ fn put_message(out: &mut [u8; MAX_FRAME_BYTES], payload: &[u8], address: &[u8; 6
 pub fn map_frame(payload: &[u8], address: &[u8; 6], out: &mut [u8; MAX_FRAME_BYTES]) -> usize
     requires { length payload.now ≤ MAX_BYTES }
 
+    // What stands in front is the frame, also as the function by which texts are told.
     ensures frame { IsMapFrame address.now payload.now (take result out.new) }
+    ensures exact { take result out.new ≡ frame_of_map address.now payload.now }
     ensures len { result ≡ OVERHEAD + length payload.now }
     ensures rest { drop result out.new ≡ drop result out.old }
 {

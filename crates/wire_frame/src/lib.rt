@@ -5,10 +5,12 @@
 mod asking;
 mod checksum;
 mod framing;
+mod heard;
 mod request;
 mod tables;
 
 pub use asking::{AskFault, MAX_ASK};
 pub use checksum::{crc, every_checksum, every_header, hcs};
 pub use framing::{MAX_FRAME_BYTES, OVERHEAD, map_frame};
+pub use heard::{MapFrame, MapFrameFault, every_map_frame, read_map_frame};
 pub use request::{QUEUE_DEPTH_REQUEST, REQUEST, Request, RequestFault};

@@ -5,6 +5,7 @@ use Rattle.std.specs.Int.{w16, to_be_bytes}
 use Rattle.wire_frame.specs.Checksum.{IsHcs, IsCrc}
 use Rattle.wire_frame.specs.MapFrame.{message, mac_header}
 use Rattle.wire_frame.proofs.Placed.{placed, placed_at, middle, length-message}
+use Rattle.wire_frame.proofs.Frames.{frame_is}
 use Rattle.wire_frame.proofs.framing.map_frame.Goals as goal
 
 -- the length of the header and of its HCS
@@ -104,3 +105,6 @@ returns-clause-rest c =
     let n = 26 + length c.args.payload.now + 4 in
     let m = message c.args.address.now c.args.payload.now in
     ap (drop n) (written c) ∙ drop_at (((h ++ s) ++ m) ++ k) (drop n c.args.out.now) n (whole_long c)
+
+pub returns-clause-exact : goal.returns-clause-exact
+returns-clause-exact c = frame_is c.args.address.now c.args.payload.now _ (returns-clause-frame c)
