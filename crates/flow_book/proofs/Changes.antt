@@ -28,6 +28,7 @@ ascend-all : (a b : ℕ) (flows : List LiveFlow) → a ≡ b → AllByRecursion 
     → AllByRecursion (λ g. a < g.sid) flows
 ascend-all a b flows e all = rw e all
 
+-- a flow in the place of another of the same SID leaves the order
 pub ascend-set : (flows : List LiveFlow) (i : ℕ) (f d : LiveFlow) → i < length flows → f.sid ≡ (get_or flows i d).sid
     → Ascend flows → Ascend (set flows i f)
 ascend-set [] i f d lt same up = absurd (omega arith)

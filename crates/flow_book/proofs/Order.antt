@@ -47,11 +47,13 @@ pub all-push : {X : Type 0} (P : X → Type 0) (xs : List X) (x : X) → AllByRe
 all-push P [] x all here = (here, tt)
 all-push P (y ∷ xs) x all here = (all.0, all-push P xs x all.1 here)
 
-all-map : {X : Type 0} (P Q : X → Type 0) (xs : List X) → ((x : X) → P x → Q x) → AllByRecursion P xs
+-- what follows from what is so of each is so of each
+pub all-implied : {X : Type 0} (P Q : X → Type 0) (xs : List X) → ((x : X) → P x → Q x) → AllByRecursion P xs
     → AllByRecursion Q xs
-all-map P Q [] step all = tt
-all-map P Q (x ∷ xs) step all = (step x all.0, all-map P Q xs step all.1)
+all-implied P Q [] step all = tt
+all-implied P Q (x ∷ xs) step all = (step x all.0, all-implied P Q xs step all.1)
 
+-- what is so of all members is so of each that a list contains
 pub all-contains : {X : Type 0} (P : X → Type 0) (xs : List X) (x : X) → AllByRecursion P xs → Contains xs x → P x
 all-contains P xs x all (k, lt, at) = subst P at (All-from_recursion P xs all k x lt)
 
@@ -90,7 +92,7 @@ module _ (c : Config) (start room : ℕ) where
     live = Contains-push flows f;
     eligible = may;
     first = all-push (λ g. IsEligible c start room g → (g ≡ f) ⊎ (is_before f g ≡ true)) flows f
-        (all-map (λ g. IsEligible c start room g → ⊥) (λ g. IsEligible c start room g
+        (all-implied (λ g. IsEligible c start room g → ⊥) (λ g. IsEligible c start room g
         → (g ≡ f) ⊎ (is_before f g ≡ true)) flows (λ g fails may'. absurd (fails may')) is) (λ same. inl refl);
   }
 
@@ -101,7 +103,7 @@ module _ (c : Config) (start room : ℕ) where
     live = Contains-push flows f;
     eligible = may;
     first = all-push (λ g. IsEligible c start room g → (g ≡ f) ⊎ (is_before f g ≡ true)) flows f
-        (all-map (λ g. IsEligible c start room g → (g ≡ n) ⊎ (is_before n g ≡ true)) (λ g. IsEligible c start room g
+        (all-implied (λ g. IsEligible c start room g → (g ≡ n) ⊎ (is_before n g ≡ true)) (λ g. IsEligible c start room g
         → (g ≡ f) ⊎ (is_before f g ≡ true)) flows
         (λ g order may'. follows n f g before (order may')) is.first) (λ same. inl refl);
   }

@@ -37,6 +37,7 @@ pub position_or_len-map : {X Y : Type 0} (h : X → Y) (p : Y → Bool) (xs : Li
     ≡ position_or_len (λ x. p (h x)) xs
 position_or_len-map h p xs = prefix_len-map h (λ y. not (p y)) xs
 
+-- the same of a position that may not be there
 pub position-map : {X Y : Type 0} (h : X → Y) (p : Y → Bool) (xs : List X)
     → position p (map h xs) ≡ position (λ x. p (h x)) xs
 position-map h p xs = rw (position_or_len-map h p xs, length-map xs h)
@@ -107,10 +108,12 @@ pub record StandsAt (sid : ℕ) (items : List Flow) (i : ℕ) (f : Flow) : Type 
   pub fields : find (λ g. g.sid == sid) items ≡ Some f
   pub found : flow_of sid (map live items) ≡ Some (live f)
 
-some-place : (b : Bool) (m i : ℕ) → cond b (Some m) None ≡ Some i → m ≡ i
+-- a place that is found is this one
+pub some-place : (b : Bool) (m i : ℕ) → cond b (Some m) None ≡ Some i → m ≡ i
 some-place true m i h = cc
 some-place false m i h = absurd (cc)
 
+-- the account found at a position is that of the live flow with the SID
 pub placed : (sid : ℕ) (items : List Flow) (i : ℕ) (f : Flow) → position (λ g. g.sid == sid) (map live items) ≡ Some i
     → f ≡ get_or items i f → StandsAt sid items i f
 placed sid items i f stands is =

@@ -65,6 +65,7 @@ room-live flows n all sid found =
 pub written-back : (n : ℕ) (new rest : List Flow) → n ≡ length new → take n (new ++ rest) ≡ new
 written-back n new rest len = rw len (take-append_seam new rest)
 
+-- what follows from the answer in the case that all went well
 pub on-ok : {T E P Q : Type 0} (r : Result T E) → (P → Q) → OnOk r P → OnOk r Q
 on-ok (Ok x) step h = step h
 on-ok (Err e) step h = tt

@@ -40,6 +40,7 @@ the_lower_priority_is_not_next next = elim (next.first.1.0 high_is_eligible) [
 abbrev pub lower_sid : LiveFlow
 lower_sid = record { sid = 20; spec = BestEffort 3 0 0; asked = 1000; grants = [] }
 
+-- a flow of the next SID that is the same otherwise
 abbrev pub higher_sid : LiveFlow
 higher_sid = record { sid = 21; spec = BestEffort 3 0 0; asked = 1000; grants = [] }
 

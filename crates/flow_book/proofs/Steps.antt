@@ -34,6 +34,7 @@ both-true true true r is e = (refl, refl)
 both-true true false r is e = absurd (cc)
 both-true false b r is e = absurd (cc)
 
+-- a test of two that fails fails by one of them
 pub both-false : (a b r : Bool) → r ≡ (a && b) → r ≡ false → (a ≡ false) ⊎ (b ≡ false)
 both-false true true r is e = absurd (cc)
 both-false true false r is e = inr refl

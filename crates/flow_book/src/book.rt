@@ -173,7 +173,8 @@ impl Book {
         requires { IsLive sid self.old.flows }
         ensures removed { self.new.flows ≡ without sid self.old.flows }
         ensures config { self.new.config ≡ self.old.config }
-        ensures room { (other : ℕ) → other ≢ sid → room_of other self.new.rooms ≡ room_of other self.old.rooms }
+        ensures room { (other : ℕ)
+            → other ≢ sid → room_of other self.new.rooms ≡ room_of other self.old.rooms }
     {
         self.flows.retain(|flow| flow.sid != sid);
         self.is_queued = false;
@@ -183,7 +184,8 @@ impl Book {
     pub fn ask(&mut self, sid: u16, bytes: u32)
         requires live { IsLive sid self.old.flows }
         requires fits { IfSome (flow_of sid self.old.flows) (λ f. f.asked + bytes < 2 ^ 64) }
-        ensures { self.new ≡ record self.old { flows = changed sid (with_asked bytes) self.old.flows } }
+        ensures { self.new ≡ record self.old
+            { flows = changed sid (with_asked bytes) self.old.flows } }
     {
         let place = self.place(sid);
         self.flows[place].asked += u64::from(bytes);
@@ -196,7 +198,8 @@ impl Book {
     pub fn most(&self, sid: u16, start: u64, room: u32) -> u32
         requires live { IsLive sid self.now.flows }
         requires started { IfSome (flow_of sid self.now.flows) (HasStartedBy start) }
-        ensures { IfSome (flow_of sid self.now.flows) (λ f. IsMost self.now.config f start room result) }
+        ensures { IfSome (flow_of sid self.now.flows)
+            (λ f. IsMost self.now.config f start room result) }
     {
         self.at(sid).most(&self.config, start, room)
     }
@@ -218,7 +221,8 @@ impl Book {
     /// Makes room for `grants` more grants of each live flow, so that as many calls of [`Book::grant`]
     /// need no memory.
     pub fn reserve(&mut self, grants: usize) -> Result<(), AllocError>
-        ensures room { OnOk result ((sid : ℕ) → IsLive sid self.new.flows → grants ≤ room_of sid self.new.rooms) }
+        ensures room { OnOk result
+            ((sid : ℕ) → IsLive sid self.new.flows → grants ≤ room_of sid self.new.rooms) }
         ensures kept { KeepsRoom self.old.rooms self.new.rooms }
         ensures same { self.new ≡ record self.old { rooms = self.new.rooms } }
     {
@@ -241,7 +245,8 @@ impl Book {
             ≡ changed sid (with_grant (record { start = start; bytes = bytes })) self.old.flows }
         ensures config { self.new.config ≡ self.old.config }
         ensures room { room_of sid self.new.rooms + 1 ≡ room_of sid self.old.rooms }
-        ensures other_room { (other : ℕ) → other ≢ sid → room_of other self.new.rooms ≡ room_of other self.old.rooms }
+        ensures other_room { (other : ℕ)
+            → other ≢ sid → room_of other self.new.rooms ≡ room_of other self.old.rooms }
     {
         let place = self.place(sid);
         self.flows[place].grant(start, bytes);
@@ -265,8 +270,9 @@ impl Book {
     // The place of the flow that the data grant of [`Book::eligible`] goes to.
     fn next_place(&self, start: u64, room: u32) -> Option<usize>
         requires { AllByRecursion (HasStartedBy start) self.now.flows }
-        ensures { MatchOption result (NoneEligible self.now.config self.now.flows start room) (λ place.
-            IsSomeAnd (slice_get self.now.flows place) (IsNext self.now.config self.now.flows start room)) }
+        ensures { MatchOption result (NoneEligible self.now.config self.now.flows start room)
+            (λ place. IsSomeAnd (slice_get self.now.flows place)
+            (IsNext self.now.config self.now.flows start room)) }
     {
         if self.is_queued {
             return first_in_turn(&self.queue, &self.flows, &self.config, start, room);

@@ -31,8 +31,10 @@ impl FlowSpec {
 
     // The size of an unsolicited grant: some bytes, in a burst that fits behind the request region.
     fn check_size(&self, config: &Checked) -> Result<(), FlowFault>
-        ensures ok { IfOk result (λ _. first_fault_of config.now self.now (FlowFault.Size ∷ []) ≡ None) }
-        ensures err { IfErr result (λ e. first_fault_of config.now self.now (FlowFault.Size ∷ []) ≡ Some e) }
+        ensures ok { IfOk result
+            (λ _. first_fault_of config.now self.now (FlowFault.Size ∷ []) ≡ None) }
+        ensures err { IfErr result
+            (λ e. first_fault_of config.now self.now (FlowFault.Size ∷ []) ≡ Some e) }
     {
         match *self {
             FlowSpec::Unsolicited { size, .. } => {
@@ -46,7 +48,8 @@ impl FlowSpec {
     // The nominal interval of a periodic flow: whole minislots, whole frames, and a part of the cycle.
     fn check_interval(&self, config: &Checked) -> Result<(), FlowFault>
         ensures ok { IfOk result (λ _. first_fault_of config.now self.now interval_faults ≡ None) }
-        ensures err { IfErr result (λ e. first_fault_of config.now self.now interval_faults ≡ Some e) }
+        ensures err { IfErr result
+            (λ e. first_fault_of config.now self.now interval_faults ≡ Some e) }
     {
         let Some(micros) = self.interval_us() else {
             return Ok(());
@@ -67,8 +70,10 @@ impl FlowSpec {
 
     // The priority of a best effort flow.
     fn check_priority(&self, config: &Checked) -> Result<(), FlowFault>
-        ensures ok { IfOk result (λ _. first_fault_of config.now self.now (FlowFault.Priority ∷ []) ≡ None) }
-        ensures err { IfErr result (λ e. first_fault_of config.now self.now (FlowFault.Priority ∷ []) ≡ Some e) }
+        ensures ok { IfOk result
+            (λ _. first_fault_of config.now self.now (FlowFault.Priority ∷ []) ≡ None) }
+        ensures err { IfErr result
+            (λ e. first_fault_of config.now self.now (FlowFault.Priority ∷ []) ≡ Some e) }
     {
         match *self {
             FlowSpec::BestEffort { priority, .. } => require(priority <= 7, FlowFault::Priority),
@@ -78,8 +83,10 @@ impl FlowSpec {
 
     // The burst of a flow with a rate ceiling: at least the quantum.
     fn check_burst(&self, config: &Checked) -> Result<(), FlowFault>
-        ensures ok { IfOk result (λ _. first_fault_of config.now self.now (FlowFault.Burst ∷ []) ≡ None) }
-        ensures err { IfErr result (λ e. first_fault_of config.now self.now (FlowFault.Burst ∷ []) ≡ Some e) }
+        ensures ok { IfOk result
+            (λ _. first_fault_of config.now self.now (FlowFault.Burst ∷ []) ≡ None) }
+        ensures err { IfErr result
+            (λ e. first_fault_of config.now self.now (FlowFault.Burst ∷ []) ≡ Some e) }
     {
         require(
             !self.takes_requests() || self.rate() == 0 || config.quantum() <= self.burst(),
@@ -89,8 +96,10 @@ impl FlowSpec {
 
     // The grants per interval of an unsolicited flow: one at least, and no more than a flow may have.
     fn check_grants(&self, config: &Checked) -> Result<(), FlowFault>
-        ensures ok { IfOk result (λ _. first_fault_of config.now self.now (FlowFault.Grants ∷ []) ≡ None) }
-        ensures err { IfErr result (λ e. first_fault_of config.now self.now (FlowFault.Grants ∷ []) ≡ Some e) }
+        ensures ok { IfOk result
+            (λ _. first_fault_of config.now self.now (FlowFault.Grants ∷ []) ≡ None) }
+        ensures err { IfErr result
+            (λ e. first_fault_of config.now self.now (FlowFault.Grants ∷ []) ≡ Some e) }
     {
         match *self {
             FlowSpec::Unsolicited { grants, .. } => {

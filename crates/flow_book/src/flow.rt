@@ -22,7 +22,9 @@ use std::alloc::AllocError;
 /// A data grant of a flow: the minislot at which it starts, and its bytes.
 #[derive(Clone, Copy, Debug, PartialEq, Eq)]
 pub struct Grant {
+    /// The minislot at which it starts.
     pub start: u64,
+    /// The bytes that it carries.
     pub bytes: u32,
 }
 
@@ -106,7 +108,8 @@ impl Flow {
         requires turn { KnowsTurn self.now }
         requires next_turn { IfSome next (λ n. KnowsTurn n.now) }
         requires lower { IfSome next (λ n. n.now.sid < self.now.sid) }
-        ensures { MatchOption next.entry (IsTrue result) (λ n. result ≡ is_before (live self.now) (live n.now)) }
+        ensures { MatchOption next.entry
+            (IsTrue result) (λ n. result ≡ is_before (live self.now) (live n.now)) }
     {
         match next {
             Some(next) => self.turn < next.turn,
@@ -151,10 +154,11 @@ impl Flow {
         requires room { 0 < (room_in self.old).grants }
         requires asked { self.old.granted + bytes ≤ self.old.asked }
         requires since { self.old.bucket.since ≤ start }
-        ensures live { live self.new ≡ with_grant (record { start = start; bytes = bytes }) (live self.old) }
+        ensures live { live self.new
+            ≡ with_grant (record { start = start; bytes = bytes }) (live self.old) }
         ensures room { (room_in self.new).grants + 1 ≡ (room_in self.old).grants }
-        ensures sums { (c : Config) → KeepsSums c self.old → HaveStartedBy start self.old.grants.items
-            → KeepsWith c (live self.old) start bytes → KeepsSums c self.new }
+        ensures sums { (c : Config) → KeepsSums c self.old → HaveStartedBy start
+            self.old.grants.items → KeepsWith c (live self.old) start bytes → KeepsSums c self.new }
     {
         self.granted += u64::from(bytes);
         self.turn = turn_of(self.spec.rank(), Some(start), self.sid);
@@ -173,7 +177,8 @@ pub(crate) fn first_eligible<'a>(
     requires sound { IsSoundBook config.now (map live flows.now) }
     requires sums { AllByRecursion (KeepsSums config.now) flows.now }
     requires started { AllByRecursion (HasStartedBy start) (map live flows.now) }
-    ensures { IsNextOf config.now start room (map live flows.now) (option_map live (option_copied result)) }
+    ensures { IsNextOf config.now start room
+        (map live flows.now) (option_map live (option_copied result)) }
 {
     let mut next = None;
     for flow in flows {
@@ -190,7 +195,8 @@ pub(crate) fn reserve_each(flows: &mut [Flow], grants: usize)
     ensures room { (k : ℕ) (d : Flow) → k < length flows.new
         → grants ≤ (room_in (slice_index_or flows.new k d)).grants }
     ensures kept { KeepsRoom (map room_in flows.old) (map room_in flows.new) }
-    ensures sums { (c : Config) → AllByRecursion (KeepsSums c) flows.old → AllByRecursion (KeepsSums c) flows.new }
+    ensures sums { (c : Config)
+        → AllByRecursion (KeepsSums c) flows.old → AllByRecursion (KeepsSums c) flows.new }
 {
     for flow in flows.iter_mut() {
         flow.grants = GrantList::with_room(&flow.grants, &grants);

@@ -91,8 +91,9 @@ pub(crate) fn first_in_turn(
     requires book { IsBook config.now flows.now }
     requires queue { IsQueue flows.now queue.now }
     requires started { AllByRecursion (HasStartedBy start) (map live flows.now) }
-    ensures { MatchOption result (NoneEligible config.now (map live flows.now) start room) (λ place.
-        IsSomeAnd (slice_get (map live flows.now) place) (IsNext config.now (map live flows.now) start room)) }
+    ensures { MatchOption result (NoneEligible config.now (map live flows.now) start room)
+        (λ place. IsSomeAnd (slice_get (map live flows.now) place)
+        (IsNext config.now (map live flows.now) start room)) }
 {
     for waiting in queue {
         if flows[waiting.place].is_eligible(config, start, room) {
@@ -105,7 +106,8 @@ pub(crate) fn first_in_turn(
 // Moves the one at this place in the queue, of a turn no earlier than before, behind those of turns no later.
 fn move_back(queue: &mut [Waiting], index: usize, waiting: Waiting)
     requires within { index < length queue.old }
-    requires before { (k : ℕ) (d : Waiting) → k < index → (slice_index_or queue.old k d).turn ≤ waiting.turn }
+    requires before { (k : ℕ) (d : Waiting)
+        → k < index → (slice_index_or queue.old k d).turn ≤ waiting.turn }
     ensures moved { queue.new ≡ put_in (λ w. w.turn) waiting (remove queue.old index) }
     ensures len { length queue.new ≡ length queue.old }
 {
@@ -138,7 +140,8 @@ fn move_to_turn(queue: &mut Vec<Waiting>, waiting: Waiting) -> Result<(), AllocE
 fn put_again(queue: &mut Vec<Waiting>, flows: &[Flow], place: usize) -> Result<(), AllocError>
     requires book { (c : Config) × IsBook c flows.now }
     requires within { place < length flows.now }
-    requires queue { (before : List Flow) × AreSameBut place before flows.now × IsQueue before queue.old.items }
+    requires queue { (before : List Flow)
+        × AreSameBut place before flows.now × IsQueue before queue.old.items }
     ensures { OnOk result (IsQueue flows.now queue.new.items) }
 {
     let flow = &flows[place];
@@ -170,8 +173,8 @@ pub(crate) fn follow(
 ) -> bool
     requires book { (c : Config) × IsBook c flows.now }
     requires within { place < length flows.now }
-    requires queue { is_queued ≡ true
-        → (before : List Flow) × AreSameBut place before flows.now × IsQueue before queue.old.items }
+    requires queue { is_queued ≡ true → (before : List Flow)
+        × AreSameBut place before flows.now × IsQueue before queue.old.items }
     ensures { result ≡ true → IsQueue flows.now queue.new.items }
 {
     is_queued && put_again(queue, flows, place).is_ok()

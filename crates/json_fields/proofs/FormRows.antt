@@ -14,6 +14,7 @@ use Rattle.json_fields.specs.declared.forms.Missing.TheVariants as missing
 abbrev pub Member : Type 0
 Member = record { now : List ℕ } × Holds × Missing
 
+-- a row of the table of forms, as the code has it: a name and its members
 abbrev pub Form : Type 0
 Form = record { now : List ℕ } × record { now : List Member }
 

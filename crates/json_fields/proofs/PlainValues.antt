@@ -51,9 +51,11 @@ pub get_member-push : (name : List ℕ) (ms : List Member) (m : Member)
 get_member-push name ms m = ap (get_member name) (members_of-push ms m)
     ∙ found_at (bytes_eq m.0.now name) m.0.now name (data_of m.1) (members_of ms) refl
 
+-- the data of an object
 pub data_of-Object : (v : Vec Member Global) → data_of (Object v) ≡ object (members_of v.items)
 data_of-Object v = search (rules, the_lemmas)
 
+-- the data of an array
 pub data_of-Array : (v : Vec Plain Global) → data_of (Array v) ≡ array (items_of (map data_of v.items))
 data_of-Array v = search (rules, the_lemmas)
 
@@ -77,6 +79,7 @@ mapped : {A B : Type 0} (g : A → B) (r : List Token) (x : Option A)
 mapped g r None = refl
 mapped g r (Some a) = refl
 
+-- what is read, converted and then mapped, is what is read and converted by both
 pub converted-option_map : {A B C : Type 0} (f : A → Option B) (g : B → C) (o : Option (A × List Token))
     → converted (λ a. option_map g (f a)) o ≡ parse_map g (converted f o)
 converted-option_map f g None = refl
@@ -135,11 +138,13 @@ module _ (depth : ℕ) (ts r : List Token) where
       ∙ converted-option_map of_items array inside
       ∙ ap (parse_map array) reads
 
+  -- a text is read as the data of that text
   pub text_read : (s : Bor (List ℕ)) → ts ≡ Token.string s.now ∷ r
       → converted of_json (value depth ts) ≡ Some (data_of (Text s), r)
   text_read s is = ap (converted of_json) (ap (value depth) is ∙ value_is depth (Token.string s.now ∷ r))
       ∙ ap (λ d. Some (d, r)) (sym (data_of-Text s))
 
+  -- a number is read as the data of that number
   pub number_read : (s : List ℕ) (n : ℕ) → ts ≡ Token.number s ∷ r → number_of s ≡ Some (unsigned n)
       → converted of_json (value depth ts) ≡ Some (data_of (Number n), r)
   number_read s n is reads = ap (converted of_json) (ap (value depth) is ∙ value_is depth (Token.number s ∷ r))

@@ -18,8 +18,10 @@ step_of (Plain-F.Text s) = string s.now
 step_of (Plain-F.Array v) = array (items_of v.items)
 step_of (Plain-F.Object v) = object (put_all v.items no_members)
 
+-- the data that a value of plain text stands for
 abbrev pub data_of : Plain → Data
 data_of = fold-Plain Data step_of
 
+-- the members that keys with their values stand for
 abbrev pub members_of : List (Bor (List ℕ) × Plain) → Members
 members_of ms = put_all (map (λ m. (m.0, data_of m.1)) ms) no_members

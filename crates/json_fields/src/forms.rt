@@ -1,6 +1,6 @@
 //! The objects in the files that are read: which members each has, what must stand under their keys, and what is read
-//! where one is missing. The readers take such objects and no others (`proofs/RowsForms.antt` here, in `call_reading` and
-//! in `history_reading`), and the words on a file are made from these tables.
+//! where one is missing. The readers take such objects and no others (`proofs/RowsForms.antt` here, in `call_reading`
+//! and in `history_reading`), and the words on a file are made from these tables.
 
 /// What stands under a key.
 #[derive(Clone, Copy)]

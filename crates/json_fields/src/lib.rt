@@ -1,5 +1,5 @@
-//! JSON values, read as a tree or straight from the tokens of a text, and the fields of their objects: texts, whole numbers
-//! that fit their type, and a whole configuration.
+//! JSON values, read as a tree or straight from the tokens of a text, and the fields of their objects: texts, whole
+//! numbers that fit their type, and a whole configuration.
 #![tactic(auto)]
 
 mod config;

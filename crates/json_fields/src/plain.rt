@@ -83,7 +83,8 @@ impl<'a> Tree for Plain<'a> {
 
 // The last value under this key.
 fn find<'v, 'a>(list: &'v Vec<(&'a str, Plain<'a>)>, key: &str) -> Option<&'v Plain<'a>>
-    ensures { option_map (λ v. data_of v.now) result ≡ get_member key.now (members_of list.now.items) }
+    ensures { option_map (λ v. data_of v.now) result
+        ≡ get_member key.now (members_of list.now.items) }
 {
     let mut left = list.len();
     while left > 0 {
@@ -96,7 +97,7 @@ fn find<'v, 'a>(list: &'v Vec<(&'a str, Plain<'a>)>, key: &str) -> Option<&'v Pl
     None
 }
 
-// The whole number that a token writes, where it fits.
+/// The whole number that a token writes, where it fits.
 pub fn whole_of(text: &str) -> Option<u64>
     ensures { IfSome result (λ n. number_of text.now ≡ Some (unsigned n)) }
 {

@@ -12,7 +12,8 @@ use json::{Reader, Token};
 /// Passes the next value of a reader, nested no deeper than this.
 #[cycle(skip)]
 pub fn skip_plain(reader: &mut Reader<'_>, depth: usize) -> Result<(), Stop>
-    ensures is { OnOk result ((d : Data) × (converted of_json (value depth reader.old) ≡ Some (d, reader.new))) }
+    ensures is { OnOk result
+        ((d : Data) × (converted of_json (value depth reader.old) ≡ Some (d, reader.new))) }
     ensures shorter { OnOk result (length reader.new < length reader.old) }
 {
     match reader.next().ok_or(Stop::Unusual)? {
@@ -42,8 +43,8 @@ pub fn skip_plain(reader: &mut Reader<'_>, depth: usize) -> Result<(), Stop>
 // Passes the items of an array whose bracket was taken, and the bracket that closes it.
 #[cycle(skip)]
 fn skip_items(reader: &mut Reader<'_>, depth: usize) -> Result<(), Stop>
-    ensures are { OnOk result ((ds : Items)
-        × (converted of_items (items (value depth) (length reader.old) reader.old) ≡ Some (ds, reader.new))) }
+    ensures are { OnOk result ((ds : Items) × (converted of_items
+        (items (value depth) (length reader.old) reader.old) ≡ Some (ds, reader.new))) }
     ensures shorter { OnOk result (length reader.new < length reader.old) }
 {
     'items: while !reader.take_end_array() {

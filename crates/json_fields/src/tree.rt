@@ -25,7 +25,8 @@ pub trait Tree: Sized {
 
     /// The items, where the value is an array.
     fn items(&self) -> Option<&[Self]>
-        ensures { option_map (λ vs. items_of (map shown vs.now)) result ≡ as_array (shown self.now) };
+        ensures { option_map (λ vs. items_of (map shown vs.now)) result
+            ≡ as_array (shown self.now) };
 }
 
 impl Tree for Value {

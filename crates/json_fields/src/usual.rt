@@ -27,8 +27,8 @@ pub trait FromTokens<Place>: Sized + Drop {
 
     /// What the next value of a reader stands for, nested no deeper than this.
     fn read(alloc: Global, reader: &mut Reader<'_>, depth: usize) -> Result<Self, Stop>
-        ensures is { IfOk result (λ thing. (d : Data)
-            × (converted of_json (value depth reader.old) ≡ Some (d, reader.new)) × stands_for d thing) }
+        ensures is { IfOk result (λ thing. (d : Data) × (converted of_json
+            (value depth reader.old) ≡ Some (d, reader.new)) × stands_for d thing) }
         ensures shorter { OnOk result (length reader.new < length reader.old) };
 }
 
@@ -47,9 +47,9 @@ fn read_things<Place, X: FromTokens<Place>>(
     reader: &mut Reader<'_>,
     depth: usize,
 ) -> Result<Vec<X>, Stop>
-    ensures are { IfOk result (λ things. (ds : List Data)
-        × (converted of_items (items (value depth) (length reader.old) reader.old) ≡ Some (items_of ds, reader.new))
-        × StandEach X.stands_for ds things.items) }
+    ensures are { IfOk result (λ things.
+        (ds : List Data) × (converted of_items (items (value depth) (length reader.old) reader.old)
+        ≡ Some (items_of ds, reader.new)) × StandEach X.stands_for ds things.items) }
     ensures shorter { OnOk result (length reader.new < length reader.old) }
 {
     let mut things = Vec::new(alloc);

@@ -64,6 +64,7 @@ clear-purpose c flows spots start before offset slots Idle are inside some stand
 contains-more : {X : Type 0} (xs : List X) (x y : X) → Contains xs y → Contains (xs ++ x ∷ []) y
 contains-more xs x y (k, lt, at) = (k, omega (arith, length_push xs x), get_or_append_left xs (x ∷ []) y k lt ∙ at)
 
+-- a list with one member more in front contains what it did
 pub contains-later : {X : Type 0} (xs : List X) (x y : X) → Contains xs y → Contains (x ∷ xs) y
 contains-later xs x y (k, lt, at) = (suc k, omega arith, at)
 

@@ -10,6 +10,7 @@ use Rattle.flow_book.specs.Flows.{LiveFlow, flow_of}
 use Rattle.flow_book.specs.Choice.{HasStartedBy}
 use Rattle.flow_book.specs.Book.{IsLive}
 use Rattle.flow_book.proofs.Places.{find-map}
+use Rattle.periodic.proofs.Joined.{all-append}
 use Rattle.map_build.specs.Plan.{Purpose, Poll, UnsolicitedGrant, DataGrant, Idle, Allocation, grant_to, grants_to}
 use Rattle.map_build.specs.Plan.{flow_after, flows_after}
 
@@ -99,12 +100,6 @@ pub started-later : (early later : ℕ) (grants : List Grant) → early ≤ late
     AllByRecursion (λ g. g.start ≤ later) grants
 started-later early later [] le all = tt
 started-later early later (g ∷ grants) le all = (omega (arith, all.0), started-later early later grants le all.1)
-
--- what holds of each of two lists holds of each of both
-pub all-append : {X : Type 0} (P : X → Type 0) (xs ys : List X) → AllByRecursion P xs → AllByRecursion P ys →
-    AllByRecursion P (xs ++ ys)
-all-append P [] ys left right = right
-all-append P (x ∷ xs) ys left right = (left.0, all-append P xs ys left.1 right)
 
 -- after an allocation all grants have started by its end, where they had by its offset
 pub started-after : (start early later : ℕ) (a : Allocation) (flows : List LiveFlow) → early ≤ later →

@@ -1,15 +1,13 @@
 -- The flow that is next has an amount, and its grant fits the room.
-use Rattle.std.proofs.Common.{◌≡◌, refl, ◌==◌, ℕ, ◌≤◌, min, List, Option, None, Some, inl, inr, arith}
+use Rattle.std.proofs.Common.{ℕ, ◌≤◌, min, List, Option, None, Some, inl, inr, arith}
 use Rattle.std.specs.Option.{IsSomeAnd, IfSome}
-use Rattle.std.specs.List.{AllByRecursion}
 use Rattle.std.proofs.lemmas.Bool.{cases_eq}
 use Rattle.minislots.specs.declared.config.Config.{Config}
 use Rattle.minislots.specs.Config.{IsLawful, HasBounds}
 use Rattle.minislots.specs.Units.{slots_for}
 use Rattle.minislots.proofs.Bounds.{bounds_of}
-use Rattle.flow_book.specs.Flows.{LiveFlow, outstanding, flow_of}
-use Rattle.flow_book.specs.Choice.{MayGrant, IsMost, IsAmount, IsEligible, IsNext, HasStartedBy}
-use Rattle.flow_book.proofs.Places.{all-found}
+use Rattle.flow_book.specs.Flows.{LiveFlow, outstanding}
+use Rattle.flow_book.specs.Choice.{MayGrant, IsMost, IsAmount, IsEligible, IsNext}
 
 module _ (c : Config) (lawful : IsLawful c) (start room : ℕ) where
   -- an eligible flow may be granted some bytes
@@ -44,15 +42,3 @@ pub amount-fits : (c : Config) (flows : List LiveFlow) (start room bytes : ℕ) 
     IsSomeAnd o (λ f. IsNext c flows start room f × IsAmount c f start room bytes) → slots_for c bytes ≤ room
 amount-fits c flows start room bytes None is = absurd is
 amount-fits c flows start room bytes (Some f) is = is.1.allowed.taken.fits
-
-started-option : (later sid : ℕ) (flows : List LiveFlow) (o : Option LiveFlow)
-    → AllByRecursion (HasStartedBy later) flows →
-    flow_of sid flows ≡ o → IfSome o (HasStartedBy later)
-started-option later sid flows None all is = tt
-started-option later sid flows (Some f) all is =
-    all-found (HasStartedBy later) (λ (g : LiveFlow). g.sid == sid) flows f all is
-
--- where the grants of all flows have started, those of the flow of an SID have
-pub started-found : (later sid : ℕ) (flows : List LiveFlow) → AllByRecursion (HasStartedBy later) flows →
-    IfSome (flow_of sid flows) (HasStartedBy later)
-started-found later sid flows all = started-option later sid flows (flow_of sid flows) all refl

@@ -1,27 +1,22 @@
 -- The lawful MAP for given flows, spots and start is one.
 use Rattle.std.proofs.Common.{◌≡◌, ℕ, zero, suc, ◌+◌, ◌<◌, ◌≤◌, Bool, true, false, ◌&&◌, ◌||◌, List, [], ◌∷◌, ◌++◌}
-use Rattle.std.proofs.Common.{length, Option, None, Some, refl, sym, ap, subst, ◌∙◌, inl, inr, append_assoc, arith}
+use Rattle.std.proofs.Common.{length, Option, None, Some, refl, sym, ap, ◌∙◌, inl, inr, append_assoc, arith}
 use Rattle.std.specs.Prelude.{nat_lt, nat_le, ◌==◌, min, slice_index_or, Contains}
-use Rattle.std.specs.List.{AllByRecursion}
 use Rattle.std.proofs.lemmas.Bool.{le-leb, cond_both, true≢false}
 use Rattle.std.proofs.lemmas.Bool.Decides.{nat_tests}
-use Rattle.std.proofs.lemmas.List.Elements.{All-from_recursion}
 use Rattle.std.proofs.lemmas.List.Sums.{sum_by-append, sum_by-cons}
 use Rattle.minislots.specs.declared.config.Config.{Config}
 use Rattle.minislots.specs.Units.{slots_for}
 use Rattle.flow_book.specs.FlowSpec.{rank_of}
 use Rattle.flow_book.specs.Flows.{LiveFlow}
 use Rattle.flow_book.specs.Choice.{IsAmount, IsNext, NoneEligible, last_start, is_earlier, is_as_early}
+use Rattle.flow_book.proofs.Order.{all-contains}
 use Rattle.periodic.specs.declared.placement.Spot.{Spot}
 use Rattle.map_build.specs.EachAfter.{EachAfter}
 use Rattle.map_build.specs.declared.frame_map.FrameMap.{FrameMap}
 use Rattle.map_build.specs.FrameMap.{map_of, IsLawfulMap}
 use Rattle.map_build.specs.Plan.{Purpose, Poll, UnsolicitedGrant, DataGrant, Idle, Allocation, flows_after, next_stop}
 use Rattle.map_build.specs.Plan.{room_at, IsSpot, end_of, Stands, StandsByItsRule, IsPlan}
-
--- P holds of a member, if it holds of each
-each-at : {X : Type 0} (P : X → Type 0) (xs : List X) (x : X) → AllByRecursion P xs → Contains xs x → P x
-each-at P xs x each live = subst P live.2 (All-from_recursion P xs each live.0 x live.1)
 
 -- of two flows at most one is before the other, by ranks, last starts and SIDs
 one_way : (rf rg : ℕ) (lf lg : Option ℕ) (sf sg : ℕ) →
@@ -35,9 +30,9 @@ one_way rf rg (Some m) (Some n) sf sg p q = grind (arith, nat_tests)
 -- the flow that is next is one
 pub one_next : (c : Config) (flows : List LiveFlow) (start room : ℕ) (f g : LiveFlow) → IsNext c flows start room f →
     IsNext c flows start room g → f ≡ g
-one_next c flows start room f g nf ng = elim (each-at _ flows g nf.first ng.live ng.eligible) [
+one_next c flows start room f g nf ng = elim (all-contains _ flows g nf.first ng.live ng.eligible) [
   | inl e ↦ sym e
-  | inr before ↦ elim (each-at _ flows f ng.first nf.live nf.eligible) [
+  | inr before ↦ elim (all-contains _ flows f ng.first nf.live nf.eligible) [
     | inl e ↦ e
     | inr after ↦ absurd (one_way (rank_of f.spec) (rank_of g.spec) (last_start f.grants)
         (last_start g.grants) f.sid g.sid before after)
@@ -52,7 +47,7 @@ one_amount c f start room n m an am = omega (arith, an.greatest m am.allowed, am
 -- where a flow is next some flow is eligible
 next_is_eligible : (c : Config) (flows : List LiveFlow) (start room : ℕ) (f : LiveFlow) → IsNext c flows start room f →
     NoneEligible c flows start room → ⊥
-next_is_eligible c flows start room f next none = each-at _ flows f none next.live next.eligible
+next_is_eligible c flows start room f next none = all-contains _ flows f none next.live next.eligible
 
 -- at a spot there is no room
 no_room : (c : Config) (spots : List Spot) (k offset : ℕ) (d : Spot) → k < length spots →

@@ -1,4 +1,4 @@
--- The MAP of a draft that is filled and ended is lawful, and a lawful MAP has bytes.
+-- The MAP of a draft that is filled and ended is lawful, and a lawful MAP is well formed.
 use Rattle.std.proofs.Common.{◌≡◌, ℕ, ◌<◌, ◌≤◌, List, [], ◌∷◌, map, filter, length, nat_lt, Contains, Bool, refl, sym}
 use Rattle.std.proofs.Common.{ap, subst, ◌∙◌, arith}
 use Rattle.std.specs.List.{AllByRecursion}
@@ -137,7 +137,7 @@ few-elements c flows spots start plan overhead places live is = omega (
   length-map flows (flow_after start plan),
 )
 
--- a lawful MAP of flows of a channel has bytes
+-- a lawful MAP of flows of a channel is well formed
 pub lawful-encodable : (c : Config) (flows : List LiveFlow) (spots : List Spot) (start ack : ℕ) (m : FrameMap) →
     IsLawful c → AreInFrame c spots →
     IsLawfulMap c flows spots start ack m → FitsHeader m.wire → AreOfChannel flows → HaveFlowSids spots →

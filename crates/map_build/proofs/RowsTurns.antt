@@ -18,6 +18,7 @@ use Rattle.map_build.proofs.RowsContention.{filled_by}
 abbrev pub lower : List Grant → LiveFlow
 lower grants = record { sid = 20; spec = BestEffort 3 0 0; asked = 1000; grants = grants }
 
+-- a flow of the next SID that is the same otherwise
 abbrev pub higher : List Grant → LiveFlow
 higher grants = record { sid = 21; spec = BestEffort 3 0 0; asked = 1000; grants = grants }
 

@@ -34,8 +34,8 @@ Climbs-at low (e ∷ next ∷ es) climbs zero within = climbs.1.0
 Climbs-at low (e ∷ next ∷ es) climbs (suc i) within = Climbs-at e.offset (next ∷ es) climbs.1 i (omega arith)
 
 -- an allocation's element begins where the allocation does
-element_for-offset : (c : Config) (offset slots : ℕ) (purpose : Purpose) → (element_for c offset slots purpose).offset
-    ≡ offset
+pub element_for-offset : (c : Config) (offset slots : ℕ) (purpose : Purpose)
+    → (element_for c offset slots purpose).offset ≡ offset
 element_for-offset c offset slots (Poll sid) = refl
 element_for-offset c offset slots (UnsolicitedGrant sid) = refl
 element_for-offset c offset slots (DataGrant sid bytes) = refl

@@ -21,6 +21,7 @@ element_for c offset slots (UnsolicitedGrant sid) = record { sid = sid; iuc = un
 element_for c offset slots (DataGrant sid bytes) = record { sid = sid; iuc = data_iuc c slots; offset = offset }
 element_for c offset slots Idle = record { sid = 0; iuc = long_iuc c; offset = offset }
 
+-- the element of an allocation, at its own offset
 abbrev pub element_of : Config → Allocation → Element
 element_of c a = element_for c a.offset a.slots a.purpose
 

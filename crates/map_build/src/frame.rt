@@ -35,8 +35,8 @@ fn plan_around(
     requires started { AllByRecursion (HasStartedBy start) book.now.flows }
     requires bounded { start ≤ 2 ^ 61 }
 
-    ensures lawful { IfOk result (λ both. IsLawfulFrame book.now.config book.now.flows spots.now start ack
-        both.0 both.1.flows) }
+    ensures lawful { IfOk result (λ both.
+        IsLawfulFrame book.now.config book.now.flows spots.now start ack both.0 both.1.flows) }
     ensures only { IfOk result (λ both. (n : FrameMap) →
         IsLawfulMap book.now.config book.now.flows spots.now start ack n → n ≡ both.0) }
     ensures encodable { AreOfChannel book.now.flows → HaveFlowSids spots.now →
@@ -61,7 +61,8 @@ pub fn plan_frame(
 ) -> Result<FrameMap, AllocError>
     requires config { table.now.config ≡ book.now.config }
     requires periodic { ArePeriodicOf book.now.flows table.now.placed }
-    requires started { AllByRecursion (HasStartedBy (frame * book.now.config.frame)) book.now.flows }
+    requires started { AllByRecursion (HasStartedBy (frame * book.now.config.frame))
+        book.now.flows }
     requires bounded { frame * book.now.config.frame ≤ 2 ^ 61 }
 
     ensures lawful { IfOk result (λ m. IsLawfulMap book.now.config book.now.flows
@@ -85,7 +86,8 @@ pub fn plan_with_book(
 ) -> Result<(FrameMap, Book), AllocError>
     requires config { table.now.config ≡ book.now.config }
     requires periodic { ArePeriodicOf book.now.flows table.now.placed }
-    requires started { AllByRecursion (HasStartedBy (frame * book.now.config.frame)) book.now.flows }
+    requires started { AllByRecursion (HasStartedBy (frame * book.now.config.frame))
+        book.now.flows }
     requires bounded { frame * book.now.config.frame ≤ 2 ^ 61 }
 
     ensures lawful { IfOk result (λ both. IsLawfulFrame book.now.config book.now.flows
@@ -94,7 +96,8 @@ pub fn plan_with_book(
     ensures only { IfOk result (λ both. (n : FrameMap) → IsLawfulMap book.now.config book.now.flows
         (spots_in book.now.config frame table.now.placed) (frame * book.now.config.frame) ack n →
         n ≡ both.0) }
-    ensures encodable { AreOfChannel book.now.flows → IfOk result (λ both. IsWellFormed both.0.wire) }
+    ensures encodable { AreOfChannel book.now.flows
+        → IfOk result (λ both. IsWellFormed both.0.wire) }
     ensures config { IfOk result (λ both. both.1.config ≡ book.now.config) }
 {
     let start = frame * u64::from(book.config().frame());

@@ -11,7 +11,7 @@ use Rattle.map_codec.specs.DecodeFault.{first_of, when, count_in, length_faults,
 use Rattle.map_codec.specs.DecodeFault.{descends_at, repeats_null_at, expansion_fault, descending_fault}
 use Rattle.map_codec.specs.DecodeFault.{null_faults, elements_fault, fault_of, checked, IsFaultOf}
 
--- want of memory is not found in bytes
+-- lack of memory is not found in bytes
 abbrev IsFound : Option DecodeFault → Type 0
 IsFound (Some Memory) = ⊥
 IsFound _ = Unit {0}

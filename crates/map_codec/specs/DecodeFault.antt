@@ -86,7 +86,7 @@ abbrev pub Reads : WireMap → Result WireMap DecodeFault → Type 0
 Reads m (Ok n) = n ≡ m
 Reads m (Err e) = e ≡ Memory
 
--- the fault of the bytes; want of memory is answered only where they have none
+-- the fault of the bytes; lack of memory is answered only where they have none
 abbrev pub IsFaultOf : List ℕ → DecodeFault → Type 0
 IsFaultOf bytes Memory = fault_of bytes ≡ None
 IsFaultOf bytes fault = fault_of bytes ≡ Some fault

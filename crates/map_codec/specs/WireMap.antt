@@ -46,7 +46,7 @@ pub record FitsHeader (m : WireMap) : Type 0 where
   pub data_start : m.data_start < 2 ^ 8
   pub data_end : m.data_end < 2 ^ 8
 
--- a MAP that has bytes
+-- a MAP that is well formed
 pub record IsWellFormed (m : WireMap) : Type 0 where
   pub fits : FitsHeader m
   pub count : length m.elements ≤ MAX_ELEMENTS

@@ -1,4 +1,4 @@
-//! Whether a MAP has bytes.
+//! Whether a MAP is well formed.
 
 ghost use Rattle.std.specs.Prelude.{◌≡◌, ◌<◌, ◌^◌, ◌↔◌, IsOk};
 ghost use Rattle.map_codec.specs.WireMap.{FitsHeader, IsWellFormed};
@@ -103,8 +103,8 @@ fn are_numbers(map: &WireMap)
 }
 
 impl WireMap {
-    /// Whether the MAP has bytes, as [`encode`](crate::encode) asks, or the first fault in the order of [`MapFault`].
-    /// Takes no memory.
+    /// Whether the MAP is well formed, as [`encode`](crate::encode) asks, or the first fault in the order of
+    /// [`MapFault`]. Takes no memory.
     pub fn check(&self) -> Result<(), MapFault>
         ensures exact { result ≡ judged (map_fault self.now) }
         ensures well_formed { IsOk result ↔ IsWellFormed self.now }

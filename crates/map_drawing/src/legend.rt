@@ -3,7 +3,8 @@
 ghost use Rattle.std.specs.Prelude.{◌≡◌, ◌+◌, ◌<◌, ◌≤◌, ◌++◌, length, flat_map, OnOk, IfOk};
 ghost use Rattle.map_codec.specs.WireMap.{IsWellFormed};
 ghost use Rattle.map_codec.specs.Element.{nulls};
-ghost use Rattle.map_drawing.specs.Legend.{usage_end, state_of, allocation_line, allocation_lines, behind_line, drawing_text};
+ghost use Rattle.map_drawing.specs.Legend.{usage_end, state_of, allocation_line, allocation_lines};
+ghost use Rattle.map_drawing.specs.Legend.{behind_line, drawing_text};
 
 use crate::allocation::{Allocation, allocation_at, behind_of, frame_slots, front_len, front_of};
 use crate::rows::{letter_of, push_rows, slots_per_row};

@@ -18,9 +18,11 @@ use Rattle.map_snapshot.proofs.Entries.{open_after, whole_after, maps_in_snoc}
 abbrev pub shown : List Entry → List Entry
 shown log = []
 
+-- nor is there a rule of what a step may change
 abbrev pub moved : List Entry → List Entry → Unit {0} → Type 0
 moved xs ys n = Unit {0}
 
+-- the list is open at this number, or has ended with it
 abbrev pub Stands : ℕ → List Entry → Type 0
 Stands n log = IsOpen n log ⊎ HasEnded n log
 

@@ -13,14 +13,17 @@ get_behind [] y ys (suc k) len = absurd (omega (arith, len))
 get_behind (x ∷ xs) y ys zero len = absurd (omega (arith, len))
 get_behind (x ∷ xs) y ys (suc k) len = get_behind xs y ys k (omega (arith, len))
 
+-- the newest of a longer list has no lower version
 pub never_falls : NeverFalls
 never_falls list longer p q begins first then = omega
     (arith, prefix_length list longer begins, first.version, then.version)
 
+-- where the shorter list has a newest, the longer has one
 pub stays_read : StaysRead
 stays_read [] longer begins none = refl
 stays_read (x ∷ list) longer begins none = absurd (cc (begins.1, none))
 
+-- the newest of a list stands at its version in each longer list
 pub stands : StandsAtItsVersion
 stands list longer p k begins first version =
     let whole : longer ≡ first.before ++ map_in p ∷ begins.0 =

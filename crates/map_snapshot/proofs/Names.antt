@@ -10,6 +10,7 @@ use Rattle.map_snapshot.specs.declared.printed.Printed.{Printed}
 use Rattle.map_snapshot.specs.Maps.{Page, Coming, MayWait}
 use Rattle.map_snapshot.specs.Rules.{word_of, IsNameOf, AllName}
 
+-- the rule of the names of a page: each is that of its press
 abbrev pub law : Page → List (Option Named) → Type 0
 law s names = AllName (word_of s.press) names
 

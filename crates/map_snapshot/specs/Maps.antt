@@ -56,6 +56,7 @@ pub record Coming : Type 0 where
   pub press : Book
   pub printed : Printed
 
+-- the map that was appended
 abbrev pub printed_of : Coming → Printed
 printed_of a = a.printed
 

@@ -32,7 +32,8 @@ impl Model for Addition {
 
     ghost view = { λ a. record { press = a.seen.book; printed = a.printed } };
 
-    ghost invariant = { λ a. ((arc_value a.counts).list ≡ word_of a.seen.book) × (a.printed.len ≤ MAX_BYTES) };
+    ghost invariant = { λ a.
+        ((arc_value a.counts).list ≡ word_of a.seen.book) × (a.printed.len ≤ MAX_BYTES) };
 }
 
 impl Addition {

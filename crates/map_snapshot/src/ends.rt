@@ -21,8 +21,10 @@ impl Protocol<Sheet, Name> for OneList {
     ghost first = { None };
 }
 
+/// The one end that publishes.
 pub type Writer = writer::Writer<Sheet, Addition, Name, OneList>;
 
+/// An end that reads.
 pub type Reader = reader::Reader<Sheet, Name, OneList>;
 
 /// A publish: the writer knows the word of the copy that it shows.

@@ -55,8 +55,8 @@ impl Press {
 }
 
 /// Opens a press with this many readers, at most 16, none of which has read anything. More readers are
-/// `ReaderCount`, and want of memory is `Memory`; after either nothing is left open. It takes a handle that waits:
-/// it makes the first publish, and ends the press that a later want of memory leaves, and both are calls that may
+/// `ReaderCount`, and lack of memory is `Memory`; after either nothing is left open. It takes a handle that waits:
+/// it makes the first publish, and ends the press that a later lack of memory leaves, and both are calls that may
 /// wait. There is no reader yet for whom they could.
 pub fn open_press<R: Wait>(
     rt: &R,

@@ -30,7 +30,8 @@ impl Model for Reader {
 
     ghost view = { λ r. r.known };
 
-    ghost invariant = { λ r. IsSomeAnd r.end (λ e. name_in e.place ≡ Some (word_of r.known.press)) };
+    ghost invariant = { λ r.
+        IsSomeAnd r.end (λ e. name_in e.place ≡ Some (word_of r.known.press)) };
 }
 
 impl Reader {

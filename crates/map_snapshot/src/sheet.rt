@@ -39,7 +39,8 @@ impl Sheet {
     // What readers take before anything was published.
     pub(crate) fn blank(seen: Seen) -> Sheet
         requires empty { seen.log ≡ [] }
-        ensures made { result ≡ record { press = seen.book; printed = None; list = []; listed = true } }
+        ensures made { result
+            ≡ record { press = seen.book; printed = None; list = []; listed = true } }
     {
         Sheet {
             printed: None,
@@ -58,7 +59,8 @@ impl Sheet {
 
     // The list as it was seen.
     pub(crate) fn seen(&self) -> &Seen
-        ensures seen { (result.now.book ≡ self.now.press) × (maps_in result.now.log ≡ self.now.list) }
+        ensures seen { (result.now.book ≡ self.now.press)
+            × (maps_in result.now.log ≡ self.now.list) }
     {
         &self.seen
     }

@@ -5,7 +5,6 @@ ghost use Rattle.map_snapshot.specs.Maps.{IsNewest, maps_in};
 
 use crate::list::Seen;
 use crate::printed::Printed;
-use crate::whole::Whole;
 use std::marker::Model;
 
 /// What a press told: which press it is, the maps that it had published by then, and the newest of them.
@@ -85,17 +84,5 @@ impl Told {
             replace(&mut self.printed, printed);
             self.seen = seen.again();
         }
-    }
-
-    // Takes in all that its press has published: what was known before is a beginning of it.
-    pub(crate) fn take_whole(&mut self, whole: &Whole)
-        requires own { whole.now.press ≡ self.old.press }
-        ensures press { self.new.press ≡ self.old.press }
-        ensures whole { self.new.list ≡ whole.now.list }
-        ensures began { IsPrefix self.old.list whole.now.list }
-    {
-        let mut both = whole.seen.again();
-        both.learn(&self.seen);
-        self.take_in(&whole.printed, &whole.seen);
     }
 }

@@ -1,5 +1,6 @@
 //! What a press has published, once it has ended.
 ghost use Rattle.std.specs.Prelude.{◌≡◌, IfSome};
+ghost use mathlib.Core.List.{IsPrefix};
 ghost use Rattle.map_snapshot.specs.Rules.{word_of};
 
 use crate::list::{Count, Seen, end};
@@ -39,5 +40,19 @@ impl Whole {
             });
         }
         None
+    }
+}
+
+impl Told {
+    // Takes in all that its press has published: what was known before is a beginning of it.
+    pub(crate) fn take_whole(&mut self, whole: &Whole)
+        requires own { whole.now.press ≡ self.old.press }
+        ensures press { self.new.press ≡ self.old.press }
+        ensures whole { self.new.list ≡ whole.now.list }
+        ensures began { IsPrefix self.old.list whole.now.list }
+    {
+        let mut both = whole.seen.again();
+        both.learn(&self.seen);
+        self.take_in(&whole.printed, &whole.seen);
     }
 }

@@ -31,6 +31,7 @@ grants-with f (g ∷ placed) =
     (λ high. let rest = grants-with f placed in
     let last = sum_by-cons own g (with_placed f placed) in omega (arith, first, rest, last))
 
+-- what is so of the spots of a flow and of a table is so of those of the table with the flow
 pub all-spots-with : (c : Config) (k : ℕ) (P : Spot → Type 0) (f : Placed) (placed : List Placed)
     → AllByRecursion P (spots_of c k f) → AllByRecursion P (spots_in c k placed)
     → AllByRecursion P (spots_in c k (with_placed f placed))
@@ -105,6 +106,7 @@ module _ (c : Config) (placed : List Placed) (sid : ℕ) (spec : FlowSpec) (next
         starts are.each;
   }
 
+  -- a new flow at a lawful placement is sound
   pub new-sound : 0 < sid → sid ≤ 8191 → is_periodic spec ≡ true → first_fault c spec ≡ None
       → IsPlacement c placed spec next p → IsSoundPlaced c new
   new-sound some most periodic none is = record {

@@ -27,6 +27,7 @@ last-within [] (o ∷ others) last most late within = omega (arith, late.0, with
 last-within (s ∷ starts) [] last most late within = absurd late
 last-within (s ∷ starts) (o ∷ others) last most late within = last-within starts others last most late.1 within.1
 
+-- starts end where the last one does
 pub end-push : (slots from : ℕ) (starts : List ℕ) (start : ℕ) → end_of slots from (starts ++ start ∷ []) ≡ start + slots
 end-push slots from [] start = refl
 end-push slots from (s ∷ starts) start = end-push slots (s + slots) starts start

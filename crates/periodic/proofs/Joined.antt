@@ -16,6 +16,7 @@ module _ {X : Type 0} where
   all-left P [] ys all = tt
   all-left P (x ∷ xs) ys all = (all.0, all-left P xs ys all.1)
 
+  -- what is so of all of two lists joined is so of the second
   pub all-right : (P : X → Type 0) (xs ys : List X) → AllByRecursion P (xs ++ ys) → AllByRecursion P ys
   all-right P [] ys all = all
   all-right P (x ∷ xs) ys all = all-right P xs ys all.1
@@ -65,10 +66,12 @@ pub apart-left : (xs ys : List Spot) → AreApart (xs ++ ys) → AreApart xs
 apart-left [] ys apart = tt
 apart-left (x ∷ xs) ys apart = (all-left (IsApart x) xs ys apart.0, apart-left xs ys apart.1)
 
+-- of joined spots that are apart the second are
 pub apart-right : (xs ys : List Spot) → AreApart (xs ++ ys) → AreApart ys
 apart-right [] ys apart = apart
 apart-right (x ∷ xs) ys apart = apart-right xs ys apart.1
 
+-- of joined spots that are apart each of the first is apart from the second
 pub apart-between : (xs ys : List Spot) → AreApart (xs ++ ys) → AllByRecursion (λ s. AllByRecursion (IsApart s) ys) xs
 apart-between [] ys apart = tt
 apart-between (x ∷ xs) ys apart = (all-right (IsApart x) xs ys apart.0, apart-between xs ys apart.1)

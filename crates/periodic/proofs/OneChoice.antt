@@ -51,7 +51,8 @@ groups-same size (suc n) xs ys left right same =
     let more : suc n * size ≡ size + n * size = omega arith in
     let rest = groups-same size n (drop size xs) (drop size ys)
     (omega (arith, left, more, length-drop size xs)) (omega (arith, right, more, length-drop size ys))
-    (λ index within. group-next size index xs ∙ same (index + 1) (omega (arith, within)) ∙ sym (group-next size index ys)) in
+    (λ index within.
+    group-next size index xs ∙ same (index + 1) (omega (arith, within)) ∙ sym (group-next size index ys)) in
     let none : 0 ≡ 0 * size = omega arith in
     let head : take size xs ≡ take size ys =
     ap (λ n. take size (drop n xs)) none ∙ same 0 (omega arith) ∙ ap (λ n. take size (drop n ys)) (sym none) in

@@ -12,6 +12,7 @@ use Rattle.periodic.specs.Table.{placed_grants, IsApart, AreApart, IsSoundPlaced
 use Rattle.periodic.proofs.Joined.{all-append, all-left, all-right, all-weaker}
 use Rattle.periodic.proofs.Joined.{apart-append, apart-left, apart-right, apart-between}
 
+-- what is so of the spots of a table is so of those of the flows that are left
 pub all-spots-filter : (c : Config) (k : ℕ) (P : Spot → Type 0) (p : Placed → Bool) (placed : List Placed)
     → AllByRecursion P (spots_in c k placed) → AllByRecursion P (spots_in c k (filter p placed))
 all-spots-filter c k P p [] all = tt

@@ -19,7 +19,7 @@ abbrev AreFirstBeside : FlowSpec → List Placed → ℕ → List ℕ → Type 0
 AreFirstBeside spec table place starts = (others : List ℕ)
     → AreLawfulStarts base spec 4 (spots_in base place table) others → AreEarlier others starts → ⊥
 
--- a placement of the first frame and the first minislot behind the requests is taken, where no lawful starts are earlier
+-- a placement of the first frame and the first minislot behind the requests is taken where no lawful ones are earlier
 chosen-first : (spec : FlowSpec) (table : List Placed) (p : Placement) → interval_frames base spec ≡ 10
     → phase_of base spec p ≡ 0 → offset_of base p ≡ 4 → IsPlacement base table spec 800 p
     → AreFirstBeside spec table 0 (starts_in base spec p 0) → AreFirstBeside spec table 10 (starts_in base spec p 10)

@@ -1,5 +1,5 @@
 -- Where a flow stands in the fields of a table.
-use Rattle.std.proofs.Common.{◌≡◌, sym, ap, ◌∙◌, subst, ℕ, ◌≤◌, Bool, true, false, cond, not, ◌==◌, nat_lt}
+use Rattle.std.proofs.Common.{◌≡◌, sym, ap, ◌∙◌, subst, ℕ, ◌≤◌, Bool, not, ◌==◌, nat_lt}
 use Rattle.std.proofs.Common.{List, map, length, get_or, slice_get, find, position, Option, Some, None, option_map}
 use Rattle.std.proofs.Common.{unwrap_or, arith}
 use Rattle.std.specs.List.{AllByRecursion, insert, position_or_len}
@@ -13,6 +13,7 @@ use Rattle.flow_book.proofs.Places.{find-map, position-map, found-place, place-o
 use Rattle.flow_book.proofs.Sums.{all-insert}
 use Rattle.minislots.specs.declared.config.Config.{Config}
 use Rattle.flow_book.specs.declared.spec.FlowSpec.{FlowSpec}
+use Rattle.flow_book.proofs.Places.{some-place}
 use Rattle.periodic.specs.declared.bits.Bits.{Bits}
 use Rattle.periodic.specs.declared.spots.PlacedFlow.{PlacedFlow}
 use Rattle.periodic.specs.Placement.{Placed, spots_of}
@@ -62,10 +63,6 @@ module _ (items new : List PlacedFlow) (place sid : ℕ) (spec : FlowSpec) (refe
   pub times-with : (c : Config) → new ≡ insert items place g → AllByRecursion (KeepsTimes c) items → KeepsTimes c g
       → AllByRecursion (KeepsTimes c) new
   times-with c is times more = rw is (all-insert (KeepsTimes c) items place g times more)
-
-some-place : (b : Bool) (m i : ℕ) → cond b (Some m) None ≡ Some i → m ≡ i
-some-place true m i h = cc
-some-place false m i h = absurd (cc)
 
 -- the flow at the place of an SID is the one that is found
 pub flow-found : (sid : ℕ) (items : List PlacedFlow) (i : ℕ) (f : PlacedFlow)

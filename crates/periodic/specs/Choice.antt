@@ -1,4 +1,4 @@
--- Which of the lawful placements is taken: the first of them, by phase, then by offset, then by the starts in each frame.
+-- Which of the lawful placements is taken: the first by its phase, then its offset, then its starts in each frame.
 use Rattle.std.specs.Prelude.{◌≡◌, ℕ, ◌<◌, ◌⊎◌, List, [], ◌∷◌}
 use Rattle.minislots.specs.declared.config.Config.{Config}
 use Rattle.flow_book.specs.declared.spec.FlowSpec.{FlowSpec}

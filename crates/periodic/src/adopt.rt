@@ -18,7 +18,8 @@ fn is_start(bits: &Bits, config: &Checked, wanted: Wanted, offset: u64, start: u
     requires sought { CanBeSought config.now wanted }
     requires start { start < 2 ^ 16 }
     ensures lawful { result ≡ true → IsStartOf config.now wanted offset bits.now.words start }
-    ensures unlawful { result ≡ false → IsStartOf config.now wanted offset bits.now.words start → ⊥ }
+    ensures unlawful { result ≡ false
+        → IsStartOf config.now wanted offset bits.now.words start → ⊥ }
 {
     let frame = u64::from(config.frame());
     if start < offset || start - offset > wanted.jitter {
@@ -38,8 +39,10 @@ fn is_start(bits: &Bits, config: &Checked, wanted: Wanted, offset: u64, start: u
 fn are_starts_in(bits: &Bits, config: &Checked, wanted: Wanted, offset: u64, starts: &[u16]) -> bool
     requires sought { CanBeSought config.now wanted }
     requires count { length starts.now ≡ wanted.grants }
-    ensures lawful { result ≡ true → AreStartsIn config.now wanted offset bits.now.words starts.now }
-    ensures unlawful { result ≡ false → AreStartsIn config.now wanted offset bits.now.words starts.now → ⊥ }
+    ensures lawful { result ≡ true
+        → AreStartsIn config.now wanted offset bits.now.words starts.now }
+    ensures unlawful { result ≡ false
+        → AreStartsIn config.now wanted offset bits.now.words starts.now → ⊥ }
 {
     let mut from = offset;
     for start in starts {
@@ -68,7 +71,8 @@ fn are_starts(
     requires sought { CanBeSought config.now wanted }
     requires phase { phase < wanted.interval }
     ensures lawful { result ≡ true → AreStarts config.now rows.now wanted phase offset starts.now }
-    ensures unlawful { result ≡ false → AreStarts config.now rows.now wanted phase offset starts.now → ⊥ }
+    ensures unlawful { result ≡ false
+        → AreStarts config.now rows.now wanted phase offset starts.now → ⊥ }
 {
     let frames = u64::from(config.cycle()) / wanted.interval;
     let count = frames as usize * wanted.grants;
@@ -98,9 +102,11 @@ pub(crate) fn is_lawful(
     requires long { length rows.now ≡ config.now.cycle }
     requires periodic { is_periodic spec.now ≡ true }
     requires no_fault { first_fault config.now spec.now ≡ None }
-    ensures lawful { (placed : List Placed) → AreSound config.now placed → AreRowsOf config.now placed rows.now
+    ensures lawful { (placed : List Placed)
+        → AreSound config.now placed → AreRowsOf config.now placed rows.now
         → result ≡ true → IsPlacement config.now placed spec.now next placement.now }
-    ensures unlawful { (placed : List Placed) → AreSound config.now placed → AreRowsOf config.now placed rows.now
+    ensures unlawful { (placed : List Placed)
+        → AreSound config.now placed → AreRowsOf config.now placed rows.now
         → result ≡ false → IsPlacement config.now placed spec.now next placement.now → ⊥ }
 {
     let frame = u64::from(config.frame());

@@ -26,7 +26,8 @@ fn bits_from(place: u64, from: u64) -> u64
 // The bits of the word at this place that stand for minislots from `start` to before `end`.
 fn bits_between(place: u64, start: u64, end: u64) -> u64
     requires { place < 16 }
-    ensures inside { (i : ℕ) → i < 64 → start ≤ place * 64 + i → place * 64 + i < end → bit_at result i ≡ 1 }
+    ensures inside { (i : ℕ)
+        → i < 64 → start ≤ place * 64 + i → place * 64 + i < end → bit_at result i ≡ 1 }
     ensures below { (i : ℕ) → i < 64 → place * 64 + i < start → bit_at result i ≡ 0 }
     ensures above { (i : ℕ) → i < 64 → end ≤ place * 64 + i → bit_at result i ≡ 0 }
 {
@@ -73,8 +74,10 @@ impl Bits {
 
     // Marks the minislots from `start` to before `end` as taken, or as free.
     pub(crate) fn mark(&mut self, start: u64, end: u64, taken: bool)
-        ensures inside { (m : ℕ) → m < 1024 → start ≤ m → m < end → bit_of self.new.words m ≡ bit_for taken }
-        ensures outside { (m : ℕ) → (m < start) ⊎ (end ≤ m) → bit_of self.new.words m ≡ bit_of self.old.words m }
+        ensures inside { (m : ℕ)
+            → m < 1024 → start ≤ m → m < end → bit_of self.new.words m ≡ bit_for taken }
+        ensures outside { (m : ℕ)
+            → (m < start) ⊎ (end ≤ m) → bit_of self.new.words m ≡ bit_of self.old.words m }
     {
         for place in start / 64..(end / 64 + 1).min(WORDS) {
             let bits = bits_between(place, start, end);

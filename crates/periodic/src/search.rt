@@ -85,7 +85,8 @@ fn next_start(bits: &Bits, frame: u64, slots: u64, from: u64) -> Option<u64>
     requires slots { slots ≤ 1024 }
     requires from { from ≤ 1024 }
     ensures found { IfSome result (IsNextStart bits.now.words frame slots from) }
-    ensures absent { IfNone result ((start : ℕ) → IsFreeStart bits.now.words frame slots from start → ⊥) }
+    ensures absent { IfNone result
+        ((start : ℕ) → IsFreeStart bits.now.words frame slots from start → ⊥) }
 {
     let mut start = bits.next_free(from);
     'starts: while start + slots <= frame {
@@ -110,7 +111,8 @@ fn starts_in(
     requires within { offset < config.now.frame }
     ensures found { IfOk result (λ starts.
         AreFirstIn config.now wanted offset bits.now.words (take wanted.grants starts)) }
-    ensures blocked { IfErr result (IsNextOffset config.now (HasStartsAt config.now wanted bits.now.words) offset) }
+    ensures blocked { IfErr result
+        (IsNextOffset config.now (HasStartsAt config.now wanted bits.now.words) offset) }
 {
     let frame = u64::from(config.frame());
     let mut starts = [0; MAX_GROUP];
@@ -142,9 +144,11 @@ fn starts_at(
     requires sought { CanBeSought config.now wanted }
     requires phase { phase < wanted.interval }
     requires offset { offset < config.now.frame }
-    ensures found { IfOk result (λ _. AreFirstStarts config.now rows.now wanted phase offset (starts_of row.new)) }
+    ensures found { IfOk result
+        (λ _. AreFirstStarts config.now rows.now wanted phase offset (starts_of row.new)) }
     ensures most { IfOk result (λ _. row.new.count ≤ MAX_STARTS) }
-    ensures blocked { IfErr result (IsNextOffset config.now (HaveStartsAt config.now rows.now wanted phase) offset) }
+    ensures blocked { IfErr result
+        (IsNextOffset config.now (HaveStartsAt config.now rows.now wanted phase) offset) }
 {
     row.count = 0;
     for index in 0..u64::from(config.cycle()) / wanted.interval {
@@ -230,11 +234,12 @@ pub(crate) fn choose(rows: &[Bits], config: &Checked, spec: &FlowSpec, next: u64
     requires no_fault { first_fault config.now spec.now ≡ None }
     requires aligned { next % config.now.frame ≡ 0 }
     requires most { next ≤ 2 ^ 61 }
-    ensures chosen { (placed : List Placed) → AreSound config.now placed → AreRowsOf config.now placed rows.now
-        → IfSome result (λ chosen. IsChosen config.now placed spec.now next (chosen_placement chosen)) }
+    ensures chosen { (placed : List Placed)
+        → AreSound config.now placed → AreRowsOf config.now placed rows.now → IfSome result
+        (λ chosen. IsChosen config.now placed spec.now next (chosen_placement chosen)) }
     ensures count { IfSome result (λ chosen. chosen.row.count ≤ MAX_STARTS) }
-    ensures absent { (placed : List Placed) → AreSound config.now placed → AreRowsOf config.now placed rows.now
-        → IfNone result (NoPlacement config.now placed spec.now next) }
+    ensures absent { (placed : List Placed) → AreSound config.now placed → AreRowsOf config.now
+        placed rows.now → IfNone result (NoPlacement config.now placed spec.now next) }
 {
     let wanted = wanted_of(config, spec);
     let Some(found) = first_found(rows, config, wanted) else {

@@ -137,7 +137,8 @@ impl PlacedFlow {
 
     // What the flow takes from this start on.
     fn spot(&self, start: u16) -> Spot
-        ensures { (c : Config) → KeepsTimes c self.now → result ≡ spot_at c (placed_of self.now) start }
+        ensures { (c : Config)
+            → KeepsTimes c self.now → result ≡ spot_at c (placed_of self.now) start }
     {
         Spot {
             sid: self.sid,
@@ -151,8 +152,8 @@ impl PlacedFlow {
     fn put(&self, place: u64, spots: &mut [Spot; MAX_PERIODIC_GRANTS], count: usize) -> usize
         requires sound { (c : Config) × IsSoundFlow c self.now × (place < c.cycle)
             × (count + length (spots_of c place (placed_of self.now)) ≤ MAX_PERIODIC_GRANTS) }
-        ensures spots { (c : Config) → IsSoundFlow c self.now → place < c.cycle
-            → take result spots.new ≡ take count spots.old ++ spots_of c place (placed_of self.now) }
+        ensures spots { (c : Config) → IsSoundFlow c self.now → place < c.cycle → take result
+            spots.new ≡ take count spots.old ++ spots_of c place (placed_of self.now) }
         ensures rest { drop result spots.new ≡ drop result spots.old }
         ensures more { count ≤ result }
         ensures most { result ≤ MAX_PERIODIC_GRANTS }
@@ -168,8 +169,8 @@ impl PlacedFlow {
     // Marks what the flow takes of the frame at this place as taken, or as free.
     fn mark(&self, place: u64, bits: &mut Bits, taken: bool)
         requires sound { (c : Config) × IsSoundFlow c self.now × (place < c.cycle) }
-        ensures { (c : Config) → IsSoundFlow c self.now → place < c.cycle
-            → AreMarked (spots_of c place (placed_of self.now)) (bit_for taken) bits.old.words bits.new.words }
+        ensures { (c : Config) → IsSoundFlow c self.now → place < c.cycle → AreMarked (spots_of c
+            place (placed_of self.now)) (bit_for taken) bits.old.words bits.new.words }
     {
         for start in self.starts(place) {
             let start = u64::from(*start);
@@ -204,8 +205,8 @@ pub(crate) fn mark(rows: &mut [Bits], config: &Checked, flow: &PlacedFlow, taken
     requires sound { IsSoundFlow config.now flow.now }
     requires long { length rows.old ≡ config.now.cycle }
     ensures long { length rows.new ≡ config.now.cycle }
-    ensures marked { (k : ℕ) → AreMarked (spots_of config.now k (placed_of flow.now)) (bit_for taken)
-        (row_at config.now rows.old k) (row_at config.now rows.new k) }
+    ensures marked { (k : ℕ) → AreMarked (spots_of config.now k (placed_of flow.now))
+        (bit_for taken) (row_at config.now rows.old k) (row_at config.now rows.new k) }
 {
     for place in 0..u64::from(config.cycle()) {
         flow.mark(place, &mut rows[place as usize], taken);

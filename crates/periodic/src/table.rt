@@ -114,13 +114,15 @@ impl Table {
         // The placement is lawful, no lawful one comes before it, and it stands in the table beside the others.
         ensures lawful { IfOk result (IsPlacement self.old.config self.old.placed spec.now next) }
         ensures chosen { IfOk result (IsChosen self.old.config self.old.placed spec.now next) }
-        ensures placed { IfOk result (λ p. self.new.placed ≡ with_placed (placed_at sid spec.now p) self.old.placed) }
+        ensures placed { IfOk result
+            (λ p. self.new.placed ≡ with_placed (placed_at sid spec.now p) self.old.placed) }
         ensures config { self.new.config ≡ self.old.config }
 
         // No place is answered exactly where there is none.
         ensures no_place { IsErrOf result PlaceFault.NoPlace
             ↔ NoPlacement self.old.config self.old.placed spec.now next }
-        ensures memory { IsErrOf result PlaceFault.Memory → HasPlacement self.old.config self.old.placed spec.now next }
+        ensures memory { IsErrOf result PlaceFault.Memory
+            → HasPlacement self.old.config self.old.placed spec.now next }
         ensures err { OnErr result (self.new ≡ self.old) }
     {
         let Some(chosen) = self.chosen(spec, next) else {
@@ -163,7 +165,8 @@ impl Table {
         ensures unlawful { IfOk result (λ taken. taken ≡ false →
             IsPlacement self.old.config self.old.placed spec.now next placement.now → ⊥) }
         ensures same { IfOk result (λ taken. taken ≡ false → self.new ≡ self.old) }
-        ensures memory { OnErr result (IsPlacement self.old.config self.old.placed spec.now next placement.now) }
+        ensures memory { OnErr result
+            (IsPlacement self.old.config self.old.placed spec.now next placement.now) }
         ensures err { OnErr result (self.new ≡ self.old) }
     {
         if !self.takes(spec, next, placement) {
@@ -190,7 +193,8 @@ impl Table {
     /// many spots these are. The rest of the array stays.
     pub fn in_frame(&self, k: u64, spots: &mut [Spot; MAX_PERIODIC_GRANTS]) -> usize
         // Exactly the spots of the frame are written.
-        ensures spots { IsPermutation (spots_in self.now.config k self.now.placed) (take result spots.new) }
+        ensures spots { IsPermutation (spots_in self.now.config k self.now.placed)
+            (take result spots.new) }
         ensures rest { drop result spots.new ≡ drop result spots.old }
         ensures most { result ≤ MAX_PERIODIC_GRANTS }
 
@@ -221,7 +225,8 @@ impl Table {
     fn takes(&self, spec: &FlowSpec, next: u64, placement: &Placement) -> bool
         requires periodic { is_periodic spec.now ≡ true }
         requires no_fault { first_fault self.now.config spec.now ≡ None }
-        ensures lawful { result ≡ true → IsPlacement self.now.config self.now.placed spec.now next placement.now }
+        ensures lawful { result ≡ true
+            → IsPlacement self.now.config self.now.placed spec.now next placement.now }
         ensures unlawful { result ≡ false
             → IsPlacement self.now.config self.now.placed spec.now next placement.now → ⊥ }
     {
@@ -242,10 +247,11 @@ impl Table {
         requires periodic { is_periodic spec ≡ true }
         requires no_fault { first_fault self.old.config spec ≡ None }
         requires room { placed_grants self.old.placed + grants_of spec ≤ MAX_PERIODIC_GRANTS }
-        requires lawful { (next : ℕ)
-            × IsPlacement self.old.config self.old.placed spec next (placement_at reference starts.now) }
+        requires lawful { (next : ℕ) × IsPlacement self.old.config self.old.placed spec next
+            (placement_at reference starts.now) }
         ensures placement { IfOk result (λ p. p ≡ placement_at reference starts.now) }
-        ensures placed { IfOk result (λ p. self.new.placed ≡ with_placed (placed_at sid spec p) self.old.placed) }
+        ensures placed { IfOk result
+            (λ p. self.new.placed ≡ with_placed (placed_at sid spec p) self.old.placed) }
         ensures config { self.new.config ≡ self.old.config }
         ensures err { OnErr result (self.new ≡ self.old) }
     {

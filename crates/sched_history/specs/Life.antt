@@ -32,6 +32,7 @@ turn_by sid (calls.Admit other spec) (replies.Admitted placement) =
 turn_by sid (calls.Remove other) replies.Removed = if other == sid then Some Ends else None
 turn_by sid call reply = None
 
+-- the same of a whole entry
 abbrev pub turn_of : ℕ → Entry → Option Turn
 turn_of sid e = turn_by sid e.call e.reply
 

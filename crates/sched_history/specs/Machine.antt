@@ -39,7 +39,7 @@ kept_of m = drop m.handed m.history
 abbrev pub is_full : Machine → Bool
 is_full m = nat_le m.config.calls (length (kept_of m)) || nat_le MAX_WHOLE_HISTORY (length m.history)
 
--- a MAP in the reply has bytes
+-- a MAP in the reply is well formed
 abbrev pub IsEncodable : Reply → Type 0
 IsEncodable (replies.Admitted placement) = Unit {0}
 IsEncodable replies.Removed = Unit {0}

@@ -20,7 +20,7 @@ pub record PlannedBuild : Type 0 where
   pub flows : List LiveFlow
 
 -- The build may follow the history, where it is not full: no test refuses it, its MAP is the lawful one of the next
--- frame and has bytes, and the flows are those after it
+-- frame and is well formed, and the flows are those after it
 pub record IsPlanAfter (m : Machine) (p : PlannedBuild) : Type 0 where
   pub room : is_full m ≡ false
   pub unrefused : refusal_of m.config m.history (Build p.clock) ≡ None

@@ -26,19 +26,23 @@ abbrev pub first_of : List (Option Refusal) → Option Refusal
 first_of [] = None
 first_of (test ∷ tests) = option_or test (first_of tests)
 
--- the most bytes of a request, and minislots described ahead; the greatest clock
+-- the most bytes of a request
 abbrev pub most_bytes : ℕ
 most_bytes = 1048560
 
+-- the most minislots that are described ahead of the clock
 abbrev pub most_ahead : ℕ
 most_ahead = 4096
 
+-- the greatest clock
 abbrev pub last_clock : ℕ
 last_clock = 2 ^ 60
 
+-- whether no flow can have this SID
 abbrev pub bad_sid : ℕ → Bool
 bad_sid sid = sid == 0 || nat_lt last_sid sid
 
+-- whether a flow with this SID is live
 abbrev pub is_live : ℕ → List Entry → Bool
 is_live sid h = is_some (life_of sid h)
 

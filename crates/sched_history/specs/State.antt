@@ -81,8 +81,8 @@ pub record IsOpenTo (s : State) (call : Call) (h : List Entry) : Type 0 where
   pub short : length h < MAX_WHOLE_HISTORY
   pub unrefused : refusal_of s.config h call ≡ None
 
--- The MAP of the build is the lawful one of the next frame after the history and has bytes, and the flows are those
--- after it
+-- The MAP of the build is the lawful one of the next frame after the history, and it is well formed; the flows are
+-- those after it
 pub record IsBuildAfter (c : Config) (h : List Entry) (p : PlannedBuild) : Type 0 where
   pub lawful : IsNextMap c h p.map
   pub encodable : IsWellFormed p.map.wire
@@ -120,7 +120,8 @@ pub record IsAuditorOf (s : State) (taken : List Entry) : Type 0 where
   pub kept : IsKeptOf s taken
   pub encodable : AllByRecursion (λ e. IsEncodable e.reply) taken
 
--- The reply is the answer to the call after the history and has bytes, and the fields are those with one entry more
+-- The reply is the answer to the call after the history, its MAP is well formed, and the fields are those with one
+-- entry more
 pub record IsFollowed (old new : State) (call : Call) (reply : Reply) (h : List Entry) : Type 0 where
   pub config : new.config ≡ old.config
   pub answers : Answers old.config h call reply

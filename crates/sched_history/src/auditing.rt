@@ -22,8 +22,10 @@ use std::alloc::Global;
 pub fn audit(alloc: Global, config: &Checked, entries: &[Entry]) -> Result<(), AuditFault>
     requires { length entries.now ≤ MAX_ENTRIES }
     ensures legal { OnOk result (IsLegal config.now entries.now) }
-    ensures exact { IsLegal config.now entries.now → (i : ℕ) → IsErrOf result (AuditFault.Illegal i) → ⊥ }
-    ensures illegal { (i : ℕ) → IsErrOf result (AuditFault.Illegal i) → IsFirstIllegal config.now entries.now i }
+    ensures exact { IsLegal config.now entries.now
+        → (i : ℕ) → IsErrOf result (AuditFault.Illegal i) → ⊥ }
+    ensures illegal { (i : ℕ)
+        → IsErrOf result (AuditFault.Illegal i) → IsFirstIllegal config.now entries.now i }
 {
     let Ok(mut auditor) = Auditor::open(alloc, *config) else {
         return Err(AuditFault::Memory);

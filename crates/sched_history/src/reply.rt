@@ -129,8 +129,11 @@ pub(crate) fn copy_of_placement(
 /// A call with its reply, and who made it.
 #[derive(Debug, Drop)]
 pub struct Entry {
+    /// The seat and the ticket of the call.
     pub stamp: Stamp,
+    /// What was asked.
     pub call: Call,
+    /// What was answered.
     pub reply: Reply,
 }
 

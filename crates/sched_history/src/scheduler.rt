@@ -85,7 +85,8 @@ impl Scheduler {
         // Else nothing changes.
         ensures err { OnErr result (self.new ≡ self.old) }
         ensures full { IsErrOf result Unrecorded.HistoryFull ↔ (is_full self.old ≡ true) }
-        ensures memory { IsErrOf result Unrecorded.Memory → MayLackMemory self.old.config self.old.history call }
+        ensures memory { IsErrOf result Unrecorded.Memory
+            → MayLackMemory self.old.config self.old.history call }
 
         // Where nothing was handed over the whole history is kept.
         ensures whole { self.old.handed ≡ 0 →

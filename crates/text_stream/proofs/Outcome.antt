@@ -22,20 +22,24 @@ IsOfText (Config field) = Unit {0}
 IsOfText Memory = ⊥
 IsOfText Output = ⊥
 
+-- the fault of one step and then another is one of a text
 pub faults-bind : {A B : Type 0} (r : Result A TextFault) (f : A → Result B TextFault) → IfErr r IsOfText
     → ((x : A) → IfErr (f x) IsOfText) → IfErr (r >>= f) IsOfText
 faults-bind (Ok x) f first next = next x
 faults-bind (Err fault) f first next = first
 
+-- the fault of what is not there is one of a text
 pub faults-ok_or : {A : Type 0} (o : Option A) (fault : TextFault) → IsOfText fault → IfErr (ok_or o fault) IsOfText
 faults-ok_or (Some x) fault is = tt
 faults-ok_or None fault is = is
 
+-- the fault of a test is one of a text
 pub faults-cond : {A : Type 0} (b : Bool) (r : Result A TextFault) (fault : TextFault) → IfErr r IsOfText
     → IsOfText fault → IfErr (cond b r (Err fault)) IsOfText
 faults-cond true r fault first is = first
 faults-cond false r fault first is = is
 
+-- the fault of a value is one of a text
 pub faults-value_of : (bytes : List ℕ) → IfErr (value_of bytes) IsOfText
 unfolding value_of
 faults-value_of bytes = faults-cond (is_utf8 bytes) (ok_or (read bytes) NotJson) NotJson

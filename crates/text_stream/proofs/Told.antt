@@ -1,5 +1,5 @@
--- What a text tells, once all bytes of a reader were read, and what stops its reading: the machine, or the one fault that
--- the text has.
+-- What a text tells, once all bytes of a reader were read, and what stops its reading: the machine, or the one fault
+-- that the text has.
 use Rattle.std.proofs.Common.{◌≡◌, ℕ, ◌<◌, List, [], ◌++◌, length, Option, Some, None, Result, Ok, Err}
 use Rattle.std.proofs.Common.{inl, inr, sym, ap, ◌∙◌, append-nil, arith, subst}
 use Rattle.std.specs.Prelude.{◌⊎◌}
@@ -34,7 +34,7 @@ too_many text (Some rest) many =
 abbrev pub IsTold : {A : Type 0} → TextFault → Result A TextFault → Type 0
 IsTold fault outcome = (fault ≡ Input) ⊎ ((fault ≡ Memory) ⊎ (outcome ≡ Err fault))
 
--- a fault that a text has, and no failed read and no want of memory
+-- a fault that a text has, and no failed read and no lack of memory
 abbrev pub IsOfText : TextFault → Type 0
 IsOfText Input = ⊥
 IsOfText TooLong = Unit {0}

@@ -10,9 +10,10 @@ TellsFailure result old new = MatchResult result (λ _. new ≡ old) (λ _. new 
 abbrev pub FailsBy : {T E : Type 0} → E → Result T E → Bool → Bool → Type 0
 FailsBy fault result old new = MatchResult result (λ _. new ≡ old) (λ e. e ≡ fault → new ≡ true)
 
--- the reader or writer that is watched, and whether a call of it has failed
+-- the reader or writer that is watched
 abbrev pub watched_inner : {T : Type 0} → Watched T → T
 watched_inner w = w.inner
 
+-- whether a call of it has failed
 abbrev pub watched_failed : {T : Type 0} → Watched T → Bool
 watched_failed w = w.has_failed

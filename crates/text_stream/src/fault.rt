@@ -9,7 +9,7 @@ use std::alloc::AllocError;
 use thiserror::Error;
 
 /// Why a text is not read or not written. An input is tested in this order, up to its configuration;
-/// want of memory can take the place of each of these tests.
+/// lack of memory can take the place of each of these tests.
 #[derive(Clone, Copy, Debug, PartialEq, Eq, Error)]
 pub enum TextFault {
     /// A read failed.

@@ -24,7 +24,8 @@ pub fn read_all<R: Source>(alloc: Global, reader: &mut R) -> Result<Vec<u8>, Tex
         ReadsAll (R.remaining reader.old) (R.remaining reader.new) bytes.items) }
     ensures stops { IfErr result
         (StopsReading (R.remaining reader.old) (R.remaining reader.new)) }
-    ensures failed { FailsBy TextFault.Input result (R.has_failed reader.old) (R.has_failed reader.new) }
+    ensures failed { FailsBy TextFault.Input result
+        (R.has_failed reader.old) (R.has_failed reader.new) }
 {
     let mut bytes = Vec::new(alloc);
     let mut piece = [0; PIECE];

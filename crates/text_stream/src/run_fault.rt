@@ -8,7 +8,7 @@ use crate::fault::TextFault;
 use thiserror::Error;
 
 /// Why a command of the program ends without its output. The input is tested in the order of its faults, up to its
-/// configuration; want of memory can take the place of each of these tests. A thread is started only after them, and a
+/// configuration; lack of memory can take the place of each of these tests. A thread is started only after them, and a
 /// write is tried last.
 #[derive(Clone, Copy, Debug, PartialEq, Eq, Error)]
 pub enum RunFault {

@@ -1,5 +1,5 @@
 -- Worked rows of a lock with two seats: each step with the world after it, and the words of its row.
-use Rattle.std.proofs.Common.{◌≡◌, ℕ, ◌+◌, ◌^◌, List, [], ◌∷◌, Option, Some, None, refl}
+use Rattle.std.proofs.Common.{◌≡◌, ℕ, ◌+◌, ◌^◌, [], ◌∷◌, Some, None, refl}
 use Rattle.ticket_core.specs.declared.SeatState.{SeatState}
 use Rattle.ticket_core.specs.declared.SeatState.TheVariants.{Idle, Waiting, Holding}
 use Rattle.ticket_core.specs.declared.Step.TheVariants.{Draw, Look, Enter, Leave}

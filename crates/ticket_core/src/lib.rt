@@ -19,7 +19,7 @@ pub const MAX_SEATS: usize = 64;
 pub const GRANTS: usize = 64;
 
 /// What a seat may do next.
-#[derive(Clone, Copy, Debug, PartialEq, Eq)]
+#[derive(Clone, Copy)]
 pub enum Step {
     /// An idle seat draws the next ticket and waits with it: a fetch-and-add on `next`.
     Draw,
@@ -32,7 +32,7 @@ pub enum Step {
 }
 
 /// What a seat does. A ticket is shown modulo 2^64.
-#[derive(Clone, Copy, Debug, PartialEq, Eq)]
+#[derive(Clone, Copy)]
 pub enum SeatState {
     /// The seat has no ticket.
     Idle,
@@ -45,7 +45,7 @@ pub enum SeatState {
 /// The words of a ticket lock, with the state of each of its seats.
 ///
 /// Tickets are whole numbers that never run out, and the words hold them modulo 2^64.
-#[derive(Debug, Drop)]
+#[derive(Drop)]
 pub struct World {
     serving: u64,
     next: u64,

@@ -29,7 +29,8 @@ use Rattle.sched_history.specs.History.{IsNextMap, IsStep, IsLegal}
 use Rattle.sched_history.specs.Facts.{IsPeriodic, IsOnTime, KeepsTimes}
 use Rattle.sched_history.proofs.steps.LegalHistories.{IsNextMap-from_step, EachAfter-from_legal}
 use Rattle.sched_history.proofs.steps.LegalBounds.{next_after-aligned}
-use Rattle.sched_history.proofs.lists.Members.{all-members, all-flat_map}
+use Rattle.map_build.proofs.SameSpots.{all-members}
+use Rattle.sched_history.proofs.lists.Members.{all-flat_map}
 use Rattle.sched_history.proofs.placements.NominalTimes.{reference_past, interval_divides, place_rest, nominal-start}
 use Rattle.sched_history.proofs.placements.PlacedLives.{WasPlaced, table_placed}
 

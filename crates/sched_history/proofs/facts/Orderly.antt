@@ -28,7 +28,8 @@ use Rattle.sched_history.proofs.steps.LegalHistories.{Builds, Skips, Stays, chan
 use Rattle.sched_history.proofs.time.NextFrames.{maps_of-built, maps_of-unbuilt}
 use Rattle.sched_history.proofs.lists.Numbered.{filter_map-below}
 use Rattle.sched_history.proofs.lives.Finding.{sids-range, flow_at, flow_at-sid, placed_at, placed_at-sid}
-use Rattle.sched_history.proofs.lists.Members.{all-members, all-flat_map}
+use Rattle.map_build.proofs.SameSpots.{all-members}
+use Rattle.sched_history.proofs.lists.Members.{all-flat_map}
 use Rattle.sched_history.proofs.plans.Fronts.{HasFront-plan}
 use Rattle.sched_history.proofs.plans.PlanCounts.{length-plan, length-bytes_of_plan}
 use Rattle.sched_history.proofs.placements.SpotsFew.{spots-few}

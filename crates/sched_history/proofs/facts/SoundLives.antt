@@ -19,7 +19,7 @@ use Rattle.sched_history.specs.Time.{next_after, ack_after}
 use Rattle.sched_history.specs.History.{IsNextMap, map_by, IsStep, IsLegal}
 use Rattle.sched_history.specs.Facts.{IsWithinAsked, IsWithinRate}
 use Rattle.sched_history.proofs.steps.LegalHistories as legal
-use Rattle.sched_history.proofs.steps.LegalHistories.{IsStill, Change, change_by_step, legal_induction}
+use Rattle.sched_history.proofs.steps.LegalHistories.{change_by_step, legal_induction}
 use Rattle.sched_history.proofs.lives.LivesAfter.{with_since, life_of-stays, life_of-begins, life_of-ends}
 use Rattle.sched_history.proofs.lives.FlowsAfter.{grown_by, asked_in-push, grants_since-push}
 use Rattle.sched_history.proofs.lists.Members.{IsImage, Contains-filter_map, all-chosen}

@@ -60,6 +60,7 @@ pub other_turn : {X : Type 0} (sid other : ℕ) (turn : X) → other ≢ sid
     → (if sid == other then Some turn else None) ≡ None
 other_turn sid other turn differ = grind (arith, nat_tests)
 
+-- the turn of the SID that an entry names
 pub own_turn : {X : Type 0} (sid : ℕ) (turn : X) → (if sid == sid then Some turn else None) ≡ Some turn
 own_turn sid turn = grind (arith, nat_tests)
 

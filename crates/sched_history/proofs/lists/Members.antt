@@ -3,6 +3,7 @@ use Rattle.std.proofs.Common.{◌≡◌, ℕ, zero, suc, ◌<◌, map, List, [],
 use Rattle.std.proofs.Common.{Option, None, Some, refl, ap, ◌∙◌, Contains, arith}
 use Rattle.std.specs.List.{AllByRecursion, filter_map, flat_map, cons_option}
 use Rattle.periodic.proofs.Joined.{all-append}
+use Rattle.map_build.proofs.SameSpots.{all-members}
 
 -- the first member of a list
 pub Contains-first : {X : Type 0} (x : X) (xs : List X) → Contains (x ∷ xs) x
@@ -50,12 +51,6 @@ chosen_from f (x ∷ xs) y k within at = chosen_at f x xs y (f x) refl (chosen_f
 pub Contains-filter_map : {X Y : Type 0} (f : X → Option Y) (xs : List X) (y : Y) → Contains (filter_map f xs) y
     → IsImage f xs (Some y)
 Contains-filter_map f xs y (k, within, at) = chosen_from f xs y k within at
-
--- what holds of each member holds of all
-pub all-members : {X : Type 0} (P : X → Type 0) (xs : List X) → ((x : X) → Contains xs x → P x) → AllByRecursion P xs
-all-members P [] each = tt
-all-members P (x ∷ xs) each =
-    (each x (Contains-first x xs), all-members P xs (λ y member. each y (Contains-later x xs y member)))
 
 -- what holds of each that is said holds of all that is chosen
 pub all-chosen : {X Y : Type 0} (P : Y → Type 0) (f : X → Option Y) (xs : List X)

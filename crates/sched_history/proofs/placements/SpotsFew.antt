@@ -14,7 +14,7 @@ use Rattle.sched_history.specs.declared.reply.Entry.{Entry}
 use Rattle.sched_history.specs.Life.{table_of}
 use Rattle.sched_history.specs.Time.{next_after}
 use Rattle.sched_history.specs.History.{IsLegal}
-use Rattle.sched_history.proofs.lists.Members.{all-members}
+use Rattle.map_build.proofs.SameSpots.{all-members}
 use Rattle.sched_history.proofs.placements.Counts.{grants-table_of}
 use Rattle.sched_history.proofs.placements.PeriodicGrants.{periodic_grants-few}
 use Rattle.sched_history.proofs.placements.PlacedLives.{WasPlaced, table_placed}

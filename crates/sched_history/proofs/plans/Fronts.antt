@@ -7,19 +7,10 @@ use Rattle.map_codec.specs.declared.element.Element.{Element}
 use Rattle.flow_book.specs.Flows.{LiveFlow}
 use Rattle.periodic.specs.declared.placement.Spot.{Spot}
 use Rattle.map_build.specs.EachAfter.{EachAfter}
-use Rattle.map_build.specs.Plan.{Purpose, Poll, UnsolicitedGrant, DataGrant, Idle}
 use Rattle.map_build.specs.Plan.{Allocation, end_of, flows_after, Stands, IsPlan}
-use Rattle.map_build.specs.FrameMap.{element_for, element_of, request_region, null_element, pending, elements_of}
-use Rattle.map_build.proofs.WellFormed.{HaveSids, HaveSpotSids, elements_of-encodable}
+use Rattle.map_build.specs.FrameMap.{element_of, request_region, null_element, pending, elements_of}
+use Rattle.map_build.proofs.WellFormed.{HaveSids, HaveSpotSids, element_for-offset, elements_of-encodable}
 use Rattle.sched_history.specs.Facts.{OffsetsAscend, HasFront}
-
--- an allocation's element begins where the allocation does
-element_for-begins : (c : Config) (offset slots : ℕ) (purpose : Purpose)
-    → (element_for c offset slots purpose).offset ≡ offset
-element_for-begins c offset slots (Poll sid) = refl
-element_for-begins c offset slots (UnsolicitedGrant sid) = refl
-element_for-begins c offset slots (DataGrant sid bytes) = refl
-element_for-begins c offset slots Idle = refl
 
 module _ (c : Config) (flows : List LiveFlow) (spots : List Spot) (start : ℕ) where
   -- behind an element that begins before it, a plan's elements ascend up to the Null
@@ -32,11 +23,11 @@ module _ (c : Config) (flows : List LiveFlow) (spots : List Spot) (start : ℕ) 
     tt,
   )
   ascend-plan e before (a ∷ plan) each below whole = (
-    omega (arith, below, element_for-begins c a.offset a.slots a.purpose, each.0.follows),
+    omega (arith, below, element_for-offset c a.offset a.slots a.purpose, each.0.follows),
     ascend-plan (element_of c a) (before ++ a ∷ []) plan each.1
         (omega (
           arith,
-          element_for-begins c a.offset a.slots a.purpose,
+          element_for-offset c a.offset a.slots a.purpose,
           each.0.follows,
           each.0.some_slots,
           sum_by_push (λ (a : Allocation). a.slots) before a,

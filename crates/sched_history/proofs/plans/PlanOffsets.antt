@@ -61,9 +61,3 @@ grants_to-before frame start sid [] all = tt
 grants_to-before frame start sid (a ∷ plan) all =
     grant-before (start + frame) start sid a.purpose a.offset (grants_to start sid plan) (omega (arith, all.0))
     (grants_to-before frame start sid plan all.1)
-
--- what holds of each of two lists holds of each of both
-pub all-append : {X : Type 0} (P : X → Type 0) (xs ys : List X) → AllByRecursion P xs → AllByRecursion P ys
-    → AllByRecursion P (xs ++ ys)
-all-append P [] ys left right = right
-all-append P (x ∷ xs) ys left right = (left.0, all-append P xs ys left.1 right)

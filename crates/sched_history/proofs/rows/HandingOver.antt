@@ -29,6 +29,7 @@ one_kept_entry_is_not_full = refl
 pub what_was_handed_over_is_not_kept : kept_of (with_handed 2 (built ∷ admitted ∷ [])) ≡ []
 what_was_handed_over_is_not_kept = refl
 
+-- so it is not full
 pub after_a_hand_over_it_is_not_full : is_full (with_handed 2 (built ∷ admitted ∷ [])) ≡ false
 after_a_hand_over_it_is_not_full = refl
 
@@ -36,6 +37,7 @@ after_a_hand_over_it_is_not_full = refl
 pub the_last_entries_are_kept : kept_of (with_handed 1 (built ∷ admitted ∷ asked ∷ [])) ≡ admitted ∷ asked ∷ []
 the_last_entries_are_kept = refl
 
+-- two kept ones fill it, however many there were before them
 pub two_kept_of_three_are_full : is_full (with_handed 1 (built ∷ admitted ∷ asked ∷ [])) ≡ true
 two_kept_of_three_are_full = refl
 

@@ -27,9 +27,11 @@ module _ (c : Config) (h : List Entry) where
   pub a_progress_lacks_no_memory : (receiver upto : ℕ) → MayLackMemory c h (Heard receiver upto) → ⊥
   a_progress_lacks_no_memory receiver upto lacks = lacks.takes
 
+  -- a removal takes no memory
   pub a_removal_lacks_no_memory : (sid : ℕ) → MayLackMemory c h (Remove sid) → ⊥
   a_removal_lacks_no_memory sid lacks = lacks.takes
 
+  -- a status takes no memory
   pub a_status_lacks_no_memory : (sid : ℕ) → MayLackMemory c h (Status sid) → ⊥
   a_status_lacks_no_memory sid lacks = lacks.takes
 
@@ -40,6 +42,7 @@ module _ (c : Config) (h : List Entry) where
   an_admission_without_a_place_lacks_no_memory sid size interval jitter grants never lacks =
       never lacks.takes.0 lacks.takes.1
 
+  -- a polled flow without a place takes no memory
   pub a_polled_admission_without_a_place_lacks_no_memory : (sid interval jitter rate burst : ℕ)
       → NoPlacement c (table_of h) (Polled interval jitter rate burst) (next_after c h)
       → MayLackMemory c h (Admit sid (Polled interval jitter rate burst)) → ⊥
@@ -55,11 +58,14 @@ module _ (c : Config) (h : List Entry) where
 pub a_taken_request_owns_no_memory : OwnsMemory Taken → ⊥
 a_taken_request_owns_no_memory owns = owns
 
+-- the answer to a status has no memory
 pub the_bytes_of_a_flow_own_no_memory : (asked granted left : ℕ) → OwnsMemory (Flow asked granted left) → ⊥
 the_bytes_of_a_flow_own_no_memory asked granted left owns = owns
 
+-- a refusal has no memory
 pub a_refusal_owns_no_memory : (refusal : Refusal) → OwnsMemory (Refused refusal) → ⊥
 a_refusal_owns_no_memory refusal owns = owns
 
+-- the admission of a best effort flow has no memory
 pub an_admission_without_a_place_owns_no_memory : OwnsMemory (Admitted None) → ⊥
 an_admission_without_a_place_owns_no_memory owns = owns

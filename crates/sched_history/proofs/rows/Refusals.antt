@@ -25,6 +25,7 @@ a_live_sid_is_refused = refl
 pub sid_zero_is_refused : IsStep base (admitted ∷ []) (Remove 0) (Refused BadSid)
 sid_zero_is_refused = refl
 
+-- SID 8192 is no flow's
 pub a_sid_above_the_last_is_refused : IsStep base (admitted ∷ []) (Status 8192) (Refused BadSid)
 a_sid_above_the_last_is_refused = refl
 
@@ -46,6 +47,7 @@ pub a_request_of_too_many_bytes_is_refused : IsStep base (built ∷ admitted ∷
     (Refused BadBytes)
 a_request_of_too_many_bytes_is_refused = refl
 
+-- 1048560 bytes can be asked for
 pub a_request_of_the_most_bytes_is_taken : IsStep base (built ∷ admitted ∷ []) (Ask 0 17 1048560 801) Taken
 a_request_of_the_most_bytes_is_taken = refl
 
@@ -55,25 +57,30 @@ pub an_admission_with_a_part_of_a_minislot_is_refused : IsStep base [] (Admit 5 
 unfolding first_fault
 an_admission_with_a_part_of_a_minislot_is_refused = refl
 
+-- 1500 microseconds are 60 minislots, one frame and a half
 pub an_admission_with_a_part_of_a_frame_is_refused : IsStep base [] (Admit 5 (Unsolicited 200 1500 0 1))
     (Refused (BadFlow IntervalNotFrames))
 unfolding first_fault
 an_admission_with_a_part_of_a_frame_is_refused = refl
 
+-- 30000 microseconds are 30 frames, above the 20 of the cycle
 pub an_admission_longer_than_the_cycle_is_refused : IsStep base [] (Admit 5 (Unsolicited 200 30000 0 1))
     (Refused (BadFlow IntervalNotInCycle))
 unfolding first_fault
 an_admission_longer_than_the_cycle_is_refused = refl
 
+-- an unsolicited flow of 0 bytes
 pub an_admission_without_size_is_refused : IsStep base [] (Admit 5 (Unsolicited 0 10010 0 1)) (Refused (BadFlow Size))
 unfolding first_fault
 an_admission_without_size_is_refused = refl
 
+-- priority 8
 pub an_admission_above_the_priorities_is_refused : IsStep base [] (Admit 5 (BestEffort 8 0 0))
     (Refused (BadFlow Priority))
 unfolding first_fault
 an_admission_above_the_priorities_is_refused = refl
 
+-- a burst of 63 bytes, below the quantum of 64
 pub an_admission_below_the_quantum_is_refused : IsStep base [] (Admit 5 (BestEffort 7 1 63)) (Refused (BadFlow Burst))
 unfolding first_fault
 an_admission_below_the_quantum_is_refused = refl
@@ -84,6 +91,7 @@ pub an_admission_without_grants_is_refused : IsStep base [] (Admit 5 (Unsolicite
 unfolding first_fault
 an_admission_without_grants_is_refused = refl
 
+-- nine grants per interval
 pub an_admission_with_nine_grants_is_refused : IsStep base [] (Admit 5 (Unsolicited 200 10000 0 9))
     (Refused (BadFlow Grants))
 unfolding first_fault

@@ -23,12 +23,15 @@ entry ticket call reply = record { stamp = record { seat = 0; ticket = ticket };
 abbrev pub built : Entry
 built = entry 0 (Build 760) (Built first_map)
 
+-- SID 17 is admitted
 abbrev pub admitted : Entry
 admitted = entry 1 (Admit 17 (BestEffort 3 0 0)) (Admitted None)
 
+-- it asks for 100 bytes
 abbrev pub asked : Entry
 asked = entry 2 (Ask 0 17 100 801) Taken
 
+-- the second build, with the grant
 abbrev pub granted : Entry
 granted = entry 3 (Build 800) (Built second_map)
 

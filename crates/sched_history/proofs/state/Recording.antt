@@ -2,7 +2,6 @@
 use Rattle.std.proofs.Common.{◌≡◌, ℕ, ◌+◌, ◌<◌, ◌≤◌, false, nat_le, List, [], ◌∷◌, ◌++◌, None, length, drop}
 use Rattle.std.proofs.Common.{refl, sym, ap, ◌∙◌, subst, arith}
 use Rattle.std.specs.Prelude.{vec_capacity}
-use Rattle.std.specs.List.{AllByRecursion}
 use Rattle.std.proofs.lemmas.List.{length_push, drop-append-le}
 use Rattle.minislots.specs.declared.config.Config.{Config}
 use Rattle.minislots.specs.declared.stamp.Stamp.{Stamp}
@@ -19,15 +18,10 @@ use Rattle.sched_history.specs.Machine.{Machine, kept_of, is_full, IsEncodable}
 use Rattle.sched_history.specs.Planned.{PlannedBuild, IsPlanAfter}
 use Rattle.sched_history.specs.State.{IsStateAfter, machine_of, IsSound, IsKeptOf, IsOpenTo, IsBuildAfter, IsAnswered}
 use Rattle.sched_history.specs.State.{IsRecorded}
+use Rattle.flow_book.proofs.Order.{all-push}
 use Rattle.sched_history.proofs.steps.Passed.{above, neither}
 use Rattle.sched_history.proofs.steps.Steps.{IsLegal-push, IsStep-answered}
 use Rattle.sched_history.proofs.steps.Bounded.{IsBounded-legal}
-
--- what holds of all and of one more
-all-push : {X : Type 0} (P : X → Type 0) (xs : List X) (x : X) → AllByRecursion P xs → P x
-    → AllByRecursion P (xs ++ x ∷ [])
-all-push P [] x all here = (here, tt)
-all-push P (y ∷ xs) x all here = (all.0, all-push P xs x all.1 here)
 
 -- there is room for one entry more
 pub room-kept : (m : Machine) → is_full m ≡ false → length (kept_of m) < m.config.calls

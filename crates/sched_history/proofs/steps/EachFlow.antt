@@ -6,6 +6,7 @@ use Rattle.minislots.specs.declared.config.Config.{Config}
 use Rattle.flow_book.specs.declared.spec.FlowSpec.{FlowSpec}
 use Rattle.flow_book.specs.Flows.{LiveFlow}
 use Rattle.flow_book.specs.Book.{with_flow, new_flow, with_asked}
+use Rattle.flow_book.proofs.Order.{all-implied}
 use Rattle.flow_book.proofs.Removal.{all-filter}
 use Rattle.map_build.specs.declared.frame_map.FrameMap.{FrameMap}
 use Rattle.map_build.specs.Plan.{flow_after}
@@ -21,11 +22,6 @@ all-image : {X : Type 0} (P Q : X → Type 0) (k : X → X) (xs : List X) → ((
     → AllByRecursion P xs → AllByRecursion Q (map k xs)
 all-image P Q k [] step all = tt
 all-image P Q k (x ∷ xs) step all = (step x all.0, all-image P Q k xs step all.1)
-
-pub all-implied : {X : Type 0} (P Q : X → Type 0) (xs : List X) → ((x : X) → P x → Q x) → AllByRecursion P xs
-    → AllByRecursion Q xs
-all-implied P Q [] step all = tt
-all-implied P Q (x ∷ xs) step all = (step x all.0, all-implied P Q xs step all.1)
 
 all-inserted : (Q : LiveFlow → Type 0) (b : Bool) (f g : LiveFlow) (flows rest : List LiveFlow) → Q f → Q g
     → AllByRecursion Q flows → AllByRecursion Q rest

@@ -12,6 +12,8 @@ use Rattle.flow_book.specs.declared.flow.Grant.{Grant}
 use Rattle.flow_book.specs.Flows.{LiveFlow}
 use Rattle.flow_book.specs.Choice.{HasStartedBy}
 use Rattle.flow_book.specs.Book.{new_flow}
+use Rattle.flow_book.proofs.Order.{all-implied}
+use Rattle.periodic.proofs.Joined.{all-append}
 use Rattle.map_build.specs.Plan.{grants_to}
 use Rattle.sched_history.specs.declared.reply.Entry.{Entry}
 use Rattle.sched_history.specs.Life.{flows_of}
@@ -22,8 +24,8 @@ use Rattle.sched_history.proofs.lives.LiveFlows.{flows_of-none}
 use Rattle.sched_history.proofs.steps.LegalHistories.{legal_induction}
 use Rattle.sched_history.proofs.steps.EntryChanges.{EntryChange, Nothing, Asked, Began, Ended}
 use Rattle.sched_history.proofs.steps.EntryChanges.{Described, Skipped, change_of}
-use Rattle.sched_history.proofs.steps.EachFlow.{Carries, each_after, all-implied, length-with_flow, length-filter}
-use Rattle.sched_history.proofs.plans.PlanOffsets.{plan-offsets, grants_to-before, all-append}
+use Rattle.sched_history.proofs.steps.EachFlow.{Carries, each_after, length-with_flow, length-filter}
+use Rattle.sched_history.proofs.plans.PlanOffsets.{plan-offsets, grants_to-before}
 
 -- the flow's data grants start before this minislot
 abbrev pub HasStartedBefore : ℕ → LiveFlow → Type 0

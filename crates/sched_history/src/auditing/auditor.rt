@@ -53,15 +53,18 @@ impl Auditor {
     /// Judges one entry, and takes it where its reply may follow the entries that were taken: every lawful placement
     /// may, whichever a scheduler would take, and a refusal for want of a place where there is none. Its stamp is not
     /// judged. An entry that is not taken changes nothing; the fault tells why, an entry above [`MAX_WHOLE_HISTORY`]
-    /// before any other. After a want of memory the entry may be judged again.
+    /// before any other. After a lack of memory the entry may be judged again.
     pub fn judge(&mut self, entry: &Entry) -> Result<(), JudgeFault>
         // An entry that is taken is a step, and stands behind those before it.
-        ensures taken { OnOk result (self.new ≡ record self.old { history = self.old.history ++ entry.now ∷ [] }) }
-        ensures step { OnOk result (IsStep self.old.config self.old.history entry.now.call entry.now.reply) }
+        ensures taken { OnOk result
+            (self.new ≡ record self.old { history = self.old.history ++ entry.now ∷ [] }) }
+        ensures step { OnOk result
+            (IsStep self.old.config self.old.history entry.now.call entry.now.reply) }
 
         // Else nothing changes.
         ensures err { OnErr result (self.new ≡ self.old) }
-        ensures full { IsErrOf result JudgeFault.Full ↔ (MAX_WHOLE_HISTORY ≤ length self.old.history) }
+        ensures full { IsErrOf result JudgeFault.Full
+            ↔ (MAX_WHOLE_HISTORY ≤ length self.old.history) }
         ensures illegal { IsErrOf result JudgeFault.Illegal →
             IsStep self.old.config self.old.history entry.now.call entry.now.reply → ⊥ }
         ensures memory { IsErrOf result JudgeFault.Memory →
@@ -136,7 +139,8 @@ fn follows(
     requires short { length ledger.now < MAX_WHOLE_HISTORY }
     ensures step { IfOk result (λ is. is ≡ true →
         IsStep state.old.config ledger.now entry.now.call entry.now.reply) }
-    ensures kept { IfOk result (λ is. is ≡ true → IsKeptOf state.new (ledger.now ++ entry.now ∷ [])) }
+    ensures kept { IfOk result
+        (λ is. is ≡ true → IsKeptOf state.new (ledger.now ++ entry.now ∷ [])) }
     ensures config { IfOk result (λ is. is ≡ true → state.new.config ≡ state.old.config) }
     ensures encodable { IfOk result (λ is. is ≡ true → IsEncodable entry.now.reply) }
     ensures no_step { IfOk result (λ is. is ≡ false →

@@ -25,7 +25,8 @@ impl State {
         reply: &Reply,
     ) -> Result<bool, AllocError>
         requires { IsOpen self.old call }
-        ensures follows { IfOk result (λ is. is ≡ true → FollowsOpen self.old self.new call reply.now) }
+        ensures follows { IfOk result
+            (λ is. is ≡ true → FollowsOpen self.old self.new call reply.now) }
         ensures differs { IfOk result (λ is. is ≡ false → DiffersOpen self.old call reply.now) }
         ensures same { IfOk result (λ is. is ≡ false → self.new ≡ self.old) }
         ensures err { OnErr result (self.new ≡ self.old) }
@@ -42,7 +43,8 @@ impl State {
     fn follow_told(&mut self, alloc: Global, call: Call, reply: &Reply) -> Result<bool, AllocError>
         requires open { IsOpen self.old call }
         requires told { is_told call ≡ true }
-        ensures follows { IfOk result (λ is. is ≡ true → FollowsOpen self.old self.new call reply.now) }
+        ensures follows { IfOk result
+            (λ is. is ≡ true → FollowsOpen self.old self.new call reply.now) }
         ensures differs { IfOk result (λ is. is ≡ false → DiffersOpen self.old call reply.now) }
         ensures same { IfOk result (λ is. is ≡ false → self.new ≡ self.old) }
         ensures err { OnErr result (self.new ≡ self.old) }
@@ -84,7 +86,8 @@ impl State {
         requires periodic { is_periodic spec ≡ true }
         ensures follows { IfOk result (λ is. is ≡ true →
             FollowsOpen self.old self.new (Call.Admit sid spec) reply.now) }
-        ensures differs { IfOk result (λ is. is ≡ false → DiffersOpen self.old (Call.Admit sid spec) reply.now) }
+        ensures differs { IfOk result
+            (λ is. is ≡ false → DiffersOpen self.old (Call.Admit sid spec) reply.now) }
         ensures same { IfOk result (λ is. is ≡ false → self.new ≡ self.old) }
         ensures err { OnErr result (self.new ≡ self.old) }
         ensures memory { OnErr result (TakesMemoryOpen self.old (Call.Admit sid spec)) }
@@ -99,8 +102,8 @@ impl State {
     fn adopt(&mut self, sid: u16, spec: FlowSpec, placement: &Placement) -> Result<bool, AllocError>
         requires open { IsOpen self.old (Call.Admit sid spec) }
         requires periodic { is_periodic spec ≡ true }
-        ensures follows { IfOk result (λ is. is ≡ true →
-            FollowsOpen self.old self.new (Call.Admit sid spec) (Reply.Admitted (Some placement.now))) }
+        ensures follows { IfOk result (λ is. is ≡ true → FollowsOpen self.old self.new
+            (Call.Admit sid spec) (Reply.Admitted (Some placement.now))) }
         ensures differs { IfOk result (λ is. is ≡ false →
             DiffersOpen self.old (Call.Admit sid spec) (Reply.Admitted (Some placement.now))) }
         ensures same { IfOk result (λ is. is ≡ false → self.new ≡ self.old) }
@@ -140,8 +143,10 @@ impl State {
     // The same for a build: it has the lawful MAP of the next frame.
     fn follow_build(&mut self, alloc: Global, now: u64, reply: &Reply) -> Result<bool, AllocError>
         requires open { IsOpen self.old (Call.Build now) }
-        ensures follows { IfOk result (λ is. is ≡ true → FollowsOpen self.old self.new (Call.Build now) reply.now) }
-        ensures differs { IfOk result (λ is. is ≡ false → DiffersOpen self.old (Call.Build now) reply.now) }
+        ensures follows { IfOk result
+            (λ is. is ≡ true → FollowsOpen self.old self.new (Call.Build now) reply.now) }
+        ensures differs { IfOk result
+            (λ is. is ≡ false → DiffersOpen self.old (Call.Build now) reply.now) }
         ensures same { IfOk result (λ is. is ≡ false → self.new ≡ self.old) }
         ensures err { OnErr result (self.new ≡ self.old) }
         ensures memory { OnErr result (TakesMemoryOpen self.old (Call.Build now)) }

@@ -42,8 +42,10 @@ impl Scheduler {
     pub fn hand_over(&mut self, room: Vec<Entry>) -> Result<HandedOver, Vec<Entry>>
         ensures entries { IfOk result (λ given. given.entries.items ≡ kept_of self.old) }
         ensures first { IfOk result (λ given. given.first ≡ self.old.handed) }
-        ensures encodable { IfOk result (λ given. AllByRecursion (λ e. IsEncodable e.reply) given.entries.items) }
-        ensures handed { OnOk result (self.new ≡ record self.old { handed = length self.old.history }) }
+        ensures encodable { IfOk result
+            (λ given. AllByRecursion (λ e. IsEncodable e.reply) given.entries.items) }
+        ensures handed { OnOk result
+            (self.new ≡ record self.old { handed = length self.old.history }) }
 
         // Else nothing changes.
         ensures exact { IsOk result

@@ -102,8 +102,8 @@ impl<'a> Present<'a> {
 
     // The refusal of an admission where the grants per interval would be too many.
     fn refuse_periodic(&self, spec: FlowSpec) -> Option<Refusal>
-        ensures { result ≡ refused_if (is_periodic spec
-            && nat_lt MAX_PERIODIC_GRANTS (periodic_grants self.now.history + grants_of spec)) Refusal.PeriodicFull }
+        ensures { result ≡ refused_if (is_periodic spec && nat_lt MAX_PERIODIC_GRANTS
+            (periodic_grants self.now.history + grants_of spec)) Refusal.PeriodicFull }
     {
         let grants = self.periodic_grants() + usize::from(spec.grants());
         if is_periodic(spec) && grants > MAX_PERIODIC_GRANTS {

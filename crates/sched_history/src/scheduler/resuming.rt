@@ -13,7 +13,8 @@ impl Scheduler {
         requires judged { IsAuditorOf state ledger }
         requires empty { room.items ≡ [] }
         requires reserved { state.config.calls ≤ vec_capacity room }
-        ensures { result ≡ record { config = state.config; history = ledger; handed = length ledger } }
+        ensures { result
+            ≡ record { config = state.config; history = ledger; handed = length ledger } }
     {
         Scheduler {
             state,

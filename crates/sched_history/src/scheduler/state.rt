@@ -106,8 +106,8 @@ impl State {
         requires live { IsLive sid self.old.book.flows }
         requires placed { IfSome (flow_of sid self.old.book.flows) (λ f.
             is_periodic f.spec ≡ true → IsPlaced sid self.old.table.placed) }
-        requires unplaced { IfSome (flow_of sid self.old.book.flows) (λ f.
-            is_periodic f.spec ≢ true → without_placed sid self.old.table.placed ≡ self.old.table.placed) }
+        requires unplaced { IfSome (flow_of sid self.old.book.flows) (λ f. is_periodic f.spec ≢ true
+            → without_placed sid self.old.table.placed ≡ self.old.table.placed) }
         ensures flows { self.new.book.flows ≡ without sid self.old.book.flows }
         ensures placed { self.new.table.placed ≡ without_placed sid self.old.table.placed }
         ensures book_config { self.new.book.config ≡ self.old.book.config }
@@ -143,8 +143,8 @@ impl State {
         ensures lawful { IfOk result (λ twice.
             IsPlacement self.old.table.config self.old.table.placed spec self.old.next twice.0) }
         ensures twice { IfOk result (λ twice. twice.1 ≡ twice.0) }
-        ensures placed { IfOk result (λ twice. self.new.table.placed
-            ≡ with_placed (record { sid = sid; spec = spec; placement = twice.0 }) self.old.table.placed) }
+        ensures placed { IfOk result (λ twice. self.new.table.placed ≡ with_placed
+            (record { sid = sid; spec = spec; placement = twice.0 }) self.old.table.placed) }
         ensures flows { OnOk result (self.new.book.flows
             ≡ with_flow (new_flow sid spec) self.old.book.flows) }
         ensures book_config { self.new.book.config ≡ self.old.book.config }
@@ -205,12 +205,14 @@ impl State {
         requires started { AllByRecursion (HasStartedBy self.now.next) self.now.book.flows }
         requires periodic { ArePeriodicOf self.now.book.flows self.now.table.placed }
         requires channel { AreOfChannel self.now.book.flows }
-        ensures lawful { IfOk result (λ both. IsLawfulFrame self.now.config self.now.book.flows
-            (spots_in self.now.config (self.now.next / self.now.config.frame) self.now.table.placed)
-            self.now.next (least (take self.now.config.receivers self.now.progress)) both.0 both.1.flows) }
-        ensures only { IfOk result (λ both. (n : FrameMap) → IsLawfulMap self.now.config self.now.book.flows
-            (spots_in self.now.config (self.now.next / self.now.config.frame) self.now.table.placed)
-            self.now.next (least (take self.now.config.receivers self.now.progress)) n → n ≡ both.0) }
+        ensures lawful { IfOk result
+            (λ both. IsLawfulFrame self.now.config self.now.book.flows (spots_in self.now.config
+            (self.now.next / self.now.config.frame) self.now.table.placed) self.now.next
+            (least (take self.now.config.receivers self.now.progress)) both.0 both.1.flows) }
+        ensures only { IfOk result (λ both. (n : FrameMap)
+            → IsLawfulMap self.now.config self.now.book.flows (spots_in self.now.config
+            (self.now.next / self.now.config.frame) self.now.table.placed) self.now.next
+            (least (take self.now.config.receivers self.now.progress)) n → n ≡ both.0) }
         ensures encodable { IfOk result (λ both. IsWellFormed both.0.wire) }
         ensures config { IfOk result (λ both. both.1.config ≡ self.now.config) }
     {
@@ -222,10 +224,10 @@ impl State {
     pub(crate) fn plan(&self, alloc: Global, now: u64) -> Result<Planned, AllocError>
         requires { IsOpen self.now (Call.Build now) }
         ensures clock { IfOk result (λ planned. planned.clock ≡ now) }
-        ensures fits { IfOk result (λ planned. (h : List Entry) → IsOpenTo self.now (Call.Build now) h
-            → IsBuildAfter self.now.config h planned) }
-        ensures only { IfOk result (λ planned. (h : List Entry) → IsOpenTo self.now (Call.Build now) h
-            → (n : FrameMap) → IsNextMap self.now.config h n → n ≡ planned.map) }
+        ensures fits { IfOk result (λ planned. (h : List Entry)
+            → IsOpenTo self.now (Call.Build now) h → IsBuildAfter self.now.config h planned) }
+        ensures only { IfOk result (λ planned. (h : List Entry) → IsOpenTo self.now
+            (Call.Build now) h → (n : FrameMap) → IsNextMap self.now.config h n → n ≡ planned.map) }
     {
         let (map, book) = self.plan_next(alloc)?;
         Ok(Planned {

@@ -1,7 +1,6 @@
 -- Digits alone are the number that they write.
-use Rattle.std.proofs.Common.{◌≡◌, ◌∙◌, ◌==◌, get_or, false, ap, sym, arith, rules, ne_eqb, lt-ltb}
-use Rattle.fast_float.specs.Text.{scan, IsInteger, digits_of}
-use Rattle.serde_json.specs.Read.{number_of}
+use Rattle.std.proofs.Common.{false}
+use Rattle.fast_float.specs.Text.{scan}
 use Rattle.json_fields.proofs.PlainValues.{whole_read}
 use Rattle.json_fields.proofs.plain.whole_of.Goals as goal
 

@@ -1,4 +1,4 @@
--- The MAP of the draft is the lawful one, and has bytes.
+-- The MAP of the draft is the lawful one, and is well formed.
 use Rattle.std.proofs.Common.{sym, ap, subst}
 use Rattle.minislots.proofs.Bounds.{bounds_of}
 use Rattle.map_build.specs.FrameMap.{IsLawfulFrame}

@@ -3,7 +3,8 @@ use Rattle.std.proofs.Common.{rules, ◌≡◌, ◌+◌, arith}
 use Rattle.minislots.specs.Units.{slots_for}
 use Rattle.minislots.proofs.Bounds.{bounds_of}
 use Rattle.flow_book.specs.Flows.{flow_of}
-use Rattle.map_build.proofs.NextGrants.{amount-fits, started-found}
+use Rattle.flow_book.proofs.Started.{started-found}
+use Rattle.map_build.proofs.NextGrants.{amount-fits}
 use Rattle.map_build.proofs.draft.Draft.grant.Goals as goal
 
 pub overflow_cast-slots : goal.overflow_cast-slots

@@ -1,7 +1,8 @@
 -- The most bytes of the flow that is next are its amount.
 use Rattle.std.proofs.Common.{◌+◌}
 use Rattle.flow_book.specs.Flows.{flow_of}
-use Rattle.map_build.proofs.NextGrants.{started-found, next_amount}
+use Rattle.flow_book.proofs.Started.{started-found}
+use Rattle.map_build.proofs.NextGrants.{next_amount}
 use Rattle.map_build.proofs.draft.Draft.next_bytes.Goals as goal
 
 pub most-requires-clause-started : goal.most-requires-clause-started

@@ -22,17 +22,7 @@ bounds-spots-next c =
     )
 
 pub offset_bounds-spots-next : goal.offset_bounds-spots-next
-offset_bounds-spots-next c =
-    let (config, sound, within, few) = c.requires.sound in
-    let here = ap length (c.starts-start-items.ensures config sound within) in
-    omega (
-      arith,
-      few,
-      here,
-      count-here config c.args.place (placed_of c.args.self.now) within,
-      c.loop-start.invariant.count,
-      most_periodic_grants,
-    )
+offset_bounds-spots-next c = omega (arith, bounds-spots-next c)
 
 pub returns-clause-most : goal.returns-clause-most
 returns-clause-most c =
