@@ -1,11 +1,9 @@
 -- The frames of a history's front.
-use Rattle.std.proofs.Common.{◌≡◌, ℕ, ◌+◌, ◌-◌, ◌<◌, ◌≤◌, ◌&&◌, List, [], ◌∷◌, ◌++◌, length, take, drop, get_or}
+use Rattle.std.proofs.Common.{◌≡◌, ℕ, ◌+◌, ◌-◌, ◌<◌, ◌≤◌, List, [], ◌∷◌, ◌++◌, length, take, drop, get_or}
 use Rattle.std.proofs.Common.{Option, None, Some, refl, sym, ap, ◌∙◌, arith, append_assoc, append-nil, length-append}
-use Rattle.std.proofs.Common.{inl, inr}
 use Rattle.std.specs.Prelude.{min}
 use Rattle.std.proofs.lemmas.List.{take_more, length-take, length-take-le, length-drop, take_all, take-append-le}
 use Rattle.std.proofs.lemmas.List.{drop-append-le, drop_all}
-use Rattle.std.proofs.lemmas.Bool.{cases_lt}
 use Rattle.map_build.specs.declared.frame_map.FrameMap.{FrameMap}
 use Rattle.sched_history.specs.declared.reply.Entry.{Entry}
 use Rattle.sched_history.specs.History.{map_by}
@@ -27,7 +25,8 @@ pub frames_of-more : (h : List Entry) (i : ℕ) (d : Entry) → i < length h
     → frames_of (take (i + 1) h) ≡ frames_of (take i h) ++ frame_by (take i h) (map_by (get_or h i d).reply)
 frames_of-more h i d below =
     ap frames_of (take_more h i d below) ∙ frames_after-append [] (take i h) (get_or h i d ∷ [])
-    ∙ ap (λ (fs : List Frame). frames_of (take i h) ++ fs) (append-nil (frame_by (take i h) (map_by (get_or h i d).reply)))
+    ∙ ap (λ (fs : List Frame). frames_of (take i h) ++ fs)
+    (append-nil (frame_by (take i h) (map_by (get_or h i d).reply)))
 
 -- as many as there are MAPs, whatever stands before
 same_count : (a b : List Entry) (o : Option FrameMap) → length (frame_by a o) ≡ length (frame_by b o)
@@ -100,4 +99,5 @@ module _ (span : Span) (fs : List Frame) (f : Frame) (reached : span.from ≤ le
       length-append (drop span.from fs) (f ∷ []) in
       ap (take span.count) dropped
       ∙ take_all span.count (drop span.from fs ++ f ∷ []) (omega (arith, size, longer, room))
-      ∙ ap (λ (xs : List Frame). xs ++ f ∷ []) (sym (take_all span.count (drop span.from fs) (omega (arith, size, room))))
+      ∙ ap (λ (xs : List Frame). xs ++ f ∷ [])
+      (sym (take_all span.count (drop span.from fs) (omega (arith, size, room))))

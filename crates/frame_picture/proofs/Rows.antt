@@ -1,7 +1,7 @@
 -- The rows of a history's front.
-use Rattle.std.proofs.Common.{◌≡◌, ℕ, zero, suc, ◌+◌, ◌-◌, ◌<◌, ◌≤◌, ◌&&◌, Bool, true, false, List, [], ◌∷◌, ◌++◌}
+use Rattle.std.proofs.Common.{◌≡◌, ℕ, zero, suc, ◌+◌, ◌-◌, ◌<◌, ◌≤◌, ◌&&◌, Bool, false, List, [], ◌∷◌, ◌++◌}
 use Rattle.std.proofs.Common.{length, take, map, flat_map, get_or, Option, None, Some, refl, sym, ap, ◌∙◌, arith}
-use Rattle.std.proofs.Common.{append-nil, codes, inl, inr, add-one, ltb, leb}
+use Rattle.std.proofs.Common.{append-nil, codes, inl, inr, add-one, ltb}
 use Rattle.std.specs.Prelude.{if◌then◌else◌, IfSome}
 use Rattle.std.specs.List.{range_with_len, AllByRecursion}
 use Rattle.std.specs.Io.KnownBytes.{Appends}
@@ -28,7 +28,7 @@ use Rattle.frame_picture.specs.declared.bar.Bar.{Bar}
 use Rattle.frame_picture.specs.Frames.{Frame, frame_by, frames_of, frames_in, place_in, TellsUnsolicited}
 use Rattle.frame_picture.specs.Frames.{is_unsolicited_after}
 use Rattle.frame_picture.specs.Bar.{bar_at, bar_with}
-use Rattle.frame_picture.specs.Bars.{bar_text, bars_text}
+use Rattle.frame_picture.specs.Bars.{bar_text}
 use Rattle.frame_picture.specs.Picture.{start_text, map_text, built_text, entry_text, row_text, rows_text}
 use Rattle.frame_picture.proofs.Drawn.{rows_text-append}
 use Rattle.frame_picture.proofs.FrameLists.{frames_of-more, frames_in-before, frames_in-behind, frames_in-more}
@@ -43,14 +43,17 @@ small_sid es i fits =
     ]
 
 -- where two tests agree on the SIDs of elements, the bars are the same
-same_bars : (units : ℕ) (p q : ℕ → Bool) (es : List Element) (bytes : List ℕ) → ((i : ℕ) → p (element_at es i).sid ≡ q (element_at es i).sid)
+same_bars : (units : ℕ) (p q : ℕ → Bool) (es : List Element) (bytes : List ℕ)
+    → ((i : ℕ) → p (element_at es i).sid ≡ q (element_at es i).sid)
     → (n : ℕ) → map (bar_at units p es bytes) (range_with_len 0 n) ≡ map (bar_at units q es bytes) (range_with_len 0 n)
 same_bars units p q es bytes agree zero = refl
 same_bars units p q es bytes agree (suc n) =
-    let step : map (bar_at units p es bytes) (range_with_len 0 (n + 1)) ≡ map (bar_at units q es bytes) (range_with_len 0 (n + 1)) =
+    let step : map (bar_at units p es bytes) (range_with_len 0 (n + 1))
+    ≡ map (bar_at units q es bytes) (range_with_len 0 (n + 1)) =
     map-range_with_len_more (bar_at units p es bytes) 0 n n (omega arith)
     ∙ ap (λ (bs : List Bar). bs ++ bar_at units p es bytes n ∷ []) (same_bars units p q es bytes agree n)
-    ∙ ap (λ (b : Bool). map (bar_at units q es bytes) (range_with_len 0 n) ++ bar_with units es bytes n b ∷ []) (agree n)
+    ∙ ap (λ (b : Bool). map (bar_at units q es bytes) (range_with_len 0 n) ++ bar_with units es bytes n b ∷ [])
+    (agree n)
     ∙ sym (map-range_with_len_more (bar_at units q es bytes) 0 n n (omega arith)) in
     rw add-one at step
 
@@ -69,20 +72,23 @@ same_row scale place flows h m whole tells =
 -- places with the same numbers are the same
 same_place : (p q : Place) → p.number ≡ q.number → p.row ≡ q.row → p ≡ q
 same_place p q number row =
-    ap (λ (k : ℕ). record { number = k; row = p.row }) number ∙ ap (λ (k : ℕ). record { number = q.number; row = k }) row
+    ap (λ (k : ℕ). record { number = k; row = p.row }) number
+    ∙ ap (λ (k : ℕ). record { number = q.number; row = k }) row
 
 -- a frame before the span has no place
 place-before : (span : Span) (n : ℕ) → n < span.from → place_in span n ≡ None
 unfolding place_in
 place-before span n below =
-    ap (λ (b : Bool). if b && ltb (n - span.from) span.count then Some (record { number = n; row = n - span.from }) else None)
+    ap (λ (b : Bool).
+    if b && ltb (n - span.from) span.count then Some (record { number = n; row = n - span.from }) else None)
     (lt-leb span.from n below)
 
 -- nor has one behind it
 place-behind : (span : Span) (n : ℕ) → span.from ≤ n → span.count ≤ n - span.from → place_in span n ≡ None
 unfolding place_in
 place-behind span n reached past =
-    ap (λ (b : Bool). if b && ltb (n - span.from) span.count then Some (record { number = n; row = n - span.from }) else None)
+    ap (λ (b : Bool).
+    if b && ltb (n - span.from) span.count then Some (record { number = n; row = n - span.from }) else None)
     (le-leb span.from n reached)
     ∙ ap (λ (b : Bool). if b then Some (record { number = n; row = n - span.from }) else None)
     (le-ltb (n - span.from) span.count past)
@@ -92,12 +98,14 @@ place-inside : (span : Span) (n : ℕ) → span.from ≤ n → n - span.from < s
     → place_in span n ≡ Some (record { number = n; row = n - span.from })
 unfolding place_in
 place-inside span n reached room =
-    ap (λ (b : Bool). if b && ltb (n - span.from) span.count then Some (record { number = n; row = n - span.from }) else None)
+    ap (λ (b : Bool).
+    if b && ltb (n - span.from) span.count then Some (record { number = n; row = n - span.from }) else None)
     (le-leb span.from n reached)
     ∙ ap (λ (b : Bool). if b then Some (record { number = n; row = n - span.from }) else None)
     (lt-ltb (n - span.from) span.count room)
 
-module _ (scale : Scale) (span : Span) (h : List Entry) (fs : List Frame) (flows : List Bool) (tells : TellsUnsolicited flows h) where
+module _ (scale : Scale) (span : Span) (h : List Entry) (fs : List Frame) (flows : List Bool)
+    (tells : TellsUnsolicited flows h) where
   abbrev rows : List Frame → List ℕ
   rows gs = rows_text scale span.from 0 (frames_in span gs)
 
@@ -122,7 +130,10 @@ module _ (scale : Scale) (span : Span) (h : List Entry) (fs : List Frame) (flows
                   let place : Place = record { number = length fs; row = length fs - span.from } in
                   let size : length (frames_in span fs) ≡ length fs - span.from =
                   omega (arith, length-frames_in span fs, room) in
-                  let at : Place = record { number = span.from + (0 + length (frames_in span fs)); row = 0 + length (frames_in span fs) } in
+                  let at : Place = record {
+                    number = span.from + (0 + length (frames_in span fs));
+                    row = 0 + length (frames_in span fs);
+                  } in
                   let here : at ≡ place =
                   same_place at place (omega (arith, size, reached)) (omega (arith, size)) in
                   ap (rows_text scale span.from 0) (frames_in-more span fs f reached room)
@@ -182,7 +193,8 @@ rows_more a b c scale span flows h i item number below item_is whole is tells be
     ≡ rows_text scale span.from 0 (frames_in span fs)
     ++ entry_text scale (place_in span number) (λ sid. get_or flows sid false) item.reply =
     ap (λ (gs : List Frame). rows_text scale span.from 0 (frames_in span gs)) (frames_of-more h i item below)
-    ∙ ap (λ (e : Entry). rows_text scale span.from 0 (frames_in span (fs ++ frame_by front (map_by e.reply)))) (sym item_is)
+    ∙ ap (λ (e : Entry). rows_text scale span.from 0 (frames_in span (fs ++ frame_by front (map_by e.reply))))
+    (sym item_is)
     ∙ next
     ∙ ap (λ (k : ℕ). rows_text scale span.from 0 (frames_in span fs)
     ++ entry_text scale (place_in span k) (λ sid. get_or flows sid false) item.reply) (sym is) in

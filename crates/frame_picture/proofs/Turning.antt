@@ -1,12 +1,11 @@
 -- Which flows are unsolicited after one more entry.
-use Rattle.std.proofs.Common.{◌≡◌, ℕ, ◌<◌, ◌==◌, Bool, true, false, cond, List, [], ◌∷◌, ◌++◌, length, get_or, set}
-use Rattle.std.proofs.Common.{Option, None, Some, refl, sym, ap, ◌∙◌, arith, inl, inr}
+use Rattle.std.proofs.Common.{◌≡◌, ℕ, ◌<◌, ◌==◌, Bool, true, false, List, [], ◌∷◌, ◌++◌, length, get_or, set}
+use Rattle.std.proofs.Common.{Option, None, Some, refl, sym, ap, ◌∙◌, inl, inr}
 use Rattle.std.specs.Option.{option_map}
 use Rattle.std.proofs.lemmas.List.{get_or-set_same, get_or-set_other}
 use Rattle.std.proofs.lemmas.Bool.{cases_eq, eq-eqb, ne_eqb}
 use Rattle.std.specs.Prelude.{if◌then◌else◌}
 use Rattle.flow_book.specs.declared.spec.FlowSpec.{FlowSpec}
-use Rattle.periodic.specs.declared.placement.Placement.{Placement}
 use Rattle.sched_history.specs.declared.call.Call.{Call}
 use Rattle.sched_history.specs.declared.call.Call.TheVariants as calls
 use Rattle.sched_history.specs.declared.reply.Reply.{Reply}
@@ -99,7 +98,8 @@ pub tells_other : (flows : List Bool) (h : List Entry) (e : Entry) (other : ℕ)
     → turn_of e.call e.reply ≡ Some (other, unsolicited) → other < length flows
     → TellsUnsolicited flows h → TellsUnsolicited (set flows other unsolicited) (h ++ e ∷ [])
 tells_other flows h e other unsolicited turn inside tells sid below =
-    let known : is_unsolicited_after (h ++ e ∷ []) sid ≡ (if other == sid then unsolicited else is_unsolicited_after h sid) =
+    let known : is_unsolicited_after (h ++ e ∷ []) sid
+    ≡ (if other == sid then unsolicited else is_unsolicited_after h sid) =
     known_after sid h e ∙ ap (λ (t : Option (ℕ × Bool)). changed_by t sid (is_unsolicited_after h sid)) turn in
     elim (cases_eq other sid) [
       | inl same ↦

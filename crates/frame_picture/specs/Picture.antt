@@ -16,7 +16,7 @@ use Rattle.frame_picture.specs.Bars.{bars_text}
 use Rattle.frame_picture.specs.Axis.{axes_text}
 use Rattle.frame_picture.specs.Head.{head_text}
 
--- what stands before the bars of a row: the number of its frame, and the minislot and the millisecond at which it starts
+-- what stands before the bars of a row: the number of its frame, the minislot and the millisecond at which it starts
 unfoldable pub start_text : ℕ → Place → ℕ → List ℕ
 start_text ticks place start =
     labelled (codes "<g transform='translate(176 ") (row_top place.row)

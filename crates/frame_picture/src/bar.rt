@@ -7,7 +7,7 @@ use map_codec::Element;
 use map_drawing::{Allocation, Usage, allocation_at};
 
 /// What is drawn of an allocation.
-#[derive(Clone, Copy, Debug, PartialEq, Eq)]
+#[derive(Clone, Copy)]
 pub struct Bar {
     /// The allocation.
     pub allocation: Allocation,

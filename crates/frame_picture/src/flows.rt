@@ -49,7 +49,8 @@ pub(crate) fn no_flows() -> Flows
 
 // Notes what an entry changes.
 pub(crate) fn note(flows: &mut Flows, entry: &Entry)
-    ensures { (h : List Entry) → TellsUnsolicited flows.old h → TellsUnsolicited flows.new (h ++ entry.now ∷ []) }
+    ensures { (h : List Entry)
+        → TellsUnsolicited flows.old h → TellsUnsolicited flows.new (h ++ entry.now ∷ []) }
 {
     if let Some((sid, unsolicited)) = turn_of(entry) {
         flows[place_of(sid)] = unsolicited;

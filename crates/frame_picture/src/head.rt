@@ -1,8 +1,8 @@
 //! The head of a picture: how its bars look, and what each look is for.
 
 ghost use Rattle.std.specs.Prelude.{◌≤◌};
-ghost use Rattle.frame_picture.specs.Head.{style_text, request_patterns, grant_patterns, legend_text, size_text};
-ghost use Rattle.frame_picture.specs.Head.{counts_text, head_text};
+ghost use Rattle.frame_picture.specs.Head.{style_text, request_patterns, short_pattern, other_patterns};
+ghost use Rattle.frame_picture.specs.Head.{usual_legend, other_legend, size_text, counts_text, head_text};
 ghost use Rattle.text_stream.specs.Writing.{Puts};
 
 use crate::layout::{Scale, depth_of};
@@ -23,19 +23,19 @@ fn put_style<W: Sink>(lines: &mut TextBuffer, writer: &mut W) -> Result<(), Text
     )?;
     lines.put(
         writer,
-        b".start,.at{font-size:11px;text-anchor:middle}.start{text-anchor:end}rect,.key{stroke:#333;stroke-width:.5px}\n",
+        b".start,.at{font-size:11px;text-anchor:middle}.start{text-anchor:end}rect,.key{stroke:#333;",
     )?;
     lines.put(
         writer,
-        b".tick{stroke:#ccc}.sid{paint-order:stroke;stroke:#fff;stroke-width:3px;stroke-linejoin:round}\n",
+        b"stroke-width:.5px}\n.tick{stroke:#ccc}.sid{paint-order:stroke;stroke:#fff;stroke-width:3px;",
     )?;
     lines.put(
         writer,
-        b".region{fill:url(#region)}.poll{fill:url(#poll)}.short{fill:url(#short)}.long{fill:#2f7fc1}\n",
+        b"stroke-linejoin:round}\n.region{fill:url(#region)}.poll{fill:url(#poll)}.short{fill:url(#short)}",
     )?;
     lines.put(
         writer,
-        b".unsolicited{fill:url(#unsolicited)}.idle{fill:#fff}.other{fill:url(#other)}\n",
+        b".long{fill:#2f7fc1}\n.unsolicited{fill:url(#unsolicited)}.idle{fill:#fff}.other{fill:url(#other)}\n",
     )
 }
 
@@ -63,11 +63,11 @@ fn put_request_patterns<W: Sink>(lines: &mut TextBuffer, writer: &mut W) -> Resu
     )
 }
 
-// The patterns of the other bars.
-#[tactic(auto, unfolding(crate::specs::Head::grant_patterns))]
-fn put_grant_patterns<W: Sink>(lines: &mut TextBuffer, writer: &mut W) -> Result<(), TextFault>
+// The pattern of short data grants.
+#[tactic(auto, unfolding(crate::specs::Head::short_pattern))]
+fn put_short_pattern<W: Sink>(lines: &mut TextBuffer, writer: &mut W) -> Result<(), TextFault>
     ensures { Puts W.contents W.has_failed writer.old writer.new lines.old lines.new
-        (grant_patterns) result }
+        (short_pattern) result }
 {
     lines.put(
         writer,
@@ -76,7 +76,15 @@ fn put_grant_patterns<W: Sink>(lines: &mut TextBuffer, writer: &mut W) -> Result
     lines.put(
         writer,
         b"<path fill='#8fd9ba' d='M0 0h6v6H0z'/><path fill='#006b4b' d='M0 0h6v2H0z'/></pattern>\n",
-    )?;
+    )
+}
+
+// The patterns of unsolicited grants and of what is none of these.
+#[tactic(auto, unfolding(crate::specs::Head::other_patterns))]
+fn put_other_patterns<W: Sink>(lines: &mut TextBuffer, writer: &mut W) -> Result<(), TextFault>
+    ensures { Puts W.contents W.has_failed writer.old writer.new lines.old lines.new
+        (other_patterns) result }
+{
     lines.put(
         writer,
         b"<pattern id='unsolicited' width='8' height='8' patternUnits='userSpaceOnUse'>",
@@ -95,16 +103,17 @@ fn put_grant_patterns<W: Sink>(lines: &mut TextBuffer, writer: &mut W) -> Result
     )
 }
 
-// What each look is for, and what the numbers before a row are; each axis shows it.
-#[tactic(auto, unfolding(crate::specs::Head::legend_text))]
-fn put_legend<W: Sink>(lines: &mut TextBuffer, writer: &mut W) -> Result<(), TextFault>
+// What the looks are for of the minislots in which modems may ask, and of data grants. Each axis shows the legend.
+#[tactic(auto, unfolding(crate::specs::Head::usual_legend))]
+fn put_usual_legend<W: Sink>(lines: &mut TextBuffer, writer: &mut W) -> Result<(), TextFault>
     ensures { Puts W.contents W.has_failed writer.old writer.new lines.old lines.new
-        (legend_text) result }
+        (usual_legend) result }
 {
     lines.put(
         writer,
-        b"<g id='legend'><path class='key region' d='M-160 8h28v16h-28z'/><text x='-124' y='21'>request region</text>\n",
+        b"<g id='legend'><path class='key region' d='M-160 8h28v16h-28z'/>",
     )?;
+    lines.put(writer, b"<text x='-124' y='21'>request region</text>\n")?;
     lines.put(
         writer,
         b"<path class='key poll' d='M4 8h28v16h-28z'/><text x='40' y='21'>poll of one modem</text>\n",
@@ -116,7 +125,15 @@ fn put_legend<W: Sink>(lines: &mut TextBuffer, writer: &mut W) -> Result<(), Tex
     lines.put(
         writer,
         b"<path class='key long' d='M332 8h28v16h-28z'/><text x='368' y='21'>long data grant</text>\n",
-    )?;
+    )
+}
+
+// What the other looks are for, and what the numbers before a row are.
+#[tactic(auto, unfolding(crate::specs::Head::other_legend))]
+fn put_other_legend<W: Sink>(lines: &mut TextBuffer, writer: &mut W) -> Result<(), TextFault>
+    ensures { Puts W.contents W.has_failed writer.old writer.new lines.old lines.new
+        (other_legend) result }
+{
     lines.put(
         writer,
         b"<path class='key unsolicited' d='M496 8h28v16h-28z'/><text x='532' y='21'>unsolicited grant</text>\n",
@@ -195,7 +212,9 @@ pub(crate) fn put_head<W: Sink>(
     put_style(lines, writer)?;
     put_shade_rules(lines, writer)?;
     put_request_patterns(lines, writer)?;
-    put_grant_patterns(lines, writer)?;
-    put_legend(lines, writer)?;
+    put_short_pattern(lines, writer)?;
+    put_other_patterns(lines, writer)?;
+    put_usual_legend(lines, writer)?;
+    put_other_legend(lines, writer)?;
     put_counts(lines, writer, scale, rows, total)
 }

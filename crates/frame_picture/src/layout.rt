@@ -6,7 +6,7 @@ ghost use Rattle.frame_picture.specs.Layout.{slot_units, scale_of, axes_of, axis
 use minislots::Checked;
 
 /// How the frames of a channel are drawn.
-#[derive(Clone, Copy, Debug, PartialEq, Eq)]
+#[derive(Clone, Copy)]
 pub struct Scale {
     /// The minislots of a frame.
     pub frame: u32,

@@ -1,8 +1,8 @@
 //! A picture of the frames of a history in SVG: a row for each MAP, and in it a bar for each allocation.
 //!
 //! Each allocation of each MAP that is drawn has one bar, in the row of its MAP, from its offset on and as wide as its
-//! length. A bar is the picture's only kind of `rect`. What a bar is for is told by its colour, by its pattern and in its
-//! title, and whose it is by its shade. All places are whole.
+//! length. A bar is the picture's only kind of `rect`. What a bar is for is told by its colour, by its pattern and in
+//! its title, and whose it is by its shade. All places are whole.
 #![tactic(auto)]
 
 mod axis;

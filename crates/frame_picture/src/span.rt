@@ -4,7 +4,7 @@ ghost use Rattle.std.specs.Prelude.{◌≡◌, ◌<◌, ◌≤◌, IfSome};
 ghost use Rattle.frame_picture.specs.Frames.{place_in};
 
 /// Which of a history's frames are drawn: so many from one on, or as many as there are.
-#[derive(Clone, Copy, Debug, PartialEq, Eq)]
+#[derive(Clone, Copy)]
 pub struct Span {
     /// The number of the first frame that is drawn, counted from 0.
     pub from: u64,
@@ -13,7 +13,7 @@ pub struct Span {
 }
 
 /// Where a frame is drawn.
-#[derive(Clone, Copy, Debug, PartialEq, Eq)]
+#[derive(Clone, Copy)]
 pub struct Place {
     /// The number of the frame, counted from 0.
     pub number: u64,

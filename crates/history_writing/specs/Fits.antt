@@ -62,7 +62,7 @@ abbrev pub PlacementFits : Option Placement → Type 0
 PlacementFits None = Unit {0}
 PlacementFits (Some p) = (p.reference < 2 ^ 64) × AllByRecursion (λ start. start < 2 ^ 16) p.starts
 
--- the numbers of a MAP fit their types, and it has bytes
+-- the numbers of a MAP fit their types, and it is well formed
 pub record MapFits (m : FrameMap) : Type 0 where
   pub start : m.start < 2 ^ 64
   pub ack : m.ack < 2 ^ 64
@@ -74,7 +74,7 @@ abbrev pub ValueFits : Option ℕ → Type 0
 ValueFits None = Unit {0}
 ValueFits (Some value) = value < 2 ^ 64
 
--- the numbers of a reply fit their types, and its MAP has bytes
+-- the numbers of a reply fit their types, and its MAP is well formed
 abbrev pub ReplyFits : Reply → Type 0
 ReplyFits (Admitted placement) = PlacementFits placement
 ReplyFits Removed = Unit {0}
@@ -85,7 +85,7 @@ ReplyFits (Skipped next) = next < 2 ^ 64
 ReplyFits (Flow asked granted outstanding) = (asked < 2 ^ 64) × (granted < 2 ^ 64) × (outstanding < 2 ^ 64)
 ReplyFits (Refused refusal) = ValueFits (refusal_value refusal)
 
--- the numbers of an entry fit their types, and its MAP has bytes
+-- the numbers of an entry fit their types, and its MAP is well formed
 pub record EntryFits (e : Entry) : Type 0 where
   pub seat : e.stamp.seat < 2 ^ 32
   pub ticket : e.stamp.ticket < 2 ^ 64

@@ -48,7 +48,8 @@ fn put_entry(out: &mut Writer, alloc: Global, entry: &Entry) -> Result<(), Alloc
 #[tactic(auto, unfolding(crate::specs::HistoryText::entries_data))]
 fn put_entries(out: &mut Writer, alloc: Global, entries: &[Entry]) -> Result<(), AllocError>
     requires { AllByRecursion (λ e. IsEncodable e.reply) entries.now }
-    ensures ok { OnOk result (out.new.tokens ≡ out.old.tokens ++ tokens_of (entries_data entries.now)) }
+    ensures ok { OnOk result
+        (out.new.tokens ≡ out.old.tokens ++ tokens_of (entries_data entries.now)) }
     ensures before { out.new.before ≡ out.old.before }
 {
     out.begin_array()?;
@@ -104,7 +105,8 @@ pub fn put_history<W: Sink>(
         (history_text config.now entries.now)) }
     ensures quiet { IfErr result (λ e. e ≢ TextFault.Output → writer.new ≡ writer.old) }
     ensures err { IfErr result (λ e. (e ≡ TextFault.Memory) ⊎ (e ≡ TextFault.Output)) }
-    ensures failed { FailsBy TextFault.Output result (W.has_failed writer.old) (W.has_failed writer.new) }
+    ensures failed { FailsBy TextFault.Output result
+        (W.has_failed writer.old) (W.has_failed writer.new) }
 {
     let text = history_text(alloc, config, entries)?;
     put(writer, &text)

@@ -21,6 +21,7 @@ use Rattle.text_stream.specs.Outcome.{unless_wrong}
 use Rattle.script_reading.specs.Outcome.{text_outcome, outcome_of, StandsFor, HasFault, StopsScript}
 use Rattle.text_stream.proofs.Outcome.{IsOfText, faults-bind, faults-ok_or, faults-value_of, faults-unless_wrong}
 
+-- the fault of calls is one of a text
 pub faults-calls_of : (n : ℕ) (ds : Items) → IfErr (calls_of n ds) IsOfText
 unfolding calls_of
 faults-calls_of n no_items = tt

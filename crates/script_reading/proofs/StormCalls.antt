@@ -32,6 +32,7 @@ module _ (values : List Value) (i : ℕ) (v : Value) (within : i < length values
   are_arrays-step array = ap are_arrays (items_view-here values i v within is)
       ∙ ap (λ b. b && are_arrays (items_view (drop (i + 1) values))) array
 
+  -- where one is no array not all are
   pub are_arrays-stop : is_some (as_array (view v)) ≡ false → are_arrays (items_view (drop i values)) ≡ false
   are_arrays-stop none = ap are_arrays (items_view-here values i v within is)
       ∙ ap (λ b. b && are_arrays (items_view (drop (i + 1) values))) none
@@ -80,16 +81,19 @@ scripts_then-push scripts calls (Ok rest) = ap (λ (cs : List (List Call)). Ok c
 scripts_then-push scripts calls (Err fault) = refl
 
 module _ (scripts : List (List Call)) (before : ℕ) (d : Data) (ds : Items) where
+  -- a script that is no array
   pub scripts_then-none : as_array d ≡ None → scripts_then scripts (scripts_of before (item d ds)) ≡ Err (Shape 0)
   unfolding scripts_of
   scripts_then-none none = rw none refl
 
+  -- a script with a fault in its calls
   pub scripts_then-fault : (items : Items) (fault : TextFault) → as_array d ≡ Some items
       → calls_of (before + 1) items ≡ Err fault
       → scripts_then scripts (scripts_of before (item d ds)) ≡ Err fault
   unfolding scripts_of
   scripts_then-fault items fault some fails = rw some (rw fails refl)
 
+  -- a script that is read, and those behind it
   pub scripts_then-script : (items : Items) (calls : List Call) → as_array d ≡ Some items
       → calls_of (before + 1) items ≡ Ok calls
       → scripts_then scripts (scripts_of before (item d ds))
@@ -98,6 +102,7 @@ module _ (scripts : List (List Call)) (before : ℕ) (d : Data) (ds : Items) whe
   scripts_then-script items calls some reads = rw some (rw reads
       (scripts_then-push scripts calls (scripts_of (before + length calls) ds)))
 
+-- no script is left
 pub scripts_then-end : (scripts : List (List Call)) (before : ℕ)
     → scripts_then scripts (scripts_of before no_items) ≡ Ok scripts
 unfolding scripts_of
@@ -118,6 +123,7 @@ unfolding are_scripts
 are_scripts-none values none = ap (λ n. (nat_lt 0 n && nat_lt n 17) && are_arrays (items_view values))
     (count_of-items values ∙ none)
 
+-- more than 16 are no scripts
 pub are_scripts-many : (values : List Value) → 16 < length values → are_scripts (items_view values) ≡ false
 unfolding are_scripts
 are_scripts-many values many =
@@ -137,17 +143,20 @@ module _ (values : List Value) (scripts : List (List Call)) (before i : ℕ) whe
   left_scripts-at v within is = ap (λ ds. scripts_then scripts (scripts_of before ds))
       (items_view-here values i v within is)
 
+  -- of those left the next is no array
   pub left_scripts-none : (v : Value) → i < length values → v ≡ get_or values i v → as_array (view v) ≡ None
       → left_scripts values scripts before i ≡ Err (Shape 0)
   left_scripts-none v within is none = left_scripts-at v within is
       ∙ scripts_then-none scripts before (view v) (items_view (drop (i + 1) values)) none
 
+  -- of those left the next has a fault in its calls
   pub left_scripts-fault : (v : Value) (items : Items) (fault : TextFault) → i < length values → v ≡ get_or values i v
       → as_array (view v) ≡ Some items
       → calls_of (before + 1) items ≡ Err fault → left_scripts values scripts before i ≡ Err fault
   left_scripts-fault v items fault within is some fails = left_scripts-at v within is
       ∙ scripts_then-fault scripts before (view v) (items_view (drop (i + 1) values)) items fault some fails
 
+  -- of those left the next is read
   pub left_scripts-script : (v : Value) (items : Items) (calls : List Call) → i < length values → v ≡ get_or values i v
       → as_array (view v) ≡ Some items
       → calls_of (before + 1) items ≡ Ok calls → left_scripts values scripts before i
@@ -155,6 +164,7 @@ module _ (values : List Value) (scripts : List (List Call)) (before i : ℕ) whe
   left_scripts-script v items calls within is some reads = left_scripts-at v within is
       ∙ scripts_then-script scripts before (view v) (items_view (drop (i + 1) values)) items calls some reads
 
+  -- none is left
   pub left_scripts-end : length values ≤ i → left_scripts values scripts before i ≡ Ok scripts
   left_scripts-end past = ap (λ (vs : List Value). scripts_then scripts (scripts_of before (items_view vs)))
       (drop_all i values past) ∙ scripts_then-end scripts before

@@ -8,8 +8,8 @@ use Rattle.text_stream.specs.declared.fault.TextFault.TheVariants.{Input, TooLon
 use Rattle.text_stream.specs.declared.fault.TextFault.TheVariants.{Output}
 use Rattle.text_stream.specs.declared.run_fault.RunFault.TheVariants.{Text, Threads}
 
--- why a run of a script ends: a write is tried only after a whole script was read; want of memory and a failed read tell nothing
--- more
+-- why a run of a script ends: a write is tried only after a whole script was read; out of memory and a failed read
+-- tell nothing more
 abbrev pub Stops : Option (List ℕ) → Option (List ℕ) → RunFault → Type 0
 Stops unread left (Text Input) = Unit {0}
 Stops unread left (Text TooLong) = ReadsTooMany unread left

@@ -78,7 +78,7 @@ pub record GivesStorm (old new : Option (List ℕ)) (outcome : Result Storm Text
   pub all : ReadsAll old new bytes
   pub outcome_is : storm_outcome bytes ≡ outcome
 
--- why there is no storm: want of memory and a failed read tell nothing more
+-- why there is no storm: lack of memory and a failed read tell nothing more
 abbrev pub StopsStormScript : Option (List ℕ) → Option (List ℕ) → TextFault → Type 0
 StopsStormScript old new Input = Unit {0}
 StopsStormScript old new TooLong = ReadsTooMany old new

@@ -33,7 +33,8 @@ static SUMS: [&str; 3] = ["asked", "granted", "outstanding"];
 
 #[tactic(auto, unfolding(crate::specs::Json::placed_data))]
 fn put_placed(out: &mut Writer, placement: &Placement) -> Result<(), AllocError>
-    ensures ok { OnOk result (out.new.tokens ≡ out.old.tokens ++ tokens_of (placed_data placement.now)) }
+    ensures ok { OnOk result
+        (out.new.tokens ≡ out.old.tokens ++ tokens_of (placed_data placement.now)) }
     ensures before { out.new.before ≡ out.old.before }
 {
     out.begin_object()?;
@@ -56,7 +57,8 @@ fn hex_of(alloc: Global, map: &WireMap) -> Result<String, AllocError>
 #[tactic(auto, unfolding(crate::specs::Json::map_data))]
 fn put_map(out: &mut Writer, alloc: Global, kind: &str, frame: &FrameMap) -> Result<(), AllocError>
     requires { IsWellFormed frame.now.wire }
-    ensures ok { OnOk result (out.new.tokens ≡ out.old.tokens ++ tokens_of (map_data kind.now frame.now)) }
+    ensures ok { OnOk result
+        (out.new.tokens ≡ out.old.tokens ++ tokens_of (map_data kind.now frame.now)) }
     ensures before { out.new.before ≡ out.old.before }
 {
     out.begin_object()?;
@@ -71,7 +73,8 @@ fn put_map(out: &mut Writer, alloc: Global, kind: &str, frame: &FrameMap) -> Res
 
 #[tactic(auto, unfolding(crate::specs::Json::refused_data))]
 fn put_refused(out: &mut Writer, number: u64, value: Option<u64>) -> Result<(), AllocError>
-    ensures ok { OnOk result (out.new.tokens ≡ out.old.tokens ++ tokens_of (refused_data number value)) }
+    ensures ok { OnOk result
+        (out.new.tokens ≡ out.old.tokens ++ tokens_of (refused_data number value)) }
     ensures before { out.new.before ≡ out.old.before }
 {
     match value {
@@ -116,8 +119,7 @@ pub fn put_reply(out: &mut Writer, alloc: Global, reply: &Reply) -> Result<(), A
             put_named(out, "kind", "flow", 2, &SUMS, &numbers)
         }
         Reply::Refused(refusal) => {
-            let (number, value) = (refusal_number(*refusal), refusal_value(*refusal));
-            put_refused(out, number, value)
+            put_refused(out, refusal_number(*refusal), refusal_value(*refusal))
         }
     }
 }

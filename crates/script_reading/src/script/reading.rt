@@ -51,7 +51,8 @@ pub fn read_script<R: Source>(
         (record { config = r.0; calls = r.1.items })) }
     ensures stops { IfErr result
         (StopsScript (R.remaining reader.old) (R.remaining reader.new)) }
-    ensures failed { FailsBy TextFault.Input result (R.has_failed reader.old) (R.has_failed reader.new) }
+    ensures failed { FailsBy TextFault.Input result
+        (R.has_failed reader.old) (R.has_failed reader.new) }
 {
     let bytes = read_all(alloc, reader)?;
     script_in(alloc, &bytes)

@@ -67,7 +67,8 @@ fn count_calls(script: &[Call]) -> u64
 // The scripts of these arrays. Calls are counted through all of them.
 fn scripts_of(alloc: Global, arrays: &[Value]) -> Result<Vec<Vec<Call>>, TextFault>
     requires { length arrays.now ≤ 16 }
-    ensures are { Gives (λ scripts. calls_each scripts.items) result (scripts_of 0 (items_view arrays.now)) }
+    ensures are { Gives (λ scripts. calls_each scripts.items) result
+        (scripts_of 0 (items_view arrays.now)) }
     ensures count { IfOk result (λ scripts. vec_len scripts ≡ length arrays.now) }
 {
     let mut scripts = Vec::with_capacity(alloc, arrays.len())?;
@@ -163,7 +164,8 @@ pub fn read_storm<R: Source>(
     ensures few { IfOk result (λ r. vec_len r.1 ≤ MAX_SCRIPTS) }
     ensures stops { IfErr result
         (StopsStormScript (R.remaining reader.old) (R.remaining reader.new)) }
-    ensures failed { FailsBy TextFault.Input result (R.has_failed reader.old) (R.has_failed reader.new) }
+    ensures failed { FailsBy TextFault.Input result
+        (R.has_failed reader.old) (R.has_failed reader.new) }
 {
     let bytes = read_all(alloc, reader)?;
     storm_in(alloc, &bytes)

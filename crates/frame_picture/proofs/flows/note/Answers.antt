@@ -12,4 +12,5 @@ returns-in-Some c =
     (λ h tells. tells_other c.args.flows.now h c.args.entry.now c.in-Some.sid c.in-Some.unsolicited turn small tells)
 
 pub returns-in_default : goal.returns-in_default
-returns-in_default c = λ h tells. tells_still c.args.flows.now h c.args.entry.now (sym c.turn_of.ensures ∙ c.in_default.is) tells
+returns-in_default c = λ h tells.
+    tells_still c.args.flows.now h c.args.entry.now (sym c.turn_of.ensures ∙ c.in_default.is) tells

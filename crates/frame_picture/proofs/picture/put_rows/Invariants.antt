@@ -5,8 +5,8 @@ use Rattle.frame_picture.specs.Frames.{frames_of, frames_in, TellsUnsolicited}
 use Rattle.frame_picture.specs.Picture.{rows_text}
 use Rattle.frame_picture.proofs.picture.put_rows.Given as goal
 
--- the rows so far are written or wait, the next frame has the number of those so far, and which flows are unsolicited is
--- known
+-- the rows so far are written or wait, the next frame has the number of those so far, and it is known which flows are
+-- unsolicited
 abbrev pub invariant-loop-entry : goal.invariant-loop-entry
 invariant-loop-entry g l =
     (l.number ≡ length (frames_of (take l.entry-index l.entries)))
