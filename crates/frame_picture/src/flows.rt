@@ -12,7 +12,7 @@ use sched_history::{Call, Entry, Reply};
 const SIDS: usize = 65536;
 
 /// Whether the flow that lives under each SID is unsolicited.
-pub(crate) type Flows = [bool; SIDS];
+pub type Flows = [bool; SIDS];
 
 // Whether a flow with these parameters is unsolicited.
 fn is_unsolicited(spec: FlowSpec) -> bool
@@ -40,15 +40,15 @@ fn place_of(sid: u16) -> usize
     usize::from(sid)
 }
 
-// What is known before any entry.
-pub(crate) fn no_flows() -> Flows
+/// What is known before any entry: no flow is unsolicited.
+pub fn no_flows() -> Flows
     ensures { TellsUnsolicited result [] }
 {
     [false; SIDS]
 }
 
-// Notes what an entry changes.
-pub(crate) fn note(flows: &mut Flows, entry: &Entry)
+/// Notes what an entry changes.
+pub fn note(flows: &mut Flows, entry: &Entry)
     ensures { (h : List Entry)
         → TellsUnsolicited flows.old h → TellsUnsolicited flows.new (h ++ entry.now ∷ []) }
 {

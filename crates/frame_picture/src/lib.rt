@@ -19,6 +19,7 @@ mod time;
 mod usage;
 
 pub use bar::{Bar, bar_with, every_bar};
+pub use flows::{Flows, no_flows, note};
 pub use layout::{Scale, slot_units};
 pub use picture::put_picture;
 pub use shade::{every_shade, shade_of};

@@ -1,0 +1,4 @@
+pub mod SlotLists
+pub mod Pushed
+pub mod Frames
+pub mod Totalled

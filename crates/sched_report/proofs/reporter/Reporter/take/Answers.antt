@@ -1,0 +1,36 @@
+-- An entry that is taken is counted.
+use Rattle.std.proofs.Common.{◌<◌, ◌++◌, ◌∷◌, [], length, inl, inr, sym, subst}
+use Rattle.std.proofs.lemmas.Bool.{cases_lt}
+use Rattle.minislots.specs.declared.config.Config.{Config}
+use Rattle.map_build.proofs.EachAfterLaws.{EachAfter-push}
+use Rattle.sched_history.specs.declared.reply.TheConstants.{MAX_WHOLE_HISTORY}
+use Rattle.sched_history.specs.History.{IsStep}
+use Rattle.sched_history.specs.Machine.{Past}
+use Rattle.sched_report.specs.Counted.{IsCounted}
+use Rattle.sched_report.specs.Reported.{IsReport}
+use Rattle.sched_report.proofs.reporter.Reporter.take.Goals as goal
+
+pub invariant_of-self-2 : goal.invariant_of-self-2
+invariant_of-self-2 c =
+    let i = c.self.invariant in
+    let k = c.self.inside.config in
+    let h = c.self.inside.auditor.history in
+    let e = c.args.entry.now in
+    let step : IsStep k h e.call e.reply =
+    subst (λ (k : Config). IsStep k h e.call e.reply) (sym i.config) c.in_ok-judge.ensures.step in
+    let short : length h < MAX_WHOLE_HISTORY =
+    elim (cases_lt (length h) MAX_WHOLE_HISTORY) [
+      | inl below ↦ below
+      | inr full ↦ absurd (cc (c.in_ok-judge.ensures.full.1 full))
+    ] in
+    let counted : IsCounted k h c.self.inside.totals c.self.inside.flows e =
+    record { legal = i.legal; step = step; short = short; counted = i.totals; told = i.told } in
+    subst (λ (p : Past). IsReport k p c.note.new.flows c.add.new.self c.count_refusal.new.counts)
+    (sym c.in_ok-judge.ensures.taken)
+    (record {
+      config = i.config;
+      legal = EachAfter-push (λ before x. IsStep k before x.call x.reply) [] h e i.legal step;
+      told = c.note.ensures h i.told;
+      totals = c.add.ensures h counted;
+      refused = c.count_refusal.ensures h i.refused;
+    })

@@ -1,0 +1,48 @@
+-- One entry more is counted.
+use Rattle.std.proofs.Common.{◌≡◌, ◌+◌, ap, subst, refl, arith}
+use Rattle.sched_history.specs.declared.reply.Reply.{Reply}
+use Rattle.sched_history.specs.History.{IsStep, map_by}
+use Rattle.sched_history.proofs.steps.LegalHistories.{IsNextMap-from_step}
+use Rattle.sched_report.specs.declared.totals.Totals.{Totals}
+use Rattle.sched_report.specs.Uses.{slots_in}
+use Rattle.sched_report.specs.Totals.{with_frame}
+use Rattle.sched_report.proofs.Frames.{of_next_frame}
+use Rattle.sched_report.proofs.Totalled.{AreTotals-built, AreTotals-unbuilt, neither}
+use Rattle.sched_report.proofs.totals.Totals.add.Goals as goal
+
+pub add_frame-requires-clause-elements : goal.add_frame-requires-clause-elements
+add_frame-requires-clause-elements c =
+    let k = c.args.config.now in
+    let h = c.requires.0 in
+    let e = c.args.entry.now in
+    of_next_frame k c.frame-frame.ensures.lawful h c.in-Built.map
+    (IsNextMap-from_step k h e.call c.in-Built.map
+    (subst (λ (r : Reply). IsStep k h e.call r) c.in-Built.is c.requires.1.step))
+
+pub returns-in-Built : goal.returns-in-Built
+returns-in-Built c = λ h counted.
+    let t = c.args.self.now in
+    let m = c.in-Built.map in
+    let calls = c.add.ensures h (ap (λ (t : Totals). t.calls) counted.counted.value) in
+    let new = c.add_frame.new.self in
+    AreTotals-built c.args.config.now h c.args.entry.now t c.add.new.self counted.counted calls m new c.in-Built.is
+    (subst (λ frame. new ≡ with_frame frame (record t { calls = c.add.new.self }) m
+    (slots_in (record { before = h; built = m }))) c.frame-frame.ensures.value
+    (c.add_frame.ensures.value h counted.told))
+    c.add_frame.ensures.bounded
+
+pub returns-in-Skipped : goal.returns-in-Skipped
+returns-in-Skipped c = λ h counted.
+    let t = c.args.self.now in
+    let calls = c.add.ensures h (ap (λ (t : Totals). t.calls) counted.counted.value) in
+    AreTotals-unbuilt c.args.config.now h c.args.entry.now t c.add.new.self counted.counted calls (t.skips + 1)
+    (ap map_by c.in-Skipped.is) (rw c.in-Skipped.is refl)
+
+pub returns-in_default : goal.returns-in_default
+returns-in_default c = λ h counted.
+    let t = c.args.self.now in
+    let e = c.args.entry.now in
+    let calls = c.add.ensures h (ap (λ (t : Totals). t.calls) counted.counted.value) in
+    let none = neither e.reply (λ m is. c.in_default.not-Built m is) (λ n is. c.in_default.not-Skipped n is) in
+    AreTotals-unbuilt c.args.config.now h e t c.add.new.self counted.counted calls t.skips none.0
+    (rw none.1 (omega arith))

@@ -1,0 +1,68 @@
+-- How many calls of each kind a history has, and how many refusals with each number.
+use Rattle.std.specs.Prelude.{◌≡◌, ℕ, ◌+◌, ◌<◌, ◌==◌, Bool, true, false, List, length, count_by, slice_index}
+use Rattle.sched_history.specs.declared.call.Call.{Call}
+use Rattle.sched_history.specs.declared.call.Call.TheVariants.{Admit, Remove, Ask, Heard, Build, Skip, Status}
+use Rattle.sched_history.specs.declared.reply.Reply.{Reply}
+use Rattle.sched_history.specs.declared.reply.Reply.TheVariants.{Refused}
+use Rattle.sched_history.specs.declared.reply.Entry.{Entry}
+use Rattle.sched_lines.specs.Line.{refusal_number}
+use Rattle.sched_report.specs.declared.calls.Calls.{Calls}
+
+-- the kind of a call
+abbrev pub is_admit : Call → Bool
+is_admit (Admit sid spec) = true
+is_admit call = false
+
+abbrev pub is_ask : Call → Bool
+is_ask (Ask receiver sid bytes heard) = true
+is_ask call = false
+
+abbrev pub is_build : Call → Bool
+is_build (Build now) = true
+is_build call = false
+
+abbrev pub is_heard : Call → Bool
+is_heard (Heard receiver upto) = true
+is_heard call = false
+
+abbrev pub is_remove : Call → Bool
+is_remove (Remove sid) = true
+is_remove call = false
+
+abbrev pub is_skip : Call → Bool
+is_skip (Skip now) = true
+is_skip call = false
+
+abbrev pub is_status : Call → Bool
+is_status (Status sid) = true
+is_status call = false
+
+-- how many calls of a kind there are, whatever their replies
+abbrev pub calls_with : (Call → Bool) → List Entry → ℕ
+calls_with kind h = count_by (λ e. kind e.call) h
+
+-- how many calls of each kind there are
+abbrev pub calls_of : List Entry → Calls
+calls_of h = record {
+  admit = calls_with is_admit h;
+  ask = calls_with is_ask h;
+  build = calls_with is_build h;
+  heard = calls_with is_heard h;
+  remove = calls_with is_remove h;
+  skip = calls_with is_skip h;
+  status = calls_with is_status h;
+}
+
+-- whether a reply is a refusal with this number
+abbrev pub is_refusal : ℕ → Reply → Bool
+is_refusal number (Refused refusal) = refusal_number refusal == number
+is_refusal number reply = false
+
+-- how many refusals with this number there are
+abbrev pub refusals_with : ℕ → List Entry → ℕ
+refusals_with number h = count_by (λ e. is_refusal number e.reply) h
+
+-- so many refusals there are with each number: with 1 at the first place, and so on
+pub record CountsRefusals (counts : List ℕ) (h : List Entry) : Type 0 where
+  pub places : length counts ≡ 17
+  pub each : (place : ℕ) → place < 17 → slice_index counts place ≡ refusals_with (place + 1) h

@@ -1,0 +1,5 @@
+pub mod Counts
+pub mod Uses
+pub mod Totals
+pub mod Counted
+pub mod Reported

@@ -1,0 +1,17 @@
+-- What a reporter keeps of the entries that it took.
+use Rattle.std.specs.Prelude.{◌≡◌, ℕ, Bool, List}
+use Rattle.minislots.specs.declared.config.Config.{Config}
+use Rattle.sched_history.specs.History.{IsLegal}
+use Rattle.sched_history.specs.Machine.{Past}
+use Rattle.frame_picture.specs.Frames.{TellsUnsolicited}
+use Rattle.sched_report.specs.declared.totals.Totals.{Totals}
+use Rattle.sched_report.specs.Counts.{CountsRefusals}
+use Rattle.sched_report.specs.Totals.{AreTotals}
+
+-- The numbers are those of the history that the auditor took
+pub record IsReport (c : Config) (past : Past) (flows : List Bool) (t : Totals) (counts : List ℕ) : Type 0 where
+  pub config : c ≡ past.config
+  pub legal : IsLegal c past.history
+  pub told : TellsUnsolicited flows past.history
+  pub totals : AreTotals c past.history t
+  pub refused : CountsRefusals counts past.history

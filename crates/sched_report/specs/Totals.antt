@@ -1,0 +1,52 @@
+-- The numbers of a whole history.
+use Rattle.std.specs.Prelude.{◌≡◌, ℕ, ◌+◌, ◌*◌, ◌^◌, ◌≤◌, Bool, true, false, List, [], ◌∷◌, length, count_by, slice_get}
+use Rattle.std.specs.Prelude.{Option, None, Some, option_map}
+use Rattle.std.specs.Option.{option_or}
+use Rattle.minislots.specs.declared.config.Config.{Config}
+use Rattle.sched_history.specs.declared.reply.Entry.{Entry}
+use Rattle.sched_history.specs.declared.reply.Reply.{Reply}
+use Rattle.sched_history.specs.declared.reply.Reply.TheVariants.{Skipped}
+use Rattle.sched_history.specs.Facts.{maps_of}
+use Rattle.map_build.specs.declared.frame_map.FrameMap.{FrameMap}
+use Rattle.sched_report.specs.declared.slots.Slots.{Slots}
+use Rattle.sched_report.specs.declared.totals.Totals.{Totals}
+use Rattle.sched_report.specs.Counts.{calls_of}
+use Rattle.sched_report.specs.Uses.{slots_of, sum_of, all_slots}
+
+-- the last member of a list
+abbrev pub last_of : {X : Type 0} → List X → Option X
+last_of [] = None
+last_of (x ∷ []) = Some x
+last_of (x ∷ y ∷ xs) = last_of (y ∷ xs)
+
+-- whether frames were left out
+abbrev pub is_skip_answer : Reply → Bool
+is_skip_answer (Skipped next) = true
+is_skip_answer reply = false
+
+-- the numbers of a history: its frames, where the first starts and the last ends, how often frames were left out, the
+-- calls by their kind, and the minislots of the frames by their use
+abbrev pub totals_of : Config → List Entry → Totals
+totals_of c h = record {
+  frames = length (maps_of h);
+  from = option_map (λ m. m.start) (slice_get (maps_of h) 0);
+  to = option_map (λ m. m.start + c.frame) (last_of (maps_of h));
+  skips = count_by (λ e. is_skip_answer e.reply) h;
+  calls = calls_of h;
+  slots = slots_of h;
+}
+
+-- the numbers with the frame of one MAP more, which has so many minislots, and these by their use
+abbrev pub with_frame : ℕ → Totals → FrameMap → Slots → Totals
+with_frame frame t m s = record t {
+  frames = t.frames + 1;
+  from = option_or t.from (Some m.start);
+  to = Some (m.start + frame);
+  slots = sum_of t.slots s;
+}
+
+-- The numbers are those of the history, and keep to bounds
+pub record AreTotals (c : Config) (h : List Entry) (t : Totals) : Type 0 where
+  pub value : t ≡ totals_of c h
+  pub few : t.frames ≤ length h
+  pub bounded : all_slots t.slots ≤ 2 ^ 14 * length h

@@ -1,0 +1,12 @@
+//! How a channel did: the numbers of a history, which is taken entry by entry and kept nowhere.
+#![tactic(auto)]
+
+mod calls;
+mod reporter;
+mod slots;
+mod totals;
+
+pub use calls::Calls;
+pub use reporter::Reporter;
+pub use slots::{Slots, Use};
+pub use totals::Totals;

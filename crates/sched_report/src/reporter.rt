@@ -1,0 +1,96 @@
+//! The numbers of a history that is taken entry by entry.
+
+ghost use Rattle.std.specs.Prelude.{◌≡◌, ◌<◌, ◌≤◌, ◌↔◌, ◌++◌, ◌∷◌, [], length};
+ghost use Rattle.std.specs.Prelude.{IfOk, OnOk, OnErr, IsErrOf};
+ghost use Rattle.sched_history.specs.declared.reply.TheConstants.{MAX_WHOLE_HISTORY};
+ghost use Rattle.sched_history.specs.History.{IsStep, IsLegal};
+ghost use Rattle.sched_history.specs.Machine.{MayLackMemory};
+ghost use Rattle.sched_report.specs.Counts.{CountsRefusals};
+ghost use Rattle.sched_report.specs.Totals.{totals_of};
+
+use crate::calls::{REFUSALS, count_refusal};
+use crate::totals::Totals;
+use frame_picture::{Flows, no_flows, note};
+use minislots::Checked;
+use sched_history::{Auditor, Entry, JudgeFault};
+use std::alloc::{AllocError, Global};
+use std::marker::Model;
+
+/// Takes a history entry by entry, and tells its numbers. Each entry is judged as by an [`Auditor`], and is counted
+/// where its reply may follow those before it. No entry is kept, so however many are taken, the memory is that of the
+/// auditor and of the numbers. Contracts see the configuration and the entries that were taken, which are legal.
+#[derive(Drop)]
+pub struct Reporter {
+    config: Checked,
+    auditor: Auditor,
+    // Which flows are unsolicited after the entries that were taken.
+    flows: Flows,
+    totals: Totals,
+    refused: [u64; REFUSALS],
+}
+
+impl Model for Reporter {
+    ghost use Rattle.sched_history.specs.Machine.{Past};
+
+    ghost Value = { Past };
+
+    ghost use Rattle.sched_report.specs.Reported.{IsReport};
+
+    ghost view = { λ r. r.auditor };
+
+    ghost invariant = { λ r. IsReport r.config r.auditor r.flows r.totals r.refused };
+}
+
+impl Reporter {
+    /// A reporter under this configuration, which has taken no entry.
+    pub fn open(alloc: Global, config: Checked) -> Result<Reporter, AllocError>
+        ensures { IfOk result (λ r. r ≡ record { config = config; history = [] }) }
+    {
+        Ok(Reporter {
+            config,
+            auditor: Auditor::open(alloc, config)?,
+            flows: no_flows(),
+            totals: Totals::none(),
+            refused: [0; REFUSALS],
+        })
+    }
+
+    /// Judges one entry as [`Auditor::judge`] does, and takes it where its reply may follow the entries that were taken.
+    /// An entry that is not taken changes nothing.
+    pub fn take(&mut self, entry: &Entry) -> Result<(), JudgeFault>
+        // An entry that is taken is a step, and stands behind those before it.
+        ensures taken { OnOk result (self.new ≡ record self.old { history = self.old.history ++ entry.now ∷ [] }) }
+        ensures step { OnOk result (IsStep self.old.config self.old.history entry.now.call entry.now.reply) }
+
+        // Else nothing changes.
+        ensures err { OnErr result (self.new ≡ self.old) }
+        ensures full { IsErrOf result JudgeFault.Full ↔ (MAX_WHOLE_HISTORY ≤ length self.old.history) }
+        ensures illegal { IsErrOf result JudgeFault.Illegal →
+            IsStep self.old.config self.old.history entry.now.call entry.now.reply → ⊥ }
+        ensures memory { IsErrOf result JudgeFault.Memory →
+            MayLackMemory self.old.config self.old.history entry.now.call }
+
+        ensures legal { IsLegal self.new.config self.new.history }
+    {
+        self.auditor.judge(entry)?;
+        self.totals.add(&self.config, &self.flows, entry);
+        count_refusal(&mut self.refused, entry);
+        note(&mut self.flows, entry);
+        Ok(())
+    }
+
+    /// The numbers of the entries that were taken.
+    pub fn totals(&self) -> Totals
+        ensures { result ≡ totals_of self.now.config self.now.history }
+    {
+        let totals = self.totals;
+        totals
+    }
+
+    /// How many refusals with each number there are among the entries that were taken: with 1 first, with 17 last.
+    pub fn refused(&self) -> &[u64]
+        ensures { CountsRefusals result.now self.now.history }
+    {
+        &self.refused
+    }
+}

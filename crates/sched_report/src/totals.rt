@@ -1,0 +1,81 @@
+//! The numbers of a whole history.
+
+ghost use Rattle.std.specs.Prelude.{◌≡◌, ◌+◌, ◌^◌, ◌<◌, ◌≤◌, ◌∷◌, ◌++◌, [], List};
+ghost use Rattle.sched_history.specs.declared.reply.Entry.{Entry as Recorded};
+ghost use Rattle.minislots.specs.declared.config.Config.{Config};
+ghost use Rattle.frame_picture.specs.Frames.{TellsUnsolicited};
+ghost use Rattle.sched_report.specs.Uses.{slots_in, all_slots, AreOfFrame};
+ghost use Rattle.sched_report.specs.Totals.{with_frame, AreTotals};
+ghost use Rattle.sched_report.specs.Counted.{IsCounted};
+
+use crate::calls::Calls;
+use crate::slots::Slots;
+use frame_picture::Flows;
+use map_build::FrameMap;
+use minislots::Checked;
+use sched_history::{Entry, Reply};
+
+/// The numbers of a whole history.
+#[derive(Clone, Copy)]
+pub struct Totals {
+    /// How many MAPs were built.
+    pub frames: u64,
+    /// The minislot at which the first of their frames starts, where there is one.
+    pub from: Option<u64>,
+    /// The minislot at which the last of them ends.
+    pub to: Option<u64>,
+    /// How often frames were left out.
+    pub skips: u64,
+    /// The calls by their kind.
+    pub calls: Calls,
+    /// The minislots of the frames by their use.
+    pub slots: Slots,
+}
+
+impl Totals {
+    // Those of no entry, whatever the configuration.
+    pub(crate) fn none() -> Totals
+        ensures { (c : Config) → AreTotals c [] result }
+    {
+        Totals {
+            frames: 0,
+            from: None,
+            to: None,
+            skips: 0,
+            calls: Calls::none(),
+            slots: Slots::none(),
+        }
+    }
+
+    // Counts an entry that follows those counted.
+    pub(crate) fn add(&mut self, config: &Checked, flows: &Flows, entry: &Entry)
+        requires { (h : List Recorded) × IsCounted config.now h self.old flows.now entry.now }
+        ensures { (h : List Recorded) → IsCounted config.now h self.old flows.now entry.now
+            → AreTotals config.now (h ++ entry.now ∷ []) self.new }
+    {
+        let frame = config.frame();
+        self.calls.add(entry);
+        match &entry.reply {
+            Reply::Built(map) => self.add_frame(frame, flows, map),
+            Reply::Skipped(_) => self.skips += 1,
+            _ => {}
+        }
+    }
+
+    // Counts the frame of a MAP, of so many minislots.
+    fn add_frame(&mut self, frame: u32, flows: &Flows, map: &FrameMap)
+        requires frames { self.old.frames < 2 ^ 44 }
+        requires start { map.now.start < 2 ^ 62 }
+        requires slots { all_slots self.old.slots < 2 ^ 60 }
+        requires elements { AreOfFrame map.now.wire.elements }
+        ensures value { (h : List Recorded) → TellsUnsolicited flows.now h
+            → self.new ≡ with_frame frame self.old map.now (slots_in (record { before = h; built = map.now })) }
+        ensures bounded { all_slots self.new.slots ≤ all_slots self.old.slots + 2 ^ 14 }
+    {
+        let slots = Slots::of_frame(flows, map.wire.elements.as_slice());
+        self.frames += 1;
+        self.from = self.from.or(Some(map.start));
+        self.to = Some(map.start + u64::from(frame));
+        self.slots = self.slots.and(slots);
+    }
+}
