@@ -1,5 +1,5 @@
 -- The numbers of a history with one entry more.
-use Rattle.std.proofs.Common.{◌≡◌, ℕ, ◌+◌, ◌≤◌, List, [], ◌∷◌, ◌++◌, Option, None, Some, refl, ap, ◌∙◌, arith}
+use Rattle.std.proofs.Common.{◌≡◌, ℕ, List, [], ◌∷◌, ◌++◌, None, Some, refl, ap, ◌∙◌}
 use Rattle.std.specs.Prelude.{sum_by, slice_get}
 use Rattle.std.specs.Option.{option_map, option_or}
 use Rattle.std.proofs.lemmas.List.{append-nil}
@@ -10,7 +10,6 @@ use Rattle.sched_history.specs.declared.reply.Entry.{Entry}
 use Rattle.sched_history.specs.History.{map_by}
 use Rattle.frame_picture.specs.Frames.{Frame, frame_by, frames_of}
 use Rattle.frame_picture.proofs.FrameLists.{frames_after-append}
-use Rattle.sched_report.specs.declared.slots.Slots.{Slots}
 use Rattle.sched_report.specs.Uses.{slots_in, slots_of, sum_of}
 use Rattle.sched_report.specs.Totals.{last_of}
 use Rattle.sched_report.proofs.SlotLists.{same_slots}

@@ -1,6 +1,6 @@
 -- The minislots of allocations by their use, with one allocation more.
-use Rattle.std.proofs.Common.{◌≡◌, ℕ, ◌+◌, ◌-◌, ◌<◌, ◌≤◌, Bool, true, false, List, [], ◌∷◌, ◌++◌, map, get_or}
-use Rattle.std.proofs.Common.{refl, sym, ap}
+use Rattle.std.proofs.Common.{◌≡◌, ℕ, ◌+◌, ◌<◌, ◌≤◌, Bool, false, List, [], ◌∷◌, ◌++◌, map, get_or}
+use Rattle.std.proofs.Common.{sym, ap}
 use Rattle.std.proofs.Common.{◌∙◌, if◌then◌else◌, arith}
 use Rattle.std.specs.Prelude.{sum_by}
 use Rattle.std.specs.List.{range_with_len}
@@ -17,7 +17,7 @@ use Rattle.sched_report.specs.declared.slots.Slots.{Slots}
 use Rattle.sched_report.specs.declared.slots.Use.{Use}
 use Rattle.sched_report.specs.declared.slots.Use.TheVariants.{Request, Poll, Unsolicited, Opportunity, Data, Idle}
 use Rattle.sched_report.specs.Uses.{use_of, is_request, is_poll, is_unsolicited, is_opportunity, is_data, is_idle}
-use Rattle.sched_report.specs.Uses.{slots_with, slots_among, all_slots, with_slots, sum_of}
+use Rattle.sched_report.specs.Uses.{slots_with, slots_among, all_slots, with_slots}
 
 -- so many minislots of each use
 abbrev slots_with_all : ℕ → ℕ → ℕ → ℕ → ℕ → ℕ → Slots

@@ -1,5 +1,5 @@
 -- The totals of a history with one entry more.
-use Rattle.std.proofs.Common.{◌≡◌, ℕ, ◌+◌, ◌*◌, ◌≤◌, ◌^◌, List, [], ◌∷◌, ◌++◌, length, Option, None, Some, refl, ap}
+use Rattle.std.proofs.Common.{◌≡◌, ℕ, ◌+◌, ◌≤◌, ◌^◌, List, [], ◌∷◌, ◌++◌, length, Option, None, Some, refl, ap}
 use Rattle.std.proofs.Common.{◌∙◌, sym, false, if◌then◌else◌, arith}
 use Rattle.std.specs.Prelude.{slice_get, count_by}
 use Rattle.std.specs.Option.{option_map, option_or}
@@ -17,7 +17,7 @@ use Rattle.sched_report.specs.declared.calls.Calls.{Calls}
 use Rattle.sched_report.specs.declared.slots.Slots.{Slots}
 use Rattle.sched_report.specs.declared.totals.Totals.{Totals}
 use Rattle.sched_report.specs.Counts.{calls_of}
-use Rattle.sched_report.specs.Uses.{slots_in, slots_of, all_slots, sum_of}
+use Rattle.sched_report.specs.Uses.{slots_in, all_slots, sum_of}
 use Rattle.sched_report.specs.Totals.{last_of, is_skip_answer, totals_of, with_frame, AreTotals}
 use Rattle.sched_report.proofs.Pushed.{slots_of-built, slots_of-unbuilt, first-push, last-push}
 

@@ -1,5 +1,5 @@
 -- An entry that is taken is counted.
-use Rattle.std.proofs.Common.{◌<◌, ◌++◌, ◌∷◌, [], length, inl, inr, sym, subst}
+use Rattle.std.proofs.Common.{◌<◌, [], length, inl, inr, sym, subst}
 use Rattle.std.proofs.lemmas.Bool.{cases_lt}
 use Rattle.minislots.specs.declared.config.Config.{Config}
 use Rattle.map_build.proofs.EachAfterLaws.{EachAfter-push}
