@@ -1,0 +1,75 @@
+-- The lines of bytes: where the first of them ends.
+use Rattle.std.proofs.Common.{◌≡◌, ℕ, ◌+◌, ◌<◌, zero, suc, false, List, [], ◌∷◌, ◌++◌, length, take, drop, get_or}
+use Rattle.std.proofs.Common.{Option, None, Some, refl, sym, ap, subst, ◌∙◌, append_assoc, arith}
+use Rattle.std.specs.Prelude.{◌≢◌, ◌==◌}
+use Rattle.std.specs.Io.KnownBytes.{Consumes, IsAtEnd}
+use Rattle.std.proofs.lemmas.List.{append-nil, take-append-drop, take_all, drop_more}
+use Rattle.std.proofs.lemmas.Bool.{ne_eqb, eq-eqb, eqb-true}
+use Rattle.memchr.specs.Find.{Nowhere, Passes, is_byte}
+use Rattle.line_stream.specs.declared.TheConstants.{NEWLINE}
+use Rattle.line_stream.specs.Lines.{IsWithinLine, lines_of, TakesLines}
+
+-- no newline is among bytes and others behind them
+pub IsWithinLine-append : (xs ys : List ℕ) → IsWithinLine xs → IsWithinLine ys → IsWithinLine (xs ++ ys)
+IsWithinLine-append [] ys p q = q
+IsWithinLine-append (x ∷ xs) ys p q = (p.0, IsWithinLine-append xs ys p.1 q)
+
+-- no newline is among the bytes before a place at none of which one was found
+pub IsWithinLine-before : (bytes : List ℕ) (n : ℕ) → Nowhere (Passes (is_byte NEWLINE) bytes) 0 n
+    → IsWithinLine (take n bytes)
+IsWithinLine-before bytes zero nowhere = tt
+IsWithinLine-before [] (suc n) nowhere = tt
+IsWithinLine-before (b ∷ bytes) (suc n) nowhere = (
+  λ e. nowhere 0 (omega arith) (omega arith) (eq-eqb b NEWLINE e),
+  IsWithinLine-before bytes n (λ k low high is. nowhere (suc k) (omega arith) (omega arith) is),
+)
+
+-- nor in bytes in which none was found
+pub IsWithinLine-nowhere : (bytes : List ℕ) → Nowhere (Passes (is_byte NEWLINE) bytes) 0 (length bytes)
+    → IsWithinLine bytes
+IsWithinLine-nowhere bytes nowhere =
+    subst IsWithinLine (take_all (length bytes) bytes (omega arith))
+    (IsWithinLine-before bytes (length bytes) nowhere)
+
+-- bytes with a newline at a place
+pub at_newline : (bytes : List ℕ) (at : ℕ) → at < length bytes → Passes (is_byte NEWLINE) bytes at
+    → bytes ≡ take at bytes ++ NEWLINE ∷ drop (at + 1) bytes
+at_newline bytes at below is =
+    sym (take-append-drop at bytes)
+    ∙ ap (λ (l : List ℕ). take at bytes ++ l)
+    (drop_more bytes at 0 below ∙ ap (λ (b : ℕ). b ∷ drop (at + 1) bytes) (eqb-true (get_or bytes at 0) NEWLINE is))
+
+-- the line up to the first newline, and those of the bytes behind it
+pub lines_of-line : (line rest : List ℕ) → IsWithinLine line
+    → lines_of (line ++ NEWLINE ∷ rest) ≡ line ∷ lines_of rest
+lines_of-line [] rest within = refl
+lines_of-line (b ∷ line) rest within =
+    let other : (b == NEWLINE) ≡ false = ne_eqb b NEWLINE within.0 in
+    rw other (rw (lines_of-line line rest within.1) refl)
+
+-- bytes with no newline behind them are a line
+pub lines_of-last : (line : List ℕ) → line ≢ [] → IsWithinLine line → lines_of line ≡ line ∷ []
+lines_of-last [] some within = absurd (some refl)
+lines_of-last (b ∷ []) some within =
+    let other : (b == NEWLINE) ≡ false = ne_eqb b NEWLINE within.0 in
+    rw other refl
+lines_of-last (b ∷ (d ∷ line)) some within =
+    let other : (b == NEWLINE) ≡ false = ne_eqb b NEWLINE within.0 in
+    rw other (rw (lines_of-last (d ∷ line) (λ e. cc) within.1) refl)
+
+-- a line and its newline were taken
+pub TakesLines-line : (before after : Option (List ℕ)) (line : List ℕ) → IsWithinLine line
+    → Consumes before after (line ++ NEWLINE ∷ []) → TakesLines before (line ∷ []) after
+TakesLines-line None after line within consumed = tt
+TakesLines-line (Some text) None line within consumed = consumed
+TakesLines-line (Some text) (Some rest) line within consumed =
+    ap lines_of (consumed ∙ append_assoc line (NEWLINE ∷ []) rest) ∙ lines_of-line line rest within
+
+-- the last line was taken, which no newline ends
+pub TakesLines-last : (before after : Option (List ℕ)) (line : List ℕ) → IsWithinLine line → line ≢ []
+    → Consumes before after line → IsAtEnd after → TakesLines before (line ∷ []) after
+TakesLines-last None after line within some consumed ended = tt
+TakesLines-last (Some text) None line within some consumed ended = consumed
+TakesLines-last (Some text) (Some rest) line within some consumed ended =
+    ap lines_of (consumed ∙ ap (λ r. line ++ r) ended ∙ append-nil line) ∙ lines_of-last line some within
+    ∙ ap (λ r. line ∷ lines_of r) (sym ended)

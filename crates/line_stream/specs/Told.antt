@@ -1,0 +1,58 @@
+-- What a reader of lines tells, and what it has at hand.
+use Rattle.std.specs.Prelude.{◌≡◌, ℕ, ◌-◌, ◌^◌, ◌<◌, ◌≤◌, List, [], ◌∷◌, ◌++◌, length, Option}
+use Rattle.std.specs.Io.KnownBytes.{Consumes, IsAtEnd, prepend_known}
+use Rattle.text_stream.specs.declared.fault.TextFault.{TextFault}
+use Rattle.text_stream.specs.declared.fault.TextFault.TheVariants.{Input, TooLong, NotJson, Shape, Config, Memory}
+use Rattle.text_stream.specs.declared.fault.TextFault.TheVariants.{Output}
+use Rattle.line_stream.specs.declared.TheConstants.{NEWLINE, MAX_LINE}
+use Rattle.line_stream.specs.declared.Told.{Told}
+use Rattle.line_stream.specs.declared.Told.TheVariants.{Line, Long}
+use Rattle.line_stream.specs.Lines.{IsWithinLine, TakesLines}
+
+-- the bytes that were read and are in no line that was told, and the line that was told last, where it is not long
+pub record AtHand : Type 0 where
+  pub bytes : List ℕ
+  pub line : List ℕ
+
+-- the bytes that are in no line that was told: those at hand, and behind them those that the reader will give
+abbrev pub untold : AtHand → Option (List ℕ) → Option (List ℕ)
+untold hand remaining = prepend_known hand.bytes remaining
+
+-- what is told of a line, and what is shown of it
+abbrev pub IsTold : List ℕ → Told → List ℕ → Type 0
+IsTold line Line shown = (shown ≡ line) × (length line ≤ MAX_LINE)
+IsTold line Long shown = MAX_LINE < length line
+
+-- The first line at hand is told, and its newline passed
+pub record TellsAtHand (old new : AtHand) (told : Told) : Type 0 where
+  pub line : List ℕ
+  pub within : IsWithinLine line
+  pub first : old.bytes ≡ line ++ NEWLINE ∷ new.bytes
+  pub is : IsTold line told new.line
+
+-- The next line of what was not told is told
+pub record TellsNext (before after : Option (List ℕ)) (new : AtHand) (told : Told) : Type 0 where
+  pub line : List ℕ
+  pub within : IsWithinLine line
+  pub taken : TakesLines before (line ∷ []) after
+  pub is : IsTold line told new.line
+
+-- Nothing was left to tell
+abbrev pub HasEnded : Option (List ℕ) → Option (List ℕ) → Type 0
+HasEnded before after = IsAtEnd before × IsAtEnd after
+
+-- These are the bytes that were in no line that was told and were read, and no newline is among them
+pub record HasNoEnd (before left : Option (List ℕ)) : Type 0 where
+  pub bytes : List ℕ
+  pub consumed : Consumes before left bytes
+  pub within : IsWithinLine bytes
+
+-- why no line is told: a read failed, or as many bytes as a number of 64 bits can count have no newline
+abbrev pub StopsLine : Option (List ℕ) → Option (List ℕ) → TextFault → Type 0
+StopsLine before left Input = HasNoEnd before left
+StopsLine before left TooLong = (none : HasNoEnd before left) × (2 ^ 64 - 1 ≤ length none.bytes)
+StopsLine before left NotJson = ⊥
+StopsLine before left (Shape n) = ⊥
+StopsLine before left (Config field) = ⊥
+StopsLine before left Memory = ⊥
+StopsLine before left Output = ⊥

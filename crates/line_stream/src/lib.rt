@@ -1,0 +1,23 @@
+//! The lines of an input, read piece by piece into a buffer of fixed size. A line is the bytes up to a newline, which is
+//! not counted; bytes behind the last newline are a line too.
+#![tactic(auto)]
+
+mod lines;
+mod piece;
+
+pub use lines::Lines;
+
+/// The byte that ends a line.
+pub const NEWLINE: u8 = 10;
+
+/// The most bytes of a line that is not long.
+pub const MAX_LINE: usize = 65_536;
+
+/// What is told of a line.
+#[derive(Clone, Copy, Debug, PartialEq, Eq)]
+pub enum Told {
+    /// The line has at most 65536 bytes, and they are shown.
+    Line,
+    /// The line has more bytes, all of which were passed.
+    Long,
+}

@@ -1,0 +1,101 @@
+//! A reader of lines, with what it has at hand.
+
+ghost use Rattle.std.specs.Prelude.{◌≡◌, [], IfOk, IfErr, MatchOption};
+ghost use Rattle.line_stream.specs.Lines.{IsWithinLine};
+ghost use Rattle.line_stream.specs.Told.{untold, TellsAtHand, TellsNext, HasEnded, StopsLine};
+ghost use Rattle.text_stream.specs.Watched.{FailsBy};
+
+use crate::piece::{Bytes, PIECE, drop_front, read_line};
+use crate::{NEWLINE, Told};
+use arrayvec::ArrayVec;
+use memchr::memchr;
+use std::marker::Model;
+use text_stream::{Source, TextFault};
+
+/// The lines of an input, one after the other. Contracts see the bytes that were read and are in no line that was told,
+/// and the line that was told last. It takes no memory.
+#[derive(Drop)]
+pub struct Lines {
+    bytes: Bytes,
+    // What one read gives.
+    piece: [u8; PIECE],
+    // Where the line that was told last begins and ends.
+    line: usize,
+    end: usize,
+    // Where the bytes at hand begin.
+    next: usize,
+}
+
+impl Model for Lines {
+    ghost use Rattle.line_stream.specs.Told.{AtHand};
+    ghost use Rattle.line_stream.specs.Inside.{at_hand, IsSound};
+
+    ghost Value = { AtHand };
+
+    ghost view = { at_hand };
+
+    ghost invariant = { IsSound };
+}
+
+impl Lines {
+    /// A reader that has read nothing.
+    pub fn new() -> Lines
+        ensures { result ≡ record { bytes = []; line = [] } }
+    {
+        Lines {
+            bytes: ArrayVec::new(),
+            piece: [0; PIECE],
+            line: 0,
+            end: 0,
+            next: 0,
+        }
+    }
+
+    /// Tells the next line, where all of it and its newline are at hand, without a read.
+    pub fn at_hand(&mut self) -> Option<Told>
+        ensures { MatchOption result (IsWithinLine self.old.bytes × (self.new ≡ self.old))
+            (TellsAtHand self.old self.new) }
+    {
+        let at = memchr(NEWLINE, &self.bytes.as_slice()[self.next..])?;
+        self.line = self.next;
+        self.end = self.next + at;
+        self.next = self.end + 1;
+        Some(Told::Line)
+    }
+
+    /// Tells the next line, for which it reads where not all of it is at hand; none at the end of the input. A read that
+    /// fails ends it, one that was interrupted among them; the front of a line that was begun is then lost.
+    pub fn next<R: Source>(&mut self, reader: &mut R) -> Result<Option<Told>, TextFault>
+        ensures told { IfOk result (λ told. MatchOption told
+            (HasEnded (untold self.old (R.remaining reader.old)) (untold self.new (R.remaining reader.new)))
+            (TellsNext (untold self.old (R.remaining reader.old)) (untold self.new (R.remaining reader.new))
+            self.new)) }
+        ensures stops { IfErr result
+            (StopsLine (untold self.old (R.remaining reader.old)) (R.remaining reader.new)) }
+        ensures failed { FailsBy TextFault.Input result (R.has_failed reader.old) (R.has_failed reader.new) }
+    {
+        if let Some(told) = self.at_hand() {
+            return Ok(Some(told));
+        }
+        drop_front(&mut self.bytes, self.next);
+        self.line = 0;
+        self.end = 0;
+        self.next = 0;
+        match read_line(&mut self.bytes, &mut self.piece, reader) {
+            Ok(Some(cut)) => {
+                self.end = cut.end;
+                self.next = cut.next;
+                Ok(Some(cut.told))
+            }
+            Ok(None) => Ok(None),
+            Err(fault) => Err(fault),
+        }
+    }
+
+    /// The line that was told last, where it is not long.
+    pub fn line(&self) -> &[u8]
+        ensures { result.now ≡ self.now.line }
+    {
+        &self.bytes.as_slice()[self.line..self.end]
+    }
+}
