@@ -95,17 +95,17 @@ module _ {P : Type 0} (stands_for : Data → P → Type 0) (name : List ℕ) whe
         stands = listed.2;
       }
 
-  -- the document that the tokens stand for, that of a text
-  pub document_of_tokens : (bytes text : List ℕ) (reader : List Token) (result : Result (Config × P) Stop)
-      → text ≡ bytes → IsUtf8 bytes → reader ≡ tokens text
-      → IfOk result (λ r. (d : Data) × (read_tokens reader ≡ Some d) × IsDocument stands_for name d r.0 r.1)
-      → IfOk result (λ r. (d : Data) × (value_of bytes ≡ Ok d) × IsDocument stands_for name d r.0 r.1)
-  document_of_tokens bytes text reader (Ok r) same utf8 is found = (
-    found.0,
-    value_of-Ok bytes found.0 utf8 (ap read (sym same) ∙ ap read_tokens (sym is) ∙ found.1),
-    found.2,
-  )
-  document_of_tokens bytes text reader (Err stop) same utf8 is found = tt
+-- what the tokens of a text stand for, its bytes stand for
+pub value_of_tokens : {X : Type 0} (stands_for : Data → X → Type 0) (bytes text : List ℕ) (reader : List Token)
+    (result : Result X Stop) → text ≡ bytes → IsUtf8 bytes → reader ≡ tokens text
+    → IfOk result (λ x. (d : Data) × (read_tokens reader ≡ Some d) × stands_for d x)
+    → IfOk result (λ x. (d : Data) × (value_of bytes ≡ Ok d) × stands_for d x)
+value_of_tokens stands_for bytes text reader (Ok x) same utf8 is found = (
+  found.0,
+  value_of-Ok bytes found.0 utf8 (ap read (sym same) ∙ ap read_tokens (sym is) ∙ found.1),
+  found.2,
+)
+value_of_tokens stands_for bytes text reader (Err stop) same utf8 is found = tt
 
 -- the tokens of a document: an object, and nothing behind it
 pub document_read : (ts s : List Token) (ms : Members) → ts ≡ Token.begin_object ∷ s

@@ -18,7 +18,7 @@ use minislots::Config;
 use std::alloc::Global;
 
 /// How deep a document may nest.
-const MAX_DEPTH: usize = 127;
+pub(crate) const MAX_DEPTH: usize = 127;
 
 /// What is read straight from the tokens of a document: a call, an entry, or a list of such. A crate that says so of a
 /// type of another crate names a type of its own for the place in which it stands.

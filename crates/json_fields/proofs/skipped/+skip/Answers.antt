@@ -4,7 +4,7 @@ use Rattle.json.specs.Token.{Token}
 use Rattle.json.specs.Json.{read_key, after_end_array, value}
 use Rattle.json.specs.Reads.{token_of}
 use Rattle.json.proofs.Grammar.{read_key-shorter}
-use Rattle.serde_json.specs.Data.{array, object, unsigned, number, string, no_members, put}
+use Rattle.serde_json.specs.Data.{array, object, unsigned, no_members, put}
 use Rattle.serde_json.specs.Read.{number_of}
 use Rattle.serde_json.specs.View.{items_of}
 use Rattle.json_fields.specs.Plain.{data_of}
