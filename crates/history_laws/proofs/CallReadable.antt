@@ -20,9 +20,11 @@ use Rattle.history_laws.proofs.Readable.{IsReadable, AreReadable}
 pub of_byte : (n : ℕ) → n < 2 ^ 8 → n < 2 ^ 64
 of_byte n h = omega (arith, h)
 
+-- a number of 16 bits fits 64
 pub of_half : (n : ℕ) → n < 2 ^ 16 → n < 2 ^ 64
 of_half n h = omega (arith, h)
 
+-- a number of 32 bits fits 64
 pub of_word : (n : ℕ) → n < 2 ^ 32 → n < 2 ^ 64
 of_word n h = omega (arith, h)
 

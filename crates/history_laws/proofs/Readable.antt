@@ -1,5 +1,5 @@
 -- A value of whole numbers that fit 64 bits, and of keys in order, is read again in its compact text.
-use Rattle.std.proofs.Common.{◌≡◌, ℕ, suc, ◌+◌, ◌<◌, ◌≤◌, ◌^◌, max, List, [], ◌∷◌, ◌++◌, Bool, true, false, Some}
+use Rattle.std.proofs.Common.{◌≡◌, ℕ, suc, ◌<◌, ◌≤◌, ◌^◌, max, List, [], ◌∷◌, ◌++◌, Bool, true, false, Some}
 use Rattle.std.proofs.Common.{option_map, option_and_then, decimal, IsUtf8, refl, sym, ap, ap₂, ◌∙◌, append-nil}
 use Rattle.std.proofs.Common.{arith}
 use Rattle.std.proofs.lemmas.Fmt.{IsAscii-decimal}
@@ -35,6 +35,7 @@ FitsWord (float x) = ⊥
 
 -- numbers fit, texts are UTF-8, and keys are in order
 abbrev mutual
+  -- the same of one value
   pub IsReadable : Data → Type 0
   IsReadable null = Unit {0}
   IsReadable (boolean b) = Unit {0}
@@ -43,10 +44,12 @@ abbrev mutual
   IsReadable (array ds) = AreReadable ds
   IsReadable (object ms) = (put_each ms no_members ≡ ms) × MembersReadable ms
 
+  -- the same of each item
   pub AreReadable : Items → Type 0
   AreReadable no_items = Unit {0}
   AreReadable (item d ds) = IsReadable d × AreReadable ds
 
+  -- the same of each member
   pub MembersReadable : Members → Type 0
   MembersReadable no_members = Unit {0}
   MembersReadable (member k d ms) = (are_ascii k ≡ true) × IsReadable d × MembersReadable ms

@@ -1,4 +1,4 @@
--- The MAP of each entry that is read has bytes.
+-- The MAP of each entry that is read is well formed.
 use Rattle.std.proofs.Common.{◌≡◌, ℕ, ◌+◌, ◌^◌, Bool, true, false, cond, ◌||◌, List, Option, Some, None, Result, Ok}
 use Rattle.std.proofs.Common.{Err}
 use Rattle.std.proofs.Common.{refl, subst}
@@ -116,7 +116,7 @@ reply_of-encodable d =
     (either (bytes_eq kind (codes "flow")) (flow_reply d) _ (flow_reply-encodable d)
     (either (bytes_eq kind (codes "refused")) (refused_reply d) None (refused_reply-encodable d) tt))))))))
 
--- the MAP of an entry has bytes
+-- the MAP of an entry is well formed
 abbrev HasBytes : Entry → Type 0
 HasBytes e = IsEncodable e.reply
 
@@ -142,7 +142,7 @@ entries_of-encodable n (item d ds) =
     holds-bind (AllByRecursion HasBytes) (AllByRecursion HasBytes) (entries_of (n + 1) ds) _
     (entries_of-encodable (n + 1) ds) (λ entries others. (encodable, others)))
 
--- the MAP of each entry of a history has bytes
+-- the MAP of each entry of a history is well formed
 abbrev AllHaveBytes : History → Type 0
 AllHaveBytes history = AllByRecursion HasBytes history.entries
 

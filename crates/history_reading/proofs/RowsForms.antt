@@ -1,6 +1,6 @@
 -- The readers of an entry and of a reply take the objects of their forms and no others. The number of a refusal and its
 -- value are tested together behind their form (`refusal_with`).
-use Rattle.std.proofs.Common.{◌≡◌, ℕ, true, is_some, List, take, drop, codes, Option, Some, refl}
+use Rattle.std.proofs.Common.{◌≡◌, ℕ, true, is_some, take, drop, codes, Option, refl}
 use Rattle.serde_json.specs.Data.{Data, null, object, number, unsigned, string, put, no_members}
 use Rattle.json_fields.specs.declared.forms.Sort.{Sort}
 use Rattle.json_fields.specs.declared.forms.Sort.TheVariants.{Document, Config, Entry, Call, Flow, Reply}
@@ -9,7 +9,7 @@ use Rattle.json_fields.specs.Fields.{◌>>=◌, u16_at, u32_at, u64_at, number_a
 use Rattle.json_fields.proofs.FormRows.{takes_forms}
 use Rattle.call_reading.specs.Calls.{call_of, status_call}
 use Rattle.history_reading.specs.Replies.{number_below, numbers_of, numbers_at, placed_reply, admitted_reply, map_of}
-use Rattle.history_reading.specs.Replies.{map_at, map_reply, skipped_reply, flow_reply, u64_if, refused_reply, reply_of}
+use Rattle.history_reading.specs.Replies.{map_at, map_reply, skipped_reply, flow_reply, u64_if, reply_of}
 use Rattle.history_reading.specs.Replies.{entry_of}
 use Rattle.hex.specs.Hex.{decode_pairs}
 use Rattle.map_codec.specs.Element.{elements_in}

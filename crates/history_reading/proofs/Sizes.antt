@@ -101,6 +101,7 @@ tokens-length text = omega (arith, punctuate-length fresh (lex between text), le
 
 -- how many parts a value has: itself, and those of its items or members
 abbrev mutual
+  -- the parts of one value
   pub size : Data → ℕ
   size tree.null = 1
   size (tree.boolean b) = 1
@@ -109,10 +110,12 @@ abbrev mutual
   size (tree.array ds) = suc (items_size ds)
   size (tree.object ms) = suc (members_size ms)
 
+  -- the parts of some items
   pub items_size : Items → ℕ
   items_size no_items = 0
   items_size (item d ds) = size d + items_size ds
 
+  -- the parts of some members
   pub members_size : Members → ℕ
   members_size no_members = 0
   members_size (member k d ms) = size d + members_size ms

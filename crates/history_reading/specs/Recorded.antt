@@ -59,7 +59,7 @@ pub record GivesHistory (old new : Option (List ℕ)) (outcome : Result History 
   pub all : ReadsAll old new bytes
   pub outcome_is : history_outcome bytes ≡ outcome
 
--- why there is no history: want of memory and a failed read tell nothing more
+-- why there is no history: lack of memory and a failed read tell nothing more
 abbrev pub StopsHistory : Option (List ℕ) → Option (List ℕ) → TextFault → Type 0
 StopsHistory old new Input = Unit {0}
 StopsHistory old new TooLong = ReadsTooMany old new

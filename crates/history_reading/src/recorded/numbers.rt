@@ -25,8 +25,8 @@ fn number_u32<T: Tree>(value: &T) -> Option<u32>
 
 // The numbers that values are, where each fits.
 fn each_u16<T: Tree>(alloc: Global, values: &[T]) -> Result<Option<Vec<u16>>, AllocError>
-    ensures { IfOk result (λ numbers.
-        option_map (λ v. v.items) numbers ≡ numbers_of (2 ^ 16) (items_of (map T.shown values.now))) }
+    ensures { IfOk result (λ numbers. option_map (λ v. v.items) numbers
+        ≡ numbers_of (2 ^ 16) (items_of (map T.shown values.now))) }
 {
     let mut numbers = Vec::with_capacity(alloc, values.len())?;
     for value in values {
@@ -40,8 +40,8 @@ fn each_u16<T: Tree>(alloc: Global, values: &[T]) -> Result<Option<Vec<u16>>, Al
 
 // The numbers that values are, where each fits.
 fn each_u32<T: Tree>(alloc: Global, values: &[T]) -> Result<Option<Vec<u32>>, AllocError>
-    ensures { IfOk result (λ numbers.
-        option_map (λ v. v.items) numbers ≡ numbers_of (2 ^ 32) (items_of (map T.shown values.now))) }
+    ensures { IfOk result (λ numbers. option_map (λ v. v.items) numbers
+        ≡ numbers_of (2 ^ 32) (items_of (map T.shown values.now))) }
 {
     let mut numbers = Vec::with_capacity(alloc, values.len())?;
     for value in values {

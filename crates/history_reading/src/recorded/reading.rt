@@ -34,7 +34,8 @@ fn history_of_text(alloc: Global, bytes: &[u8]) -> Result<Recorded, TextFault>
 // The history that a text stands for, where its configuration is lawful.
 #[tactic(auto, using(crate::proofs::Documents::history_tested_behind))]
 fn history_in(alloc: Global, bytes: &[u8]) -> Result<(Checked, Vec<Entry>), TextFault>
-    ensures { Gives (λ r. record { config = r.0; entries = r.1.items }) result (history_in bytes.now) }
+    ensures { Gives (λ r. record { config = r.0; entries = r.1.items }) result
+        (history_in bytes.now) }
 {
     let Recorded { config, entries } = history_of_text(alloc, bytes)?;
     let config = config.check()?;
@@ -43,7 +44,7 @@ fn history_in(alloc: Global, bytes: &[u8]) -> Result<(Checked, Vec<Entry>), Text
 
 /// The configuration and the entries of the history in a reader, of which all bytes are read. The faults come in
 /// the order of [`TextFault`]: a fault of shape at any entry comes before a wrong configuration. Nothing says that
-/// an entry may follow those before it, but its MAP has bytes where it has one.
+/// an entry may follow those before it, but its MAP is well formed where it has one.
 pub fn read_history<R: Source>(
     alloc: Global,
     reader: &mut R,
@@ -54,7 +55,8 @@ pub fn read_history<R: Source>(
     ensures few { IfOk result (λ r. vec_len r.1 ≤ MAX_ENTRIES) }
     ensures stops { IfErr result
         (StopsHistory (R.remaining reader.old) (R.remaining reader.new)) }
-    ensures failed { FailsBy TextFault.Input result (R.has_failed reader.old) (R.has_failed reader.new) }
+    ensures failed { FailsBy TextFault.Input result
+        (R.has_failed reader.old) (R.has_failed reader.new) }
 {
     let bytes = read_all(alloc, reader)?;
     history_in(alloc, &bytes)
