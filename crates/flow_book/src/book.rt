@@ -1,8 +1,7 @@
 //! The live flows of a channel, in order of SID.
 
 ghost use Rattle.std.specs.Prelude.{◌≡◌, ◌≢◌, ℕ, ◌+◌, ◌<◌, ◌≤◌, ◌^◌, ◌==◌, [], length, IfOk, OnOk, OnErr, IfSome};
-ghost use Rattle.std.specs.Prelude.{IsSomeAnd, MatchOption, map, option_map, slice_get, nat_lt, position, find};
-ghost use Rattle.std.specs.Prelude.{option_copied};
+ghost use Rattle.std.specs.Prelude.{IsSomeAnd, MatchOption, map, option_map, slice_get, nat_lt, position};
 ghost use Rattle.std.specs.List.{AllByRecursion};
 ghost use Rattle.minislots.specs.Units.{slots_for};
 ghost use Rattle.flow_book.specs.Flows.{flow_of, outstanding, with_grant};

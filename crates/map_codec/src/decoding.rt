@@ -1,6 +1,6 @@
 //! The reading of a payload.
 
-ghost use Rattle.std.specs.Prelude.{◌≡◌, ◌+◌, ◌*◌, ◌<◌, ◌≤◌, ◌++◌, length, drop, IfOk, IfErr, OnOk};
+ghost use Rattle.std.specs.Prelude.{◌≡◌, ◌+◌, ◌*◌, ◌<◌, ◌≤◌, length, drop, IfOk, IfErr, OnOk};
 ghost use Rattle.map_codec.specs.declared.wire_map.WireMap.{WireMap};
 ghost use Rattle.map_codec.specs.Element.{element_at, elements_in};
 ghost use Rattle.map_codec.specs.WireMap.{map_in, spelling, IsWellFormed, HasOneValue, IsReadBack};

@@ -1,6 +1,6 @@
 //! The legend of a drawing, and the whole of it.
 
-ghost use Rattle.std.specs.Prelude.{◌≡◌, ◌+◌, ◌<◌, ◌≤◌, ◌++◌, length, flat_map, OnOk, IfOk};
+ghost use Rattle.std.specs.Prelude.{◌≡◌, ◌+◌, ◌<◌, ◌++◌, length, flat_map, OnOk, IfOk};
 ghost use Rattle.map_codec.specs.WireMap.{IsWellFormed};
 ghost use Rattle.map_codec.specs.Element.{nulls};
 ghost use Rattle.map_drawing.specs.Legend.{usage_end, state_of, allocation_line, allocation_lines};

@@ -1,6 +1,6 @@
 //! A frame in rows of characters, one for each minislot.
 
-ghost use Rattle.std.specs.Prelude.{◌≡◌, ◌+◌, ◌-◌, ◌*◌, ◌<◌, ◌≤◌, ◌++◌, length, OnOk, codes};
+ghost use Rattle.std.specs.Prelude.{◌≡◌, ◌+◌, ◌-◌, ◌*◌, ◌<◌, ◌≤◌, ◌++◌, OnOk};
 ghost use Rattle.map_drawing.specs.Rows.{letter_of, begun, character_at, characters, row_slots, row_text, rows_text};
 ghost use Rattle.map_drawing.specs.Rows.{ShowsEachOnce};
 

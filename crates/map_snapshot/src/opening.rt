@@ -1,5 +1,5 @@
 //! How a press is opened.
-ghost use Rattle.std.specs.Prelude.{◌≡◌, ◌<◌, ◌≤◌, [], length, replicate, Err, IfOk, IfErr};
+ghost use Rattle.std.specs.Prelude.{◌≡◌, ◌<◌, ◌≤◌, [], replicate, Err, IfOk, IfErr};
 ghost use Rattle.map_snapshot.specs.declared.opening.TheConstants.{MAX_READERS};
 ghost use Rattle.map_snapshot.specs.declared.fault.PressFault.TheVariants.{ReaderCount, Memory};
 ghost use Rattle.map_snapshot.specs.Maps.{unread};

@@ -1,6 +1,6 @@
 //! Whether a placement that is handed in is lawful beside those that stand.
 
-ghost use Rattle.std.specs.Prelude.{◌≡◌, ◌<◌, ◌≤◌, ◌+◌, ◌^◌, List, length, true, false, None};
+ghost use Rattle.std.specs.Prelude.{◌≡◌, ◌<◌, ◌+◌, ◌^◌, List, length, true, false, None};
 ghost use Rattle.flow_book.specs.FlowSpec.{is_periodic, first_fault};
 ghost use Rattle.periodic.specs.Placement.{Placed, IsPlacement};
 ghost use Rattle.periodic.specs.Rows.{AreRowsOf};

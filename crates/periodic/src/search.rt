@@ -1,7 +1,7 @@
 //! The search for a placement: the least phase, then the least offset, then the least starts in each
 //! nominal frame.
 
-ghost use Rattle.std.specs.Prelude.{◌≡◌, ℕ, ◌<◌, ◌≤◌, ◌+◌, ◌*◌, ◌^◌, ◌%◌, List, ◌++◌, length, take, true, None};
+ghost use Rattle.std.specs.Prelude.{◌≡◌, ℕ, ◌<◌, ◌≤◌, ◌+◌, ◌*◌, ◌^◌, ◌%◌, List, length, take, true, None};
 ghost use Rattle.std.specs.Prelude.{IfSome, IfNone, IfOk, IfErr};
 ghost use Rattle.minislots.specs.Config.{IsLawful};
 ghost use Rattle.flow_book.specs.FlowSpec.{is_periodic, first_fault};

@@ -1,6 +1,6 @@
 //! A history that somebody hands in, judged.
 
-ghost use Rattle.std.specs.Prelude.{◌≡◌, ◌≤◌, ℕ, length, OnOk, IsErrOf};
+ghost use Rattle.std.specs.Prelude.{◌≤◌, ℕ, length, OnOk, IsErrOf};
 ghost use Rattle.sched_history.specs.declared.reply.TheConstants.{MAX_ENTRIES};
 ghost use Rattle.sched_history.specs.History.{IsLegal};
 ghost use Rattle.sched_history.specs.Audit.{IsFirstIllegal};

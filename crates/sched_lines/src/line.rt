@@ -1,11 +1,11 @@
 //! The lines of a run: one for the answer to each call.
 
-ghost use Rattle.std.specs.Prelude.{◌≡◌, ◌*◌, ◌≤◌, ◌++◌, [], ◌∷◌, length, take, codes, decimal, Option};
+ghost use Rattle.std.specs.Prelude.{◌≡◌, ◌*◌, ◌≤◌, ◌++◌, length, Option};
 ghost use Rattle.std.specs.Prelude.{Some};
 ghost use Rattle.map_codec.specs.WireMap.{IsWellFormed, spelling};
 ghost use Rattle.hex.specs.Hex.{encode_lower};
 ghost use Rattle.sched_lines.specs.Line.{number_text, numbers_text, fault_number, refusal_number, refusal_value};
-ghost use Rattle.sched_lines.specs.Line.{value_text, reply_text, answer_text, line_of, HasLine};
+ghost use Rattle.sched_lines.specs.Line.{reply_text, answer_text, line_of, HasLine};
 ghost use Rattle.sched_history.specs.Machine.{IsEncodable};
 ghost use Rattle.text_stream.specs.Writing.{Writes};
 

@@ -1,7 +1,5 @@
 //! The present of a history: what is kept of it, beside the ledger of its entries.
 
-ghost use Rattle.std.specs.Prelude.{◌≡◌};
-
 use super::state::State;
 use crate::ledger::Ledger;
 use std::marker::Model;

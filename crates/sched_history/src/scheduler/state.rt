@@ -1,7 +1,7 @@
 //! What the scheduler keeps of the present, so that no call reads the history again.
 
 ghost use Rattle.std.specs.Prelude.{◌≡◌, ◌≢◌, ◌+◌, ◌/◌, ◌%◌, ◌<◌, ◌≤◌, ◌^◌, ◌==◌, [], true, None};
-ghost use Rattle.std.specs.Prelude.{List, length, take, find, IfOk, OnErr, OnOk, IfSome, IsErrOf};
+ghost use Rattle.std.specs.Prelude.{List, take, find, IfOk, OnErr, OnOk, IfSome, IsErrOf};
 ghost use Rattle.std.specs.List.{AllByRecursion};
 ghost use Rattle.map_codec.specs.WireMap.{IsWellFormed};
 ghost use Rattle.flow_book.specs.FlowSpec.{is_periodic, grants_of, first_fault};
