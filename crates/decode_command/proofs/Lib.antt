@@ -1,1 +1,3 @@
 pub mod RowsStops
+pub mod FrameKinds
+pub mod Addresses

@@ -2,9 +2,11 @@
 #![tactic(auto)]
 
 mod explained_fault;
+mod frame;
 mod shown;
 mod table;
 
 pub use explained_fault::decode_explained;
-pub use shown::show_text;
+pub use frame::decode_frame;
+pub use shown::{show_frame, show_text};
 pub use table::{decode_text, put_table};

@@ -2,6 +2,7 @@
 //! flush, and the environment.
 
 use crate::explained_fault::decode_explained;
+use crate::frame::decode_frame;
 use crate::table::decode_text;
 use std::io;
 use std::rt::Env;
@@ -14,6 +15,25 @@ fn columns_told(rt: &impl Env) -> Option<u16> {
     str::from_utf8(digits.get(..len)?).ok()?.parse().ok()
 }
 
+// The columns of a drawing, where one is asked for: so many, or those of the terminal, or 80.
+fn columns_of(rt: &impl Env, is_drawn: bool, columns: Option<u16>) -> Option<u16> {
+    if !is_drawn {
+        return None;
+    }
+    columns.or_else(|| columns_told(rt)).or(Some(80))
+}
+
+/// The command `decode` with a whole frame: whether the text is one.
+pub fn show_frame(
+    rt: &(impl Print + Env + AllocGlobal),
+    text: &str,
+    is_drawn: bool,
+    columns: Option<u16>,
+) -> Result<bool, RunFault> {
+    let columns = columns_of(rt, is_drawn, columns);
+    decode_frame(rt.alloc(), text, columns, &mut Watched::new(io::writer(rt)))
+}
+
 /// The command `decode`: whether the text is a payload. A drawing has so many columns, or those of the terminal, or
 /// 80; a fault is explained where that is asked for.
 pub fn show_text(
@@ -23,11 +43,7 @@ pub fn show_text(
     columns: Option<u16>,
     is_explained: bool,
 ) -> Result<bool, RunFault> {
-    let columns = if is_drawn {
-        columns.or_else(|| columns_told(rt)).or(Some(80))
-    } else {
-        None
-    };
+    let columns = columns_of(rt, is_drawn, columns);
     let mut writer = Watched::new(io::writer(rt));
     if is_explained {
         return decode_explained(rt.alloc(), text, columns, &mut writer);

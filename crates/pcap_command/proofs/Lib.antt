@@ -1,0 +1,2 @@
+pub mod OnWire
+pub mod Times

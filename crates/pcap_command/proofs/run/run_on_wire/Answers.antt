@@ -1,0 +1,16 @@
+-- The script that was read was run.
+use Rattle.std.proofs.Common.{◌≡◌, ap}
+use Rattle.sched_history.specs.Machine.{Machine}
+use Rattle.pcap_command.specs.Ran.{PutsOnWire}
+use Rattle.pcap_command.proofs.run.run_on_wire.Goals as goal
+
+pub returns-clause-ok : goal.returns-clause-ok
+returns-clause-ok g c =
+    let opened : c.in-Ok.scheduler.config ≡ c.in_ok-config.config = ap (λ (m : Machine). m.config) c.in-Ok.ensures in
+    let puts : PutsOnWire _ _ c.in_ok-config.config c.in_ok-config.calls.items _ _ _ =
+    rw (opened, c.deref.ensures.value) at c.in_ok-unrecorded.ensures.ok in
+    record {
+      scenario = record { config = c.in_ok-config.config; calls = c.in_ok-config.calls.items };
+      read = c.in_ok-config.ensures.ok;
+      answered = puts;
+    }

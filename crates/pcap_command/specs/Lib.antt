@@ -1,0 +1,4 @@
+pub mod Address
+pub mod Capture
+pub mod Items
+pub mod Ran

@@ -1,0 +1,14 @@
+//! The run of a script on the channel: the whole frame of each MAP, in lines or in a capture.
+#![tactic(auto)]
+
+mod address;
+mod buffer;
+mod input;
+mod output;
+mod packet;
+mod run;
+
+pub use address::{ADDRESS, address_of};
+pub use input::{frames_input, pcap_input};
+pub use output::WireOutput;
+pub use run::run_on_wire;
