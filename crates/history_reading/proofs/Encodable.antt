@@ -28,7 +28,7 @@ use Rattle.text_stream.specs.Outcome.{unless_wrong}
 use Rattle.history_reading.specs.Refusals.{refusal_with}
 use Rattle.history_reading.specs.Replies.{numbers_at, has, placed_reply, admitted_reply, map_of, map_at, map_reply}
 use Rattle.history_reading.specs.Replies.{skipped_reply, flow_reply, u64_if, refused_reply, reply_of, entry_of}
-use Rattle.history_reading.specs.Recorded.{History, entries_of, history_of, history_in}
+use Rattle.history_reading.specs.Recorded.{History, entries_of, entry_in, history_of, history_in}
 use Rattle.history_reading.proofs.FewEntries.{holds-bind, any as any_result}
 use Rattle.history_reading.proofs.Payload.{spelling-map_of}
 
@@ -120,7 +120,8 @@ reply_of-encodable d =
 abbrev HasBytes : Entry → Type 0
 HasBytes e = IsEncodable e.reply
 
-entry_of-encodable : (d : Data) → IfSome (entry_of d) HasBytes
+-- the MAP of an entry that was read has bytes
+pub entry_of-encodable : (d : Data) → IfSome (entry_of d) HasBytes
 unfolding entry_of
 entry_of-encodable d =
     then_any HasBytes (u32_at (codes "seat") d) _ (λ seat.
@@ -128,6 +129,11 @@ entry_of-encodable d =
     then_any HasBytes (get (codes "call") d >>= call_of) _ (λ call.
     bind IsEncodable HasBytes (get (codes "reply") d >>= reply_of) _
     (then_any IsEncodable (get (codes "reply") d) reply_of reply_of-encodable) (λ reply encodable. encodable))))
+
+-- and so has that of an entry that is a text of its own
+pub entry_in-encodable : (bytes : List ℕ) → IfSome (entry_in bytes) HasBytes
+unfolding entry_in
+entry_in-encodable bytes = then_any HasBytes (result_ok (value_of bytes)) entry_of entry_of-encodable
 
 found : (o : Option Entry) (fault : TextFault) → IfSome o HasBytes → IfOk (ok_or o fault) HasBytes
 found (Some e) fault h = h

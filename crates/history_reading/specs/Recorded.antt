@@ -1,6 +1,7 @@
 -- What the text of a history stands for: a configuration and entries, or the first fault.
 use Rattle.std.specs.Prelude.{◌≡◌, ℕ, ◌+◌, nat_lt, if◌then◌else◌, List, [], ◌∷◌, length, codes, option_and_then, ok_or}
 use Rattle.std.specs.Prelude.{Option, Result, Ok, Err}
+use Rattle.std.specs.Result.{result_ok}
 use Rattle.serde_json.specs.Data.{Data, Items, no_items, item}
 use Rattle.serde_json.specs.Find.{get, as_array}
 use Rattle.minislots.specs.declared.config.Config.{Config as Configuration}
@@ -48,6 +49,10 @@ history_in bytes = do
   value ← value_of bytes
   history ← history_of value
   unless_wrong (first_wrong history.config) history
+
+-- the entry that a text is
+unfoldable pub entry_in : List ℕ → Option Entry
+entry_in bytes = option_and_then entry_of (result_ok (value_of bytes))
 
 -- what the bytes of an input stand for
 unfoldable pub history_outcome : List ℕ → Result History TextFault

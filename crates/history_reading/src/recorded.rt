@@ -9,6 +9,7 @@ mod numbers;
 mod reading;
 mod refusal;
 mod reply;
+mod single;
 
 use entry::entry_of;
 use json_fields::{config_in, member};
@@ -16,6 +17,7 @@ use minislots::Config;
 pub use reading::read_history;
 use sched_history::Entry;
 use serde_json::Value;
+pub use single::entry_in;
 use std::alloc::Global;
 use text_stream::TextFault;
 

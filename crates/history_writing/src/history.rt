@@ -15,7 +15,7 @@ mod count;
 mod reply;
 
 use call::put_call;
-use config::put_config;
+pub use config::put_config;
 use count::put_counts;
 use json::Writer;
 use minislots::Config;
@@ -27,9 +27,9 @@ use text_stream::{Sink, TextFault, put};
 // The keys of a stamp.
 static STAMP: [&str; 2] = ["seat", "ticket"];
 
-// Writes an entry: its call, its reply and its stamp.
+/// Writes an entry: its call, its reply and its stamp. Nothing is said of what a want of memory leaves of its tokens.
 #[tactic(auto, unfolding(crate::specs::HistoryText::entry_data))]
-fn put_entry(out: &mut Writer, alloc: Global, entry: &Entry) -> Result<(), AllocError>
+pub fn put_entry(out: &mut Writer, alloc: Global, entry: &Entry) -> Result<(), AllocError>
     requires { IsEncodable entry.now.reply }
     ensures ok { OnOk result (out.new.tokens ≡ out.old.tokens ++ tokens_of (entry_data entry.now)) }
     ensures before { out.new.before ≡ out.old.before }

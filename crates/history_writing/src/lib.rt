@@ -3,4 +3,4 @@
 
 mod history;
 
-pub use history::put_history;
+pub use history::{put_config, put_entry, put_history};

@@ -1,0 +1,6 @@
+//! The journals that are written.
+#![tactic(auto)]
+
+mod journal;
+
+pub use journal::{add_entry, opening_text, put_journal};
