@@ -1,5 +1,5 @@
 -- What a reader of lines tells, and what it has at hand.
-use Rattle.std.specs.Prelude.{◌≡◌, ℕ, ◌-◌, ◌^◌, ◌<◌, ◌≤◌, List, [], ◌∷◌, ◌++◌, length, Option}
+use Rattle.std.specs.Prelude.{◌≡◌, ℕ, ◌-◌, ◌^◌, ◌<◌, ◌≤◌, List, [], ◌∷◌, ◌++◌, length, min, Option}
 use Rattle.std.specs.Io.KnownBytes.{Consumes, IsAtEnd, prepend_known}
 use Rattle.text_stream.specs.declared.fault.TextFault.{TextFault}
 use Rattle.text_stream.specs.declared.fault.TextFault.TheVariants.{Input, TooLong, NotJson, Shape, Config, Memory}
@@ -7,6 +7,8 @@ use Rattle.text_stream.specs.declared.fault.TextFault.TheVariants.{Output}
 use Rattle.line_stream.specs.declared.TheConstants.{NEWLINE, MAX_LINE}
 use Rattle.line_stream.specs.declared.Told.{Told}
 use Rattle.line_stream.specs.declared.Told.TheVariants.{Line, Long}
+use Rattle.line_stream.specs.declared.Whole.{Whole}
+use Rattle.line_stream.specs.declared.Whole.TheVariants as whole
 use Rattle.line_stream.specs.Lines.{IsWithinLine, TakesLines}
 
 -- the bytes that were read and are in no line that was told, and the line that was told last, where it is not long
@@ -37,9 +39,35 @@ pub record TellsNext (before after : Option (List ℕ)) (new : AtHand) (told : T
   pub taken : TakesLines before (line ∷ []) after
   pub is : IsTold line told new.line
 
+-- The next line of what was not told is told, and a newline ends it
+pub record TellsWhole (before after : Option (List ℕ)) (new : AtHand) (told : Told) : Type 0 where
+  pub line : List ℕ
+  pub within : IsWithinLine line
+  pub taken : Consumes before after (line ++ NEWLINE ∷ [])
+  pub is : IsTold line told new.line
+
+-- No newline was left, but so many bytes; the number stops at the greatest of 64 bits
+pub record IsTorn (before after : Option (List ℕ)) (count : ℕ) : Type 0 where
+  pub bytes : List ℕ
+  pub within : IsWithinLine bytes
+  pub taken : Consumes before after bytes
+  pub ended : IsAtEnd after
+  pub count_is : count ≡ min (length bytes) (2 ^ 64 - 1)
+
+-- what comes of a line that a newline ends
+abbrev pub whole_of : Told → Whole
+whole_of Line = whole.Line
+whole_of Long = whole.Long
+
+-- what comes next: a line that a newline ends, or the end
+abbrev pub IsWhole : Option (List ℕ) → Option (List ℕ) → AtHand → Whole → Type 0
+IsWhole before after new whole.Line = TellsWhole before after new Line
+IsWhole before after new whole.Long = TellsWhole before after new Long
+IsWhole before after new (whole.Torn count) = IsTorn before after count
+
 -- Nothing was left to tell
 abbrev pub HasEnded : Option (List ℕ) → Option (List ℕ) → Type 0
-HasEnded before after = IsAtEnd before × IsAtEnd after
+HasEnded before after = IsAtEnd before × IsAtEnd after × Consumes before after []
 
 -- These are the bytes that were in no line that was told and were read, and no newline is among them
 pub record HasNoEnd (before left : Option (List ℕ)) : Type 0 where

@@ -21,3 +21,14 @@ pub enum Told {
     /// The line has more bytes, all of which were passed.
     Long,
 }
+
+/// What comes next of lines that a newline ends.
+#[derive(Clone, Copy, Debug, PartialEq, Eq)]
+pub enum Whole {
+    /// A line of at most 65536 bytes, which are shown.
+    Line,
+    /// A line of more bytes, all of which were passed.
+    Long,
+    /// The end: behind the last newline stand so many bytes, of which nothing is shown. The number stops at `u64::MAX`.
+    Torn(u64),
+}

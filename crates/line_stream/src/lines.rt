@@ -2,11 +2,12 @@
 
 ghost use Rattle.std.specs.Prelude.{◌≡◌, [], IfOk, IfErr, MatchOption};
 ghost use Rattle.line_stream.specs.Lines.{IsWithinLine};
-ghost use Rattle.line_stream.specs.Told.{untold, TellsAtHand, TellsNext, HasEnded, StopsLine};
+ghost use Rattle.line_stream.specs.Piece.{TellsCut, whole_cut};
+ghost use Rattle.line_stream.specs.Told.{untold, TellsAtHand, TellsNext, HasEnded, StopsLine, whole_of, IsWhole};
 ghost use Rattle.text_stream.specs.Watched.{FailsBy};
 
-use crate::piece::{Bytes, PIECE, drop_front, read_line};
-use crate::{NEWLINE, Told};
+use crate::piece::{Bytes, Cut, PIECE, drop_front, read_line};
+use crate::{NEWLINE, Told, Whole};
 use arrayvec::ArrayVec;
 use memchr::memchr;
 use std::marker::Model;
@@ -35,6 +36,26 @@ impl Model for Lines {
     ghost view = { at_hand };
 
     ghost invariant = { IsSound };
+}
+
+// What comes of a line that a newline ends.
+fn whole_of(told: Told) -> Whole
+    ensures { result ≡ whole_of told }
+{
+    match told {
+        Told::Line => Whole::Line,
+        Told::Long => Whole::Long,
+    }
+}
+
+// What comes of a line that was read.
+fn whole_cut(cut: Cut) -> Whole
+    ensures { result ≡ whole_cut cut }
+{
+    match cut.torn {
+        Some(count) => Whole::Torn(count),
+        None => whole_of(cut.told),
+    }
 }
 
 impl Lines {
@@ -77,6 +98,43 @@ impl Lines {
         if let Some(told) = self.at_hand() {
             return Ok(Some(told));
         }
+        match self.read_on(reader) {
+            Ok(Some(cut)) => Ok(Some(cut.told)),
+            Ok(None) => Ok(None),
+            Err(fault) => Err(fault),
+        }
+    }
+
+    /// Tells the next line that a newline ends, for which it reads where not all of it is at hand; at the end of the
+    /// input, how many bytes stand behind the last newline. A read that fails ends it, as in [`Lines::next`].
+    pub fn next_whole<R: Source>(&mut self, reader: &mut R) -> Result<Whole, TextFault>
+        ensures whole { IfOk result (IsWhole (untold self.old (R.remaining reader.old))
+            (untold self.new (R.remaining reader.new)) self.new) }
+        ensures stops { IfErr result
+            (StopsLine (untold self.old (R.remaining reader.old)) (R.remaining reader.new)) }
+        ensures failed { FailsBy TextFault.Input result (R.has_failed reader.old) (R.has_failed reader.new) }
+    {
+        if let Some(told) = self.at_hand() {
+            return Ok(whole_of(told));
+        }
+        match self.read_on(reader) {
+            Ok(Some(cut)) => Ok(whole_cut(cut)),
+            Ok(None) => Ok(Whole::Torn(0)),
+            Err(fault) => Err(fault),
+        }
+    }
+
+    // Reads the next line, the front of which is all that is at hand.
+    fn read_on<R: Source>(&mut self, reader: &mut R) -> Result<Option<Cut>, TextFault>
+        requires { IsWithinLine self.old.bytes }
+        ensures told { IfOk result (λ cut. MatchOption cut
+            (HasEnded (untold self.old (R.remaining reader.old)) (untold self.new (R.remaining reader.new)))
+            (TellsCut (untold self.old (R.remaining reader.old)) (untold self.new (R.remaining reader.new))
+            self.new)) }
+        ensures stops { IfErr result
+            (StopsLine (untold self.old (R.remaining reader.old)) (R.remaining reader.new)) }
+        ensures failed { FailsBy TextFault.Input result (R.has_failed reader.old) (R.has_failed reader.new) }
+    {
         drop_front(&mut self.bytes, self.next);
         self.line = 0;
         self.end = 0;
@@ -85,7 +143,7 @@ impl Lines {
             Ok(Some(cut)) => {
                 self.end = cut.end;
                 self.next = cut.next;
-                Ok(Some(cut.told))
+                Ok(Some(cut))
             }
             Ok(None) => Ok(None),
             Err(fault) => Err(fault),

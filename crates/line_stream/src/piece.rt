@@ -1,6 +1,6 @@
 //! Bytes that are read piece by piece until a line ends.
 
-ghost use Rattle.std.specs.Prelude.{◌≡◌, ◌+◌, ◌≤◌, ◌<◌, List, ℕ, [], ◌∷◌, ◌++◌, take, drop, length, IfOk, IfErr};
+ghost use Rattle.std.specs.Prelude.{◌≡◌, ◌+◌, ◌≤◌, ◌<◌, List, ℕ, [], ◌∷◌, ◌++◌, take, drop, length, IfOk, IfErr, IfSome, Some, None};
 ghost use Rattle.std.specs.Prelude.{slice_index};
 ghost use Rattle.std.specs.Io.KnownBytes.{prepend_known};
 ghost use Rattle.line_stream.specs.declared.TheConstants.{MAX_LINE, NEWLINE};
@@ -33,6 +33,8 @@ pub(crate) struct Cut {
     pub end: usize,
     // Where the bytes behind it begin.
     pub next: usize,
+    // How many bytes it has, where no newline ends it.
+    pub torn: Option<u64>,
 }
 
 // Lets go of so many bytes at the front.
@@ -72,7 +74,8 @@ fn end_line(bytes: &mut Bytes, is_long: bool, piece: &[u8], at: usize) -> Cut
     requires kept { length bytes.old.items ≤ MAX_LINE }
     requires piece { length piece.now ≤ PIECE }
     requires place { at < length piece.now }
-    ensures { (front : List ℕ) → IsHeld front is_long bytes.old.items →
+    ensures torn { result.torn ≡ None }
+    ensures cuts { (front : List ℕ) → IsHeld front is_long bytes.old.items →
         IsCut (front ++ take at piece.now) (drop (at + 1) piece.now) bytes.new.items result }
 {
     let end = bytes.len() + at;
@@ -81,12 +84,14 @@ fn end_line(bytes: &mut Bytes, is_long: bool, piece: &[u8], at: usize) -> Cut
         told: told_of(is_long || end > MAX_LINE),
         end,
         next: end + 1,
+        torn: None,
     }
 }
 
-// Ends the last line, which no newline ends, where it has bytes.
-fn last(bytes: &Bytes, is_long: bool) -> Option<Cut>
-    ensures { (front : List ℕ) → IsHeld front is_long bytes.now.items → IsLast front bytes.now.items result }
+// Ends the last line, which no newline ends, where it has bytes: so many.
+fn last(bytes: &Bytes, is_long: bool, count: u64) -> Option<Cut>
+    ensures torn { IfSome result (λ c. c.torn ≡ Some count) }
+    ensures cuts { (front : List ℕ) → IsHeld front is_long bytes.now.items → IsLast front bytes.now.items result }
 {
     let len = bytes.len();
     if len == 0 && !is_long {
@@ -96,6 +101,7 @@ fn last(bytes: &Bytes, is_long: bool) -> Option<Cut>
         told: told_of(is_long),
         end: len,
         next: len,
+        torn: Some(count),
     })
 }
 
@@ -116,17 +122,21 @@ pub(crate) fn read_line<R: Source>(
     ensures failed { FailsBy TextFault.Input result (R.has_failed reader.old) (R.has_failed reader.new) }
 {
     let mut is_long = false;
+    let mut count = bytes.len() as u64;
     for _ in 0..u64::MAX {
         let Ok(len) = reader.read_some(piece) else {
             return Err(TextFault::Input);
         };
         if len == 0 {
-            return Ok(last(bytes, is_long));
+            return Ok(last(bytes, is_long, count));
         }
         let read = &piece[..len];
         match memchr(NEWLINE, read) {
             Some(at) => return Ok(Some(end_line(bytes, is_long, read, at))),
-            None => is_long = keep(bytes, is_long, read),
+            None => {
+                is_long = keep(bytes, is_long, read);
+                count = count.saturating_add(len as u64);
+            }
         }
     }
     Err(TextFault::TooLong)

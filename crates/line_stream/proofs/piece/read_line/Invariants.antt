@@ -8,7 +8,7 @@ use Rattle.line_stream.proofs.piece.read_line.Given as goal
 abbrev pub invariant-loop : goal.invariant-loop
 invariant-loop g l = record {
   reads : Reads (prepend_known l.fn.bytes.items (g.R.Source.remaining l.fn.reader)) (g.R.Source.remaining l.reader)
-      l.is_long l.bytes.items l.counter;
+      l.is_long l.bytes.items l.counter l.count;
   piece : length l.piece ≡ PIECE;
   unfailed : g.R.Source.has_failed l.reader ≡ g.R.Source.has_failed l.fn.reader;
 }
