@@ -15,7 +15,7 @@ pub record DrawnHistory (span : Span) (unread left written_before written_after 
   pub read : GivesHistory unread left (Ok history)
   pub written : Appends written_before written_after (picture_text history.config span history.entries)
 
--- why a drawing of a history ends: a write is tried only after a whole history was read; want of memory and a failed
+-- why a drawing of a history ends: a write is tried only after a whole history was read; lack of memory and a failed
 -- read tell nothing more
 abbrev pub StopsHistoryDrawing : Option (List ℕ) → Option (List ℕ) → RunFault → Type 0
 StopsHistoryDrawing unread left (Text Input) = StopsHistory unread left Input

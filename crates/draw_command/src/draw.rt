@@ -50,10 +50,11 @@ fn draw_calls<W: Sink>(
     requires whole { scheduler.old.handed ≡ 0 }
     requires same { config.now ≡ scheduler.old.config }
 
-    ensures ok { IfOk result (DrawsLeaving scheduler.old.config span calls.now (W.contents writer.old)
-        (W.contents writer.new)) }
+    ensures ok { IfOk result (DrawsLeaving scheduler.old.config span calls.now
+        (W.contents writer.old) (W.contents writer.new)) }
     ensures err { IfErr result (λ e. (e ≡ TextFault.Memory) ⊎ (e ≡ TextFault.Output)) }
-    ensures failed { FailsBy TextFault.Output result (W.has_failed writer.old) (W.has_failed writer.new) }
+    ensures failed { FailsBy TextFault.Output result
+        (W.has_failed writer.old) (W.has_failed writer.new) }
     ensures quiet { IfErr result (λ e. e ≢ TextFault.Output → writer.new ≡ writer.old) }
 {
     make_whole(scheduler, calls)?;
@@ -80,8 +81,10 @@ pub fn draw_counting<R: Source, W: Sink>(
     ensures quiet { WritesLast result writer.old writer.new }
 
     // A failed read or write is told where one has failed, and where all went well none did.
-    ensures failed_read { TellsFailedRead result (R.has_failed reader.old) (R.has_failed reader.new) }
-    ensures failed_write { TellsFailedWrite result (W.has_failed writer.old) (W.has_failed writer.new) }
+    ensures failed_read { TellsFailedRead result
+        (R.has_failed reader.old) (R.has_failed reader.new) }
+    ensures failed_write { TellsFailedWrite result
+        (W.has_failed writer.old) (W.has_failed writer.new) }
 {
     let (config, calls) = read_script(alloc, reader)?;
     let Ok(mut scheduler) = Scheduler::open(alloc, config) else {
@@ -110,8 +113,10 @@ pub fn draw_script<R: Source, W: Sink>(
     ensures quiet { WritesLast result writer.old writer.new }
 
     // A failed read or write is told where one has failed, and where all went well none did.
-    ensures failed_read { TellsFailedRead result (R.has_failed reader.old) (R.has_failed reader.new) }
-    ensures failed_write { TellsFailedWrite result (W.has_failed writer.old) (W.has_failed writer.new) }
+    ensures failed_read { TellsFailedRead result
+        (R.has_failed reader.old) (R.has_failed reader.new) }
+    ensures failed_write { TellsFailedWrite result
+        (W.has_failed writer.old) (W.has_failed writer.new) }
 {
     draw_counting(alloc, reader, span, writer)?;
     Ok(())

@@ -10,7 +10,8 @@ use std::alloc::Global;
 use text_stream::{RunFault, Sink, Source};
 
 /// Reads a history, a configuration and entries in JSON, to the reader's end, and writes the picture of its frames in
-/// this span in SVG, as they stand, whether it is legal or not. Nothing is written before another fault than one of output.
+/// this span in SVG, as they stand, whether it is legal or not. Nothing is written before another fault than one of
+/// output.
 pub fn draw_history<R: Source, W: Sink>(
     alloc: Global,
     reader: &mut R,
@@ -22,12 +23,15 @@ pub fn draw_history<R: Source, W: Sink>(
         (W.contents writer.old) (W.contents writer.new)) }
 
     // Each fault comes under its own condition, the first one in their order.
-    ensures stops { IfErr result (StopsHistoryDrawing (R.remaining reader.old) (R.remaining reader.new)) }
+    ensures stops { IfErr result
+        (StopsHistoryDrawing (R.remaining reader.old) (R.remaining reader.new)) }
     ensures quiet { WritesLast result writer.old writer.new }
 
     // A failed read or write is told where one has failed, and where all went well none did.
-    ensures failed_read { TellsFailedRead result (R.has_failed reader.old) (R.has_failed reader.new) }
-    ensures failed_write { TellsFailedWrite result (W.has_failed writer.old) (W.has_failed writer.new) }
+    ensures failed_read { TellsFailedRead result
+        (R.has_failed reader.old) (R.has_failed reader.new) }
+    ensures failed_write { TellsFailedWrite result
+        (W.has_failed writer.old) (W.has_failed writer.new) }
 {
     let (config, entries) = read_history(alloc, reader)?;
     put_picture(writer, &config, span, &entries)?;

@@ -4,6 +4,8 @@ use serde_json::Value;
 use std::alloc::{AllocError, Global};
 use std::fmt::Write;
 
+const NO_UTF8: &str = "these bytes are no UTF-8";
+
 // The line and the column of the byte behind so many, counted from 1.
 fn place_of(bytes: &[u8], before: usize) -> (u64, u64) {
     let (mut line, mut column) = (1u64, 1u64);
@@ -114,6 +116,12 @@ fn tell_stop(
     writeln!(words, "line {line}, column {column}: {what}")
 }
 
+// What is wrong, behind the line and the column of this byte.
+fn tell_at(words: &mut String, bytes: &[u8], index: usize, what: &str) -> Result<(), AllocError> {
+    let (line, column) = place_of(bytes, index);
+    writeln!(words, "line {line}, column {column}: {what}")
+}
+
 /// The line and the column at which bytes are no UTF-8, or else no JSON.
 pub fn tell_text(alloc: Global, words: &mut String, bytes: &[u8]) -> Result<(), AllocError> {
     let Some(last) = last_index(bytes, bytes.len()) else {
@@ -121,24 +129,12 @@ pub fn tell_text(alloc: Global, words: &mut String, bytes: &[u8]) -> Result<(), 
     };
     let text = match str::from_utf8(bytes) {
         Ok(text) => text,
-        Err(fault) => {
-            let (line, column) = place_of(bytes, fault.valid_up_to());
-            return writeln!(
-                words,
-                "line {line}, column {column}: these bytes are no UTF-8"
-            );
-        }
+        Err(fault) => return tell_at(words, bytes, fault.valid_up_to(), NO_UTF8),
     };
     match Value::from_str(alloc, text) {
         Ok(_) => Ok(()),
         Err(fault) if fault.is_memory() => Err(AllocError),
-        Err(fault) if fault.is_eof() => {
-            let (line, column) = place_of(bytes, last);
-            writeln!(
-                words,
-                "line {line}, column {column}: the text ends too early"
-            )
-        }
+        Err(fault) if fault.is_eof() => tell_at(words, bytes, last, "the text ends too early"),
         Err(fault) => {
             let length = length_to(bytes, fault.line() as u64, fault.column() as u64);
             tell_stop(alloc, words, bytes, length)

@@ -9,6 +9,7 @@ const MOST: u64 = 20;
 /// Lines on what is alike, and how many there would be.
 #[derive(Drop)]
 pub struct Lines {
+    /// The lines, each ended by a newline.
     pub words: String,
     count: u64,
 }

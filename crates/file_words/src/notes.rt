@@ -13,6 +13,7 @@ use std::fmt::Write;
 /// What is said of a file.
 #[derive(Drop)]
 pub struct Notes {
+    /// What memory is taken from.
     pub alloc: Global,
     /// What is wrong with the call or the entry that is looked at, or with the document.
     pub here: String,
@@ -24,8 +25,11 @@ pub struct Notes {
     pub repeated: Lines,
     /// Keys that nobody reads.
     pub unread: Lines,
+    /// How many calls there are of each name.
     pub calls: Counts,
+    /// How many admissions there are of each kind of flow.
     pub flows: Counts,
+    /// How many replies there are of each kind.
     pub replies: Counts,
 }
 

@@ -9,7 +9,9 @@ const LONGEST: usize = 40;
 /// A value in an object or an array, and its key as it is written, which is empty in an array.
 #[derive(Clone, Copy)]
 pub struct Part<'t> {
+    /// The key with its quotation marks, or nothing.
     pub key: &'t [u8],
+    /// The value, as it is written.
     pub value: &'t [u8],
 }
 

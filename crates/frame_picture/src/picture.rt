@@ -1,6 +1,6 @@
 //! The picture of a history's frames.
 
-ghost use Rattle.std.specs.Prelude.{◌≡◌, ◌+◌, ◌<◌, ◌≤◌, ◌∷◌, [], length, get_or, false, IfSome};
+ghost use Rattle.std.specs.Prelude.{◌≡◌, ◌+◌, ◌<◌, ◌≤◌, [], length, get_or, false, IfSome};
 ghost use Rattle.std.specs.List.{AllByRecursion};
 ghost use Rattle.sched_history.specs.History.{map_by};
 ghost use Rattle.sched_history.specs.Machine.{IsEncodable};

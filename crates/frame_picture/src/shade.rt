@@ -1,6 +1,6 @@
 //! The shades by which the flows of a kind are told apart.
 
-ghost use Rattle.std.specs.Prelude.{◌≡◌, ◌+◌, ◌<◌, ◌≤◌};
+ghost use Rattle.std.specs.Prelude.{◌≡◌, ◌+◌, ◌<◌};
 ghost use Rattle.frame_picture.specs.Shade.{shade_of, opacity_of, shade_rule, shade_rules, TellsShadesApart};
 ghost use Rattle.text_stream.specs.Writing.{Puts};
 

@@ -16,6 +16,7 @@ module _ (text : List ℕ) (left : Option (List ℕ)) where
   no_output_before_a_storm fault is (storm, gives) =
       let whole = storm-has text left (Ok storm) gives in absurd cc
 
+  -- what has a fault is not stopped by a thread that was not started
   pub no_thread_before_a_storm : (fault : TextFault) → storm_outcome text ≡ Err fault
       → StopsStorm (Some text) left Threads → ⊥
   no_thread_before_a_storm fault is (storm, gives) =

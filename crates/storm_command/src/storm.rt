@@ -33,7 +33,8 @@ pub fn run_storm<R: Starts + Wait + Sync, I: Source, W: Sink, G: Gate>(
     gate: &G,
 ) -> Result<bool, RunFault>
     // What was written is the lines of a tally of the scripts that were read, under this gate, and nothing else.
-    ensures ok { IfOk result (Stormed (G.lets_pass gate.now) (G.holds_back gate.now) (I.remaining reader.old)
+    ensures ok { IfOk result
+        (Stormed (G.lets_pass gate.now) (G.holds_back gate.now) (I.remaining reader.old)
         (I.remaining reader.new) (W.contents writer.old) (W.contents writer.new)) }
 
     // Each fault comes under its own condition, the first one in their order.
@@ -42,8 +43,10 @@ pub fn run_storm<R: Starts + Wait + Sync, I: Source, W: Sink, G: Gate>(
     ensures no_thread { IfErr result (λ e. e ≡ RunFault.Threads → R.lacks_thread) }
 
     // A failed read or write is told where one has failed, and where all went well none did.
-    ensures failed_read { TellsFailedRead result (I.has_failed reader.old) (I.has_failed reader.new) }
-    ensures failed_write { TellsFailedWrite result (W.has_failed writer.old) (W.has_failed writer.new) }
+    ensures failed_read { TellsFailedRead result
+        (I.has_failed reader.old) (I.has_failed reader.new) }
+    ensures failed_write { TellsFailedWrite result
+        (W.has_failed writer.old) (W.has_failed writer.new) }
 {
     let (config, scripts) = read_storm(alloc, reader)?;
     let workers = scripts.len();
