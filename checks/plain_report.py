@@ -6,7 +6,6 @@ REQUEST, INITIAL, STATION, NULL = 1, 3, 4, 7
 ALL_MODEMS = 0x3FFF
 CALLS = ("admit", "ask", "build", "heard", "remove", "skip", "status")
 USES = ("data", "idle", "opportunity", "poll", "request", "unsolicited")
-EXACT, STEPS = 65536, 100
 
 
 def elements_of(reply):

@@ -3,3 +3,5 @@ pub mod Uses
 pub mod Totals
 pub mod Counted
 pub mod Reported
+pub mod Delays
+pub mod Served

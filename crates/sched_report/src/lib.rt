@@ -3,10 +3,12 @@
 
 mod calls;
 mod reporter;
+mod service;
 mod slots;
 mod totals;
 
 pub use calls::Calls;
 pub use reporter::Reporter;
+pub use service::{Delays, Request, Service, Sums};
 pub use slots::{Slots, Use};
 pub use totals::Totals;

@@ -1,0 +1,83 @@
+-- The requests that are served are those that the granted bytes reach now.
+use Rattle.std.proofs.Common.{◌≡◌, ℕ, ◌+◌, ◌-◌, ◌≤◌, List, [], ◌∷◌, ◌++◌, map, length, refl, sym, ap, ◌∙◌, subst}
+use Rattle.std.proofs.Common.{append_assoc, arith}
+use Rattle.std.specs.List.{AllByRecursion}
+use Rattle.std.proofs.lemmas.List.{map-append}
+use Rattle.flow_book.proofs.Order.{all-push}
+use Rattle.sched_report.specs.declared.service.Delays.{Delays}
+use Rattle.sched_report.specs.declared.service.Service.{Service}
+use Rattle.sched_report.specs.declared.service.Waiting.{Waiting}
+use Rattle.sched_report.specs.Delays.{delay_until, delays_of, AreDelays}
+use Rattle.sched_report.specs.Served.{IsWaitingBehind}
+use Rattle.sched_report.proofs.Serving.{IsServiceOf-granted, few_served}
+use Rattle.sched_report.proofs.service.Service.grant.Goals as goal
+
+pub add-requires : goal.add-requires
+add-requires c =
+    let few = few_served c.args.config.now c.args.self.now c.requires.requests c.requires.grants c.requires.is in
+    omega (
+      arith,
+      few,
+      c.requires.few,
+      c.loop-mark.invariant.few,
+      ap (λ (s : Service). s.delays.served) c.in-Some.ensures.same,
+    )
+
+pub loop-mark-preserved : goal.loop-mark-preserved
+loop-mark-preserved c =
+    let i = c.loop-mark.invariant in
+    let mark = c.in-Some.mark in
+    let new = c.next_served.new.self in
+    let same = c.in-Some.ensures.same in
+    let delay : Waiting → ℕ = λ m. c.end_of-end.result - m.heard in
+    let granted : new.granted ≡ c.loop-mark.self.granted = ap (λ (s : Service). s.granted) same in
+    let told : new.delays ≡ c.loop-mark.self.delays = ap (λ (s : Service). s.delays) same in
+    record {
+      asks = ap (λ (s : Service). s.asks) same ∙ i.asks;
+      asked = ap (λ (s : Service). s.asked) same ∙ i.asked;
+      granted = granted ∙ i.granted;
+      passed = i.passed ++ mark ∷ [];
+      passes = i.passes ∙ ap (λ (ms : List Waiting). i.passed ++ ms) c.in-Some.ensures.taken
+          ∙ sym (append_assoc i.passed (mark ∷ []) new.waiting.items);
+      reached = subst (λ n. AllByRecursion (λ m. m.upto ≤ n) (i.passed ++ mark ∷ [])) (sym granted)
+          (all-push (λ (m : Waiting). m.upto ≤ c.loop-mark.self.granted) i.passed mark i.reached c.in-Some.ensures.some);
+      delays = λ delays are.
+          let before : AreDelays new.delays (delays ++ map delay i.passed) =
+          subst (λ (d : Delays). AreDelays d (delays ++ map delay i.passed)) (sym told) (i.delays delays are) in
+          let whole : (delays ++ map delay i.passed) ++ c.saturating_sub.result ∷ []
+          ≡ delays ++ map delay (i.passed ++ mark ∷ []) =
+          ap (λ n. (delays ++ map delay i.passed) ++ n ∷ []) c.saturating_sub.ensures
+          ∙ append_assoc delays (map delay i.passed) (delay mark ∷ [])
+          ∙ ap (λ (ds : List ℕ). delays ++ ds) (sym (map-append delay i.passed (mark ∷ []))) in
+          subst (AreDelays c.add.new.self) whole (c.add.ensures.delays (delays ++ map delay i.passed) before);
+      few = omega (
+        arith,
+        i.few,
+        c.add.ensures.served,
+        ap (λ (d : Delays). d.served) told,
+        ap length c.in-Some.ensures.taken,
+      );
+    }
+
+pub returns : goal.returns
+returns c = λ requests grants is.
+    let i = c.loop-mark.invariant in
+    let s = c.args.self.now in
+    let new = c.next_served.new.self in
+    let same = c.in_default.ensures.same in
+    let g = c.args.grant in
+    let granted : new.granted ≡ c.loop-mark.self.granted = ap (λ (s : Service). s.granted) same in
+    IsServiceOf-granted c.args.config.now s new requests grants is g i.passed
+    (ap (λ (s : Service). s.asks) same ∙ i.asks)
+    (ap (λ (s : Service). s.asked) same ∙ i.asked)
+    (granted ∙ i.granted ∙ ap (λ n. s.granted + n) c.from.ensures)
+    (omega (arith, c.requires.within, c.requires.is.granted, c.requires.is.asked))
+    (i.passes ∙ ap (λ (ms : List Waiting). i.passed ++ ms) (sym c.in_default.ensures.kept))
+    (subst (λ n. AllByRecursion (λ m. m.upto ≤ n) i.passed) (sym granted) i.reached)
+    (subst (λ n. IsWaitingBehind n new.waiting.items) (sym granted)
+    (subst (IsWaitingBehind c.loop-mark.self.granted) (sym c.in_default.ensures.kept) c.in_default.ensures.none))
+    (subst (λ (d : Delays). AreDelays d (delays_of c.args.config.now requests grants
+    ++ map (λ m. delay_until c.args.config.now m.heard g) i.passed)) (sym (ap (λ (s : Service). s.delays) same))
+    (subst (λ e. AreDelays c.loop-mark.self.delays
+    (delays_of c.args.config.now requests grants ++ map (λ m. e - m.heard) i.passed)) c.end_of-end.ensures
+    (i.delays (delays_of c.args.config.now requests grants) is.delays)))

@@ -1,0 +1,64 @@
+-- The requests of a flow, the data grants that serve them, and how long that takes.
+use Rattle.std.specs.Prelude.{◌≡◌, ℕ, ◌+◌, ◌-◌, min, max, nat_le, List, [], ◌∷◌, length, sum_by, filter_map}
+use Rattle.std.specs.Prelude.{Option, None, Some, option_map, if◌then◌else◌}
+use Rattle.std.specs.Option.{option_map_or}
+use Rattle.minislots.specs.declared.config.Config.{Config}
+use Rattle.minislots.specs.Units.{slots_for}
+use Rattle.flow_book.specs.declared.flow.Grant.{Grant}
+use Rattle.flow_book.specs.Flows.{bytes_of}
+use Rattle.sched_report.specs.declared.service.Request.{Request}
+use Rattle.sched_report.specs.declared.service.Waiting.{Waiting}
+use Rattle.sched_report.specs.declared.service.Delays.{Delays}
+use Rattle.sched_report.specs.declared.service.Sums.{Sums}
+
+-- the bytes of some requests
+abbrev pub bytes_asked : List Request → ℕ
+bytes_asked requests = sum_by (λ r. r.bytes) requests
+
+-- each request with the bytes that its flow asked up to it and with it, where so many were asked before
+abbrev pub marks_from : ℕ → List Request → List Waiting
+marks_from asked [] = []
+marks_from asked (r ∷ requests) =
+    record { upto = asked + r.bytes; heard = r.heard } ∷ marks_from (asked + r.bytes) requests
+
+abbrev pub marks_of : List Request → List Waiting
+marks_of requests = marks_from 0 requests
+
+-- the first data grant with which so many bytes are granted
+abbrev pub reaching : ℕ → List Grant → Option Grant
+reaching bytes [] = None
+reaching bytes (g ∷ grants) = if nat_le bytes g.bytes then Some g else reaching (bytes - g.bytes) grants
+
+-- the minislots from where a request was heard to the end of a data grant
+abbrev pub delay_until : Config → ℕ → Grant → ℕ
+delay_until c heard g = g.start + slots_for c g.bytes - heard
+
+-- the delay of a request, where these grants serve it
+abbrev pub delay_of : Config → List Grant → Waiting → Option ℕ
+delay_of c grants mark = option_map (delay_until c mark.heard) (reaching mark.upto grants)
+
+-- the delays of the requests that were served, in the order in which they were asked
+abbrev pub delays_of : Config → List Request → List Grant → List ℕ
+delays_of c requests grants = filter_map (delay_of c grants) (marks_of requests)
+
+-- the least of some numbers, and the greatest
+abbrev pub least_of : List ℕ → Option ℕ
+least_of [] = None
+least_of (n ∷ ns) = Some (option_map_or (λ least. min n least) (least_of ns) n)
+
+abbrev pub greatest_of : List ℕ → Option ℕ
+greatest_of [] = None
+greatest_of (n ∷ ns) = Some (option_map_or (λ greatest. max n greatest) (greatest_of ns) n)
+
+-- the delays are so many, and these are the least and the greatest of them
+pub record AreDelays (d : Delays) (delays : List ℕ) : Type 0 where
+  pub served : d.served ≡ length delays
+  pub least : d.least ≡ least_of delays
+  pub greatest : d.greatest ≡ greatest_of delays
+
+-- these are the sums of the requests and the grants, and their delays
+pub record AreSums (c : Config) (s : Sums) (requests : List Request) (grants : List Grant) : Type 0 where
+  pub asks : s.asks ≡ length requests
+  pub asked : s.asked ≡ bytes_asked requests
+  pub granted : s.granted ≡ bytes_of grants
+  pub delays : AreDelays s.delays (delays_of c requests grants)

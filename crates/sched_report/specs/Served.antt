@@ -1,0 +1,60 @@
+-- What is kept of the requests and grants of one life.
+use Rattle.std.specs.Prelude.{◌≡◌, ℕ, ◌+◌, ◌^◌, ◌<◌, ◌≤◌, List, [], ◌∷◌, ◌++◌, length}
+use Rattle.std.specs.List.{AllByRecursion}
+use Rattle.std.specs.VecDeque.{deque_len, deque_capacity}
+use Rattle.minislots.specs.declared.config.Config.{Config}
+use Rattle.minislots.specs.Config.{IsLawful}
+use Rattle.flow_book.specs.declared.flow.Grant.{Grant}
+use Rattle.flow_book.specs.Flows.{bytes_of}
+use Rattle.sched_report.specs.declared.service.Request.{Request}
+use Rattle.sched_report.specs.declared.service.Service.{Service}
+use Rattle.sched_report.specs.declared.service.Waiting.{Waiting}
+use Rattle.sched_report.specs.Delays.{bytes_asked, marks_of, delays_of, AreDelays}
+
+-- The numbers are those of the requests and the grants, and the last requests wait: the granted bytes reach those
+-- before them, and none of them
+pub record IsServiceOf (c : Config) (s : Service) (requests : List Request) (grants : List Grant) : Type 0 where
+  pub asks : s.asks ≡ length requests
+  pub asked : s.asked ≡ bytes_asked requests
+  pub granted : s.granted ≡ bytes_of grants
+  pub within : s.granted ≤ s.asked
+  pub delays : AreDelays s.delays (delays_of c requests grants)
+  pub served : List Waiting
+  pub split : marks_of requests ≡ served ++ s.waiting.items
+  pub reached : AllByRecursion (λ m. (0 < m.upto) × (m.upto ≤ s.granted)) served
+  pub unreached : AllByRecursion (λ m. s.granted < m.upto) s.waiting.items
+
+-- there is room for one request more
+abbrev pub HasRoom : Service → Type 0
+HasRoom s = deque_len s.waiting < deque_capacity s.waiting
+
+-- A request may be counted: it asks for bytes, and there are few enough
+pub record MayAsk (s : Service) (r : Request) : Type 0 where
+  pub config : Config
+  pub requests : List Request
+  pub grants : List Grant
+  pub is : IsServiceOf config s requests grants
+  pub some : 0 < r.bytes
+  pub few : length requests < 2 ^ 44
+  pub fits : bytes_asked requests + r.bytes < 2 ^ 64
+
+-- A data grant may be counted: its bytes were asked, and it starts in reach
+pub record MayGrant (c : Config) (s : Service) (g : Grant) : Type 0 where
+  pub requests : List Request
+  pub grants : List Grant
+  pub is : IsServiceOf c s requests grants
+  pub lawful : IsLawful c
+  pub few : length requests ≤ 2 ^ 44
+  pub fits : bytes_asked requests < 2 ^ 64
+  pub within : bytes_of grants + g.bytes ≤ bytes_asked requests
+  pub reach : g.start < 2 ^ 63
+
+-- the first of those that wait is not reached by so many bytes
+abbrev pub IsWaitingBehind : ℕ → List Waiting → Type 0
+IsWaitingBehind granted [] = Unit {0}
+IsWaitingBehind granted (m ∷ marks) = granted < m.upto
+
+-- one waits, and it is reached
+abbrev pub IsReachedFirst : ℕ → List Waiting → Type 0
+IsReachedFirst granted [] = ⊥
+IsReachedFirst granted (m ∷ marks) = m.upto ≤ granted

@@ -1,0 +1,212 @@
+//! The requests of one life of a flow, and the data grants that serve them.
+
+ghost use Rattle.std.specs.Prelude.{◌≡◌, ◌+◌, ◌^◌, ◌<◌, ◌≤◌, ◌∷◌, ◌++◌, [], List, ℕ, length, true, false};
+ghost use Rattle.std.specs.Prelude.{OnOk, IfSome, IfNone, min, max};
+ghost use Rattle.std.specs.Option.{option_map_or};
+ghost use Rattle.minislots.specs.declared.config.Config.{Config};
+ghost use Rattle.minislots.specs.Config.{IsLawful};
+ghost use Rattle.minislots.specs.Units.{slots_for};
+ghost use Rattle.flow_book.specs.declared.flow.Grant.{Grant as DataGrant};
+ghost use Rattle.sched_report.specs.Delays.{AreDelays, AreSums};
+ghost use Rattle.sched_report.specs.declared.service.Request.{Request as Asked};
+ghost use Rattle.sched_report.specs.Served.{IsServiceOf, HasRoom, MayAsk, MayGrant, IsWaitingBehind, IsReachedFirst};
+
+use flow_book::Grant;
+use minislots::Checked;
+use std::alloc::{AllocError, Global};
+use std::collections::VecDeque;
+
+/// A request: its bytes, and the minislot at which it was heard.
+#[derive(Clone, Copy)]
+pub struct Request {
+    pub bytes: u32,
+    pub heard: u64,
+}
+
+// A request that waits: the bytes that its flow asked up to it and with it, and the minislot at which it was heard.
+#[derive(Clone, Copy)]
+pub(crate) struct Waiting {
+    pub(crate) upto: u64,
+    pub(crate) heard: u64,
+}
+
+/// How long requests took: the minislots from where each was heard to the end of the data grant that served it.
+#[derive(Clone, Copy)]
+pub struct Delays {
+    /// How many were served.
+    pub served: u64,
+    /// The least delay, where one was served.
+    pub least: Option<u64>,
+    /// The greatest delay.
+    pub greatest: Option<u64>,
+}
+
+impl Delays {
+    // Those of no request.
+    pub(crate) fn none() -> Delays
+        ensures { AreDelays result [] }
+    {
+        Delays {
+            served: 0,
+            least: None,
+            greatest: None,
+        }
+    }
+
+    // Counts one delay more.
+    fn add(&mut self, delay: u64)
+        requires { self.old.served < 2 ^ 63 }
+        ensures served { self.new.served ≡ self.old.served + 1 }
+        ensures delays { (delays : List ℕ) → AreDelays self.old delays → AreDelays self.new (delays ++ delay ∷ []) }
+    {
+        self.served += 1;
+        self.least = Some(least_with(self.least, delay));
+        self.greatest = Some(greatest_with(self.greatest, delay));
+    }
+}
+
+// The least of some delays and of one more.
+fn least_with(least: Option<u64>, delay: u64) -> u64
+    ensures { result ≡ option_map_or (λ least. min least delay) least delay }
+{
+    match least {
+        Some(least) => least.min(delay),
+        None => delay,
+    }
+}
+
+// The greatest of some delays and of one more.
+fn greatest_with(greatest: Option<u64>, delay: u64) -> u64
+    ensures { result ≡ option_map_or (λ greatest. max greatest delay) greatest delay }
+{
+    match greatest {
+        Some(greatest) => greatest.max(delay),
+        None => delay,
+    }
+}
+
+/// What there was of the requests and the data grants of one life of a flow.
+#[derive(Clone, Copy)]
+pub struct Sums {
+    /// How many requests there were.
+    pub asks: u64,
+    /// Their bytes.
+    pub asked: u64,
+    /// The bytes of the data grants.
+    pub granted: u64,
+    /// The requests that were served. The others wait, or were dropped.
+    pub delays: Delays,
+}
+
+/// What is told of the requests and the data grants of one life of a flow. It keeps the requests that wait. A request is
+/// served by the first data grant with which the granted bytes reach all that were asked up to it and with it.
+#[derive(Drop)]
+pub struct Service {
+    asks: u64,
+    asked: u64,
+    granted: u64,
+    delays: Delays,
+    waiting: VecDeque<Waiting>,
+}
+
+impl Service {
+    /// That of a life that begins.
+    pub fn new(alloc: Global) -> Service
+        ensures { (c : Config) → IsServiceOf c result [] [] }
+    {
+        Service {
+            asks: 0,
+            asked: 0,
+            granted: 0,
+            delays: Delays::none(),
+            waiting: VecDeque::new(alloc),
+        }
+    }
+
+    /// Takes memory for one request more. What is told stays.
+    pub fn reserve(&mut self) -> Result<(), AllocError>
+        ensures ok { OnOk result (HasRoom self.new) }
+        ensures same { (c : Config) (requests : List Asked) (grants : List DataGrant)
+            → IsServiceOf c self.old requests grants → IsServiceOf c self.new requests grants }
+    {
+        self.waiting.reserve(1)?;
+        Ok(())
+    }
+
+    /// Counts a request, which waits.
+    pub fn ask(&mut self, request: Request)
+        requires may { MayAsk self.old request }
+        requires room { HasRoom self.old }
+        ensures { (c : Config) (requests : List Asked) (grants : List DataGrant)
+            → IsServiceOf c self.old requests grants
+            → IsServiceOf c self.new (requests ++ request ∷ []) grants }
+    {
+        let upto = self.asked + u64::from(request.bytes);
+        let heard = request.heard;
+        self.waiting.push_back_reserved(Waiting { upto, heard });
+        self.asks += 1;
+        self.asked = upto;
+    }
+
+    /// Counts a data grant, and the delay of each request that it serves.
+    pub fn grant(&mut self, config: &Checked, grant: Grant)
+        requires { MayGrant config.now self.old grant }
+        ensures { (requests : List Asked) (grants : List DataGrant)
+            → IsServiceOf config.now self.old requests grants
+            → IsServiceOf config.now self.new requests (grants ++ grant ∷ []) }
+    {
+        self.granted += u64::from(grant.bytes);
+        let end = end_of(config, grant);
+        while let Some(mark) = self.next_served() {
+            self.delays.add(end.saturating_sub(mark.heard));
+        }
+    }
+
+    /// What there was of requests and grants.
+    pub fn sums(&self) -> Sums
+        ensures { (c : Config) (requests : List Asked) (grants : List DataGrant)
+            → IsServiceOf c self.now requests grants → AreSums c result requests grants }
+    {
+        Sums {
+            asks: self.asks,
+            asked: self.asked,
+            granted: self.granted,
+            delays: self.delays,
+        }
+    }
+
+    // Takes out the first request that waits, where the granted bytes reach it.
+    fn next_served(&mut self) -> Option<Waiting>
+        ensures same { self.new ≡ record self.old { waiting = self.new.waiting } }
+        ensures some { IfSome result (λ mark. mark.upto ≤ self.old.granted) }
+        ensures taken { IfSome result (λ mark. self.old.waiting.items ≡ mark ∷ self.new.waiting.items) }
+        ensures none { IfNone result (IsWaitingBehind self.old.granted self.old.waiting.items) }
+        ensures kept { IfNone result (self.new.waiting.items ≡ self.old.waiting.items) }
+    {
+        if self.reaches_first() {
+            self.waiting.pop_front()
+        } else {
+            None
+        }
+    }
+
+    // Whether the granted bytes reach the first request that waits.
+    fn reaches_first(&self) -> bool
+        ensures reached { result ≡ true → IsReachedFirst self.now.granted self.now.waiting.items }
+        ensures behind { result ≡ false → IsWaitingBehind self.now.granted self.now.waiting.items }
+    {
+        match self.waiting.front() {
+            Some(first) => first.upto <= self.granted,
+            None => false,
+        }
+    }
+}
+
+// The minislot at which a data grant ends.
+fn end_of(config: &Checked, grant: Grant) -> u64
+    requires lawful { IsLawful config.now }
+    requires reach { grant.start < 2 ^ 63 }
+    ensures { result ≡ grant.start + slots_for config.now grant.bytes }
+{
+    grant.start + config.slots_for(grant.bytes)
+}
