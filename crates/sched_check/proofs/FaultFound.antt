@@ -30,7 +30,7 @@ none-found value outcome e = sym (ap fault_in e)
 no_truth : false ≡ true → ⊥
 no_truth e = cc
 
--- where no read failed, only want of memory is told
+-- where no read failed, only lack of memory is told
 pub only-memory : (fault : TextFault) (r : Result Finding TextFault)
     → IfErr r (λ e. (e ≡ fault) × ((e ≡ Input) ⊎ (e ≡ Memory))) → (fault ≡ Input → false ≡ true)
     → IfErr r (λ e. e ≡ Memory)

@@ -18,7 +18,7 @@ pub record Checks (unread left written_before written_after : Option (List ℕ))
   pub words : List ℕ
   pub written : Appends written_before written_after (verdict_line (kind_of bytes) (fault_of bytes) ++ words)
 
--- why nothing is found: want of memory and a failed read tell nothing more, and a write is tried only after all bytes
+-- why nothing is found: lack of memory and a failed read tell nothing more, and a write is tried only after all bytes
 -- were read
 abbrev pub StopsCheck : Option (List ℕ) → Option (List ℕ) → RunFault → Type 0
 StopsCheck unread left (Text Input) = Unit {0}

@@ -20,10 +20,11 @@ pub enum Finding {
     Fault(TextFault),
 }
 
-// A fault that a text has, and no failed read and no want of memory.
+// A fault that a text has, and no failed read and no lack of memory.
 fn found(fault: TextFault) -> Result<Finding, TextFault>
     ensures ok { IfOk result (λ f. f ≡ Finding.Fault fault) }
-    ensures err { IfErr result (λ e. (e ≡ fault) × ((e ≡ TextFault.Input) ⊎ (e ≡ TextFault.Memory))) }
+    ensures err { IfErr result
+        (λ e. (e ≡ fault) × ((e ≡ TextFault.Input) ⊎ (e ≡ TextFault.Memory))) }
     ensures input { fault ≡ TextFault.Input → result ≡ Err fault }
     ensures memory { fault ≡ TextFault.Memory → result ≡ Err fault }
 {

@@ -1,6 +1,6 @@
 //! The kind of file that a document seems to be.
 
-ghost use Rattle.std.specs.Prelude.{◌≡◌, IsTrue};
+ghost use Rattle.std.specs.Prelude.{◌≡◌};
 ghost use Rattle.serde_json.specs.View.{view};
 ghost use Rattle.history_reading.specs.Replies.{has};
 ghost use Rattle.sched_check.specs.Kind.{kind_in};
