@@ -12,7 +12,9 @@ pub struct Moment {
 /// What a run took, in nanoseconds: by the clock, and of all processors.
 #[derive(Clone, Copy)]
 pub struct Took {
+    /// By the clock.
     pub wall: u64,
+    /// Of all processors.
     pub used: u64,
 }
 

@@ -7,9 +7,13 @@ use std::alloc::AllocError;
 /// A live flow, with the list of its data grants.
 #[derive(Drop)]
 pub struct SlowFlow {
+    /// Its SID.
     pub sid: u16,
+    /// Its kind and parameters.
     pub spec: FlowSpec,
+    /// The bytes that it asked for.
     pub asked: u64,
+    /// Its data grants, the latest last.
     pub grants: Vec<Grant>,
 }
 

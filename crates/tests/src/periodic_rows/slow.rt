@@ -10,9 +10,13 @@ use std::alloc::{AllocError, Global};
 /// A placed flow.
 #[derive(Drop)]
 pub struct SlowFlow {
+    /// Its SID.
     pub sid: u16,
+    /// Its kind and parameters.
     pub spec: FlowSpec,
+    /// Its first nominal minislot.
     pub reference: u64,
+    /// Its starts in each nominal frame of the cycle.
     pub starts: Vec<u16>,
 }
 

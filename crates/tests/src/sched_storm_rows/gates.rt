@@ -81,7 +81,9 @@ impl Counts {
 #[derive(Drop)]
 pub struct Ruled {
     rule: Rule,
+    /// How often each worker asked.
     pub asked: Counts,
+    /// How often each worker told of a call.
     pub told: Counts,
 }
 
