@@ -18,8 +18,8 @@ pub fn agrees_with_commands()
 {}
 
 /// What a run wrote as its history is legal to every audit that reads it to its end, where it has no more bytes than an
-/// input may have: then only a failed read, a failed write or want of memory ends an audit of it.
+/// input may have: then only a failed read, a failed write or lack of memory ends an audit of it.
 pub fn judges_runs_legal()
-    ensures legal { (unread left : Option (List ℕ)) (text : List ℕ) → Ran History unread left (Some []) (Some text)
-        → length text ≤ MAX_INPUT → IsJudgedLegal text }
+    ensures legal { (unread left : Option (List ℕ)) (text : List ℕ) → Ran History unread left
+        (Some []) (Some text) → length text ≤ MAX_INPUT → IsJudgedLegal text }
 {}
