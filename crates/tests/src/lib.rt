@@ -12,6 +12,8 @@ mod readme_rows;
 #[cfg(test)]
 mod refused_rows;
 #[cfg(test)]
+mod sched_report_rows;
+#[cfg(test)]
 mod sched_storm_rows;
 #[cfg(test)]
 mod shared_sched_rows;

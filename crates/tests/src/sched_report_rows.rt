@@ -1,0 +1,86 @@
+//! A history that a reporter takes, with numbers worked out by hand.
+
+use crate::base::{BASE, checked};
+use flow_book::FlowSpec;
+use minislots::Stamp;
+use sched_history::{Call, Scheduler};
+use sched_report::Reporter;
+use std::alloc::AllocGlobal;
+use std::test::Fail;
+
+// Two frames, the second with a data grant of 9 minislots; a request to nobody; a frame after others were left out, with
+// an unsolicited grant of 4 minislots and a poll of 2.
+const CALLS: [Call; 9] = [
+    Call::Build { now: 760 },
+    Call::Admit(
+        17,
+        FlowSpec::BestEffort {
+            priority: 3,
+            rate: 0,
+            burst: 0,
+        },
+    ),
+    Call::Ask {
+        receiver: 0,
+        sid: 17,
+        bytes: 100,
+        heard: 800,
+    },
+    Call::Ask {
+        receiver: 0,
+        sid: 99,
+        bytes: 100,
+        heard: 800,
+    },
+    Call::Build { now: 800 },
+    Call::Admit(
+        18,
+        FlowSpec::Unsolicited {
+            size: 32,
+            interval_us: 1000,
+            jitter_us: 0,
+            grants: 1,
+        },
+    ),
+    Call::Admit(
+        19,
+        FlowSpec::Polled {
+            interval_us: 1000,
+            jitter_us: 0,
+            rate: 0,
+            burst: 0,
+        },
+    ),
+    Call::Skip { now: 2000 },
+    Call::Build { now: 2000 },
+];
+
+#[test]
+fn the_numbers_of_a_history_are_those_worked_out_by_hand(rt: HostRuntime) -> Result<(), Fail> {
+    let config = checked(&rt, BASE);
+    let mut scheduler = Scheduler::open(rt.alloc(), config)?;
+    let mut reporter = Reporter::open(rt.alloc(), config)?;
+    let stamp = Stamp { seat: 0, ticket: 0 };
+    for call in CALLS {
+        let _ = scheduler.call(stamp, call)?;
+    }
+    for entry in scheduler.history() {
+        reporter.take(entry)?;
+    }
+    let totals = reporter.totals();
+    assert!(rt; totals.frames == 3 && totals.skips == 1);
+    assert!(rt; totals.from == Some(800) && totals.to == Some(2080));
+    let calls = totals.calls;
+    assert!(rt; calls.build == 3 && calls.admit == 3 && calls.ask == 2 && calls.skip == 1);
+    assert!(rt; calls.heard == 0 && calls.remove == 0 && calls.status == 0);
+    let slots = totals.slots;
+    assert!(rt; slots.request == 12 && slots.data_grants == 9 && slots.idle == 93);
+    assert!(rt; slots.unsolicited == 4 && slots.poll == 2 && slots.opportunity == 0);
+    for (place, count) in reporter.refused().iter().enumerate() {
+        assert!(rt;
+            *count == u64::from(place == 6),
+            "the request to nobody alone is refused"
+        );
+    }
+    Ok(())
+}
