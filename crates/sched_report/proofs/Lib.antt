@@ -4,3 +4,10 @@ pub mod Frames
 pub mod Totalled
 pub mod Reaching
 pub mod Serving
+pub mod PastLives
+pub mod Fronts
+pub mod LegalLives
+pub mod MayNotes
+pub mod LifeNotes
+pub mod LivesEach
+pub mod LiveNow

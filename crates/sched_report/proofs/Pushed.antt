@@ -37,7 +37,8 @@ frames_of-unbuilt h e none =
 slots_of-frame : (h new : List Entry) (f : Frame) → frames_of new ≡ frames_of h ++ f ∷ []
     → slots_of new ≡ sum_of (slots_of h) (slots_in f)
 slots_of-frame h new f is = same_slots _ _
-    (ap (sum_by (λ (g : Frame). (slots_in g).data_grants)) is ∙ sum_by_push (λ (g : Frame). (slots_in g).data_grants) (frames_of h) f)
+    (ap (sum_by (λ (g : Frame). (slots_in g).data_grants)) is
+    ∙ sum_by_push (λ (g : Frame). (slots_in g).data_grants) (frames_of h) f)
     (ap (sum_by (λ (g : Frame). (slots_in g).idle)) is ∙ sum_by_push (λ (g : Frame). (slots_in g).idle) (frames_of h) f)
     (ap (sum_by (λ (g : Frame). (slots_in g).opportunity)) is
     ∙ sum_by_push (λ (g : Frame). (slots_in g).opportunity) (frames_of h) f)

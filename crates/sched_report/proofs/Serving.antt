@@ -1,5 +1,5 @@
 -- What is kept of a life with one request or one grant more.
-use Rattle.std.proofs.Common.{◌≡◌, ℕ, ◌+◌, ◌<◌, ◌≤◌, List, [], ◌∷◌, ◌++◌, map, length, None, refl, sym, ap}
+use Rattle.std.proofs.Common.{◌≡◌, ℕ, ◌+◌, ◌<◌, ◌≤◌, List, [], ◌∷◌, ◌++◌, map, length, filter_map, None, refl, sym, ap}
 use Rattle.std.proofs.Common.{◌∙◌, subst, append_assoc, length-append, Option, Some, arith}
 use Rattle.std.specs.List.{AllByRecursion, cons_option}
 use Rattle.std.proofs.lemmas.List.{append-nil, length_push}
@@ -13,7 +13,7 @@ use Rattle.sched_report.specs.declared.service.Service.{Service}
 use Rattle.sched_report.specs.declared.service.Waiting.{Waiting}
 use Rattle.sched_report.specs.Delays.{bytes_asked, marks_from, marks_of, delay_until, delay_of, delays_of, AreDelays}
 use Rattle.sched_report.specs.Served.{IsServiceOf, IsWaitingBehind}
-use Rattle.sched_report.proofs.Reaching.{AreReached, AreUnreached, AreReachedBetween, delays_among}
+use Rattle.sched_report.proofs.Reaching.{AreReached, AreUnreached, AreReachedBetween, delays_among, reaching-none}
 use Rattle.sched_report.proofs.Reaching.{delays-unreached, delays-reached, delays-last, marks_from-push, MarksAscend}
 use Rattle.sched_report.proofs.Reaching.{marks_ascend, ascend-behind, unreached-first}
 
@@ -116,7 +116,8 @@ module _ (c : Config) (s new : Service) (requests : List Request) (grants : List
         delays = subst (λ ds. AreDelays new.delays ds) (sym same)
             (subst (λ d. AreDelays d (delays_of c requests grants)) (sym delays) is.delays);
         served = is.served;
-        split = marks ∙ ap (λ (ms : List Waiting). ms ++ m ∷ []) is.split ∙ append_assoc is.served s.waiting.items (m ∷ [])
+        split = marks ∙ ap (λ (ms : List Waiting). ms ++ m ∷ []) is.split
+            ∙ append_assoc is.served s.waiting.items (m ∷ [])
             ∙ ap (λ (ms : List Waiting). is.served ++ ms) (sym waiting);
         reached = subst (λ n. AreReached n is.served) (sym granted) is.reached;
         unreached = subst (λ ms. AreUnreached new.granted ms) (sym waiting)
@@ -149,7 +150,8 @@ module _ (c : Config) (s new : Service) (requests : List Request) (grants : List
       let old : delays_of c requests grants ≡ delays_among c grants is.served =
       delays_of-served c s requests grants is in
       let served : delays_among c (grants ++ g ∷ []) is.served ≡ delays_of c requests grants =
-      delays-reached c grants (g ∷ []) is.served (subst (λ n. AreReached n is.served) is.granted is.reached) ∙ sym old in
+      delays-reached c grants (g ∷ []) is.served (subst (λ n. AreReached n is.served) is.granted is.reached)
+      ∙ sym old in
       let last : delays_among c (grants ++ g ∷ []) passed ≡ map (λ m. delay_until c m.heard g) passed =
       delays-last c grants g passed
       (subst (λ n. AreReachedBetween n (n + g.bytes) passed) is.granted

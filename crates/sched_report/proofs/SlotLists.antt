@@ -31,8 +31,8 @@ slots_with_all grants idle opportunity poll request unsolicited = record {
 }
 
 -- minislots by their use are the same where those of each use are
-pub same_slots : (a b : Slots) → a.data_grants ≡ b.data_grants → a.idle ≡ b.idle → a.opportunity ≡ b.opportunity → a.poll ≡ b.poll
-    → a.request ≡ b.request → a.unsolicited ≡ b.unsolicited → a ≡ b
+pub same_slots : (a b : Slots) → a.data_grants ≡ b.data_grants → a.idle ≡ b.idle → a.opportunity ≡ b.opportunity
+    → a.poll ≡ b.poll → a.request ≡ b.request → a.unsolicited ≡ b.unsolicited → a ≡ b
 same_slots a b grants idle opportunity poll request unsolicited =
     ap (λ n. slots_with_all n a.idle a.opportunity a.poll a.request a.unsolicited) grants
     ∙ ap (λ n. slots_with_all b.data_grants n a.opportunity a.poll a.request a.unsolicited) idle

@@ -59,7 +59,8 @@ module _ (c : Config) (h : List Entry) (e : Entry) (t : Totals) (calls : Calls) 
       ∙ ap (option_map (λ m. m.start + c.frame)) (last-push (maps_of h) m)))
       (ap (λ t. t.skips) are.value ∙ sym (skips-push ∙ rw is (omega arith)))
       called
-      (ap (λ u. sum_of t.slots u) slots ∙ ap (λ u. sum_of u.slots (slots_in (record { before = h; built = m }))) are.value
+      (ap (λ u. sum_of t.slots u) slots
+      ∙ ap (λ u. sum_of u.slots (slots_in (record { before = h; built = m }))) are.value
       ∙ sym (slots_of-built h e m is))
 
   -- without a MAP there is no frame more

@@ -5,3 +5,6 @@ pub mod Counted
 pub mod Reported
 pub mod Delays
 pub mod Served
+pub mod Lives
+pub mod Told
+pub mod ToldLives

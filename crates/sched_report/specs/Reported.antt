@@ -1,17 +1,26 @@
 -- What a reporter keeps of the entries that it took.
 use Rattle.std.specs.Prelude.{◌≡◌, ℕ, Bool, List}
 use Rattle.minislots.specs.declared.config.Config.{Config}
+use Rattle.minislots.specs.Config.{IsLawful}
 use Rattle.sched_history.specs.History.{IsLegal}
+use Rattle.sched_history.specs.Time.{next_after}
 use Rattle.sched_history.specs.Machine.{Past}
 use Rattle.frame_picture.specs.Frames.{TellsUnsolicited}
 use Rattle.sched_report.specs.declared.totals.Totals.{Totals}
 use Rattle.sched_report.specs.Counts.{CountsRefusals}
+use Rattle.sched_report.specs.declared.life.LifeTally.{LifeTally}
 use Rattle.sched_report.specs.Totals.{AreTotals}
+use Rattle.sched_report.specs.Lives.{lives_of}
+use Rattle.sched_report.specs.ToldLives.{AreLives}
 
 -- The numbers are those of the history that the auditor took
-pub record IsReport (c : Config) (past : Past) (flows : List Bool) (t : Totals) (counts : List ℕ) : Type 0 where
+pub record IsReport (c : Config) (past : Past) (flows : List Bool) (t : Totals) (counts : List ℕ)
+    (slot : ℕ) (ts : List LifeTally) : Type 0 where
   pub config : c ≡ past.config
   pub legal : IsLegal c past.history
   pub told : TellsUnsolicited flows past.history
   pub totals : AreTotals c past.history t
   pub refused : CountsRefusals counts past.history
+  pub lawful : IsLawful c
+  pub next : slot ≡ next_after c past.history
+  pub lives : AreLives c ts (lives_of past.history)

@@ -2,12 +2,15 @@
 #![tactic(auto)]
 
 mod calls;
+mod life;
+mod lives;
 mod reporter;
 mod service;
 mod slots;
 mod totals;
 
 pub use calls::Calls;
+pub use life::LifeNumbers;
 pub use reporter::Reporter;
 pub use service::{Delays, Request, Service, Sums};
 pub use slots::{Slots, Use};

@@ -1,32 +1,40 @@
 //! The numbers of a history that is taken entry by entry.
 
-ghost use Rattle.std.specs.Prelude.{◌≡◌, ◌<◌, ◌≤◌, ◌↔◌, ◌++◌, ◌∷◌, [], length};
+ghost use Rattle.std.specs.Prelude.{◌≡◌, ◌<◌, ◌≤◌, ◌↔◌, ◌++◌, ◌∷◌, [], length, slice_index_or};
 ghost use Rattle.std.specs.Prelude.{IfOk, OnOk, OnErr, IsErrOf};
 ghost use Rattle.sched_history.specs.declared.reply.TheConstants.{MAX_WHOLE_HISTORY};
 ghost use Rattle.sched_history.specs.History.{IsStep, IsLegal};
-ghost use Rattle.sched_history.specs.Machine.{MayLackMemory};
 ghost use Rattle.sched_report.specs.Counts.{CountsRefusals};
 ghost use Rattle.sched_report.specs.Totals.{totals_of};
+ghost use Rattle.sched_report.specs.Lives.{PastLife, lives_of};
+ghost use Rattle.sched_report.specs.ToldLives.{MayLackReportMemory, AreLifeNumbers};
 
 use crate::calls::{REFUSALS, count_refusal};
+use crate::life::{LifeNumbers, LifeTally};
+use crate::lives::{follow, reserve_for};
 use crate::totals::Totals;
 use frame_picture::{Flows, no_flows, note};
 use minislots::Checked;
-use sched_history::{Auditor, Entry, JudgeFault};
+use sched_history::{Auditor, Entry, JudgeFault, MAX_WHOLE_HISTORY};
 use std::alloc::{AllocError, Global};
 use std::marker::Model;
 
 /// Takes a history entry by entry, and tells its numbers. Each entry is judged as by an [`Auditor`], and is counted
 /// where its reply may follow those before it. No entry is kept, so however many are taken, the memory is that of the
-/// auditor and of the numbers. Contracts see the configuration and the entries that were taken, which are legal.
+/// auditor, of the flows that lived and of the requests that wait. Contracts see the configuration and the entries that
+/// were taken, which are legal.
 #[derive(Drop)]
 pub struct Reporter {
     config: Checked,
     auditor: Auditor,
+    alloc: Global,
+    // Where the next frame starts.
+    next: u64,
     // Which flows are unsolicited after the entries that were taken.
     flows: Flows,
     totals: Totals,
     refused: [u64; REFUSALS],
+    lives: Vec<LifeTally>,
 }
 
 impl Model for Reporter {
@@ -38,7 +46,7 @@ impl Model for Reporter {
 
     ghost view = { λ r. r.auditor };
 
-    ghost invariant = { λ r. IsReport r.config r.auditor r.flows r.totals r.refused };
+    ghost invariant = { λ r. IsReport r.config r.auditor r.flows r.totals r.refused r.next r.lives.items };
 }
 
 impl Reporter {
@@ -49,14 +57,17 @@ impl Reporter {
         Ok(Reporter {
             config,
             auditor: Auditor::open(alloc, config)?,
+            alloc,
+            next: config.start(),
             flows: no_flows(),
             totals: Totals::none(),
             refused: [0; REFUSALS],
+            lives: Vec::new(alloc),
         })
     }
 
-    /// Judges one entry as [`Auditor::judge`] does, and takes it where its reply may follow the entries that were taken.
-    /// An entry that is not taken changes nothing.
+    /// Judges one entry as [`Auditor::judge`] does, and takes it where its reply may follow the entries that were
+    /// taken. An entry that is not taken changes nothing.
     pub fn take(&mut self, entry: &Entry) -> Result<(), JudgeFault>
         // An entry that is taken is a step, and stands behind those before it.
         ensures taken { OnOk result (self.new ≡ record self.old { history = self.old.history ++ entry.now ∷ [] }) }
@@ -68,14 +79,22 @@ impl Reporter {
         ensures illegal { IsErrOf result JudgeFault.Illegal →
             IsStep self.old.config self.old.history entry.now.call entry.now.reply → ⊥ }
         ensures memory { IsErrOf result JudgeFault.Memory →
-            MayLackMemory self.old.config self.old.history entry.now.call }
+            MayLackReportMemory self.old.config self.old.history entry.now }
 
         ensures legal { IsLegal self.new.config self.new.history }
     {
+        if self.auditor.taken() >= MAX_WHOLE_HISTORY {
+            return Err(JudgeFault::Full);
+        }
+        match reserve_for(&mut self.lives, entry) {
+            Ok(()) => {}
+            Err(_) => return Err(JudgeFault::Memory),
+        }
         self.auditor.judge(entry)?;
         self.totals.add(&self.config, &self.flows, entry);
         count_refusal(&mut self.refused, entry);
         note(&mut self.flows, entry);
+        self.next = follow(&mut self.lives, &self.config, self.alloc, self.next, entry);
         Ok(())
     }
 
@@ -92,5 +111,21 @@ impl Reporter {
         ensures { CountsRefusals result.now self.now.history }
     {
         &self.refused
+    }
+
+    /// How many lives of flows the entries that were taken have, those that ended among them.
+    pub fn lives(&self) -> usize
+        ensures { result ≡ length (lives_of self.now.history) }
+    {
+        self.lives.as_slice().len()
+    }
+
+    /// The numbers of the life at a place in the order of the admissions.
+    pub fn life(&self, place: usize) -> LifeNumbers
+        requires { place < length (lives_of self.now.history) }
+        ensures { (life : PastLife) → AreLifeNumbers self.now.config result
+            (slice_index_or (lives_of self.now.history) place life) }
+    {
+        self.lives[place].numbers(self.next)
     }
 }

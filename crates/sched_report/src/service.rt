@@ -98,8 +98,8 @@ pub struct Sums {
     pub delays: Delays,
 }
 
-/// What is told of the requests and the data grants of one life of a flow. It keeps the requests that wait. A request is
-/// served by the first data grant with which the granted bytes reach all that were asked up to it and with it.
+/// What is told of the requests and the data grants of one life of a flow. It keeps the requests that wait. A request
+/// is served by the first data grant with which the granted bytes reach all that were asked up to it and with it.
 #[derive(Drop)]
 pub struct Service {
     asks: u64,

@@ -8,7 +8,29 @@ use Rattle.sched_history.specs.History.{IsStep}
 use Rattle.sched_history.specs.Machine.{Past}
 use Rattle.sched_report.specs.Counted.{IsCounted}
 use Rattle.sched_report.specs.Reported.{IsReport}
+use Rattle.sched_report.specs.Lives.{lives_of}
+use Rattle.sched_report.specs.ToldLives.{MayFollow}
 use Rattle.sched_report.proofs.reporter.Reporter.take.Goals as goal
+
+pub follow-self-inside-requires-clause-may : goal.follow-self-inside-requires-clause-may
+follow-self-inside-requires-clause-may c =
+    let i = c.self.invariant in
+    let k = c.self.inside.config in
+    let h = c.self.inside.auditor.history in
+    let e = c.args.entry.now in (
+      h,
+      record {
+        lawful = i.lawful;
+        legal = i.legal;
+        step = subst (λ (k : Config). IsStep k h e.call e.reply) (sym i.config) c.in_ok-judge.ensures.step;
+        short = elim (cases_lt (length h) MAX_WHOLE_HISTORY) [
+          | inl below ↦ below
+          | inr full ↦ absurd (cc (c.in_ok-judge.ensures.full.1 full))
+        ];
+        next = i.next;
+        lives = c.reserve_for.ensures.same k (lives_of h) i.lives;
+      },
+    )
 
 pub invariant_of-self-2 : goal.invariant_of-self-2
 invariant_of-self-2 c =
@@ -25,7 +47,16 @@ invariant_of-self-2 c =
     ] in
     let counted : IsCounted k h c.self.inside.totals c.self.inside.flows e =
     record { legal = i.legal; step = step; short = short; counted = i.totals; told = i.told } in
-    subst (λ (p : Past). IsReport k p c.note.new.flows c.add.new.self c.count_refusal.new.counts)
+    let follows : MayFollow k h c.reserve_for.new.lives.items c.self.inside.next e = record {
+      lawful = i.lawful;
+      legal = i.legal;
+      step = step;
+      short = short;
+      next = i.next;
+      lives = c.reserve_for.ensures.same k (lives_of h) i.lives;
+    } in
+    subst (λ (p : Past). IsReport k p c.note.new.flows c.add.new.self c.count_refusal.new.counts
+    c.follow-self-inside.result c.follow-self-inside.new.lives.items)
     (sym c.in_ok-judge.ensures.taken)
     (record {
       config = i.config;
@@ -33,4 +64,38 @@ invariant_of-self-2 c =
       told = c.note.ensures h i.told;
       totals = c.add.ensures h counted;
       refused = c.count_refusal.ensures h i.refused;
+      lawful = i.lawful;
+      next = c.follow-self-inside.ensures.next h follows;
+      lives = c.follow-self-inside.ensures.lives h follows;
+    })
+
+pub invariant_of-self : goal.invariant_of-self
+invariant_of-self c =
+    let i = c.self.invariant in
+    record {
+      config = i.config;
+      legal = i.legal;
+      told = i.told;
+      totals = i.totals;
+      refused = i.refused;
+      lawful = i.lawful;
+      next = i.next;
+      lives = c.reserve_for.ensures.same c.self.inside.config (lives_of c.self.inside.auditor.history) i.lives;
+    }
+
+pub invariant_of-self-in_err-judge : goal.invariant_of-self-in_err-judge
+invariant_of-self-in_err-judge c =
+    let i = c.self.invariant in
+    let s = c.self.inside in
+    subst (λ (p : Past). IsReport s.config p s.flows s.totals s.refused s.next c.reserve_for.new.lives.items)
+    (sym c.in_err-judge.ensures.err)
+    (record {
+      config = i.config;
+      legal = i.legal;
+      told = i.told;
+      totals = i.totals;
+      refused = i.refused;
+      lawful = i.lawful;
+      next = i.next;
+      lives = c.reserve_for.ensures.same s.config (lives_of s.auditor.history) i.lives;
     })

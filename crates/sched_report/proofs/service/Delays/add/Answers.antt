@@ -13,6 +13,7 @@ returns-clause-delays c = λ delays are.
       served = omega (arith, are.served, length_push delays d);
       least = ap Some (c.least_with.ensures ∙ ap (λ o. option_map_or (λ least. min least d) o d) are.least)
           ∙ sym (least_of-push delays d);
-      greatest = ap Some (c.greatest_with.ensures ∙ ap (λ o. option_map_or (λ greatest. max greatest d) o d) are.greatest)
+      greatest = ap Some (c.greatest_with.ensures
+          ∙ ap (λ o. option_map_or (λ greatest. max greatest d) o d) are.greatest)
           ∙ sym (greatest_of-push delays d);
     }

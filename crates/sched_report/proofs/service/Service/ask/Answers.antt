@@ -7,7 +7,7 @@ pub returns : goal.returns
 returns c = λ config requests grants is.
     let s = c.args.self.now in
     let r = c.args.request in
-    IsServiceOf-asked config s _ requests grants is r c.requires.may.some refl (ap (λ n. s.asked + n) c.from.ensures) refl
-    refl
+    IsServiceOf-asked config s _ requests grants is r c.requires.may.some refl
+    (ap (λ n. s.asked + n) c.from.ensures) refl refl
     (c.push_back_reserved.ensures.items
     ∙ ap (λ n. s.waiting.items ++ record { upto = s.asked + n; heard = r.heard } ∷ []) c.from.ensures)

@@ -40,7 +40,8 @@ loop-mark-preserved c =
       passes = i.passes ∙ ap (λ (ms : List Waiting). i.passed ++ ms) c.in-Some.ensures.taken
           ∙ sym (append_assoc i.passed (mark ∷ []) new.waiting.items);
       reached = subst (λ n. AllByRecursion (λ m. m.upto ≤ n) (i.passed ++ mark ∷ [])) (sym granted)
-          (all-push (λ (m : Waiting). m.upto ≤ c.loop-mark.self.granted) i.passed mark i.reached c.in-Some.ensures.some);
+          (all-push (λ (m : Waiting). m.upto ≤ c.loop-mark.self.granted) i.passed mark i.reached
+          c.in-Some.ensures.some);
       delays = λ delays are.
           let before : AreDelays new.delays (delays ++ map delay i.passed) =
           subst (λ (d : Delays). AreDelays d (delays ++ map delay i.passed)) (sym told) (i.delays delays are) in

@@ -11,11 +11,13 @@ loop-i-preserved c =
     let a = c.allocation_at-allocation.result in
     let kind = c.of-kind.result in
     let long = c.from-in-loop-i.result in
-    let inside : i < front_length es = omega (arith, c.loop-i-test.true, c.loop-i.invariant.end, c.front_len-i-end.ensures.count) in
+    let inside : i < front_length es =
+    omega (arith, c.loop-i-test.true, c.loop-i.invariant.end, c.front_len-i-end.ensures.count) in
     record {
       end = c.loop-i.invariant.end;
-      value = λ h tells. slots-more es i c.loop-i.slots c.with-slots.result a kind long c.allocation_at-allocation.ensures
-          c.from-in-loop-i.ensures c.with-slots.ensures c.args.flows.now (omega arith)
+      value = λ h tells. slots-more es i c.loop-i.slots c.with-slots.result a kind long
+          c.allocation_at-allocation.ensures c.from-in-loop-i.ensures c.with-slots.ensures c.args.flows.now
+          (omega arith)
           (rw c.from.ensures at c.of-kind.ensures) h tells (c.loop-i.invariant.value h tells);
       all = all_slots-more es i c.loop-i.slots c.with-slots.result a kind long c.allocation_at-allocation.ensures
           c.from-in-loop-i.ensures c.with-slots.ensures c.requires.one_null c.requires.ascends inside

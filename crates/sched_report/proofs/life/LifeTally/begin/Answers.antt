@@ -1,0 +1,12 @@
+-- Nothing is asked before any entry.
+use Rattle.std.proofs.Common.{refl}
+use Rattle.sched_report.proofs.life.LifeTally.begin.Goals as goal
+
+pub returns : goal.returns
+returns c = λ config upto from. record {
+  sid = refl;
+  spec = refl;
+  from = from;
+  to = refl;
+  service = c.new.ensures config;
+}

@@ -1,0 +1,43 @@
+-- A data grant, or none.
+use Rattle.std.proofs.Common.{◌≡◌, ◌≤◌, List, [], ◌∷◌, ◌++◌, Option, None, Some, sym, ap, ◌∙◌, subst, arith}
+use Rattle.std.specs.List.{cons_option}
+use Rattle.std.proofs.lemmas.List.{append-nil}
+use Rattle.std.proofs.lemmas.List.Sums.{sum_by_push}
+use Rattle.flow_book.specs.declared.flow.Grant.{Grant}
+use Rattle.flow_book.specs.Flows.{bytes_of}
+use Rattle.sched_history.specs.Life.{grant_by}
+use Rattle.sched_report.specs.Served.{IsServiceOf}
+use Rattle.sched_report.proofs.life.grant_element.Goals as goal
+
+pub grant-requires : goal.grant-requires
+grant-requires c =
+    let k = c.requires.granted in
+    let g = c.in-Some.grant in
+    let is : grant_by c.args.sid c.args.start (c.args.element, c.args.bytes) ≡ Some g =
+    sym c.grant_of.ensures.value ∙ c.in-Some.is in
+    record {
+      requests = k.requests;
+      grants = k.grants;
+      is = k.is;
+      lawful = k.lawful;
+      few = k.few;
+      fits = k.fits;
+      within = omega (
+        arith,
+        k.within,
+        ap (λ (o : Option Grant). bytes_of (k.grants ++ cons_option o [])) is,
+        sum_by_push (λ (g : Grant). g.bytes) k.grants g,
+      );
+      reach = c.in-Some.ensures.reach;
+    }
+
+pub returns-in-Some : goal.returns-in-Some
+returns-in-Some c = λ requests grants is.
+    subst (λ o. IsServiceOf c.args.config.now c.grant.new.self requests (grants ++ cons_option o []))
+    (sym (sym c.grant_of.ensures.value ∙ c.in-Some.is)) (c.grant.ensures requests grants is)
+
+pub returns-in-None : goal.returns-in-None
+returns-in-None c = λ requests grants is.
+    subst (λ o. IsServiceOf c.args.config.now c.args.service.now requests (grants ++ cons_option o []))
+    (sym (sym c.grant_of.ensures.value ∙ c.in-None.is))
+    (subst (IsServiceOf c.args.config.now c.args.service.now requests) (sym (append-nil grants)) is)

@@ -1,0 +1,43 @@
+-- Each life goes on, and one may begin.
+use Rattle.std.proofs.Common.{◌≡◌, ℕ, ◌<◌, List, [], ◌∷◌, ◌++◌, map, sym, ◌∙◌, subst, arith}
+use Rattle.std.proofs.lemmas.List.{with_items_is}
+use Rattle.sched_history.proofs.steps.LegalBounds.{next_after-most}
+use Rattle.sched_report.specs.declared.life.LifeTally.{LifeTally}
+use Rattle.sched_report.specs.Lives.{PastLife, lives_of, with_entry}
+use Rattle.sched_report.specs.ToldLives.{AreLives, MayNoteEach}
+use Rattle.sched_report.proofs.LivesEach.{may_note_each}
+use Rattle.sched_report.proofs.PastLives.{lives_of-push}
+use Rattle.sched_report.proofs.lives.follow.Goals as goal
+
+pub note_each-requires-clause-may : goal.note_each-requires-clause-may
+note_each-requires-clause-may c =
+    let k = c.args.config.now in
+    let h = c.requires.may.0 in
+    let m = c.requires.may.1 in
+    let e = c.args.entry.now in (
+      lives_of h,
+      subst (λ (ts : List LifeTally). AreLives k ts (lives_of h)) (sym c.deref_mut.ensures.value) m.lives,
+      subst (λ s. MayNoteEach k (lives_of h) s e) (sym m.next) (may_note_each k m.lawful h m.legal e m.step m.short),
+    )
+
+pub next_with-after-requires : goal.next_with-after-requires
+next_with-after-requires c =
+    let m = c.requires.may.1 in
+    omega (arith, m.next, next_after-most c.args.config.now m.lawful c.requires.may.0 m.legal)
+
+pub returns-clause-lives : goal.returns-clause-lives
+returns-clause-lives c = λ h m.
+    let k = c.args.config.now in
+    let e = c.args.entry.now in
+    let more : List PastLife = map (with_entry e) (lives_of h) in
+    let old : AreLives k c.deref_mut.result.now (lives_of h) =
+    subst (λ (ts : List LifeTally). AreLives k ts (lives_of h)) (sym c.deref_mut.ensures.value) m.lives in
+    let may : MayNoteEach k (lives_of h) c.args.next e =
+    subst (λ s. MayNoteEach k (lives_of h) s e) (sym m.next)
+    (may_note_each k m.lawful h m.legal e m.step m.short) in
+    let noted : AreLives k c.note_each.new.lives more = c.note_each.ensures (lives_of h) old may in
+    subst (AreLives k c.begin_life.new.lives.items) (sym (lives_of-push h e))
+    (c.begin_life.ensures k h more (c.next_with-after.ensures h m.next)
+    (subst (λ (ts : List LifeTally). AreLives k ts more)
+    (sym (with_items_is c.args.lives.now c.note_each.new.lives
+    (c.note_each.auto.lives ∙ c.deref_mut.ensures.len))) noted))

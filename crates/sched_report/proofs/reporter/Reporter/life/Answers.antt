@@ -1,0 +1,28 @@
+-- The numbers are those of the life at the place.
+use Rattle.std.proofs.Common.{◌<◌, length, get_or, sym, ap, subst, arith}
+use Rattle.minislots.specs.declared.config.Config.{Config}
+use Rattle.sched_history.specs.Machine.{Past}
+use Rattle.sched_report.specs.declared.life.LifeTally.{LifeTally}
+use Rattle.sched_report.specs.Lives.{lives_of}
+use Rattle.sched_report.specs.Told.{IsLifeOf}
+use Rattle.sched_report.specs.ToldLives.{AreLifeNumbers}
+use Rattle.sched_report.proofs.LiveNow.{live_now}
+use Rattle.sched_report.proofs.reporter.Reporter.life.Goals as goal
+
+pub returns : goal.returns
+returns c = λ life.
+    let i = c.self.invariant in
+    let k = c.self.inside.config in
+    let h = c.self.inside.auditor.history in
+    let place = c.args.place in
+    let below : place < length (lives_of h) =
+    omega (arith, c.requires, ap (λ (p : Past). length (lives_of p.history)) c.self.view_is) in
+    let is : IsLifeOf k c.index.result.now (get_or (lives_of h) place life) =
+    subst (λ (t : LifeTally). IsLifeOf k t (get_or (lives_of h) place life)) (sym c.index.ensures)
+    (i.lives.each place c.index.result.now life (omega (arith, below, i.lives.long))) in
+    let own : AreLifeNumbers k c.numbers.result (get_or (lives_of h) place life) =
+    c.numbers.ensures k (get_or (lives_of h) place life) is
+    (live_now k h i.legal place life below c.self.inside.next i.next) in
+    subst (λ (p : Past). AreLifeNumbers p.config c.numbers.result (get_or (lives_of p.history) place life))
+    c.self.view_is
+    (subst (λ (k : Config). AreLifeNumbers k c.numbers.result (get_or (lives_of h) place life)) i.config own)

@@ -1,0 +1,59 @@
+-- What is told of all lives of a history.
+use Rattle.std.specs.Prelude.{◌≡◌, ℕ, ◌<◌, ◌⊎◌, List, ◌++◌, length, slice_index_or}
+use Rattle.minislots.specs.declared.config.Config.{Config}
+use Rattle.minislots.specs.Config.{IsLawful}
+use Rattle.sched_history.specs.declared.call.Call.{Call}
+use Rattle.sched_history.specs.declared.reply.Reply.{Reply}
+use Rattle.sched_history.specs.declared.reply.Entry.{Entry}
+use Rattle.sched_history.specs.declared.reply.TheConstants.{MAX_WHOLE_HISTORY}
+use Rattle.sched_history.specs.Life.{grants_since}
+use Rattle.sched_history.specs.History.{IsStep, IsLegal}
+use Rattle.sched_history.specs.Machine.{MayLackMemory}
+use Rattle.sched_history.specs.Time.{next_after}
+use Rattle.sched_report.specs.declared.life.LifeTally.{LifeTally}
+use Rattle.sched_report.specs.declared.life.LifeNumbers.{LifeNumbers}
+use Rattle.sched_report.specs.Delays.{AreSums}
+use Rattle.sched_report.specs.Lives.{PastLife, lives_of, requests_in, IsRequest, IsOpening}
+use Rattle.sched_report.specs.Told.{IsLifeOf, MayNote, HasRoomFor}
+
+-- What is told is of these lives, each at its place
+pub record AreLives (c : Config) (ts : List LifeTally) (lives : List PastLife) : Type 0 where
+  pub long : length ts ≡ length lives
+  pub each : (k : ℕ) (t : LifeTally) (life : PastLife) → k < length ts
+      → IsLifeOf c (slice_index_or ts k t) (slice_index_or lives k life)
+
+-- the entry may follow each of the lives
+abbrev pub MayNoteEach : Config → List PastLife → ℕ → Entry → Type 0
+MayNoteEach c lives slot e =
+    (k : ℕ) (life : PastLife) → k < length lives → MayNote c (slice_index_or lives k life) slot e
+
+-- there is room for one request more of each
+abbrev pub HaveRoom : List LifeTally → Type 0
+HaveRoom ts = (k : ℕ) (t : LifeTally) → k < length ts → HasRoomFor (slice_index_or ts k t)
+
+-- a report keeps something of the entry: it begins a life, or is a request
+abbrev pub AddsToReport : Call → Reply → Type 0
+AddsToReport call reply = IsRequest call reply ⊎ IsOpening call reply
+
+-- so the report may lack memory for it, or the auditor may
+abbrev pub MayLackReportMemory : Config → List Entry → Entry → Type 0
+MayLackReportMemory c h e = MayLackMemory c h e.call ⊎ AddsToReport e.call e.reply
+
+-- What is told is of the lives of this history, which is legal, and the entry may follow it
+pub record MayFollow (c : Config) (h : List Entry) (ts : List LifeTally) (slot : ℕ) (e : Entry) : Type 0 where
+  pub lawful : IsLawful c
+  pub legal : IsLegal c h
+  pub step : IsStep c h e.call e.reply
+  pub short : length h < MAX_WHOLE_HISTORY
+  pub next : slot ≡ next_after c h
+  pub lives : AreLives c ts (lives_of h)
+
+-- These are the numbers of a life: where the next frame started at its admission, and where it started at its end or
+-- starts now, whether it ended, and what it asked and was granted
+pub record AreLifeNumbers (c : Config) (n : LifeNumbers) (life : PastLife) : Type 0 where
+  pub sid : n.sid ≡ life.sid
+  pub spec : n.spec ≡ life.spec
+  pub from : n.from ≡ next_after c life.upto
+  pub to : n.to ≡ next_after c (life.upto ++ life.since)
+  pub ended : n.ended ≡ life.ended
+  pub sums : AreSums c n.sums (requests_in life.sid life.since) (grants_since life.sid life.since)
