@@ -9,7 +9,6 @@ use Rattle.std.proofs.lemmas.List.Sums.{sum_by-cons}
 use Rattle.minislots.specs.declared.config.Config.{Config}
 use Rattle.minislots.specs.Config.{IsLawful}
 use Rattle.flow_book.specs.Flows.{LiveFlow, bytes_of}
-use Rattle.map_build.specs.declared.frame_map.FrameMap.{FrameMap}
 use Rattle.map_build.proofs.EachAfterLaws.{EachAfter-push}
 use Rattle.sched_history.specs.declared.call.Call.{Call}
 use Rattle.sched_history.specs.declared.call.Call.TheVariants as calls
@@ -32,7 +31,7 @@ use Rattle.sched_history.proofs.steps.LegalBounds.{flows_of-asked}
 use Rattle.sched_history.proofs.steps.LegalHistories.{accepted, IsNextMap-from_step}
 use Rattle.sched_report.specs.declared.service.Request.{Request}
 use Rattle.sched_report.specs.Delays.{bytes_asked}
-use Rattle.sched_report.specs.Lives.{PastLife, is_turn, lives_of, request_by, requests_in}
+use Rattle.sched_report.specs.Lives.{PastLife, is_turn, request_by, requests_in}
 use Rattle.sched_report.specs.Told.{MayNote}
 use Rattle.sched_report.proofs.Frames.{next_start-most}
 use Rattle.sched_report.proofs.LegalLives.{IsLifeIn, no_turn}

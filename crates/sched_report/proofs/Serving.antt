@@ -1,5 +1,5 @@
 -- What is kept of a life with one request or one grant more.
-use Rattle.std.proofs.Common.{◌≡◌, ℕ, ◌+◌, ◌<◌, ◌≤◌, List, [], ◌∷◌, ◌++◌, map, length, filter_map, None, refl, sym, ap}
+use Rattle.std.proofs.Common.{◌≡◌, ℕ, ◌+◌, ◌<◌, ◌≤◌, List, [], ◌∷◌, ◌++◌, map, length, None, refl, sym, ap}
 use Rattle.std.proofs.Common.{◌∙◌, subst, append_assoc, length-append, Option, Some, arith}
 use Rattle.std.specs.List.{AllByRecursion, cons_option}
 use Rattle.std.proofs.lemmas.List.{append-nil, length_push}
@@ -13,7 +13,7 @@ use Rattle.sched_report.specs.declared.service.Service.{Service}
 use Rattle.sched_report.specs.declared.service.Waiting.{Waiting}
 use Rattle.sched_report.specs.Delays.{bytes_asked, marks_from, marks_of, delay_until, delay_of, delays_of, AreDelays}
 use Rattle.sched_report.specs.Served.{IsServiceOf, IsWaitingBehind}
-use Rattle.sched_report.proofs.Reaching.{AreReached, AreUnreached, AreReachedBetween, delays_among, reaching-none}
+use Rattle.sched_report.proofs.Reaching.{AreReached, AreUnreached, AreReachedBetween, delays_among}
 use Rattle.sched_report.proofs.Reaching.{delays-unreached, delays-reached, delays-last, marks_from-push, MarksAscend}
 use Rattle.sched_report.proofs.Reaching.{marks_ascend, ascend-behind, unreached-first}
 

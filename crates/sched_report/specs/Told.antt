@@ -1,5 +1,5 @@
 -- What is told of one life of a flow.
-use Rattle.std.specs.Prelude.{◌≡◌, ℕ, ◌<◌, ◌≤◌, ◌^◌, Bool, true, false, List, [], ◌∷◌, ◌++◌, length, Option, None, Some}
+use Rattle.std.specs.Prelude.{◌≡◌, ℕ, ◌<◌, ◌≤◌, ◌^◌, false, List, [], ◌∷◌, ◌++◌, length, None, Some}
 use Rattle.std.specs.Prelude.{if◌then◌else◌}
 use Rattle.minislots.specs.declared.config.Config.{Config}
 use Rattle.minislots.specs.Config.{IsLawful}
@@ -8,7 +8,7 @@ use Rattle.flow_book.specs.Flows.{bytes_of}
 use Rattle.map_build.specs.declared.frame_map.FrameMap.{FrameMap}
 use Rattle.sched_history.specs.declared.reply.Reply.TheVariants.{Built}
 use Rattle.sched_history.specs.declared.reply.Entry.{Entry}
-use Rattle.sched_history.specs.Life.{grants_of_map, grants_since}
+use Rattle.sched_history.specs.Life.{grants_since}
 use Rattle.sched_history.specs.Time.{next_after}
 use Rattle.sched_report.specs.declared.service.Request.{Request}
 use Rattle.sched_report.specs.declared.service.Service.{Service}

@@ -1,13 +1,9 @@
 -- One element more.
-use Rattle.std.proofs.Common.{◌≡◌, ℕ, ◌+◌, ◌<◌, ◌≤◌, List, ◌++◌, length, refl, sym, ap, ◌∙◌, subst}
-use Rattle.std.proofs.Common.{append_assoc, append-nil, arith}
+use Rattle.std.proofs.Common.{◌++◌, sym, subst}
+use Rattle.std.proofs.Common.{append-nil, arith}
 use Rattle.std.specs.List.{zip, filter_map}
 use Rattle.std.proofs.lemmas.List.{take_all}
-use Rattle.std.proofs.lemmas.List.Sums.{sum_by-append}
 use Rattle.std.proofs.lemmas.Slice.Zip.{length-zip}
-use Rattle.map_codec.specs.declared.element.Element.{Element}
-use Rattle.flow_book.specs.declared.flow.Grant.{Grant}
-use Rattle.flow_book.specs.Flows.{bytes_of}
 use Rattle.sched_history.specs.Life.{grant_by}
 use Rattle.sched_report.specs.Served.{IsServiceOf}
 use Rattle.sched_report.proofs.Fronts.{first_grants, MayGrantAll-next, IsServiceOf-next}

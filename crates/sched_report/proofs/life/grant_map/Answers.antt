@@ -1,5 +1,5 @@
 -- The elements and the counts are the MAP's.
-use Rattle.std.proofs.Common.{List, ◌++◌, ℕ, sym, ap, ◌∙◌, subst}
+use Rattle.std.proofs.Common.{List, ◌++◌, ℕ, sym, subst}
 use Rattle.std.specs.List.{zip, filter_map}
 use Rattle.map_codec.specs.declared.element.Element.{Element}
 use Rattle.sched_history.specs.Life.{grant_by}

@@ -1,5 +1,5 @@
 -- Each life goes on, and one may begin.
-use Rattle.std.proofs.Common.{◌≡◌, ℕ, ◌<◌, List, [], ◌∷◌, ◌++◌, map, sym, ◌∙◌, subst, arith}
+use Rattle.std.proofs.Common.{List, map, sym, ◌∙◌, subst, arith}
 use Rattle.std.proofs.lemmas.List.{with_items_is}
 use Rattle.sched_history.proofs.steps.LegalBounds.{next_after-most}
 use Rattle.sched_report.specs.declared.life.LifeTally.{LifeTally}

@@ -1,9 +1,9 @@
 -- One life more has the entry.
-use Rattle.std.proofs.Common.{◌≡◌, ℕ, ◌+◌, ◌<◌, length, get_or, set, map, inl, inr, sym, ◌∙◌, subst, arith}
+use Rattle.std.proofs.Common.{◌≡◌, ◌<◌, length, get_or, set, inl, inr, sym, ◌∙◌, subst, arith}
 use Rattle.std.proofs.lemmas.Bool.{cases_eq}
 use Rattle.std.proofs.lemmas.List.{get_or-set_same, get_or-set_other, get_or-map, length-map}
 use Rattle.sched_report.specs.declared.life.LifeTally.{LifeTally}
-use Rattle.sched_report.specs.Lives.{PastLife, with_entry}
+use Rattle.sched_report.specs.Lives.{with_entry}
 use Rattle.sched_report.specs.Told.{IsLifeOf, HasRoomFor}
 use Rattle.sched_report.proofs.LivesEach.{no_life, is_request}
 use Rattle.sched_report.proofs.lives.note_each.Goals as goal

@@ -1,8 +1,8 @@
 -- The lives gone through have the entry, and the others not yet.
-use Rattle.std.proofs.Common.{◌≡◌, ℕ, ◌<◌, ◌≤◌, List, length, get_or}
+use Rattle.std.proofs.Common.{◌≡◌, ℕ, ◌<◌, ◌≤◌, List, get_or}
 use Rattle.sched_report.specs.declared.life.LifeTally.{LifeTally}
 use Rattle.sched_report.specs.Lives.{PastLife, with_entry}
-use Rattle.sched_report.specs.Told.{IsLifeOf, MayNote, HasRoomFor}
+use Rattle.sched_report.specs.Told.{IsLifeOf}
 use Rattle.sched_report.specs.ToldLives.{AreLives, MayNoteEach}
 use Rattle.sched_report.proofs.lives.note_each.Given as goal
 

@@ -1,5 +1,5 @@
 -- One life more has room.
-use Rattle.std.proofs.Common.{◌≡◌, ℕ, ◌+◌, ◌<◌, length, get_or, set, inl, inr, sym, subst, arith}
+use Rattle.std.proofs.Common.{◌<◌, length, get_or, set, inl, inr, sym, subst, arith}
 use Rattle.std.proofs.lemmas.Bool.{cases_eq}
 use Rattle.std.proofs.lemmas.List.{get_or-set_same, get_or-set_other}
 use Rattle.sched_report.specs.Told.{HasRoomFor}

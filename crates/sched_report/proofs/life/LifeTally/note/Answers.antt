@@ -1,5 +1,5 @@
 -- The life goes on with what the entry has of requests and grants.
-use Rattle.std.proofs.Common.{◌≡◌, ◌++◌, [], ◌∷◌, false, refl, Some, None, sym, ap, ◌∙◌, subst}
+use Rattle.std.proofs.Common.{◌≡◌, ◌++◌, false, refl, Some, None, sym, ap, ◌∙◌, subst}
 use Rattle.sched_history.specs.Life.{grants_of_map, grants_since}
 use Rattle.sched_history.specs.Time.{next_after}
 use Rattle.sched_report.specs.Served.{IsServiceOf}

@@ -2,7 +2,6 @@
 use Rattle.std.proofs.Common.{◌≡◌, length, refl, sym, ap, subst, arith}
 use Rattle.std.proofs.lemmas.List.{get_or-replicate}
 use Rattle.sched_history.specs.Machine.{Past}
-use Rattle.sched_report.specs.declared.life.LifeTally.{LifeTally}
 use Rattle.sched_report.specs.Reported.{IsReport}
 use Rattle.sched_report.proofs.reporter.Reporter.open.Goals as goal
 
