@@ -6,7 +6,7 @@ pub const VERSION: &str = "0.2.0";
 /// The exit statuses.
 pub const STATUSES: &str = "Exit statuses:
   0  done
-  1  the text is no payload of a MAP, or the history is illegal
+  1  the text is no payload of a MAP and no frame, or the history is illegal
   2  the command line is wrong
   3  the input is wrong: `input failed`, `input too long` (above 16777216 bytes),
      `not json`, `bad script at N` (0: the document or its configuration, else
@@ -30,13 +30,30 @@ stands behind it:
   refused 12 800  # too far: the next frame starts at 800, and what is heard lies
   before it
 With --history calls that were not recorded are left out, and standard error tells
-how many.
+how many. With --frames behind `map` stands the whole MAC management message, from
+the address 02:00:00:00:00:01, in place of its payload.
 
 Exit statuses: 0, or 2 for the command line, 3 for the input, 4 for the machine.
 Where a script is bad, `mapsched check` tells where, and what was expected there.
 
 Example:
   ./mapsched run < examples/two_maps.json"#;
+
+/// The command that writes a capture.
+pub const PCAP: &str =
+    r#"Reads from standard input what `run` reads: {"config": {..}, "calls": [..]}.
+
+Writes a capture in the classic form of pcap with nanoseconds, link type DOCSIS
+(143): put it into a file, and open that in Wireshark. It has the MAC management
+message of each MAP, at the time at which its frame starts, counted from minislot 0.
+Standard error tells how many calls were not recorded.
+
+--mac 02:00:00:00:00:01 is the sender's address, six bytes in hexadecimal.
+
+Exit statuses: 0, or 2 for the command line, 3 for the input, 4 for the machine.
+
+Example:
+  ./mapsched pcap < examples/two_maps.json"#;
 
 /// The command that shows a payload.
 pub const DECODE: &str =
@@ -48,6 +65,13 @@ offset in minislots, usage. A text that is no payload has one line: `fault hex`,
 or `fault` and a number (1 short, 2 above 240 elements, 3 wrong length, 4 an
 expansion, 5 offsets that descend, 6 no Null, 7 a second Null), for 4, 5 and 7
 with the element, counted from 0. With --explain a second line says what it means.
+
+With --frame the word is a whole frame. That of a MAP, the MAC management message,
+has a line `frame map` with the sender's address, and then the payload's table; a
+request frame `frame request`, the SID and the minislots; a queue-depth request frame
+`frame queue`, the SID and the number. Other bytes have the payload's fault, or
+`fault frame` and the first of these: 1 length, 2 kind, 3 SID above 14 bits, 4 header
+check sequence, 5 CRC, 6 a field of the management header.
 
 Usage codes (IUC):
   1  request: where modems may ask; for one modem, a poll
@@ -62,7 +86,7 @@ Usage codes (IUC):
  10  aphy_long: advanced PHY, long data grant
  11  aphy_ug: advanced PHY, unsolicited grant
 
-Exit statuses: 0 a payload, 1 none, 2 for the command line, 4 for the machine.
+Exit statuses: 0 a payload or frame, 1 none, 2 for the command line, 4 for the machine.
 
 Example:
   ./mapsched decode --draw 03010300000003200000032000000000fffc4000000180040001c028";

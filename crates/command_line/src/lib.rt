@@ -28,15 +28,36 @@ fn flag<'a>(alloc: Global, name: &'a str, help: &'a str) -> Arg<'a>
 
 // The command that runs a script.
 fn run_command<'a>(alloc: Global) -> Result<Command<'a>, AllocError>
-    ensures { IfOk result (λ r. IsCommand r (codes "run") (codes "history" ∷ codes "explain" ∷ []) []) }
+    ensures { IfOk result (λ r. IsCommand r (codes "run")
+        (codes "history" ∷ codes "explain" ∷ codes "frames" ∷ []) []) }
 {
     let about = "Reads a script from standard input and prints one line for each call";
     let history = flag(alloc, "history", "Prints the history of the calls in JSON");
     let explain = flag(alloc, "explain", "Tells behind each refusal what it means");
     let explain = explain.conflicts_with("history")?;
+    let frames = flag(alloc, "frames", "Prints the whole frame of each MAP");
+    let frames = frames.conflicts_with("history")?.conflicts_with("explain")?;
     command(alloc, "run", about, help::RUN)
         .arg(history)?
-        .arg(explain)
+        .arg(explain)?
+        .arg(frames)
+}
+
+// The address of a sender.
+fn address_option<'a>(alloc: Global) -> Arg<'a>
+    ensures named { result.id.now ≡ codes "mac" }
+    ensures local { result.global ≡ false }
+{
+    let address = Arg::new(alloc, "mac").long("mac").value_name("ADDRESS");
+    address.help("The sender's address, or else 02:00:00:00:00:01")
+}
+
+// The command that writes a capture.
+fn pcap_command<'a>(alloc: Global) -> Result<Command<'a>, AllocError>
+    ensures { IfOk result (λ r. IsCommand r (codes "pcap") (codes "mac" ∷ []) []) }
+{
+    let about = "Reads a script from standard input and writes its MAPs as a capture for Wireshark";
+    command(alloc, "pcap", about, help::PCAP).arg(address_option(alloc))
 }
 
 // The payload of the command `decode`.
@@ -46,7 +67,7 @@ fn payload_word<'a>(alloc: Global) -> Arg<'a>
 {
     Arg::new(alloc, "HEX")
         .required(true)
-        .help("The payload of a MAP in hexadecimal")
+        .help("The payload of a MAP in hexadecimal, or with --frame a whole frame")
 }
 
 // The columns of a drawing.
@@ -64,7 +85,7 @@ fn columns_option<'a>(alloc: Global) -> Result<Arg<'a>, AllocError>
 // The command that shows a payload.
 fn decode_command<'a>(alloc: Global) -> Result<Command<'a>, AllocError>
     ensures { IfOk result (λ r. IsCommand r (codes "decode")
-        (codes "HEX" ∷ codes "draw" ∷ codes "columns" ∷ codes "explain" ∷ []) []) }
+        (codes "HEX" ∷ codes "draw" ∷ codes "columns" ∷ codes "explain" ∷ codes "frame" ∷ []) []) }
 {
     let about = "Shows the payload of a MAP as a table";
     let draw = flag(
@@ -73,11 +94,14 @@ fn decode_command<'a>(alloc: Global) -> Result<Command<'a>, AllocError>
         "Draws the frame too, a character for each minislot",
     );
     let explain = flag(alloc, "explain", "Tells behind a fault what it means");
+    let frame = flag(alloc, "frame", "Reads a whole frame: a MAP's, or a request's");
+    let frame = frame.conflicts_with("explain")?;
     command(alloc, "decode", about, help::DECODE)
         .arg(payload_word(alloc))?
         .arg(draw)?
         .arg(columns_option(alloc)?)?
-        .arg(explain)
+        .arg(explain)?
+        .arg(frame)
 }
 
 // The command that judges a history.
@@ -140,22 +164,30 @@ fn draw_command<'a>(alloc: Global) -> Result<Command<'a>, AllocError>
         .arg(frames_option(alloc, "count", 1, count)?)
 }
 
-/// The commands of the program, with their options and their help. Out of memory is the only error.
-pub fn commands<'a>(alloc: Global) -> Result<Command<'a>, AllocError>
-    ensures { IfOk result (λ r. IsCommand r (codes "mapsched") []
-        ((codes "run", codes "history" ∷ codes "explain" ∷ [])
-        ∷ (codes "decode", codes "HEX" ∷ codes "draw" ∷ codes "columns" ∷ codes "explain" ∷ [])
-        ∷ (codes "draw", codes "from" ∷ codes "count" ∷ []) ∷ (codes "audit", codes "explain" ∷ [])
-        ∷ (codes "storm", []) ∷ (codes "check", []) ∷ [])) }
+// The program, before its commands.
+fn program<'a>(alloc: Global) -> Command<'a>
+    ensures { IsCommand result (codes "mapsched") [] [] }
 {
     let about = "The upstream scheduler of one TDMA channel";
     command(alloc, "mapsched", about, help::STATUSES)
         .version(help::VERSION)
         .subcommand_required(true)
+}
+
+/// The commands of the program, with their options and their help. Out of memory is the only error.
+pub fn commands<'a>(alloc: Global) -> Result<Command<'a>, AllocError>
+    ensures { IfOk result (λ r. IsCommand r (codes "mapsched") []
+        ((codes "run", codes "history" ∷ codes "explain" ∷ codes "frames" ∷ [])
+        ∷ (codes "decode", codes "HEX" ∷ codes "draw" ∷ codes "columns" ∷ codes "explain" ∷ codes "frame" ∷ [])
+        ∷ (codes "draw", codes "from" ∷ codes "count" ∷ []) ∷ (codes "audit", codes "explain" ∷ [])
+        ∷ (codes "storm", []) ∷ (codes "check", []) ∷ (codes "pcap", codes "mac" ∷ []) ∷ [])) }
+{
+    program(alloc)
         .subcommand(run_command(alloc)?)?
         .subcommand(decode_command(alloc)?)?
         .subcommand(draw_command(alloc)?)?
         .subcommand(audit_command(alloc)?)?
         .subcommand(storm_command(alloc))?
-        .subcommand(check_command(alloc))
+        .subcommand(check_command(alloc))?
+        .subcommand(pcap_command(alloc)?)
 }

@@ -1,13 +1,14 @@
-//! `mapsched`: the upstream scheduler of one TDMA channel, run on a script, the picture of its frames, the table of a
-//! MAP, and the audit of a history.
+//! `mapsched`: the upstream scheduler of one TDMA channel, run on a script, the picture of its frames, the capture of
+//! its MAPs, the table of a MAP, and the audit of a history.
 #![tactic(auto)]
 
 use audit_command::audit_input;
 use clap::error::ErrorKind;
 use clap::{ArgMatches, Error};
 use command_line::commands;
-use decode_command::show_text;
+use decode_command::{show_frame, show_text};
 use draw_command::draw_input;
+use pcap_command::{ADDRESS, address_of, frames_input, pcap_input};
 use run_command::{RunOutput, Words, run_input};
 use sched_check::check_input;
 use std::alloc::Global;
@@ -44,19 +45,18 @@ fn explain(rt: &(impl Print + Eprint), error: Error) -> ExitCode {
     ExitCode::from(error.exit_code() as u8)
 }
 
-// The command `decode`: whether the text is a payload.
+// The command `decode`: whether the text is a payload, or a frame.
 fn show(rt: &(impl Print + Env + AllocGlobal), decode: &ArgMatches) -> Result<bool, RunFault> {
     let text = decode.get_str("HEX").unwrap_or("");
-    show_text(
-        rt,
-        text,
-        decode.get_flag("draw"),
-        decode.get_one("columns"),
-        decode.get_flag("explain"),
-    )
+    let is_drawn = decode.get_flag("draw");
+    let columns = decode.get_one("columns");
+    if decode.get_flag("frame") {
+        return show_frame(rt, text, is_drawn, columns);
+    }
+    show_text(rt, text, is_drawn, columns, decode.get_flag("explain"))
 }
 
-// What the command `run` is asked to write.
+// What the command `run` is asked to write, but for whole frames.
 fn output_of(run: &ArgMatches) -> RunOutput {
     if run.get_flag("explain") {
         return RunOutput::Lines(Words::Explained);
@@ -65,6 +65,44 @@ fn output_of(run: &ArgMatches) -> RunOutput {
         return RunOutput::History;
     }
     RunOutput::Lines(Words::Plain)
+}
+
+// The command `run`.
+fn run(
+    rt: &(impl Input + Print + Eprint + AllocGlobal),
+    run: &ArgMatches,
+) -> Result<bool, RunFault> {
+    if run.get_flag("frames") {
+        return frames_input(rt, &ADDRESS);
+    }
+    run_input(rt, output_of(run))
+}
+
+// The address of the command `pcap`, or a fault of the command line.
+fn address_in(alloc: Global, pcap: &ArgMatches) -> Result<[u8; 6], Error> {
+    let Some(text) = pcap.get_str("mac") else {
+        return Ok(ADDRESS);
+    };
+    match address_of(text) {
+        Some(address) => Ok(address),
+        None => {
+            let what = "an address is six bytes in hexadecimal, as 02:00:00:00:00:01";
+            let mut program = commands(alloc)?;
+            Err(program.error(ErrorKind::ValueValidation, what)?)
+        }
+    }
+}
+
+// The command `pcap`.
+fn pcap(rt: &(impl Input + Print + Eprint + AllocGlobal), pcap: &ArgMatches) -> ExitCode {
+    let address = match address_in(rt.alloc(), pcap) {
+        Ok(address) => address,
+        Err(error) => return explain(rt, error),
+    };
+    match pcap_input(rt, &address) {
+        Ok(_) => ExitCode::SUCCESS,
+        Err(fault) => fail(rt, fault),
+    }
 }
 
 // The command `draw`: all frames, or those that are asked for.
@@ -100,7 +138,8 @@ fn main(rt: HostRuntime) -> ExitCode {
         Some(("audit", audit)) => audit_input(&rt, audit.get_flag("explain")),
         Some(("check", _)) => return check(&rt),
         Some(("storm", _)) => storm_input(&rt),
-        Some((_, run)) => run_input(&rt, output_of(run)),
+        Some(("pcap", words)) => return pcap(&rt, words),
+        Some((_, words)) => run(&rt, words),
         None => run_input(&rt, RunOutput::Lines(Words::Plain)),
     };
     match outcome {

@@ -1,20 +1,13 @@
 -- The commands stand in their order.
-use Rattle.std.proofs.Common.{rules, codes, []}
+use Rattle.std.proofs.Common.{codes, []}
 use Rattle.std.proofs.lemmas.Result.{IfOk-weaker}
-use Rattle.command_line.specs.Taken.{IsCommand}
 use Rattle.command_line.proofs.Adding.{IsCommand-sub}
 use Rattle.command_line.proofs.commands.Goals as goal
 
 pub returns : goal.returns
 returns c =
-    let top : IsCommand c.subcommand_required.result (codes "mapsched") [] [] = record {
-      named = search rules;
-      arguments = search rules;
-      subcommands = search rules;
-      local = search rules;
-    } in
-    let run = IsCommand-sub _ _ _ (codes "mapsched") (codes "run") [] _ [] [] top c.in_ok-subcommand.ensures
-    c.in_ok-run_command.ensures in
+    let run = IsCommand-sub _ _ _ (codes "mapsched") (codes "run") [] _ [] [] c.program.ensures
+    c.in_ok-subcommand.ensures c.in_ok-run_command.ensures in
     let decode = IsCommand-sub _ _ _ (codes "mapsched") (codes "decode") [] _ _ [] run c.in_ok-subcommand-2.ensures
     c.in_ok-decode_command.ensures in
     let draw = IsCommand-sub _ _ _ (codes "mapsched") (codes "draw") [] _ _ [] decode c.in_ok-subcommand-3.ensures
@@ -23,5 +16,7 @@ returns c =
     c.in_ok-audit_command.ensures in
     let storm = IsCommand-sub _ _ _ (codes "mapsched") (codes "storm") [] [] _ [] audit c.in_ok-subcommand-5.ensures
     c.storm_command.ensures in
-    IfOk-weaker _ _ _ (λ r adds. IsCommand-sub _ _ r (codes "mapsched") (codes "check") [] [] _ [] storm adds
-    c.check_command.ensures) c.subcommand-6.ensures
+    let check = IsCommand-sub _ _ _ (codes "mapsched") (codes "check") [] [] _ [] storm c.in_ok-subcommand-6.ensures
+    c.check_command.ensures in
+    IfOk-weaker _ _ _ (λ r adds. IsCommand-sub _ _ r (codes "mapsched") (codes "pcap") [] _ _ [] check adds
+    c.in_ok-pcap_command.ensures) c.subcommand-7.ensures

@@ -13,5 +13,7 @@ returns c =
     (search rules) (search rules) in
     let wide = IsCommand-arg _ _ _ (codes "decode") (codes "columns") _ [] drawn
     c.in_ok-arg-3.ensures (search rules) (search rules) in
-    IfOk-weaker _ _ _ (λ r adds. IsCommand-arg _ r _ (codes "decode") (codes "explain") _ [] wide adds
-    (search rules) (search rules)) c.arg-4.ensures
+    let explained = IsCommand-arg _ _ _ (codes "decode") (codes "explain") _ [] wide c.in_ok-arg-4.ensures
+    (search rules) (search rules) in
+    IfOk-weaker _ _ _ (λ r adds. IsCommand-arg _ r _ (codes "decode") (codes "frame") _ [] explained adds
+    (search rules) (search rules)) c.arg-5.ensures
