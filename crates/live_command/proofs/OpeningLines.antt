@@ -1,0 +1,91 @@
+-- Lines before an opening.
+use Rattle.std.proofs.Common.{◌≡◌, ℕ, ◌+◌, ◌-◌, ◌^◌, ◌≤◌, Bool, true, false, List, [], ◌∷◌, ◌++◌, length, Option}
+use Rattle.std.proofs.Common.{refl, sym, ap, ◌∙◌, inl, arith, length-append}
+use Rattle.std.specs.Io.KnownBytes.{IsAtEnd}
+use Rattle.line_stream.specs.declared.Told.{Told}
+use Rattle.line_stream.specs.Lines.{TakesLines}
+use Rattle.line_stream.specs.Told.{AtHand, HasNoEnd, TellsNext, StopsLine}
+use Rattle.text_stream.specs.declared.fault.TextFault.{TextFault}
+use Rattle.text_stream.specs.declared.fault.TextFault.TheVariants.{Input, TooLong, NotJson, Shape, Config, Memory}
+use Rattle.text_stream.specs.declared.fault.TextFault.TheVariants.{Output}
+use Rattle.live_command.specs.Spoken.{is_spoken, spoken}
+use Rattle.live_command.specs.Opening.{BreaksOffBefore, ComesTooMuchBefore, HasNoOpening, TellsSpoken, StopsBefore}
+use Rattle.live_command.proofs.Saying.{spoken-append}
+use Rattle.live_command.proofs.Talking.{TakesLines-none, TakesLines-trans, TakesLines-front, TakesLines-all}
+
+-- so many lines were told, all of them blank
+pub record PassesBlanks (unread left : Option (List ℕ)) (turns : ℕ) : Type 0 where
+  pub blanks : List (List ℕ)
+  pub blank : spoken blanks ≡ []
+  pub read : TakesLines unread blanks left
+  pub many : turns ≤ length blanks
+
+-- none were told
+pub PassesBlanks-none : (unread : Option (List ℕ)) → PassesBlanks unread unread 0
+PassesBlanks-none unread = record { blanks = []; blank = refl; read = TakesLines-none unread; many = omega arith }
+
+module _ (unread mid : Option (List ℕ)) (turns : ℕ) (passes : PassesBlanks unread mid turns) where
+  -- one blank line more
+  pub PassesBlanks-push : (left : Option (List ℕ)) (hand : AtHand) (told : Told) (spoken_is : Bool)
+      → (next : TellsNext mid left hand told) → spoken_is ≡ is_spoken next.line → spoken_is ≡ false
+      → PassesBlanks unread left (turns + 1)
+  PassesBlanks-push left hand told spoken_is next same blank =
+      let none : is_spoken next.line ≡ false = sym same ∙ blank in
+      let one : spoken (next.line ∷ []) ≡ [] = rw none refl in
+      record {
+        blanks = passes.blanks ++ next.line ∷ [];
+        blank = spoken-append passes.blanks (next.line ∷ [])
+            ∙ ap (λ (l : List (List ℕ)). l ++ spoken (next.line ∷ [])) passes.blank ∙ one;
+        read = TakesLines-trans unread mid left passes.blanks (next.line ∷ []) passes.read next.taken;
+        many = omega (arith, passes.many, length-append passes.blanks (next.line ∷ []));
+      }
+
+  -- a line that is not blank
+  pub PassesBlanks-told : (left : Option (List ℕ)) (hand : AtHand) (told : Told) (spoken_is : Bool)
+      → (next : TellsNext mid left hand told) → spoken_is ≡ is_spoken next.line → spoken_is ≡ true
+      → TellsSpoken unread left hand told
+  PassesBlanks-told left hand told spoken_is next same is = record {
+    blanks = passes.blanks;
+    line = next.line;
+    blank = passes.blank;
+    spoken_is = sym same ∙ is;
+    taken = TakesLines-trans unread mid left passes.blanks (next.line ∷ []) passes.read next.taken;
+    is = next.is;
+  }
+
+  -- the end
+  pub PassesBlanks-ended : IsAtEnd mid → HasNoOpening unread
+  PassesBlanks-ended ended = record {
+    blanks = passes.blanks;
+    blank = passes.blank;
+    read = TakesLines-all unread mid passes.blanks passes.read ended;
+  }
+
+  abbrev off : (left : Option (List ℕ)) → HasNoEnd mid left → BreaksOffBefore unread left
+  off left none = record {
+    blanks = passes.blanks;
+    blank = passes.blank;
+    between = mid;
+    read = passes.read;
+    none = none;
+  }
+
+  -- no line more
+  pub PassesBlanks-stops : (left : Option (List ℕ)) (fault : TextFault) → StopsLine mid left fault
+      → StopsBefore unread left fault
+  PassesBlanks-stops left Input stops = off left stops
+  PassesBlanks-stops left TooLong stops = inl (off left stops.0, stops.1)
+  PassesBlanks-stops left NotJson stops = stops
+  PassesBlanks-stops left (Shape n) stops = stops
+  PassesBlanks-stops left (Config field) stops = stops
+  PassesBlanks-stops left Memory stops = stops
+  PassesBlanks-stops left Output stops = stops
+
+  -- too many
+  pub PassesBlanks-many : 2 ^ 64 - 1 ≤ turns → ComesTooMuchBefore unread
+  PassesBlanks-many most = record {
+    blanks = passes.blanks;
+    blank = passes.blank;
+    read = TakesLines-front unread mid passes.blanks passes.read;
+    many = omega (arith, most, passes.many);
+  }

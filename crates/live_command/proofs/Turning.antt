@@ -1,0 +1,93 @@
+-- A turn of a conversation.
+use Rattle.std.proofs.Common.{◌≡◌, ℕ, ◌<◌, Bool, List, [], length, drop, Option, None, Some}
+use Rattle.std.proofs.Common.{Result, Ok, Err, refl, sym, ap, subst, inl, inr, arith}
+use Rattle.std.specs.Prelude.{◌⊎◌, MatchOption, MatchResult}
+use Rattle.std.proofs.Math.Seq.{drop-length}
+use Rattle.sched_history.specs.declared.reply.Entry.{Entry}
+use Rattle.sched_history.specs.Machine.{Machine, kept_of}
+use Rattle.line_stream.specs.declared.Told.{Told}
+use Rattle.line_stream.specs.Told.{AtHand, HasEnded, TellsNext, StopsLine}
+use Rattle.text_stream.specs.declared.fault.TextFault.{TextFault}
+use Rattle.text_stream.specs.declared.fault.TextFault.TheVariants.{Input, TooLong, NotJson, Shape, Config, Memory}
+use Rattle.text_stream.specs.declared.fault.TextFault.TheVariants.{Output}
+use Rattle.live_command.specs.declared.fault.LiveFault.{LiveFault}
+use Rattle.live_command.specs.declared.fault.LiveFault.TheVariants.{Text, Journal}
+use Rattle.live_command.specs.Talk.{start_at, Start, Talk, TellsOn, Conversed, StopsTalk}
+use Rattle.live_command.proofs.Talking.{Appends-none, TakesLines-none, Talk-ended, Talk-broken}
+
+-- what follows from the first of two facts that hold where there is a value
+pub first_of_two : {A E : Type 0} (P Q : Type 0) (S : E → Type 0) (r : Result A E) → MatchResult r (λ _. P × Q) S
+    → MatchResult r (λ _. P) S
+first_of_two P Q S (Ok x) holds = holds.0
+first_of_two P Q S (Err e) holds = holds
+
+-- where all that was kept is handed over there is room
+pub settled_room : (m new : Machine) → 0 < m.config.calls → new ≡ record m { handed = length m.history }
+    → length (kept_of new) < new.config.calls
+settled_room m new positive state =
+    let empty : length (drop (length m.history) m.history) ≡ 0 = ap length (drop-length m.history) in
+    let room : length (drop (length m.history) m.history) < m.config.calls =
+    subst (λ (n : ℕ). n < m.config.calls) (sym empty) positive in
+    subst (λ (k : Machine). length (kept_of k) < k.config.calls) (sym state) room
+
+module _ (s : Start) (turns : ℕ) (m : Machine) (left written : Option (List ℕ)) (stands : List Entry → Type 0) where
+  -- the next line of what is left
+  pub TellsOn-next : (after : Option (List ℕ)) (waits : List ℕ) (hand : AtHand) (told : Told)
+      → Talk s turns m left written stands waits → TellsNext left after hand told
+      → TellsOn s turns m after written stands waits hand told
+  TellsOn-next after waits hand told talk next = record {
+    line = next.line;
+    is = next.is;
+    between = left;
+    talk = talk;
+    taken = next.taken;
+  }
+
+  -- or the end
+  pub next_or_end : (after : Option (List ℕ)) (hand : AtHand) (told : Option Told)
+      → Talk s turns m left written stands [] → stands m.history
+      → MatchOption told (HasEnded left after) (TellsNext left after hand)
+      → MatchOption told (Conversed s m after written stands) (TellsOn s turns m after written stands [] hand)
+  next_or_end after hand None talk stood ended =
+      Talk-ended s turns m left written stands talk after stood ended.0 ended.1
+  next_or_end after hand (Some told) talk stood next = TellsOn-next after [] hand told talk next
+
+  -- or no line
+  pub stops_reading : (after : Option (List ℕ)) (fault : TextFault) → Talk s turns m left written stands []
+      → stands m.history → StopsLine left after fault → StopsTalk s m after written stands (Text fault)
+  stops_reading after Input talk stood stops = Talk-broken s turns m left written stands talk after stood stops
+  stops_reading after TooLong talk stood stops =
+      inl (Talk-broken s turns m left written stands talk after stood stops.0, stops.1)
+  stops_reading after NotJson talk stood stops = stops
+  stops_reading after (Shape n) talk stood stops = stops
+  stops_reading after (Config field) talk stood stops = stops
+  stops_reading after Memory talk stood stops = absurd stops
+  stops_reading after Output talk stood stops = absurd stops
+
+-- a journal, a writer or memory stops a conversation anywhere
+pub stops_anywhere : (s : Start) (m : Machine) (left written : Option (List ℕ)) (stands : List Entry → Type 0)
+    (e : LiveFault) → (e ≡ Journal) ⊎ ((e ≡ Text Memory) ⊎ (e ≡ Text Output)) → StopsTalk s m left written stands e
+stops_anywhere s m left written stands e (inl is) = subst (StopsTalk s m left written stands) (sym is) tt
+stops_anywhere s m left written stands e (inr (inl is)) = subst (StopsTalk s m left written stands) (sym is) tt
+stops_anywhere s m left written stands e (inr (inr is)) = subst (StopsTalk s m left written stands) (sym is) tt
+
+-- a conversation begins
+pub Talk-start : (explained : Bool) (m : Machine) (unread written : Option (List ℕ)) (stands : List Entry → Type 0)
+    → m.handed ≡ length m.history → stands m.history
+    → Talk (start_at explained m unread written) 0 m unread written stands []
+Talk-start explained m unread written stands handed stood = record {
+  lines = [];
+  texts = [];
+  history = m.history;
+  says = refl;
+  stood = stood;
+  out = Appends-none written;
+  more = [];
+  answers = [];
+  says_more = refl;
+  waiting = refl;
+  read = TakesLines-none unread;
+  config = refl;
+  handed = handed;
+  many = omega arith;
+}

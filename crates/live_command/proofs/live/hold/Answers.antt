@@ -1,0 +1,67 @@
+-- The opening is read, and then the conversation is held.
+use Rattle.std.proofs.Common.{◌≡◌, ℕ, List, [], Option, Ok, refl, ap, subst, ◌∙◌, inl, inr}
+use Rattle.std.proofs.lemmas.Result.{err_from_is_err_and}
+use Rattle.sched_history.specs.Machine.{Machine}
+use Rattle.line_stream.specs.Told.{AtHand, untold}
+use Rattle.live_command.specs.Opening.{Opens, StopsOpening}
+use Rattle.live_command.proofs.Talking.{Stopped-quiet}
+use Rattle.live_command.proofs.Turning.{Talk-start}
+use Rattle.live_command.proofs.Holding.{none_at_hand, ends_early, ends_well}
+use Rattle.live_command.proofs.live.hold.Goals as goal
+
+pub returns-in_err-config-clause-ends : goal.returns-in_err-config-clause-ends
+returns-in_err-config-clause-ends g c =
+    let p = err_from_is_err_and c.from_residual.result c.from_residual.ensures.1 in
+    let unread = g.R.Source.remaining c.args.reader.now in
+    let left = g.R.Source.remaining c.read_opening.new.reader in
+    let fault = c.in_err-config.field-0.0 in
+    let same : untold c.new-lines.result unread ≡ unread =
+    ap (λ (h : AtHand). untold h unread) c.new-lines.ensures ∙ none_at_hand unread in
+    let stops = subst (λ (u : Option (List ℕ)). StopsOpening u left fault) same c.in_err-config.ensures.stops in
+    rw (p.1, p.2) (inl (fault, refl, stops, (refl, refl)))
+
+pub returns-in_err-begin-clause-ends : goal.returns-in_err-begin-clause-ends
+returns-in_err-begin-clause-ends g c =
+    let exit = c.from_residual-in_err-begin in
+    let p = err_from_is_err_and exit.result exit.ensures.1 in
+    let unread = g.R.Source.remaining c.args.reader.now in
+    let behind = untold c.read_opening.new.lines (g.R.Source.remaining c.read_opening.new.reader) in
+    let config = c.in_ok-config.config in
+    let same : untold c.new-lines.result unread ≡ unread =
+    ap (λ (h : AtHand). untold h unread) c.new-lines.ensures ∙ none_at_hand unread in
+    let opened = subst (λ (u : Option (List ℕ)). Opens u behind (Ok config)) same c.in_ok-config.ensures.ok in
+    let m : Machine = record { config = config; history = []; handed = 0 } in
+    let start = Talk-start c.args.explained m behind (g.W.Sink.contents c.args.writer.now)
+    (g.J.Journal.stands_for c.begin.new.self) refl (c.in_err-begin.ensures.same [] c.requires) in
+    rw (p.1, p.2) (inr (record {
+      config = config;
+      behind = behind;
+      opened = opened;
+      stopped = Stopped-quiet _ 0 _ _ _ _ _ start;
+      scheduler = m;
+      stops = tt;
+    }))
+
+pub returns-clause-ok : goal.returns-clause-ok
+returns-clause-ok g c =
+    let unread = g.R.Source.remaining c.args.reader.now in
+    let behind = untold c.read_opening.new.lines (g.R.Source.remaining c.read_opening.new.reader) in
+    let config = c.in_ok-config.config in
+    let same : untold c.new-lines.result unread ≡ unread =
+    ap (λ (h : AtHand). untold h unread) c.new-lines.ensures ∙ none_at_hand unread in
+    let opened = subst (λ (u : Option (List ℕ)). Opens u behind (Ok config)) same c.in_ok-config.ensures.ok in
+    let conversed = rw c.in_ok-scheduler.ensures at c.converse.ensures.ok in
+    ends_well c.args.explained config unread behind _ _ _ _ _ opened c.converse.new.lines.bytes c.converse.result
+    conversed
+
+pub returns-clause-ends : goal.returns-clause-ends
+returns-clause-ends g c =
+    let unread = g.R.Source.remaining c.args.reader.now in
+    let behind = untold c.read_opening.new.lines (g.R.Source.remaining c.read_opening.new.reader) in
+    let config = c.in_ok-config.config in
+    let same : untold c.new-lines.result unread ≡ unread =
+    ap (λ (h : AtHand). untold h unread) c.new-lines.ensures ∙ none_at_hand unread in
+    let opened = subst (λ (u : Option (List ℕ)). Opens u behind (Ok config)) same c.in_ok-config.ensures.ok in
+    let stopped = rw c.in_ok-scheduler.ensures at c.converse.ensures.stopped in
+    let stops = rw c.in_ok-scheduler.ensures at c.converse.ensures.stops in
+    ends_early c.args.explained config unread behind _ _ _ _ _ opened _ c.converse.result stopped stops

@@ -1,0 +1,53 @@
+-- A conversation from its opening on.
+use Rattle.std.specs.Prelude.{◌≡◌, ◌⊎◌, ℕ, Bool, List, [], Option, Ok}
+use Rattle.std.specs.Io.KnownBytes.{IsAtEnd}
+use Rattle.minislots.specs.declared.config.Config.{Config}
+use Rattle.sched_history.specs.declared.reply.Entry.{Entry}
+use Rattle.sched_history.specs.Machine.{Machine}
+use Rattle.text_stream.specs.declared.fault.TextFault.{TextFault}
+use Rattle.live_command.specs.declared.fault.LiveFault.{LiveFault}
+use Rattle.live_command.specs.declared.fault.LiveFault.TheVariants.{Text}
+use Rattle.live_command.specs.Opening.{Opens, StopsOpening}
+use Rattle.live_command.specs.Talk.{Start, Conversed, Stopped, StopsTalk}
+
+-- where a new conversation begins, behind its opening
+abbrev pub start_new : Config → Bool → Option (List ℕ) → Option (List ℕ) → Start
+start_new config explained unread written = record {
+  config = config;
+  explained = explained;
+  resumed = [];
+  unread = unread;
+  written = written;
+}
+
+-- The opening was read, and all lines behind it were answered
+pub record Held (explained : Bool) (unread left before written : Option (List ℕ)) (stands : List Entry → Type 0) :
+    Type 0 where
+  pub config : Config
+  pub behind : Option (List ℕ)
+  pub opened : Opens unread behind (Ok config)
+  pub scheduler : Machine
+  pub rest : Option (List ℕ)
+  pub conversed : Conversed (start_new config explained behind before) scheduler rest written stands
+  pub ended : IsAtEnd left
+
+-- nothing was written, to the writer and the journal
+abbrev pub NotOpened : {W J : Type 0} → W → W → J → J → Type 0
+NotOpened writer_old writer_new journal_old journal_new = (writer_new ≡ writer_old) × (journal_new ≡ journal_old)
+
+-- The opening was read, and the conversation behind it ended early
+pub record EndsTalk (explained : Bool) (unread left before written : Option (List ℕ)) (stands : List Entry → Type 0)
+    (fault : LiveFault) : Type 0 where
+  pub config : Config
+  pub behind : Option (List ℕ)
+  pub opened : Opens unread behind (Ok config)
+  pub stopped : Stopped (start_new config explained behind before) written stands
+  pub scheduler : Machine
+  pub stops : StopsTalk (start_new config explained behind before) scheduler left written stands fault
+
+-- a conversation ended early: before its opening was read, or behind it
+abbrev pub Ends : Bool → Option (List ℕ) → Option (List ℕ) → Option (List ℕ) → Option (List ℕ)
+    → (List Entry → Type 0) → Type 0 → LiveFault → Type 0
+Ends explained unread left before written stands untouched fault =
+    ((why : TextFault) × (fault ≡ Text why) × StopsOpening unread left why × untouched)
+    ⊎ EndsTalk explained unread left before written stands fault

@@ -1,0 +1,16 @@
+-- What a journal stands for.
+use Rattle.std.specs.Prelude.{◌≡◌, ◌≢◌, ℕ, Bool, true, List, ◌++◌, take, Result, MatchResult}
+use Rattle.sched_history.specs.declared.reply.Entry.{Entry}
+
+-- whatever entries the journal stood for, it stands for them with these behind them
+abbrev pub Grows : (List Entry → Type 0) → (List Entry → Type 0) → List Entry → Type 0
+Grows old new entries = (before : List Entry) → old before → new (before ++ entries)
+
+-- or with the first of these
+abbrev pub GrowsInPart : (List Entry → Type 0) → (List Entry → Type 0) → List Entry → Type 0
+GrowsInPart old new entries = (before : List Entry) → old before → (n : ℕ) × new (before ++ take n entries)
+
+-- the fault comes where a call has failed, and any other only where none did
+abbrev pub FailsJustBy : {T E : Type 0} → E → Result T E → Bool → Bool → Type 0
+FailsJustBy fault result old new =
+    MatchResult result (λ _. new ≡ old) (λ e. (e ≡ fault → new ≡ true) × (e ≢ fault → new ≡ old))

@@ -1,0 +1,9 @@
+pub mod Said
+pub mod Spoken
+pub mod Answers
+pub mod Journal
+pub mod Sending
+pub mod Talk
+pub mod Opening
+pub mod Held
+pub mod Fault

@@ -1,0 +1,54 @@
+-- Which lines are answered, and the call of one.
+use Rattle.std.specs.Prelude.{ℕ, Bool, true, not, ◌&&◌, ◌||◌, ◌==◌, nat_lt, if◌then◌else◌, List, [], ◌∷◌, ◌++◌, length}
+use Rattle.std.specs.Prelude.{codes, None, Some, Result, Ok, Err}
+use Rattle.std.specs.List.{filter}
+use Rattle.line_stream.specs.declared.TheConstants.{MAX_LINE}
+use Rattle.text_stream.specs.declared.fault.TextFault.{TextFault}
+use Rattle.sched_history.specs.declared.call.Call.{Call}
+use Rattle.live_command.specs.declared.fault.LineFault.{LineFault}
+use Rattle.live_command.specs.declared.fault.LineFault.TheVariants.{Long, Json, Shape}
+use Rattle.live_command.specs.declared.said.Said.{Said}
+use Rattle.live_command.specs.declared.said.Said.TheVariants as saying
+use Rattle.live_command.specs.Said.{said_in}
+
+-- white space of JSON: a space, a tab, a newline, or a carriage return
+abbrev pub is_white : ℕ → Bool
+is_white b = b == 32 || (b == 9 || (b == 10 || b == 13))
+
+-- white space alone
+abbrev pub is_blank : List ℕ → Bool
+is_blank [] = true
+is_blank (b ∷ line) = is_white b && is_blank line
+
+-- a line that is answered: it is long, or it is not blank
+abbrev pub is_spoken : List ℕ → Bool
+is_spoken line = nat_lt MAX_LINE (length line) || not (is_blank line)
+
+-- the lines that are answered
+abbrev pub spoken : List (List ℕ) → List (List ℕ)
+spoken lines = filter is_spoken lines
+
+-- the call that is said; a configuration is none
+abbrev pub call_said : Said → Result Call LineFault
+call_said (saying.Opening config) = Err Shape
+call_said (saying.Call None) = Err Shape
+call_said (saying.Call (Some call)) = Ok call
+
+-- the call of what was read of a text, which is JSON or not
+abbrev pub call_read : Result Said TextFault → Result Call LineFault
+call_read (Ok said) = call_said said
+call_read (Err fault) = Err Json
+
+-- the call of a line, or its first fault
+unfoldable pub call_of_line : List ℕ → Result Call LineFault
+call_of_line line = if nat_lt MAX_LINE (length line) then Err Long else call_read (said_in line)
+
+-- what is wrong with a line
+abbrev pub fault_words : LineFault → List ℕ
+fault_words Long = codes "bad line long"
+fault_words Json = codes "bad line json"
+fault_words Shape = codes "bad line shape"
+
+-- the answer to a line with a fault
+abbrev pub fault_line : LineFault → List ℕ
+fault_line fault = fault_words fault ++ 10 ∷ []

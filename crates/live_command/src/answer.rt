@@ -1,0 +1,130 @@
+//! The answer to a line.
+
+ghost use Rattle.std.specs.Prelude.{◌≡◌, ◌≤◌, ◌<◌, List, ℕ, [], ◌∷◌, ◌++◌, length, IfOk, IfErr, OnOk};
+ghost use Rattle.line_stream.specs.declared.TheConstants.{MAX_LINE};
+ghost use Rattle.line_stream.specs.Told.{IsTold};
+ghost use Rattle.sched_history.specs.Machine.{kept_of};
+ghost use Rattle.sched_lines.specs.Line.{Answer, HasLine};
+ghost use Rattle.live_command.specs.Answers.{MayGet, after, answer_line, AnswersLines};
+ghost use Rattle.live_command.specs.Spoken.{call_said, call_of_line};
+
+use crate::blank::is_spoken;
+use crate::fault::LineFault;
+use crate::outbox::Outbox;
+use crate::said::{Said, read_said};
+use line_stream::{Lines, MAX_LINE, Told};
+use minislots::Stamp;
+use sched_history::{Call, Reply, Scheduler, Unrecorded};
+use std::alloc::Global;
+use text_stream::TextFault;
+
+// The call that is said, where it is one.
+fn call_said(said: Said) -> Result<Call, LineFault>
+    ensures { result ≡ call_said said }
+{
+    match said {
+        Said::Call(Some(call)) => Ok(call),
+        _ => Err(LineFault::Shape),
+    }
+}
+
+// The call of a line that is not long, or its first fault.
+fn read_short(alloc: Global, line: &[u8]) -> Result<Result<Call, LineFault>, TextFault>
+    requires { length line.now ≤ MAX_LINE }
+    ensures ok { IfOk result (λ call. call ≡ call_of_line line.now) }
+    ensures err { IfErr result (λ e. e ≡ TextFault.Memory) }
+{
+    match read_said(alloc, line) {
+        Ok(said) => Ok(call_said(said)),
+        Err(TextFault::NotJson) => Ok(Err(LineFault::Json)),
+        Err(_) => Err(TextFault::Memory),
+    }
+}
+
+// The call of a line, or its first fault.
+#[tactic(auto, using(crate::proofs::Saying::call_of_long))]
+fn read_call(alloc: Global, line: &[u8]) -> Result<Result<Call, LineFault>, TextFault>
+    ensures ok { IfOk result (λ call. call ≡ call_of_line line.now) }
+    ensures err { IfErr result (λ e. e ≡ TextFault.Memory) }
+{
+    if line.len() > MAX_LINE {
+        return Ok(Err(LineFault::Long));
+    }
+    read_short(alloc, line)
+}
+
+// Makes a call. It has seat 0, and its place in the history for a ticket.
+fn make_call(scheduler: &mut Scheduler, call: Call) -> Result<Reply, Unrecorded>
+    requires { length (kept_of scheduler.old) < scheduler.old.config.calls }
+    ensures may { MayGet scheduler.old.config scheduler.old.history call result }
+    ensures state { scheduler.new
+        ≡ record scheduler.old { history = after scheduler.old.history call result } }
+    ensures line { HasLine result }
+{
+    let stamp = Stamp {
+        seat: 0,
+        ticket: scheduler.recorded(),
+    };
+    scheduler.call(stamp, call)
+}
+
+// Makes a call, and puts its answer behind those that wait.
+fn answer_call(
+    scheduler: &mut Scheduler,
+    outbox: &mut Outbox,
+    call: Call,
+    explained: bool,
+) -> Result<(), TextFault>
+    requires { length (kept_of scheduler.old) < scheduler.old.config.calls }
+    ensures ok { OnOk result ((answer : Answer)
+        × MayGet scheduler.old.config scheduler.old.history call answer
+        × (outbox.new ≡ outbox.old ++ answer_line explained answer)
+        × (scheduler.new ≡ record scheduler.old { history = after scheduler.old.history call answer })) }
+    ensures err { IfErr result (λ e. e ≡ TextFault.Memory) }
+{
+    let answer = make_call(scheduler, call);
+    outbox.put_answer(&answer, explained)
+}
+
+// Answers a line.
+fn answer_text(
+    alloc: Global,
+    scheduler: &mut Scheduler,
+    outbox: &mut Outbox,
+    line: &[u8],
+    explained: bool,
+) -> Result<(), TextFault>
+    requires { length (kept_of scheduler.old) < scheduler.old.config.calls }
+    ensures ok { OnOk result
+        (AnswersLines explained (line.now ∷ []) scheduler.old scheduler.new outbox.old outbox.new) }
+    ensures err { IfErr result (λ e. e ≡ TextFault.Memory) }
+{
+    if !is_spoken(line) {
+        return Ok(());
+    }
+    match read_call(alloc, line) {
+        Ok(Ok(call)) => answer_call(scheduler, outbox, call, explained),
+        Ok(Err(fault)) => outbox.put_fault(fault),
+        Err(fault) => Err(fault),
+    }
+}
+
+/// Answers the line that was told last: what is said goes behind what waits. Nothing is said to a blank line.
+pub(crate) fn answer(
+    alloc: Global,
+    scheduler: &mut Scheduler,
+    outbox: &mut Outbox,
+    lines: &Lines,
+    told: Told,
+    explained: bool,
+) -> Result<(), TextFault>
+    requires { length (kept_of scheduler.old) < scheduler.old.config.calls }
+    ensures ok { OnOk result ((line : List ℕ) → IsTold line told lines.now.line →
+        AnswersLines explained (line ∷ []) scheduler.old scheduler.new outbox.old outbox.new) }
+    ensures err { IfErr result (λ e. e ≡ TextFault.Memory) }
+{
+    match told {
+        Told::Long => outbox.put_fault(LineFault::Long),
+        Told::Line => answer_text(alloc, scheduler, outbox, lines.line(), explained),
+    }
+}

@@ -1,0 +1,58 @@
+//! A conversation from its opening on.
+
+ghost use Rattle.std.specs.Prelude.{◌≡◌, [], IfErr, OnOk};
+ghost use Rattle.text_stream.specs.Watched.{FailsBy};
+ghost use Rattle.live_command.specs.declared.fault.LiveFault.TheVariants.{Text, Journal as Failed};
+ghost use Rattle.live_command.specs.Held.{Held, Ends, NotOpened};
+ghost use Rattle.live_command.specs.Journal.{FailsJustBy};
+
+use crate::fault::LiveFault;
+use crate::journal::Journal;
+use crate::opening::read_opening;
+use crate::talk::converse;
+use line_stream::Lines;
+use sched_history::Scheduler;
+use std::alloc::Global;
+use text_stream::{Sink, Source, TextFault};
+
+/// Reads the opening of a conversation, which has its configuration, begins the journal, and converses with a new
+/// scheduler to the end of the input. The journal has no entry before.
+pub fn hold<R: Source, W: Sink, J: Journal>(
+    alloc: Global,
+    reader: &mut R,
+    writer: &mut W,
+    journal: &mut J,
+    explained: bool,
+) -> Result<(), LiveFault>
+    requires { J.stands_for journal.old [] }
+
+    // The opening was read, and all lines behind it were answered.
+    ensures ok { OnOk result (Held explained (R.remaining reader.old) (R.remaining reader.new)
+        (W.contents writer.old) (W.contents writer.new) (J.stands_for journal.new)) }
+
+    // Else no opening was read, and nothing was written; or the conversation ended early.
+    ensures ends { IfErr result (Ends explained (R.remaining reader.old) (R.remaining reader.new)
+        (W.contents writer.old) (W.contents writer.new) (J.stands_for journal.new)
+        (NotOpened writer.old writer.new journal.old journal.new)) }
+
+    // A failed read or write is told where one has failed, and where all went well none did.
+    ensures failed_read { FailsBy (Text TextFault.Input) result (R.has_failed reader.old)
+        (R.has_failed reader.new) }
+    ensures failed_write { FailsBy (Text TextFault.Output) result (W.has_failed writer.old)
+        (W.has_failed writer.new) }
+    ensures failed_journal { FailsJustBy Failed result (J.has_failed journal.old) (J.has_failed journal.new) }
+{
+    let mut lines = Lines::new();
+    let config = read_opening(alloc, &mut lines, reader)?;
+    let mut scheduler = Scheduler::open(alloc, config)?;
+    journal.begin(&config)?;
+    converse(
+        alloc,
+        &mut scheduler,
+        &mut lines,
+        reader,
+        writer,
+        journal,
+        explained,
+    )
+}

@@ -1,0 +1,137 @@
+//! A turn of a conversation: the next line is read, and answered.
+
+ghost use Rattle.std.specs.Prelude.{◌≡◌, ◌⊎◌, ◌<◌, ℕ, List, Option, [], length, IfErr, OnOk, MatchResult};
+ghost use Rattle.std.specs.Prelude.{MatchOption};
+ghost use Rattle.line_stream.specs.Told.{untold};
+ghost use Rattle.sched_history.specs.Machine.{kept_of};
+ghost use Rattle.text_stream.specs.Watched.{FailsBy};
+ghost use Rattle.live_command.specs.declared.fault.LiveFault.TheVariants.{Text, Journal as Failed};
+ghost use Rattle.live_command.specs.Journal.{FailsJustBy};
+ghost use Rattle.live_command.specs.Talk.{Start, Talk, TellsOn, IsTurn, Conversed, Stopped, StopsTalk};
+
+use crate::answer::answer;
+use crate::fault::LiveFault;
+use crate::journal::Journal;
+use crate::outbox::Outbox;
+use line_stream::{Lines, Told};
+use sched_history::Scheduler;
+use std::alloc::Global;
+use text_stream::{Sink, Source, TextFault};
+
+// Puts the entries that are kept into the journal, and then writes the answers that wait.
+pub(crate) fn settle<W: Sink, J: Journal>(
+    scheduler: &mut Scheduler,
+    outbox: &mut Outbox,
+    writer: &mut W,
+    journal: &mut J,
+) -> Result<(), LiveFault>
+    ensures talk { (s : Start) (turns : ℕ) (left : Option (List ℕ)) →
+        Talk s turns scheduler.old left (W.contents writer.old) (J.stands_for journal.old) outbox.old →
+        MatchResult result
+        (λ _. Talk s turns scheduler.new left (W.contents writer.new) (J.stands_for journal.new) outbox.new
+        × J.stands_for journal.new scheduler.new.history)
+        (λ _. Stopped s (W.contents writer.new) (J.stands_for journal.new)) }
+    ensures settled { OnOk result (outbox.new ≡ []) }
+    ensures handed { OnOk result (scheduler.new ≡ record scheduler.old { handed = length scheduler.old.history }) }
+    ensures err { IfErr result (λ e. (e ≡ Failed) ⊎ ((e ≡ Text TextFault.Memory) ⊎ (e ≡ Text TextFault.Output))) }
+    ensures failed_write { FailsBy (Text TextFault.Output) result (W.has_failed writer.old)
+        (W.has_failed writer.new) }
+    ensures failed_journal { FailsJustBy Failed result (J.has_failed journal.old) (J.has_failed journal.new) }
+{
+    journal.record(scheduler.history())?;
+    scheduler.forget();
+    outbox.send(writer)?;
+    Ok(())
+}
+
+// Makes room for one entry and its answer.
+fn make_room<W: Sink, J: Journal>(
+    scheduler: &mut Scheduler,
+    outbox: &mut Outbox,
+    writer: &mut W,
+    journal: &mut J,
+) -> Result<(), LiveFault>
+    ensures talk { (s : Start) (turns : ℕ) (left : Option (List ℕ)) →
+        Talk s turns scheduler.old left (W.contents writer.old) (J.stands_for journal.old) outbox.old →
+        MatchResult result
+        (λ _. Talk s turns scheduler.new left (W.contents writer.new) (J.stands_for journal.new) outbox.new)
+        (λ _. Stopped s (W.contents writer.new) (J.stands_for journal.new)) }
+    ensures room { OnOk result (length (kept_of scheduler.new) < scheduler.new.config.calls) }
+    ensures err { IfErr result (λ e. (e ≡ Failed) ⊎ ((e ≡ Text TextFault.Memory) ⊎ (e ≡ Text TextFault.Output))) }
+    ensures failed_write { FailsBy (Text TextFault.Output) result (W.has_failed writer.old)
+        (W.has_failed writer.new) }
+    ensures failed_journal { FailsJustBy Failed result (J.has_failed journal.old) (J.has_failed journal.new) }
+{
+    let calls = scheduler.config().calls() as usize;
+    if scheduler.history().len() < calls && !outbox.is_full() {
+        return Ok(());
+    }
+    settle(scheduler, outbox, writer, journal)
+}
+
+// Tells the next line. Where it is not at hand, all that was said is written before it is read.
+fn next_line<R: Source, W: Sink, J: Journal>(
+    scheduler: &mut Scheduler,
+    outbox: &mut Outbox,
+    lines: &mut Lines,
+    reader: &mut R,
+    writer: &mut W,
+    journal: &mut J,
+) -> Result<Option<Told>, LiveFault>
+    ensures talk { (s : Start) (turns : ℕ) →
+        Talk s turns scheduler.old (untold lines.old (R.remaining reader.old)) (W.contents writer.old)
+        (J.stands_for journal.old) outbox.old →
+        MatchResult result
+        (λ told. MatchOption told
+        (Conversed s scheduler.new (untold lines.new (R.remaining reader.new)) (W.contents writer.new)
+        (J.stands_for journal.new))
+        (TellsOn s turns scheduler.new (untold lines.new (R.remaining reader.new)) (W.contents writer.new)
+        (J.stands_for journal.new) outbox.new lines.new))
+        (λ e. Stopped s (W.contents writer.new) (J.stands_for journal.new)
+        × StopsTalk s scheduler.new (R.remaining reader.new) (W.contents writer.new) (J.stands_for journal.new) e) }
+    ensures failed_read { FailsBy (Text TextFault.Input) result (R.has_failed reader.old)
+        (R.has_failed reader.new) }
+    ensures failed_write { FailsBy (Text TextFault.Output) result (W.has_failed writer.old)
+        (W.has_failed writer.new) }
+    ensures failed_journal { FailsJustBy Failed result (J.has_failed journal.old) (J.has_failed journal.new) }
+{
+    if let Some(told) = lines.at_hand() {
+        return Ok(Some(told));
+    }
+    settle(scheduler, outbox, writer, journal)?;
+    let told = lines.next(reader)?;
+    Ok(told)
+}
+
+// Reads a line and answers it; false where all lines were answered.
+pub(crate) fn take_turn<R: Source, W: Sink, J: Journal>(
+    alloc: Global,
+    scheduler: &mut Scheduler,
+    outbox: &mut Outbox,
+    lines: &mut Lines,
+    reader: &mut R,
+    writer: &mut W,
+    journal: &mut J,
+    explained: bool,
+) -> Result<bool, LiveFault>
+    ensures talk { (s : Start) (turns : ℕ) → s.explained ≡ explained →
+        Talk s turns scheduler.old (untold lines.old (R.remaining reader.old)) (W.contents writer.old)
+        (J.stands_for journal.old) outbox.old →
+        MatchResult result
+        (IsTurn s turns scheduler.new (untold lines.new (R.remaining reader.new)) (W.contents writer.new)
+        (J.stands_for journal.new) outbox.new)
+        (λ e. Stopped s (W.contents writer.new) (J.stands_for journal.new)
+        × StopsTalk s scheduler.new (R.remaining reader.new) (W.contents writer.new) (J.stands_for journal.new) e) }
+    ensures failed_read { FailsBy (Text TextFault.Input) result (R.has_failed reader.old)
+        (R.has_failed reader.new) }
+    ensures failed_write { FailsBy (Text TextFault.Output) result (W.has_failed writer.old)
+        (W.has_failed writer.new) }
+    ensures failed_journal { FailsJustBy Failed result (J.has_failed journal.old) (J.has_failed journal.new) }
+{
+    let Some(told) = next_line(scheduler, outbox, lines, reader, writer, journal)? else {
+        return Ok(false);
+    };
+    make_room(scheduler, outbox, writer, journal)?;
+    answer(alloc, scheduler, outbox, lines, told, explained)?;
+    Ok(true)
+}
