@@ -1,6 +1,6 @@
 -- The next line is at hand, or all that waits is settled and it is read.
 use Rattle.std.proofs.lemmas.Result.{err_from_is_err_and}
-use Rattle.line_stream.proofs.Reading.{TellsNext-at_hand}
+use Rattle.line_stream.proofs.Reading.{TellsWhole-at_hand, TellsNext-whole}
 use Rattle.live_command.proofs.Talking.{Stopped-quiet}
 use Rattle.live_command.proofs.Turning.{TellsOn-next, next_or_end, stops_reading, stops_anywhere}
 use Rattle.live_command.proofs.turn.next_line.Goals as goal
@@ -8,7 +8,8 @@ use Rattle.live_command.proofs.turn.next_line.Goals as goal
 pub returns-in-Some-clause-talk : goal.returns-in-Some-clause-talk
 returns-in-Some-clause-talk g c = λ s turns talk.
     TellsOn-next s turns _ _ _ _ _ _ _ c.in-Some.told talk
-    (TellsNext-at_hand _ _ (g.R.Source.remaining c.args.reader.now) c.in-Some.told c.in-Some.ensures)
+    (TellsNext-whole _ _ _ c.in-Some.told
+    (TellsWhole-at_hand _ _ (g.R.Source.remaining c.args.reader.now) c.in-Some.told c.in-Some.ensures))
 
 pub returns-in_err-settle-clause-talk : goal.returns-in_err-settle-clause-talk
 returns-in_err-settle-clause-talk g c = λ s turns talk.
