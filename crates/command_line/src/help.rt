@@ -30,8 +30,10 @@ stands behind it:
   refused 12 800  # too far: the next frame starts at 800, and what is heard lies
   before it
 With --history calls that were not recorded are left out, and standard error tells
-how many. With --frames behind `map` stands the whole MAC management message, from
-the address 02:00:00:00:00:01, in place of its payload.
+how many; so they are with --journal, which prints the same history in lines: the
+first is {"config": {..}}, and each later one an entry. With --frames behind `map`
+stands the whole MAC management message, from the address 02:00:00:00:00:01, in place
+of its payload.
 
 Exit statuses: 0, or 2 for the command line, 3 for the input, 4 for the machine.
 Where a script is bad, `mapsched check` tells where, and what was expected there.

@@ -29,16 +29,26 @@ fn flag<'a>(alloc: Global, name: &'a str, help: &'a str) -> Arg<'a>
 // The command that runs a script.
 fn run_command<'a>(alloc: Global) -> Result<Command<'a>, AllocError>
     ensures { IfOk result (λ r. IsCommand r (codes "run")
-        (codes "history" ∷ codes "explain" ∷ codes "frames" ∷ []) []) }
+        (codes "history" ∷ codes "journal" ∷ codes "explain" ∷ codes "frames" ∷ []) []) }
 {
     let about = "Reads a script from standard input and prints one line for each call";
     let history = flag(alloc, "history", "Prints the history of the calls in JSON");
+    let journal = flag(
+        alloc,
+        "journal",
+        "Prints the history as a journal, a line for each call",
+    );
+    let journal = journal.conflicts_with("history")?;
     let explain = flag(alloc, "explain", "Tells behind each refusal what it means");
-    let explain = explain.conflicts_with("history")?;
+    let explain = explain
+        .conflicts_with("history")?
+        .conflicts_with("journal")?;
     let frames = flag(alloc, "frames", "Prints the whole frame of each MAP");
     let frames = frames.conflicts_with("history")?.conflicts_with("explain")?;
+    let frames = frames.conflicts_with("journal")?;
     command(alloc, "run", about, help::RUN)
         .arg(history)?
+        .arg(journal)?
         .arg(explain)?
         .arg(frames)
 }
@@ -177,7 +187,7 @@ fn program<'a>(alloc: Global) -> Command<'a>
 /// The commands of the program, with their options and their help. Out of memory is the only error.
 pub fn commands<'a>(alloc: Global) -> Result<Command<'a>, AllocError>
     ensures { IfOk result (λ r. IsCommand r (codes "mapsched") []
-        ((codes "run", codes "history" ∷ codes "explain" ∷ codes "frames" ∷ [])
+        ((codes "run", codes "history" ∷ codes "journal" ∷ codes "explain" ∷ codes "frames" ∷ [])
         ∷ (codes "decode", codes "HEX" ∷ codes "draw" ∷ codes "columns" ∷ codes "explain" ∷ codes "frame" ∷ [])
         ∷ (codes "draw", codes "from" ∷ codes "count" ∷ []) ∷ (codes "audit", codes "explain" ∷ [])
         ∷ (codes "storm", []) ∷ (codes "check", []) ∷ (codes "pcap", codes "mac" ∷ []) ∷ [])) }

@@ -81,7 +81,7 @@ reply_of-data (Refused refusal) fits =
     (refusal_with-number refusal)
 
 -- an entry is read again
-entry_of-data : (e : Entry) → EntryFits e → entry_of (entry_data e) ≡ Some e
+pub entry_of-data : (e : Entry) → EntryFits e → entry_of (entry_data e) ≡ Some e
 unfolding entry_of u32_at u64_at number_at entry_data
 entry_of-data e fits =
     rw (below-fits (2 ^ 32) e.stamp.seat fits.seat) (rw (below-fits (2 ^ 64) e.stamp.ticket fits.ticket) (

@@ -58,14 +58,20 @@ depth-reply (Skipped next) = omega arith
 depth-reply (Flow asked granted outstanding) = omega arith
 depth-reply (Refused refusal) = depth-refused (refusal_number refusal) (refusal_value refusal)
 
-depth-entries : (es : List Entry) → items_depth (items_of (map entry_data es)) ≤ 3
+-- an entry nests no deeper than three levels
+pub depth-entry : (e : Entry) → depth (entry_data e) ≤ 3
 unfolding entry_data
-depth-entries [] = omega arith
-depth-entries (e ∷ es) =
+depth-entry e =
     let call = depth-call e.call in
     let reply = depth-reply e.reply in
+    omega (arith, call, reply)
+
+depth-entries : (es : List Entry) → items_depth (items_of (map entry_data es)) ≤ 3
+depth-entries [] = omega arith
+depth-entries (e ∷ es) =
+    let entry = depth-entry e in
     let rest = depth-entries es in
-    omega (arith, call, reply, rest)
+    omega (arith, entry, rest)
 
 -- a history nests no deeper than five levels
 pub depth-history : (c : Config) (es : List Entry) → depth (history_data c es) ≤ 5

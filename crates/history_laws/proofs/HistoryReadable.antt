@@ -90,25 +90,25 @@ reply_readable (Flow asked granted outstanding) fits =
 reply_readable (Refused refusal) fits =
     refused_readable (refusal_number refusal) (refusal_value refusal) (number_fits refusal) fits
 
-entries_readable : (es : List Entry) → AllByRecursion EntryFits es → AreReadable (items_of (map entry_data es))
+-- an entry is read again in its text
+pub entry_readable : (e : Entry) → EntryFits e → IsReadable (entry_data e)
 unfolding entry_data
+entry_readable e fits = (
+  refl,
+  (
+    refl,
+    call_readable e.call fits.call,
+    (
+      refl,
+      reply_readable e.reply fits.reply,
+      (refl, of_word e.stamp.seat fits.seat, (refl, fits.ticket, tt)),
+    ),
+  ),
+)
+
+entries_readable : (es : List Entry) → AllByRecursion EntryFits es → AreReadable (items_of (map entry_data es))
 entries_readable [] fits = tt
-entries_readable (e ∷ es) fits =
-    let here = fits.0 in (
-      (
-        refl,
-        (
-          refl,
-          call_readable e.call here.call,
-          (
-            refl,
-            reply_readable e.reply here.reply,
-            (refl, of_word e.stamp.seat here.seat, (refl, here.ticket, tt)),
-          ),
-        ),
-      ),
-      entries_readable es fits.1,
-    )
+entries_readable (e ∷ es) fits = (entry_readable e fits.0, entries_readable es fits.1)
 
 -- a history is read again in its text
 pub history_readable : (c : Config) (es : List Entry) → ConfigFits c → AllByRecursion EntryFits es

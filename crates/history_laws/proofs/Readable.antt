@@ -10,6 +10,7 @@ use Rattle.json.specs.Tree.{json_tokens, HasNumbers, ItemsHaveNumbers, MembersHa
 use Rattle.json.specs.Lex.{tokens}
 use Rattle.json.specs.Print.{quoted}
 use Rattle.json.proofs.Printed.Decimals.{IsNumber-decimal}
+use Rattle.json.proofs.Printed.Tokens.{tokens-print}
 use Rattle.json.proofs.Printed.Trees.{value-json_tokens, ArePrintable-json_tokens}
 use Rattle.json.proofs.Printed.Utf8.{are_ascii, IsUtf8-are_ascii, IsUtf8-quoted}
 use Rattle.serde_json.specs.Data.{Num, unsigned, negative, float, Data, null, boolean, number, string, array, object}
@@ -125,18 +126,31 @@ mutual
   members_depth-outline no_members = refl
   members_depth-outline (member k d ms) = ap₂ max (depth-outline d) (members_depth-outline ms)
 
--- the text and a newline are read as the value
+-- a text with the tokens of the value is read as the value
+read-tokens : (d : Data) → IsReadable d → depth d ≤ max_depth → (text : List ℕ)
+    → tokens text ≡ json_tokens (outline d) → read text ≡ Some d
+read-tokens d h shallow text are =
+    let ts = json_tokens (outline d) in
+    let deep = depth-outline d in
+    ap (λ o. option_and_then of_json (option_and_then (λ p. json.if_last p.0 p.1) o))
+    (ap (json.value max_depth) (are ∙ sym (append-nil ts))
+    ∙ value-json_tokens (outline d) max_depth [] (omega (arith, deep, shallow)))
+    ∙ of_json-outline d h
+
+-- the text alone is read as the value
+pub read-alone : (d : Data) → IsReadable d → depth d ≤ max_depth → read (compact_text d) ≡ Some d
+read-alone d h shallow =
+    let ts = json_tokens (outline d) in
+    read-tokens d h shallow (compact_text d) (ap tokens (sym (print-outline d))
+    ∙ tokens-print ts (ArePrintable-json_tokens (outline d) (has_numbers d h)))
+
+-- and so is the text with a newline
 pub read-compact : (d : Data) → IsReadable d → depth d ≤ max_depth → read (compact_text d ++ 10 ∷ []) ≡ Some d
 read-compact d h shallow =
     let ts = json_tokens (outline d) in
-    let deep = depth-outline d in
-    let printed : tokens (compact_text d ++ 10 ∷ []) ≡ ts =
-    ap (λ (text : List ℕ). tokens (text ++ 10 ∷ [])) (sym (print-outline d))
-    ∙ tokens-ended ts (ArePrintable-json_tokens (outline d) (has_numbers d h)) in
-    ap (λ o. option_and_then of_json (option_and_then (λ p. json.if_last p.0 p.1) o))
-    (ap (json.value max_depth) (printed ∙ sym (append-nil ts))
-    ∙ value-json_tokens (outline d) max_depth [] (omega (arith, deep, shallow)))
-    ∙ of_json-outline d h
+    read-tokens d h shallow (compact_text d ++ 10 ∷ [])
+    (ap (λ (text : List ℕ). tokens (text ++ 10 ∷ [])) (sym (print-outline d))
+    ∙ tokens-ended ts (ArePrintable-json_tokens (outline d) (has_numbers d h)))
 
 -- ---- its text is UTF-8
 
@@ -153,7 +167,7 @@ IsUtf8-one : (x : ℕ) (text : List ℕ) → are_ascii (x ∷ []) ≡ true → I
 IsUtf8-one x text small h = IsUtf8-append (x ∷ []) text (IsUtf8-are_ascii (x ∷ []) small) h
 
 mutual
-  IsUtf8-compact : (d : Data) → IsReadable d → IsUtf8 (compact_text d)
+  pub IsUtf8-compact : (d : Data) → IsReadable d → IsUtf8 (compact_text d)
   IsUtf8-compact null h = IsUtf8-are_ascii (compact_text null) refl
   IsUtf8-compact (boolean true) h = IsUtf8-are_ascii (compact_text (boolean true)) refl
   IsUtf8-compact (boolean false) h = IsUtf8-are_ascii (compact_text (boolean false)) refl

@@ -64,6 +64,9 @@ fn output_of(run: &ArgMatches) -> RunOutput {
     if run.get_flag("history") {
         return RunOutput::History;
     }
+    if run.get_flag("journal") {
+        return RunOutput::Journal;
+    }
     RunOutput::Lines(Words::Plain)
 }
 

@@ -1,21 +1,23 @@
 -- How far a run has come.
 use Rattle.std.proofs.Common.{◌≡◌, ℕ, ◌+◌, ◌<◌, ◌≤◌, List, [], ◌∷◌, ◌++◌, length, get_or, take}
-use Rattle.std.proofs.Common.{Option, ap}
+use Rattle.std.proofs.Common.{Option, ap, sym, subst}
 use Rattle.std.specs.Prelude.{flat_map}
 use Rattle.std.specs.Io.KnownBytes.{Appends, append_known}
 use Rattle.std.proofs.KnownBytes.{Appends-trans}
 use Rattle.std.proofs.lemmas.List.{append-nil, take_all}
 use Rattle.std.proofs.lemmas.List.Concat.{flat_map-append}
 use Rattle.sched_history.specs.declared.call.Call.{Call}
+use Rattle.minislots.specs.declared.config.Config.{Config}
+use Rattle.sched_history.specs.declared.reply.Entry.{Entry}
 use Rattle.sched_history.specs.Machine.{Machine}
 use Rattle.sched_lines.specs.Line.{Answer}
-use Rattle.sched_lines.specs.Answer.{MakesCall, MakesCalls}
+use Rattle.sched_lines.specs.Answer.{MakesCall, MakesCalls, recorded_entries}
 use Rattle.text_stream.proofs.Written.{Appends-out}
-use Rattle.history_writing.specs.HistoryText.{history_text}
 use Rattle.sched_lines.proofs.Made.{MakesCalls-push, MakesCalls-legal}
 use Rattle.run_command.specs.declared.output.Words.{Words}
-use Rattle.run_command.specs.declared.output.RunOutput.TheVariants.{Lines, History}
-use Rattle.run_command.specs.Run.{HistoryFits, AnswersLeaving, line_with}
+use Rattle.run_command.specs.declared.output.RunOutput.{RunOutput}
+use Rattle.run_command.specs.declared.output.RunOutput.TheVariants.{Lines, History, Journal}
+use Rattle.run_command.specs.Run.{HistoryFits, AnswersLeaving, line_with, output_of}
 use Rattle.sched_lines.proofs.Leaving.{MakesCalls-count}
 
 -- from one state of the scheduler and the writer these calls led to others, and such lines of their answers were
@@ -64,23 +66,30 @@ Runs-whole words old new calls n before after unrecorded all runs count =
         each = makes.each;
         legal = MakesCalls-legal old new calls runs.answers makes;
         fits = λ text. absurd (let no : Lines words ≡ History = text in cc);
+        journal_fits = λ text. absurd (let no : Lines words ≡ Journal = text in cc);
         written = runs.written;
       };
       count = MakesCalls-count old new calls runs.answers unrecorded makes count;
     }
 
--- all calls, with the text of their history
-pub history-written : (old new : Machine) (calls : List Call) (answers : List Answer) (before after : Option (List ℕ))
-    (unrecorded : ℕ) → MakesCalls old new calls answers → HistoryFits old.config new.history
-    → Appends before after (history_text old.config new.history) → unrecorded + length new.history ≡ length calls
-    → AnswersLeaving History old.config calls before after unrecorded
-history-written old new calls answers before after unrecorded makes fits written count = record {
-  answered = record {
-    answers = answers;
-    each = makes.each;
-    legal = MakesCalls-legal old new calls answers makes;
-    fits = λ text. rw (ap (λ (m : Machine). m.history) makes.state) at fits;
-    written = rw (ap (λ (m : Machine). m.history) makes.state) at written;
-  };
-  count = MakesCalls-count old new calls answers unrecorded makes count;
-}
+-- all calls, with a text of their history
+pub history-written : (output : RunOutput) (text : Config → List Entry → List ℕ) (old new : Machine) (calls : List Call)
+    (answers : List Answer) (before after : Option (List ℕ)) (unrecorded : ℕ)
+    → output_of output old.config calls answers ≡ text old.config (recorded_entries 0 calls answers)
+    → MakesCalls old new calls answers → HistoryFits old.config new.history
+    → Appends before after (text old.config new.history) → unrecorded + length new.history ≡ length calls
+    → AnswersLeaving output old.config calls before after unrecorded
+history-written output text old new calls answers before after unrecorded is makes fits written count =
+    let all_fit = rw (ap (λ (m : Machine). m.history) makes.state) at fits in
+    record {
+      answered = record {
+        answers = answers;
+        each = makes.each;
+        legal = MakesCalls-legal old new calls answers makes;
+        fits = λ asked. all_fit;
+        journal_fits = λ asked. all_fit;
+        written = subst (Appends before after) (sym is)
+            (rw (ap (λ (m : Machine). m.history) makes.state) at written);
+      };
+      count = MakesCalls-count old new calls answers unrecorded makes count;
+    }

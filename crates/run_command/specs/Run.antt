@@ -15,20 +15,22 @@ use Rattle.sched_lines.specs.Line.{line_of}
 use Rattle.sched_lines.specs.Meaning.{explained_line}
 use Rattle.history_writing.specs.HistoryText.{history_text}
 use Rattle.history_writing.specs.Fits.{ConfigFits, EntryFits}
+use Rattle.journal_writing.specs.Journal.{journal_text}
 use Rattle.run_command.specs.declared.output.Words.{Words}
 use Rattle.run_command.specs.declared.output.Words.TheVariants.{Plain, Explained}
 use Rattle.run_command.specs.declared.output.RunOutput.{RunOutput}
-use Rattle.run_command.specs.declared.output.RunOutput.TheVariants.{Lines, History}
+use Rattle.run_command.specs.declared.output.RunOutput.TheVariants.{Lines, History, Journal}
 
 -- the line of an answer, plain or with what it means behind it where it is a refusal
 abbrev pub line_with : Words → Answer → List ℕ
 line_with Plain answer = line_of answer
 line_with Explained answer = explained_line answer
 
--- what a run writes: the line of each answer in order, or the text of the history of the recorded calls
+-- what a run writes: the line of each answer in order, or the text or the journal of the history of the recorded calls
 abbrev pub output_of : RunOutput → configs.Config → List Call → List Answer → List ℕ
 output_of (Lines words) c calls answers = flat_map (line_with words) answers
 output_of History c calls answers = history_text c (recorded_entries 0 calls answers)
+output_of Journal c calls answers = journal_text c (recorded_entries 0 calls answers)
 
 -- the history where one is asked for, or plain lines
 abbrev pub output_asked : Bool → RunOutput
@@ -50,6 +52,8 @@ pub record AnswersEach (output : RunOutput) (c : configs.Config) (calls : List C
   pub legal : IsLegal c (recorded_entries 0 calls answers)
   -- and where its text is written, its numbers fit, so that the text can be read again
   pub fits : output ≡ History → HistoryFits c (recorded_entries 0 calls answers)
+  -- or its journal, of which the same holds
+  pub journal_fits : output ≡ Journal → HistoryFits c (recorded_entries 0 calls answers)
   pub written : Appends before after (output_of output c calls answers)
 
 -- The reader's bytes are a script, and the output of its calls' answers was written, and nothing else

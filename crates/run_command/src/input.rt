@@ -7,8 +7,8 @@ use sched_lines::tell_unrecorded;
 use std::io;
 use text_stream::{RunFault, Watched};
 
-/// The command `run`. Each call that was not recorded has its line; the text of a history does not tell of them, so how
-/// many they are is told on standard error.
+/// The command `run`. Each call that was not recorded has its line; the text of a history and a journal do not tell of
+/// them, so how many they are is told on standard error.
 pub fn run_input(
     rt: &(impl Input + Print + Eprint + AllocGlobal),
     output: RunOutput,
@@ -19,7 +19,7 @@ pub fn run_input(
         &mut Watched::new(io::writer(rt)),
         output,
     )?;
-    if matches!(output, RunOutput::History) {
+    if !matches!(output, RunOutput::Lines(_)) {
         tell_unrecorded(rt, unrecorded);
     }
     Ok(true)

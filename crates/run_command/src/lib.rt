@@ -1,4 +1,4 @@
-//! The run of a script: the lines of its answers, plain or with words behind refusals, or their history.
+//! The run of a script: the lines of its answers, plain or with words behind refusals, their history, or their journal.
 #![tactic(auto)]
 
 mod fits;

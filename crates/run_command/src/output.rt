@@ -19,6 +19,8 @@ pub enum RunOutput {
     Lines(Words),
     /// The history of the recorded calls in JSON, in one line.
     History,
+    /// The journal of the recorded calls: a line for the configuration, and one for each of them.
+    Journal,
 }
 
 // What is written where a history is asked for, or plain lines.

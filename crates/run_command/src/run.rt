@@ -12,6 +12,7 @@ ghost use Rattle.run_command.specs.Run.{line_with, output_asked, AnswersLeaving,
 use crate::fits::history_fits;
 use crate::output::{RunOutput, Words, output_asked};
 use history_writing::put_history;
+use journal_writing::put_journal;
 use minislots::Checked;
 use sched_history::{Call, Reply, Scheduler, Unrecorded};
 use sched_lines::{LineBuffer, count_unrecorded, make_call};
@@ -97,8 +98,33 @@ fn run_history<W: Sink>(
     Ok(count_unrecorded(scheduler, calls))
 }
 
-// Makes the calls of a script one after the other, and writes the lines of their answers or the text of their history.
-// Nothing is written before memory runs out.
+// Makes the calls of a script one after the other, and writes the journal of their history. Nothing is written before
+// memory runs out.
+fn run_journal<W: Sink>(
+    alloc: Global,
+    scheduler: &mut Scheduler,
+    config: &Checked,
+    calls: &[Call],
+    writer: &mut W,
+) -> Result<usize, TextFault>
+    requires empty { scheduler.old.history ≡ [] }
+    requires whole { scheduler.old.handed ≡ 0 }
+    requires same { config.now ≡ scheduler.old.config }
+
+    ensures ok { IfOk result (AnswersLeaving RunOutput.Journal scheduler.old.config calls.now
+        (W.contents writer.old) (W.contents writer.new)) }
+    ensures err { IfErr result (λ e. (e ≡ TextFault.Memory) ⊎ (e ≡ TextFault.Output)) }
+    ensures failed { FailsBy TextFault.Output result (W.has_failed writer.old) (W.has_failed writer.new) }
+    ensures quiet { IfErr result (λ e. e ≢ TextFault.Output → writer.new ≡ writer.old) }
+{
+    make_calls(scheduler, calls);
+    history_fits(config, scheduler.history());
+    put_journal(alloc, writer, &config.config(), scheduler.history())?;
+    Ok(count_unrecorded(scheduler, calls))
+}
+
+// Makes the calls of a script one after the other, and writes the lines of their answers, or the text or the journal of
+// their history. Nothing is written before memory runs out.
 fn answer_calls<W: Sink>(
     alloc: Global,
     scheduler: &mut Scheduler,
@@ -120,13 +146,15 @@ fn answer_calls<W: Sink>(
     match output {
         RunOutput::Lines(words) => run_calls(scheduler, calls, writer, words),
         RunOutput::History => run_history(alloc, scheduler, config, calls, writer),
+        RunOutput::Journal => run_journal(alloc, scheduler, config, calls, writer),
     }
 }
 
 /// Reads a script, a configuration and calls in JSON, to the reader's end, and makes its calls one after
 /// the other on a new scheduler. The call at place i, from 0, has the stamp of seat 0 and ticket i.
 /// Writes one line for the answer to each call, and then only a fault of output comes after a line was
-/// written; or the history of the recorded calls in JSON, in one line. Answers how many calls were not recorded.
+/// written; or the history of the recorded calls in JSON, in one line; or their journal. Answers how many calls were
+/// not recorded.
 pub fn run_with<R: Source, W: Sink>(
     alloc: Global,
     reader: &mut R,

@@ -1,8 +1,10 @@
 -- The calls are made, and the text of their history is written.
-use Rattle.std.proofs.Common.{◌∙◌}
+use Rattle.std.proofs.Common.{refl, ◌∙◌}
 use Rattle.sched_history.proofs.state.Whole.{kept-whole}
 use Rattle.sched_lines.proofs.Leaving.{MakesCalls-few}
 use Rattle.sched_lines.proofs.Made.{MakesCalls-handed}
+use Rattle.history_writing.specs.HistoryText.{history_text}
+use Rattle.run_command.specs.declared.output.RunOutput.TheVariants.{History}
 use Rattle.run_command.proofs.Running.{history-written}
 use Rattle.run_command.proofs.run.run_history.Goals as goal
 
@@ -17,4 +19,5 @@ returns-clause-ok g c =
     let fits = rw (c.history.ensures.value ∙ kept, c.requires.same) at c.history_fits.ensures in
     let written = rw (c.config.ensures.value, c.requires.same, c.history-2.ensures.value ∙ kept)
     at c.in_ok-put_history.ensures.ok in
-    history-written _ _ c.args.calls.now makes.0 _ _ _ makes.1 fits written c.count_unrecorded.ensures
+    history-written History history_text _ _ c.args.calls.now makes.0 _ _ _ refl makes.1 fits written
+    c.count_unrecorded.ensures
