@@ -1,0 +1,71 @@
+//! What one line of a journal stands for, and what an auditor says of it.
+
+ghost use Rattle.std.specs.Prelude.{◌≡◌, ◌≤◌, codes, length, option_and_then, IfOk, IfErr};
+ghost use Rattle.serde_json.specs.Find.{get};
+ghost use Rattle.serde_json.specs.View.{view};
+ghost use Rattle.json_fields.specs.Fields.{config_of};
+ghost use Rattle.line_stream.specs.declared.TheConstants.{MAX_LINE};
+ghost use Rattle.journal_reading.specs.Standing.{lawful_config, opening_in, config_in_line};
+ghost use Rattle.journal_reading.specs.Taking.{Takes, StopsTaking};
+
+use history_reading::entry_in;
+use json::Scratch;
+use json_fields::config_in;
+use minislots::Checked;
+use sched_history::{Auditor, JudgeFault};
+use serde_json::Value;
+use std::alloc::{AllocError, Global};
+use text_stream::{TextFault, parse};
+
+// The configuration of an opening, where it is lawful.
+fn lawful_in(value: &Value) -> Option<Checked>
+    ensures { result ≡ option_and_then lawful_config
+        (option_and_then config_of (get (codes "config") (view value.now))) }
+{
+    config_in(value)?.check().ok()
+}
+
+// The configuration that a first line stands for.
+#[tactic(auto, unfolding(crate::specs::Standing::opening_in))]
+pub(crate) fn opening_in(alloc: Global, line: &[u8]) -> Result<Option<Checked>, AllocError>
+    ensures { IfOk result (λ config. config ≡ opening_in line.now) }
+{
+    match parse(alloc, line) {
+        Ok(value) => Ok(lawful_in(&value)),
+        Err(TextFault::Memory) => Err(AllocError),
+        Err(_) => Ok(None),
+    }
+}
+
+// What comes of a line behind the first.
+#[derive(Clone, Copy)]
+pub(crate) enum Taken {
+    // It is an entry, which was taken.
+    Entry,
+    // It is an entry that may not follow those before it.
+    Illegal,
+    // It is no entry.
+    NoEntry,
+}
+
+// Judges the entry that a line stands for, and takes it where it may follow.
+pub(crate) fn take_line(
+    alloc: Global,
+    scratch: &mut Scratch,
+    auditor: &mut Auditor,
+    line: &[u8],
+) -> Result<Taken, TextFault>
+    requires { length line.now ≤ MAX_LINE }
+    ensures takes { IfOk result (Takes auditor.old auditor.new line.now) }
+    ensures stops { IfErr result (StopsTaking auditor.old line.now) }
+{
+    let Some(entry) = entry_in(alloc, scratch, line)? else {
+        return Ok(Taken::NoEntry);
+    };
+    match auditor.judge(&entry) {
+        Ok(()) => Ok(Taken::Entry),
+        Err(JudgeFault::Illegal) => Ok(Taken::Illegal),
+        Err(JudgeFault::Full) => Err(TextFault::TooLong),
+        Err(JudgeFault::Memory) => Err(TextFault::Memory),
+    }
+}
