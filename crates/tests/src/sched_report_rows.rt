@@ -82,5 +82,12 @@ fn the_numbers_of_a_history_are_those_worked_out_by_hand(rt: HostRuntime) -> Res
             "the request to nobody alone is refused"
         );
     }
+    assert!(rt; reporter.lives() == 3, "three flows were admitted");
+    let life = reporter.life(0);
+    assert!(rt; life.sid == 17 && life.from == 840 && life.to == 2080 && !life.ended);
+    let sums = life.sums;
+    assert!(rt; sums.asks == 1 && sums.asked == 100 && sums.granted == 100);
+    let delays = sums.delays;
+    assert!(rt; delays.served == 1 && delays.least == Some(53) && delays.greatest == Some(53));
     Ok(())
 }
