@@ -3,6 +3,7 @@
 
 use crate::audit::run_audit;
 use crate::explained_audit::run_audit_explained;
+use crate::journal::{JournalEnd, run_audit_journal};
 use std::io;
 use text_stream::{RunFault, Watched};
 
@@ -17,4 +18,28 @@ pub fn audit_input(
         return run_audit_explained(rt.alloc(), &mut reader, &mut writer);
     }
     run_audit(rt.alloc(), &mut reader, &mut writer)
+}
+
+// Tells on standard error how many bytes stand behind the last newline, where there are any.
+fn tell_torn(rt: &impl Eprint, torn: u64) {
+    if torn > 0 {
+        let _ = rt.eprintln(format_args!("torn {torn}"));
+    }
+}
+
+/// The command `audit` on a journal: how it ends. What is torn, and which line is bad, is told on standard error.
+pub fn audit_journal_input(
+    rt: &(impl Input + Print + Eprint + AllocGlobal),
+) -> Result<JournalEnd, RunFault> {
+    let mut reader = Watched::new(rt.reader());
+    let mut writer = Watched::new(io::writer(rt));
+    let end = run_audit_journal(rt.alloc(), &mut reader, &mut writer)?;
+    match end {
+        JournalEnd::Legal(torn) => tell_torn(rt, torn),
+        JournalEnd::Illegal => {}
+        JournalEnd::Bad(line) => {
+            let _ = rt.eprintln(format_args!("bad journal at {line}"));
+        }
+    }
+    Ok(end)
 }

@@ -1,10 +1,12 @@
-//! The audit of a history, from its text to the line of its verdict.
+//! The audit of a history or of a journal, from its text to the line of its verdict.
 #![tactic(auto)]
 
 mod audit;
 mod explained_audit;
 mod input;
+mod journal;
 
 pub use audit::run_audit;
 pub use explained_audit::run_audit_explained;
-pub use input::audit_input;
+pub use input::{audit_input, audit_journal_input};
+pub use journal::{JournalEnd, run_audit_journal};

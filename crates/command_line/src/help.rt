@@ -114,7 +114,9 @@ pub const AUDIT: &str =
     r#"Reads from standard input, in JSON, a history as `run --history` prints it:
 {"config": {..}, "entries": [{"seat", "ticket", "call": {..}, "reply": {..}}, ..]}.
 Whoever wrote it, each reply is tried against all that may follow the entries
-before it.
+before it. With --journal it reads a journal as `run --journal` prints it, of any
+length, line by line: bytes behind the last newline count for nothing, and `torn`
+and their number stand on standard error.
 
 Prints `legal` and the number of entries, or `illegal` and the first entry that
 no lawful scheduler could have answered, counted from 0. With --explain there
@@ -123,8 +125,9 @@ found: a MAP with the 64 bits of its times, its table and the bytes that it
 grants. A > marks the first line that differs, before the elements and from them
 on. Of lawful placements one is shown.
 
-Exit statuses: 0 legal, 1 illegal, 2 for the command line, 3 for the input, 4 for
-the machine. Where a history is bad, `mapsched check` tells where.
+Exit statuses: 0 legal, 1 illegal, 2 for the command line, 3 for the input (of a
+journal `bad journal at N`, the line, counted from 0), 4 for the machine. Where a
+history is bad, `mapsched check` tells where.
 
 Example:
   ./mapsched audit < examples/two_maps_history.json"#;

@@ -26,6 +26,36 @@ fn flag<'a>(alloc: Global, name: &'a str, help: &'a str) -> Arg<'a>
     option.action(ArgAction::SetTrue).help(help)
 }
 
+// What a run prints as a journal, in place of its history.
+fn run_journal_option<'a>(alloc: Global) -> Result<Arg<'a>, AllocError>
+    ensures named { IfOk result (λ r. r.id.now ≡ codes "journal") }
+    ensures local { IfOk result (λ r. r.global ≡ false) }
+{
+    let about = "Prints the history as a journal, a line for each entry";
+    flag(alloc, "journal", about).conflicts_with("history")
+}
+
+// The words behind refusals.
+fn run_explain_option<'a>(alloc: Global) -> Result<Arg<'a>, AllocError>
+    ensures named { IfOk result (λ r. r.id.now ≡ codes "explain") }
+    ensures local { IfOk result (λ r. r.global ≡ false) }
+{
+    flag(alloc, "explain", "Tells behind each refusal what it means")
+        .conflicts_with("history")?
+        .conflicts_with("journal")
+}
+
+// The whole frames of MAPs.
+fn run_frames_option<'a>(alloc: Global) -> Result<Arg<'a>, AllocError>
+    ensures named { IfOk result (λ r. r.id.now ≡ codes "frames") }
+    ensures local { IfOk result (λ r. r.global ≡ false) }
+{
+    flag(alloc, "frames", "Prints the whole frame of each MAP")
+        .conflicts_with("history")?
+        .conflicts_with("explain")?
+        .conflicts_with("journal")
+}
+
 // The command that runs a script.
 fn run_command<'a>(alloc: Global) -> Result<Command<'a>, AllocError>
     ensures { IfOk result (λ r. IsCommand r (codes "run")
@@ -33,24 +63,11 @@ fn run_command<'a>(alloc: Global) -> Result<Command<'a>, AllocError>
 {
     let about = "Reads a script from standard input and prints one line for each call";
     let history = flag(alloc, "history", "Prints the history of the calls in JSON");
-    let journal = flag(
-        alloc,
-        "journal",
-        "Prints the history as a journal, a line for each call",
-    );
-    let journal = journal.conflicts_with("history")?;
-    let explain = flag(alloc, "explain", "Tells behind each refusal what it means");
-    let explain = explain
-        .conflicts_with("history")?
-        .conflicts_with("journal")?;
-    let frames = flag(alloc, "frames", "Prints the whole frame of each MAP");
-    let frames = frames.conflicts_with("history")?.conflicts_with("explain")?;
-    let frames = frames.conflicts_with("journal")?;
     command(alloc, "run", about, help::RUN)
         .arg(history)?
-        .arg(journal)?
-        .arg(explain)?
-        .arg(frames)
+        .arg(run_journal_option(alloc)?)?
+        .arg(run_explain_option(alloc)?)?
+        .arg(run_frames_option(alloc)?)
 }
 
 // The address of a sender.
@@ -116,15 +133,19 @@ fn decode_command<'a>(alloc: Global) -> Result<Command<'a>, AllocError>
 
 // The command that judges a history.
 fn audit_command<'a>(alloc: Global) -> Result<Command<'a>, AllocError>
-    ensures { IfOk result (λ r. IsCommand r (codes "audit") (codes "explain" ∷ []) []) }
+    ensures { IfOk result (λ r. IsCommand r (codes "audit") (codes "explain" ∷ codes "journal" ∷ []) []) }
 {
     let about = "Reads a history from standard input and prints whether it is legal";
+    let journal = flag(alloc, "journal", "Reads a journal, of any length");
+    let journal = journal.conflicts_with("explain")?;
     let explain = flag(
         alloc,
         "explain",
         "Tells what was expected at the first illegal entry",
     );
-    command(alloc, "audit", about, help::AUDIT).arg(explain)
+    command(alloc, "audit", about, help::AUDIT)
+        .arg(explain)?
+        .arg(journal)
 }
 
 // The command that tells what is wrong in a file.
@@ -189,8 +210,9 @@ pub fn commands<'a>(alloc: Global) -> Result<Command<'a>, AllocError>
     ensures { IfOk result (λ r. IsCommand r (codes "mapsched") []
         ((codes "run", codes "history" ∷ codes "journal" ∷ codes "explain" ∷ codes "frames" ∷ [])
         ∷ (codes "decode", codes "HEX" ∷ codes "draw" ∷ codes "columns" ∷ codes "explain" ∷ codes "frame" ∷ [])
-        ∷ (codes "draw", codes "from" ∷ codes "count" ∷ []) ∷ (codes "audit", codes "explain" ∷ [])
-        ∷ (codes "storm", []) ∷ (codes "check", []) ∷ (codes "pcap", codes "mac" ∷ []) ∷ [])) }
+        ∷ (codes "draw", codes "from" ∷ codes "count" ∷ [])
+        ∷ (codes "audit", codes "explain" ∷ codes "journal" ∷ []) ∷ (codes "storm", []) ∷ (codes "check", [])
+        ∷ (codes "pcap", codes "mac" ∷ []) ∷ [])) }
 {
     program(alloc)
         .subcommand(run_command(alloc)?)?

@@ -1,7 +1,7 @@
 -- How far the lines of a journal have come, and what they stand for.
-use Rattle.std.proofs.Common.{◌≡◌, ℕ, suc, ◌+◌, ◌-◌, ◌^◌, ◌<◌, ◌≤◌, min, true, List, [], ◌∷◌, ◌++◌, length, map, take}
+use Rattle.std.proofs.Common.{◌≡◌, ℕ, ◌+◌, ◌<◌, ◌≤◌, List, [], ◌∷◌, ◌++◌, length}
 use Rattle.std.proofs.Common.{Option, None, Some, refl, sym, ap, ◌∙◌, subst, append_assoc, arith, length-append, inl, inr}
-use Rattle.std.specs.Prelude.{flat_map, MatchOption}
+use Rattle.std.specs.Prelude.{MatchOption}
 use Rattle.std.specs.List.{AllByRecursion, slice_get}
 use Rattle.std.specs.Io.KnownBytes.{Consumes, IsAtEnd, prepend_known}
 use Rattle.std.proofs.KnownBytes.{Consumes-trans}
@@ -13,7 +13,6 @@ use Rattle.minislots.specs.declared.config.Config.{Config}
 use Rattle.sched_history.specs.declared.reply.Entry.{Entry}
 use Rattle.sched_history.specs.declared.reply.TheConstants.{MAX_WHOLE_HISTORY}
 use Rattle.sched_history.specs.History.{IsStep, IsLegal}
-use Rattle.sched_history.specs.Audit.{IsFirstIllegal}
 use Rattle.sched_history.specs.Machine.{Past}
 use Rattle.line_stream.specs.declared.TheConstants.{MAX_LINE, NEWLINE}
 use Rattle.line_stream.specs.Lines.{IsWithinLine}

@@ -1,6 +1,6 @@
 -- Which lines of a journal stand for which configuration and entries.
 use Rattle.std.specs.Prelude.{◌≡◌, ℕ, nat_lt, if◌then◌else◌, List, [], ◌∷◌, ◌++◌, length, codes, map, flat_map}
-use Rattle.std.specs.Prelude.{Option, None, Some, option_and_then}
+use Rattle.std.specs.Prelude.{Option, None, Some}
 use Rattle.std.specs.Result.{result_ok}
 use Rattle.serde_json.specs.Find.{get}
 use Rattle.minislots.specs.declared.config.Config.{Config}

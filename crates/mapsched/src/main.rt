@@ -2,7 +2,7 @@
 //! its MAPs, the table of a MAP, and the audit of a history.
 #![tactic(auto)]
 
-use audit_command::audit_input;
+use audit_command::{JournalEnd, audit_input, audit_journal_input};
 use clap::error::ErrorKind;
 use clap::{ArgMatches, Error};
 use command_line::commands;
@@ -108,6 +108,16 @@ fn pcap(rt: &(impl Input + Print + Eprint + AllocGlobal), pcap: &ArgMatches) -> 
     }
 }
 
+// The command `audit` on a journal.
+fn audit_journal(rt: &(impl Input + Print + Eprint + AllocGlobal)) -> ExitCode {
+    match audit_journal_input(rt) {
+        Ok(JournalEnd::Legal(_)) => ExitCode::SUCCESS,
+        Ok(JournalEnd::Illegal) => ExitCode::FAILURE,
+        Ok(JournalEnd::Bad(_)) => ExitCode::from(3u8),
+        Err(fault) => fail(rt, fault),
+    }
+}
+
 // The command `draw`: all frames, or those that are asked for.
 fn draw(
     rt: &(impl Input + Print + Eprint + AllocGlobal),
@@ -138,6 +148,7 @@ fn main(rt: HostRuntime) -> ExitCode {
     let outcome = match matches.subcommand() {
         Some(("decode", decode)) => show(&rt, decode),
         Some(("draw", frames)) => draw(&rt, frames),
+        Some(("audit", audit)) if audit.get_flag("journal") => return audit_journal(&rt),
         Some(("audit", audit)) => audit_input(&rt, audit.get_flag("explain")),
         Some(("check", _)) => return check(&rt),
         Some(("storm", _)) => storm_input(&rt),

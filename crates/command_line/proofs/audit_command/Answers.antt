@@ -1,4 +1,4 @@
--- The option stands alone.
+-- The options stand in their order.
 use Rattle.std.proofs.Common.{rules, codes, []}
 use Rattle.std.proofs.lemmas.Result.{IfOk-weaker}
 use Rattle.command_line.proofs.Adding.{IsCommand-arg}
@@ -6,5 +6,8 @@ use Rattle.command_line.proofs.audit_command.Goals as goal
 
 pub returns : goal.returns
 returns c =
-    IfOk-weaker _ _ _ (λ r adds. IsCommand-arg _ r _ (codes "audit") (codes "explain") [] [] c.command.ensures adds
-    (search rules) (search rules)) c.arg.ensures
+    let first = IsCommand-arg c.command.result _ c.flag-explain.result (codes "audit")
+    (codes "explain") [] [] c.command.ensures
+    c.in_ok-arg.ensures (search rules) (search rules) in
+    IfOk-weaker _ _ _ (λ r adds. IsCommand-arg _ r _ (codes "audit") (codes "journal") _ [] first adds
+    (search rules) (search rules)) c.arg-2.ensures

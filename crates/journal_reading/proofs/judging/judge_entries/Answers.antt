@@ -1,5 +1,5 @@
 -- A line more, a line that stands for nothing, an entry that may not follow, and the end.
-use Rattle.std.proofs.Common.{◌≡◌, ◌+◌, ◌∷◌, ◌++◌, [], length, ap, sym, subst, ◌∙◌, arith, length-append, inr}
+use Rattle.std.proofs.Common.{◌+◌, ◌∷◌, [], length, ap, sym, subst, ◌∙◌, arith, length-append, inr}
 use Rattle.sched_history.specs.Machine.{Past}
 use Rattle.journal_reading.specs.Judging.{FindsLegal, FindsNoEntry}
 use Rattle.journal_reading.proofs.Lines.{FindsLegal-torn, FindsNoEntry-long, StandSoFar-entry, FindsIllegal-entry}
