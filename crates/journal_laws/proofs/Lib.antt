@@ -1,0 +1,2 @@
+pub mod NoNewline
+pub mod LinesAgain
