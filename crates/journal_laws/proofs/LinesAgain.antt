@@ -1,5 +1,5 @@
 -- The lines that are written stand for what they were written of.
-use Rattle.std.proofs.Common.{◌≡◌, ℕ, ◌+◌, ◌≤◌, List, [], ◌∷◌, ◌++◌, length, map, Some, None, Ok, refl, sym, ap, ◌∙◌}
+use Rattle.std.proofs.Common.{◌≡◌, ℕ, ◌+◌, ◌≤◌, List, [], ◌∷◌, ◌++◌, length, map, Some, None, Ok, refl, ap, ◌∙◌}
 use Rattle.std.proofs.Common.{arith, length-append}
 use Rattle.std.specs.Prelude.{flat_map}
 use Rattle.std.specs.List.{AllByRecursion}
@@ -22,10 +22,10 @@ use Rattle.history_laws.proofs.CallReadable.{config_readable}
 use Rattle.history_laws.proofs.HistoryAgain.{entry_of-data}
 use Rattle.history_laws.proofs.HistoryReadable.{entry_readable}
 use Rattle.history_laws.proofs.HistoryDepth.{depth-entry}
-use Rattle.journal_writing.specs.Journal.{opening_data, opening_line, entry_line, journal_text}
-use Rattle.journal_reading.specs.Standing.{StandFor, opening_in, config_in_line, entry_in_line, ended_lines}
+use Rattle.journal_writing.specs.Journal.{opening_data, opening_line, entry_line}
+use Rattle.journal_reading.specs.Standing.{opening_in, entry_in_line, ended_lines}
 use Rattle.journal_reading.proofs.Lines.{in_line-short}
-use Rattle.journal_laws.specs.JournalAgain.{IsLineOf, IsEntryLine, IsTextOf, IsJournalAgain}
+use Rattle.journal_laws.specs.JournalAgain.{IsEntryLine, IsJournalAgain}
 use Rattle.journal_laws.proofs.NoNewline.{compact_within}
 
 -- the text of a value is read as the value
