@@ -23,7 +23,8 @@ pub enum JournalEnd {
 
 /// Reads a journal, of any length, and audits it in the memory of a scheduler's state and of one line. Writes `legal`
 /// and the number of its entries, or `illegal` and the first entry, counted from 0, whose reply the scheduler may not
-/// give after the entries before it. Nothing is written where a line is bad, nor before another fault than one of output.
+/// give after the entries before it. Nothing is written where a line is bad, nor before another fault than one of
+/// output.
 pub fn run_audit_journal<R: Source, W: Sink>(
     alloc: Global,
     reader: &mut R,

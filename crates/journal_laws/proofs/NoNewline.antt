@@ -30,9 +30,19 @@ escaped_within : (x : ℕ) → IsWithinLine (escape_byte x)
 unfolding escape_byte
 escaped_within x =
     let letter : IsWithinLine (92 ∷ escape_letter x ∷ []) = (λ e. omega arith, (letter_within x, tt)) in
-    let code : IsWithinLine (92 ∷ 117 ∷ 48 ∷ 48 ∷ digit_char (x / 16) ∷ digit_char (x % 16) ∷ []) =
-    (λ e. omega arith, (λ e. omega arith, (λ e. omega arith, (λ e. omega arith,
-    (digit_within (x / 16), (digit_within (x % 16), tt)))))) in
+    let code : IsWithinLine (92 ∷ 117 ∷ 48 ∷ 48 ∷ digit_char (x / 16) ∷ digit_char (x % 16) ∷ []) = (
+      λ e. omega arith,
+      (
+        λ e. omega arith,
+        (
+          λ e. omega arith,
+          (
+            λ e. omega arith,
+            (digit_within (x / 16), (digit_within (x % 16), tt)),
+          ),
+        ),
+      ),
+    ) in
     either (nat_lt 0 (escape_letter x)) _ _ letter (λ none.
     either (nat_lt x 32) _ _ code (λ printed. (printed_within x printed, tt)))
 
@@ -68,9 +78,19 @@ mutual
       (λ e. omega arith, (λ e. omega arith, (λ e. omega arith, (λ e. omega arith, tt))))
   compact_within (boolean true) h =
       (λ e. omega arith, (λ e. omega arith, (λ e. omega arith, (λ e. omega arith, tt))))
-  compact_within (boolean false) h =
-      (λ e. omega arith, (λ e. omega arith, (λ e. omega arith, (λ e. omega arith,
-      (λ e. omega arith, tt)))))
+  compact_within (boolean false) h = (
+    λ e. omega arith,
+    (
+      λ e. omega arith,
+      (
+        λ e. omega arith,
+        (
+          λ e. omega arith,
+          (λ e. omega arith, tt),
+        ),
+      ),
+    ),
+  )
   compact_within (number n) h = number_within n h
   compact_within (string s) h = quoted_within s
   compact_within (array ds) h = (λ e. omega arith, items_within false ds h)
@@ -87,6 +107,7 @@ mutual
   members_within later (member k d ms) h =
       let rest = compact_text d ++ members_text true ms in
       IsWithinLine-append (comma_if later) (quoted k ++ 58 ∷ rest) (comma_within later)
-      (IsWithinLine-append (quoted k) (58 ∷ rest) (quoted_within k)
-      (λ e. omega arith,
-      IsWithinLine-append (compact_text d) (members_text true ms) (compact_within d h.1) (members_within true ms h.2)))
+      (IsWithinLine-append (quoted k) (58 ∷ rest) (quoted_within k) (
+        λ e. omega arith,
+        IsWithinLine-append (compact_text d) (members_text true ms) (compact_within d h.1) (members_within true ms h.2),
+      ))

@@ -1,6 +1,7 @@
 -- How far the lines of a journal have come, and what they stand for.
 use Rattle.std.proofs.Common.{◌≡◌, ℕ, ◌+◌, ◌<◌, ◌≤◌, List, [], ◌∷◌, ◌++◌, length}
-use Rattle.std.proofs.Common.{Option, None, Some, refl, sym, ap, ◌∙◌, subst, append_assoc, arith, length-append, inl, inr}
+use Rattle.std.proofs.Common.{Option, None, Some, refl, sym, ap, ◌∙◌, subst}
+use Rattle.std.proofs.Common.{append_assoc, arith, length-append, inl, inr}
 use Rattle.std.specs.Prelude.{MatchOption}
 use Rattle.std.specs.List.{AllByRecursion, slice_get}
 use Rattle.std.specs.Io.KnownBytes.{Consumes, IsAtEnd, prepend_known}
@@ -22,9 +23,11 @@ use Rattle.history_reading.specs.Recorded.{entry_in}
 use Rattle.journal_reading.specs.Standing.{StandFor, in_line, opening_in, config_in_line, entry_in_line, ended_lines}
 use Rattle.journal_reading.specs.Taking.{TakesEntry, MeetsIllegal, StopsTaking}
 use Rattle.text_stream.specs.declared.fault.TextFault.{TextFault}
-use Rattle.text_stream.specs.declared.fault.TextFault.TheVariants.{Input, TooLong, NotJson, Shape, Config as BadConfig, Memory}
+use Rattle.text_stream.specs.declared.fault.TextFault.TheVariants.{Input, TooLong, NotJson, Shape}
+use Rattle.text_stream.specs.declared.fault.TextFault.TheVariants.{Config as BadConfig, Memory}
 use Rattle.text_stream.specs.declared.fault.TextFault.TheVariants.{Output}
-use Rattle.journal_reading.specs.Judging.{Came, CameAll, StandSoFar, FindsLegal, FindsIllegal, FindsNoEntry, HasNoOpening}
+use Rattle.journal_reading.specs.Judging.{Came, CameAll, StandSoFar, FindsLegal}
+use Rattle.journal_reading.specs.Judging.{FindsIllegal, FindsNoEntry, HasNoOpening}
 use Rattle.journal_reading.specs.Judging.{HasTooMany, StopsJournal}
 
 -- one line more
@@ -339,8 +342,8 @@ module _ (before mid remaining : Option (List ℕ)) (hand : AtHand) (c : Config)
         let config = ap (λ (p : Past). p.config) takes.taken ∙ same in
         let legal : IsLegal c (past.history ++ takes.entry ∷ []) = rw (config, all) at takes.legal in
         subst (StandSoFar before (untold hand remaining) c) (sym all)
-        (StandSoFar-push before mid remaining hand.bytes c past.history so_far told.line told.within told.taken takes.entry
-        (at_line takes.is) legal)
+        (StandSoFar-push before mid remaining hand.bytes c past.history so_far told.line told.within told.taken
+        takes.entry (at_line takes.is) legal)
 
     pub FindsIllegal-entry : (new : Past) (n : ℕ) → MeetsIllegal past new shown → n ≡ length new.history
         → FindsIllegal before remaining n
@@ -362,8 +365,8 @@ module _ (before mid remaining : Option (List ℕ)) (hand : AtHand) (c : Config)
     pub StopsJournal-taking : (fault : TextFault) → StopsTaking past shown fault → StopsJournal before remaining fault
     StopsJournal-taking Input stops = absurd stops
     StopsJournal-taking TooLong stops =
-        inl (HasTooMany-line before mid remaining hand.bytes c past.history so_far told.line told.within told.taken stops.0
-        (at_line stops.1) stops.2)
+        inl (HasTooMany-line before mid remaining hand.bytes c past.history so_far told.line told.within told.taken
+        stops.0 (at_line stops.1) stops.2)
     StopsJournal-taking NotJson stops = absurd stops
     StopsJournal-taking (Shape n) stops = absurd stops
     StopsJournal-taking (BadConfig field) stops = absurd stops

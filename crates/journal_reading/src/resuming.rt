@@ -15,8 +15,8 @@ pub enum Resumed {
     /// A scheduler whose whole history is what the journal stands for, all of it handed over. So many bytes of a torn
     /// line stand behind.
     Ready(Scheduler, u64),
-    /// This line of the journal, counted from 0, is the first that is wrong: it stands for nothing, or for an entry that
-    /// may not follow those before it.
+    /// This line of the journal, counted from 0, is the first that is wrong: it stands for nothing, or for an entry
+    /// that may not follow those before it.
     Bad(u64),
 }
 
