@@ -171,3 +171,23 @@ Nothing is printed where memory runs out.
 
 Example:
   ./mapsched draw < examples/all_kinds.json"#;
+
+/// The command that is talked to.
+pub const LIVE: &str =
+    r#"Reads from standard input line by line: first {"config": {..}}, then a call in
+each line, as they stand in the `calls` of a script. Lines of white space alone are
+passed, and there is no limit to their number.
+
+Prints for each call the line that `run` prints, and before it waits for more input
+all that it has to say: who writes one call and waits for its answer gets it. A
+line that is no call changes nothing, and has one of these for an answer:
+  bad line long    it has more than 65536 bytes
+  bad line json    it is not JSON
+  bad line shape   it is JSON, but no call
+`calls` of the configuration is no end: what was recorded is let go.
+
+Exit statuses: 0 where the input has ended, 2 for the command line, 3 for the
+first line or a failed read, 4 for the machine. docs/LIVE.md shows a conversation.
+
+Example:
+  ./mapsched live < examples/live.txt"#;

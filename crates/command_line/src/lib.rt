@@ -92,9 +92,9 @@ fn payload_word<'a>(alloc: Global) -> Arg<'a>
     ensures named { result.id.now ≡ codes "HEX" }
     ensures local { result.global ≡ false }
 {
-    Arg::new(alloc, "HEX")
-        .required(true)
-        .help("The payload of a MAP in hexadecimal, or with --frame a whole frame")
+    Arg::new(alloc, "HEX").required(true).help(
+        "The payload of a MAP in hexadecimal, or with --frame a whole frame",
+    )
 }
 
 // The columns of a drawing.
@@ -121,7 +121,11 @@ fn decode_command<'a>(alloc: Global) -> Result<Command<'a>, AllocError>
         "Draws the frame too, a character for each minislot",
     );
     let explain = flag(alloc, "explain", "Tells behind a fault what it means");
-    let frame = flag(alloc, "frame", "Reads a whole frame: a MAP's, or a request's");
+    let frame = flag(
+        alloc,
+        "frame",
+        "Reads a whole frame: a MAP's, or a request's",
+    );
     let frame = frame.conflicts_with("explain")?;
     command(alloc, "decode", about, help::DECODE)
         .arg(payload_word(alloc))?
@@ -205,6 +209,15 @@ fn program<'a>(alloc: Global) -> Command<'a>
         .subcommand_required(true)
 }
 
+// The command that is talked to.
+fn live_command<'a>(alloc: Global) -> Result<Command<'a>, AllocError>
+    ensures { IfOk result (λ r. IsCommand r (codes "live") (codes "explain" ∷ []) []) }
+{
+    let about = "Reads calls line by line and answers each before it waits for the next";
+    let explain = flag(alloc, "explain", "Tells behind each refusal what it means");
+    command(alloc, "live", about, help::LIVE).arg(explain)
+}
+
 /// The commands of the program, with their options and their help. Out of memory is the only error.
 pub fn commands<'a>(alloc: Global) -> Result<Command<'a>, AllocError>
     ensures { IfOk result (λ r. IsCommand r (codes "mapsched") []
@@ -212,7 +225,7 @@ pub fn commands<'a>(alloc: Global) -> Result<Command<'a>, AllocError>
         ∷ (codes "decode", codes "HEX" ∷ codes "draw" ∷ codes "columns" ∷ codes "explain" ∷ codes "frame" ∷ [])
         ∷ (codes "draw", codes "from" ∷ codes "count" ∷ [])
         ∷ (codes "audit", codes "explain" ∷ codes "journal" ∷ []) ∷ (codes "storm", []) ∷ (codes "check", [])
-        ∷ (codes "pcap", codes "mac" ∷ []) ∷ [])) }
+        ∷ (codes "pcap", codes "mac" ∷ []) ∷ (codes "live", codes "explain" ∷ []) ∷ [])) }
 {
     program(alloc)
         .subcommand(run_command(alloc)?)?
@@ -221,5 +234,6 @@ pub fn commands<'a>(alloc: Global) -> Result<Command<'a>, AllocError>
         .subcommand(audit_command(alloc)?)?
         .subcommand(storm_command(alloc))?
         .subcommand(check_command(alloc))?
-        .subcommand(pcap_command(alloc)?)
+        .subcommand(pcap_command(alloc)?)?
+        .subcommand(live_command(alloc)?)
 }

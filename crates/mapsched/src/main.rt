@@ -8,6 +8,7 @@ use clap::{ArgMatches, Error};
 use command_line::commands;
 use decode_command::{show_frame, show_text};
 use draw_command::draw_input;
+use live_command::live_input;
 use pcap_command::{ADDRESS, address_of, frames_input, pcap_input};
 use run_command::{RunOutput, Words, run_input};
 use sched_check::check_input;
@@ -137,6 +138,17 @@ fn check(rt: &(impl Input + Print + Eprint + AllocGlobal)) -> ExitCode {
     }
 }
 
+// The command `live`: ends as the other commands do, but for a fault of its own.
+fn live(rt: &(impl Input + Print + Eprint + AllocGlobal), live: &ArgMatches) -> ExitCode {
+    match live_input(rt, live.get_flag("explain")) {
+        Ok(_) => ExitCode::SUCCESS,
+        Err(fault) => {
+            let _ = rt.eprintln(fault);
+            ExitCode::from(fault.status())
+        }
+    }
+}
+
 fn main(rt: HostRuntime) -> ExitCode {
     let Ok(words) = words_of(&rt) else {
         return fail(&rt, RunFault::Text(TextFault::Memory));
@@ -153,6 +165,7 @@ fn main(rt: HostRuntime) -> ExitCode {
         Some(("check", _)) => return check(&rt),
         Some(("storm", _)) => storm_input(&rt),
         Some(("pcap", words)) => return pcap(&rt, words),
+        Some(("live", words)) => return live(&rt, words),
         Some((_, words)) => run(&rt, words),
         None => run_input(&rt, RunOutput::Lines(Words::Plain)),
     };

@@ -18,5 +18,7 @@ returns c =
     c.storm_command.ensures in
     let check = IsCommand-sub _ _ _ (codes "mapsched") (codes "check") [] [] _ [] storm c.in_ok-subcommand-6.ensures
     c.check_command.ensures in
-    IfOk-weaker _ _ _ (λ r adds. IsCommand-sub _ _ r (codes "mapsched") (codes "pcap") [] _ _ [] check adds
-    c.in_ok-pcap_command.ensures) c.subcommand-7.ensures
+    let pcap = IsCommand-sub _ _ _ (codes "mapsched") (codes "pcap") [] _ _ [] check c.in_ok-subcommand-7.ensures
+    c.in_ok-pcap_command.ensures in
+    IfOk-weaker _ _ _ (λ r adds. IsCommand-sub _ _ r (codes "mapsched") (codes "live") [] _ _ [] pcap adds
+    c.in_ok-live_command.ensures) c.subcommand-8.ensures
