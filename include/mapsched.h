@@ -53,7 +53,7 @@ enum mapsched_status {
   MAPSCHED_EMPTY = 1,         /* the handle has no scheduler */
   MAPSCHED_FULL = 2,          /* the handle has a scheduler already */
   MAPSCHED_BAD_CALL = 3,      /* no such kind of call, or of flow */
-  MAPSCHED_HISTORY_FULL = 4,  /* as many calls are recorded as the configuration allows */
+  MAPSCHED_HISTORY_FULL = 4,  /* as many entries are kept as the configuration allows, or 2^44 calls were recorded */
   MAPSCHED_OUT_OF_MEMORY = 5,
   MAPSCHED_NO_ENTRY = 6,      /* the history has no entry of this number */
   MAPSCHED_NO_ROOM = 7,       /* the room is shorter than the text, whose length is told */
@@ -67,6 +67,7 @@ enum mapsched_status {
   MAPSCHED_NO_SEAT = 15,      /* no seat is with the worker */
   MAPSCHED_WORKERS_OUT = 16,  /* other workers are left */
   MAPSCHED_BAD_SEATS = 17,    /* fewer than 1 seat, or more than MAPSCHED_MAX_SEATS */
+  MAPSCHED_HANDED_OVER = 18,  /* an entry, or one of a history, is no longer kept: it was let go */
   MAPSCHED_BAD_CONFIG = 100,  /* and the number of the first wrong field: 101 to 119, in the order of README's table */
   MAPSCHED_BAD_PAYLOAD = 200, /* and the number of the first fault: 201 to 207, in the order of README's list */
   MAPSCHED_BAD_MAP = 300      /* and the number of the first fault of numbers that are no MAP: 301 to 305 */
@@ -156,13 +157,25 @@ uint32_t mapsched_open(struct mapsched_scheduler *scheduler, const struct mapsch
 uint32_t mapsched_call(struct mapsched_scheduler *scheduler, const struct mapsched_stamp *stamp,
                        const struct mapsched_call *call, struct mapsched_reply *reply);
 
-/* How many calls are recorded. */
+/* How many calls were recorded, those included that are no longer kept. */
 uint32_t mapsched_count(struct mapsched_scheduler *scheduler, size_t *count);
 
-/* The recorded call of this number, from 0. */
+/* The number of the first recorded call that is kept, from 0: so many were let go. */
+uint32_t mapsched_kept_from(struct mapsched_scheduler *scheduler, size_t *place);
+
+/*
+ * Lets go of all recorded calls that are kept, so that there is room for others. Their numbers are not given again. A
+ * program that wants them reads them before, from mapsched_kept_from to mapsched_count.
+ */
+uint32_t mapsched_forget(struct mapsched_scheduler *scheduler);
+
+/* The recorded call of this number, from 0, where it is kept; else MAPSCHED_HANDED_OVER. */
 uint32_t mapsched_entry(struct mapsched_scheduler *scheduler, size_t place, struct mapsched_entry *entry);
 
-/* Writes the text of the history, as `mapsched run --history` does, and tells its length. */
+/*
+ * Writes the text of the history, as `mapsched run --history` does, and tells its length. Where a part of it was let go
+ * nothing is written: MAPSCHED_HANDED_OVER.
+ */
 uint32_t mapsched_history(struct mapsched_scheduler *scheduler, uint8_t *room, size_t room_length, size_t *length);
 
 /* Audits the text of a history, and tells how many entries a legal one has. */
@@ -234,7 +247,7 @@ static inline const char *mapsched_status_text(uint32_t status) {
                                       "history full", "out of memory",   "no such entry",       "no room",
                                       "illegal",      "text too long",   "not json",            "no history",
                                       "no ticket",    "not served",      "has a ticket",        "no seat",
-                                      "workers left", "seats"};
+                                      "workers left", "seats",           "not kept"};
   static const char *const fields[] = {"ticks",         "bytes_per_slot", "overhead",   "frame",     "cycle",
                                        "req_slots",     "poll_slots",     "lead",       "short_max", "quantum",
                                        "grant_cap",     "receivers",      "calls",      "start",     "ranging_start",
@@ -243,7 +256,7 @@ static inline const char *mapsched_status_text(uint32_t status) {
                                        "a descent", "no null",           "a second null"};
   static const char *const map_faults[] = {"too many elements", "out of range", "a descent", "no null",
                                            "a second null"};
-  if (status <= MAPSCHED_BAD_SEATS) return texts[status];
+  if (status <= MAPSCHED_HANDED_OVER) return texts[status];
   if (status > MAPSCHED_BAD_CONFIG && status <= MAPSCHED_BAD_CONFIG + MAPSCHED_CONFIG_FIELDS)
     return fields[status - MAPSCHED_BAD_CONFIG - 1];
   if (status > MAPSCHED_BAD_PAYLOAD && status <= MAPSCHED_BAD_PAYLOAD + MAPSCHED_PAYLOAD_FAULTS)

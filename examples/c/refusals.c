@@ -89,6 +89,51 @@ static void workers(void) {
   WANT(mapsched_open_workers(&first, &config, 64) == MAPSCHED_OK && mapsched_leave(&first) == MAPSCHED_OK);
 }
 
+/* A scheduler that lets go of what it keeps goes on, and answers as one that keeps all. */
+static void forgetting(void) {
+  struct mapsched_config config = lawful(), roomy = lawful();
+  struct mapsched_scheduler scheduler = {0}, whole = {0};
+  struct mapsched_stamp stamp = {.ticket = 0, .seat = 0};
+  struct mapsched_call data = {.kind = MAPSCHED_ADMIT, .flow = MAPSCHED_BEST_EFFORT, .sid = 6};
+  struct mapsched_call build = {.kind = MAPSCHED_BUILD, .minislot = 760};
+  struct mapsched_reply reply, wanted;
+  struct mapsched_entry entry;
+  uint8_t text[1] = {0xa5};
+  size_t count = 0, place = 99, length = 7;
+  config.calls = 2;
+  roomy.calls = 100;
+  memset(&reply, 0, sizeof reply);
+  memset(&wanted, 0, sizeof wanted);
+  memset(&entry, 0xa5, sizeof entry);
+
+  WANT(mapsched_forget(&scheduler) == MAPSCHED_EMPTY);
+  WANT(mapsched_kept_from(&scheduler, &place) == MAPSCHED_EMPTY && place == 99);
+  WANT(mapsched_open(&scheduler, &config) == MAPSCHED_OK && mapsched_open(&whole, &roomy) == MAPSCHED_OK);
+  WANT(mapsched_kept_from(&scheduler, &place) == MAPSCHED_OK && place == 0);
+  WANT(mapsched_call(&scheduler, &stamp, &data, &reply) == MAPSCHED_OK);
+  WANT(mapsched_call(&whole, &stamp, &data, &wanted) == MAPSCHED_OK);
+  for (size_t made = 1; made < 50; made++, build.minislot += 40) {
+    WANT(mapsched_call(&whole, &stamp, &build, &wanted) == MAPSCHED_OK && wanted.kind == MAPSCHED_BUILT);
+    if (made % 2 == 0) {
+      WANT(mapsched_call(&scheduler, &stamp, &build, &reply) == MAPSCHED_HISTORY_FULL);
+      WANT(mapsched_forget(&scheduler) == MAPSCHED_OK);
+      WANT(mapsched_kept_from(&scheduler, &place) == MAPSCHED_OK && place == made);
+    }
+    WANT(mapsched_call(&scheduler, &stamp, &build, &reply) == MAPSCHED_OK);
+    WANT(memcmp(&reply, &wanted, sizeof reply) == 0);
+  }
+
+  WANT(mapsched_count(&scheduler, &count) == MAPSCHED_OK && count == 50 && place == 48);
+  WANT(mapsched_entry(&scheduler, 47, &entry) == MAPSCHED_HANDED_OVER && entry.call.kind == 0xa5a5a5a5);
+  WANT(mapsched_entry(&scheduler, 50, &entry) == MAPSCHED_NO_ENTRY && entry.call.kind == 0xa5a5a5a5);
+  WANT(mapsched_entry(&scheduler, 49, &entry) == MAPSCHED_OK && entry.reply.value == reply.value);
+  WANT(mapsched_entry(&scheduler, 48, &entry) == MAPSCHED_OK && entry.reply.value == reply.value - 40);
+  WANT(mapsched_history(&scheduler, text, 1, &length) == MAPSCHED_HANDED_OVER && length == 7 && text[0] == 0xa5);
+  WANT(mapsched_history(&whole, text, 1, &length) == MAPSCHED_NO_ROOM && length > 1);
+  WANT(strcmp(mapsched_status_text(MAPSCHED_HANDED_OVER), "not kept") == 0);
+  WANT(mapsched_close(&scheduler) == MAPSCHED_OK && mapsched_close(&whole) == MAPSCHED_OK);
+}
+
 int main(void) {
   struct mapsched_config config = lawful(), wrong = lawful();
   struct mapsched_scheduler scheduler = {0};
@@ -214,8 +259,9 @@ int main(void) {
   WANT(reply.starts[0] == 4 && reply.starts[1] == 10 && reply.starts[2] == 16);
   WANT(mapsched_entry(&scheduler, 1, &entry) == MAPSCHED_OK && memcmp(&entry.call, &voice, NUMBERS) == 0);
   WANT(mapsched_close(&scheduler) == MAPSCHED_OK);
-  WANT(strcmp(mapsched_status_text(18), "unknown status") == 0);
+  WANT(strcmp(mapsched_status_text(19), "unknown status") == 0);
   WANT(strcmp(mapsched_status_text(100), "unknown status") == 0);
   workers();
+  forgetting();
   return failures != 0;
 }

@@ -25,7 +25,11 @@ class Closed(Fault):
 
 
 class HistoryFull(Fault):
-    """As many calls are recorded as the configuration allows."""
+    """As many entries are kept as the configuration allows, or 2**44 calls were recorded."""
+
+
+class HandedOver(Fault, LookupError):
+    """An entry, or one of the history whose text is wanted, is no longer kept."""
 
 
 class OutOfMemory(Fault, MemoryError):
@@ -81,6 +85,8 @@ def fault_of(status: int, place: int = 0) -> Fault:
         return HistoryFull(status, "history full")
     if status == 5:
         return OutOfMemory(status, "out of memory")
+    if status == 18:
+        return HandedOver(status, "not kept")
     if status in _WORDS:
         return NoHistory(status, _WORDS[status], None)
     if status == 11:

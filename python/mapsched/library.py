@@ -86,6 +86,8 @@ _FUNCTIONS = {
     "open": [POINTER(Handle), POINTER(ConfigNumbers)],
     "call": [POINTER(Handle), POINTER(StampNumbers), POINTER(CallNumbers), POINTER(ReplyNumbers)],
     "count": [POINTER(Handle), _SIZE],
+    "kept_from": [POINTER(Handle), _SIZE],
+    "forget": [POINTER(Handle)],
     "entry": [POINTER(Handle), c_size_t, POINTER(EntryNumbers)],
     "history": [POINTER(Handle), _BYTES, c_size_t, _SIZE],
     "audit": [_BYTES, c_size_t, _SIZE],

@@ -95,15 +95,30 @@ class Scheduler:
         return count.value
 
     def __len__(self) -> int:
-        """How many calls are recorded."""
+        """How many calls were recorded, those included that are no longer kept."""
         with self._lock:
             return self._count()
+
+    @property
+    def kept_from(self) -> int:
+        """The number of the first recorded call that is kept, from 0: so many were let go."""
+        place = c_size_t()
+        with self._lock:
+            want(run("kept_from", self._handle, byref(place)))
+        return place.value
+
+    def forget(self) -> None:
+        """Lets go of all recorded calls that are kept, so that there is room for others. Their numbers are not given
+        again."""
+        with self._lock:
+            want(run("forget", self._handle))
 
     def __bool__(self) -> bool:
         return True
 
     def __getitem__(self, place: int) -> Entry:
-        """The recorded call of this number, from 0; a negative one counts from the end."""
+        """The recorded call of this number, from 0; a negative one counts from the end. Raises HandedOver where it is
+        no longer kept."""
         numbers = EntryNumbers()
         with self._lock:
             count = self._count()
@@ -114,8 +129,9 @@ class Scheduler:
         return Entry(numbers.stamp.seat, numbers.stamp.ticket, call, reply)
 
     def history(self) -> Iterator[Entry]:
-        """The recorded calls in order, those included that are made while it is read."""
-        place = 0
+        """The recorded calls that are kept, in order, those included that are made while it is read. Raises HandedOver
+        where the next one is let go while it is read."""
+        place = self.kept_from
         while place < len(self):
             yield self[place]
             place += 1
@@ -123,7 +139,8 @@ class Scheduler:
     __iter__ = history
 
     def history_text(self) -> str:
-        """The text of the history, as `mapsched run --history` prints it."""
+        """The text of the history, as `mapsched run --history` prints it. Raises HandedOver where a part of it is no
+        longer kept."""
         length, room = c_size_t(), (c_uint8 * 1)()
         with self._lock:
             status = run("history", self._handle, room, 0, byref(length))

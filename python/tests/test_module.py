@@ -10,7 +10,8 @@ import unittest
 from shutil import which
 
 import mapsched
-from mapsched import Ask, BadMap, Build, Built, Closed, Config, Element, HistoryFull, NoHistory, Scheduler, Status
+from mapsched import Ask, BadMap, Build, Built, Closed, Config, Element, HandedOver, HistoryFull, NoHistory, Scheduler
+from mapsched import Status
 from mapsched import library
 
 from . import tables
@@ -43,7 +44,8 @@ class Module(unittest.TestCase):
         scheduler.close()
         scheduler.close()
         for use in (lambda: scheduler.call(Build(760)), lambda: len(scheduler), lambda: scheduler[0],
-                    scheduler.history_text, lambda: next(scheduler.history())):
+                    scheduler.history_text, lambda: next(scheduler.history()), scheduler.forget,
+                    lambda: scheduler.kept_from):
             self.assertRaises(Closed, use)
 
     def test_a_value_that_does_not_fit_is_not_cut_off(self):
@@ -64,6 +66,18 @@ class Module(unittest.TestCase):
             self.assertEqual(scheduler[-1], scheduler[0])
             for place in (1, -2):
                 self.assertRaises(IndexError, scheduler.__getitem__, place)
+
+    def test_a_scheduler_that_forgets_goes_on(self):
+        with Scheduler(Config(**{**vars(CONFIG), "calls": 2})) as scheduler, Scheduler(CONFIG) as whole:
+            for place in range(7):
+                if place - scheduler.kept_from == 2:
+                    self.assertRaises(HistoryFull, scheduler.call, Status(5))
+                    scheduler.forget()
+                self.assertEqual(scheduler.call(Build(760 + 40 * place)), whole.call(Build(760 + 40 * place)))
+            self.assertEqual((scheduler.kept_from, len(scheduler), len([*scheduler])), (6, 7, 1))
+            self.assertEqual([*scheduler], [whole[6]])
+            for use in (lambda: scheduler[5], lambda: scheduler[-2], scheduler.history_text):
+                self.assertRaises(HandedOver, use)
 
     def test_the_stamp_is_recorded(self):
         with Scheduler(CONFIG) as scheduler:

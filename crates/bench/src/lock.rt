@@ -30,6 +30,8 @@ impl Journal for Count {
 
     ghost entries = { λ _. [] };
 
+    ghost kept = { λ all. all };
+
     ghost stamp = { λ e. e };
 
     fn len(&self) -> usize {

@@ -9,22 +9,22 @@ use Rattle.std_alloc.proofs.BoxSteps.Form.{Bx}
 use Rattle.std_heap.specs.contracts.Global as Heap
 use Rattle.std_heap.specs.contracts.GlobalAllocator.TheImpl.{ghosts, dict}
 use Rattle.std_heap.proofs.Global.TheLaws as heap
-use Rattle.sched_desk.specs.contracts.keeping.WholeScheduler as WholeScheduler
-use Rattle.sched_desk.proofs.keeping.WholeScheduler.TheLaws as scheduler
+use Rattle.sched_history.specs.contracts.scheduler.Scheduler as Scheduler
+use Rattle.sched_history.proofs.scheduler.Scheduler.TheLaws as scheduler
 use Rattle.mapsched_c.specs.contracts.place.parts.Parts as Parts
 use Rattle.mapsched_c.specs.contracts.place.Place as Place
 
 -- the box, with its allocator
 abbrev pub E : Bx
 E = record {
-  row = WholeScheduler.the_row;
+  row = Scheduler.the_row;
   laws = scheduler.the_row_laws;
   al = record { row = Heap.the_row; laws = heap.the_row_laws; g = ghosts; d = dict; drops = impl [] tnil dnil };
 }
 
 -- parts, by value
 abbrev pub FromParts : Slot 0
-FromParts = plain (λ _. Parts.the_row WholeScheduler.the_row Heap.the_row ghosts)
+FromParts = plain (λ _. Parts.the_row Scheduler.the_row Heap.the_row ghosts)
 
 -- a place, by value
 abbrev pub FromPlace : Slot 0

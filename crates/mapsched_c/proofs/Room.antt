@@ -9,7 +9,7 @@ use Rattle.minislots.specs.Config.{IsLawful}
 use Rattle.minislots.proofs.Bounds.{bounds_of}
 use Rattle.flow_book.specs.declared.spec.FlowSpec.{FlowSpec}
 use Rattle.flow_book.specs.declared.spec.FlowSpec.TheVariants.{Unsolicited, Polled, BestEffort}
-use Rattle.flow_book.specs.FlowSpec.{is_periodic, takes_requests, interval_frames, grants_of, first_fault}
+use Rattle.flow_book.specs.FlowSpec.{is_periodic, takes_requests, interval_frames, first_fault}
 use Rattle.flow_book.specs.Flows.{LiveFlow}
 use Rattle.periodic.specs.declared.placement.Placement.{Placement}
 use Rattle.periodic.specs.Placement.{IsPlacement}

@@ -4,8 +4,7 @@ use Rattle.std.specs.Prelude.{Option, None, Some, Ok, MatchOption}
 use Rattle.minislots.specs.Config.{IsLawful}
 use Rattle.sched_history.specs.declared.call.Call.{Call}
 use Rattle.sched_history.specs.declared.reply.Reply.{Reply}
-use Rattle.ticket_lock.specs.Standing.{seen}
-use Rattle.worker_sched.specs.declared.worker.Turn.{Turn}
+use Rattle.sched_desk.specs.Desk.{history_seen}
 use Rattle.worker_sched.specs.declared.worker.Turn.TheVariants.{Ended, NoTicket}
 use Rattle.worker_sched.specs.Worker.{Stands, WorkerState, TakesTurn, TakesTurnWith}
 use Rattle.mapsched_c.specs.Reply.{HasRoom}
@@ -17,7 +16,7 @@ module _ (w x : WorkerState) (call : Call) (reply : Reply) (lawful : IsLawful w.
       → HasRoom reply
   with_ticket None told = absurd (let e = told.0 in cc)
   with_ticket (Some t) (s, seated, turned) =
-      step_room w.place.config lawful (seen turned.holder) call reply turned.answered.step
+      step_room w.place.config lawful (history_seen turned.holder) call reply turned.answered.step
 
   -- a turn that has ended with a reply was a step
   pub turned_room : TakesTurn w x call (Ended (Ok reply)) → HasRoom reply

@@ -1,10 +1,10 @@
 -- What a call through a handle answers, and what is in the handle then.
-use Rattle.std.specs.Prelude.{◌≡◌, ℕ, ◌<◌, ◌≤◌, ◌⊎◌, ◌++◌, ◌∷◌, [], length, Option, None, Some}
+use Rattle.std.specs.Prelude.{◌≡◌, ℕ, true, false, ◌<◌, ◌≤◌, ◌⊎◌, ◌++◌, ◌∷◌, [], length, Option, None, Some}
 use Rattle.minislots.specs.declared.stamp.Stamp.{Stamp}
 use Rattle.sched_history.specs.declared.call.Call.{Call}
 use Rattle.sched_history.specs.declared.reply.Reply.{Reply}
 use Rattle.sched_history.specs.History.{IsStep, IsLegal}
-use Rattle.sched_history.specs.Machine.{Machine, MayLackMemory}
+use Rattle.sched_history.specs.Machine.{Machine, is_full, MayLackMemory}
 use Rattle.mapsched_c.specs.declared.reply.PlainReply.{PlainReply}
 use Rattle.mapsched_c.specs.declared.status.TheConstants.{OK, EMPTY, BAD_CALL, HISTORY_FULL, OUT_OF_MEMORY}
 use Rattle.mapsched_c.specs.Reply.{plain_reply}
@@ -18,17 +18,21 @@ IsLegalIn (Some m) = IsLegal m.config m.history
 pub record IsRecorded (m : Machine) (new : Option Machine) (stamp : Stamp) (call : Call)
     (before after : PlainReply) : Type 0 where
   pub reply : Reply
-  pub room : length m.history < m.config.calls
+  pub room : is_full m ≡ false
+  -- where nothing was handed over the whole history is kept
+  pub whole : m.handed ≡ 0 → length m.history < m.config.calls
   pub step : IsStep m.config m.history call reply
   pub recorded : new
       ≡ Some (record m { history = m.history ++ record { stamp = stamp; call = call; reply = reply } ∷ [] })
   pub told : after ≡ plain_reply before reply
   pub legal : IsLegalIn new
 
--- why a call was not recorded: the history is full, or it is not and memory ran out where the call takes some
+-- why a call was not recorded: the scheduler is full, or it is not and memory ran out where the call takes some; where
+-- nothing was handed over the whole history is kept
 abbrev pub LacksRoom : Machine → Call → ℕ → Type 0
-LacksRoom m call status = ((status ≡ HISTORY_FULL) × (m.config.calls ≤ length m.history))
-    ⊎ ((status ≡ OUT_OF_MEMORY) × (length m.history < m.config.calls) × MayLackMemory m.config m.history call)
+LacksRoom m call status = ((status ≡ HISTORY_FULL) × (is_full m ≡ true)
+    × (m.handed ≡ 0 → m.config.calls ≤ length m.history))
+    ⊎ ((status ≡ OUT_OF_MEMORY) × (is_full m ≡ false) × MayLackMemory m.config m.history call)
 
 -- nothing changes, and nothing is written
 abbrev pub Stays : Option Machine → Option Machine → PlainReply → PlainReply → Type 0

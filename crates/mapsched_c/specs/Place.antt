@@ -8,7 +8,7 @@ use Rattle.std.specs.Box.Ownership.{box_owns}
 use Rattle.std.specs.Global.{Global}
 use Rattle.std_heap.specs.contracts.GlobalAllocator.TheImpl.{ghosts}
 use Rattle.sched_history.specs.Machine.{Machine}
-use Rattle.sched_desk.specs.contracts.keeping.WholeScheduler.{the_row}
+use Rattle.sched_history.specs.contracts.scheduler.Scheduler.{the_row}
 
 -- the scheduler at the pointer, with the right to free it
 abbrev pub place_owns : Global → Ptr → Option Machine → Fml

@@ -12,7 +12,7 @@ use Rattle.text_stream.specs.Fault.{field_number}
 use Rattle.history_writing.specs.HistoryText.{history_text}
 use Rattle.history_reading.specs.Recorded.{History, history_outcome}
 use Rattle.mapsched_c.specs.declared.status.TheConstants.{OK, EMPTY, OUT_OF_MEMORY, NO_ROOM, ILLEGAL, TOO_LONG}
-use Rattle.mapsched_c.specs.declared.status.TheConstants.{NOT_JSON, NO_HISTORY, BAD_CONFIG}
+use Rattle.mapsched_c.specs.declared.status.TheConstants.{NOT_JSON, NO_HISTORY, BAD_CONFIG, HANDED_OVER}
 
 -- The text stands at the front of the room, and the rest stays; or it is longer than the room, which stays. Its length
 -- is told
@@ -21,12 +21,14 @@ GivesText text status before after told = (told ≡ length text)
     × (((status ≡ OK) × (length text ≤ length before) × (after ≡ text ++ drop (length text) before))
     ⊎ ((status ≡ NO_ROOM) × (length before < length text) × (after ≡ before)))
 
--- the text of the history in a handle is given, or memory ran out, or there is none, and then nothing is written
+-- the text of the history in a handle is given, or memory ran out; where some of it was handed over, or there is none,
+-- nothing is written
 abbrev pub GivesHistoryText : Option Machine → ℕ → List ℕ → List ℕ → ℕ → ℕ → Type 0
 GivesHistoryText None status before after untold told = (status ≡ EMPTY) × (after ≡ before) × (told ≡ untold)
 GivesHistoryText (Some m) status before after untold told =
-    GivesText (history_text m.config m.history) status before after told
-    ⊎ ((status ≡ OUT_OF_MEMORY) × (after ≡ before) × (told ≡ untold))
+    ((m.handed ≡ 0) × (GivesText (history_text m.config m.history) status before after told
+    ⊎ ((status ≡ OUT_OF_MEMORY) × (after ≡ before) × (told ≡ untold))))
+    ⊎ ((0 < m.handed) × (status ≡ HANDED_OVER) × (after ≡ before) × (told ≡ untold))
 
 -- a history is legal, and its length is told; or its first illegal entry is; or memory ran out
 abbrev pub Judges : Configuration → List Entry → ℕ → ℕ → ℕ → Type 0

@@ -1,5 +1,5 @@
 -- What the exports of workers answer, and what is in their handles then.
-use Rattle.std.specs.Prelude.{◌≡◌, ℕ, ◌+◌, ◌<◌, ◌⊎◌, Bool, true, false, [], Option, None, Some, MatchOption, Result, Ok}
+use Rattle.std.specs.Prelude.{◌≡◌, ℕ, ◌+◌, ◌<◌, ◌⊎◌, true, [], Option, None, Some, MatchOption, Result, Ok}
 use Rattle.std.specs.Prelude.{Err}
 use Rattle.std.specs.Prelude.{is_some}
 use Rattle.minislots.specs.declared.config.Config.{Config}
@@ -30,7 +30,7 @@ Held = Option WorkerState
 -- or memory ran out, and then there is none
 abbrev pub OpensPlace : Held → Config → ℕ → ℕ → Type 0
 OpensPlace new c seats status =
-    ((status ≡ OK) × (w : WorkerState) × (new ≡ Some w) × IsFirstWorker c seats w)
+    ((status ≡ OK) × (w : WorkerState) × (new ≡ Some w) × IsFirstWorker c true seats w)
     ⊎ (((status ≡ BAD_SEATS) × (new ≡ None) × ((seats ≡ 0) ⊎ (MAX_SEATS < seats)))
     ⊎ ((status ≡ OUT_OF_MEMORY) × (new ≡ None)))
 

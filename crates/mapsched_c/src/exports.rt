@@ -1,10 +1,11 @@
 //! What the static library exports, by the header's names.
 
-ghost use Rattle.std.specs.Prelude.{◌≡◌, None};
+ghost use Rattle.std.specs.Prelude.{◌≡◌, None, Some};
 ghost use Rattle.mapsched_c.specs.Answer.{Answers};
 ghost use Rattle.mapsched_c.specs.Call.{call_of};
 ghost use Rattle.mapsched_c.specs.Config.{config_of, ChecksConfig, Opens};
-ghost use Rattle.mapsched_c.specs.Entry.{count_over, entry_at, entry_over, entry_status, handle_status, stamp_of};
+ghost use Rattle.mapsched_c.specs.Entry.{all_forgotten, count_over, entry_at, entry_over, entry_status};
+ghost use Rattle.mapsched_c.specs.Entry.{handed_over, handle_status, stamp_of};
 
 use crate::call::PlainCall;
 use crate::config::PlainConfig;
@@ -13,7 +14,7 @@ use crate::handle::Handle;
 use crate::reply::PlainReply;
 use crate::scheduler::{answer, entries};
 use crate::status;
-use sched_desk::WholeScheduler;
+use sched_history::Scheduler;
 use std::alloc::Global;
 use text_stream::field_number;
 
@@ -40,7 +41,7 @@ pub extern "C" fn mapsched_open(alloc: Global, scheduler: &mut Handle, config: &
         Ok(checked) => checked,
         Err(fault) => return status::BAD_CONFIG + u32::from(field_number(fault)),
     };
-    let Ok(opened) = WholeScheduler::open(alloc, checked) else {
+    let Ok(opened) = Scheduler::open(alloc, checked) else {
         return status::OUT_OF_MEMORY;
     };
     let Ok(opened) = Box::new(alloc, opened) else {
@@ -73,7 +74,7 @@ pub extern "C" fn mapsched_call(
     answered
 }
 
-/// Tells how many calls are recorded.
+/// Tells how many calls were recorded: the length of the whole history.
 #[unsafe(no_mangle)]
 pub extern "C" fn mapsched_count(alloc: Global, scheduler: &mut Handle, count: &mut usize) -> u32
     ensures status { result ≡ handle_status scheduler.old.place.machine }
@@ -83,12 +84,57 @@ pub extern "C" fn mapsched_count(alloc: Global, scheduler: &mut Handle, count: &
     let Some(taken) = scheduler.take(alloc) else {
         return status::EMPTY;
     };
-    *count = taken.history().len();
+    *count = taken.recorded() as usize;
     scheduler.put(taken);
     status::OK
 }
 
-/// Writes the entry of the history at this place, from 0.
+/// Tells the place of the first entry that is kept, in the whole history and from 0: so many were handed over.
+#[unsafe(no_mangle)]
+pub extern "C" fn mapsched_kept_from(
+    alloc: Global,
+    scheduler: &mut Handle,
+    place: &mut usize,
+) -> u32
+    ensures status { result ≡ handle_status scheduler.old.place.machine }
+    ensures place { place.new ≡ handed_over place.old scheduler.old.place.machine }
+    ensures same { scheduler.new.place.machine ≡ scheduler.old.place.machine }
+{
+    let Some(taken) = scheduler.take(alloc) else {
+        return status::EMPTY;
+    };
+    *place = taken.handed_over() as usize;
+    scheduler.put(taken);
+    status::OK
+}
+
+/// Lets go of the entries that are kept, as if they were handed over, so that the scheduler goes on without end.
+#[unsafe(no_mangle)]
+pub extern "C" fn mapsched_forget(alloc: Global, scheduler: &mut Handle) -> u32
+    ensures status { result ≡ handle_status scheduler.old.place.machine }
+    ensures forgotten { scheduler.new.place.machine ≡ all_forgotten scheduler.old.place.machine }
+{
+    let Some(mut taken) = scheduler.take(alloc) else {
+        return status::EMPTY;
+    };
+    taken.forget();
+    scheduler.put(taken);
+    status::OK
+}
+
+// Writes the entry at this place of the whole history, from 0, where it is kept.
+fn put_entry_at(scheduler: &Scheduler, place: usize, entry: &mut PlainEntry) -> u32
+    ensures status { result ≡ entry_status (Some scheduler.now) place }
+    ensures entry { entry.new ≡ entry_over entry.old (entry_at (Some scheduler.now) place) }
+{
+    let first = scheduler.handed_over() as usize;
+    if place < first {
+        return status::HANDED_OVER;
+    }
+    put_entry(entries(scheduler), place - first, entry)
+}
+
+/// Writes the entry at this place of the whole history, from 0, where it is kept.
 #[unsafe(no_mangle)]
 pub extern "C" fn mapsched_entry(
     alloc: Global,
@@ -103,7 +149,7 @@ pub extern "C" fn mapsched_entry(
     let Some(taken) = scheduler.take(alloc) else {
         return status::EMPTY;
     };
-    let answered = put_entry(entries(&taken), place, entry);
+    let answered = put_entry_at(&taken, place, entry);
     scheduler.put(taken);
     answered
 }

@@ -4,7 +4,7 @@ ghost use Rattle.std.specs.Prelude.{◌≡◌, ◌≢◌, None, Some, IsSome, is
 
 use crate::place::Place;
 use crate::place::parts::Parts;
-use sched_desk::WholeScheduler;
+use sched_history::Scheduler;
 use std::alloc::Global;
 use std::mem::replace;
 
@@ -38,7 +38,7 @@ impl Handle {
     }
 
     // Takes the scheduler out, where there is one.
-    pub(crate) fn take(&mut self, alloc: Global) -> Option<Box<WholeScheduler>>
+    pub(crate) fn take(&mut self, alloc: Global) -> Option<Box<Scheduler>>
         ensures taken { option_map (λ b. b.value) result ≡ self.old.place.machine }
         ensures empty { self.new.place.machine ≡ None }
     {
@@ -50,7 +50,7 @@ impl Handle {
     }
 
     // Puts a scheduler in, where there is none.
-    pub(crate) fn put(&mut self, scheduler: Box<WholeScheduler>)
+    pub(crate) fn put(&mut self, scheduler: Box<Scheduler>)
         requires { self.old.place.machine ≡ None }
         ensures { self.new.place.machine ≡ Some scheduler.value }
     {

@@ -7,7 +7,7 @@ ghost use Rattle.mapsched_c.specs.Place.{place_owns, machine_coded};
 pub(crate) mod parts;
 
 use parts::Parts;
-use sched_desk::WholeScheduler;
+use sched_history::Scheduler;
 use std::alloc::Global;
 use std::marker::Model;
 use std::ptr::null_mut;
@@ -37,7 +37,7 @@ impl Place {
     }
 
     // The place of the scheduler in these parts.
-    pub(crate) fn of_parts(parts: Parts<WholeScheduler, Global>) -> Place
+    pub(crate) fn of_parts(parts: Parts<Scheduler, Global>) -> Place
         ensures { result.machine ≡ Some parts.value }
     {
         let Parts { ptr, alloc } = parts;
@@ -48,13 +48,13 @@ impl Place {
     }
 
     // The parts of the scheduler in this place.
-    pub(crate) fn into_parts(self) -> Parts<WholeScheduler, Global>
+    pub(crate) fn into_parts(self) -> Parts<Scheduler, Global>
         requires { IsSome self.machine }
         ensures { Some result.value ≡ self.machine }
     {
         let Place { at, alloc } = self;
         Parts {
-            ptr: at as *mut WholeScheduler,
+            ptr: at as *mut Scheduler,
             alloc,
         }
     }

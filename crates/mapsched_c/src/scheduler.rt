@@ -1,9 +1,9 @@
 //! What is asked of a scheduler.
 
-ghost use Rattle.std.specs.Prelude.{◌≡◌, Some, IfOk};
+ghost use Rattle.std.specs.Prelude.{◌≡◌, ◌≤◌, length, Some, IfOk};
 ghost use Rattle.std.specs.List.{AllByRecursion};
 ghost use Rattle.sched_history.specs.History.{IsLegal};
-ghost use Rattle.sched_history.specs.Machine.{IsEncodable};
+ghost use Rattle.sched_history.specs.Machine.{kept_of, IsEncodable};
 ghost use Rattle.history_writing.specs.HistoryText.{history_text};
 ghost use Rattle.mapsched_c.specs.Answer.{AnswersCall};
 ghost use Rattle.mapsched_c.specs.Reply.{HasRoom};
@@ -12,23 +12,23 @@ use crate::reply::PlainReply;
 use crate::status;
 use history_writing::put_history;
 use minislots::Stamp;
-use sched_desk::WholeScheduler;
-use sched_history::{Call, Entry, Unrecorded};
+use sched_history::{Call, Entry, Scheduler, Unrecorded};
 use std::alloc::{AllocError, Global};
 
-// The calls that were recorded, with their replies, in order.
-#[tactic(auto, using(crate::proofs::Room::legal_room))]
-pub(crate) fn entries(scheduler: &WholeScheduler) -> &[Entry]
-    ensures value { result.now ≡ scheduler.now.history }
-    ensures encodable { AllByRecursion (λ e. IsEncodable e.reply) scheduler.now.history }
-    ensures room { AllByRecursion (λ e. HasRoom e.reply) scheduler.now.history }
+// The entries that are kept, in order.
+pub(crate) fn entries(scheduler: &Scheduler) -> &[Entry]
+    ensures value { result.now ≡ kept_of scheduler.now }
+    ensures encodable { AllByRecursion (λ e. IsEncodable e.reply) (kept_of scheduler.now) }
+    ensures room { AllByRecursion (λ e. HasRoom e.reply) (kept_of scheduler.now) }
+    ensures front { scheduler.now.handed ≤ length scheduler.now.history }
 {
     let _cycle = scheduler.config().cycle();
     scheduler.history()
 }
 
-// The text of the history.
-pub(crate) fn text_of(alloc: Global, scheduler: &WholeScheduler) -> Result<Vec<u8>, AllocError>
+// The text of the history, of which nothing was handed over.
+pub(crate) fn text_of(alloc: Global, scheduler: &Scheduler) -> Result<Vec<u8>, AllocError>
+    requires { scheduler.now.handed ≡ 0 }
     ensures { IfOk result (λ text. text.items ≡ history_text scheduler.now.config scheduler.now.history) }
 {
     let mut text = Vec::new(alloc);
@@ -46,7 +46,7 @@ pub(crate) fn text_of(alloc: Global, scheduler: &WholeScheduler) -> Result<Vec<u
 // Answers a call and records it, and writes its reply. A call that is not recorded changes nothing.
 #[tactic(auto, using(crate::proofs::Room::step_room))]
 pub(crate) fn answer(
-    scheduler: &mut WholeScheduler,
+    scheduler: &mut Scheduler,
     stamp: Stamp,
     call: Call,
     reply: &mut PlainReply,

@@ -8,7 +8,7 @@ pub const EMPTY: u32 = 1;
 pub const FULL: u32 = 2;
 /// There is no such kind of call, or of flow. Nothing was recorded.
 pub const BAD_CALL: u32 = 3;
-/// The history has as many entries as the configuration allows.
+/// As many entries are kept as the configuration allows, or the whole history has 2^44.
 pub const HISTORY_FULL: u32 = 4;
 /// Memory ran out.
 pub const OUT_OF_MEMORY: u32 = 5;
@@ -36,6 +36,8 @@ pub const NO_SEAT: u32 = 15;
 pub const WORKERS_OUT: u32 = 16;
 /// There cannot be so many seats.
 pub const BAD_SEATS: u32 = 17;
+/// An entry was handed over or forgotten.
+pub const HANDED_OVER: u32 = 18;
 /// To this the number of the first fault of a payload is added, from 1.
 pub const BAD_PAYLOAD: u32 = 200;
 /// To this the number of the first fault of a MAP that has no bytes is added, from 1.

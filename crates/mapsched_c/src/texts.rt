@@ -1,6 +1,6 @@
 //! The exports that write and read the text of a history.
 
-ghost use Rattle.std.specs.Prelude.{◌≡◌, ◌≤◌, length};
+ghost use Rattle.std.specs.Prelude.{◌≡◌, ◌≤◌, length, Some};
 ghost use Rattle.sched_history.specs.declared.reply.TheConstants.{MAX_ENTRIES};
 ghost use Rattle.mapsched_c.specs.Text.{GivesText, GivesHistoryText, Judges, Audits};
 
@@ -9,7 +9,7 @@ use crate::scheduler::text_of;
 use crate::status;
 use history_reading::read_history;
 use minislots::Checked;
-use sched_history::{AuditFault, Entry, audit};
+use sched_history::{AuditFault, Entry, Scheduler, audit};
 use std::alloc::Global;
 use text_stream::{TextFault, field_number};
 
@@ -25,8 +25,21 @@ pub(crate) fn put_text(text: &[u8], room: &mut [u8], length: &mut usize) -> u32
     status::OK
 }
 
+// Writes the text of a history of which nothing was handed over.
+fn give_history(alloc: Global, scheduler: &Scheduler, room: &mut [u8], length: &mut usize) -> u32
+    ensures { GivesHistoryText (Some scheduler.now) result room.old room.new length.old length.new }
+{
+    if scheduler.handed_over() != 0 {
+        return status::HANDED_OVER;
+    }
+    match text_of(alloc, scheduler) {
+        Ok(text) => put_text(&text, room, length),
+        Err(_) => status::OUT_OF_MEMORY,
+    }
+}
+
 /// Writes the text of the history, JSON in one line, at the front of the room, and tells its length. Where there is no
-/// room for it, tells its length alone.
+/// room for it, tells its length alone; where some of it was handed over, gives nothing.
 #[unsafe(no_mangle)]
 pub extern "C" fn mapsched_history(
     alloc: Global,
@@ -40,10 +53,7 @@ pub extern "C" fn mapsched_history(
     let Some(taken) = scheduler.take(alloc) else {
         return status::EMPTY;
     };
-    let answered = match text_of(alloc, &taken) {
-        Ok(text) => put_text(&text, room, length),
-        Err(_) => status::OUT_OF_MEMORY,
-    };
+    let answered = give_history(alloc, &taken, room, length);
     scheduler.put(taken);
     answered
 }

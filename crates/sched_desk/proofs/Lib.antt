@@ -1,3 +1,6 @@
+pub mod Events
+pub mod Portions
+pub mod Agreed
 pub mod Published
 pub mod Plain
 pub mod Recorded

@@ -8,11 +8,11 @@ use Rattle.sched_history.specs.declared.reply.Entry.{Entry}
 use Rattle.sched_history.specs.declared.reply.Reply.{Reply}
 use Rattle.sched_history.specs.History.{IsStep, map_by}
 use Rattle.sched_history.specs.Machine.{Machine}
-use Rattle.sched_desk.specs.Desk.{DeskState, HasFewCalls, published}
+use Rattle.sched_desk.specs.Desk.{Recording, published}
 
--- a desk with this scheduler and this press
-abbrev pub desk_with : Machine → Printing → DeskState
-desk_with m p = record { config = m.config; press = p.press; history = m.history }
+-- this scheduler with this press
+abbrev pub with_press : Machine → Printing → Recording
+with_press m p = record { machine = m; press = p.press }
 
 -- the second press is the first with a MAP of these bytes, which waits to be published
 pub record Appends (p : Printing) (bytes : List ℕ) (q : Printing) : Type 0 where
@@ -20,14 +20,11 @@ pub record Appends (p : Printing) (bytes : List ℕ) (q : Printing) : Type 0 whe
   pub bytes_are : map_in printed ≡ bytes
   pub appended : q ≡ record p { waiting = printed ∷ [] }
 
--- the press shows what is published of the scheduler's history, of which this is the length, and then these bytes;
--- nothing of the history was handed over
+-- the press shows what is published of the scheduler's history, of which this is the length, and then these bytes
 pub record ShowsPlan (m : Machine) (p : Printing) (maps : ℕ) (bytes : List ℕ) : Type 0 where
   pub shown : p.list ≡ published m.history ++ bytes ∷ []
   pub settled : p.waiting ≡ []
   pub count : maps ≡ length (published m.history)
-  pub few : HasFewCalls m.config
-  pub whole : m.handed ≡ 0
 
 -- no reply to this call is a MAP
 abbrev pub BuildsNoMap : Config → List Entry → Call → Type 0

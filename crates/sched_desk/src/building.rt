@@ -1,14 +1,14 @@
 //! What a build does at the desk besides publishing.
-ghost use Rattle.std.specs.Prelude.{◌≡◌, ◌+◌, ◌≤◌, ◌↔◌, Ok, Some, length, IfOk, OnErr, IsErrOf};
+ghost use Rattle.std.specs.Prelude.{◌≡◌, ◌+◌, ◌≤◌, ◌↔◌, true, length, Ok, Some, IfOk, OnErr, IsErrOf};
 ghost use Rattle.map_codec.specs.WireMap.{spelling, IsWellFormed};
 ghost use Rattle.map_snapshot.specs.declared.printed.TheConstants.{MAX_BYTES};
 ghost use Rattle.map_snapshot.specs.Maps.{map_in};
 ghost use Rattle.sched_history.specs.History.{IsLegal};
-ghost use Rattle.sched_history.specs.Machine.{MayLackMemory};
+ghost use Rattle.sched_history.specs.Machine.{is_full, MayLackMemory};
 ghost use Rattle.sched_history.specs.Planned.{IsPlanAfter};
 ghost use Rattle.sched_history.specs.Refusal.{refusal_of};
-ghost use Rattle.sched_desk.specs.Build.{Appends, ShowsPlan, desk_with};
-ghost use Rattle.sched_desk.specs.Calls.{HasCalled};
+ghost use Rattle.sched_desk.specs.Build.{Appends, ShowsPlan};
+ghost use Rattle.sched_desk.specs.Calls.{HasAnswered};
 ghost use Rattle.sched_desk.specs.Desk.{ShowsHistory};
 
 use crate::kept::Kept;
@@ -50,7 +50,8 @@ pub fn prepare(
     ensures appended { IfOk result (λ planned. Appends press.old (spelling planned.map.wire) press.new) }
 
     ensures err { OnErr result (press.new ≡ press.old) }
-    ensures full { IsErrOf result PlanFault.HistoryFull
+    ensures full { IsErrOf result PlanFault.HistoryFull ↔ (is_full scheduler.old ≡ true) }
+    ensures whole { scheduler.old.handed ≡ 0 → IsErrOf result PlanFault.HistoryFull
         ↔ (scheduler.old.config.calls ≤ length scheduler.old.history) }
     ensures refused { (refusal : Refusal) → IsErrOf result (PlanFault.Refused refusal) →
         refusal_of scheduler.old.config scheduler.old.history (Call.Build now) ≡ Some refusal }
@@ -77,8 +78,7 @@ pub fn commit(
 ) -> Reply
     requires fits { IsPlanAfter scheduler.old planned }
     requires shown { ShowsPlan scheduler.old press.now maps (spelling planned.map.wire) }
-    ensures called { HasCalled (desk_with scheduler.old press.now) stamp (Call.Build planned.clock)
-        (desk_with scheduler.new press.now) (Ok result) }
+    ensures answered { HasAnswered scheduler.old stamp (Call.Build planned.clock) scheduler.new (Ok result) }
     ensures shows { ShowsHistory scheduler.new press.now (maps + 1) }
 {
     scheduler.commit(stamp, planned)

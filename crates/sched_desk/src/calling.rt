@@ -1,6 +1,6 @@
 //! The calls of a holder at a desk with a press.
 ghost use Rattle.sched_desk.specs.Build.{BuildsNoMap};
-ghost use Rattle.sched_desk.specs.Calls.{HasCalled};
+ghost use Rattle.sched_desk.specs.Calls.{HasRecorded};
 
 use crate::building::{commit, prepare};
 use crate::recorder::Recorder;
@@ -12,7 +12,7 @@ impl Recorder {
     /// Makes a call and records it, with this stamp. A build's MAP is published before the build is recorded: it may
     /// wait for readers that are in the middle of a read.
     pub fn call<R: Wait>(&mut self, rt: &R, stamp: Stamp, call: Call) -> Result<Reply, Unrecorded>
-        ensures called { HasCalled self.old stamp call self.new result }
+        ensures recorded { HasRecorded self.old stamp call self.new result }
     {
         match call {
             Call::Build { now } => self.build(rt, stamp, now),
@@ -23,7 +23,7 @@ impl Recorder {
     // A build: its memory is taken, its MAP published, and it is recorded, in this order. One that is refused is
     // recorded like any other call.
     fn build<R: Wait>(&mut self, rt: &R, stamp: Stamp, now: u64) -> Result<Reply, Unrecorded>
-        ensures called { HasCalled self.old stamp (Call.Build now) self.new result }
+        ensures recorded { HasRecorded self.old stamp (Call.Build now) self.new result }
     {
         match prepare(&mut self.scheduler, &mut self.press, self.maps, now) {
             Ok(planned) => {
@@ -40,8 +40,8 @@ impl Recorder {
 
     // A call that publishes nothing.
     fn record(&mut self, stamp: Stamp, call: Call) -> Result<Reply, Unrecorded>
-        requires plain { BuildsNoMap self.old.config self.old.history call }
-        ensures called { HasCalled self.old stamp call self.new result }
+        requires plain { BuildsNoMap self.old.machine.config self.old.machine.history call }
+        ensures recorded { HasRecorded self.old stamp call self.new result }
     {
         self.scheduler.call(stamp, call)
     }

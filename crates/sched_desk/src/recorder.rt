@@ -1,12 +1,12 @@
 //! The scheduler with its press, as a desk may have it.
 ghost use Rattle.std.specs.Prelude.{◌≡◌, [], length};
-ghost use Rattle.sched_desk.specs.Build.{desk_with};
-ghost use Rattle.sched_desk.specs.Desk.{HasFewCalls, published};
+ghost use Rattle.sched_desk.specs.Build.{with_press};
+ghost use Rattle.sched_desk.specs.Desk.{published};
 
 use crate::kept::Kept;
 use crate::records::Records;
 use map_snapshot::{Press, Told, Whole};
-use sched_history::{Entry, Scheduler};
+use sched_history::{Entry, HandedOver, Scheduler};
 use std::marker::Model;
 use std::sync::Wait;
 
@@ -20,21 +20,29 @@ pub struct Recorder {
 }
 
 impl Model for Recorder {
-    ghost use Rattle.sched_desk.specs.Desk.{DeskState, ShowsHistory};
-    ghost use Rattle.sched_desk.specs.Build.{desk_with};
+    ghost use Rattle.sched_desk.specs.Desk.{Recording, ShowsHistory};
+    ghost use Rattle.sched_desk.specs.Build.{with_press};
 
-    ghost Value = { DeskState };
+    ghost Value = { Recording };
 
-    ghost view = { λ r. desk_with r.scheduler r.press };
+    ghost view = { λ r. with_press r.scheduler r.press };
 
     ghost invariant = { λ r. ShowsHistory r.scheduler r.press r.maps };
 }
 
 impl Records for Recorder {
-    ghost desk = { λ r. r };
+    ghost recording = { λ r. r };
 
-    fn entries(&self) -> &[Entry] {
-        self.scheduler.history()
+    fn scheduler(&self) -> &Scheduler {
+        &self.scheduler
+    }
+
+    fn hand_over(&mut self, room: Vec<Entry>) -> Result<HandedOver, Vec<Entry>> {
+        self.scheduler.hand_over(room)
+    }
+
+    fn forget(&mut self) {
+        self.scheduler.forget();
     }
 }
 
@@ -42,10 +50,8 @@ impl Recorder {
     /// One that has recorded no call, with a press that has published nothing.
     pub fn new(scheduler: Scheduler, press: Press) -> Recorder
         requires empty { scheduler.history ≡ [] }
-        requires few { HasFewCalls scheduler.config }
-        requires whole { scheduler.handed ≡ 0 }
         requires unread { (press.list ≡ []) × (press.waiting ≡ []) }
-        ensures made { result ≡ desk_with scheduler press }
+        ensures made { result ≡ with_press scheduler press }
     {
         Recorder {
             scheduler,
@@ -57,16 +63,15 @@ impl Recorder {
     /// What its press tells: the encodings of the history's MAPs. It takes no memory, and waits for nobody.
     pub fn tell(&mut self) -> Told
         ensures same { self.new ≡ self.old }
-        ensures told { result ≡ record { press = self.old.press; list = published self.old.history } }
+        ensures told { result ≡ record { press = self.old.press; list = published self.old.machine.history } }
     {
         self.press.tell()
     }
 
     /// Its scheduler, and its press, which has to end.
     pub fn into_parts(self) -> (Scheduler, Press)
-        ensures parts { desk_with result.0 result.1 ≡ self }
-        ensures whole { result.0.handed ≡ 0 }
-        ensures published { result.1.list ≡ published self.history }
+        ensures parts { with_press result.0 result.1 ≡ self }
+        ensures published { result.1.list ≡ published self.machine.history }
         ensures none_waits { result.1.waiting ≡ [] }
     {
         let Recorder {
@@ -80,7 +85,7 @@ impl Recorder {
     /// Ends its press, which tells all that it has published: the encodings of the history's MAPs. It may wait for
     /// readers.
     pub fn end<R: Wait>(self, rt: &R) -> Whole
-        ensures whole { result ≡ record { press = self.press; list = published self.history } }
+        ensures whole { result ≡ record { press = self.press; list = published self.machine.history } }
     {
         let Recorder {
             scheduler: _,

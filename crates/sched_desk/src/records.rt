@@ -1,32 +1,53 @@
 //! What a desk may have: a scheduler with its press, or one that publishes to nobody.
-ghost use Rattle.std.specs.Prelude.{◌≡◌, ◌≤◌, length};
+ghost use Rattle.std.specs.Prelude.{◌≡◌, ◌≤◌, ◌↔◌, [], length, vec_capacity, IfOk, IfErr, OnOk, OnErr, IsOk};
 ghost use Rattle.std.specs.List.{AllByRecursion};
-ghost use Rattle.sched_history.specs.Facts.{FollowsAlways};
-ghost use Rattle.sched_history.specs.History.{IsLegal};
-ghost use Rattle.sched_history.specs.Machine.{IsEncodable};
-ghost use Rattle.sched_desk.specs.Desk.{DeskState, desk_of};
+ghost use Rattle.sched_history.specs.Machine.{kept_of, IsEncodable};
+ghost use Rattle.sched_desk.specs.Desk.{Recording, alone};
 
-use crate::keeping::WholeScheduler;
-use sched_history::Entry;
+use sched_history::{Entry, HandedOver, Scheduler};
 
 /// What a desk has: a scheduler that records calls, with the press that publishes its MAPs, or with none.
 pub trait Records {
-    // The desk that has it.
-    ghost desk: { Self → DeskState };
+    // The scheduler, and its press.
+    ghost recording: { Self → Recording };
 
-    /// The calls that were recorded, with their replies, in order.
-    fn entries(&self) -> &[Entry]
-        ensures value { result.now ≡ (desk self.now).history }
-        ensures legal { IsLegal (desk self.now).config (desk self.now).history }
-        ensures facts { FollowsAlways (desk self.now).config (desk self.now).history }
-        ensures encodable { AllByRecursion (λ e. IsEncodable e.reply) (desk self.now).history }
-        ensures within { length (desk self.now).history ≤ (desk self.now).config.calls };
+    /// The scheduler.
+    fn scheduler(&self) -> &Scheduler
+        ensures { result.now ≡ (recording self.now).machine };
+
+    /// Hands over the entries that are kept, in exchange for an empty list with room for as many as the configuration
+    /// allows.
+    fn hand_over(&mut self, room: Vec<Entry>) -> Result<HandedOver, Vec<Entry>>
+        ensures entries { IfOk result (λ given. given.entries.items ≡ kept_of (recording self.old).machine) }
+        ensures first { IfOk result (λ given. given.first ≡ (recording self.old).machine.handed) }
+        ensures encodable { IfOk result (λ given. AllByRecursion (λ e. IsEncodable e.reply) given.entries.items) }
+        ensures handed { OnOk result ((recording self.new).machine
+            ≡ record (recording self.old).machine { handed = length (recording self.old).machine.history }) }
+        ensures exact { IsOk result
+            ↔ ((room.items ≡ []) × ((recording self.old).machine.config.calls ≤ vec_capacity room)) }
+        ensures back { IfErr result (λ back. back ≡ room) }
+        ensures err { OnErr result ((recording self.new).machine ≡ (recording self.old).machine) }
+        ensures press { (recording self.new).press ≡ (recording self.old).press };
+
+    /// Lets go of the entries that are kept, as if they were handed over.
+    fn forget(&mut self)
+        ensures forgotten { (recording self.new).machine
+            ≡ record (recording self.old).machine { handed = length (recording self.old).machine.history } }
+        ensures press { (recording self.new).press ≡ (recording self.old).press };
 }
 
-impl Records for WholeScheduler {
-    ghost desk = { desk_of };
+impl Records for Scheduler {
+    ghost recording = { alone };
 
-    fn entries(&self) -> &[Entry] {
-        self.history()
+    fn scheduler(&self) -> &Scheduler {
+        self
+    }
+
+    fn hand_over(&mut self, room: Vec<Entry>) -> Result<HandedOver, Vec<Entry>> {
+        Scheduler::hand_over(self, room)
+    }
+
+    fn forget(&mut self) {
+        Scheduler::forget(self);
     }
 }

@@ -7,8 +7,8 @@ use Rattle.std.proofs.lemmas.List.{map-append, length-map}
 use Rattle.std.proofs.lemmas.List.Sums.{sum_by-append, sum_by-cons}
 use Rattle.minislots.specs.declared.config.Config.{Config}
 use Rattle.sched_history.specs.declared.call.Call.{Call}
-use Rattle.sched_history.specs.declared.reply.Entry.{Entry}
 use Rattle.ticket_lock.specs.Standing.{Standing}
+use Rattle.sched_desk.specs.declared.event.Event.{Event}
 use Rattle.sched_desk.specs.Desk.{FixedDesk}
 use Rattle.sched_storm.specs.declared.gather.Gathered.{Gathered}
 use Rattle.sched_storm.specs.declared.jobs.Job.{Job}
@@ -132,20 +132,20 @@ module _ {J : Type 0} (Gives : J → Worked → Type 0) where
 
 module _ (R : Type 0) {G : Type 0} (passes holds : G → ℕ → ℕ → Type 0) (lacks : Type 0) (c : Config) (gate : G) where
   -- what a worker with this seat and this script makes
-  abbrev Work : Standing FixedDesk Entry → List Call → Worked → Type 0
+  abbrev Work : Standing FixedDesk Event → List Call → Worked → Type 0
   Work s script w = HasWorked (passes gate) (holds gate) lacks c s script w.seat w.unrecorded w.ended
 
   -- what a job gives back is what its worker made
-  gives_kept : (s : Standing FixedDesk Entry) (script : List Call) (job : Job R G) (w : Worked)
+  gives_kept : (s : Standing FixedDesk Event) (script : List Call) (job : Job R G) (w : Worked)
       → IsJob passes holds lacks c gate s script job → GivesBack passes holds lacks job w → Work s script w
   gives_kept s script (Started handle) w is gives =
-      subst (λ (x : Config × G × Standing FixedDesk Entry × List Call).
+      subst (λ (x : Config × G × Standing FixedDesk Event × List Call).
       HasWorked (passes x.1) (holds x.1) lacks x.0 x.2 x.3 w.seat w.unrecorded w.ended)
       (λ i. (is.0 i, is.1 i, is.2 i, is.3 i)) gives
   gives_kept s script (Refused worked) w is gives = subst (Work s script) (sym gives) is.0
 
   -- what all jobs give back is what all workers made
-  gives_kept_each : (seats : List (Standing FixedDesk Entry)) (scripts : List (List Call)) (jobs : List (Job R G))
+  gives_kept_each : (seats : List (Standing FixedDesk Event)) (scripts : List (List Call)) (jobs : List (Job R G))
       (done : List Worked) → EachOf (IsJob passes holds lacks c gate) seats scripts jobs
       → AllZip (GivesBack passes holds lacks) jobs done → EachOf Work seats scripts done
   gives_kept_each [] [] [] [] are gave = tt
@@ -159,7 +159,7 @@ module _ (R : Type 0) {G : Type 0} (passes holds : G → ℕ → ℕ → Type 0)
       (gives_kept s script j w are.0 gave.0, gives_kept_each seats scripts js ws are.1 gave.1)
 
   -- and so it is put together
-  pub gathered : (seats : List (Standing FixedDesk Entry)) (scripts : List (List Call)) (jobs : List (Job R G))
+  pub gathered : (seats : List (Standing FixedDesk Event)) (scripts : List (List Call)) (jobs : List (Job R G))
       (g : Gathered) → EachOf (IsJob passes holds lacks c gate) seats scripts (reverse jobs)
       → Gathers passes holds lacks jobs g
       → IsGathered (passes gate) (holds gate) lacks c seats scripts g

@@ -4,11 +4,11 @@ use Rattle.std.proofs.Common.{subst, append_assoc, append-nil, arith}
 use Rattle.std.specs.Global.{Vec}
 use Rattle.std.proofs.lemmas.List.{reverse-append}
 use Rattle.sched_history.specs.declared.call.Call.{Call}
-use Rattle.sched_history.specs.declared.reply.Entry.{Entry}
 use Rattle.ticket_lock.specs.Rule.{Every}
 use Rattle.ticket_lock.specs.Standing.{Lock, Standing}
 use Rattle.ticket_lock.proofs.Logs.{Every-front}
 use Rattle.ticket_lock.proofs.Gathered.{Every-back}
+use Rattle.sched_desk.specs.declared.event.Event.{Event}
 use Rattle.sched_desk.specs.Desk.{FixedDesk}
 use Rattle.sched_storm.specs.Jobs.{EachOf, calls_each}
 
@@ -21,16 +21,16 @@ none_left (x ∷ xs) e = absurd (omega (arith, e))
 pub reverse-last : {X : Type 0} (xs : List X) (x : X) → reverse (xs ++ x ∷ []) ≡ x ∷ reverse xs
 reverse-last xs x = reverse-append xs (x ∷ [])
 
-module _ {J : Type 0} (Fits : Standing FixedDesk Entry → List Call → J → Type 0) (lock : Lock FixedDesk Entry)
-    (all_seats : List (Standing FixedDesk Entry)) (all_scripts : List (Vec Call)) where
+module _ {J : Type 0} (Fits : Standing FixedDesk Event → List Call → J → Type 0) (lock : Lock FixedDesk Event)
+    (all_seats : List (Standing FixedDesk Event)) (all_scripts : List (Vec Call)) where
   -- a seat is of this lock
-  abbrev IsOwn : Standing FixedDesk Entry → Type 0
+  abbrev IsOwn : Standing FixedDesk Event → Type 0
   IsOwn s = s.lock ≡ lock
 
   -- these seats and scripts are left, and each of the others has its job
-  pub record Starting (seats : List (Standing FixedDesk Entry)) (scripts : List (Vec Call)) (jobs : List J) : Type 0
+  pub record Starting (seats : List (Standing FixedDesk Event)) (scripts : List (Vec Call)) (jobs : List J) : Type 0
     where
-      pub given_seats : List (Standing FixedDesk Entry)
+      pub given_seats : List (Standing FixedDesk Event)
       pub given_scripts : List (Vec Call)
       pub seats_are : all_seats ≡ seats ++ given_seats
       pub scripts_are : all_scripts ≡ scripts ++ given_scripts
@@ -49,8 +49,8 @@ module _ {J : Type 0} (Fits : Standing FixedDesk Entry → List Call → J → T
     own = own;
   }
 
-  module _ (seats rest : List (Standing FixedDesk Entry)) (scripts rest_scripts : List (Vec Call)) (jobs : List J)
-      (s : Standing FixedDesk Entry) (script : Vec Call) (seats_is : seats ≡ rest ++ s ∷ [])
+  module _ (seats rest : List (Standing FixedDesk Event)) (scripts rest_scripts : List (Vec Call)) (jobs : List J)
+      (s : Standing FixedDesk Event) (script : Vec Call) (seats_is : seats ≡ rest ++ s ∷ [])
       (so : Starting seats scripts jobs) where
     -- the last seat is of this lock
     pub Starting-own : s.lock ≡ lock
@@ -74,7 +74,7 @@ module _ {J : Type 0} (Fits : Standing FixedDesk Entry → List Call → J → T
     }
 
   -- none is left
-  pub Starting-all : (seats : List (Standing FixedDesk Entry)) (scripts : List (Vec Call)) (jobs : List J)
+  pub Starting-all : (seats : List (Standing FixedDesk Event)) (scripts : List (Vec Call)) (jobs : List J)
       → length seats ≡ 0 → length scripts ≡ 0 → Starting seats scripts jobs
       → EachOf Fits all_seats (calls_each all_scripts) (reverse jobs)
   Starting-all seats scripts jobs no_seat no_script so =
@@ -82,5 +82,5 @@ module _ {J : Type 0} (Fits : Standing FixedDesk Entry → List Call → J → T
       so.seats_are ∙ ap (λ l. l ++ so.given_seats) (none_left seats no_seat) in
       let scripts_is : all_scripts ≡ so.given_scripts =
       so.scripts_are ∙ ap (λ l. l ++ so.given_scripts) (none_left scripts no_script) in
-      subst (λ (x : List (Standing FixedDesk Entry) × List (Vec Call)). EachOf Fits x.0 (calls_each x.1) (reverse jobs))
+      subst (λ (x : List (Standing FixedDesk Event) × List (Vec Call)). EachOf Fits x.0 (calls_each x.1) (reverse jobs))
       (λ i. (sym seats_is i, sym scripts_is i)) so.jobs_are

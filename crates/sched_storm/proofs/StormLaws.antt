@@ -6,13 +6,13 @@ use Rattle.std.specs.List.{range_with_len}
 use Rattle.std.proofs.lemmas.List.{length-map}
 use Rattle.minislots.specs.declared.config.Config.{Config}
 use Rattle.sched_history.specs.declared.call.Call.{Call}
-use Rattle.sched_history.specs.declared.reply.Entry.{Entry}
 use Rattle.logbook.specs.Pages.{Book}
 use Rattle.ticket_lock.specs.Rule.{Every}
 use Rattle.ticket_lock.specs.Standing.{Lock, Standing, opening_in, seats_in, seats_of}
 use Rattle.ticket_lock.specs.Calls.{Opens, new_standing}
 use Rattle.ticket_lock.proofs.Dealt.{new_standings-own, length-new_standings}
-use Rattle.sched_desk.specs.Desk.{FixedDesk, fixed_of, history_of, empty_desk}
+use Rattle.sched_desk.specs.declared.event.Event.{Event}
+use Rattle.sched_desk.specs.Desk.{FixedDesk, fixed_of, events_of, empty_desk}
 use Rattle.sched_desk.specs.Closed.{ClosesTo}
 use Rattle.sched_storm.specs.declared.gather.Gathered.{Gathered}
 use Rattle.sched_storm.specs.declared.tally.StormFault.{StormFault}
@@ -25,8 +25,8 @@ use Rattle.sched_storm.specs.declared.tally.StormFault.TheVariants.{Threads, Mem
 use Rattle.sched_storm.proofs.TallyLaws.{each_own, each_length, lacks_thread, Counted, counted}
 
 -- the seats of a lock that was opened round an empty desk
-module _ (c : Config) (workers : ℕ) (lock : Lock FixedDesk Entry) (seats : List (Standing FixedDesk Entry))
-    (press : Book) (opened : Opens fixed_of history_of (empty_desk c press) workers 0 lock seats) where
+module _ (c : Config) (workers : ℕ) (lock : Lock FixedDesk Event) (seats : List (Standing FixedDesk Event))
+    (press : Book) (opened : Opens fixed_of events_of (empty_desk c press true) workers 0 lock seats) where
   -- they are of this lock
   pub opened_own : Every (λ s. s.lock ≡ lock) seats
   opened_own =
@@ -89,8 +89,8 @@ module _ (c : Config) (workers : ℕ) (lock : Lock FixedDesk Entry) (seats : Lis
     is_gated : (t : Tally) → g.stopped ≡ false → Tells c lock g t → IsGatedTally passes holds c scripts t
     is_gated t going tells =
         let h = t.history.items in
-        let closed : ClosesTo c lock (map (λ (w : Worked). w.seat) made.done) h t.counts =
-        subst (λ l. ClosesTo c lock l h t.counts) made.all.seats_are tells.closed in
+        let closed : ClosesTo c lock (map (λ (w : Worked). w.seat) made.done) h 0 t.counts =
+        subst (λ l. ClosesTo c lock l h 0 t.counts) made.all.seats_are tells.closed in
         let counts : Counted passes holds lacks c lock (ap opening_in opened.about_is) h 0 scripts made.done =
         counted passes holds lacks c lock (ap opening_in opened.about_is) h 0 scripts made.done
         (sym made.all.stopped_is ∙ going) with_new closed.own_are closed.begins in
@@ -102,7 +102,7 @@ module _ (c : Config) (workers : ℕ) (lock : Lock FixedDesk Entry) (seats : Lis
             numbers_are = counts.numbers_are;
             own = counts.own;
             count_is = opened_count ∙ sym long;
-            closed = subst (λ l. ClosesTo c lock l h t.counts) counts.seats_are closed;
+            closed = subst (λ l. ClosesTo c lock l h 0 t.counts) counts.seats_are closed;
             each = counts.each;
             unrecorded_is = tells.unrecorded_is ∙ made.all.unrecorded_is ∙ counts.unrecorded_is;
             maps_is = tells.maps_is;
@@ -127,7 +127,7 @@ module _ (c : Config) (workers : ℕ) (lock : Lock FixedDesk Entry) (seats : Lis
       is_tally (Err fault) tells going = tt
 
 -- an audit of a closed history finds it legal
-pub legal_tally : (c : Config) (lock : Lock FixedDesk Entry) (g : Gathered) (r : Result Tally StormFault)
+pub legal_tally : (c : Config) (lock : Lock FixedDesk Event) (g : Gathered) (r : Result Tally StormFault)
     → IfOk r (Tells c lock g) → IfOk r (λ t. t.legal ≡ true)
 legal_tally c lock g (Ok t) tells = tells.legal_is.1 tells.closed.legal
 legal_tally c lock g (Err fault) tells = tt

@@ -11,9 +11,10 @@ use Rattle.minislots.specs.declared.config.Config.{Config}
 use Rattle.sched_history.specs.declared.call.Call.{Call}
 use Rattle.sched_history.specs.declared.reply.Entry.{Entry}
 use Rattle.ticket_lock.specs.Rule.{Every}
-use Rattle.ticket_lock.specs.Standing.{Lock, Standing, opening_of, seen, own}
+use Rattle.ticket_lock.specs.Standing.{Lock, Standing, opening_of}
 use Rattle.ticket_lock.specs.Calls.{new_standing}
-use Rattle.sched_desk.specs.Desk.{FixedDesk, maker_of}
+use Rattle.sched_desk.specs.declared.event.Event.{Event}
+use Rattle.sched_desk.specs.Desk.{FixedDesk, history_seen, own_entries}
 use Rattle.sched_desk.specs.Closed.{entries_of}
 use Rattle.sched_storm.specs.declared.worker.Ended.{Ended}
 use Rattle.sched_storm.specs.declared.worker.Ended.TheVariants.{Done, Held, Stopped}
@@ -77,11 +78,11 @@ stopped_first lacks held made calls Stopped others ends some rest = ends
 
 module _ (passes holds : ℕ → ℕ → Type 0) (lacks : Type 0) (c : Config) where
   -- what a worker with this seat and this script makes
-  abbrev Work : Standing FixedDesk Entry → List Call → Worked → Type 0
+  abbrev Work : Standing FixedDesk Event → List Call → Worked → Type 0
   Work s script w = HasWorked passes holds lacks c s script w.seat w.unrecorded w.ended
 
   -- the workers gave back seats of the lock
-  pub each_own : (lock : Lock FixedDesk Entry) (seats : List (Standing FixedDesk Entry)) (scripts : List (List Call))
+  pub each_own : (lock : Lock FixedDesk Event) (seats : List (Standing FixedDesk Event)) (scripts : List (List Call))
       (done : List Worked) → Every (λ s. s.lock ≡ lock) seats → EachOf Work seats scripts done
       → Every (λ s. s.lock ≡ lock) (map (λ w. w.seat) done)
   each_own lock [] [] [] own kept = tt
@@ -93,7 +94,7 @@ module _ (passes holds : ℕ → ℕ → Type 0) (lacks : Type 0) (c : Config) w
       (kept.0.makes.lock_is ∙ own.0, each_own lock seats scripts ws own.1 kept.1)
 
   -- where one was stopped, a thread was not started
-  pub lacks_thread : (seats : List (Standing FixedDesk Entry)) (scripts : List (List Call)) (done : List Worked)
+  pub lacks_thread : (seats : List (Standing FixedDesk Event)) (scripts : List (List Call)) (done : List Worked)
       → EachOf Work seats scripts done → any_stopped done ≡ true → lacks
   lacks_thread [] [] [] kept some = absurd (let contra : false ≡ true = some in cc)
   lacks_thread [] [] (w ∷ ws) kept some = absurd kept
@@ -105,7 +106,7 @@ module _ (passes holds : ℕ → ℕ → Type 0) (lacks : Type 0) (c : Config) w
       (any_stopped ws) kept.0.ends some (lacks_thread seats scripts ws kept.1)
 
   -- there is one for each script
-  pub each_length : (seats : List (Standing FixedDesk Entry)) (scripts : List (List Call)) (done : List Worked)
+  pub each_length : (seats : List (Standing FixedDesk Event)) (scripts : List (List Call)) (done : List Worked)
       → EachOf Work seats scripts done → length done ≡ length scripts
   each_length [] [] [] kept = refl
   each_length [] [] (w ∷ ws) kept = absurd kept
@@ -114,7 +115,7 @@ module _ (passes holds : ℕ → ℕ → Type 0) (lacks : Type 0) (c : Config) w
   each_length (s ∷ seats) (script ∷ scripts) [] kept = absurd kept
   each_length (s ∷ seats) (script ∷ scripts) (w ∷ ws) kept = ap suc (each_length seats scripts ws kept.1)
 
-  module _ (lock : Lock FixedDesk Entry) (opening : opening_of lock ≡ []) (h : List Entry) where
+  module _ (lock : Lock FixedDesk Event) (opening : opening_of lock ≡ []) (h : List Entry) where
     module _ (number : ℕ) (script : List Call) (w : Worked) (kept : Work (new_standing lock number) script w) where
       -- what it did
       abbrev deed_of : Deed
@@ -125,22 +126,22 @@ module _ (passes holds : ℕ → ℕ → Type 0) (lacks : Type 0) (c : Config) w
       number_is = kept.makes.number_is
 
       -- the history is what its seat has seen, and then entries of others
-      grows_to : entries_of w.seat.number h ≡ own maker_of w.seat → IsPrefix (seen w.seat) h
-          → GrowsByOthers w.seat.number (seen w.seat) h
+      grows_to : entries_of w.seat.number h ≡ own_entries w.seat → IsPrefix (history_seen w.seat) h
+          → GrowsByOthers w.seat.number (history_seen w.seat) h
       grows_to own_are begins = record {
         begins = begins;
         same_own = own_are ∙ own_seen lock opening w.seat kept.makes.lock_is;
       }
 
       -- it did so, in a storm with this history
-      has_made : entries_of w.seat.number h ≡ own maker_of w.seat → IsPrefix (seen w.seat) h → HasMade c h deed_of
+      has_made : entries_of w.seat.number h ≡ own_entries w.seat → IsPrefix (history_seen w.seat) h → HasMade c h deed_of
       has_made own_are begins =
           let n = w.seat.number in
-          let from_none : Leads c n [] kept.made (seen w.seat) =
-          subst (λ m. Leads c m [] kept.made (seen w.seat)) (sym number_is)
-          (subst (λ l. Leads c number l kept.made (seen w.seat))
+          let from_none : Leads c n [] kept.made (history_seen w.seat) =
+          subst (λ m. Leads c m [] kept.made (history_seen w.seat)) (sym number_is)
+          (subst (λ l. Leads c number l kept.made (history_seen w.seat))
           (seen_log lock opening (new_standing lock number) refl) kept.makes.leads) in
-          let leads = Leads-longer n c [] kept.made (seen w.seat) h (grows_to own_are begins) from_none in
+          let leads = Leads-longer n c [] kept.made (history_seen w.seat) h (grows_to own_are begins) from_none in
           record {
             front = kept.front;
             turns = let turns = kept.makes.turns_is in omega (arith, turns);
@@ -173,8 +174,8 @@ module _ (passes holds : ℕ → ℕ → Type 0) (lacks : Type 0) (c : Config) w
     -- each worker made calls of its script, from what all gave back
     pub counted : (number : ℕ) (scripts : List (List Call)) (done : List Worked) → any_stopped done ≡ false
         → EachOf Work (map (new_standing lock) (range_with_len number (length scripts))) scripts done
-        → Every (λ s. entries_of s.number h ≡ own maker_of s) (map (λ w. w.seat) done)
-        → Every (λ s. IsPrefix (seen s) h) (map (λ w. w.seat) done) → Counted number scripts done
+        → Every (λ s. entries_of s.number h ≡ own_entries s) (map (λ w. w.seat) done)
+        → Every (λ s. IsPrefix (history_seen s) h) (map (λ w. w.seat) done) → Counted number scripts done
     counted number [] [] going kept own_are begins = record {
       deeds = [];
       scripts_are = refl;

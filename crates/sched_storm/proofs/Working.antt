@@ -5,9 +5,9 @@ use borrow.Author.Count.{below_none, below_more}
 use Rattle.std.proofs.lemmas.List.{length-take-le, length-map, take_more, take-append-drop}
 use Rattle.minislots.specs.declared.config.Config.{Config}
 use Rattle.sched_history.specs.declared.call.Call.{Call}
-use Rattle.sched_history.specs.declared.reply.Entry.{Entry}
-use Rattle.ticket_lock.specs.Standing.{Standing, seen}
-use Rattle.sched_desk.specs.Desk.{FixedDesk}
+use Rattle.ticket_lock.specs.Standing.{Standing}
+use Rattle.sched_desk.specs.declared.event.Event.{Event}
+use Rattle.sched_desk.specs.Desk.{FixedDesk, history_seen}
 use Rattle.sched_storm.specs.declared.worker.Ended.{Ended}
 use Rattle.sched_storm.specs.declared.worker.Ended.TheVariants.{Done, Held, Stopped}
 use Rattle.sched_storm.specs.Made.{MadeCall, calls_made, left_out_count, Leads}
@@ -16,16 +16,16 @@ use Rattle.sched_storm.proofs.MadeLaws.{calls_made-append, left_out_count-append
 use Rattle.sched_storm.proofs.MadeLaws.{left_out_count-le, GrowsByOthers-same, Leads-append}
 
 -- no call
-pub no_call : (c : Config) (s : Standing FixedDesk Entry) → Makes c s s []
+pub no_call : (c : Config) (s : Standing FixedDesk Event) → Makes c s s []
 no_call c s = record {
   lock_is = refl;
   number_is = refl;
   turns_is = omega arith;
-  leads = GrowsByOthers-same s.number (seen s);
+  leads = GrowsByOthers-same s.number (history_seen s);
 }
 
 -- some calls, and then more
-pub Makes-append : (c : Config) (s w x : Standing FixedDesk Entry) (made more : List MadeCall) → Makes c s w made
+pub Makes-append : (c : Config) (s w x : Standing FixedDesk Event) (made more : List MadeCall) → Makes c s w made
     → Makes c w x more → Makes c s x (made ++ more)
 Makes-append c s w x made more first then = record {
   lock_is = then.lock_is ∙ first.lock_is;
@@ -35,13 +35,13 @@ Makes-append c s w x made more first then = record {
       let since = then.turns_is in
       let both = length-append made more in
       omega (arith, so_far, since, both);
-  leads = Leads-append s.number c (seen s) made more (seen w) (seen x) first.leads
-      (subst (λ n. Leads c n (seen w) more (seen x)) first.number_is then.leads);
+  leads = Leads-append s.number c (history_seen s) made more (history_seen w) (history_seen x) first.leads
+      (subst (λ n. Leads c n (history_seen w) more (history_seen x)) first.number_is then.leads);
 }
 
 -- a worker with this seat has made the calls before this place of its script, each after its gate let it pass
-pub record HasMadeSoFar (passes : ℕ → ℕ → Type 0) (c : Config) (s : Standing FixedDesk Entry) (script : List Call)
-    (place : ℕ) (w : Standing FixedDesk Entry) (unrecorded : ℕ) : Type 0 where
+pub record HasMadeSoFar (passes : ℕ → ℕ → Type 0) (c : Config) (s : Standing FixedDesk Event) (script : List Call)
+    (place : ℕ) (w : Standing FixedDesk Event) (unrecorded : ℕ) : Type 0 where
   pub made : List MadeCall
   pub makes : Makes c s w made
   pub front : calls_made made ≡ take place script
@@ -52,7 +52,7 @@ pub record HasMadeSoFar (passes : ℕ → ℕ → Type 0) (c : Config) (s : Stan
 abbrev pub IsCountedTo : ℕ → Bool → ℕ → Type 0
 IsCountedTo n recorded more = more ≡ n + cond recorded 0 1
 
-module _ (passes : ℕ → ℕ → Type 0) (c : Config) (s : Standing FixedDesk Entry) (script : List Call) where
+module _ (passes : ℕ → ℕ → Type 0) (c : Config) (s : Standing FixedDesk Event) (script : List Call) where
   -- a worker that has made no call
   pub none_so_far : HasMadeSoFar passes c s script 0 s 0
   none_so_far = record {
@@ -63,7 +63,7 @@ module _ (passes : ℕ → ℕ → Type 0) (c : Config) (s : Standing FixedDesk 
     passed = below_none (passes s.number);
   }
 
-  module _ (place : ℕ) (w : Standing FixedDesk Entry) (unrecorded : ℕ)
+  module _ (place : ℕ) (w : Standing FixedDesk Event) (unrecorded : ℕ)
       (so_far : HasMadeSoFar passes c s script place w unrecorded) where
     -- so many calls
     length_is : place ≤ length script → length so_far.made ≡ place
@@ -81,7 +81,7 @@ module _ (passes : ℕ → ℕ → Type 0) (c : Config) (s : Standing FixedDesk 
         omega (arith, few, long, is)
 
     -- one call more
-    pub HasMadeSoFar-push : (d : Call) (x : Standing FixedDesk Entry) (recorded : Bool) (more : ℕ)
+    pub HasMadeSoFar-push : (d : Call) (x : Standing FixedDesk Event) (recorded : Bool) (more : ℕ)
         → place < length script → MakesOne c w x (get_or script place d) recorded → IsCountedTo unrecorded recorded more
         → passes s.number place → HasMadeSoFar passes c s script (place + 1) x more
     HasMadeSoFar-push d x recorded more below one counted passed =

@@ -6,9 +6,9 @@ use Rattle.std.specs.List.{AllZip}
 use Rattle.minislots.specs.declared.config.Config.{Config}
 use Rattle.sched_history.specs.declared.call.Call.{Call}
 use Rattle.sched_history.specs.declared.call.TheConstants.{MAX_SCRIPTS}
-use Rattle.sched_history.specs.declared.reply.Entry.{Entry}
 use Rattle.ticket_lock.specs.Rule.{Every}
 use Rattle.ticket_lock.specs.Standing.{Lock, Standing}
+use Rattle.sched_desk.specs.declared.event.Event.{Event}
 use Rattle.sched_desk.specs.Desk.{FixedDesk}
 use Rattle.sched_storm.specs.declared.worker.Ended.{Ended}
 use Rattle.sched_storm.specs.declared.worker.Ended.TheVariants.{Done, Held, Stopped}
@@ -43,7 +43,7 @@ module _ {R G : Type 0} (passes holds : G → ℕ → ℕ → Type 0) (lacks : T
   module _ (c : Config) (gate : G) where
     -- a thread that promises what a worker with this seat and this script makes, or, where no thread was started, what
     -- the worker made until it was stopped
-    abbrev pub IsJob : Standing FixedDesk Entry → List Call → Job R G → Type 0
+    abbrev pub IsJob : Standing FixedDesk Event → List Call → Job R G → Type 0
     IsJob s script (Started handle) =
         let given = handle.promise in
         (given.config.value ≡ c) × (given.gate.value ≡ gate) × (given.seat.value ≡ s)
@@ -52,8 +52,8 @@ module _ {R G : Type 0} (passes holds : G → ℕ → ℕ → Type 0) (lacks : T
         HasWorked (passes gate) (holds gate) lacks c s script w.seat w.unrecorded w.ended × (is_stopped w.ended ≡ true)
 
 -- the fact holds of the members at each place, and the three lists are equally long
-abbrev pub EachOf : {X : Type 0} → (Standing FixedDesk Entry → List Call → X → Type 0)
-    → List (Standing FixedDesk Entry) → List (List Call) → List X → Type 0
+abbrev pub EachOf : {X : Type 0} → (Standing FixedDesk Event → List Call → X → Type 0)
+    → List (Standing FixedDesk Event) → List (List Call) → List X → Type 0
 EachOf P [] [] [] = Unit {0}
 EachOf P [] [] (x ∷ xs) = ⊥
 EachOf P [] (script ∷ scripts) xs = ⊥
@@ -95,7 +95,7 @@ pub record Gathers {R G : Type 0} (passes holds : G → ℕ → ℕ → Type 0) 
 
 -- a worker with each of these seats made calls of the script at the same place, put together
 pub record IsGathered (passes holds : ℕ → ℕ → Type 0) (lacks : Type 0) (c : Config)
-    (seats : List (Standing FixedDesk Entry)) (scripts : List (List Call)) (g : Gathered) : Type 0 where
+    (seats : List (Standing FixedDesk Event)) (scripts : List (List Call)) (g : Gathered) : Type 0 where
   pub done : List Worked
   pub each : EachOf (λ s script w. HasWorked passes holds lacks c s script w.seat w.unrecorded w.ended) seats scripts
       done
@@ -103,8 +103,8 @@ pub record IsGathered (passes holds : ℕ → ℕ → Type 0) (lacks : Type 0) (
 
 -- there is a script for each of these seats, which are of the lock and no more than a storm has, and room for as many
 -- threads and for the seats that come back
-pub record AreJobsReady {R G : Type 0} (lock : Lock FixedDesk Entry) (seats : Vec (Standing FixedDesk Entry))
-    (scripts : Vec (Vec Call)) (jobs : Vec (Job R G)) (row : Vec (Standing FixedDesk Entry)) : Type 0 where
+pub record AreJobsReady {R G : Type 0} (lock : Lock FixedDesk Event) (seats : Vec (Standing FixedDesk Event))
+    (scripts : Vec (Vec Call)) (jobs : Vec (Job R G)) (row : Vec (Standing FixedDesk Event)) : Type 0 where
   pub own : Every (λ s. s.lock ≡ lock) seats.items
   pub each : vec_len seats ≡ vec_len scripts
   pub few : vec_len seats ≤ MAX_SCRIPTS

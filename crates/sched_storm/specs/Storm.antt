@@ -10,6 +10,7 @@ use Rattle.sched_history.specs.Facts.{maps_of}
 use Rattle.sched_history.specs.History.{IsLegal}
 use Rattle.ticket_lock.specs.Rule.{Every}
 use Rattle.ticket_lock.specs.Standing.{Lock, Standing, seats_of}
+use Rattle.sched_desk.specs.declared.event.Event.{Event}
 use Rattle.sched_desk.specs.Desk.{FixedDesk}
 use Rattle.sched_desk.specs.Closed.{entries_of, ClosesTo}
 use Rattle.sched_storm.specs.declared.gather.Gathered.{Gathered}
@@ -18,7 +19,7 @@ use Rattle.sched_storm.specs.Made.{MadeCall, calls_made, calls_recorded, calls_i
 
 -- what a worker did: its seat, as it came back, its script, and the calls that it made of it
 pub record Deed : Type 0 where
-  pub seat : Standing FixedDesk Entry
+  pub seat : Standing FixedDesk Event
   pub script : List Call
   pub made : List MadeCall
 
@@ -49,13 +50,13 @@ HasRead maps (Some version) = maps ≤ version
 pub record IsTally (c : Config) (scripts : List (List Call)) (t : Tally) : Type 0 where
   -- its history is that of a scheduler that was closed with a seat for each worker, and its counts are those of the
   -- seats
-  pub lock : Lock FixedDesk Entry
+  pub lock : Lock FixedDesk Event
   pub deeds : List Deed
   pub scripts_are : map (λ d. d.script) deeds ≡ scripts
   pub numbers_are : map (λ d. d.seat.number) deeds ≡ range_with_len 0 (length scripts)
   pub own : Every (λ d. d.seat.lock ≡ lock) deeds
   pub count_is : seats_of lock ≡ length scripts
-  pub closed : ClosesTo c lock (map (λ d. d.seat) deeds) t.history.items t.counts
+  pub closed : ClosesTo c lock (map (λ d. d.seat) deeds) t.history.items 0 t.counts
   -- each worker made calls of its script, in order, and the entries of its seat are those that were recorded
   pub each : Every (HasMade c t.history.items) deeds
   -- the numbers are those of these calls and of this history, and the verdict is that of this history
@@ -78,8 +79,8 @@ pub record IsGatedTally (passes holds : ℕ → ℕ → Type 0) (c : Config) (sc
     pub gated : Every (KeepsGate passes holds) tally.deeds
 
 -- what the workers gave back and the history at the close, as a tally
-pub record Tells (c : Config) (lock : Lock FixedDesk Entry) (g : Gathered) (t : Tally) : Type 0 where
-  pub closed : ClosesTo c lock g.seats.items t.history.items t.counts
+pub record Tells (c : Config) (lock : Lock FixedDesk Event) (g : Gathered) (t : Tally) : Type 0 where
+  pub closed : ClosesTo c lock g.seats.items t.history.items 0 t.counts
   pub unrecorded_is : t.unrecorded ≡ g.unrecorded
   pub maps_is : t.maps ≡ length (maps_of t.history.items)
   pub newest_is : HasRead t.maps t.newest

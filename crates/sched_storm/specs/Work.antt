@@ -3,23 +3,23 @@ use Rattle.std.specs.Prelude.{◌≡◌, ◌<◌, ◌+◌, ℕ, Bool, List, [], 
 use mathlib.Core.List.{IsPrefix}
 use Rattle.minislots.specs.declared.config.Config.{Config}
 use Rattle.sched_history.specs.declared.call.Call.{Call}
-use Rattle.sched_history.specs.declared.reply.Entry.{Entry}
-use Rattle.ticket_lock.specs.Standing.{Standing, seen}
-use Rattle.sched_desk.specs.Desk.{FixedDesk}
+use Rattle.ticket_lock.specs.Standing.{Standing}
+use Rattle.sched_desk.specs.declared.event.Event.{Event}
+use Rattle.sched_desk.specs.Desk.{FixedDesk, history_seen}
 use Rattle.sched_storm.specs.declared.worker.Ended.{Ended}
 use Rattle.sched_storm.specs.declared.worker.Ended.TheVariants.{Done, Held, Stopped}
 use Rattle.sched_storm.specs.Made.{MadeCall, is_recorded, calls_made, left_out_count, Leads}
 
 -- by making these calls, and no others in between, a seat came from the first standing to the second: each call, also
 -- one that was not recorded, is a turn that it ended
-pub record Makes (c : Config) (s w : Standing FixedDesk Entry) (made : List MadeCall) : Type 0 where
+pub record Makes (c : Config) (s w : Standing FixedDesk Event) (made : List MadeCall) : Type 0 where
   pub lock_is : w.lock ≡ s.lock
   pub number_is : w.number ≡ s.number
   pub turns_is : w.turns ≡ s.turns + length made
-  pub leads : Leads c s.number (seen s) made (seen w)
+  pub leads : Leads c s.number (history_seen s) made (history_seen w)
 
 -- by making this call, which was recorded or not, a seat came from the first standing to the second
-pub record MakesOne (c : Config) (s w : Standing FixedDesk Entry) (call : Call) (recorded : Bool) : Type 0 where
+pub record MakesOne (c : Config) (s w : Standing FixedDesk Event) (call : Call) (recorded : Bool) : Type 0 where
   pub made : MadeCall
   pub call_is : made.call ≡ call
   pub recorded_is : is_recorded made ≡ recorded
@@ -40,8 +40,8 @@ EndsSo lacks held made calls Stopped = lacks
 
 -- the worker with this seat made calls of its script under a gate of which this is so where it lets a worker pass to
 -- the call at a place, this where it does not, and this where a thread was not started
-pub record HasWorked (passes holds : ℕ → ℕ → Type 0) (lacks : Type 0) (c : Config) (s : Standing FixedDesk Entry)
-    (script : List Call) (w : Standing FixedDesk Entry) (unrecorded : ℕ) (ended : Ended) : Type 0 where
+pub record HasWorked (passes holds : ℕ → ℕ → Type 0) (lacks : Type 0) (c : Config) (s : Standing FixedDesk Event)
+    (script : List Call) (w : Standing FixedDesk Event) (unrecorded : ℕ) (ended : Ended) : Type 0 where
   pub made : List MadeCall
   pub makes : Makes c s w made
   pub front : IsPrefix (calls_made made) script

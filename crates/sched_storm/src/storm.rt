@@ -46,6 +46,7 @@ fn close<R: Wait>(
     requires own { Every (λ s. s.lock ≡ shared.lock) gathered.seats.items }
     requires all { length gathered.seats.items ≡ seats_of shared.lock }
     requires reader { reader.press ≡ shared.press }
+    requires keeps { shared.keeps ≡ true }
     ensures told { IfOk result (Tells shared.config shared.lock gathered) }
     ensures ok { OnOk result (gathered.stopped ≡ false) }
     ensures err { IfErr result (λ fault. ((fault ≡ StormFault.Threads) × (gathered.stopped ≡ true))
@@ -59,6 +60,7 @@ fn close<R: Wait>(
     } = gathered;
     let Closed {
         history,
+        first: _,
         counts,
         press,
     } = shared.close(seats);

@@ -63,6 +63,8 @@ fn make_call(rt: &impl Wait, shared: &Shared, seat: Seat<Desk>, call: Call) -> (
     requires own { seat.lock ≡ shared.now.lock }
     ensures makes { MakesOne shared.now.config seat result.0 call result.1 }
 {
+    // That the configuration allows few enough is told on.
+    let _most = shared.config().calls();
     let (seat, answer) = shared.call(rt, seat, call);
     (seat, answer.is_ok())
 }

@@ -1,40 +1,74 @@
--- A whole call, from its draw, its entry and the holder's call.
-use Rattle.std.proofs.Common.{◌≡◌, ◌+◌, ◌++◌, map, Result, sym, ap, ◌∙◌, subst}
+-- A whole call, from its draw, its entry and what the holder did.
+use Rattle.std.proofs.Common.{◌≡◌, ◌+◌, Bool, List, ◌++◌, map, Result, sym, ap, ◌∙◌, subst}
+use Rattle.std.specs.Global.{Vec}
 use Rattle.minislots.specs.declared.config.Config.{Config}
 use Rattle.sched_history.specs.declared.call.Call.{Call}
 use Rattle.sched_history.specs.declared.reply.Entry.{Entry}
 use Rattle.sched_history.specs.declared.reply.Reply.{Reply}
 use Rattle.sched_history.specs.declared.reply.Unrecorded.{Unrecorded}
-use Rattle.ticket_lock.specs.Rule.{entry_of, IsOfOthers}
-use Rattle.ticket_lock.specs.Standing.{Standing, own}
+use Rattle.sched_history.specs.declared.scheduler.handing_over.HandedOver.{HandedOver}
+use Rattle.ticket_lock.specs.Rule.{IsOfOthers}
+use Rattle.ticket_lock.specs.Standing.{Standing, seen, own}
 use Rattle.ticket_lock.specs.Calls.{Draws, Enters}
-use Rattle.sched_desk.specs.Desk.{DeskState, FixedDesk, fixed_of, history_of, maker_of}
-use Rattle.sched_desk.specs.Calls.{added_by, AnswersHeld}
-use Rattle.sched_desk.proofs.Own.{own-others}
-use Rattle.shared_sched.specs.Calls.{AnswersCall}
+use Rattle.sched_desk.specs.declared.event.Event.{Event}
+use Rattle.sched_desk.specs.Events.{author_of}
+use Rattle.sched_desk.specs.Portions.{Portion}
+use Rattle.sched_desk.specs.Desk.{DeskState, FixedDesk, fixed_of, events_of}
+use Rattle.sched_desk.specs.Calls.{entry_by, AnswersHeld}
+use Rattle.sched_desk.specs.Handing.{is_given, portion_by, HandsOverHeld}
+use Rattle.sched_desk.proofs.Own.{entered_own, entered_history, entered_portions}
+use Rattle.shared_sched.specs.Calls.{HasEntered, AnswersCall, HandsOver}
 
--- a seat that drew, entered and was answered as a holder was answered
-pub calls : (c : Config) (s t h w : Standing FixedDesk Entry) (x : DeskState) (call : Call)
-    (answer : Result Reply Unrecorded)
-    → Draws maker_of s t → Enters maker_of fixed_of history_of t h x → AnswersHeld c h call w answer
-    → AnswersCall c s call w answer
-calls c s t h w x call answer drawn entered answered =
-    let more = entered.more in
-    let whole : h ≡ record s { log = s.log ++ more; ticket = t.ticket; looks = h.looks } =
-    entered.entered
-    ∙ ap (λ (u : Standing FixedDesk Entry). record u { log = u.log ++ more; looks = h.looks }) drawn.drawn in
-    let ticket : t.ticket ≡ h.ticket = sym (ap (λ (u : Standing FixedDesk Entry). u.ticket) whole) in
-    let number : t.number ≡ s.number = ap (λ (u : Standing FixedDesk Entry). u.number) drawn.drawn in
-    let others : IsOfOthers maker_of s.number more = subst (λ n. IsOfOthers maker_of n more) number entered.others in
-    record {
-      others = more;
-      are_others = others;
-      holder = h;
-      entered = whole ∙ ap (λ n. record s { log = s.log ++ more; ticket = n; looks = h.looks }) ticket;
-      answered = answered;
-      turns = ap (λ (u : Standing FixedDesk Entry). u.turns) answered.left
-          ∙ ap (λ (u : Standing FixedDesk Entry). u.turns + 1) whole;
-      own_is = answered.own_is
-          ∙ ap (λ l. l ++ map entry_of (added_by h call answer))
-          (ap (own maker_of) whole ∙ own-others maker_of s.number s.log more others);
-    }
+module _ (c : Config) (s t h w : Standing FixedDesk Event) (x : DeskState) (drawn : Draws author_of s t)
+    (entered : Enters author_of fixed_of events_of t h x) where
+  whole : h ≡ record s { log = s.log ++ entered.more; ticket = t.ticket; looks = h.looks }
+  whole =
+      entered.entered
+      ∙ ap (λ (u : Standing FixedDesk Event). record u { log = u.log ++ entered.more; looks = h.looks }) drawn.drawn
+
+  number : t.number ≡ s.number
+  number = ap (λ (u : Standing FixedDesk Event). u.number) drawn.drawn
+
+  others : IsOfOthers author_of s.number entered.more
+  others = subst (λ n. IsOfOthers author_of n entered.more) number entered.others
+
+  -- a seat that drew and entered has seen what others had added
+  has_entered : HasEntered s h
+  has_entered = record {
+    others = entered.more;
+    are_others = others;
+    entered = whole ∙ ap (λ n. record s { log = s.log ++ entered.more; ticket = n; looks = h.looks })
+        (sym (ap (λ (u : Standing FixedDesk Event). u.ticket) whole));
+    history_is = entered_history s h entered.more (ap seen whole);
+    own_are = entered_own s h entered.more (ap (own author_of) whole) others;
+    portions_are = entered_portions s h entered.more (ap seen whole)
+        (ap (λ (u : Standing FixedDesk Event). u.number) whole) others;
+  }
+
+  turn_more : h.turns ≡ s.turns
+  turn_more = ap (λ (u : Standing FixedDesk Event). u.turns) whole
+
+  -- one that was answered as a holder was answered
+  pub calls : (call : Call) (answer : Result Reply Unrecorded) → AnswersHeld c h call w answer
+      → AnswersCall c s call w answer
+  calls call answer answered = record {
+    holder = h;
+    entered = has_entered;
+    answered = answered;
+    turns = ap (λ (u : Standing FixedDesk Event). u.turns) answered.left ∙ ap (λ n. n + 1) turn_more;
+    own_is = answered.own_is ∙ ap (λ (l : List Entry). l ++ entry_by h call answer) has_entered.own_are;
+    portions_are = answered.portions_are ∙ has_entered.portions_are;
+  }
+
+  -- and one that handed over as a holder has handed over
+  pub hands_over : (keeps : Bool) (room : Vec Entry) (answer : Result HandedOver (Vec Entry))
+      → HandsOverHeld c h keeps room w answer → HandsOver c keeps s room w answer
+  hands_over keeps room answer given = record {
+    holder = h;
+    entered = has_entered;
+    given = given;
+    turns = ap (λ (u : Standing FixedDesk Event). u.turns) given.marks.left ∙ ap (λ n. n + 1) turn_more;
+    own_is = given.marks.own_is ∙ has_entered.own_are;
+    portions_are = given.marks.portions_are
+        ∙ ap (λ (l : List Portion). l ++ portion_by h (is_given answer)) has_entered.portions_are;
+  }

@@ -9,6 +9,6 @@ mod shared;
 
 pub use closing::Closed;
 pub use fault::OpenFault;
-pub use opening::open;
+pub use opening::{open, open_without_end};
 pub use sched_desk::{DeskHead, count_each, one_holder};
 pub use shared::{Desk, Shared};

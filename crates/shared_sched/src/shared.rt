@@ -2,12 +2,13 @@
 ghost use Rattle.std.specs.Prelude.{◌≡◌};
 ghost use Rattle.sched_desk.specs.Desk.{IsDeskLock, HasPress};
 ghost use Rattle.sched_desk.specs.Calls.{IsEntered, AnswersHeld};
-ghost use Rattle.shared_sched.specs.Calls.{AnswersCall};
+ghost use Rattle.sched_desk.specs.Handing.{HandsOverHeld};
+ghost use Rattle.shared_sched.specs.Calls.{AnswersCall, HandsOver};
 
 use map_snapshot::Told;
 use minislots::Checked;
 use sched_desk::Recorder;
-use sched_history::{Call, Reply, Unrecorded};
+use sched_history::{Call, Entry, HandedOver, Reply, Unrecorded};
 use std::marker::Model;
 use std::sync::Wait;
 use ticket_lock::{Held, Seat, TicketLock};
@@ -23,17 +24,18 @@ pub struct Shared {
     // What clauses name: the desk has the same configuration, and the press that told this.
     pub(crate) config: Checked,
     pub(crate) told: Told,
+    pub(crate) keeps: bool,
 }
 
-// Clauses see the configuration, which press it has, and the lock round the desk.
+// Clauses see the configuration, which press it has, whether the desk keeps its whole history, and the lock round it.
 impl Model for Shared {
     ghost use Rattle.sched_desk.specs.Desk.{SharedDesk, IsDeskLock, HasPress};
 
     ghost Value = { SharedDesk };
 
-    ghost view = { λ s. record { config = s.config; press = s.told.press; lock = s.lock } };
+    ghost view = { λ s. record { config = s.config; press = s.told.press; keeps = s.keeps; lock = s.lock } };
 
-    ghost invariant = { λ s. IsDeskLock s.config s.lock × HasPress s.config s.told.press s.lock };
+    ghost invariant = { λ s. IsDeskLock s.config s.lock × HasPress s.config s.told.press s.keeps s.lock };
 }
 
 impl Shared {
@@ -41,9 +43,16 @@ impl Shared {
     pub fn lock(&self) -> &TicketLock<Desk>
         ensures lock { result.now ≡ self.now.lock }
         ensures desk { IsDeskLock self.now.config self.now.lock }
-        ensures press { HasPress self.now.config self.now.press self.now.lock }
+        ensures press { HasPress self.now.config self.now.press self.now.keeps self.now.lock }
     {
         &self.lock
+    }
+
+    /// Its configuration.
+    pub fn config(&self) -> &Checked
+        ensures { result.now ≡ self.now.config }
+    {
+        &self.config
     }
 
     /// Makes a call by this seat: it draws a ticket, waits until it is served, and records the call with its reply.
@@ -77,9 +86,45 @@ impl Shared {
         requires entered { IsEntered held desk }
         ensures answered { AnswersHeld self.now.config held call result.0 result.1 }
     {
-        let mut recorder = desk.into_recorder();
-        let answer = recorder.call(rt, held.stamp(), call);
-        let seat = self.lock.leave(held, Desk::of(recorder));
+        let mut desk = desk;
+        let answer = desk.call(rt, held.stamp(), call);
+        let seat = self.lock.leave(held, desk);
+        (seat, answer)
+    }
+
+    /// Hands over the entries that are kept, with the place of the first in the whole history, by this seat: it draws a
+    /// ticket, waits until it is served, and gives them in exchange for an empty list with room for as many as the
+    /// configuration allows. It takes no memory. A list with less room comes back and changes nothing, and so does any
+    /// where the desk keeps its whole history. The entry waits, and nothing else.
+    pub fn hand_over<R: Wait>(
+        &self,
+        rt: &R,
+        seat: Seat<Desk>,
+        room: Vec<Entry>,
+    ) -> (Seat<Desk>, Result<HandedOver, Vec<Entry>>)
+        requires own { seat.lock ≡ self.now.lock }
+        ensures given { HandsOver self.now.config self.now.keeps seat room result.0 result.1 }
+    {
+        let ticket = self.lock.draw(seat);
+        let (held, desk) = self.lock.enter(rt, ticket);
+        self.hand_over_held(held, desk, room)
+    }
+
+    /// Hands over the entries that are kept by the seat that holds the desk, and leaves. The desk is as it was entered.
+    /// It waits for nobody.
+    pub fn hand_over_held(
+        &self,
+        held: Held<Desk>,
+        desk: Desk,
+        room: Vec<Entry>,
+    ) -> (Seat<Desk>, Result<HandedOver, Vec<Entry>>)
+        requires own { held.lock ≡ self.now.lock }
+        requires entered { IsEntered held desk }
+        ensures given { HandsOverHeld self.now.config held self.now.keeps room result.0 result.1 }
+    {
+        let mut desk = desk;
+        let answer = desk.hand_over(held.stamp(), room);
+        let seat = self.lock.leave(held, desk);
         (seat, answer)
     }
 }

@@ -125,6 +125,7 @@ fn a_call_that_found_no_memory_can_be_made_again(rt: HostRuntime) {
     }
     let Closed {
         history,
+        first: _,
         counts,
         press,
     } = shared.close(seats);

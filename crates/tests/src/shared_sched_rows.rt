@@ -78,6 +78,7 @@ fn close_pair<R: Wait + Abort + AllocGlobal>(
     seats.push_reserved(one);
     let Closed {
         history,
+        first: _,
         counts,
         press,
     } = shared.close(seats);

@@ -27,6 +27,8 @@ impl Journal for Stamps {
 
     ghost entries = { λ s. s.list.items };
 
+    ghost kept = { λ all. all };
+
     ghost stamp = { λ e. e };
 
     fn len(&self) -> usize {

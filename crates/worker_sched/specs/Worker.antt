@@ -1,23 +1,31 @@
 -- What contracts see of a worker, and what each of its calls does.
 use Rattle.std.specs.Prelude.{◌≡◌, ◌+◌, ◌<◌, ℕ, Bool, true, false, List, [], ◌++◌, length, Option, None, Some}
 use Rattle.std.specs.Prelude.{IfSome, IsSome, MatchOption, option_to_list, is_some, not, ◌||◌}
+use Rattle.std.specs.Global.{Vec}
 use Rattle.minislots.specs.declared.config.Config.{Config}
 use Rattle.sched_history.specs.declared.call.Call.{Call}
 use Rattle.sched_history.specs.declared.reply.Entry.{Entry}
+use Rattle.sched_history.specs.declared.scheduler.handing_over.HandedOver.{HandedOver}
 use Rattle.ticket_lock.specs.Rule.{Every}
 use Rattle.ticket_lock.specs.Standing.{Standing, seats_of}
 use Rattle.ticket_lock.specs.Calls.{Opens, Draws}
-use Rattle.sched_desk.specs.Desk.{FixedDesk, SharedDesk, fixed_of, history_of, maker_of, empty_desk, no_press}
+use Rattle.sched_desk.specs.declared.event.Event.{Event}
+use Rattle.sched_desk.specs.Events.{author_of}
+use Rattle.sched_desk.specs.Desk.{FixedDesk, SharedDesk, fixed_of, events_of, empty_desk, no_press}
 use Rattle.worker_sched.specs.declared.worker.Turn.{Turn}
 use Rattle.worker_sched.specs.declared.worker.Turn.TheVariants.{Ended, NotYet, NoTicket}
+use Rattle.worker_sched.specs.declared.turning.HandOver.{HandOver}
+use Rattle.worker_sched.specs.declared.turning.HandOver.TheVariants as over
+use Rattle.worker_sched.specs.declared.turning.Forget.{Forget}
+use Rattle.worker_sched.specs.declared.turning.Forget.TheVariants as forget
 use Rattle.worker_sched.specs.declared.worker.CloseFault.{CloseFault}
 use Rattle.worker_sched.specs.declared.worker.CloseFault.TheVariants.{HasTicket, Others, NotServed}
 use Rattle.sched_history.specs.Machine.{Machine}
-use Rattle.worker_sched.specs.Workplace.{AnswersTurn, EndsWith, IsNotServed}
+use Rattle.worker_sched.specs.Workplace.{AnswersTurn, HandsOverTurn, ForgetsTurn, EndsWith, IsNotServed}
 
 -- where a seat stands
 abbrev pub Stands : Type 0
-Stands = Standing FixedDesk Entry
+Stands = Standing FixedDesk Event
 
 -- a worker: its workplace, its seat or the ticket that it drew with it, and the seats of nobody that are with it
 pub record WorkerState : Type 0 where
@@ -37,11 +45,19 @@ abbrev pub seats_with : WorkerState → List Stands
 seats_with w = w.spare ++ option_to_list w.seat
 
 -- the first worker of a workplace that was opened with this many seats: one is its own, and the others are with it
-pub record IsFirstWorker (c : Config) (seats : ℕ) (w : WorkerState) : Type 0 where
+pub record IsFirstWorker (c : Config) (keeps : Bool) (seats : ℕ) (w : WorkerState) : Type 0 where
   pub config : w.place.config ≡ c
+  pub keeping : w.place.keeps ≡ keeps
   pub seat_is : IsSome w.seat
   pub ticket_is : w.ticket ≡ None
-  pub opened : Opens fixed_of history_of (empty_desk c no_press) seats 0 w.place.lock (seats_with w)
+  pub opened : Opens fixed_of events_of (empty_desk c no_press keeps) seats 0 w.place.lock (seats_with w)
+
+-- the first worker at this place has these seats: the last is its own, if there is any
+pub record IsFirstOf (place : SharedDesk) (seats : List Stands) (w : WorkerState) : Type 0 where
+  pub place_is : w.place ≡ place
+  pub seats_are : seats ≡ seats_with w
+  pub ticket_is : w.ticket ≡ None
+  pub seat_is : 0 < length seats → IsSome w.seat
 
 -- a new worker has one of the seats that were with this one
 pub record Hires (old new w : WorkerState) : Type 0 where
@@ -58,7 +74,7 @@ is_busy w = is_some w.ticket || not (is_some w.seat)
 -- a worker that has a seat and no ticket draws one with it; nothing else of it changes, or nothing at all
 abbrev pub DrawsTicket : WorkerState → WorkerState → Bool → Type 0
 DrawsTicket old new true = (s : Stands) × (t : Stands) × (old.seat ≡ Some s) × (old.ticket ≡ None)
-    × (new ≡ record old { seat = None; ticket = Some t }) × Draws maker_of s t
+    × (new ≡ record old { seat = None; ticket = Some t }) × Draws author_of s t
 DrawsTicket old new false = (new ≡ old) × (is_busy old ≡ true)
 
 -- the turn of a worker with this ticket
@@ -73,13 +89,36 @@ abbrev pub TakesTurn : WorkerState → WorkerState → Call → Turn → Type 0
 TakesTurn old new call turn = MatchOption old.ticket ((turn ≡ NoTicket) × (new ≡ old))
     (λ t. TakesTurnWith t old new call turn)
 
+-- the turn of a worker with this ticket that hands over what is kept, or with none
+abbrev pub HandsOverWith : Stands → WorkerState → WorkerState → Vec Entry → HandOver → Type 0
+HandsOverWith t old new room (over.Ended answer) = (w : Stands) × (new ≡ record old { seat = Some w; ticket = None })
+    × HandsOverTurn old.place.config old.place.keeps t room w answer
+HandsOverWith t old new room (over.NotYet back) = (back ≡ room)
+    × (new ≡ record old { ticket = Some (record t { looks = t.looks + 1 }) })
+HandsOverWith t old new room (over.NoTicket back) = ⊥
+
+abbrev pub TurnsOver : WorkerState → WorkerState → Vec Entry → HandOver → Type 0
+TurnsOver old new room turn = MatchOption old.ticket ((turn ≡ over.NoTicket room) × (new ≡ old))
+    (λ t. HandsOverWith t old new room turn)
+
+-- the turn of a worker with this ticket that forgets what is kept, or with none
+abbrev pub ForgetsWith : Stands → WorkerState → WorkerState → Forget → Type 0
+ForgetsWith t old new (forget.Ended done) = (w : Stands) × (new ≡ record old { seat = Some w; ticket = None })
+    × ForgetsTurn old.place.config old.place.keeps t w done
+ForgetsWith t old new forget.NotYet = new ≡ record old { ticket = Some (record t { looks = t.looks + 1 }) }
+ForgetsWith t old new forget.NoTicket = ⊥
+
+abbrev pub TurnsForgetting : WorkerState → WorkerState → Forget → Type 0
+TurnsForgetting old new turn = MatchOption old.ticket ((turn ≡ forget.NoTicket) × (new ≡ old))
+    (λ t. ForgetsWith t old new turn)
+
 -- a worker has closed its workplace: its seat is spent, and this is the scheduler
 pub record ClosesWorker (old new : WorkerState) (m : Machine) : Type 0 where
   pub seat : Stands
   pub seat_is : old.seat ≡ Some seat
   pub ticket_is : old.ticket ≡ None
   pub spent : new ≡ record old { seat = None }
-  pub ended : EndsWith old.place.config seat m
+  pub ended : EndsWith old.place.config old.place.keeps seat m
 
 -- a workplace is not closed, and why
 abbrev pub StaysOpen : WorkerState → WorkerState → CloseFault → Type 0

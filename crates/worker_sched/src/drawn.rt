@@ -16,11 +16,11 @@ pub struct Drawn {
 
 impl Model for Drawn {
     ghost use Rattle.std.specs.Mem.{manually_drop_value};
-    ghost use Rattle.sched_history.specs.declared.reply.Entry.{Entry};
+    ghost use Rattle.sched_desk.specs.declared.event.Event.{Event};
     ghost use Rattle.sched_desk.specs.Desk.{FixedDesk};
     ghost use Rattle.ticket_lock.specs.Standing.{Standing};
 
-    ghost Value = { Standing FixedDesk Entry };
+    ghost Value = { Standing FixedDesk Event };
 
     ghost view = { λ d. manually_drop_value d.ticket };
 }

@@ -4,11 +4,13 @@
 mod closed;
 mod drawn;
 mod opening;
+mod turning;
 mod worker;
 mod workplace;
 
 pub use closed::Closed;
 pub use drawn::Drawn;
-pub use opening::open;
+pub use opening::{open, open_without_end};
+pub use turning::{Forget, HandOver};
 pub use worker::{CloseFault, HireFault, Turn, Worker};
 pub use workplace::{Desk, Workplace};

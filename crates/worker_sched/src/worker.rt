@@ -1,18 +1,19 @@
 //! A worker: what one thread has of a workplace.
-ghost use Rattle.std.specs.Prelude.{◌≡◌, ◌⊎◌, ◌+◌, ◌<◌, ◌↔◌, nat_le, [], length, None, IfSome, IfOk, IfErr};
-ghost use Rattle.std.specs.Prelude.{OnErr, IsErrOf, is_some};
+ghost use Rattle.std.specs.Prelude.{◌≡◌, ◌⊎◌, ◌+◌, ◌<◌, ◌↔◌, nat_le, true, false, [], length, None, IfSome, IfOk};
+ghost use Rattle.std.specs.Prelude.{IfErr, OnErr, IsErrOf, is_some};
 ghost use Rattle.std.specs.Arc.{arc_value};
 ghost use Rattle.ticket_core.specs.declared.TheConstants.{MAX_SEATS};
+ghost use Rattle.ticket_lock.specs.Rule.{Every};
 ghost use Rattle.ticket_lock.specs.Standing.{seats_of};
-ghost use Rattle.worker_sched.specs.Worker.{IsFirstWorker, Hires, DrawsTicket, TakesTurn, is_busy, ClosesWorker};
-ghost use Rattle.worker_sched.specs.Worker.{StaysOpen};
+ghost use Rattle.worker_sched.specs.Worker.{IsFirstWorker, IsFirstOf, Hires, DrawsTicket, TakesTurn, TurnsOver};
+ghost use Rattle.worker_sched.specs.Worker.{TurnsForgetting, is_busy, ClosesWorker, StaysOpen};
 
 use crate::drawn::Drawn;
-use crate::opening::open;
+use crate::opening::{open, open_without_end};
+use crate::turning::{Forget, HandOver};
 use crate::workplace::{Desk, Workplace};
 use minislots::Checked;
-use sched_desk::WholeScheduler;
-use sched_history::{Call, Reply, Unrecorded};
+use sched_history::{Call, Entry, Reply, Scheduler, Unrecorded};
 use std::alloc::Global;
 use std::marker::Model;
 use std::sync::Arc;
@@ -75,27 +76,51 @@ pub enum CloseFault {
     NotServed,
 }
 
+// The first worker of a workplace, with which its other seats are. One of them is its own.
+fn first(alloc: Global, place: Workplace, seats: Vec<Seat<Desk>>) -> Result<Box<Worker>, LockFault>
+    requires own { Every (λ s. s.lock ≡ place.lock) seats.items }
+    ensures first { IfOk result (λ w. IsFirstOf place seats.items w.value) }
+    ensures memory { IfErr result (λ e. e ≡ LockFault.Memory) }
+{
+    let mut spare = seats;
+    let Ok(place) = Arc::new(alloc, place) else {
+        return Err(LockFault::Memory);
+    };
+    let worker = Worker {
+        place,
+        seat: spare.pop(),
+        ticket: None,
+        spare,
+    };
+    match Box::new(alloc, worker) {
+        Ok(worker) => Ok(worker),
+        Err(_) => Err(LockFault::Memory),
+    }
+}
+
 impl Worker {
-    /// Opens a workplace of this configuration with this many seats, 1 to 64, and gives its first worker, with which
-    /// the other seats are.
+    /// Opens a workplace of this configuration with this many seats, 1 to 64, whose scheduler keeps its whole history,
+    /// and gives its first worker, with which the other seats are.
     pub fn open(alloc: Global, checked: Checked, seats: usize) -> Result<Box<Worker>, LockFault>
-        ensures opened { IfOk result (λ w. IsFirstWorker checked seats w.value) }
+        ensures opened { IfOk result (λ w. IsFirstWorker checked true seats w.value) }
         ensures count { IsErrOf result LockFault.SeatCount ↔ ((seats ≡ 0) ⊎ (MAX_SEATS < seats)) }
     {
-        let (place, mut spare) = open(alloc, checked, seats)?;
-        let Ok(place) = Arc::new(alloc, place) else {
-            return Err(LockFault::Memory);
-        };
-        let worker = Worker {
-            place,
-            seat: spare.pop(),
-            ticket: None,
-            spare,
-        };
-        match Box::new(alloc, worker) {
-            Ok(worker) => Ok(worker),
-            Err(_) => Err(LockFault::Memory),
-        }
+        let (place, row) = open(alloc, checked, seats)?;
+        first(alloc, place, row)
+    }
+
+    /// Opens one whose scheduler hands over what it keeps, or forgets it, as it is asked to, and so goes on without
+    /// end.
+    pub fn open_without_end(
+        alloc: Global,
+        checked: Checked,
+        seats: usize,
+    ) -> Result<Box<Worker>, LockFault>
+        ensures opened { IfOk result (λ w. IsFirstWorker checked false seats w.value) }
+        ensures count { IsErrOf result LockFault.SeatCount ↔ ((seats ≡ 0) ⊎ (MAX_SEATS < seats)) }
+    {
+        let (place, row) = open_without_end(alloc, checked, seats)?;
+        first(alloc, place, row)
     }
 
     // A worker at this workplace with no seat.
@@ -183,6 +208,47 @@ impl Worker {
         }
     }
 
+    /// Hands over the entries that are kept, if the worker's ticket is served, in exchange for an empty list with room
+    /// for as many as the configuration allows. One look, no wait, no memory. A list with less room comes back and
+    /// changes nothing, and so does any where the scheduler keeps its whole history: that ends the turn.
+    pub fn hand_over(&mut self, room: Vec<Entry>) -> HandOver
+        ensures { TurnsOver self.old self.new room result }
+    {
+        let Some(drawn) = self.ticket.take() else {
+            return HandOver::NoTicket(room);
+        };
+        match self.place.hand_over(drawn.into_ticket(), room) {
+            Ok((seat, answer)) => {
+                self.seat = Some(seat);
+                HandOver::Ended(answer)
+            }
+            Err((ticket, room)) => {
+                self.ticket = Some(Drawn::of(ticket));
+                HandOver::NotYet(room)
+            }
+        }
+    }
+
+    /// Lets go of the entries that are kept, if the worker's ticket is served, and says so. One look, no wait, no
+    /// memory. A scheduler that keeps its whole history lets nothing go: that ends the turn.
+    pub fn forget(&mut self) -> Forget
+        ensures { TurnsForgetting self.old self.new result }
+    {
+        let Some(drawn) = self.ticket.take() else {
+            return Forget::NoTicket;
+        };
+        match self.place.forget(drawn.into_ticket()) {
+            Ok((seat, done)) => {
+                self.seat = Some(seat);
+                Forget::Ended(done)
+            }
+            Err(ticket) => {
+                self.ticket = Some(Drawn::of(ticket));
+                Forget::NotYet
+            }
+        }
+    }
+
     /// Whether the worker has a ticket, or no seat to draw one with.
     pub fn is_busy(&self) -> bool
         ensures { result ≡ is_busy self.now }
@@ -211,10 +277,11 @@ impl Worker {
         self.place.seats() <= self.spare.len() + 1
     }
 
-    /// Closes the workplace, where this is its last worker and has no ticket: draws one, enters, and takes the scheduler
-    /// out, in the memory that it has. It takes no memory and waits for nobody. That others are left is answered only
-    /// where seats are not with this worker; that no other is left at a close is counted, and no clause tells of it.
-    pub fn close(&mut self) -> Result<Box<WholeScheduler>, CloseFault>
+    /// Closes the workplace, where this is its last worker and has no ticket: draws one, enters, and takes the
+    /// scheduler out, in the memory that it has. It takes no memory and waits for nobody. That others are left is
+    /// answered only where seats are not with this worker; that no other is left at a close is counted, and no clause
+    /// tells of it.
+    pub fn close(&mut self) -> Result<Box<Scheduler>, CloseFault>
         ensures closed { IfOk result (λ b. ClosesWorker self.old self.new b.value) }
         ensures stays { IfErr result (StaysOpen self.old self.new) }
     {

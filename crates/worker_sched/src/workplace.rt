@@ -1,22 +1,23 @@
 //! The scheduler that workers share, and its calls.
-ghost use Rattle.std.specs.Prelude.{◌≡◌, ◌+◌, IfOk, IfErr, length};
+ghost use Rattle.std.specs.Prelude.{◌≡◌, ◌+◌, true, IfOk, IfErr, length};
 ghost use Rattle.ticket_lock.specs.Rule.{Every};
 ghost use Rattle.ticket_lock.specs.Standing.{seats_of};
-ghost use Rattle.sched_desk.specs.Desk.{IsDeskLock, HasPress, no_press, desk_of};
-ghost use Rattle.sched_desk.specs.Calls.{IsEntered, HasCalled, AnswersHeld};
+ghost use Rattle.sched_desk.specs.Desk.{IsDeskLock, HasPress, no_press};
+ghost use Rattle.sched_desk.specs.Calls.{IsEntered, AnswersHeld};
 ghost use Rattle.sched_desk.specs.Closed.{ClosesTo};
-ghost use Rattle.worker_sched.specs.Workplace.{AnswersTurn, EndsWith, IsNotServed};
+ghost use Rattle.sched_desk.specs.Handing.{HandsOverHeld, ForgetsHeld};
+ghost use Rattle.worker_sched.specs.Workplace.{AnswersTurn, HandsOverTurn, ForgetsTurn, EndsWith, IsNotServed};
 
 use crate::closed::Closed;
 use crate::drawn::let_go;
-use minislots::{Checked, Stamp};
-use sched_desk::{WholeScheduler, close};
-use sched_history::{Call, Reply, Unrecorded};
+use minislots::Checked;
+use sched_desk::close;
+use sched_history::{Call, Entry, HandedOver, Reply, Scheduler, Unrecorded};
 use std::marker::Model;
 use ticket_lock::{Held, QuietLock, Seat, Ticket};
 
 /// The desk of a scheduler that publishes to nobody.
-pub type Desk = sched_desk::Desk<WholeScheduler>;
+pub type Desk = sched_desk::Desk<Scheduler>;
 
 /// A scheduler under a ticket lock, which publishes to nobody. Threads share it by a reference, or an `Arc`, each with
 /// a seat of its own. One that is not closed goes with its history.
@@ -25,10 +26,12 @@ pub struct Workplace {
     pub(crate) lock: QuietLock<Desk>,
     // What clauses name: the desk has the same configuration.
     pub(crate) config: Checked,
+    pub(crate) keeps: bool,
     pub(crate) seats: usize,
 }
 
-// Clauses see the configuration, that there is no press, and the lock round the desk.
+// Clauses see the configuration, that there is no press, whether the desk keeps its whole history, and the lock round
+// it.
 impl Model for Workplace {
     ghost use Rattle.sched_desk.specs.Desk.{SharedDesk, IsDeskLock, HasPress, no_press};
     ghost use Rattle.std.specs.Prelude.{◌≡◌};
@@ -36,9 +39,9 @@ impl Model for Workplace {
 
     ghost Value = { SharedDesk };
 
-    ghost view = { λ w. record { config = w.config; press = no_press; lock = w.lock } };
+    ghost view = { λ w. record { config = w.config; press = no_press; keeps = w.keeps; lock = w.lock } };
 
-    ghost invariant = { λ w. IsDeskLock w.config w.lock × HasPress w.config no_press w.lock
+    ghost invariant = { λ w. IsDeskLock w.config w.lock × HasPress w.config no_press w.keeps w.lock
         × (w.seats ≡ seats_of w.lock) };
 }
 
@@ -48,17 +51,11 @@ impl Drop for Workplace {
         let Workplace {
             lock,
             config: _,
+            keeps: _,
             seats: _,
         } = self;
         lock.into_lock().discard();
     }
-}
-
-// Makes a call of the holder's scheduler and records it, with this stamp.
-fn record(scheduler: &mut WholeScheduler, stamp: Stamp, call: Call) -> Result<Reply, Unrecorded>
-    ensures called { HasCalled (desk_of scheduler.old) stamp call (desk_of scheduler.new) result }
-{
-    scheduler.call(stamp, call)
 }
 
 impl Workplace {
@@ -66,7 +63,7 @@ impl Workplace {
     pub fn lock(&self) -> &QuietLock<Desk>
         ensures lock { result.now ≡ self.now.lock }
         ensures desk { IsDeskLock self.now.config self.now.lock }
-        ensures press { HasPress self.now.config no_press self.now.lock }
+        ensures press { HasPress self.now.config no_press self.now.keeps self.now.lock }
     {
         &self.lock
     }
@@ -112,21 +109,82 @@ impl Workplace {
         requires entered { IsEntered held desk }
         ensures answered { AnswersHeld self.now.config held call result.0 result.1 }
     {
-        let mut scheduler = desk.into_recorder();
-        let answer = record(&mut scheduler, held.stamp(), call);
-        let seat = self.lock.leave(held, Desk::of(scheduler));
+        let mut desk = desk;
+        let answer = desk.call_alone(held.stamp(), call);
+        let seat = self.lock.leave(held, desk);
         (seat, answer)
+    }
+
+    /// Hands over the entries that are kept, with the place of the first in the whole history, if the ticket is served,
+    /// in exchange for an empty list with room for as many as the configuration allows. If it is not served, gives the
+    /// ticket and the list back. One look, no wait, no memory. A list with less room comes back and changes nothing,
+    /// and so does any where the desk keeps its whole history: that ends the turn.
+    pub fn hand_over(
+        &self,
+        ticket: Ticket<Desk>,
+        room: Vec<Entry>,
+    ) -> Result<(Seat<Desk>, Result<HandedOver, Vec<Entry>>), (Ticket<Desk>, Vec<Entry>)>
+        requires own { ticket.lock ≡ self.now.lock }
+        ensures given { IfOk result (λ r.
+            HandsOverTurn self.now.config self.now.keeps ticket room r.0 r.1) }
+        ensures given_back { IfErr result (λ r. (r.0 ≡ record ticket { looks = ticket.looks + 1 })
+            × (r.1 ≡ room)) }
+    {
+        match self.lock.try_enter(ticket) {
+            Ok((held, desk)) => Ok(self.hand_over_held(held, desk, room)),
+            Err(back) => Err((back, room)),
+        }
+    }
+
+    /// Hands over the entries that are kept by the seat that holds the desk, and leaves. The desk is as it was entered.
+    pub fn hand_over_held(
+        &self,
+        held: Held<Desk>,
+        desk: Desk,
+        room: Vec<Entry>,
+    ) -> (Seat<Desk>, Result<HandedOver, Vec<Entry>>)
+        requires own { held.lock ≡ self.now.lock }
+        requires entered { IsEntered held desk }
+        ensures given { HandsOverHeld self.now.config held self.now.keeps room result.0 result.1 }
+    {
+        let mut desk = desk;
+        let answer = desk.hand_over(held.stamp(), room);
+        let seat = self.lock.leave(held, desk);
+        (seat, answer)
+    }
+
+    /// Lets go of the entries that are kept, if the ticket is served, and says so. If it is not, gives the ticket back.
+    /// One look, no wait, no memory. A desk that keeps its whole history lets nothing go: that ends the turn.
+    pub fn forget(&self, ticket: Ticket<Desk>) -> Result<(Seat<Desk>, bool), Ticket<Desk>>
+        requires own { ticket.lock ≡ self.now.lock }
+        ensures forgotten { IfOk result (λ r. ForgetsTurn self.now.config self.now.keeps ticket r.0 r.1) }
+        ensures given_back { IfErr result (λ t. t ≡ record ticket { looks = ticket.looks + 1 }) }
+    {
+        let (held, desk) = self.lock.try_enter(ticket)?;
+        Ok(self.forget_held(held, desk))
+    }
+
+    /// Lets go of the entries that are kept by the seat that holds the desk, and leaves. The desk is as it was entered.
+    pub fn forget_held(&self, held: Held<Desk>, desk: Desk) -> (Seat<Desk>, bool)
+        requires own { held.lock ≡ self.now.lock }
+        requires entered { IsEntered held desk }
+        ensures forgotten { ForgetsHeld self.now.config held self.now.keeps result.0 result.1 }
+    {
+        let mut desk = desk;
+        let done = desk.forget(held.stamp());
+        let seat = self.lock.leave(held, desk);
+        (seat, done)
     }
 
     // Takes the scheduler out of the workplace for good, if the next ticket is served: after this none is. Else gives
     // the ticket back. One look, no wait, no memory.
-    pub(crate) fn take_out(&self, seat: Seat<Desk>) -> Result<Box<WholeScheduler>, Ticket<Desk>>
+    pub(crate) fn take_out(&self, seat: Seat<Desk>) -> Result<Box<Scheduler>, Ticket<Desk>>
         requires own { seat.lock ≡ self.now.lock }
-        ensures ended { IfOk result (λ b. EndsWith self.now.config seat b.value) }
+        ensures ended { IfOk result (λ b. EndsWith self.now.config self.now.keeps seat b.value) }
         ensures given_back { IfErr result (IsNotServed seat) }
     {
         let (held, desk) = self.lock.try_enter(self.lock.draw(seat))?;
-        let scheduler = desk.into_recorder();
+        let (scheduler, _counts) = desk.into_recorder();
         let _history = scheduler.history();
         let_go(held);
         Ok(scheduler)
@@ -137,11 +195,14 @@ impl Workplace {
         requires own { Every (λ s. s.lock ≡ self.lock) seats.items }
         requires all { length seats.items ≡ seats_of self.lock }
         ensures config { result.scheduler.config ≡ self.config }
-        ensures closed { ClosesTo self.config self.lock seats.items result.scheduler.history result.counts }
+        ensures closed { ClosesTo self.config self.lock seats.items result.scheduler.history
+            result.scheduler.handed result.counts }
+        ensures whole { self.keeps ≡ true → result.scheduler.handed ≡ 0 }
     {
         let Workplace {
             lock,
             config,
+            keeps: _,
             seats: _,
         } = self;
         let (scheduler, counts) = close(config, lock.into_lock(), seats);

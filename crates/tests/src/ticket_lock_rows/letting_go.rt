@@ -29,6 +29,8 @@ impl Journal for Counted<'_> {
 
     ghost entries = { λ _. [] };
 
+    ghost kept = { λ all. all };
+
     ghost stamp = { λ e. e };
 
     fn len(&self) -> usize {

@@ -1,7 +1,6 @@
 -- Each element is that of the next numbers.
-use Rattle.std.proofs.Common.{◌≡◌, ◌≤◌, [], ◌∷◌, ◌++◌, List, length, map, take, sym, ap, ◌∙◌, arith}
+use Rattle.std.proofs.Common.{map, take, sym, ap, ◌∙◌, arith}
 use Rattle.std.proofs.lemmas.List.{take_all, take_more, map-append}
-use Rattle.map_codec.specs.declared.element.Element.{Element}
 use Rattle.mapsched_c.specs.declared.maps.PlainElement.{PlainElement}
 use Rattle.mapsched_c.specs.Encode.{wire_element}
 use Rattle.mapsched_c.proofs.encode.wire_elements.Goals as goal

@@ -1,5 +1,5 @@
 -- Each element is written behind those before it.
-use Rattle.std.proofs.Common.{rules, ◌≡◌, ◌+◌, sym, subst, slice_set, arith}
+use Rattle.std.proofs.Common.{rules, ◌+◌, sym, subst, slice_set, arith}
 use Rattle.map_codec.specs.declared.element.Element.{Element}
 use Rattle.mapsched_c.specs.Map.{plain_element}
 use Rattle.mapsched_c.proofs.Elements.{StandSoFar, stand_none, stand_more, stand_all}

@@ -1,5 +1,4 @@
 -- The elements so far stand in front, and the rest is as it was.
-use Rattle.std.proofs.Common.{◌≡◌, take, drop, map}
 use Rattle.mapsched_c.specs.Map.{plain_element}
 use Rattle.mapsched_c.proofs.Elements.{StandSoFar}
 use Rattle.mapsched_c.proofs.maps.put_elements.Given as goal

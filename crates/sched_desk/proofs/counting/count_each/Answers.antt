@@ -3,7 +3,6 @@ use Rattle.std.proofs.Common.{◌<◌, ◌+◌, refl, sym, ap, ◌∙◌, subst,
 use Rattle.std.proofs.lemmas.List.{get_or-replicate}
 use Rattle.sched_history.specs.declared.reply.Entry.{Entry}
 use Rattle.ticket_core.specs.declared.TheConstants.{MAX_SEATS}
-use Rattle.sched_desk.specs.Desk.{maker_of}
 use Rattle.sched_desk.proofs.Counts.{counts-more, sum-more}
 use Rattle.sched_desk.proofs.counting.count_each.Goals as goal
 
@@ -21,10 +20,10 @@ loop-entry-preserved c =
     let e = c.entry-item.result in
     let is = c.entry-item.is in
     let here = c.loop-entry-test.true in
-    let small : (maker_of e).seat < MAX_SEATS =
-    subst (λ (x : Entry). (maker_of x).seat < MAX_SEATS) (sym is) (c.requires.seats at e here) in
+    let small : e.stamp.seat < MAX_SEATS =
+    subst (λ (x : Entry). x.stamp.seat < MAX_SEATS) (sym is) (c.requires.seats at e here) in
     record {
-      size = length-set c.loop-entry.counts (maker_of e).seat _ ∙ so.size;
+      size = length-set c.loop-entry.counts e.stamp.seat _ ∙ so.size;
       counts = counts-more c.args.history.now at e here is c.loop-entry.counts so.size small so.counts;
       total = sum-more c.args.history.now at e here is c.loop-entry.counts so.size small ∙ ap (λ n. n + 1) so.total;
     }

@@ -13,16 +13,16 @@ use Rattle.std_alloc.proofs.SendSync.{quiet, lies}
 use Rattle.std_heap.proofs.Global.TheSendSync as handle
 use Rattle.sched_history.specs.Machine.{Machine}
 use Rattle.mapsched_c.specs.Place.{place_owns}
-use Rattle.sched_desk.specs.contracts.keeping.WholeScheduler as WholeScheduler
-use Rattle.sched_desk.proofs.keeping.WholeScheduler.TheSendSync.{the_send as scheduler}
+use Rattle.sched_history.specs.contracts.scheduler.Scheduler as Scheduler
+use Rattle.sched_history.proofs.scheduler.Scheduler.TheSendSync.{the_send as scheduler}
 use Rattle.mapsched_c.specs.contracts.place.Place.{the_row, the_type}
 
 crosses : (alloc : Global) (at : Ptr) (o : Option Machine) → Keyless (place_owns alloc at o)
 crosses alloc at None = tt
 crosses alloc at (Some m) = (
-  lies WholeScheduler.the_row scheduler at m,
+  lies Scheduler.the_row scheduler at m,
   heap.frees.frees alloc
-      (raw (lone WholeScheduler.the_row.mir)) at,
+      (raw (lone Scheduler.the_row.mir)) at,
 )
 
 pub send : IsSend the_row
