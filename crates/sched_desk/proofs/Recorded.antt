@@ -94,4 +94,3 @@ module _ (m : Machine) (stamp : Stamp) (call : Call) where
           count = ap (λ n. n + 1) plan.count ∙ sym (length-append (published m.history) (spelling f.wire ∷ []))
               ∙ ap length (sym more);
         })
-

@@ -50,11 +50,7 @@ impl<S: Records> Desk<S> {
 }
 
 // Makes a call of a scheduler that publishes to nobody.
-fn record_alone(
-    scheduler: &mut Scheduler,
-    stamp: Stamp,
-    call: Call,
-) -> Result<Reply, Unrecorded>
+fn record_alone(scheduler: &mut Scheduler, stamp: Stamp, call: Call) -> Result<Reply, Unrecorded>
     ensures answered { HasAnswered scheduler.old stamp call scheduler.new result }
 {
     scheduler.call(stamp, call)

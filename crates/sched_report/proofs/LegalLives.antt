@@ -17,7 +17,7 @@ use Rattle.sched_history.specs.Life.{Admission, Turn, Begins, turn_by, turn_of, 
 use Rattle.sched_history.specs.History.{IsStep, IsLegal}
 use Rattle.sched_history.proofs.lives.Finding.{good_sid}
 use Rattle.sched_history.proofs.lives.LivesAfter.{with_since, life_of-stays, life_of-begins}
-use Rattle.sched_history.proofs.plans.PlanOffsets.{all-append}
+use Rattle.periodic.proofs.Joined.{all-append}
 use Rattle.sched_history.proofs.steps.LegalHistories.{accepted, legal_induction}
 use Rattle.sched_history.proofs.steps.Passed.{passed-admit}
 use Rattle.sched_report.specs.declared.lives.Opening.{Opening}

@@ -23,6 +23,8 @@ invariant_of-self c =
     let e : Entry = record { stamp = c.args.stamp; call = c.args.call.now; reply = c.args.reply.now } in
     let h = history_in c.self.inside.events.items in
     subst (λ (y : List ℕ × List Entry). IsCounted y.0 y.1)
-    (λ i. (sym c.count_entry.ensures.counted i,
-    (sym (ap history_in c.and_recorded-self-inside.ensures ∙ history_in-recorded c.self.inside.events.items e)) i))
+    (λ i. (
+      sym c.count_entry.ensures.counted i,
+      (sym (ap history_in c.and_recorded-self-inside.ensures ∙ history_in-recorded c.self.inside.events.items e)) i,
+    ))
     (counted-more c.self.inside.counts h c.self.invariant e)
