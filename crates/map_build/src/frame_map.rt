@@ -51,7 +51,7 @@ impl ByteCounts {
 pub struct FrameMap {
     /// The minislot at which the frame starts.
     pub start: u64,
-    /// The minislot before which all requests were heard.
+    /// The acknowledge time: the minislot before which whatever a receiver heard was handed in.
     pub ack: u64,
     /// What goes on the wire.
     pub wire: WireMap,

@@ -24,7 +24,7 @@ pub struct WireMap {
     pub reserved: u8,
     /// The minislot at which the MAP's allocations begin, low 32 bits.
     pub alloc_start: u32,
-    /// The acknowledge time: the minislot before which all requests were heard, low 32 bits.
+    /// The acknowledge time: the minislot before which whatever a receiver heard was handed in, low 32 bits.
     pub ack: u32,
     /// The start of the backoff window for ranging.
     pub ranging_start: u8,

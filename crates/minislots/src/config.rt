@@ -41,7 +41,7 @@ pub struct Config {
     pub grant_cap: u32,
     /// How many receivers hear requests: 1 to 16.
     pub receivers: u8,
-    /// How many calls are recorded: 1 to 16777216.
+    /// How many recorded calls are kept at a time: 1 to 16777216.
     pub calls: u32,
     /// The minislot at which the first MAP starts: a multiple of the frame, at most 2^60.
     pub start: u64,

@@ -17,6 +17,7 @@ use std::process::Abort;
 use std::sync::Wait;
 use ticket_lock::Seat;
 
+mod handing_over;
 mod threads;
 
 // A scheduler with two seats and so many readers, which records so many calls.

@@ -76,7 +76,7 @@ impl Config {
         )
     }
 
-    // The fields of what is recorded, and from where on.
+    // The fields of what is heard and kept, and of where the first MAP starts.
     fn check_history(&self) -> Result<(), ConfigFault>
         requires { 0 < self.now.frame }
         ensures { NamesFirstWrong self.now history_fields result }

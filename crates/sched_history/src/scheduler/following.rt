@@ -39,7 +39,7 @@ impl State {
         }
     }
 
-    // The same for a call that has one answer without lists.
+    // Follows a call that has one answer, without lists: the reply is that one.
     fn follow_told(&mut self, alloc: Global, call: Call, reply: &Reply) -> Result<bool, AllocError>
         requires open { IsOpen self.old call }
         requires told { is_told call ≡ true }
@@ -75,7 +75,7 @@ impl State {
         }
     }
 
-    // The same for the admission of a periodic flow: it has a lawful placement, or there is none.
+    // Follows the admission of a periodic flow: the reply has a lawful placement, or says that there is none.
     fn follow_admission(
         &mut self,
         sid: u16,
@@ -140,7 +140,7 @@ impl State {
         false
     }
 
-    // The same for a build: it has the lawful MAP of the next frame.
+    // Follows a build: the reply has the lawful MAP of the next frame.
     fn follow_build(&mut self, alloc: Global, now: u64, reply: &Reply) -> Result<bool, AllocError>
         requires open { IsOpen self.old (Call.Build now) }
         ensures follows { IfOk result

@@ -1,0 +1,4 @@
+pub mod Moved
+pub mod Steps
+pub mod Trays
+pub mod Turned

@@ -1,0 +1,13 @@
+-- Each step keeps the rule of the tray.
+use Rattle.std.proofs.Common.{rules}
+use mathlib.Core.Option as place
+use Rattle.atomic_table.specs.Table.{step}
+use Rattle.call_queue.proofs.Steps.{puts_back}
+use Rattle.call_queue.proofs.tray.Tray.put_back.Goals as goal
+
+pub store-requires : goal.store-requires
+store-requires g c = (
+  search rules,
+  search rules,
+  puts_back g.D.Deal.fits g.D.Deal.answers _ _ _ _ (step 1 0 0 0 place.none) c.args.left (search rules) (search rules),
+)

@@ -1,0 +1,4 @@
+pub mod Spot
+pub mod Plays
+pub mod Tokens
+pub mod Turns

@@ -1,0 +1,251 @@
+//! The calls at a queue. Whoever holds makes its own call, and then those that were left with the next tickets, at most
+//! 64 of them, each by the seat that left it and in the order of the tickets.
+ghost use Rattle.std.specs.Prelude.{◌≡◌, ◌+◌, Some, IfOk, IfErr, IfSome};
+ghost use Rattle.ticket_lock.specs.Calls.{Draws, Enters, MayLeave, Leaves};
+ghost use Rattle.call_queue.specs.Turns.{IsHanded, EndsTurn, TakesTurn, CallsInTurn};
+
+use crate::calling::Calling;
+use crate::queue::CallQueue;
+use crate::tray::{Serving, Tray};
+use crate::turns::Turns;
+use std::sync::Wait;
+use ticket_lock::{Held, Journal, Seat, Ticket};
+
+// How many calls of others a holder makes.
+const MOST_CALLS: u32 = 64;
+
+// A ticket and a call that were taken up from the tray of a seat, which is to be answered.
+struct Taken<'a, T: Journal, C: Calling<T>> {
+    tray: &'a Tray<Turns<T, C>>,
+    number: u32,
+    ticket: Ticket<T>,
+    call: C::Call,
+    serving: Serving<Turns<T, C>>,
+}
+
+impl<T: Journal, C: Calling<T>> CallQueue<T, C> {
+    /// Draws the next ticket. It takes no memory and waits for nobody.
+    pub fn draw(&self, seat: Seat<T>) -> Ticket<T>
+        requires own { seat.lock ≡ self.now }
+        ensures drawn { Draws T.stamp seat result }
+    {
+        self.lock.draw(seat)
+    }
+
+    /// Enters if the ticket is served, and gives it back if it is not. One look, no memory, no wait.
+    pub fn try_enter(&self, ticket: Ticket<T>) -> Result<(Held<T>, T), Ticket<T>>
+        requires own { ticket.lock ≡ self.now }
+        ensures entered { IfOk result (λ r. Enters T.stamp T.head T.entries ticket r.0 r.1) }
+        ensures given_back { IfErr result (λ t. t ≡ record ticket { looks = ticket.looks + 1 }) }
+    {
+        self.lock.try_enter(ticket)
+    }
+
+    /// Looks or sleeps until the ticket is served, and enters. It leaves no ticket: nobody can make a call for it.
+    pub fn enter<R: Wait>(&self, rt: &R, ticket: Ticket<T>) -> (Held<T>, T)
+        requires own { ticket.lock ≡ self.now }
+        ensures entered { Enters T.stamp T.head T.entries ticket result.0 result.1 }
+    {
+        self.lock.enter(rt, ticket)
+    }
+
+    /// Gives the value back and serves the next ticket, whose seat goes on by itself. It takes no memory and waits for
+    /// nobody.
+    pub fn leave(&self, held: Held<T>, value: T) -> Seat<T>
+        requires own { held.lock ≡ self.now }
+        requires kept { MayLeave T.stamp T.head T.entries held value }
+        ensures left { Leaves T.stamp T.head T.entries held value result }
+    {
+        let next = self.take_up(held.stamp().ticket.wrapping_add(1));
+        let left = self.lock.leave(held, value);
+        if let Some(taken) = next {
+            self.give_back(taken);
+        }
+        left
+    }
+
+    /// Makes a call by this seat: it draws a ticket, and takes its turn with it. Where the ticket is not served at
+    /// once, the seat leaves it with the call, and waits: whoever holds makes the call, or serves the ticket.
+    #[tactic(auto, using(crate::proofs::Turned::turn_looked))]
+    pub fn call<R: Wait>(&self, rt: &R, seat: Seat<T>, call: C::Call) -> (Seat<T>, C::Reply)
+        requires own { seat.lock ≡ self.now }
+        ensures called { CallsInTurn T.stamp T.head T.entries C.made call result.1 seat result.0 }
+    {
+        let number = seat.number();
+        let ticket = self.lock.draw(seat);
+        match self.lock.try_enter(ticket) {
+            Ok((held, value)) => self.call_held(rt, held, value, call),
+            Err(ticket) => self.leave_call(rt, number, ticket, call),
+        }
+    }
+
+    /// Makes a call by the seat that holds, makes those that were left with the next tickets, and leaves. The value is
+    /// as it was entered.
+    pub fn call_held<R: Wait>(
+        &self,
+        rt: &R,
+        held: Held<T>,
+        value: T,
+        call: C::Call,
+    ) -> (Seat<T>, C::Reply)
+        requires own { held.lock ≡ self.now }
+        requires handed { IsHanded T.head T.entries held value }
+        ensures ended { EndsTurn T.stamp T.head T.entries C.made call result.1 held value result.0 }
+    {
+        let (mine, reply, next) = self.turn(rt, held, value, call);
+        if let Some(taken) = next {
+            self.call_for_others(rt, taken);
+        }
+        (mine, reply)
+    }
+
+    // Leaves the ticket with the call, and waits until the turn was taken, or takes it.
+    fn leave_call<R: Wait>(
+        &self,
+        rt: &R,
+        number: u32,
+        ticket: Ticket<T>,
+        call: C::Call,
+    ) -> (Seat<T>, C::Reply)
+        requires own { ticket.lock ≡ self.now }
+        ensures turn { TakesTurn T.stamp T.head T.entries C.made call result.1 ticket result.0 }
+    {
+        let residue = ticket.number();
+        let Some(tray) = self.tray(number) else {
+            return self.take_turn(rt, ticket, call);
+        };
+        match tray.leave((ticket, call)) {
+            Ok(waiting) => {
+                if self.signs.put_up(residue, number) {
+                    tray.call_up();
+                }
+                match tray.wait(rt, waiting) {
+                    Ok(back) => back,
+                    Err((ticket, call)) => self.take_turn(rt, ticket, call),
+                }
+            }
+            Err((ticket, call)) => self.take_turn(rt, ticket, call),
+        }
+    }
+
+    // Enters with this ticket, makes the call and leaves.
+    fn take_turn<R: Wait>(&self, rt: &R, ticket: Ticket<T>, call: C::Call) -> (Seat<T>, C::Reply)
+        requires own { ticket.lock ≡ self.now }
+        ensures turn { TakesTurn T.stamp T.head T.entries C.made call result.1 ticket result.0 }
+    {
+        let (held, value) = self.lock.enter(rt, ticket);
+        self.call_held(rt, held, value, call)
+    }
+
+    // Makes a call by the seat that holds, takes up what was left with the next ticket, and leaves.
+    fn turn<R: Wait>(
+        &self,
+        rt: &R,
+        held: Held<T>,
+        value: T,
+        call: C::Call,
+    ) -> (Seat<T>, C::Reply, Option<Taken<'_, T, C>>)
+        requires own { held.lock ≡ self.now }
+        requires handed { IsHanded T.head T.entries held value }
+        ensures ended { EndsTurn T.stamp T.head T.entries C.made call result.1 held value result.0 }
+        ensures taken { IfSome result.2 (λ t. (t.ticket.lock ≡ self.now)
+            × (t.serving ≡ record { tray = t.tray.now; left = Some (t.ticket, t.call) })) }
+    {
+        let mut value = value;
+        let reply = C::make(rt, &held, &mut value, call);
+        let next = self.take_up(held.stamp().ticket.wrapping_add(1));
+        let seat = self.lock.leave(held, value);
+        (seat, reply, next)
+    }
+
+    // Takes up what was left with this ticket, which is served next.
+    fn take_up(&self, ticket: u64) -> Option<Taken<'_, T, C>>
+        ensures taken { IfSome result (λ t. (t.ticket.lock ≡ self.now)
+            × (t.serving ≡ record { tray = t.tray.now; left = Some (t.ticket, t.call) })) }
+    {
+        let number = self.signs.serve(ticket)?;
+        let tray = self.tray(number)?;
+        let (left, serving) = tray.take_up()?;
+        if left.0.number() != ticket {
+            tray.put_back(serving, left);
+            return None;
+        }
+        let (ticket, call) = left;
+        Some(Taken {
+            tray,
+            number,
+            ticket,
+            call,
+            serving,
+        })
+    }
+
+    // Puts back what was taken up, whose ticket is served: its seat goes on by itself.
+    fn give_back(&self, taken: Taken<'_, T, C>)
+        requires taken { taken.serving ≡ record { tray = taken.tray.now; left = Some (taken.ticket, taken.call) } }
+    {
+        let Taken {
+            tray,
+            number: _,
+            ticket,
+            call,
+            serving,
+        } = taken;
+        tray.put_back(serving, (ticket, call));
+        tray.call_up();
+        tray.wake();
+    }
+
+    // Makes the call that was taken up, whose ticket is served, by its own seat, and answers it. What was left with the
+    // next ticket, if it was.
+    fn make_next<'a, R: Wait>(&'a self, rt: &R, taken: Taken<'a, T, C>) -> Option<Taken<'a, T, C>>
+        requires own { taken.ticket.lock ≡ self.now }
+        requires taken { taken.serving ≡ record { tray = taken.tray.now; left = Some (taken.ticket, taken.call) } }
+        ensures taken { IfSome result (λ t. (t.ticket.lock ≡ self.now)
+            × (t.serving ≡ record { tray = t.tray.now; left = Some (t.ticket, t.call) })) }
+    {
+        let Taken {
+            tray,
+            number: _,
+            ticket,
+            call,
+            serving,
+        } = taken;
+        let (held, value) = self.lock.enter(rt, ticket);
+        let (seat, reply, next) = self.turn(rt, held, value, call);
+        tray.answer(serving, (seat, reply));
+        next
+    }
+
+    // Makes the calls that were left with the next tickets, at most so many, and then wakes those who sleep.
+    fn call_for_others<'a, R: Wait>(&'a self, rt: &R, first: Taken<'a, T, C>)
+        requires own { first.ticket.lock ≡ self.now }
+        requires taken { first.serving ≡ record { tray = first.tray.now; left = Some (first.ticket, first.call) } }
+    {
+        let mut taken = first;
+        let mut answered = 0;
+        for _ in 0..MOST_CALLS {
+            answered |= 1 << (taken.number % 64);
+            match self.make_next(rt, taken) {
+                Some(next) => taken = next,
+                None => {
+                    self.wake(answered);
+                    return;
+                }
+            }
+        }
+        self.give_back(taken);
+        self.wake(answered);
+    }
+
+    // Wakes those of these seats who sleep. Bit i is that of seat i.
+    fn wake(&self, seats: u64) {
+        let mut seats = seats;
+        for _ in 0..seats.count_ones() {
+            if let Some(tray) = self.tray(seats.trailing_zeros()) {
+                tray.wake();
+            }
+            seats &= seats.wrapping_sub(1);
+        }
+    }
+}
