@@ -46,20 +46,21 @@ pub record IsEligible (c : Config) (start room : ℕ) (f : LiveFlow) : Type 0 wh
 abbrev pub NoneEligible : Config → List LiveFlow → ℕ → ℕ → Type 0
 NoneEligible c flows start room = AllByRecursion (λ f. IsEligible c start room f → ⊥) flows
 
--- the start of the last of some grants
+-- the minislot at which the last of some grants starts: none where there is no grant
 abbrev pub last_start : List Grant → Option ℕ
 last_start [] = None
 last_start (g ∷ []) = Some g.start
 last_start (g ∷ next ∷ grants) = last_start (next ∷ grants)
 
--- the earlier of two last starts: none is earlier than any
+-- whether the first of two flows had its last grant earlier than the second: the start of each one's last grant, or
+-- none where it had no grant yet, which counts as earlier than any start
 abbrev pub is_earlier : Option ℕ → Option ℕ → Bool
 is_earlier None None = false
 is_earlier None (Some n) = true
 is_earlier (Some m) None = false
 is_earlier (Some m) (Some n) = nat_lt m n
 
--- neither of two last starts is earlier
+-- whether neither had its last grant earlier: both at the same minislot, or both had no grant yet
 abbrev pub is_as_early : Option ℕ → Option ℕ → Bool
 is_as_early None None = true
 is_as_early None (Some n) = false

@@ -28,13 +28,15 @@ takes_requests (Unsolicited size interval jitter grants) = false
 takes_requests (Polled interval jitter rate burst) = true
 takes_requests (BestEffort priority rate burst) = true
 
--- the rank in which flows are served: polled flows before all priorities
+-- the rank of a flow that asks, by which it is served, the highest first: a best effort flow has its traffic priority,
+-- 0 to 7, and a polled flow 8, so it comes before all of them. The 0 of an unsolicited flow is never used, since such a
+-- flow asks for nothing.
 abbrev pub rank_of : FlowSpec → ℕ
 rank_of (Unsolicited size interval jitter grants) = 0
 rank_of (Polled interval jitter rate burst) = 8
 rank_of (BestEffort priority rate burst) = priority
 
--- the maximum sustained rate, in bits per second
+-- the maximum sustained rate, in bits per second: 0 is no ceiling
 abbrev pub rate_of : FlowSpec → ℕ
 rate_of (Unsolicited size interval jitter grants) = 0
 rate_of (Polled interval jitter rate burst) = rate

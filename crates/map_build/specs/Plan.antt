@@ -14,12 +14,17 @@ use Rattle.map_build.specs.EachAfter.{EachAfter}
 
 -- what an allocation is for
 pub data Purpose : Type 0 where
+  -- a request opportunity for the polled flow of this SID
   Poll : ℕ → Purpose
+  -- a grant of the unsolicited flow of this SID, at its place in the cycle
   UnsolicitedGrant : ℕ → Purpose
+  -- a grant for what the flow of this SID asked: the SID, and then the bytes
   DataGrant : ℕ → ℕ → Purpose
+  -- minislots in which nobody sends
   Idle : Purpose
 
--- minislots of a frame, and what they are for: an SID, and with a data grant its bytes
+-- minislots of a frame that stand side by side, and what they are for: the offset of the first from the frame's start,
+-- how many they are, and the purpose
 pub record Allocation : Type 0 where
   pub offset : ℕ
   pub slots : ℕ

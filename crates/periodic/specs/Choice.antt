@@ -5,13 +5,14 @@ use Rattle.flow_book.specs.declared.spec.FlowSpec.{FlowSpec}
 use Rattle.periodic.specs.declared.placement.Placement.{Placement}
 use Rattle.periodic.specs.Placement.{Placed, phase_of, offset_of, starts_in, IsPlacement}
 
--- where the starts of a frame first differ from others, theirs is the earlier one
+-- of two lists of starts in one frame the first is the earlier: at the first place at which they differ its start is
+-- the lesser
 abbrev pub AreEarlier : List ℕ → List ℕ → Type 0
 AreEarlier [] others = ⊥
 AreEarlier (start ∷ starts) [] = ⊥
 AreEarlier (start ∷ starts) (other ∷ others) = (start < other) ⊎ ((start ≡ other) × AreEarlier starts others)
 
--- in some frame of the cycle the placement's starts are earlier than the other's
+-- in some frame of the cycle the placement's starts are earlier than the other's, by the first in which they differ
 abbrev pub StartsEarlier : Config → FlowSpec → Placement → Placement → Type 0
 StartsEarlier c spec p other =
     (place : ℕ) × (place < c.cycle) × AreEarlier (starts_in c spec p place) (starts_in c spec other place)

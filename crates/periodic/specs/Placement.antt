@@ -57,36 +57,42 @@ spots_in c k table = flat_map (spots_of c k) table
 abbrev pub AreFree : List Spot → ℕ → ℕ → Type 0
 AreFree spots start slots = AllByRecursion (λ s. (start + slots ≤ s.offset) ⊎ (s.offset + s.slots ≤ start)) spots
 
--- A start that is not before the nominal time nor after it by more than the jitter, ends within the frame and overlaps
--- no spot
+-- A grant or poll of so many minislots may start at this minislot of a frame. The flow's nominal time is at the offset:
+-- the start is not before that, and not after it by more than the tolerated jitter; the grant ends within the frame,
+-- and none of its minislots is one of the spots, which other flows have in that frame
 pub record IsLawfulStart (c : Config) (jitter slots offset : ℕ) (spots : List Spot) (start : ℕ) : Type 0 where
   pub after_nominal : offset ≤ start
   pub within_jitter : start ≤ offset + jitter
   pub within_frame : start + slots ≤ c.frame
   pub free : AreFree spots start slots
 
--- grants of so many minislots, one after the other from this minislot on
+-- grants of one length stand one after the other: the first starts at this minislot or later, and each other one where
+-- the one before it ends, or later
 abbrev pub FollowFrom : ℕ → ℕ → List ℕ → Type 0
 FollowFrom slots from [] = Unit {0}
 FollowFrom slots from (start ∷ starts) = (from ≤ start) × FollowFrom slots (start + slots) starts
 
--- As many starts in a frame as the flow has grants, each lawful beside these spots, ascending and apart from one
--- another
+-- A flow may have these starts in one of its frames, in which others have the spots: as many as it has grants in an
+-- interval, no two of its grants overlap and their starts ascend, and each is lawful by itself, within the jitter of
+-- the same nominal time
 pub record AreLawfulStarts (c : Config) (spec : FlowSpec) (offset : ℕ) (spots : List Spot) (starts : List ℕ)
     : Type 0 where
   pub count : length starts ≡ grants_of spec
   pub in_turn : FollowFrom (periodic_slots c spec) offset starts
   pub each : AllByRecursion (IsLawfulStart c (jitter_slots c spec) (periodic_slots c spec) offset spots) starts
 
--- The placement has as many starts as all nominal frames of the cycle have grants, lawful in each of these frames
--- beside the spots at the frame's place
+-- The placement has its starts in each frame of the cycle in which the flow has a nominal time, one such frame in every
+-- interval, and in no other; in each they are lawful beside what other flows have there. The spots are given by the
+-- frame's place in the cycle
 pub record HasLawfulStarts (c : Config) (spec : FlowSpec) (p : Placement) (spots : ℕ → List Spot) : Type 0 where
   pub count : length p.starts ≡ c.cycle / interval_frames c spec * grants_of spec
   pub each : (place : ℕ) → place < c.cycle → place % interval_frames c spec ≡ phase_of c spec p
       → AreLawfulStarts c spec (offset_of c p) (spots place) (starts_in c spec p place)
 
--- The placement is lawful for this flow beside those placed, its reference being its first nominal time at or after
--- next
+-- The placement is lawful for a flow that is admitted while the next MAP's frame starts at next, beside the flows of
+-- the table. Its reference is the flow's first nominal time from there on, as a minislot: at next or later, and less
+-- than one interval later. That minislot gives the flow's frame in the interval (`phase_of`) and its offset in the
+-- frame (`offset_of`), which lies behind the request region; and the starts are lawful
 pub record IsPlacement (c : Config) (table : List Placed) (spec : FlowSpec) (next : ℕ) (p : Placement) : Type 0 where
   pub not_before : next ≤ p.reference
   pub first : p.reference < next + interval_frames c spec * c.frame
