@@ -1,6 +1,8 @@
 -- What follows where the scheduler and the notes of a desk agree.
-use Rattle.std.proofs.Common.{◌≡◌, ◌≤◌, ◌↔◌, ◌+◌, ℕ, Bool, true, false, List, [], ◌∷◌, ◌++◌, map, length, slice_get, Option, Some}
-use Rattle.std.proofs.Common.{None, Result, Ok, Err, IfOk, IfErr, OnOk, OnErr, IsOk, IsErrOf, true≢false, refl, sym, ap, ◌∙◌, subst}
+use Rattle.std.proofs.Common.{◌≡◌, ◌≤◌, ◌↔◌, ◌+◌, ℕ, Bool, true, false, List, [], ◌∷◌, ◌++◌, map, length, slice_get}
+use Rattle.std.proofs.Common.{Option, Some}
+use Rattle.std.proofs.Common.{None, Result, Ok, Err, IfOk, IfErr, OnOk, OnErr, IsOk, IsErrOf, true≢false, refl, sym, ap}
+use Rattle.std.proofs.Common.{◌∙◌, subst}
 use Rattle.std.specs.Prelude.{option_map, vec_capacity}
 use Rattle.std.specs.Global.{Vec}
 use Rattle.std.specs.List.{AllByRecursion}
@@ -106,7 +108,8 @@ module _ (r : Recording) (noted : Docketed) (agrees : Agrees r noted) where
       pub called-err : (unrecorded : Unrecorded) → HasAnswered r.machine stamp call x.machine (Err unrecorded)
           → HasCalled (desk_of r noted) stamp call (desk_of x noted) (Err unrecorded)
       called-err unrecorded told =
-          let here = subst (λ (m : Machine). HasAnswered m stamp call x.machine (Err unrecorded)) agrees.machine_is told in
+          let here = subst (λ (m : Machine). HasAnswered m stamp call x.machine (Err unrecorded)) agrees.machine_is
+          told in
           let after = agrees-same told.same in record {
             recorded = tt;
             same = desk_same told.same;

@@ -1,6 +1,8 @@
 -- The history at the close, from what the lock gives.
-use Rattle.std.proofs.Common.{◌≡◌, ◌≢◌, ◌<◌, ◌≤◌, ℕ, zero, suc, List, [], ◌∷◌, ◌++◌, map, get_or, cond, length, drop, filter}
-use Rattle.std.proofs.Common.{◌==◌, sum, Bool, true, false, Some, refl, sym, ap, ◌∙◌, subst, arith, ◌+◌, sum_by, length-append}
+use Rattle.std.proofs.Common.{◌≡◌, ◌≢◌, ◌<◌, ◌≤◌, ℕ, zero, suc, List, [], ◌∷◌, ◌++◌, map, get_or, cond, length, drop}
+use Rattle.std.proofs.Common.{filter}
+use Rattle.std.proofs.Common.{◌==◌, sum, Bool, true, false, Some, refl, sym, ap, ◌∙◌, subst, arith, ◌+◌, sum_by}
+use Rattle.std.proofs.Common.{length-append}
 use Rattle.std.proofs.Common.{eq-eqb}
 use Rattle.std.specs.List.{All, Any, AllByRecursion}
 use Rattle.std.proofs.lemmas.List.{append_assoc, map-append}
@@ -20,7 +22,8 @@ use Rattle.ticket_lock.specs.Standing.{Lock, Standing, head_of, opening_of, seat
 use Rattle.ticket_lock.specs.Calls.{Closes}
 use Rattle.sched_desk.specs.declared.event.Event.{Event}
 use Rattle.sched_desk.specs.declared.event.Event.TheVariants.{Recorded, Marked}
-use Rattle.sched_desk.specs.Events.{author_of, history_in, handed_in, kept_in, machine_in, Parted, nothing_yet, parted_after}
+use Rattle.sched_desk.specs.Events.{author_of, history_in, handed_in, kept_in, machine_in, Parted, nothing_yet}
+use Rattle.sched_desk.specs.Events.{parted_after}
 use Rattle.sched_desk.specs.Events.{with_entry, all_handed}
 use Rattle.sched_desk.specs.Portions.{Portion, portions_after, portions_in, portions_of, entries_in, FollowOn}
 use Rattle.sched_desk.specs.Desk.{DeskState, FixedDesk, fixed_of, events_of, IsDeskLock, HasPress, IsHeadOf, history_of}
@@ -64,7 +67,8 @@ entries_of-log number (x ∷ xs) =
 
 module _ (P : ℕ → Type 0) where
   entry_first : (y : Event) (ys : List Event) → P (author_of y).seat
-      → AllByRecursion (λ e. P e.stamp.seat) (history_in ys) → AllByRecursion (λ e. P e.stamp.seat) (history_in (y ∷ ys))
+      → AllByRecursion (λ e. P e.stamp.seat) (history_in ys)
+      → AllByRecursion (λ e. P e.stamp.seat) (history_in (y ∷ ys))
   entry_first (Recorded e) ys here rest = (here, rest)
   entry_first (Marked stamp) ys here rest = rest
 
@@ -100,7 +104,8 @@ AllByRecursion-weaker P Q weaker (x ∷ xs) all = (weaker x all.0, AllByRecursio
 
 -- a portion is one of those with its number
 portions_of-first : (p : Portion) (ps : List Portion) → portions_of p.seat (p ∷ ps) ≡ p ∷ portions_of p.seat ps
-portions_of-first p ps = ap (λ b. cond b (p ∷ portions_of p.seat ps) (portions_of p.seat ps)) (eq-eqb p.seat p.seat refl)
+portions_of-first p ps = ap (λ b. cond b (p ∷ portions_of p.seat ps) (portions_of p.seat ps))
+    (eq-eqb p.seat p.seat refl)
 
 module _ {X : Type 0} where
   -- a fact of each member is one of the member at a place
@@ -167,7 +172,11 @@ module _ (c : Config) (lock : Lock FixedDesk Event) (desk : IsDeskLock c lock) (
 
   -- with its press
   pub head_is : IsHeadOf c x.press lock
-  head_is = (x.keeps, sym closes.head_is ∙ ap (λ k. Some (record { config = k; press = x.press; keeps = x.keeps })) config_is)
+  head_is = (
+    x.keeps,
+    sym closes.head_is
+        ∙ ap (λ k. Some (record { config = k; press = x.press; keeps = x.keeps })) config_is,
+  )
 
   -- the list begins with what a seat has seen
   seen_first : (s : Standing FixedDesk Event) → s.lock ≡ lock → (extends : Extends author_of s.number s.log closes.log)
@@ -235,7 +244,8 @@ module _ (c : Config) (lock : Lock FixedDesk Event) (desk : IsDeskLock c lock) (
       ∙ ap (λ (l : List Event). l ++ map entry_of s.log) desk.opening_is
       ∙ ap (map entry_of) (sym here.1)))
       seats
-      (one_saw_all author_of (seats_of lock) seats closes.once (λ s. s.lock ≡ lock) desk.some closes.log closes.ordered.1
+      (one_saw_all author_of (seats_of lock) seats closes.once (λ s. s.lock ≡ lock) desk.some closes.log
+      closes.ordered.1
       (Every-both (λ s. s.lock ≡ lock) (λ s. Extends author_of s.number s.log closes.log) seats of_lock closes.each))
 
   -- each event is of one of the seats

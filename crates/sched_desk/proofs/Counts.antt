@@ -1,5 +1,6 @@
 -- The counts of the seats' entries, with one entry more.
-use Rattle.std.proofs.Common.{◌≡◌, ◌≢◌, ◌<◌, ◌≤◌, ◌+◌, ℕ, Bool, not, nat_lt, List, [], ◌∷◌, ◌++◌, length, get_or, set, take, sum, cond, ◌==◌, replicate, length-set, subst, refl}
+use Rattle.std.proofs.Common.{◌≡◌, ◌≢◌, ◌<◌, ◌≤◌, ◌+◌, ℕ, Bool, not, nat_lt, List, [], ◌∷◌, ◌++◌, length, get_or, set}
+use Rattle.std.proofs.Common.{take, sum, cond, ◌==◌, replicate, length-set, subst, refl}
 use Rattle.std.proofs.Common.{true, false, ⊎_elim, sym, ap, ◌∙◌, arith, length-append, eq-eqb, ne_eqb}
 use Rattle.std.proofs.lemmas.Bool.Decides.{eqb_tells, nat_tests}
 use Rattle.std.specs.List.{AllByRecursion}
@@ -81,7 +82,8 @@ module _ (counts : List ℕ) (h : List Entry) (counted : IsCounted counts h) whe
   -- no count is greater than the number of entries
   pub count-few : (number : ℕ) → number < MAX_SEATS → get_or counts number 0 ≤ length h
   count-few number below =
-      let both = length-filter_both (λ (e : Entry). e.stamp.seat == number) (λ (e : Entry). not (e.stamp.seat == number))
+      let both = length-filter_both (λ (e : Entry). e.stamp.seat == number)
+      (λ (e : Entry). not (e.stamp.seat == number))
       (λ e. refl) h in
       omega (arith, counted.each number below, both)
 

@@ -56,7 +56,8 @@ history_in-recorded events e = history_in-append events (Recorded e ∷ [])
 
 -- and no more is handed over
 pub handed_in-recorded : (events : List Event) (e : Entry) → handed_in (events ++ Recorded e ∷ []) ≡ handed_in events
-handed_in-recorded events e = ap (λ (p : Parted). length p.handed) (parted_after-append nothing_yet events (Recorded e ∷ []))
+handed_in-recorded events e = ap (λ (p : Parted). length p.handed)
+    (parted_after-append nothing_yet events (Recorded e ∷ []))
 
 -- the scheduler with an entry more
 pub machine_in-recorded : (c : Config) (events : List Event) (e : Entry)

@@ -1,5 +1,6 @@
 -- What a holder's turn added, from what the desk noted and what the lock tells at the leave.
-use Rattle.std.proofs.Common.{◌≡◌, ◌+◌, ◌%◌, ◌^◌, ℕ, Bool, true, false, List, [], ◌∷◌, ◌++◌, map, cond, not, length, Result, Ok, Err}
+use Rattle.std.proofs.Common.{◌≡◌, ◌+◌, ◌%◌, ◌^◌, ℕ, Bool, true, false, List, [], ◌∷◌, ◌++◌, map, cond, not, length}
+use Rattle.std.proofs.Common.{Result, Ok, Err}
 use Rattle.std.proofs.Common.{refl, sym, ap, ◌∙◌, subst, ⊎_elim, eq-eqb}
 use Rattle.std.specs.Global.{Vec}
 use Rattle.std.proofs.lemmas.List.{append-nil, append_assoc, map-append, append_cancel_left}
@@ -26,7 +27,8 @@ use Rattle.sched_desk.specs.Portions.{Portion, portion_of, portions_of, portions
 use Rattle.sched_desk.specs.Desk.{DeskState, FixedDesk, fixed_of, events_of, history_of, IsDeskLock, SeesLegal}
 use Rattle.sched_desk.specs.Desk.{history_seen, own_entries, own_portions, HasPress}
 use Rattle.sched_desk.specs.Calls.{IsEntered, HasCalled, added_by, entry_by, AnswersHeld}
-use Rattle.sched_desk.specs.Handing.{HasHandedOver, Gives, marked_by, is_given, mark_by, portion_by, MarksHeld, HandsOverHeld}
+use Rattle.sched_desk.specs.Handing.{HasHandedOver, Gives, marked_by, is_given, mark_by, portion_by, MarksHeld}
+use Rattle.sched_desk.specs.Handing.{HandsOverHeld}
 use Rattle.sched_desk.specs.Handing.{ForgetsHeld}
 use Rattle.sched_desk.proofs.Events.{history_in-append, handed_in-recorded, handed_in-marked}
 use Rattle.sched_desk.proofs.Own.{made_by-added, made_by-mark, history_in-added, history_in-mark, own_entries-more}
@@ -76,7 +78,8 @@ handed_in-added s call (Err unrecorded) xs = ap handed_in (append-nil xs)
 
 portions_of-added : (s : Standing FixedDesk Event) (call : Call) (answer : Result Reply Unrecorded) (number : ℕ)
     (xs : List Event)
-    → portions_of number (portions_in (xs ++ map entry_of (added_by s call answer))) ≡ portions_of number (portions_in xs)
+    → portions_of number (portions_in (xs ++ map entry_of (added_by s call answer)))
+    ≡ portions_of number (portions_in xs)
 portions_of-added s call (Ok reply) number xs =
     portions_of-append number xs (Recorded (record { stamp = stamp_of s; call = call; reply = reply }) ∷ [])
     ∙ append-nil (portions_of number (portions_in xs))
@@ -115,7 +118,8 @@ module _ (c : Config) (s : Standing FixedDesk Event) (x : DeskState) (w : Standi
   added_is : (call : Call) (answer : Result Reply Unrecorded) → HasCalled entered (stamp_of s) call x answer
       → left.more ≡ added_by s call answer
   added_is call (Ok reply) told = added_one author_of s.number s.ticket (opening_of s.lock) s.log left.more left.added
-      (Recorded (record { stamp = stamp_of s; call = call; reply = reply })) (sym (ap events_of told.recorded) ∙ seen_by)
+      (Recorded (record { stamp = stamp_of s; call = call; reply = reply }))
+      (sym (ap events_of told.recorded) ∙ seen_by)
   added_is call (Err unrecorded) told =
       added_nothing author_of s.number s.ticket (opening_of s.lock) s.log left.more left.added
       (sym (ap events_of told.same) ∙ seen_by)

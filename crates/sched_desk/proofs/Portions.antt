@@ -1,5 +1,6 @@
 -- How the portions that seats handed over go on with more events, and that they are the front of the history.
-use Rattle.std.proofs.Common.{◌≡◌, ◌≢◌, ℕ, ◌+◌, List, [], ◌∷◌, ◌++◌, map, cond, ◌==◌, length, filter, refl, sym, ap, ◌∙◌, subst}
+use Rattle.std.proofs.Common.{◌≡◌, ◌≢◌, ℕ, ◌+◌, List, [], ◌∷◌, ◌++◌, map, cond, ◌==◌, length, filter, refl, sym, ap}
+use Rattle.std.proofs.Common.{◌∙◌, subst}
 use Rattle.std.proofs.Common.{length-append, eq-eqb, ne_eqb}
 use Rattle.std.proofs.lemmas.List.{append-nil, append_assoc}
 use Rattle.std.proofs.lemmas.List.Elements.{filter-append}
@@ -9,7 +10,8 @@ use Rattle.ticket_lock.specs.Rule.{Every, entry_of, IsOfOthers}
 use Rattle.sched_desk.specs.declared.event.Event.{Event}
 use Rattle.sched_desk.specs.declared.event.Event.TheVariants.{Recorded, Marked}
 use Rattle.sched_desk.specs.Events.{Parted, nothing_yet, with_entry, all_handed, parted_after, author_of}
-use Rattle.sched_desk.specs.Portions.{Portion, portion_of, portions_after, portions_in, portions_of, entries_in, FollowOn}
+use Rattle.sched_desk.specs.Portions.{Portion, portion_of, portions_after, portions_in, portions_of, entries_in}
+use Rattle.sched_desk.specs.Portions.{FollowOn}
 
 -- the portions of events in two parts are those of both
 pub portions_after-append : (p : Parted) (xs ys : List Event)

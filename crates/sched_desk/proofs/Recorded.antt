@@ -1,5 +1,6 @@
 -- What the scheduler recorded, at the desk.
-use Rattle.std.proofs.Common.{◌≡◌, ◌≤◌, ◌<◌, ◌+◌, ℕ, true, false, true≢false, nat_le, [], ◌∷◌, ◌++◌, length, Result, Ok, Err, IfOk, OnErr, ◌↔◌}
+use Rattle.std.proofs.Common.{◌≡◌, ◌≤◌, ◌<◌, ◌+◌, ℕ, true, false, true≢false, nat_le, [], ◌∷◌, ◌++◌, length, Result, Ok}
+use Rattle.std.proofs.Common.{Err, IfOk, OnErr, ◌↔◌}
 use Rattle.std.proofs.Common.{IsErrOf, sym, ap, ◌∙◌, subst, length-append, arith}
 use Rattle.minislots.specs.declared.stamp.Stamp.{Stamp}
 use Rattle.map_build.specs.declared.frame_map.FrameMap.{FrameMap}

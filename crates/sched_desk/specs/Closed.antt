@@ -57,8 +57,8 @@ pub record HandsOverAll (seats : List (Standing FixedDesk Event)) (h : List Entr
   pub no_other : AllByRecursion (λ p. Any (λ s. s.number ≡ p.seat) seats) portions
 
 module _ (c : Config) (lock : Lock FixedDesk Event) (seats : List (Standing FixedDesk Event)) where
-  -- the history of a scheduler that was closed with these seats, how many entries at its front were handed over, and how
-  -- many of its entries each seat made
+  -- the history of a scheduler that was closed with these seats, how many entries at its front were handed over, and
+  -- how many of its entries each seat made
   pub record ClosesTo (h : List Entry) (handed : ℕ) (counts : List ℕ) : Type 0 where
     -- it is that of a list that the lock gives at its close, with this press
     pub press : Book

@@ -12,6 +12,7 @@ returns c =
     record {
       answered = committed c.args.scheduler.now c.args.stamp (Build planned.clock) c.commit.new.self c.commit.result
           c.requires.fits.room told.recorded told.step told.encodable told.legal;
-      shows = shows-built c.args.scheduler.now c.args.stamp (Build planned.clock) c.args.press.now c.args.maps planned.map
+      shows = shows-built c.args.scheduler.now c.args.stamp (Build planned.clock) c.args.press.now c.args.maps
+          planned.map
           c.commit.new.self c.commit.result c.requires.shown told.built told.recorded;
     }

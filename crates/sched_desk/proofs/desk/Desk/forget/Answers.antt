@@ -15,7 +15,8 @@ invariant_of-self g c =
     let handed = subst (λ s. x.machine ≡ record (g.S.Records.recording s).machine {
       handed = length (g.S.Records.recording s).machine.history;
     }) c.deref_mut.ensures.value c.forget.ensures.forgotten in
-    let press = subst (λ s. x.press ≡ (g.S.Records.recording s).press) c.deref_mut.ensures.value c.forget.ensures.press in
+    let press = subst (λ s. x.press ≡ (g.S.Records.recording s).press) c.deref_mut.ensures.value
+    c.forget.ensures.press in
     let mark = c.mark.ensures
     ∙ ap (λ (k : Docketed). record k { events = k.events ++ Marked c.args.stamp ∷ [] }) c.deref_mut-2.ensures.value in
     let free : c.self.inside.docket.value.keeps ≡ false =
@@ -30,7 +31,8 @@ returns-clause-legal g c =
     let handed = subst (λ s. x.machine ≡ record (g.S.Records.recording s).machine {
       handed = length (g.S.Records.recording s).machine.history;
     }) c.deref_mut.ensures.value c.forget.ensures.forgotten in
-    let press = subst (λ s. x.press ≡ (g.S.Records.recording s).press) c.deref_mut.ensures.value c.forget.ensures.press in
+    let press = subst (λ s. x.press ≡ (g.S.Records.recording s).press) c.deref_mut.ensures.value
+    c.forget.ensures.press in
     let mark = c.mark.ensures
     ∙ ap (λ (k : Docketed). record k { events = k.events ++ Marked c.args.stamp ∷ [] }) c.deref_mut-2.ensures.value in
     let lawful = subst (λ (m : Machine). IsLegal m.config m.history)

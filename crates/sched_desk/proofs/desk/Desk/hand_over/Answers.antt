@@ -20,7 +20,8 @@ invariant_of-self-2 g c =
     let handed = subst (λ s. x.machine ≡ record (g.S.Records.recording s).machine {
       handed = length (g.S.Records.recording s).machine.history;
     }) c.deref_mut.ensures.value c.in_ok-given.ensures.handed in
-    let press = subst (λ s. x.press ≡ (g.S.Records.recording s).press) c.deref_mut.ensures.value c.in_ok-given.ensures.press in
+    let press = subst (λ s. x.press ≡ (g.S.Records.recording s).press) c.deref_mut.ensures.value
+    c.in_ok-given.ensures.press in
     let mark = c.mark.ensures
     ∙ ap (λ (k : Docketed). record k { events = k.events ++ Marked c.args.stamp ∷ [] }) c.deref_mut-2.ensures.value in
     let free : c.self.inside.docket.value.keeps ≡ false =
@@ -35,7 +36,8 @@ returns-clause-legal g c =
     let handed = subst (λ s. x.machine ≡ record (g.S.Records.recording s).machine {
       handed = length (g.S.Records.recording s).machine.history;
     }) c.deref_mut.ensures.value c.in_ok-given.ensures.handed in
-    let press = subst (λ s. x.press ≡ (g.S.Records.recording s).press) c.deref_mut.ensures.value c.in_ok-given.ensures.press in
+    let press = subst (λ s. x.press ≡ (g.S.Records.recording s).press) c.deref_mut.ensures.value
+    c.in_ok-given.ensures.press in
     let mark = c.mark.ensures
     ∙ ap (λ (k : Docketed). record k { events = k.events ++ Marked c.args.stamp ∷ [] }) c.deref_mut-2.ensures.value in
     let lawful = subst (λ (m : Machine). IsLegal m.config m.history)

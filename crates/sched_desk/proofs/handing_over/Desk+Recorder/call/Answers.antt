@@ -11,7 +11,8 @@ pub invariant_of-self : goal.invariant_of-self
 invariant_of-self g c =
     let r = c.self.inside.recorder.value in
     let x = c.call.new.self in
-    let told = subst (λ (m : Recording). HasAnswered m.machine c.args.stamp c.args.call c.call.new.self.machine (Ok c.in-Ok.reply))
+    let told = subst (λ (m : Recording). HasAnswered m.machine c.args.stamp c.args.call c.call.new.self.machine
+    (Ok c.in-Ok.reply))
     c.deref_mut.ensures.value c.in-Ok.ensures.recorded.answered in
     let noted = c.record.ensures
     ∙ ap (λ (k : Docketed). record k {
@@ -19,13 +20,15 @@ invariant_of-self g c =
           ++ Recorded (record { stamp = c.args.stamp; call = c.args.call; reply = c.in-Ok.reply }) ∷ [];
     }) c.deref_mut-in-Ok.ensures.value in
     subst (Agrees x) (sym noted)
-    (agrees-recorded r c.self.inside.docket.value c.self.invariant c.args.stamp c.args.call x c.in-Ok.reply told.recorded)
+    (agrees-recorded r c.self.inside.docket.value c.self.invariant c.args.stamp c.args.call x c.in-Ok.reply
+    told.recorded)
 
 pub returns-in-Ok : goal.returns-in-Ok
 returns-in-Ok g c =
     let r = c.self.inside.recorder.value in
     let x = c.call.new.self in
-    let told = subst (λ (m : Recording). HasAnswered m.machine c.args.stamp c.args.call c.call.new.self.machine (Ok c.in-Ok.reply))
+    let told = subst (λ (m : Recording). HasAnswered m.machine c.args.stamp c.args.call c.call.new.self.machine
+    (Ok c.in-Ok.reply))
     c.deref_mut.ensures.value c.in-Ok.ensures.recorded.answered in
     let noted = c.record.ensures
     ∙ ap (λ (k : Docketed). record k {
@@ -36,7 +39,9 @@ returns-in-Ok g c =
       called = subst (λ (y : DeskState × Docketed).
           HasCalled y.0 c.args.stamp c.args.call (desk_of x y.1) (Ok c.in-Ok.reply))
           (λ i. (c.self.view_is i, sym noted i))
-          (called-ok r c.self.inside.docket.value c.self.invariant c.args.stamp c.args.call x (c.in-Ok.ensures.recorded.press ∙ ap (λ (m : Recording). m.press) c.deref_mut.ensures.value) c.in-Ok.reply told);
+          (called-ok r c.self.inside.docket.value c.self.invariant c.args.stamp c.args.call x
+          (c.in-Ok.ensures.recorded.press ∙ ap (λ (m : Recording). m.press) c.deref_mut.ensures.value) c.in-Ok.reply
+          told);
     }
 
 pub returns-in-Err : goal.returns-in-Err
@@ -50,6 +55,7 @@ returns-in-Err g c =
       called = subst (λ (d : DeskState).
           HasCalled d c.args.stamp c.args.call (desk_of x c.self.inside.docket.value) (Err c.in-Err.unrecorded))
           c.self.view_is
-          (called-err r c.self.inside.docket.value c.self.invariant c.args.stamp c.args.call x (c.in-Err.ensures.recorded.press ∙ ap (λ (m : Recording). m.press) c.deref_mut.ensures.value)
+          (called-err r c.self.inside.docket.value c.self.invariant c.args.stamp c.args.call x
+          (c.in-Err.ensures.recorded.press ∙ ap (λ (m : Recording). m.press) c.deref_mut.ensures.value)
           c.in-Err.unrecorded told);
     }

@@ -11,7 +11,8 @@ pub invariant_of-self : goal.invariant_of-self
 invariant_of-self c =
     let r = alone c.self.inside.recorder.value in
     let x = alone c.record_alone.new.scheduler in
-    let told = subst (λ (m : Machine). HasAnswered m c.args.stamp c.args.call c.record_alone.new.scheduler (Ok c.in-Ok.reply))
+    let told = subst (λ (m : Machine). HasAnswered m c.args.stamp c.args.call c.record_alone.new.scheduler
+    (Ok c.in-Ok.reply))
     c.deref_mut.ensures.value c.in-Ok.ensures.answered in
     let noted = c.record.ensures
     ∙ ap (λ (k : Docketed). record k {
@@ -19,13 +20,15 @@ invariant_of-self c =
           ++ Recorded (record { stamp = c.args.stamp; call = c.args.call; reply = c.in-Ok.reply }) ∷ [];
     }) c.deref_mut-in-Ok.ensures.value in
     subst (Agrees x) (sym noted)
-    (agrees-recorded r c.self.inside.docket.value c.self.invariant c.args.stamp c.args.call x c.in-Ok.reply told.recorded)
+    (agrees-recorded r c.self.inside.docket.value c.self.invariant c.args.stamp c.args.call x c.in-Ok.reply
+    told.recorded)
 
 pub returns-in-Ok : goal.returns-in-Ok
 returns-in-Ok c =
     let r = alone c.self.inside.recorder.value in
     let x = alone c.record_alone.new.scheduler in
-    let told = subst (λ (m : Machine). HasAnswered m c.args.stamp c.args.call c.record_alone.new.scheduler (Ok c.in-Ok.reply))
+    let told = subst (λ (m : Machine). HasAnswered m c.args.stamp c.args.call c.record_alone.new.scheduler
+    (Ok c.in-Ok.reply))
     c.deref_mut.ensures.value c.in-Ok.ensures.answered in
     let noted = c.record.ensures
     ∙ ap (λ (k : Docketed). record k {
