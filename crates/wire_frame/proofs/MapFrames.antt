@@ -98,8 +98,8 @@ is_map_frame
     let address = b12 ∷ b13 ∷ b14 ∷ b15 ∷ b16 ∷ b17 ∷ [] in
     let payload = payload_in bytes in
     let n = length bytes - 4 - 26 in
-    let front = b6 ∷ b7 ∷ b8 ∷ b9 ∷ b10 ∷ b11 ∷ b12 ∷ b13 ∷ b14 ∷ b15 ∷ b16 ∷ b17 ∷ b18 ∷ b19 ∷ b20 ∷ b21 ∷ b22 ∷ b23 ∷ b24 ∷
-    b25 ∷ [] in
+    let front = b6 ∷ b7 ∷ b8 ∷ b9 ∷ b10 ∷ b11 ∷ b12 ∷ b13 ∷ b14 ∷ b15 ∷ b16 ∷ b17 ∷ b18 ∷ b19 ∷ b20 ∷ b21 ∷ b22 ∷ b23 ∷
+    b24 ∷ b25 ∷ [] in
     let least : 4 ≤ length rest = grind (arith, nat_tests, s.0.0) in
     let count : from_be_bytes w16 (b2 ∷ b3 ∷ []) ≡ length bytes - 6 = grind (arith, nat_tests, s.0.0) in
     let below : from_be_bytes w16 (b2 ∷ b3 ∷ []) < 2 ^ 16 = pair_fits b2 b3 (h 2) (h 3) in
