@@ -26,4 +26,5 @@ each (Err e) o encodable is = tt
 
 pub returns-in-Err-Unusual-clause-encodable : goal.returns-in-Err-Unusual-clause-encodable
 returns-in-Err-Unusual-clause-encodable c =
-    each c.entry_in_tree.result (entry_in c.args.bytes.now) (entry_in-encodable c.args.bytes.now) c.entry_in_tree.ensures
+    each c.entry_in_tree.result (entry_in c.args.bytes.now) (entry_in-encodable c.args.bytes.now)
+    c.entry_in_tree.ensures
