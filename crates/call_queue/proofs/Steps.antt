@@ -196,7 +196,8 @@ module _ {A L B : Type 0} (fits : A → L → Type 0) (answers : L → B → Typ
         → Steps s id (v, (0, Some (Left x)) ∷ []) WAITING (PutsDown st (v, (0, Some (Left x)) ∷ []) WAITING)
     put_down_at x fit claims st vacant r = absurd (subst (λ d. Knows id d vacant) claims (r.views id v at).1)
     put_down_at x fit claims st (claimed k) r =
-        let known : HasClaimed {L = L} id (claimed k) = subst (λ d. Knows id d (claimed k)) claims (r.views id v at).1 in (
+        let known : HasClaimed {L = L} id (claimed k) =
+        subst (λ d. Knows id d (claimed k)) claims (r.views id v at).1 in (
           doing_view v (Waits x),
           gives,
           tt,
@@ -220,7 +221,8 @@ module _ {A L B : Type 0} (fits : A → L → Type 0) (answers : L → B → Typ
         → Steps s id (v, (0, None) ∷ []) VACANT (Parts st (v, (0, None) ∷ []) VACANT)
     free_at claims st vacant r = absurd (subst (λ d. Knows id d vacant) claims (r.views id v at).1)
     free_at claims st (claimed k) r =
-        let known : HasClaimed {L = L} id (claimed k) = subst (λ d. Knows id d (claimed k)) claims (r.views id v at).1 in (
+        let known : HasClaimed {L = L} id (claimed k) =
+        subst (λ d. Knows id d (claimed k)) claims (r.views id v at).1 in (
           doing_view v Nothing,
           gives,
           tt,

@@ -9,6 +9,7 @@ pub store-requires : goal.store-requires
 store-requires g c = (
   search rules,
   search rules,
-  gives_answer g.D.Deal.fits g.D.Deal.answers _ _ _ _ (step 1 0 0 0 place.none) c.requires.answers.0 c.args.back c.requires.answers.2
+  gives_answer g.D.Deal.fits g.D.Deal.answers _ _ _ _ (step 1 0 0 0 place.none) c.requires.answers.0 c.args.back
+      c.requires.answers.2
       (search rules) (search rules),
 )

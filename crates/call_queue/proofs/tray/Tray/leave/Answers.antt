@@ -16,5 +16,6 @@ pub store-requires : goal.store-requires
 store-requires g c = (
   search rules,
   search rules,
-  puts_down g.D.Deal.fits g.D.Deal.answers _ _ _ _ (step 1 0 0 0 place.none) c.args.left (search rules) (search rules) (search rules),
+  puts_down g.D.Deal.fits g.D.Deal.answers _ _ _ _ (step 1 0 0 0 place.none) c.args.left (search rules) (search rules)
+      (search rules),
 )

@@ -22,5 +22,9 @@ exchange-lying-requires g c =
     )
 
 pub store-requires : goal.store-requires
-store-requires g c =
-    (search rules, search rules, frees g.D.Deal.fits g.D.Deal.answers _ _ _ _ (step 1 0 0 0 place.none) (search rules) (search rules))
+store-requires g c = (
+  search rules,
+  search rules,
+  frees g.D.Deal.fits g.D.Deal.answers _ _ _ _ (step 1 0 0 0 place.none) (search rules)
+      (search rules),
+)
