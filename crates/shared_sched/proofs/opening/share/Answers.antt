@@ -12,7 +12,8 @@ invariant_of-shared g c =
     let config = ap (λ (r : Recording). r.machine.config) whole
     ∙ ap (λ (m : Machine). m.config) c.requires.new in
     let press = ap (λ (r : Recording). r.press) whole in
-    let told = ap (λ t. t.press) c.tell-told.ensures.told ∙ ap (λ (r : Recording). r.press) c.new-recorder.ensures.made in
+    let told = ap (λ t. t.press) c.tell-told.ensures.told
+    ∙ ap (λ (r : Recording). r.press) c.new-recorder.ensures.made in
     subst (λ p. IsDeskLock c.args.checked c.in-Ok.lock × HasPress c.args.checked p c.args.keeps c.in-Ok.lock) (sym told)
     (is_desk_lock c.args.checked c.args.press.press c.args.keeps
     (empty_desk c.tell-told.new.self.machine.config c.tell-told.new.self.press c.args.keeps) c.args.seats c.in-Ok.lock
