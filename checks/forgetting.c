@@ -105,8 +105,9 @@ static int is_entry_of(const struct mapsched_entry *entry, size_t at) {
 /* An entry that is not kept has this status, and nothing is written. */
 static void look_in_vain(size_t place, uint32_t status, size_t at) {
   static struct mapsched_entry entry;
+  const char *what = status == MAPSCHED_NO_ENTRY ? "the status where no entry is" : "the status where one was let go";
   memset(&entry, FILLED, sizeof entry);
-  want(mapsched_entry(&brief.scheduler, place, &entry) == status, mapsched_status_text(status), at);
+  want(mapsched_entry(&brief.scheduler, place, &entry) == status, what, at);
   want(is_untouched(&entry, sizeof entry), "an entry is written that is not kept", at);
   met.statuses[status]++;
 }

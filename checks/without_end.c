@@ -1,9 +1,9 @@
 /*
  * What a scheduler costs that goes on without end: drawn calls of all kinds, forgotten every thousand; checks/figures
- * reads what it prints. `after`: behind so many calls, the nanoseconds of a call by processor time, those of the drawing
- * included, since the beginning and since the line before, and the kilobytes of memory that are resident, and that were
- * at most. `forgetting`: the nanoseconds of forgetting a thousand calls by the clock, the middle and the 99th percentile
- * up to 10 nanoseconds.
+ * reads what it prints. `after`: behind so many calls, the nanoseconds of a call by processor time, with its drawing,
+ * since the beginning and since the line before, and the kilobytes of memory that are resident, and that were at most.
+ * `forgetting`: the nanoseconds of forgetting a thousand calls by the clock, the middle and the 99th percentile, up to
+ * 10 nanoseconds.
  *
  * `without_end [CALLS]`: a hundred million where no number is given.
  */
