@@ -5,82 +5,11 @@
  * admission and of the costliest build. `longest`: of a million drawn calls the eight that took longest by the clock,
  * and the eight by processor time.
  */
-#define _POSIX_C_SOURCE 200809L
-#include <mapsched.h>
-#include <stdio.h>
-#include <stdlib.h>
-#include <time.h>
+#include "drawn_calls.h"
 
 enum { CALLS = 100000, MANY = 1000000, RUNS = 5, TOLD = 8 };
 
-static const struct mapsched_config config = {.ticks = 4, .bytes_per_slot = 16, .overhead = 2, .frame = 1024,
-  .cycle = 64, .req_slots = 4, .poll_slots = 1, .short_max = 8, .quantum = 256, .grant_cap = 8192, .calls = MANY,
-  .start = 102400, .receivers = 4, .channel = 3, .ucd_count = 1};
-
 static struct mapsched_call calls[CALLS];
-static uint64_t state = UINT64_C(0x9e3779b97f4a7c15);
-
-/* A number below this one. */
-static uint64_t below(uint64_t bound) {
-  state ^= state << 13;
-  state ^= state >> 7;
-  state ^= state << 17;
-  return state % bound;
-}
-
-/* An admission of a flow of any kind. */
-static struct mapsched_call admission(uint16_t sid) {
-  struct mapsched_call call = {.kind = MAPSCHED_ADMIT, .sid = sid};
-  uint32_t interval_us = 25600u << below(4), jitter_us = 25 * (uint32_t)below(200);
-  uint32_t rate = 500000 * (uint32_t)below(9);
-  uint64_t kind = below(5);
-  call.flow = kind == 0 ? MAPSCHED_UNSOLICITED : kind == 1 ? MAPSCHED_POLLED : MAPSCHED_BEST_EFFORT;
-  if (kind <= 1) {
-    call.interval_us = interval_us;
-    call.jitter_us = jitter_us;
-  }
-  if (kind == 0) {
-    call.size = 64 + (uint32_t)below(200);
-    call.grants = 1;
-  } else {
-    if (kind > 1) call.priority = (uint8_t)below(8);
-    call.rate = rate;
-    call.burst = 100000;
-  }
-  return call;
-}
-
-/* The next call, where the frame of the next MAP starts at this minislot. */
-static struct mapsched_call drawn(uint64_t next) {
-  uint16_t sid = (uint16_t)(below(70) + 1);
-  uint8_t receiver = (uint8_t)below(4);
-  uint64_t kind = below(100);
-  if (kind <= 3) return admission(sid);
-  if (kind == 4) return (struct mapsched_call){.kind = MAPSCHED_REMOVE, .sid = sid};
-  if (kind <= 14) return (struct mapsched_call){.kind = MAPSCHED_BUILD, .minislot = next};
-  if (kind == 15) return (struct mapsched_call){.kind = MAPSCHED_SKIP, .minislot = next + 1};
-  if (kind <= 25) {
-    uint64_t back = below(3000);
-    return (struct mapsched_call){
-      .kind = MAPSCHED_HEARD, .receiver = receiver, .minislot = next > back ? next - back : 0};
-  }
-  if (kind <= 37) return (struct mapsched_call){.kind = MAPSCHED_STATUS, .sid = sid};
-  return (struct mapsched_call){.kind = MAPSCHED_ASK, .receiver = receiver, .sid = sid,
-    .bytes = 1 + (uint32_t)below(6000), .minislot = next - 1};
-}
-
-/* Where the frame of the next MAP starts after this reply. */
-static uint64_t next_after(const struct mapsched_reply *reply, uint64_t next) {
-  if (reply->kind == MAPSCHED_BUILT) return reply->value + config.frame;
-  return reply->kind == MAPSCHED_SKIPPED ? reply->value : next;
-}
-
-/* The nanoseconds of a clock. */
-static double now(clockid_t clock) {
-  struct timespec at;
-  clock_gettime(clock, &at);
-  return (double)at.tv_sec * 1e9 + (double)at.tv_nsec;
-}
 
 static int ascending(const void *one, const void *other) {
   double a = *(const double *)one, b = *(const double *)other;
@@ -90,23 +19,6 @@ static int ascending(const void *one, const void *other) {
 static double middle(double *took) {
   qsort(took, RUNS, sizeof *took, ascending);
   return took[RUNS / 2];
-}
-
-static void fail(const char *what) {
-  fprintf(stderr, "%s\n", what);
-  exit(1);
-}
-
-/* Makes a call, which is recorded. */
-static void make(struct mapsched_scheduler *scheduler, uint64_t ticket, const struct mapsched_call *call,
-                 struct mapsched_reply *reply) {
-  struct mapsched_stamp stamp = {.ticket = ticket};
-  if (mapsched_call(scheduler, &stamp, call, reply) != MAPSCHED_OK) fail("a call is not recorded");
-}
-
-static void open(struct mapsched_scheduler *scheduler, const struct mapsched_config *of) {
-  *scheduler = (struct mapsched_scheduler){0};
-  if (mapsched_open(scheduler, of) != MAPSCHED_OK) fail("no scheduler");
 }
 
 /* Draws the calls. */

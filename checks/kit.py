@@ -38,6 +38,14 @@ def below_of(crate, stands_on):
     return {below for it in stands_on.get(crate, []) if it in stands_on for below in [it, *below_of(it, stands_on)]}
 
 
+def program_of_c(name, library, folder):
+    """The program of a source in this folder, over the static library, made in that folder."""
+    made, libraries = f"{folder}/{name}", [library, f"{path()}/c/liblibc_c.a"]
+    words = ["-std=c11", "-Wall", "-Wextra", "-Werror", "-O2", f"-I{HERE}/include", "-o", made]
+    subprocess.run([os.environ.get("CC", "gcc"), *words, f"{HERE}/checks/{name}.c", *libraries], check=True)
+    return made
+
+
 def words_over(built, kit, name, *own):
     """The words behind `rattle check` or `rattle build` for a library, over those that were built in a folder."""
     stands_on = crates()

@@ -2,6 +2,7 @@
 //! the figures of one part once, and `checks/figures` takes the middle of several. With no word it prints nothing.
 #![tactic(auto)]
 
+mod handing;
 mod lock;
 mod readers;
 mod run;
@@ -26,11 +27,12 @@ fn main(rt: HostRuntime) -> ExitCode {
         return ExitCode::SUCCESS;
     };
     let printed = match word.as_str() {
+        "handing" => handing::print(&rt, rt.alloc()),
         "lock" => lock::print(&rt, rt.alloc()),
         "readers" => readers::print(&rt, rt.alloc()),
         "storm" => storms::print(&rt, rt.alloc()),
         _ => {
-            let _ = rt.eprintln("usage: bench [lock|readers|storm]");
+            let _ = rt.eprintln("usage: bench [handing|lock|readers|storm]");
             return ExitCode::from(2);
         }
     };

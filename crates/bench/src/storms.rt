@@ -13,7 +13,7 @@ use std::thread::Threads;
 use std::time::{Clock, CpuClock, Instant};
 
 // Frames of 1024 minislots of 25 microseconds, and the calls of eight workers.
-const WIDE: Config = Config {
+pub(crate) const WIDE: Config = Config {
     ticks: 4,
     bytes_per_slot: 16,
     overhead: 2,
@@ -38,7 +38,7 @@ const WIDE: Config = Config {
 };
 
 // How many calls each worker makes.
-const CALLS: usize = 40_000;
+pub(crate) const CALLS: usize = 40_000;
 
 // The place of the last of them.
 const LAST: usize = CALLS - 1;
@@ -48,7 +48,7 @@ const TAKEN: usize = CALLS / 2 - 1;
 
 // The call with this number, of the worker with this one: a flow of its own and a build, and then requests and
 // questions by turns.
-fn call_of(worker: usize, number: usize) -> Call {
+pub(crate) fn call_of(worker: usize, number: usize) -> Call {
     let sid = (worker % 64) as u16 + 1;
     let spec = FlowSpec::BestEffort {
         priority: 3,

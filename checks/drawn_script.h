@@ -1,0 +1,187 @@
+/*
+ * Scripts that are drawn call by call, for checks/forgetting.c: a configuration with small numbers of calls and large
+ * ones, and calls of all kinds, of which some are refused and some are of no kind. What is drawn depends on the replies
+ * to the calls before it.
+ */
+#include <mapsched.h>
+#include <string.h>
+
+enum { MOST_CALLS = 300, MOST_SIDS = 100, MOST_RECEIVERS = 3, AHEAD = 4096 };
+
+#define COUNT(list) (sizeof(list) / sizeof *(list))
+#define ONE_OF(list) ((list)[below(COUNT(list))])
+
+static uint64_t state;
+
+/* A number below this one. */
+static uint64_t below(uint64_t bound) {
+  uint64_t mixed = state += UINT64_C(0x9e3779b97f4a7c15);
+  mixed = (mixed ^ (mixed >> 30)) * UINT64_C(0xbf58476d1ce4e5b9);
+  mixed = (mixed ^ (mixed >> 27)) * UINT64_C(0x94d049bb133111eb);
+  return (mixed ^ (mixed >> 31)) % bound;
+}
+
+/* Whether one of so many is drawn. */
+static int is_one_in(uint64_t bound) { return below(bound) == 0; }
+
+/* Where a drawing stands: the configuration, which SIDs it has and which are live, and the scheduler's times. */
+static struct {
+  struct mapsched_config config;
+  size_t sids;
+  uint16_t sid[MOST_SIDS];
+  uint8_t is_live[MOST_SIDS];
+  uint64_t admissions, kinds;
+  int has_small_grants;
+  uint64_t next, progress[MOST_RECEIVERS];
+} drawing;
+
+/* A lawful configuration. */
+static struct mapsched_config drawn_config(void) {
+  static const uint32_t frames[] = {16, 40, 40, 64, 100, 150, 256, 1024}, slots[] = {8, 16, 32, 64, 100};
+  static const uint32_t cycles[] = {1, 2, 4, 6, 12, 20, 64}, calls[] = {1, 2, 3, 5, 8, 17, 40, 100, 300, 1000, 50000};
+  struct mapsched_config config = {.ticks = 2u << below(4)};
+  config.frame = ONE_OF(frames);
+  config.overhead = 1 + (uint32_t)below(4);
+  config.req_slots = 1 + (uint32_t)below(3);
+  config.poll_slots = 1 + (uint32_t)below(3);
+  config.bytes_per_slot = ONE_OF(slots);
+  uint32_t room = (config.frame - config.req_slots - config.overhead) * config.bytes_per_slot;
+  config.quantum = 64 + (uint32_t)below(room > 1522 ? 1459 : room - 63);
+  config.grant_cap = config.quantum + (uint32_t)below(4 * config.quantum);
+  config.cycle = ONE_OF(cycles);
+  config.calls = ONE_OF(calls);
+  config.receivers = (uint8_t)(1 + below(MOST_RECEIVERS));
+  uint64_t starts[] = {0, 20, (UINT64_C(1) << 31) / config.frame, UINT64_C(1000000000000)};
+  uint32_t leads[] = {0, config.frame, AHEAD - 2 * config.frame};
+  config.start = config.frame * ONE_OF(starts);
+  config.lead = ONE_OF(leads);
+  config.short_max = (uint32_t)below(config.frame + 1);
+  config.phy = (uint8_t)below(2);
+  uint8_t *const others[] = {&config.ranging_start, &config.ranging_end, &config.data_start, &config.data_end};
+  for (size_t i = 0; i < COUNT(others); i++) *others[i] = (uint8_t)below(16);
+  config.channel = (uint8_t)below(256);
+  config.ucd_count = (uint8_t)below(256);
+  return config;
+}
+
+/* Begins a drawing. */
+static void begin_drawing(uint64_t seed) {
+  static const size_t sids[] = {3, 12, 12, MOST_SIDS}, admissions[] = {4, 4, 60}, kinds[] = {3, 3, 9, 2};
+  state = seed;
+  memset(&drawing, 0, sizeof drawing);
+  drawing.config = drawn_config();
+  drawing.sids = ONE_OF(sids);
+  for (size_t i = 0; i < drawing.sids; i++) drawing.sid[i] = (uint16_t)(1 + below(MAPSCHED_MAX_SID));
+  drawing.admissions = ONE_OF(admissions);
+  drawing.kinds = ONE_OF(kinds);
+  drawing.has_small_grants = is_one_in(2);
+  drawing.next = drawing.config.start;
+  for (size_t i = 0; i < MOST_RECEIVERS; i++) drawing.progress[i] = drawing.config.start;
+}
+
+/* An SID that is live or not, mostly, as is wanted. */
+static uint16_t drawn_sid(int is_live) {
+  static const uint16_t others[] = {0, MAPSCHED_MAX_SID + 1, UINT16_MAX, 4711};
+  size_t at = below(drawing.sids);
+  if (is_one_in(25)) return ONE_OF(others);
+  for (size_t i = 0; i < drawing.sids && drawing.is_live[at] != is_live && !is_one_in(50); i++)
+    at = (at + 1) % drawing.sids;
+  return drawing.sid[at];
+}
+
+/* Rate and burst of a flow that asks. */
+static void draw_ceiling(struct mapsched_call *call) {
+  static const uint32_t rates[] = {0, 0, 64000, 300000, 5000000};
+  uint32_t bursts[] = {drawing.config.quantum, 1522, 5000, 100000};
+  call->rate = ONE_OF(rates);
+  call->burst = is_one_in(20) ? 63 : ONE_OF(bursts);
+}
+
+/* An interval of whole frames that part the cycle, or mostly so, and a jitter. */
+static void draw_times(struct mapsched_call *call) {
+  static const uint32_t jitters[] = {0, 0, 50, 400, 3000};
+  uint32_t quarters = 25 * drawing.config.ticks, frames = 1 + (uint32_t)below(drawing.config.cycle);
+  while (drawing.config.cycle % frames) frames--;
+  if (is_one_in(10)) frames = is_one_in(2) ? 3 * frames : 65 * (uint32_t)below(2);
+  call->interval_us = frames * drawing.config.frame * quarters / 4 + (is_one_in(20) ? 1 + (uint32_t)below(60) : 0);
+  call->jitter_us = ONE_OF(jitters) * quarters / 100;
+}
+
+/* An admission of a flow of any kind, and seldom of none. */
+static struct mapsched_call drawn_admission(void) {
+  static const uint32_t sizes[] = {0, 1, 20, 60, 60, 200, 200, 5000};
+  static const uint8_t grants[] = {1, 1, 1, 1, 1, 2, 2, 3, 8, 9, 0};
+  struct mapsched_call call = {.kind = MAPSCHED_ADMIT, .sid = drawn_sid(0)};
+  uint64_t kind = below(drawing.kinds);
+  call.flow = kind > 2 ? MAPSCHED_BEST_EFFORT : (uint32_t)kind;
+  if (call.flow != MAPSCHED_BEST_EFFORT) draw_times(&call);
+  if (call.flow != MAPSCHED_UNSOLICITED) draw_ceiling(&call);
+  if (call.flow == MAPSCHED_BEST_EFFORT) call.priority = (uint8_t)(is_one_in(30) ? 8 + below(248) : below(8));
+  if (call.flow == MAPSCHED_UNSOLICITED) {
+    call.size = drawing.has_small_grants ? 1 + (uint32_t)below(8) : ONE_OF(sizes);
+    call.grants = ONE_OF(grants);
+  }
+  if (is_one_in(100)) call.flow = 3 + (uint32_t)below(UINT32_MAX - 2);
+  return call;
+}
+
+/* A receiver, and seldom one that is not there. */
+static uint8_t drawn_receiver(void) {
+  return (uint8_t)(is_one_in(30) ? drawing.config.receivers + below(200) : below(drawing.config.receivers));
+}
+
+/* A minislot round the receiver's progress and the next frame. */
+static uint64_t drawn_near(uint8_t receiver) {
+  uint64_t next = drawing.next, least = drawing.config.start;
+  if (receiver < drawing.config.receivers) least = drawing.progress[receiver];
+  uint64_t first = least < next ? least : next;
+  uint64_t times[] = {least, least, least ? least - 1 : 0, next, next + 1, first + below(next - first + 1)};
+  return is_one_in(3) ? ONE_OF(times) : next ? next - 1 : 0;
+}
+
+/* A time at which the next frame can be built, or mostly so. */
+static uint64_t drawn_clock(void) {
+  uint64_t next = drawing.next, lead = drawing.config.lead, end = next + drawing.config.frame;
+  uint64_t just = next > lead ? next - lead : 0, early = end > AHEAD ? end - AHEAD : 0;
+  uint64_t times[] = {early, early ? early - 1 : 0, just + 1, just > 3 ? just - 3 : 0, MAPSCHED_MAX_CLOCK + 1};
+  return is_one_in(3) ? ONE_OF(times) : just;
+}
+
+static struct mapsched_call drawn_ask(void) {
+  static const uint32_t counts[] = {1, 64, 100, 544, 1522, 3000, 9000, 100000, MAPSCHED_MAX_REQUEST_BYTES};
+  static const uint32_t wrong[] = {0, MAPSCHED_MAX_REQUEST_BYTES + 1, UINT32_MAX};
+  struct mapsched_call call = {.kind = MAPSCHED_ASK, .sid = drawn_sid(1)};
+  call.receiver = drawn_receiver();
+  call.bytes = is_one_in(30) ? ONE_OF(wrong) : ONE_OF(counts);
+  call.minislot = drawn_near(call.receiver);
+  return call;
+}
+
+/* The next call. */
+static struct mapsched_call drawn_call(void) {
+  uint64_t kind = below(22 + drawing.admissions);
+  struct mapsched_call call = {.kind = MAPSCHED_STATUS, .sid = drawn_sid(1)};
+  if (is_one_in(100)) return (struct mapsched_call){.kind = 7 + (uint32_t)below(UINT32_MAX - 6), .sid = call.sid};
+  if (kind < 9) return drawn_ask();
+  if (kind < 15) return (struct mapsched_call){.kind = MAPSCHED_BUILD, .minislot = drawn_clock()};
+  if (kind == 15) return (struct mapsched_call){.kind = MAPSCHED_SKIP, .minislot = drawn_clock()};
+  if (kind == 16) return (struct mapsched_call){.kind = MAPSCHED_REMOVE, .sid = call.sid};
+  if (kind < 20) {
+    uint8_t receiver = drawn_receiver();
+    return (struct mapsched_call){.kind = MAPSCHED_HEARD, .receiver = receiver, .minislot = drawn_near(receiver)};
+  }
+  return kind < 22 ? call : drawn_admission();
+}
+
+/* Where the drawing stands after a call and its reply. */
+static void follow(const struct mapsched_call *call, const struct mapsched_reply *reply) {
+  if (reply->kind == MAPSCHED_BUILT) drawing.next = reply->value + drawing.config.frame;
+  if (reply->kind == MAPSCHED_SKIPPED) drawing.next = reply->value;
+  if (reply->kind == MAPSCHED_NOTED && call->receiver < MOST_RECEIVERS)
+    drawing.progress[call->receiver] = call->minislot;
+  for (size_t i = 0; i < drawing.sids; i++) {
+    if (drawing.sid[i] != call->sid) continue;
+    if (reply->kind == MAPSCHED_ADMITTED || reply->kind == MAPSCHED_PLACED) drawing.is_live[i] = 1;
+    if (reply->kind == MAPSCHED_REMOVED) drawing.is_live[i] = 0;
+  }
+}
