@@ -75,6 +75,10 @@ static uint32_t admits_voice(void) { return mapsched_call(&now.scheduler, &stamp
 static uint32_t admits_data(void) { return mapsched_call(&now.scheduler, &stamp, &data, &now.reply); }
 static uint32_t builds(void) { return mapsched_call(&now.scheduler, &stamp, &build, &now.reply); }
 static uint32_t writes(void) { return mapsched_history(&now.scheduler, now.text, sizeof now.text, &now.length); }
+static uint32_t opens_journal(void) {
+  return mapsched_opening(&now.scheduler, now.text, sizeof now.text, &now.length);
+}
+static uint32_t writes_lines(void) { return mapsched_lines(&now.scheduler, now.text, sizeof now.text, &now.length); }
 static uint32_t audits(void) { return mapsched_audit(now.text, now.length, &now.place); }
 static uint32_t decodes(void) { return mapsched_decode(now.reply.payload, now.reply.length, &now.map, &now.place); }
 static uint32_t encodes(void) {
@@ -102,6 +106,8 @@ static void alone(void) {
   make(decodes);
   make(encodes);
   if (now.length != now.reply.length || memcmp(now.payload, now.reply.payload, now.length) != 0) end("other bytes", 3);
+  make(opens_journal);
+  make(writes_lines);
   make(writes);
   make(audits);
   if (now.place != 3 || mapsched_close(&now.scheduler) != MAPSCHED_OK) end("not three entries", 3);

@@ -165,7 +165,7 @@ uint32_t mapsched_kept_from(struct mapsched_scheduler *scheduler, size_t *place)
 
 /*
  * Lets go of all recorded calls that are kept, so that there is room for others. Their numbers are not given again. A
- * program that wants them reads them before, from mapsched_kept_from to mapsched_count.
+ * program that wants them reads them before, from mapsched_kept_from to mapsched_count, or as lines of a journal.
  */
 uint32_t mapsched_forget(struct mapsched_scheduler *scheduler);
 
@@ -177,6 +177,18 @@ uint32_t mapsched_entry(struct mapsched_scheduler *scheduler, size_t place, stru
  * nothing is written: MAPSCHED_HANDED_OVER.
  */
 uint32_t mapsched_history(struct mapsched_scheduler *scheduler, uint8_t *room, size_t room_length, size_t *length);
+
+/*
+ * Writes the recorded calls that are kept, with their replies, as lines of a journal, and tells their length: no line
+ * where none is kept. The first is that of the number that mapsched_kept_from tells.
+ */
+uint32_t mapsched_lines(struct mapsched_scheduler *scheduler, uint8_t *room, size_t room_length, size_t *length);
+
+/*
+ * Writes the first line of a journal, the configuration, and tells its length. With the lines before each
+ * mapsched_forget behind it, and those at the end, it is what `mapsched audit --journal` reads.
+ */
+uint32_t mapsched_opening(struct mapsched_scheduler *scheduler, uint8_t *room, size_t room_length, size_t *length);
 
 /* Audits the text of a history, and tells how many entries a legal one has. */
 uint32_t mapsched_audit(const uint8_t *text, size_t length, size_t *place);

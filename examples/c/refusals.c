@@ -108,6 +108,8 @@ static void forgetting(void) {
 
   WANT(mapsched_forget(&scheduler) == MAPSCHED_EMPTY);
   WANT(mapsched_kept_from(&scheduler, &place) == MAPSCHED_EMPTY && place == 99);
+  WANT(mapsched_lines(&scheduler, text, 1, &length) == MAPSCHED_EMPTY && length == 7 && text[0] == 0xa5);
+  WANT(mapsched_opening(&scheduler, text, 1, &length) == MAPSCHED_EMPTY && length == 7 && text[0] == 0xa5);
   WANT(mapsched_open(&scheduler, &config) == MAPSCHED_OK && mapsched_open(&whole, &roomy) == MAPSCHED_OK);
   WANT(mapsched_kept_from(&scheduler, &place) == MAPSCHED_OK && place == 0);
   WANT(mapsched_call(&scheduler, &stamp, &data, &reply) == MAPSCHED_OK);
@@ -132,6 +134,40 @@ static void forgetting(void) {
   WANT(mapsched_history(&whole, text, 1, &length) == MAPSCHED_NO_ROOM && length > 1);
   WANT(strcmp(mapsched_status_text(MAPSCHED_HANDED_OVER), "not kept") == 0);
   WANT(mapsched_close(&scheduler) == MAPSCHED_OK && mapsched_close(&whole) == MAPSCHED_OK);
+}
+
+/* How many lines a text has. */
+static size_t lines_in(const uint8_t *text, size_t length) {
+  size_t lines = 0;
+  for (size_t at = 0; at < length; at++) lines += text[at] == '\n';
+  return lines;
+}
+
+/* The lines of a journal are those of what is kept, and the opening is that of the configuration. */
+static void journals(void) {
+  static const char front[] = "{\"config\":{\"bytes_per_slot\":16,\"calls\":2,\"channel\":3,";
+  struct mapsched_config config = lawful();
+  struct mapsched_scheduler scheduler = {0};
+  struct mapsched_stamp stamp = {.ticket = 0, .seat = 3};
+  struct mapsched_call bytes = {.kind = MAPSCHED_STATUS, .sid = 9};
+  struct mapsched_reply reply;
+  static uint8_t text[10000];
+  size_t length = 7;
+  config.calls = 2;
+
+  WANT(mapsched_open(&scheduler, &config) == MAPSCHED_OK);
+  WANT(mapsched_lines(&scheduler, text, 0, &length) == MAPSCHED_OK && length == 0);
+  for (stamp.ticket = 0; stamp.ticket < 5; stamp.ticket++) {
+    if (stamp.ticket % 2 == 0) WANT(mapsched_forget(&scheduler) == MAPSCHED_OK);
+    WANT(mapsched_call(&scheduler, &stamp, &bytes, &reply) == MAPSCHED_OK);
+  }
+  WANT(mapsched_lines(&scheduler, text, 1, &length) == MAPSCHED_NO_ROOM && length > 1 && text[0] == 0);
+  WANT(mapsched_lines(&scheduler, text, sizeof text, &length) == MAPSCHED_OK && text[length] == 0);
+  WANT(text[length - 1] == '\n' && lines_in(text, length) == 1 && strstr((char *)text, "\"seat\":3,\"ticket\":4}\n"));
+  WANT(mapsched_opening(&scheduler, text, 1, &length) == MAPSCHED_NO_ROOM && length > 1);
+  WANT(mapsched_opening(&scheduler, text, sizeof text, &length) == MAPSCHED_OK && text[length - 1] == '\n');
+  WANT(lines_in(text, length) == 1 && memcmp(text, front, sizeof front - 1) == 0);
+  WANT(mapsched_close(&scheduler) == MAPSCHED_OK);
 }
 
 int main(void) {
@@ -263,5 +299,6 @@ int main(void) {
   WANT(strcmp(mapsched_status_text(100), "unknown status") == 0);
   workers();
   forgetting();
+  journals();
   return failures != 0;
 }

@@ -5,6 +5,7 @@ pub mod Reply
 pub mod Entry
 pub mod Answer
 pub mod Text
+pub mod Journal
 pub mod Map
 pub mod Encode
 pub mod Post

@@ -7,6 +7,7 @@ mod encode;
 mod entry;
 mod exports;
 mod handle;
+mod journal;
 mod maps;
 mod place;
 mod post;
