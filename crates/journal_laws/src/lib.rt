@@ -3,9 +3,9 @@
 
 ghost use Rattle.journal_laws.specs.JournalAgain.{IsEntryLine, IsJournalAgain};
 
-/// The laws of a journal's text. The line of an entry whose numbers fit the types of their fields has one newline, at its
-/// end, is UTF-8, and stands for that entry. The text of a journal of a lawful configuration and of such entries has
-/// such lines alone, no torn one, and they stand for the configuration and the entries, where no line is too long.
+/// The laws of a journal's text. The line of an entry whose numbers fit the types of their fields has one newline, at
+/// its end, is UTF-8, and stands for that entry. The text of a journal of a lawful configuration and of such entries
+/// has such lines alone, no torn one, and they stand for the configuration and the entries, where no line is too long.
 pub fn every_journal()
     ensures entry_line { IsEntryLine }
     ensures journal_again { IsJournalAgain }

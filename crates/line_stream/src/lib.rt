@@ -1,5 +1,5 @@
-//! The lines of an input, read piece by piece into a buffer of fixed size. A line is the bytes up to a newline, which is
-//! not counted; bytes behind the last newline are a line too.
+//! The lines of an input, read piece by piece into a buffer of fixed size. A line is the bytes up to a newline, which
+//! is not counted; bytes behind the last newline are a line too.
 #![tactic(auto)]
 
 mod lines;

@@ -84,8 +84,8 @@ impl Lines {
         Some(Told::Line)
     }
 
-    /// Tells the next line, for which it reads where not all of it is at hand; none at the end of the input. A read that
-    /// fails ends it, one that was interrupted among them; the front of a line that was begun is then lost.
+    /// Tells the next line, for which it reads where not all of it is at hand; none at the end of the input. A read
+    /// that fails ends it, one that was interrupted among them; the front of a line that was begun is then lost.
     pub fn next<R: Source>(&mut self, reader: &mut R) -> Result<Option<Told>, TextFault>
         ensures told { IfOk result (λ told. MatchOption told
             (HasEnded (untold self.old (R.remaining reader.old)) (untold self.new (R.remaining reader.new)))

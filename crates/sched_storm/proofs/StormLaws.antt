@@ -41,7 +41,8 @@ module _ (c : Config) (workers : ℕ) (lock : Lock FixedDesk Event) (seats : Lis
   opened_count = ap seats_in opened.about_is
 
   module _ (passes holds : ℕ → ℕ → Type 0) (lacks : Type 0) (given : Vec (Vec Call))
-      (count : workers ≡ vec_len given) (g : Gathered) (made : IsGathered passes holds lacks c seats (calls_each given.items) g) where
+      (count : workers ≡ vec_len given) (g : Gathered)
+      (made : IsGathered passes holds lacks c seats (calls_each given.items) g) where
     -- the scripts
     abbrev scripts : List (List Call)
     scripts = calls_each given.items

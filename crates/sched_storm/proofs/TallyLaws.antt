@@ -134,7 +134,8 @@ module _ (passes holds : ℕ → ℕ → Type 0) (lacks : Type 0) (c : Config) w
       }
 
       -- it did so, in a storm with this history
-      has_made : entries_of w.seat.number h ≡ own_entries w.seat → IsPrefix (history_seen w.seat) h → HasMade c h deed_of
+      has_made : entries_of w.seat.number h ≡ own_entries w.seat → IsPrefix (history_seen w.seat) h
+          → HasMade c h deed_of
       has_made own_are begins =
           let n = w.seat.number in
           let from_none : Leads c n [] kept.made (history_seen w.seat) =

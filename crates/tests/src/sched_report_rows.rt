@@ -8,8 +8,8 @@ use sched_report::Reporter;
 use std::alloc::AllocGlobal;
 use std::test::Fail;
 
-// Two frames, the second with a data grant of 9 minislots; a request to nobody; a frame after others were left out, with
-// an unsolicited grant of 4 minislots and a poll of 2.
+// Two frames, the second with a data grant of 9 minislots; a request to nobody; a frame after others were left out,
+// with an unsolicited grant of 4 minislots and a poll of 2.
 const CALLS: [Call; 9] = [
     Call::Build { now: 760 },
     Call::Admit(
