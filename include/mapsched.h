@@ -63,11 +63,13 @@ enum mapsched_status {
   MAPSCHED_NO_HISTORY = 11,   /* a text is no history: the place of the entry is told, from 1, or 0 */
   MAPSCHED_NO_TICKET = 12,    /* the worker has no ticket */
   MAPSCHED_NOT_SERVED = 13,   /* the worker's ticket is not served yet */
-  MAPSCHED_HAS_TICKET = 14,   /* the worker has a ticket */
+  MAPSCHED_HAS_TICKET = 14,   /* the worker has a ticket, or is in its turn */
   MAPSCHED_NO_SEAT = 15,      /* no seat is with the worker */
   MAPSCHED_WORKERS_OUT = 16,  /* other workers are left */
   MAPSCHED_BAD_SEATS = 17,    /* fewer than 1 seat, or more than MAPSCHED_MAX_SEATS */
   MAPSCHED_HANDED_OVER = 18,  /* an entry, or one of a history, is no longer kept: it was let go */
+  MAPSCHED_NO_TURN = 19,      /* the worker is not in its turn */
+  MAPSCHED_KEEPS_ALL = 20,    /* the scheduler of the workplace keeps its whole history: nothing was let go */
   MAPSCHED_BAD_CONFIG = 100,  /* and the number of the first wrong field: 101 to 119, in the order of README's table */
   MAPSCHED_BAD_PAYLOAD = 200, /* and the number of the first fault: 201 to 207, in the order of README's list */
   MAPSCHED_BAD_MAP = 300      /* and the number of the first fault of numbers that are no MAP: 301 to 305 */
@@ -231,8 +233,15 @@ struct mapsched_worker {
   void *at;
 };
 
-/* Opens a scheduler with 1 to 64 seats, and puts its first worker into an empty handle. The other seats are with it. */
+/*
+ * Opens a scheduler with 1 to 64 seats, and puts its first worker into an empty handle. The other seats are with it.
+ * The scheduler keeps all recorded calls.
+ */
 uint32_t mapsched_open_workers(struct mapsched_worker *worker, const struct mapsched_config *config, uint32_t seats);
+
+/* Opens one that goes on without end: a worker in its turn can let go of what is kept. */
+uint32_t mapsched_open_workers_without_end(struct mapsched_worker *worker, const struct mapsched_config *config,
+                                           uint32_t seats);
 
 /* Gives one of the seats that are with a worker to a new one, in an empty handle: another than the first. */
 uint32_t mapsched_hire(struct mapsched_worker *worker, struct mapsched_worker *hired);
@@ -247,7 +256,35 @@ uint32_t mapsched_draw(struct mapsched_worker *worker);
  */
 uint32_t mapsched_turn(struct mapsched_worker *worker, const struct mapsched_call *call, struct mapsched_reply *reply);
 
-/* Lets a worker go, if it has no ticket, with the seats that are with it. */
+/*
+ * If the ticket is served, the turn begins and goes on until mapsched_turn_forget or mapsched_end: in it the worker
+ * looks at the scheduler, while no other worker has a turn. If it is not: MAPSCHED_NOT_SERVED. It looks once and never
+ * waits. In such a turn no call is made. A worker that is not in one gets MAPSCHED_NO_TURN from the functions below.
+ */
+uint32_t mapsched_begin(struct mapsched_worker *worker);
+
+/* To a worker in its turn: how many calls were recorded, those included that are no longer kept. */
+uint32_t mapsched_turn_count(struct mapsched_worker *worker, size_t *count);
+
+/* The number of the first recorded call that is kept, from 0: so many were let go. */
+uint32_t mapsched_turn_kept_from(struct mapsched_worker *worker, size_t *place);
+
+/* The recorded call of this number, from 0, where it is kept; else MAPSCHED_HANDED_OVER. */
+uint32_t mapsched_turn_entry(struct mapsched_worker *worker, size_t place, struct mapsched_entry *entry);
+
+/* Writes the recorded calls that are kept as mapsched_lines does. */
+uint32_t mapsched_turn_lines(struct mapsched_worker *worker, uint8_t *room, size_t room_length, size_t *length);
+
+/*
+ * Lets go of all recorded calls that are kept, and ends the turn. The turn ends too where the scheduler keeps all:
+ * MAPSCHED_KEEPS_ALL.
+ */
+uint32_t mapsched_turn_forget(struct mapsched_worker *worker);
+
+/* Ends the turn, and lets nothing go. */
+uint32_t mapsched_end(struct mapsched_worker *worker);
+
+/* Lets a worker go, if it has no ticket and is not in its turn, with the seats that are with it. */
 uint32_t mapsched_leave(struct mapsched_worker *worker);
 
 /* When all others have left: closes the workplace, and puts its scheduler with the history into an empty handle. */
@@ -259,7 +296,8 @@ static inline const char *mapsched_status_text(uint32_t status) {
                                       "history full", "out of memory",   "no such entry",       "no room",
                                       "illegal",      "text too long",   "not json",            "no history",
                                       "no ticket",    "not served",      "has a ticket",        "no seat",
-                                      "workers left", "seats",           "not kept"};
+                                      "workers left", "seats",           "not kept",            "no turn",
+                                      "keeps all"};
   static const char *const fields[] = {"ticks",         "bytes_per_slot", "overhead",   "frame",     "cycle",
                                        "req_slots",     "poll_slots",     "lead",       "short_max", "quantum",
                                        "grant_cap",     "receivers",      "calls",      "start",     "ranging_start",
@@ -268,7 +306,7 @@ static inline const char *mapsched_status_text(uint32_t status) {
                                        "a descent", "no null",           "a second null"};
   static const char *const map_faults[] = {"too many elements", "out of range", "a descent", "no null",
                                            "a second null"};
-  if (status <= MAPSCHED_HANDED_OVER) return texts[status];
+  if (status <= MAPSCHED_KEEPS_ALL) return texts[status];
   if (status > MAPSCHED_BAD_CONFIG && status <= MAPSCHED_BAD_CONFIG + MAPSCHED_CONFIG_FIELDS)
     return fields[status - MAPSCHED_BAD_CONFIG - 1];
   if (status > MAPSCHED_BAD_PAYLOAD && status <= MAPSCHED_BAD_PAYLOAD + MAPSCHED_PAYLOAD_FAULTS)

@@ -143,6 +143,76 @@ static size_t lines_in(const uint8_t *text, size_t length) {
   return lines;
 }
 
+/* A worker that is in no turn is told so, and nothing has changed. */
+static void no_turn(struct mapsched_worker *worker, uint32_t status) {
+  struct mapsched_entry entry = {0};
+  uint8_t text[1] = {0xa5};
+  size_t count = 99, place = 99, length = 99;
+  WANT(mapsched_turn_count(worker, &count) == status && count == 99);
+  WANT(mapsched_turn_kept_from(worker, &place) == status && place == 99);
+  WANT(mapsched_turn_entry(worker, 0, &entry) == status && entry.reply.length == 0);
+  WANT(mapsched_turn_lines(worker, text, sizeof text, &length) == status && length == 99 && text[0] == 0xa5);
+  WANT(mapsched_turn_forget(worker) == status && mapsched_end(worker) == status);
+}
+
+/* What a worker in its turn sees after so many calls, of which the last is kept alone, and how it may not go. */
+static void in_turn(struct mapsched_worker *worker, size_t made, uint64_t value) {
+  struct mapsched_scheduler scheduler = {0};
+  struct mapsched_call build = {.kind = MAPSCHED_BUILD, .minislot = 760};
+  struct mapsched_reply reply = {0};
+  struct mapsched_entry entry = {0};
+  static uint8_t text[10000];
+  size_t count = 99, place = 99, length = 99;
+  WANT(mapsched_turn_count(worker, &count) == MAPSCHED_OK && count == made);
+  WANT(mapsched_turn_kept_from(worker, &place) == MAPSCHED_OK && place == made - 1);
+  WANT(mapsched_turn_entry(worker, made - 1, &entry) == MAPSCHED_OK && entry.reply.value == value);
+  WANT(made == 1 || mapsched_turn_entry(worker, made - 2, &entry) == MAPSCHED_HANDED_OVER);
+  WANT(mapsched_turn_entry(worker, made, &entry) == MAPSCHED_NO_ENTRY && entry.reply.value == value);
+  WANT(mapsched_turn_lines(worker, text, 1, &length) == MAPSCHED_NO_ROOM && length > 1);
+  WANT(mapsched_turn_lines(worker, text, sizeof text, &length) == MAPSCHED_OK && lines_in(text, length) == 1);
+  WANT(mapsched_begin(worker) == MAPSCHED_NO_TICKET && mapsched_draw(worker) == MAPSCHED_HAS_TICKET);
+  WANT(mapsched_turn(worker, &build, &reply) == MAPSCHED_NO_TICKET && mapsched_leave(worker) == MAPSCHED_HAS_TICKET);
+  WANT(mapsched_close_workers(worker, &scheduler) == MAPSCHED_HAS_TICKET && worker->full);
+}
+
+/* A worker whose turn begins and ends, at a workplace that goes on without end and at one that keeps all. */
+static void turns(void) {
+  struct mapsched_config config = lawful();
+  struct mapsched_worker first = {0}, second = {0};
+  struct mapsched_scheduler scheduler = {0};
+  struct mapsched_call build = {.kind = MAPSCHED_BUILD, .minislot = 760};
+  struct mapsched_reply reply = {0};
+  size_t count = 99, place = 99;
+  config.calls = 1;
+
+  WANT(mapsched_begin(&first) == MAPSCHED_EMPTY);
+  no_turn(&first, MAPSCHED_EMPTY);
+  WANT(mapsched_open_workers_without_end(&first, &config, 2) == MAPSCHED_OK);
+  WANT(mapsched_open_workers_without_end(&first, &config, 2) == MAPSCHED_FULL);
+  WANT(mapsched_hire(&first, &second) == MAPSCHED_OK && mapsched_begin(&first) == MAPSCHED_NO_TICKET);
+  for (size_t made = 1; made < 7; made++, build.minislot += 40) {
+    WANT(mapsched_draw(&second) == MAPSCHED_OK && mapsched_turn(&second, &build, &reply) == MAPSCHED_OK);
+    WANT(mapsched_draw(&second) == MAPSCHED_OK && mapsched_draw(&first) == MAPSCHED_OK);
+    WANT(mapsched_begin(&first) == MAPSCHED_NOT_SERVED && mapsched_begin(&second) == MAPSCHED_OK);
+    no_turn(&first, MAPSCHED_NO_TURN);
+    in_turn(&second, made, reply.value);
+    WANT(mapsched_begin(&first) == MAPSCHED_NOT_SERVED && mapsched_turn_forget(&second) == MAPSCHED_OK);
+    WANT(mapsched_begin(&first) == MAPSCHED_OK && mapsched_turn_kept_from(&first, &place) == MAPSCHED_OK);
+    WANT(place == made && mapsched_end(&first) == MAPSCHED_OK);
+    no_turn(&first, MAPSCHED_NO_TURN);
+  }
+  WANT(mapsched_leave(&second) == MAPSCHED_OK && mapsched_close_workers(&first, &scheduler) == MAPSCHED_OK);
+  WANT(mapsched_count(&scheduler, &count) == MAPSCHED_OK && count == 6);
+  WANT(mapsched_kept_from(&scheduler, &place) == MAPSCHED_OK && place == 6);
+  WANT(mapsched_close(&scheduler) == MAPSCHED_OK);
+
+  WANT(mapsched_open_workers(&first, &config, 1) == MAPSCHED_OK && mapsched_draw(&first) == MAPSCHED_OK);
+  WANT(mapsched_begin(&first) == MAPSCHED_OK && mapsched_turn_forget(&first) == MAPSCHED_KEEPS_ALL);
+  WANT(mapsched_leave(&first) == MAPSCHED_OK);
+  WANT(strcmp(mapsched_status_text(MAPSCHED_NO_TURN), "no turn") == 0);
+  WANT(strcmp(mapsched_status_text(MAPSCHED_KEEPS_ALL), "keeps all") == 0);
+}
+
 /* The lines of a journal are those of what is kept, and the opening is that of the configuration. */
 static void journals(void) {
   static const char front[] = "{\"config\":{\"bytes_per_slot\":16,\"calls\":2,\"channel\":3,";
@@ -295,10 +365,11 @@ int main(void) {
   WANT(reply.starts[0] == 4 && reply.starts[1] == 10 && reply.starts[2] == 16);
   WANT(mapsched_entry(&scheduler, 1, &entry) == MAPSCHED_OK && memcmp(&entry.call, &voice, NUMBERS) == 0);
   WANT(mapsched_close(&scheduler) == MAPSCHED_OK);
-  WANT(strcmp(mapsched_status_text(19), "unknown status") == 0);
+  WANT(strcmp(mapsched_status_text(21), "unknown status") == 0);
   WANT(strcmp(mapsched_status_text(100), "unknown status") == 0);
   workers();
   forgetting();
   journals();
+  turns();
   return failures != 0;
 }

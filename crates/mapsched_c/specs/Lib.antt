@@ -10,3 +10,4 @@ pub mod Map
 pub mod Encode
 pub mod Post
 pub mod Worker
+pub mod Turn

@@ -2,8 +2,8 @@
 
 ghost use Rattle.std.specs.Prelude.{◌≡◌, IfOk, Some};
 ghost use Rattle.std.specs.List.{AllByRecursion};
-ghost use Rattle.sched_history.specs.Machine.{IsEncodable};
-ghost use Rattle.mapsched_c.specs.Journal.{lines_of, GivesLines, GivesOpening};
+ghost use Rattle.sched_history.specs.Machine.{kept_of, IsEncodable};
+ghost use Rattle.mapsched_c.specs.Journal.{lines_of, GivesTextOrNone, GivesLines, GivesOpening};
 
 use crate::handle::Handle;
 use crate::scheduler::entries;
@@ -26,8 +26,13 @@ pub(crate) fn lines_text(alloc: Global, entries: &[Entry]) -> Result<Vec<u8>, Al
 }
 
 // Writes the lines of the entries that are kept.
-fn give_lines(alloc: Global, scheduler: &Scheduler, room: &mut [u8], length: &mut usize) -> u32
-    ensures { GivesLines (Some scheduler.now) result room.old room.new length.old length.new }
+pub(crate) fn give_lines(
+    alloc: Global,
+    scheduler: &Scheduler,
+    room: &mut [u8],
+    length: &mut usize,
+) -> u32
+    ensures { GivesTextOrNone (lines_of (kept_of scheduler.now)) result room.old room.new length.old length.new }
 {
     let kept = entries(scheduler);
     match lines_text(alloc, kept) {

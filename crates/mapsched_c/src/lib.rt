@@ -15,5 +15,6 @@ mod reply;
 mod scheduler;
 mod status;
 mod texts;
+mod turns;
 mod worker_handle;
 mod workers;
