@@ -11,3 +11,5 @@ pub mod MayNotes
 pub mod LifeNotes
 pub mod LivesEach
 pub mod LiveNow
+pub mod RowsPercentiles
+pub mod RowsSaid

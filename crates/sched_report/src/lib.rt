@@ -7,6 +7,7 @@ mod lives;
 mod reporter;
 mod service;
 mod slots;
+mod spread;
 mod totals;
 
 pub use calls::Calls;
@@ -14,4 +15,5 @@ pub use life::LifeNumbers;
 pub use reporter::Reporter;
 pub use service::{Delays, Request, Service, Sums};
 pub use slots::{Slots, Use};
+pub use spread::EXACT;
 pub use totals::Totals;
