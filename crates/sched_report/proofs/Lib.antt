@@ -4,11 +4,16 @@ pub mod Frames
 pub mod Totalled
 pub mod Reaching
 pub mod Serving
+pub mod Unserved
+pub mod Steps
+pub mod NearTold
+pub mod Ranked
 pub mod PastLives
 pub mod Fronts
 pub mod LegalLives
 pub mod MayNotes
 pub mod LifeNotes
+pub mod LifeTold
 pub mod LivesEach
 pub mod LiveNow
 pub mod RowsPercentiles

@@ -1,5 +1,5 @@
 -- Worked rows: the values that so many in a hundred do not exceed.
-use Rattle.std.proofs.Common.{◌≡◌, [], ◌∷◌, ◌++◌, None, Some, refl}
+use Rattle.std.proofs.Common.{◌≡◌, [], ◌∷◌, None, Some, refl}
 use Rattle.std.specs.List.{range_with_len}
 use Rattle.sched_report.specs.Spread.{percentile_of}
 

@@ -1,6 +1,5 @@
 -- Worked rows: the requests and the grants of a best effort flow and of an unsolicited one.
-use Rattle.std.proofs.Common.{◌≡◌, ℕ, Bool, true, false, List, [], ◌∷◌, None, Some, refl}
-use Rattle.flow_book.specs.declared.spec.FlowSpec.{FlowSpec}
+use Rattle.std.proofs.Common.{◌≡◌, Bool, true, false, List, [], ◌∷◌, None, Some, refl}
 use Rattle.flow_book.specs.declared.spec.FlowSpec.TheVariants.{BestEffort, Unsolicited, Polled}
 use Rattle.flow_book.proofs.Base.{base}
 use Rattle.map_build.specs.declared.frame_map.FrameMap.{FrameMap}
@@ -10,7 +9,7 @@ use Rattle.sched_history.specs.declared.reply.Reply.TheVariants.{Taken, Built}
 use Rattle.sched_history.specs.declared.reply.Entry.{Entry}
 use Rattle.sched_history.proofs.rows.TwoMaps.{entry}
 use Rattle.sched_report.specs.Lives.{PastLife}
-use Rattle.sched_report.specs.Said.{delays_in, unserved_in, waiting_in, dropped_in, outstanding_in, granted_in}
+use Rattle.sched_report.specs.Said.{delays_in, waiting_in, dropped_in, outstanding_in, granted_in}
 use Rattle.sched_report.specs.Said.{priority_of}
 use Rattle.sched_report.specs.Ranks.{is_of_rank, lives_of_rank, asks_among, granted_among, waiting_among}
 use Rattle.sched_report.specs.Ranks.{dropped_among, delays_in_all}

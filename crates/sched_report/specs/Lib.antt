@@ -5,6 +5,7 @@ pub mod Counted
 pub mod Reported
 pub mod Delays
 pub mod Spread
+pub mod Steps
 pub mod Served
 pub mod Lives
 pub mod Said

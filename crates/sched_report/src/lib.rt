@@ -4,6 +4,8 @@
 mod calls;
 mod life;
 mod lives;
+mod percentiles;
+mod ranks;
 mod reporter;
 mod service;
 mod slots;
@@ -11,7 +13,8 @@ mod spread;
 mod totals;
 
 pub use calls::Calls;
-pub use life::LifeNumbers;
+pub use life::{LifeNumbers, POLLED};
+pub use ranks::{RankNumbers, RankSums};
 pub use reporter::Reporter;
 pub use service::{Delays, Request, Service, Sums};
 pub use slots::{Slots, Use};

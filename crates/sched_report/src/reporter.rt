@@ -7,11 +7,13 @@ ghost use Rattle.sched_history.specs.History.{IsStep, IsLegal};
 ghost use Rattle.sched_report.specs.Counts.{CountsRefusals};
 ghost use Rattle.sched_report.specs.Totals.{totals_of};
 ghost use Rattle.sched_report.specs.Lives.{PastLife, lives_of};
+ghost use Rattle.sched_report.specs.Ranks.{lives_of_rank, AreRankNumbers};
 ghost use Rattle.sched_report.specs.ToldLives.{MayLackReportMemory, AreLifeNumbers};
 
 use crate::calls::{REFUSALS, count_refusal};
 use crate::life::{LifeNumbers, LifeTally};
 use crate::lives::{follow, reserve_for};
+use crate::ranks::{RankNumbers, numbers_of};
 use crate::totals::Totals;
 use frame_picture::{Flows, no_flows, note};
 use minislots::Checked;
@@ -127,5 +129,12 @@ impl Reporter {
             (slice_index_or (lives_of self.now.history) place life) }
     {
         self.lives[place].numbers(self.next)
+    }
+
+    /// The numbers of a rank: of polled flows in [`POLLED`](crate::POLLED), of best effort flows in their priority.
+    pub fn rank(&self, rank: u8) -> RankNumbers
+        ensures { AreRankNumbers self.now.config result (lives_of_rank rank (lives_of self.now.history)) }
+    {
+        numbers_of(&self.lives, rank)
     }
 }
