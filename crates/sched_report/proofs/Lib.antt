@@ -15,6 +15,7 @@ pub mod MayNotes
 pub mod LifeNotes
 pub mod LifeTold
 pub mod LivesEach
+pub mod LivesGoing
 pub mod LiveNow
 pub mod RowsPercentiles
 pub mod RowsSaid

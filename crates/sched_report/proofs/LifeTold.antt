@@ -19,6 +19,10 @@ pub some_end : (ended : Bool) (n : ℕ) (o : Option ℕ) → o ≡ (if ended the
 some_end true n o is = ap is_some is
 some_end false n o is = ap is_some is
 
+pub no_end : (o : Option ℕ) → is_some o ≡ false → o ≡ None
+no_end None none = refl
+no_end (Some n) none = absurd (cc)
+
 -- the end, or what stands for it
 pub end_told : (ended : Bool) (n now : ℕ) (o : Option ℕ) → o ≡ (if ended then Some n else None)
     → (ended ≡ false → now ≡ n) → unwrap_or o now ≡ n

@@ -11,4 +11,5 @@ pub mod Lives
 pub mod Said
 pub mod Ranks
 pub mod Told
+pub mod Live
 pub mod ToldLives

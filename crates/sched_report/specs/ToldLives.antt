@@ -16,7 +16,7 @@ use Rattle.sched_report.specs.Delays.{AreSums}
 use Rattle.sched_report.specs.Lives.{PastLife, lives_of, requests_in, IsRequest, IsOpening}
 use Rattle.sched_report.specs.Spread.{TellsPercentile}
 use Rattle.sched_report.specs.Said.{delays_in, priority_of, granted_in, outstanding_in, waiting_in, dropped_in}
-use Rattle.sched_report.specs.Told.{IsLifeOf, MayNote, HasRoomFor}
+use Rattle.sched_report.specs.Told.{IsLifeOf, MayNote}
 
 -- What is told is of these lives, each at its place
 pub record AreLives (c : Config) (ts : List LifeTally) (lives : List PastLife) : Type 0 where
@@ -28,10 +28,6 @@ pub record AreLives (c : Config) (ts : List LifeTally) (lives : List PastLife) :
 abbrev pub MayNoteEach : Config → List PastLife → ℕ → Entry → Type 0
 MayNoteEach c lives slot e =
     (k : ℕ) (life : PastLife) → k < length lives → MayNote c (slice_index_or lives k life) slot e
-
--- there is room for one request more of each
-abbrev pub HaveRoom : List LifeTally → Type 0
-HaveRoom ts = (k : ℕ) (t : LifeTally) → k < length ts → HasRoomFor (slice_index_or ts k t)
 
 -- a report keeps something of the entry: it begins a life, or is a request
 abbrev pub AddsToReport : Call → Reply → Type 0

@@ -1,6 +1,6 @@
 //! One life of a flow: what it asked and was granted, and from when to when it lived.
 
-ghost use Rattle.std.specs.Prelude.{◌≡◌, ◌<◌, ◌≤◌, ◌^◌, ◌++◌, [], List, length, count_by, false, Some, IfSome, OnOk};
+ghost use Rattle.std.specs.Prelude.{◌≡◌, ◌<◌, ◌≤◌, ◌^◌, ◌++◌, [], List, length, count_by, false, None, Some, is_some, IfSome, OnOk};
 ghost use Rattle.std.specs.List.{cons_option, filter_map, zip};
 ghost use Rattle.minislots.specs.declared.config.Config.{Config};
 ghost use Rattle.map_codec.specs.Element.{nulls};
@@ -183,21 +183,34 @@ impl LifeTally {
         }
     }
 
-    // Takes memory for one request more. What is told stays.
-    pub(crate) fn reserve(&mut self) -> Result<(), AllocError>
-        ensures ok { OnOk result (HasRoomFor self.new) }
-        ensures same { (c : Config) (life : PastLife) → IsLifeOf c self.old life → IsLifeOf c self.new life }
+    // Whether it has ended.
+    pub(crate) fn has_ended(&self) -> bool
+        ensures { result ≡ is_some self.now.to }
     {
+        self.to.is_some()
+    }
+
+    // Takes memory for the request that an entry is, where it is one of this SID. What is told stays.
+    pub(crate) fn reserve_for(&mut self, entry: &Entry) -> Result<(), AllocError>
+        ensures ok { OnOk result ((r : Asked) → request_by self.new.sid entry.now.call entry.now.reply ≡ Some r
+            → HasRoomFor self.new) }
+        ensures same { (c : Config) (life : PastLife) → IsLifeOf c self.old life → IsLifeOf c self.new life }
+        ensures unmoved { self.new ≡ record self.old { service = self.new.service } }
+    {
+        if request_of(self.sid, entry).is_none() {
+            return Ok(());
+        }
         self.service.reserve()
     }
 
     // Goes on with one entry more, before which the next frame starts there.
     pub(crate) fn note(&mut self, config: &Checked, next: u64, entry: &Entry)
         requires may { (life : PastLife) × IsLifeOf config.now self.old life × MayNote config.now life next entry.now }
-        requires room { (r : Asked) → request_by self.old.sid entry.now.call entry.now.reply ≡ Some r
-            → HasRoomFor self.old }
-        ensures { (life : PastLife) → IsLifeOf config.now self.old life → MayNote config.now life next entry.now
+        requires room { self.old.to ≡ None → (r : Asked)
+            → request_by self.old.sid entry.now.call entry.now.reply ≡ Some r → HasRoomFor self.old }
+        ensures life { (life : PastLife) → IsLifeOf config.now self.old life → MayNote config.now life next entry.now
             → IsLifeOf config.now self.new (with_entry entry.now life) }
+        ensures alive { self.new.to ≡ None → self.old.to ≡ None }
     {
         if self.to.is_some() {
             return;

@@ -37,6 +37,8 @@ pub struct Reporter {
     totals: Totals,
     refused: [u64; REFUSALS],
     lives: Vec<LifeTally>,
+    // The places of those that go on, which alone an entry is shown to.
+    live: Vec<usize>,
 }
 
 impl Model for Reporter {
@@ -48,7 +50,7 @@ impl Model for Reporter {
 
     ghost view = { λ r. r.auditor };
 
-    ghost invariant = { λ r. IsReport r.config r.auditor r.flows r.totals r.refused r.next r.lives.items };
+    ghost invariant = { λ r. IsReport r.config r.auditor r.flows r.totals r.refused r.next r.lives.items r.live.items };
 }
 
 impl Reporter {
@@ -65,6 +67,7 @@ impl Reporter {
             totals: Totals::none(),
             refused: [0; REFUSALS],
             lives: Vec::new(alloc),
+            live: Vec::new(alloc),
         })
     }
 
@@ -88,7 +91,7 @@ impl Reporter {
         if self.auditor.taken() >= MAX_WHOLE_HISTORY {
             return Err(JudgeFault::Full);
         }
-        match reserve_for(&mut self.lives, entry) {
+        match reserve_for(&mut self.lives, &mut self.live, entry) {
             Ok(()) => {}
             Err(_) => return Err(JudgeFault::Memory),
         }
@@ -96,7 +99,14 @@ impl Reporter {
         self.totals.add(&self.config, &self.flows, entry);
         count_refusal(&mut self.refused, entry);
         note(&mut self.flows, entry);
-        self.next = follow(&mut self.lives, &self.config, self.alloc, self.next, entry);
+        self.next = follow(
+            &mut self.lives,
+            &mut self.live,
+            &self.config,
+            self.alloc,
+            self.next,
+            entry,
+        );
         Ok(())
     }
 

@@ -8,6 +8,7 @@ use Rattle.sched_report.specs.Said.{unsolicited_of_map}
 use Rattle.sched_report.specs.Told.{MayGrantAll}
 use Rattle.sched_report.proofs.LifeNotes.{not_ended, may_ask, goes_on-asked, may_grant_map, goes_on-granted}
 use Rattle.sched_report.proofs.LifeNotes.{goes_on-silent, none_of}
+use Rattle.sched_report.proofs.LifeTold.{no_end}
 use Rattle.sched_report.proofs.life.LifeTally.note.Goals as goal
 
 pub ask-requires-clause-may : goal.ask-requires-clause-may
@@ -26,10 +27,12 @@ ask-requires-clause-may c =
     may_ask c.args.config.now c.args.self.now life c.args.next e is may alive stays c.in-Some.request asks
 
 pub ask-requires-clause-room : goal.ask-requires-clause-room
-ask-requires-clause-room c = c.requires.room c.in-Some.request (sym c.request_of.ensures ∙ c.in-Some.is)
+ask-requires-clause-room c =
+    c.requires.room (no_end c.args.self.now.to (sym c.is_some.ensures ∙ c.if-is_some.false)) c.in-Some.request
+    (sym c.request_of.ensures ∙ c.in-Some.is)
 
-pub returns-in-Some : goal.returns-in-Some
-returns-in-Some c = λ life is may.
+pub returns-in-Some-clause-life : goal.returns-in-Some-clause-life
+returns-in-Some-clause-life c = λ life is may.
     let e = c.args.entry.now in
     let alive : life.ended ≡ false =
     not_ended life.ended (next_after c.args.config.now (life.upto ++ life.since)) c.args.self.now.to is.to
@@ -70,8 +73,8 @@ overflow_add-self c =
     let more = c.unsolicited_of_map.ensures in
     omega (arith, is.bounded, may.few, c.from.ensures, more.few, (may.orderly c.in-Built.map c.in-Built.is).within)
 
-pub returns-in-Built : goal.returns-in-Built
-returns-in-Built c = λ life is may.
+pub returns-in-Built-clause-life : goal.returns-in-Built-clause-life
+returns-in-Built-clause-life c = λ life is may.
     let e = c.args.entry.now in
     let m = c.in-Built.map in
     let alive : life.ended ≡ false =
@@ -92,8 +95,8 @@ returns-in-Built c = λ life is may.
     (grants_since life.sid life.since ++ grants_of_map s m)) is.sid
     (c.grant_map.ensures (requests_in life.sid life.since) (grants_since life.sid life.since) is.service))
 
-pub returns-in_default-reply : goal.returns-in_default-reply
-returns-in_default-reply c = λ life is may.
+pub returns-in_default-reply-clause-life : goal.returns-in_default-reply-clause-life
+returns-in_default-reply-clause-life c = λ life is may.
     let e = c.args.entry.now in
     let alive : life.ended ≡ false =
     not_ended life.ended (next_after c.args.config.now (life.upto ++ life.since)) c.args.self.now.to is.to
