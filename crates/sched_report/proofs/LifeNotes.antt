@@ -3,11 +3,12 @@ use Rattle.std.proofs.Common.{◌≡◌, ℕ, ◌+◌, ◌≤◌, Bool, true, fa
 use Rattle.std.proofs.Common.{Option, None, Some, refl, sym, ap, ◌∙◌, subst, if◌then◌else◌, arith}
 use Rattle.std.specs.Prelude.{is_some}
 use Rattle.std.specs.List.{cons_option}
-use Rattle.std.proofs.lemmas.List.{append-nil}
+use Rattle.std.proofs.lemmas.List.{append-nil, length_push}
 use Rattle.std.proofs.lemmas.List.Elements.{filter_map-append}
 use Rattle.std.proofs.lemmas.List.Sums.{sum_by_push}
 use Rattle.minislots.specs.declared.config.Config.{Config}
 use Rattle.flow_book.specs.declared.flow.Grant.{Grant}
+use Rattle.flow_book.specs.declared.spec.FlowSpec.{FlowSpec}
 use Rattle.flow_book.specs.Flows.{bytes_of}
 use Rattle.map_build.specs.declared.frame_map.FrameMap.{FrameMap}
 use Rattle.sched_history.specs.declared.call.Call.{Call}
@@ -23,6 +24,7 @@ use Rattle.sched_report.specs.declared.service.Request.{Request}
 use Rattle.sched_report.specs.Delays.{bytes_asked}
 use Rattle.sched_report.specs.Served.{IsServiceOf, MayAsk}
 use Rattle.sched_report.specs.Lives.{PastLife, is_turn, request_by, requests_in, with_entry}
+use Rattle.sched_report.specs.Said.{unsolicited_of_map, unsolicited_by}
 use Rattle.sched_report.specs.Told.{IsLifeOf, MayNote, MayGrantAll}
 
 -- a life of which no end is told has not ended
@@ -42,6 +44,12 @@ request_ungranted : (sid : ℕ) (call : Call) (reply : Reply) (r : Request) → 
 request_ungranted sid (calls.Ask receiver other bytes heard) replies.Taken r is = refl
 request_ungranted sid call reply r is = absurd (cc)
 
+-- nor unsolicited ones
+request_unsolicited : (spec : FlowSpec) (sid other : ℕ) (call : Call) (reply : Reply) (r : Request)
+    → request_by other call reply ≡ Some r → unsolicited_by spec sid reply ≡ 0
+request_unsolicited spec sid other (calls.Ask receiver to bytes heard) replies.Taken r is = refl
+request_unsolicited spec sid other call reply r is = absurd (cc)
+
 -- nor has an entry without a MAP
 ungranted : (sid : ℕ) (reply : Reply) → ((m : FrameMap) → reply ≡ replies.Built m → ⊥) → grants_by sid reply ≡ []
 ungranted sid (replies.Built m) unbuilt = absurd (unbuilt m refl)
@@ -53,12 +61,23 @@ ungranted sid replies.Noted unbuilt = refl
 ungranted sid (replies.Flow asked granted outstanding) unbuilt = refl
 ungranted sid (replies.Refused refusal) unbuilt = refl
 
+ungranted_unsolicited : (spec : FlowSpec) (sid : ℕ) (reply : Reply)
+    → ((m : FrameMap) → reply ≡ replies.Built m → ⊥) → unsolicited_by spec sid reply ≡ 0
+ungranted_unsolicited spec sid (replies.Built m) unbuilt = absurd (unbuilt m refl)
+ungranted_unsolicited spec sid (replies.Skipped n) unbuilt = refl
+ungranted_unsolicited spec sid (replies.Admitted placement) unbuilt = refl
+ungranted_unsolicited spec sid replies.Removed unbuilt = refl
+ungranted_unsolicited spec sid replies.Taken unbuilt = refl
+ungranted_unsolicited spec sid replies.Noted unbuilt = refl
+ungranted_unsolicited spec sid (replies.Flow asked granted outstanding) unbuilt = refl
+ungranted_unsolicited spec sid (replies.Refused refusal) unbuilt = refl
+
 -- an entry is one request at most
 one_request : (o : Option Request) (rs : List Request) → length (cons_option o rs) ≤ length rs + 1
 one_request None rs = omega arith
 one_request (Some r) rs = omega arith
 
-few_requests : (sid : ℕ) (es : List Entry) → length (requests_in sid es) ≤ length es
+pub few_requests : (sid : ℕ) (es : List Entry) → length (requests_in sid es) ≤ length es
 few_requests sid [] = omega arith
 few_requests sid (e ∷ es) =
     omega (arith, one_request (request_by sid e.call e.reply) (requests_in sid es), few_requests sid es)
@@ -80,11 +99,13 @@ module _ (c : Config) (t : LifeTally) (life : PastLife) (slot : ℕ) (e : Entry)
 
   -- the life goes on with what the entry has of requests and grants
   goes_on : (new : LifeTally) → new.sid ≡ t.sid → new.spec ≡ t.spec → new.from ≡ t.from → new.to ≡ t.to
+      → new.unsolicited ≡ t.unsolicited + unsolicited_by life.spec life.sid e.reply
+      → unsolicited_by life.spec life.sid e.reply ≤ 240
       → IsServiceOf c new.service
       (requests_in life.sid life.since ++ cons_option (request_by life.sid e.call e.reply) [])
       (grants_since life.sid life.since ++ grants_by life.sid e.reply)
       → IsLifeOf c new (with_entry e life)
-  goes_on new sid spec from to service =
+  goes_on new sid spec from to more few service =
       subst (IsLifeOf c new) (sym with_entry-stays) (record {
         sid = sid ∙ is.sid;
         spec = spec ∙ is.spec;
@@ -97,6 +118,14 @@ module _ (c : Config) (t : LifeTally) (life : PastLife) (slot : ℕ) (e : Entry)
             (subst (λ rs. IsServiceOf c new.service rs
             (grants_since life.sid life.since ++ grants_by life.sid e.reply))
             (sym (requests_in-push life.sid life.since e)) service);
+        few = omega (arith, may.few, length_push life.since e);
+        unsolicited = omega (
+          arith,
+          more,
+          is.unsolicited,
+          sum_by_push (λ (e : Entry). unsolicited_by life.spec life.sid e.reply) life.since e,
+        );
+        bounded = omega (arith, more, few, is.bounded, length_push life.since e);
       })
 
   -- a request may be counted
@@ -122,11 +151,13 @@ module _ (c : Config) (t : LifeTally) (life : PastLife) (slot : ℕ) (e : Entry)
 
   -- and with it the life goes on
   pub goes_on-asked : (new : LifeTally) → new.sid ≡ t.sid → new.spec ≡ t.spec → new.from ≡ t.from → new.to ≡ t.to
-      → (r : Request) → request_by life.sid e.call e.reply ≡ Some r
+      → new.unsolicited ≡ t.unsolicited → (r : Request) → request_by life.sid e.call e.reply ≡ Some r
       → IsServiceOf c new.service (requests_in life.sid life.since ++ r ∷ []) (grants_since life.sid life.since)
       → IsLifeOf c new (with_entry e life)
-  goes_on-asked new sid spec from to r asks service =
-      goes_on new sid spec from to
+  goes_on-asked new sid spec from to same r asks service =
+      let none : unsolicited_by life.spec life.sid e.reply ≡ 0 =
+      request_unsolicited life.spec life.sid life.sid e.call e.reply r asks in
+      goes_on new sid spec from to (omega (arith, same, none)) (omega (arith, none))
       (subst (λ gs. IsServiceOf c new.service
       (requests_in life.sid life.since ++ cons_option (request_by life.sid e.call e.reply) []) gs)
       (sym (ap (λ (gs : List Grant). grants_since life.sid life.since ++ gs)
@@ -158,11 +189,15 @@ module _ (c : Config) (t : LifeTally) (life : PastLife) (slot : ℕ) (e : Entry)
 
   -- and with them the life goes on
   pub goes_on-granted : (new : LifeTally) → new.sid ≡ t.sid → new.spec ≡ t.spec → new.from ≡ t.from
-      → new.to ≡ t.to → (m : FrameMap) → e.reply ≡ replies.Built m → request_by life.sid e.call e.reply ≡ None
+      → new.to ≡ t.to → (m : FrameMap) → e.reply ≡ replies.Built m
+      → new.unsolicited ≡ t.unsolicited + unsolicited_of_map life.spec life.sid m
+      → unsolicited_of_map life.spec life.sid m ≤ 240 → request_by life.sid e.call e.reply ≡ None
       → IsServiceOf c new.service (requests_in life.sid life.since)
       (grants_since life.sid life.since ++ grants_of_map life.sid m) → IsLifeOf c new (with_entry e life)
-  goes_on-granted new sid spec from to m built silent service =
-      goes_on new sid spec from to
+  goes_on-granted new sid spec from to m built more few silent service =
+      let same : unsolicited_by life.spec life.sid e.reply ≡ unsolicited_of_map life.spec life.sid m =
+      ap (unsolicited_by life.spec life.sid) built in
+      goes_on new sid spec from to (omega (arith, more, same)) (omega (arith, few, same))
       (subst (λ rs. IsServiceOf c new.service rs (grants_since life.sid life.since ++ grants_by life.sid e.reply))
       (sym (ap (λ (o : Option Request). requests_in life.sid life.since ++ cons_option o []) silent
       ∙ append-nil (requests_in life.sid life.since)))
@@ -173,7 +208,9 @@ module _ (c : Config) (t : LifeTally) (life : PastLife) (slot : ℕ) (e : Entry)
   pub goes_on-silent : request_by life.sid e.call e.reply ≡ None
       → ((m : FrameMap) → e.reply ≡ replies.Built m → ⊥) → IsLifeOf c t (with_entry e life)
   goes_on-silent silent unbuilt =
-      goes_on t refl refl refl refl
+      let none : unsolicited_by life.spec life.sid e.reply ≡ 0 =
+      ungranted_unsolicited life.spec life.sid e.reply unbuilt in
+      goes_on t refl refl refl refl (omega (arith, none)) (omega (arith, none))
       (subst (λ gs. IsServiceOf c t.service
       (requests_in life.sid life.since ++ cons_option (request_by life.sid e.call e.reply) []) gs)
       (sym (ap (λ (gs : List Grant). grants_since life.sid life.since ++ gs) (ungranted life.sid e.reply unbuilt)

@@ -24,6 +24,7 @@ use Rattle.sched_history.specs.declared.reply.Refusal.TheVariants.{Acked, Ahead}
 use Rattle.sched_history.specs.History.{IsStep, IsLegal}
 use Rattle.sched_history.specs.Time.{next_after, progress_of}
 use Rattle.sched_history.specs.Facts.{IsWithinAsked}
+use Rattle.sched_history.proofs.facts.Orderly.{next_orderly}
 use Rattle.sched_history.proofs.lives.Finding.{flow_of-flows_of}
 use Rattle.sched_history.proofs.lives.LivesAfter.{with_since, life_of-stays}
 use Rattle.sched_history.proofs.facts.SoundLives.{within_asked}
@@ -163,4 +164,6 @@ module _ (c : Config) (lawful : IsLawful c) (h : List Entry) (legal : IsLegal c 
       next_start-most c lawful h m legal
           (IsNextMap-from_step c h e.call m (subst (λ r. IsStep c h e.call r) built step)),
     );
+    orderly = λ m built. next_orderly c lawful h m legal
+        (IsNextMap-from_step c h e.call m (subst (λ r. IsStep c h e.call r) built step));
   }

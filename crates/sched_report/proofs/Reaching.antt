@@ -15,14 +15,14 @@ use Rattle.sched_report.specs.Delays.{bytes_asked, marks_from, reaching, delay_u
 use Rattle.sched_report.specs.Delays.{least_of, greatest_of}
 
 -- the bytes of a grant and of those behind it
-bytes-cons : (g : Grant) (grants : List Grant) → bytes_of (g ∷ grants) ≡ g.bytes + bytes_of grants
+pub bytes-cons : (g : Grant) (grants : List Grant) → bytes_of (g ∷ grants) ≡ g.bytes + bytes_of grants
 bytes-cons g grants = sum_by-cons (λ (g : Grant). g.bytes) g grants
 
 -- a choice whose test is known
-yes : {X : Type 0} (b : Bool) (x y : X) → b ≡ true → (if b then x else y) ≡ x
+pub yes : {X : Type 0} (b : Bool) (x y : X) → b ≡ true → (if b then x else y) ≡ x
 yes b x y is = ap (λ (b : Bool). if b then x else y) is
 
-no : {X : Type 0} (b : Bool) (x y : X) → b ≡ false → (if b then x else y) ≡ y
+pub no : {X : Type 0} (b : Bool) (x y : X) → b ≡ false → (if b then x else y) ≡ y
 no b x y is = ap (λ (b : Bool). if b then x else y) is
 
 -- no grant reaches more bytes than there are

@@ -2,6 +2,8 @@
 use Rattle.std.proofs.Common.{◌≡◌, ℕ, ◌+◌, ◌<◌, ◌≤◌, List, [], ◌∷◌, ◌++◌, map, length, None, refl, sym, ap}
 use Rattle.std.proofs.Common.{◌∙◌, subst, append_assoc, length-append, Option, Some, arith}
 use Rattle.std.specs.List.{AllByRecursion, cons_option}
+use Rattle.std.specs.Prelude.{vec_len, vec_capacity}
+use Rattle.std.specs.VecDeque.{deque_len}
 use Rattle.std.proofs.lemmas.List.{append-nil, length_push}
 use Rattle.std.proofs.lemmas.List.Elements.{filter_map-append}
 use Rattle.std.proofs.lemmas.List.Sums.{sum_by_push}
@@ -11,7 +13,9 @@ use Rattle.flow_book.specs.Flows.{bytes_of}
 use Rattle.sched_report.specs.declared.service.Request.{Request}
 use Rattle.sched_report.specs.declared.service.Service.{Service}
 use Rattle.sched_report.specs.declared.service.Waiting.{Waiting}
+use Rattle.sched_report.specs.declared.spread.Step.{Step}
 use Rattle.sched_report.specs.Delays.{bytes_asked, marks_from, marks_of, delay_until, delay_of, delays_of, AreDelays}
+use Rattle.sched_report.specs.Steps.{AreStepsOf}
 use Rattle.sched_report.specs.Served.{IsServiceOf, IsWaitingBehind}
 use Rattle.sched_report.proofs.Reaching.{AreReached, AreUnreached, AreReachedBetween, delays_among}
 use Rattle.sched_report.proofs.Reaching.{delays-unreached, delays-reached, delays-last, marks_from-push, MarksAscend}
@@ -95,8 +99,10 @@ module _ (c : Config) (s new : Service) (requests : List Request) (grants : List
   pub IsServiceOf-asked : (r : Request) → 0 < r.bytes → new.asks ≡ s.asks + 1 → new.asked ≡ s.asked + r.bytes
       → new.granted ≡ s.granted → new.delays ≡ s.delays
       → new.waiting.items ≡ s.waiting.items ++ record { upto = s.asked + r.bytes; heard = r.heard } ∷ []
+      → new.spread.steps.items ≡ s.spread.steps.items
+      → vec_len new.spread.steps + deque_len new.waiting ≤ vec_capacity new.spread.steps
       → IsServiceOf c new (requests ++ r ∷ []) grants
-  IsServiceOf-asked r some asks asked granted delays waiting =
+  IsServiceOf-asked r some asks asked granted delays waiting steps room =
       let m : Waiting = record { upto = s.asked + r.bytes; heard = r.heard } in
       let upto : 0 + bytes_asked requests + r.bytes ≡ s.asked + r.bytes = omega (arith, is.asked) in
       let marks : marks_of (requests ++ r ∷ []) ≡ marks_of requests ++ m ∷ [] =
@@ -123,6 +129,9 @@ module _ (c : Config) (s new : Service) (requests : List Request) (grants : List
         unreached = subst (λ ms. AreUnreached new.granted ms) (sym waiting)
             (subst (λ n. AreUnreached n (s.waiting.items ++ m ∷ [])) (sym granted)
             (unreached-push s.granted s.waiting.items m is.unreached (omega (arith, is.within, some))));
+        steps = subst (AreStepsOf new.spread.steps.items) (sym same)
+            (subst (λ (ss : List Step). AreStepsOf ss (delays_of c requests grants)) (sym steps) is.steps);
+        room = room;
       }
 
   -- with one grant more, which serves the first that wait
@@ -131,8 +140,11 @@ module _ (c : Config) (s new : Service) (requests : List Request) (grants : List
       → s.waiting.items ≡ passed ++ new.waiting.items → AllByRecursion (λ m. m.upto ≤ new.granted) passed
       → IsWaitingBehind new.granted new.waiting.items
       → AreDelays new.delays (delays_of c requests grants ++ map (λ m. delay_until c m.heard g) passed)
+      → AreStepsOf new.spread.steps.items
+      (delays_of c requests grants ++ map (λ m. delay_until c m.heard g) passed)
+      → vec_len new.spread.steps + deque_len new.waiting ≤ vec_capacity new.spread.steps
       → IsServiceOf c new requests (grants ++ g ∷ [])
-  IsServiceOf-granted g passed asks asked granted within passes reached behind delays =
+  IsServiceOf-granted g passed asks asked granted within passes reached behind delays steps room =
       let left : List Waiting = new.waiting.items in
       let bytes : bytes_of (grants ++ g ∷ []) ≡ bytes_of grants + g.bytes =
       sum_by_push (λ (g : Grant). g.bytes) grants g in
@@ -177,13 +189,17 @@ module _ (c : Config) (s new : Service) (requests : List Request) (grants : List
         split = whole ∙ sym (append_assoc is.served passed left);
         reached = reached-append s.granted new.granted is.served passed (omega (arith, granted)) is.reached now;
         unreached = unreached;
+        steps = subst (AreStepsOf new.spread.steps.items) (sym same) steps;
+        room = room;
       }
 
 -- what is kept does not depend on room
 pub IsServiceOf-same : (c : Config) (s new : Service) (requests : List Request) (grants : List Grant)
     → new.asks ≡ s.asks → new.asked ≡ s.asked → new.granted ≡ s.granted → new.delays ≡ s.delays
-    → new.waiting.items ≡ s.waiting.items → IsServiceOf c s requests grants → IsServiceOf c new requests grants
-IsServiceOf-same c s new requests grants asks asked granted delays waiting is = record {
+    → new.waiting.items ≡ s.waiting.items → new.spread.steps.items ≡ s.spread.steps.items
+    → vec_len new.spread.steps + deque_len new.waiting ≤ vec_capacity new.spread.steps
+    → IsServiceOf c s requests grants → IsServiceOf c new requests grants
+IsServiceOf-same c s new requests grants asks asked granted delays waiting steps room is = record {
   asks = asks ∙ is.asks;
   asked = asked ∙ is.asked;
   granted = granted ∙ is.granted;
@@ -194,4 +210,6 @@ IsServiceOf-same c s new requests grants asks asked granted delays waiting is = 
   reached = subst (λ n. AreReached n is.served) (sym granted) is.reached;
   unreached = subst (λ ms. AreUnreached new.granted ms) (sym waiting)
       (subst (λ n. AreUnreached n s.waiting.items) (sym granted) is.unreached);
+  steps = subst (λ (ss : List Step). AreStepsOf ss (delays_of c requests grants)) (sym steps) is.steps;
+  room = room;
 }

@@ -1,6 +1,6 @@
 -- The requests of a flow, the data grants that serve them, and how long that takes.
-use Rattle.std.specs.Prelude.{◌≡◌, ℕ, ◌+◌, ◌-◌, min, max, nat_le, List, [], ◌∷◌, length, sum_by, filter_map}
-use Rattle.std.specs.Prelude.{Option, None, Some, option_map, if◌then◌else◌}
+use Rattle.std.specs.Prelude.{◌≡◌, ℕ, ◌+◌, ◌-◌, min, max, nat_le, List, [], ◌∷◌, length, count_by, sum_by, filter_map}
+use Rattle.std.specs.Prelude.{Option, None, Some, is_none, option_map, if◌then◌else◌}
 use Rattle.std.specs.Option.{option_map_or}
 use Rattle.minislots.specs.declared.config.Config.{Config}
 use Rattle.minislots.specs.Units.{slots_for}
@@ -40,6 +40,10 @@ delay_of c grants mark = option_map (delay_until c mark.heard) (reaching mark.up
 -- the delays of the requests that were served, in the order in which they were asked
 abbrev pub delays_of : Config → List Request → List Grant → List ℕ
 delays_of c requests grants = filter_map (delay_of c grants) (marks_of requests)
+
+-- how many requests no grant serves
+abbrev pub unserved_of : Config → List Request → List Grant → ℕ
+unserved_of c requests grants = count_by (λ m. is_none (delay_of c grants m)) (marks_of requests)
 
 -- the least of some numbers, and the greatest
 abbrev pub least_of : List ℕ → Option ℕ

@@ -4,7 +4,12 @@ pub mod Totals
 pub mod Counted
 pub mod Reported
 pub mod Delays
+pub mod Spread
+pub mod Steps
 pub mod Served
 pub mod Lives
+pub mod Said
+pub mod Ranks
 pub mod Told
+pub mod Live
 pub mod ToldLives

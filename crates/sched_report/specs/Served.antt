@@ -1,5 +1,5 @@
 -- What is kept of the requests and grants of one life.
-use Rattle.std.specs.Prelude.{◌≡◌, ℕ, ◌+◌, ◌^◌, ◌<◌, ◌≤◌, List, [], ◌∷◌, ◌++◌, length}
+use Rattle.std.specs.Prelude.{◌≡◌, ℕ, ◌+◌, ◌^◌, ◌<◌, ◌≤◌, List, [], ◌∷◌, ◌++◌, length, vec_len, vec_capacity}
 use Rattle.std.specs.List.{AllByRecursion}
 use Rattle.std.specs.VecDeque.{deque_len, deque_capacity}
 use Rattle.minislots.specs.declared.config.Config.{Config}
@@ -10,9 +10,10 @@ use Rattle.sched_report.specs.declared.service.Request.{Request}
 use Rattle.sched_report.specs.declared.service.Service.{Service}
 use Rattle.sched_report.specs.declared.service.Waiting.{Waiting}
 use Rattle.sched_report.specs.Delays.{bytes_asked, marks_of, delays_of, AreDelays}
+use Rattle.sched_report.specs.Steps.{AreStepsOf}
 
 -- The numbers are those of the requests and the grants, and the last requests wait: the granted bytes reach those
--- before them, and none of them
+-- before them, and none of them. There is room for a step more of each that waits
 pub record IsServiceOf (c : Config) (s : Service) (requests : List Request) (grants : List Grant) : Type 0 where
   pub asks : s.asks ≡ length requests
   pub asked : s.asked ≡ bytes_asked requests
@@ -23,10 +24,13 @@ pub record IsServiceOf (c : Config) (s : Service) (requests : List Request) (gra
   pub split : marks_of requests ≡ served ++ s.waiting.items
   pub reached : AllByRecursion (λ m. (0 < m.upto) × (m.upto ≤ s.granted)) served
   pub unreached : AllByRecursion (λ m. s.granted < m.upto) s.waiting.items
+  pub steps : AreStepsOf s.spread.steps.items (delays_of c requests grants)
+  pub room : vec_len s.spread.steps + deque_len s.waiting ≤ vec_capacity s.spread.steps
 
--- there is room for one request more
+-- there is room for one request more, and for its step
 abbrev pub HasRoom : Service → Type 0
-HasRoom s = deque_len s.waiting < deque_capacity s.waiting
+HasRoom s = (deque_len s.waiting < deque_capacity s.waiting)
+    × (vec_len s.spread.steps + deque_len s.waiting < vec_capacity s.spread.steps)
 
 -- A request may be counted: it asks for bytes, and there are few enough
 pub record MayAsk (s : Service) (r : Request) : Type 0 where

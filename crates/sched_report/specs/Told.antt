@@ -1,5 +1,5 @@
 -- What is told of one life of a flow.
-use Rattle.std.specs.Prelude.{◌≡◌, ℕ, ◌<◌, ◌≤◌, ◌^◌, false, List, [], ◌∷◌, ◌++◌, length, None, Some}
+use Rattle.std.specs.Prelude.{◌≡◌, ℕ, ◌*◌, ◌<◌, ◌≤◌, ◌^◌, false, List, [], ◌∷◌, ◌++◌, length, None, Some}
 use Rattle.std.specs.Prelude.{if◌then◌else◌}
 use Rattle.minislots.specs.declared.config.Config.{Config}
 use Rattle.minislots.specs.Config.{IsLawful}
@@ -8,7 +8,9 @@ use Rattle.flow_book.specs.Flows.{bytes_of}
 use Rattle.map_build.specs.declared.frame_map.FrameMap.{FrameMap}
 use Rattle.sched_history.specs.declared.reply.Reply.TheVariants.{Built}
 use Rattle.sched_history.specs.declared.reply.Entry.{Entry}
+use Rattle.sched_history.specs.declared.reply.TheConstants.{MAX_WHOLE_HISTORY}
 use Rattle.sched_history.specs.Life.{grants_since}
+use Rattle.sched_history.specs.Facts.{IsOrderly}
 use Rattle.sched_history.specs.Time.{next_after}
 use Rattle.sched_report.specs.declared.service.Request.{Request}
 use Rattle.sched_report.specs.declared.service.Service.{Service}
@@ -16,6 +18,7 @@ use Rattle.sched_report.specs.declared.life.LifeTally.{LifeTally}
 use Rattle.sched_report.specs.Delays.{bytes_asked}
 use Rattle.sched_report.specs.Served.{IsServiceOf, HasRoom}
 use Rattle.sched_report.specs.Lives.{PastLife, is_turn, request_by, requests_in}
+use Rattle.sched_report.specs.Said.{unsolicited_in}
 
 -- What is told is of this life: it lived from the next frame at its admission to the next frame at its end, and asked
 -- and was granted what the entries in between have
@@ -25,6 +28,9 @@ pub record IsLifeOf (c : Config) (t : LifeTally) (life : PastLife) : Type 0 wher
   pub from : t.from ≡ next_after c life.upto
   pub to : t.to ≡ (if life.ended then Some (next_after c (life.upto ++ life.since)) else None)
   pub service : IsServiceOf c t.service (requests_in life.sid life.since) (grants_since life.sid life.since)
+  pub few : length life.since ≤ MAX_WHOLE_HISTORY
+  pub unsolicited : t.unsolicited ≡ unsolicited_in life.spec life.sid life.since
+  pub bounded : t.unsolicited ≤ 240 * length life.since
 
 -- there is room for one request more
 abbrev pub HasRoomFor : LifeTally → Type 0
@@ -34,7 +40,7 @@ HasRoomFor t = HasRoom t.service
 -- more is granted than was asked
 pub record MayNote (c : Config) (life : PastLife) (slot : ℕ) (e : Entry) : Type 0 where
   pub lawful : IsLawful c
-  pub few : length life.since < 2 ^ 44
+  pub few : length life.since < MAX_WHOLE_HISTORY
   pub next : life.ended ≡ false → slot ≡ next_after c (life.upto ++ life.since)
   pub some : (r : Request) → request_by life.sid e.call e.reply ≡ Some r → 0 < r.bytes
   pub within : life.ended ≡ false → is_turn life.sid e ≡ false
@@ -42,6 +48,7 @@ pub record MayNote (c : Config) (life : PastLife) (slot : ℕ) (e : Entry) : Typ
       ≤ bytes_asked (requests_in life.sid (life.since ++ e ∷ [])))
       × (bytes_asked (requests_in life.sid (life.since ++ e ∷ [])) < 2 ^ 64)
   pub start : (m : FrameMap) → e.reply ≡ Built m → m.start < 2 ^ 62
+  pub orderly : (m : FrameMap) → e.reply ≡ Built m → IsOrderly c m
 
 -- These data grants may be counted: their bytes were asked
 pub record MayGrantAll (c : Config) (s : Service) (more : List Grant) : Type 0 where

@@ -14,7 +14,9 @@ use Rattle.sched_report.specs.declared.life.LifeTally.{LifeTally}
 use Rattle.sched_report.specs.declared.life.LifeNumbers.{LifeNumbers}
 use Rattle.sched_report.specs.Delays.{AreSums}
 use Rattle.sched_report.specs.Lives.{PastLife, lives_of, requests_in, IsRequest, IsOpening}
-use Rattle.sched_report.specs.Told.{IsLifeOf, MayNote, HasRoomFor}
+use Rattle.sched_report.specs.Spread.{TellsPercentile}
+use Rattle.sched_report.specs.Said.{delays_in, priority_of, granted_in, outstanding_in, waiting_in, dropped_in}
+use Rattle.sched_report.specs.Told.{IsLifeOf, MayNote}
 
 -- What is told is of these lives, each at its place
 pub record AreLives (c : Config) (ts : List LifeTally) (lives : List PastLife) : Type 0 where
@@ -26,10 +28,6 @@ pub record AreLives (c : Config) (ts : List LifeTally) (lives : List PastLife) :
 abbrev pub MayNoteEach : Config → List PastLife → ℕ → Entry → Type 0
 MayNoteEach c lives slot e =
     (k : ℕ) (life : PastLife) → k < length lives → MayNote c (slice_index_or lives k life) slot e
-
--- there is room for one request more of each
-abbrev pub HaveRoom : List LifeTally → Type 0
-HaveRoom ts = (k : ℕ) (t : LifeTally) → k < length ts → HasRoomFor (slice_index_or ts k t)
 
 -- a report keeps something of the entry: it begins a life, or is a request
 abbrev pub AddsToReport : Call → Reply → Type 0
@@ -49,11 +47,19 @@ pub record MayFollow (c : Config) (h : List Entry) (ts : List LifeTally) (slot :
   pub lives : AreLives c ts (lives_of h)
 
 -- These are the numbers of a life: where the next frame started at its admission, and where it started at its end or
--- starts now, whether it ended, and what it asked and was granted
+-- starts now, whether it ended, what it asked and was granted, its requests that were not served, and the delays that 50 and 99
+-- in a hundred of those that were served do not exceed
 pub record AreLifeNumbers (c : Config) (n : LifeNumbers) (life : PastLife) : Type 0 where
   pub sid : n.sid ≡ life.sid
   pub spec : n.spec ≡ life.spec
   pub from : n.from ≡ next_after c life.upto
   pub to : n.to ≡ next_after c (life.upto ++ life.since)
   pub ended : n.ended ≡ life.ended
+  pub priority : n.priority ≡ priority_of life.spec
   pub sums : AreSums c n.sums (requests_in life.sid life.since) (grants_since life.sid life.since)
+  pub granted : n.granted ≡ granted_in life
+  pub outstanding : n.outstanding ≡ outstanding_in life
+  pub waiting : n.waiting ≡ waiting_in c life
+  pub dropped : n.dropped ≡ dropped_in c life
+  pub middle : TellsPercentile 50 (delays_in c life) n.middle
+  pub p99 : TellsPercentile 99 (delays_in c life) n.p99

@@ -4,14 +4,19 @@
 mod calls;
 mod life;
 mod lives;
+mod percentiles;
+mod ranks;
 mod reporter;
 mod service;
 mod slots;
+mod spread;
 mod totals;
 
 pub use calls::Calls;
-pub use life::LifeNumbers;
+pub use life::{LifeNumbers, POLLED};
+pub use ranks::{RankNumbers, RankSums};
 pub use reporter::Reporter;
 pub use service::{Delays, Request, Service, Sums};
 pub use slots::{Slots, Use};
+pub use spread::EXACT;
 pub use totals::Totals;

@@ -1,25 +1,39 @@
 //! One life of a flow: what it asked and was granted, and from when to when it lived.
 
-ghost use Rattle.std.specs.Prelude.{◌≡◌, ◌<◌, ◌^◌, ◌++◌, [], List, false, Some, IfSome, OnOk};
+ghost use Rattle.std.specs.Prelude.{◌≡◌, ◌<◌, ◌≤◌, ◌^◌, ◌++◌, [], List, length, count_by, false, None, Some, is_some, IfSome, OnOk};
 ghost use Rattle.std.specs.List.{cons_option, filter_map, zip};
 ghost use Rattle.minislots.specs.declared.config.Config.{Config};
+ghost use Rattle.map_codec.specs.Element.{nulls};
+ghost use Rattle.map_drawing.specs.Allocation.{allocations_of};
 ghost use Rattle.flow_book.specs.declared.flow.Grant.{Grant as DataGrant};
 ghost use Rattle.sched_history.specs.declared.reply.Entry.{Entry as Recorded};
-ghost use Rattle.sched_history.specs.Life.{grant_by, grants_of_map};
+ghost use Rattle.sched_history.specs.Life.{grant_by, grants_of_map, grants_since};
 ghost use Rattle.sched_history.specs.Time.{next_after};
 ghost use Rattle.sched_report.specs.declared.service.Request.{Request as Asked};
 ghost use Rattle.sched_report.specs.Served.{IsServiceOf};
-ghost use Rattle.sched_report.specs.Lives.{PastLife, is_turn, request_by, with_entry};
+ghost use Rattle.sched_report.specs.Delays.{AreSums};
+ghost use Rattle.sched_report.specs.Lives.{PastLife, is_turn, request_by, requests_in, with_entry};
+ghost use Rattle.sched_report.specs.Ranks.{is_of_rank, is_chosen};
+ghost use Rattle.sched_report.specs.Said.{delays_in, priority_of, granted_in, waiting_in, dropped_in};
+ghost use Rattle.sched_report.specs.Steps.{CountsUpto};
+ghost use Rattle.sched_report.specs.Said.{is_grant_to, unsolicited_of_map};
 ghost use Rattle.sched_report.specs.Told.{IsLifeOf, MayNote, MayGrantAll, HasRoomFor};
 ghost use Rattle.sched_report.specs.ToldLives.{AreLifeNumbers};
 
+use crate::percentiles::percentile;
 use crate::service::{Request, Service, Sums};
+use crate::slots::Use;
 use flow_book::{FlowSpec, Grant};
 use map_build::FrameMap;
 use map_codec::Element;
+use map_drawing::{Allocation, allocation_at, front_len};
 use minislots::Checked;
 use sched_history::{Call, Entry, Reply};
 use std::alloc::{AllocError, Global};
+use std::slice;
+
+/// The rank of polled flows, which are served before all priorities.
+pub const POLLED: u8 = 8;
 
 /// The numbers of one life of a flow.
 #[derive(Clone, Copy)]
@@ -34,8 +48,23 @@ pub struct LifeNumbers {
     pub to: u64,
     /// Whether it was removed.
     pub ended: bool,
-    /// What it asked and was granted. Requests that were not served wait, or were dropped where the life has ended.
+    /// The priority of a best effort flow.
+    pub priority: Option<u8>,
+    /// Its requests, its data grants, and the delays of the requests that were served.
     pub sums: Sums,
+    /// The bytes that it was granted: those of its data grants, or of an unsolicited flow its size for each grant.
+    pub granted: u128,
+    /// The bytes that were asked and not granted.
+    pub outstanding: u64,
+    /// The requests that wait for a data grant. Where the life ended, none does.
+    pub waiting: u64,
+    /// The requests that waited when the life ended.
+    pub dropped: u64,
+    /// The delay that 50 in a hundred of the requests that were served do not exceed: up to [`EXACT`](crate::EXACT)
+    /// minislots exactly, and above that at most one part in a hundred too much.
+    pub middle: Option<u64>,
+    /// That of 99 in a hundred.
+    pub p99: Option<u64>,
 }
 
 // What is kept of one life of a flow.
@@ -46,6 +75,8 @@ pub(crate) struct LifeTally {
     from: u64,
     to: Option<u64>,
     service: Service,
+    // How many unsolicited grants it had.
+    unsolicited: u128,
 }
 
 impl LifeTally {
@@ -60,40 +91,126 @@ impl LifeTally {
             from,
             to: None,
             service: Service::new(alloc),
+            unsolicited: 0,
         }
     }
 
     // Its numbers, where the next frame starts there.
     pub(crate) fn numbers(&self, next: u64) -> LifeNumbers
+        requires { (c : Config) × (life : PastLife) × IsLifeOf c self.now life }
         ensures { (c : Config) (life : PastLife) → IsLifeOf c self.now life
             → (life.ended ≡ false → next ≡ next_after c (life.upto ++ life.since))
             → AreLifeNumbers c result life }
     {
+        let sums = self.sums();
+        let one = slice::from_ref(self);
+        let served = u128::from(sums.delays.served);
         LifeNumbers {
             sid: self.sid,
             spec: self.spec,
             from: self.from,
             to: self.to.unwrap_or(next),
             ended: self.to.is_some(),
-            sums: self.service.sums(),
+            priority: priority_of(self.spec),
+            sums,
+            granted: self.granted(),
+            outstanding: sums.asked - sums.granted,
+            waiting: self.waiting(),
+            dropped: self.dropped(),
+            middle: percentile(one, None, 50, served, sums.delays.greatest),
+            p99: percentile(one, None, 99, served, sums.delays.greatest),
         }
     }
 
-    // Takes memory for one request more. What is told stays.
-    pub(crate) fn reserve(&mut self) -> Result<(), AllocError>
-        ensures ok { OnOk result (HasRoomFor self.new) }
-        ensures same { (c : Config) (life : PastLife) → IsLifeOf c self.old life → IsLifeOf c self.new life }
+    // Its requests and its data grants.
+    pub(crate) fn sums(&self) -> Sums
+        requires { (c : Config) × (life : PastLife) × IsLifeOf c self.now life }
+        ensures sums { (c : Config) (life : PastLife) → IsLifeOf c self.now life
+            → AreSums c result (requests_in life.sid life.since) (grants_since life.sid life.since) }
+        ensures few { result.delays.served ≤ 2 ^ 44 }
     {
+        self.service.sums()
+    }
+
+    // How many of its delays there are of which no more than this is told.
+    pub(crate) fn upto(&self, delay: u64) -> u64
+        requires { (c : Config) × (life : PastLife) × IsLifeOf c self.now life }
+        ensures counts { (c : Config) (life : PastLife) → IsLifeOf c self.now life
+            → CountsUpto delay result (delays_in c life) }
+        ensures few { result ≤ 2 ^ 44 }
+    {
+        self.service.upto(delay)
+    }
+
+    // Whether it is one of a rank, or whether it is one at all where no rank is named.
+    pub(crate) fn is_chosen(&self, rank: Option<u8>) -> bool
+        ensures { (c : Config) (life : PastLife) → IsLifeOf c self.now life → result ≡ is_chosen rank life.spec }
+    {
+        match rank {
+            Some(rank) => is_of_rank(self.spec, rank),
+            None => true,
+        }
+    }
+
+    // The bytes that it was granted.
+    pub(crate) fn granted(&self) -> u128
+        requires { (c : Config) × (life : PastLife) × IsLifeOf c self.now life }
+        ensures { (c : Config) (life : PastLife) → IsLifeOf c self.now life → result ≡ granted_in life }
+    {
+        match self.spec {
+            FlowSpec::Unsolicited { size, .. } => u128::from(size) * self.unsolicited,
+            _ => u128::from(self.service.granted()),
+        }
+    }
+
+    // How many requests wait.
+    pub(crate) fn waiting(&self) -> u64
+        ensures { (c : Config) (life : PastLife) → IsLifeOf c self.now life → result ≡ waiting_in c life }
+    {
+        match self.to {
+            Some(_) => 0,
+            None => self.service.unserved(),
+        }
+    }
+
+    // How many requests waited when it ended.
+    pub(crate) fn dropped(&self) -> u64
+        ensures { (c : Config) (life : PastLife) → IsLifeOf c self.now life → result ≡ dropped_in c life }
+    {
+        match self.to {
+            Some(_) => self.service.unserved(),
+            None => 0,
+        }
+    }
+
+    // Whether it has ended.
+    pub(crate) fn has_ended(&self) -> bool
+        ensures { result ≡ is_some self.now.to }
+    {
+        self.to.is_some()
+    }
+
+    // Takes memory for the request that an entry is, where it is one of this SID. What is told stays.
+    pub(crate) fn reserve_for(&mut self, entry: &Entry) -> Result<(), AllocError>
+        ensures ok { OnOk result ((r : Asked) → request_by self.new.sid entry.now.call entry.now.reply ≡ Some r
+            → HasRoomFor self.new) }
+        ensures same { (c : Config) (life : PastLife) → IsLifeOf c self.old life → IsLifeOf c self.new life }
+        ensures unmoved { self.new ≡ record self.old { service = self.new.service } }
+    {
+        if request_of(self.sid, entry).is_none() {
+            return Ok(());
+        }
         self.service.reserve()
     }
 
     // Goes on with one entry more, before which the next frame starts there.
     pub(crate) fn note(&mut self, config: &Checked, next: u64, entry: &Entry)
         requires may { (life : PastLife) × IsLifeOf config.now self.old life × MayNote config.now life next entry.now }
-        requires room { (r : Asked) → request_by self.old.sid entry.now.call entry.now.reply ≡ Some r
-            → HasRoomFor self.old }
-        ensures { (life : PastLife) → IsLifeOf config.now self.old life → MayNote config.now life next entry.now
+        requires room { self.old.to ≡ None → (r : Asked)
+            → request_by self.old.sid entry.now.call entry.now.reply ≡ Some r → HasRoomFor self.old }
+        ensures life { (life : PastLife) → IsLifeOf config.now self.old life → MayNote config.now life next entry.now
             → IsLifeOf config.now self.new (with_entry entry.now life) }
+        ensures alive { self.new.to ≡ None → self.old.to ≡ None }
     {
         if self.to.is_some() {
             return;
@@ -107,9 +224,65 @@ impl LifeTally {
             return;
         }
         if let Reply::Built(map) = &entry.reply {
+            self.unsolicited += u128::from(unsolicited_of_map(self.spec, self.sid, map));
             grant_map(&mut self.service, config, self.sid, map);
         }
     }
+}
+
+// The priority of a best effort flow.
+fn priority_of(spec: FlowSpec) -> Option<u8>
+    ensures { result ≡ priority_of spec }
+{
+    match spec {
+        FlowSpec::BestEffort { priority, .. } => Some(priority),
+        _ => None,
+    }
+}
+
+// Whether flows with these parameters are served in this rank: polled ones in 8, best effort ones in their priority.
+fn is_of_rank(spec: FlowSpec, rank: u8) -> bool
+    ensures { result ≡ is_of_rank rank spec }
+{
+    match spec {
+        FlowSpec::Unsolicited { .. } => false,
+        FlowSpec::Polled { .. } => POLLED == rank,
+        FlowSpec::BestEffort { priority, .. } => priority == rank,
+    }
+}
+
+// How many unsolicited grants a MAP has to a flow with these parameters: none to one that is not unsolicited.
+fn unsolicited_of_map(spec: FlowSpec, sid: u16, map: &FrameMap) -> u64
+    requires one_null { nulls map.now.wire.elements ≡ 1 }
+    ensures value { result ≡ unsolicited_of_map spec sid map.now }
+    ensures few { result ≤ length map.now.wire.elements }
+{
+    match spec {
+        FlowSpec::Unsolicited { .. } => grants_to(sid, map.wire.elements.as_slice()),
+        _ => 0,
+    }
+}
+
+// How many unsolicited grants elements have to the unsolicited flow that lives under this SID.
+fn grants_to(sid: u16, elements: &[Element]) -> u64
+    requires one_null { nulls elements.now ≡ 1 }
+    ensures value { result ≡ count_by (is_grant_to sid) (allocations_of elements.now) }
+    ensures few { result ≤ length elements.now }
+{
+    let mut count = 0;
+    for i in 0..front_len(elements) {
+        if is_grant_to(sid, allocation_at(elements, i)) {
+            count += 1;
+        }
+    }
+    count
+}
+
+// Whether an allocation is an unsolicited grant to the unsolicited flow that lives under this SID.
+fn is_grant_to(sid: u16, allocation: Allocation) -> bool
+    ensures { result ≡ is_grant_to sid allocation }
+{
+    allocation.sid == sid && Use::of(allocation.sid, allocation.iuc, true).is_unsolicited()
 }
 
 // Whether an entry is an accepted admission or removal of this SID.

@@ -1,12 +1,15 @@
 //! The lives of all flows of a history, in the order of their admissions.
 
-ghost use Rattle.std.specs.Prelude.{◌≡◌, ◌<◌, ◌^◌, ◌++◌, ◌∷◌, [], List, map, OnOk, OnErr, vec_len, vec_capacity};
+ghost use Rattle.std.specs.Prelude.{◌≡◌, ◌<◌, ◌^◌, ◌++◌, ◌∷◌, [], List, map, length, None, slice_index, slice_index_or};
+ghost use Rattle.std.specs.Prelude.{IfSome, OnOk, OnErr, vec_len, vec_capacity};
 ghost use Rattle.minislots.specs.declared.config.Config.{Config};
 ghost use Rattle.sched_history.specs.declared.reply.Entry.{Entry as Recorded};
 ghost use Rattle.sched_history.specs.Time.{next_after};
+ghost use Rattle.sched_report.specs.declared.life.LifeTally.{LifeTally as Tally};
+ghost use Rattle.sched_report.specs.Live.{AreLive, HaveRoomFor};
 ghost use Rattle.sched_report.specs.Lives.{PastLife, opening_by, life_begun, lives_of, with_entry};
 ghost use Rattle.sched_report.specs.Lives.{IsRequest, IsOpening};
-ghost use Rattle.sched_report.specs.ToldLives.{AreLives, MayNoteEach, HaveRoom, AddsToReport, MayFollow};
+ghost use Rattle.sched_report.specs.ToldLives.{AreLives, MayNoteEach, AddsToReport, MayFollow};
 
 use crate::life::LifeTally;
 use flow_book::FlowSpec;
@@ -21,53 +24,98 @@ pub(crate) struct Opening {
     spec: FlowSpec,
 }
 
-// Takes memory for one request more of each life. What is told stays.
-pub(crate) fn reserve_each(lives: &mut [LifeTally]) -> Result<(), AllocError>
-    ensures ok { OnOk result (HaveRoom lives.new) }
+// Takes memory for the request that an entry is, in the life that goes on and asks it. What is told stays.
+pub(crate) fn reserve_each(
+    lives: &mut [LifeTally],
+    live: &[usize],
+    entry: &Entry,
+) -> Result<(), AllocError>
+    requires { AreLive live.now lives.old }
+    ensures ok { OnOk result (HaveRoomFor entry.now.call entry.now.reply lives.new) }
     ensures same { (c : Config) (ls : List PastLife) → AreLives c lives.old ls → AreLives c lives.new ls }
+    ensures live { AreLive live.now lives.new }
 {
-    for life in lives.iter_mut() {
-        life.reserve()?;
+    for place in live {
+        lives[*place].reserve_for(entry)?;
     }
     Ok(())
 }
 
 // Goes on with one entry more, before which the next frame starts there.
-pub(crate) fn note_each(lives: &mut [LifeTally], config: &Checked, next: u64, entry: &Entry)
+pub(crate) fn note_each(
+    lives: &mut [LifeTally],
+    live: &[usize],
+    config: &Checked,
+    next: u64,
+    entry: &Entry,
+)
     requires may { (ls : List PastLife) × AreLives config.now lives.old ls × MayNoteEach config.now ls next entry.now }
-    requires room { IsRequest entry.now.call entry.now.reply → HaveRoom lives.old }
-    ensures { (ls : List PastLife) → AreLives config.now lives.old ls → MayNoteEach config.now ls next entry.now
+    requires room { IsRequest entry.now.call entry.now.reply
+        → HaveRoomFor entry.now.call entry.now.reply lives.old }
+    requires live { AreLive live.now lives.old }
+    ensures lives { (ls : List PastLife) → AreLives config.now lives.old ls → MayNoteEach config.now ls next entry.now
         → AreLives config.now lives.new (map (with_entry entry.now) ls) }
+    ensures live { AreLive live.now lives.new }
 {
-    for life in lives.iter_mut() {
-        life.note(config, next, entry);
+    for place in live {
+        lives[*place].note(config, next, entry);
     }
 }
 
 // Takes memory for what an entry adds: a life, or a request of one. What is told stays.
-pub(crate) fn reserve_for(lives: &mut Vec<LifeTally>, entry: &Entry) -> Result<(), AllocError>
-    ensures requests { OnOk result (IsRequest entry.now.call entry.now.reply → HaveRoom lives.new.items) }
+pub(crate) fn reserve_for(
+    lives: &mut Vec<LifeTally>,
+    live: &mut Vec<usize>,
+    entry: &Entry,
+) -> Result<(), AllocError>
+    requires { AreLive live.old.items lives.old.items }
+    ensures requests { OnOk result (IsRequest entry.now.call entry.now.reply →
+        HaveRoomFor entry.now.call entry.now.reply lives.new.items) }
     ensures lives { OnOk result (IsOpening entry.now.call entry.now.reply →
         vec_len lives.new < vec_capacity lives.new) }
+    ensures places { OnOk result (IsOpening entry.now.call entry.now.reply →
+        vec_len live.new < vec_capacity live.new) }
     ensures same { (c : Config) (ls : List PastLife) → AreLives c lives.old.items ls → AreLives c lives.new.items ls }
+    ensures live { AreLive live.new.items lives.new.items }
     ensures err { OnErr result (AddsToReport entry.now.call entry.now.reply) }
 {
     match (entry.call, &entry.reply) {
-        (Call::Ask { .. }, Reply::Taken) => reserve_each(lives),
-        (Call::Admit(..), Reply::Admitted(_)) => lives.reserve(1),
+        (Call::Ask { .. }, Reply::Taken) => reserve_each(lives, live, entry),
+        (Call::Admit(..), Reply::Admitted(_)) => reserve_life(lives, live),
         _ => Ok(()),
     }
 }
 
+// Takes memory for one life more.
+fn reserve_life(lives: &mut Vec<LifeTally>, live: &mut Vec<usize>) -> Result<(), AllocError>
+    ensures lives { OnOk result (vec_len lives.new < vec_capacity lives.new) }
+    ensures places { OnOk result (vec_len live.new < vec_capacity live.new) }
+    ensures same { lives.new.items ≡ lives.old.items }
+    ensures live { live.new.items ≡ live.old.items }
+{
+    lives.reserve(1)?;
+    live.reserve(1)
+}
+
 // Begins the life of a flow that an entry admits, in front of the frame that starts there.
-pub(crate) fn begin_life(lives: &mut Vec<LifeTally>, alloc: Global, from: u64, entry: &Entry)
-    requires { IsOpening entry.now.call entry.now.reply → vec_len lives.old < vec_capacity lives.old }
-    ensures { (c : Config) (h : List Recorded) (ls : List PastLife) → from ≡ next_after c (h ++ entry.now ∷ [])
+pub(crate) fn begin_life(
+    lives: &mut Vec<LifeTally>,
+    live: &mut Vec<usize>,
+    alloc: Global,
+    from: u64,
+    entry: &Entry,
+)
+    requires lives { IsOpening entry.now.call entry.now.reply → vec_len lives.old < vec_capacity lives.old }
+    requires places { IsOpening entry.now.call entry.now.reply → vec_len live.old < vec_capacity live.old }
+    requires live { AreLive live.old.items lives.old.items }
+    ensures lives { (c : Config) (h : List Recorded) (ls : List PastLife) → from ≡ next_after c (h ++ entry.now ∷ [])
         → AreLives c lives.old.items ls
         → AreLives c lives.new.items
         (ls ++ life_begun (h ++ entry.now ∷ []) (opening_by entry.now.call entry.now.reply) []) }
+    ensures live { AreLive live.new.items lives.new.items }
 {
     if let Some(opening) = opening_of(entry) {
+        live.push_reserved(lives.len());
         lives.push_reserved(LifeTally::begin(alloc, opening.sid, opening.spec, from));
     }
 }
@@ -79,6 +127,34 @@ fn opening_of(entry: &Entry) -> Option<Opening>
     match (entry.call, &entry.reply) {
         (Call::Admit(sid, spec), Reply::Admitted(_)) => Some(Opening { sid, spec }),
         _ => None,
+    }
+}
+
+// The first of the places whose life has ended.
+fn ended_place(lives: &[LifeTally], live: &[usize]) -> Option<usize>
+    requires { AreLive live.now lives.now }
+    ensures inside { IfSome result (λ i. i < length live.now) }
+    ensures ended { IfSome result (λ i. (t : Tally)
+        → (slice_index_or lives.now (slice_index live.now i) t).to ≡ None → ⊥) }
+{
+    for i in 0..live.len() {
+        if lives[live[i]].has_ended() {
+            return Some(i);
+        }
+    }
+    None
+}
+
+// Leaves out the place of a life that has ended, where an entry may be its end.
+fn leave_out(lives: &[LifeTally], live: &mut Vec<usize>, entry: &Entry)
+    requires { AreLive live.old.items lives.now }
+    ensures { AreLive live.new.items lives.now }
+{
+    let Reply::Removed = entry.reply else {
+        return;
+    };
+    if let Some(i) = ended_place(lives, live) {
+        let _ = live.remove(i);
     }
 }
 
@@ -99,21 +175,27 @@ pub(crate) fn next_with(next: u64, config: &Checked, entry: &Entry) -> u64
 // where it starts then.
 pub(crate) fn follow(
     lives: &mut Vec<LifeTally>,
+    live: &mut Vec<usize>,
     config: &Checked,
     alloc: Global,
     next: u64,
     entry: &Entry,
 ) -> u64
     requires may { (h : List Recorded) × MayFollow config.now h lives.old.items next entry.now }
-    requires requests { IsRequest entry.now.call entry.now.reply → HaveRoom lives.old.items }
+    requires requests { IsRequest entry.now.call entry.now.reply
+        → HaveRoomFor entry.now.call entry.now.reply lives.old.items }
     requires opening { IsOpening entry.now.call entry.now.reply → vec_len lives.old < vec_capacity lives.old }
+    requires places { IsOpening entry.now.call entry.now.reply → vec_len live.old < vec_capacity live.old }
+    requires live { AreLive live.old.items lives.old.items }
     ensures lives { (h : List Recorded) → MayFollow config.now h lives.old.items next entry.now
         → AreLives config.now lives.new.items (lives_of (h ++ entry.now ∷ [])) }
+    ensures live { AreLive live.new.items lives.new.items }
     ensures next { (h : List Recorded) → MayFollow config.now h lives.old.items next entry.now
         → result ≡ next_after config.now (h ++ entry.now ∷ []) }
 {
-    note_each(lives, config, next, entry);
+    note_each(lives, live, config, next, entry);
     let after = next_with(next, config, entry);
-    begin_life(lives, alloc, after, entry);
+    begin_life(lives, live, alloc, after, entry);
+    leave_out(lives, live, entry);
     after
 }

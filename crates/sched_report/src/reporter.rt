@@ -7,11 +7,13 @@ ghost use Rattle.sched_history.specs.History.{IsStep, IsLegal};
 ghost use Rattle.sched_report.specs.Counts.{CountsRefusals};
 ghost use Rattle.sched_report.specs.Totals.{totals_of};
 ghost use Rattle.sched_report.specs.Lives.{PastLife, lives_of};
+ghost use Rattle.sched_report.specs.Ranks.{lives_of_rank, AreRankNumbers};
 ghost use Rattle.sched_report.specs.ToldLives.{MayLackReportMemory, AreLifeNumbers};
 
 use crate::calls::{REFUSALS, count_refusal};
 use crate::life::{LifeNumbers, LifeTally};
 use crate::lives::{follow, reserve_for};
+use crate::ranks::{RankNumbers, numbers_of};
 use crate::totals::Totals;
 use frame_picture::{Flows, no_flows, note};
 use minislots::Checked;
@@ -35,6 +37,8 @@ pub struct Reporter {
     totals: Totals,
     refused: [u64; REFUSALS],
     lives: Vec<LifeTally>,
+    // The places of those that go on, which alone an entry is shown to.
+    live: Vec<usize>,
 }
 
 impl Model for Reporter {
@@ -46,7 +50,7 @@ impl Model for Reporter {
 
     ghost view = { λ r. r.auditor };
 
-    ghost invariant = { λ r. IsReport r.config r.auditor r.flows r.totals r.refused r.next r.lives.items };
+    ghost invariant = { λ r. IsReport r.config r.auditor r.flows r.totals r.refused r.next r.lives.items r.live.items };
 }
 
 impl Reporter {
@@ -63,6 +67,7 @@ impl Reporter {
             totals: Totals::none(),
             refused: [0; REFUSALS],
             lives: Vec::new(alloc),
+            live: Vec::new(alloc),
         })
     }
 
@@ -86,7 +91,7 @@ impl Reporter {
         if self.auditor.taken() >= MAX_WHOLE_HISTORY {
             return Err(JudgeFault::Full);
         }
-        match reserve_for(&mut self.lives, entry) {
+        match reserve_for(&mut self.lives, &mut self.live, entry) {
             Ok(()) => {}
             Err(_) => return Err(JudgeFault::Memory),
         }
@@ -94,7 +99,14 @@ impl Reporter {
         self.totals.add(&self.config, &self.flows, entry);
         count_refusal(&mut self.refused, entry);
         note(&mut self.flows, entry);
-        self.next = follow(&mut self.lives, &self.config, self.alloc, self.next, entry);
+        self.next = follow(
+            &mut self.lives,
+            &mut self.live,
+            &self.config,
+            self.alloc,
+            self.next,
+            entry,
+        );
         Ok(())
     }
 
@@ -127,5 +139,12 @@ impl Reporter {
             (slice_index_or (lives_of self.now.history) place life) }
     {
         self.lives[place].numbers(self.next)
+    }
+
+    /// The numbers of a rank: of polled flows in [`POLLED`](crate::POLLED), of best effort flows in their priority.
+    pub fn rank(&self, rank: u8) -> RankNumbers
+        ensures { AreRankNumbers self.now.config result (lives_of_rank rank (lives_of self.now.history)) }
+    {
+        numbers_of(&self.lives, rank)
     }
 }

@@ -1,16 +1,20 @@
 //! The requests of one life of a flow, and the data grants that serve them.
 
 ghost use Rattle.std.specs.Prelude.{◌≡◌, ◌+◌, ◌^◌, ◌<◌, ◌≤◌, ◌∷◌, ◌++◌, [], List, ℕ, length, true, false};
-ghost use Rattle.std.specs.Prelude.{OnOk, IfSome, IfNone, min, max};
+ghost use Rattle.std.specs.Prelude.{◌*◌, OnOk, IfSome, IfNone, min, max};
+ghost use Rattle.std.specs.VecDeque.{deque_len};
 ghost use Rattle.std.specs.Option.{option_map_or};
 ghost use Rattle.minislots.specs.declared.config.Config.{Config};
 ghost use Rattle.minislots.specs.Config.{IsLawful};
 ghost use Rattle.minislots.specs.Units.{slots_for};
 ghost use Rattle.flow_book.specs.declared.flow.Grant.{Grant as DataGrant};
-ghost use Rattle.sched_report.specs.Delays.{AreDelays, AreSums};
+ghost use Rattle.flow_book.specs.Flows.{bytes_of};
+ghost use Rattle.sched_report.specs.Delays.{delays_of, AreDelays, AreSums, unserved_of};
+ghost use Rattle.sched_report.specs.Steps.{CountsUpto};
 ghost use Rattle.sched_report.specs.declared.service.Request.{Request as Asked};
 ghost use Rattle.sched_report.specs.Served.{IsServiceOf, HasRoom, MayAsk, MayGrant, IsWaitingBehind, IsReachedFirst};
 
+use crate::spread::Spread;
 use flow_book::Grant;
 use minislots::Checked;
 use std::alloc::{AllocError, Global};
@@ -106,6 +110,7 @@ pub struct Service {
     asked: u64,
     granted: u64,
     delays: Delays,
+    spread: Spread,
     waiting: VecDeque<Waiting>,
 }
 
@@ -119,6 +124,7 @@ impl Service {
             asked: 0,
             granted: 0,
             delays: Delays::none(),
+            spread: Spread::new(alloc),
             waiting: VecDeque::new(alloc),
         }
     }
@@ -130,7 +136,8 @@ impl Service {
             → IsServiceOf c self.old requests grants → IsServiceOf c self.new requests grants }
     {
         self.waiting.reserve(1)?;
-        Ok(())
+        let more = self.waiting.len() + 1;
+        self.spread.reserve(more)
     }
 
     /// Counts a request, which waits.
@@ -158,7 +165,9 @@ impl Service {
         self.granted += u64::from(grant.bytes);
         let end = end_of(config, grant);
         while let Some(mark) = self.next_served() {
-            self.delays.add(end.saturating_sub(mark.heard));
+            let delay = end.saturating_sub(mark.heard);
+            self.delays.add(delay);
+            self.spread.add(delay);
         }
     }
 
@@ -175,6 +184,34 @@ impl Service {
         }
     }
 
+    /// The bytes of the data grants.
+    pub fn granted(&self) -> u64
+        ensures { (c : Config) (requests : List Asked) (grants : List DataGrant)
+            → IsServiceOf c self.now requests grants → result ≡ bytes_of grants }
+    {
+        let granted = self.granted;
+        granted
+    }
+
+    // How many delays there are of which no more than this is told.
+    pub(crate) fn upto(&self, delay: u64) -> u64
+        requires { (c : Config) × (requests : List Asked) × (grants : List DataGrant)
+            × IsServiceOf c self.now requests grants × (length requests ≤ 2 ^ 44) }
+        ensures counts { (c : Config) (requests : List Asked) (grants : List DataGrant)
+            → IsServiceOf c self.now requests grants → CountsUpto delay result (delays_of c requests grants) }
+        ensures few { result ≤ 2 ^ 44 }
+    {
+        self.spread.upto(delay)
+    }
+
+    /// How many requests no data grant has served.
+    pub fn unserved(&self) -> u64
+        ensures { (c : Config) (requests : List Asked) (grants : List DataGrant)
+            → IsServiceOf c self.now requests grants → result ≡ unserved_of c requests grants }
+    {
+        self.waiting.len() as u64
+    }
+
     // Takes out the first request that waits, where the granted bytes reach it.
     fn next_served(&mut self) -> Option<Waiting>
         ensures same { self.new ≡ record self.old { waiting = self.new.waiting } }
@@ -182,6 +219,8 @@ impl Service {
         ensures taken { IfSome result (λ mark. self.old.waiting.items ≡ mark ∷ self.new.waiting.items) }
         ensures none { IfNone result (IsWaitingBehind self.old.granted self.old.waiting.items) }
         ensures kept { IfNone result (self.new.waiting.items ≡ self.old.waiting.items) }
+        ensures less { IfSome result (λ mark. deque_len self.new.waiting + 1 ≡ deque_len self.old.waiting) }
+        ensures few { deque_len self.new.waiting ≤ deque_len self.old.waiting }
     {
         if self.reaches_first() {
             self.waiting.pop_front()
@@ -206,7 +245,8 @@ impl Service {
 fn end_of(config: &Checked, grant: Grant) -> u64
     requires lawful { IsLawful config.now }
     requires reach { grant.start < 2 ^ 63 }
-    ensures { result ≡ grant.start + slots_for config.now grant.bytes }
+    ensures value { result ≡ grant.start + slots_for config.now grant.bytes }
+    ensures reach { result < 3 * 2 ^ 62 }
 {
     grant.start + config.slots_for(grant.bytes)
 }

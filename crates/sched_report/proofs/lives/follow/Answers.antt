@@ -1,8 +1,9 @@
 -- Each life goes on, and one may begin.
-use Rattle.std.proofs.Common.{List, map, sym, ◌∙◌, subst, arith}
+use Rattle.std.proofs.Common.{ℕ, List, map, sym, ◌∙◌, subst, arith}
 use Rattle.std.proofs.lemmas.List.{with_items_is}
 use Rattle.sched_history.proofs.steps.LegalBounds.{next_after-most}
 use Rattle.sched_report.specs.declared.life.LifeTally.{LifeTally}
+use Rattle.sched_report.specs.Live.{AreLive}
 use Rattle.sched_report.specs.Lives.{PastLife, lives_of, with_entry}
 use Rattle.sched_report.specs.ToldLives.{AreLives, MayNoteEach}
 use Rattle.sched_report.proofs.LivesEach.{may_note_each}
@@ -35,9 +36,15 @@ returns-clause-lives c = λ h m.
     let may : MayNoteEach k (lives_of h) c.args.next e =
     subst (λ s. MayNoteEach k (lives_of h) s e) (sym m.next)
     (may_note_each k m.lawful h m.legal e m.step m.short) in
-    let noted : AreLives k c.note_each.new.lives more = c.note_each.ensures (lives_of h) old may in
+    let noted : AreLives k c.note_each.new.lives more = c.note_each.ensures.lives (lives_of h) old may in
     subst (AreLives k c.begin_life.new.lives.items) (sym (lives_of-push h e))
-    (c.begin_life.ensures k h more (c.next_with-after.ensures h m.next)
+    (c.begin_life.ensures.lives k h more (c.next_with-after.ensures h m.next)
     (subst (λ (ts : List LifeTally). AreLives k ts more)
     (sym (with_items_is c.args.lives.now c.note_each.new.lives
     (c.note_each.auto.lives ∙ c.deref_mut.ensures.len))) noted))
+
+pub note_each-requires-clause-live : goal.note_each-requires-clause-live
+note_each-requires-clause-live c =
+    subst (λ (places : List ℕ). AreLive places c.deref_mut.result.now) (sym c.deref.ensures.value)
+    (subst (λ (ts : List LifeTally). AreLive c.args.live.now.items ts) (sym c.deref_mut.ensures.value)
+    c.requires.live)

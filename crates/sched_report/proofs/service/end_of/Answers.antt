@@ -15,3 +15,16 @@ overflow_add-result c =
       b.bytes_most,
       div-le_self (c.args.grant.bytes + k.bytes_per_slot - 1) k.bytes_per_slot,
     )
+
+pub returns-clause-reach : goal.returns-clause-reach
+returns-clause-reach c =
+    let k = c.args.config.now in
+    let b = bounds_of k c.requires.lawful in
+    omega (
+      arith,
+      c.slots_for.ensures,
+      c.requires.reach,
+      b.overhead_most,
+      b.bytes_most,
+      div-le_self (c.args.grant.bytes + k.bytes_per_slot - 1) k.bytes_per_slot,
+    )

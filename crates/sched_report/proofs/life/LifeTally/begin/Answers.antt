@@ -1,5 +1,5 @@
 -- Nothing is asked before any entry.
-use Rattle.std.proofs.Common.{refl}
+use Rattle.std.proofs.Common.{refl, arith}
 use Rattle.sched_report.proofs.life.LifeTally.begin.Goals as goal
 
 pub returns : goal.returns
@@ -9,4 +9,7 @@ returns c = λ config upto from. record {
   from = from;
   to = refl;
   service = c.new.ensures config;
+  few = omega arith;
+  unsolicited = refl;
+  bounded = omega arith;
 }

@@ -6,8 +6,23 @@ use Rattle.sched_report.specs.declared.life.LifeTally.{LifeTally}
 use Rattle.sched_report.specs.Lives.{lives_of}
 use Rattle.sched_report.specs.Told.{IsLifeOf}
 use Rattle.sched_report.specs.ToldLives.{AreLifeNumbers}
+use Rattle.sched_report.proofs.LivesEach.{no_life}
 use Rattle.sched_report.proofs.LiveNow.{live_now}
 use Rattle.sched_report.proofs.reporter.Reporter.life.Goals as goal
+
+pub numbers-requires : goal.numbers-requires
+numbers-requires c =
+    let i = c.self.invariant in
+    let k = c.self.inside.config in
+    let h = c.self.inside.auditor.history in
+    let place = c.args.place in
+    let below : place < length (lives_of h) =
+    omega (arith, c.requires, ap (λ (p : Past). length (lives_of p.history)) c.self.view_is) in (
+      k,
+      get_or (lives_of h) place no_life,
+      subst (λ (t : LifeTally). IsLifeOf k t (get_or (lives_of h) place no_life)) (sym c.index.ensures)
+          (i.lives.each place c.index.result.now no_life (omega (arith, below, i.lives.long))),
+    )
 
 pub returns : goal.returns
 returns c = λ life.

@@ -8,7 +8,8 @@ use Rattle.sched_report.proofs.reporter.Reporter.open.Goals as goal
 pub invariant_of-result : goal.invariant_of-result
 invariant_of-result c =
     let none : length c.new.result.items ≡ 0 = ap length c.new.ensures.items in
-    subst (λ (p : Past). IsReport c.args.config p c.no_flows.result c.none.result _ c.start.result c.new.result.items)
+    let empty : length c.new-2.result.items ≡ 0 = ap length c.new-2.ensures.items in
+    subst (λ (p : Past). IsReport c.args.config p c.no_flows.result c.none.result _ c.start.result c.new.result.items c.new-2.result.items)
     (sym c.in_ok-open.ensures)
     (record {
       config = refl;
@@ -19,4 +20,9 @@ invariant_of-result c =
       lawful = c.start.ensures.lawful;
       next = omega (arith, c.start.ensures.value);
       lives = record { long = none; each = λ k t life below. absurd (omega (arith, below, none)) };
+      live = record {
+        ascends = λ i j before below. absurd (omega (arith, below, empty));
+        inside = λ i below. absurd (omega (arith, below, empty));
+        all = λ k t below alive. absurd (omega (arith, below, none));
+      };
     })

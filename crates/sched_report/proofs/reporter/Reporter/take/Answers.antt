@@ -56,7 +56,7 @@ invariant_of-self-2 c =
       lives = c.reserve_for.ensures.same k (lives_of h) i.lives;
     } in
     subst (λ (p : Past). IsReport k p c.note.new.flows c.add.new.self c.count_refusal.new.counts
-    c.follow-self-inside.result c.follow-self-inside.new.lives.items)
+    c.follow-self-inside.result c.follow-self-inside.new.lives.items c.follow-self-inside.new.live.items)
     (sym c.in_ok-judge.ensures.taken)
     (record {
       config = i.config;
@@ -67,6 +67,7 @@ invariant_of-self-2 c =
       lawful = i.lawful;
       next = c.follow-self-inside.ensures.next h follows;
       lives = c.follow-self-inside.ensures.lives h follows;
+      live = c.follow-self-inside.ensures.live;
     })
 
 pub invariant_of-self : goal.invariant_of-self
@@ -81,13 +82,15 @@ invariant_of-self c =
       lawful = i.lawful;
       next = i.next;
       lives = c.reserve_for.ensures.same c.self.inside.config (lives_of c.self.inside.auditor.history) i.lives;
+      live = c.reserve_for.ensures.live;
     }
 
 pub invariant_of-self-in_err-judge : goal.invariant_of-self-in_err-judge
 invariant_of-self-in_err-judge c =
     let i = c.self.invariant in
     let s = c.self.inside in
-    subst (λ (p : Past). IsReport s.config p s.flows s.totals s.refused s.next c.reserve_for.new.lives.items)
+    subst (λ (p : Past). IsReport s.config p s.flows s.totals s.refused s.next c.reserve_for.new.lives.items
+    c.reserve_for.new.live.items)
     (sym c.in_err-judge.ensures.err)
     (record {
       config = i.config;
@@ -98,4 +101,5 @@ invariant_of-self-in_err-judge c =
       lawful = i.lawful;
       next = i.next;
       lives = c.reserve_for.ensures.same s.config (lives_of s.auditor.history) i.lives;
+      live = c.reserve_for.ensures.live;
     })

@@ -1,5 +1,5 @@
 -- A request more, which waits.
-use Rattle.std.proofs.Common.{◌+◌, [], ◌∷◌, ◌++◌, refl, ap, ◌∙◌}
+use Rattle.std.proofs.Common.{◌+◌, [], ◌∷◌, ◌++◌, refl, ap, ◌∙◌, arith}
 use Rattle.sched_report.proofs.Serving.{IsServiceOf-asked}
 use Rattle.sched_report.proofs.service.Service.ask.Goals as goal
 
@@ -11,3 +11,4 @@ returns c = λ config requests grants is.
     (ap (λ n. s.asked + n) c.from.ensures) refl refl
     (c.push_back_reserved.ensures.items
     ∙ ap (λ n. s.waiting.items ++ record { upto = s.asked + n; heard = r.heard } ∷ []) c.from.ensures)
+    refl (omega (arith, c.requires.room.1, c.push_back_reserved.ensures.len))

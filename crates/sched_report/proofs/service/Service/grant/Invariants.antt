@@ -1,8 +1,11 @@
 -- The requests that were served so far, and their delays.
 use Rattle.std.proofs.Common.{◌≡◌, ℕ, ◌+◌, ◌-◌, ◌≤◌, List, ◌++◌, map, length}
 use Rattle.std.specs.List.{AllByRecursion}
+use Rattle.std.specs.Prelude.{vec_len, vec_capacity}
+use Rattle.std.specs.VecDeque.{deque_len}
 use Rattle.sched_report.specs.declared.service.Waiting.{Waiting}
 use Rattle.sched_report.specs.Delays.{AreDelays}
+use Rattle.sched_report.specs.Steps.{AreStepsOf}
 use Rattle.sched_report.proofs.service.Service.grant.Given as goal
 
 abbrev pub invariant-loop-mark : goal.invariant-loop-mark
@@ -15,6 +18,9 @@ invariant-loop-mark l = record {
   reached : AllByRecursion (λ m. m.upto ≤ l.self.granted) passed;
   delays : (delays : List ℕ) → AreDelays l.initial.self.delays delays
       → AreDelays l.self.delays (delays ++ map (λ m. l.end - m.heard) passed);
+  steps : (ns : List ℕ) → AreStepsOf l.initial.self.spread.steps.items ns
+      → AreStepsOf l.self.spread.steps.items (ns ++ map (λ m. l.end - m.heard) passed);
+  room : vec_len l.self.spread.steps + deque_len l.self.waiting ≤ vec_capacity l.self.spread.steps;
   few : l.self.delays.served + length l.self.waiting.items
       ≡ l.initial.self.delays.served + length l.initial.self.waiting.items;
 }

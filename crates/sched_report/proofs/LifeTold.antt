@@ -1,0 +1,68 @@
+-- The numbers of a life by what is told of it.
+use Rattle.std.proofs.Common.{◌≡◌, ℕ, ◌≤◌, ◌^◌, Bool, true, false, List, [], ◌∷◌, length, get_or}
+use Rattle.std.proofs.Common.{Option, None, Some, refl, sym, ap, ◌∙◌, subst, if◌then◌else◌, arith}
+use Rattle.std.specs.Prelude.{is_some, unwrap_or}
+use Rattle.minislots.specs.declared.config.Config.{Config}
+use Rattle.flow_book.specs.declared.spec.FlowSpec.{FlowSpec}
+use Rattle.flow_book.specs.declared.spec.FlowSpec.TheVariants.{Unsolicited, Polled, BestEffort}
+use Rattle.sched_history.specs.Life.{grants_since}
+use Rattle.sched_report.specs.declared.life.LifeTally.{LifeTally}
+use Rattle.sched_report.specs.Lives.{PastLife, requests_in}
+use Rattle.sched_report.specs.Said.{granted_under}
+use Rattle.sched_report.specs.Told.{IsLifeOf}
+use Rattle.sched_report.specs.ToldLives.{AreLives}
+use Rattle.sched_report.proofs.LifeNotes.{few_requests}
+use Rattle.sched_report.proofs.Serving.{few_served}
+
+-- an end is told of a life that has ended, and of no other
+pub some_end : (ended : Bool) (n : ℕ) (o : Option ℕ) → o ≡ (if ended then Some n else None) → is_some o ≡ ended
+some_end true n o is = ap is_some is
+some_end false n o is = ap is_some is
+
+pub no_end : (o : Option ℕ) → is_some o ≡ false → o ≡ None
+no_end None none = refl
+no_end (Some n) none = absurd (cc)
+
+-- the end, or what stands for it
+pub end_told : (ended : Bool) (n now : ℕ) (o : Option ℕ) → o ≡ (if ended then Some n else None)
+    → (ended ≡ false → now ≡ n) → unwrap_or o now ≡ n
+end_told true n now o is alive = ap (λ o. unwrap_or o now) is
+end_told false n now o is alive = ap (λ o. unwrap_or o now) is ∙ alive refl
+
+-- the bytes of data grants, of a flow that is not unsolicited
+pub granted_under-data : (spec : FlowSpec) (unsolicited bytes : ℕ)
+    → ((size interval jitter grants : ℕ) → spec ≡ Unsolicited size interval jitter grants → ⊥)
+    → granted_under spec unsolicited bytes ≡ bytes
+granted_under-data (Unsolicited size interval jitter grants) unsolicited bytes other =
+    absurd (other size interval jitter grants refl)
+granted_under-data (Polled interval jitter rate burst) unsolicited bytes other = refl
+granted_under-data (BestEffort priority rate burst) unsolicited bytes other = refl
+
+module _ (c : Config) (t : LifeTally) (life : PastLife) (is : IsLifeOf c t life) where
+  -- there are few requests
+  pub few_asked : length (requests_in life.sid life.since) ≤ 2 ^ 44
+  few_asked = omega (arith, few_requests life.sid life.since, is.few)
+
+  -- and few are served
+  pub few_told : t.service.delays.served ≤ 2 ^ 44
+  few_told = omega (
+    arith,
+    few_asked,
+    few_served c t.service (requests_in life.sid life.since) (grants_since life.sid life.since) is.service,
+  )
+
+  -- alone it is the only one
+  pub AreLives-one : AreLives c (t ∷ []) (life ∷ [])
+  AreLives-one = record {
+    long = refl;
+    each = λ k u other below.
+        let first : k ≡ 0 = omega (arith, below) in
+        subst (λ k. IsLifeOf c (get_or (t ∷ []) k u) (get_or (life ∷ []) k other)) (sym first) is;
+  }
+
+-- where there is one, its life is the only one
+pub one_of : (c : Config) (t : LifeTally) (ls : List PastLife) → AreLives c (t ∷ []) ls
+    → (l : PastLife) × (ls ≡ l ∷ []) × IsLifeOf c t l
+one_of c t [] are = absurd (omega (arith, are.long))
+one_of c t (l ∷ []) are = (l, refl, are.each 0 t l (omega arith))
+one_of c t (l ∷ m ∷ ls) are = absurd (omega (arith, are.long))

@@ -1,0 +1,5 @@
+-- They are kept.
+use Rattle.sched_report.proofs.service.Service.granted.Goals as goal
+
+pub returns : goal.returns
+returns c = λ k requests grants is. is.granted
