@@ -175,7 +175,8 @@ impl Flow {
     {
         let bytes = self.most(config, start, room);
         self.grant(start, bytes);
-        Served { sid: self.sid, bytes }
+        let sid = self.sid;
+        Served { sid, bytes }
     }
 
     // Adds a data grant, for which there is room, of bytes that were asked. The grants start at or before

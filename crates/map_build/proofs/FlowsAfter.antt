@@ -82,7 +82,7 @@ flows_after-grant start sid offset slots bytes (f ∷ flows) =
     let g : Grant = record { start = start + offset; bytes = bytes } in
     let same : (sid == f.sid) ≡ (f.sid == sid) = grind (arith, nat_tests) in
     let here : flow_after start (allocation offset slots (DataGrant sid bytes) ∷ []) f
-        ≡ (if f.sid == sid then with_grant g f else f) =
+    ≡ (if f.sid == sid then with_grant g f else f) =
     ap (λ gs. with_grants f (f.grants ++ gs)) (grants_to-one start sid f.sid offset slots bytes)
     ∙ granted-one f g (sid == f.sid) (f.sid == sid) same in
     rw (here, flows_after-grant start sid offset slots bytes flows) refl

@@ -71,8 +71,7 @@ follow-self-inside-requires-clause-book c =
     let f = c.index_mut.result.now in
     let is =
     found-next config items c.args.start c.args.room c.in_ok-place.place f c.self.invariant.book.sound.ascending
-    (rw (← c.self.view_is) at c.in_ok-place.ensures) c.index_mut.ensures.value in
-    (
+    (rw (← c.self.view_is) at c.in_ok-place.ensures) c.index_mut.ensures.value in (
       config,
       rw c.deref.ensures.value (served-book config items c.args.start c.args.room c.in_ok-place.place f
           c.serve-served.result.bytes c.serve-served.new.self c.self.invariant.book is c.serve-served.ensures.live
