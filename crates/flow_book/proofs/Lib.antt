@@ -17,7 +17,7 @@ pub mod RowsBucket
 pub mod RowsCeiling
 pub mod RowsChoice
 pub mod RowsFaults
-pub mod Served
+pub mod NextServed
 pub mod Serving
 pub mod Sinking
 pub mod Started

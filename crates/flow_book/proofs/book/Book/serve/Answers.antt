@@ -7,7 +7,7 @@ use Rattle.flow_book.proofs.Changes.{placed-changed, placed-is_sound}
 use Rattle.flow_book.proofs.Sums.{placed-sums}
 use Rattle.flow_book.proofs.Queues.{same-but}
 use Rattle.flow_book.proofs.Rooms.{room-placed, room-replaced, room-others}
-use Rattle.flow_book.proofs.Served.{found-next, served-book}
+use Rattle.flow_book.proofs.NextServed.{found-next, served-book}
 use Rattle.flow_book.proofs.Started.{started-found}
 use Rattle.flow_book.proofs.book.Book.serve.Goals as goal
 
