@@ -1,5 +1,5 @@
 -- The flow that is next, at the place where it was found, and the book after its grant.
-use Rattle.std.proofs.Common.{◌≡◌, refl, ap, ℕ, ◌<◌, List, map, set, get_or, slice_get}
+use Rattle.std.proofs.Common.{◌≡◌, ap, ℕ, List, map, set, get_or, slice_get}
 use Rattle.std.specs.Option.{IsSomeAnd}
 use Rattle.minislots.specs.declared.config.Config.{Config}
 use Rattle.flow_book.specs.declared.flow.Flow.{Flow}

@@ -1,5 +1,5 @@
 -- The flow that is served first has one grant more, in its place.
-use Rattle.std.proofs.Common.{◌≡◌, ◌≢◌, ◌∙◌, ap, sym, refl, map, length, arith}
+use Rattle.std.proofs.Common.{◌≢◌, ◌∙◌, ap, sym, refl, map, length, arith}
 use Rattle.std.proofs.lemmas.List.{length-set}
 use Rattle.flow_book.specs.Flows.{LiveFlow, with_grant}
 use Rattle.flow_book.specs.Entry.{live}
