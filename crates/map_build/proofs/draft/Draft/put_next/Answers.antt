@@ -1,5 +1,5 @@
 -- What stands next: a spot that begins here, else a data grant or an idle up to the next stop.
-use Rattle.std.proofs.Common.{◌≡◌, ◌-◌, ◌<◌, ◌==◌, find, None, sym, ap, ◌∙◌, arith}
+use Rattle.std.proofs.Common.{◌≡◌, ◌+◌, ◌-◌, ◌<◌, ◌==◌, find, None, sym, ap, ◌∙◌, arith}
 use Rattle.minislots.proofs.Bounds.{bounds_of}
 use Rattle.minislots.specs.Units.{slots_for}
 use Rattle.flow_book.specs.Flows.{flow_of}
