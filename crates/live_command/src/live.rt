@@ -10,6 +10,7 @@ use crate::fault::LiveFault;
 use crate::journal::Journal;
 use crate::opening::read_opening;
 use crate::talk::converse;
+use json::Scratch;
 use line_stream::Lines;
 use sched_history::Scheduler;
 use std::alloc::Global;
@@ -43,7 +44,8 @@ pub fn hold<R: Source, W: Sink, J: Journal>(
     ensures failed_journal { FailsJustBy Failed result (J.has_failed journal.old) (J.has_failed journal.new) }
 {
     let mut lines = Lines::new();
-    let config = read_opening(alloc, &mut lines, reader)?;
+    let mut scratch = Scratch::new(alloc);
+    let config = read_opening(alloc, &mut scratch, &mut lines, reader)?;
     let mut scheduler = Scheduler::open(alloc, config)?;
     journal.begin(&config)?;
     converse(

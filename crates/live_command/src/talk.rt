@@ -11,6 +11,7 @@ use crate::fault::LiveFault;
 use crate::journal::Journal;
 use crate::outbox::Outbox;
 use crate::turn::{settle, take_turn};
+use json::Scratch;
 use line_stream::Lines;
 use sched_history::Scheduler;
 use std::alloc::Global;
@@ -54,9 +55,11 @@ pub fn converse<R: Source, W: Sink, J: Journal>(
     ensures failed_journal { FailsJustBy Failed result (J.has_failed journal.old) (J.has_failed journal.new) }
 {
     let mut outbox = Outbox::new(alloc)?;
+    let mut scratch = Scratch::new(alloc);
     for _ in 0..u64::MAX {
         if !take_turn(
             alloc,
+            &mut scratch,
             scheduler,
             &mut outbox,
             lines,

@@ -13,6 +13,7 @@ use crate::answer::answer;
 use crate::fault::LiveFault;
 use crate::journal::Journal;
 use crate::outbox::Outbox;
+use json::Scratch;
 use line_stream::{Lines, Told};
 use sched_history::Scheduler;
 use std::alloc::Global;
@@ -106,6 +107,7 @@ fn next_line<R: Source, W: Sink, J: Journal>(
 // Reads a line and answers it; false where all lines were answered.
 pub(crate) fn take_turn<R: Source, W: Sink, J: Journal>(
     alloc: Global,
+    scratch: &mut Scratch,
     scheduler: &mut Scheduler,
     outbox: &mut Outbox,
     lines: &mut Lines,
@@ -132,6 +134,6 @@ pub(crate) fn take_turn<R: Source, W: Sink, J: Journal>(
         return Ok(false);
     };
     make_room(scheduler, outbox, writer, journal)?;
-    answer(alloc, scheduler, outbox, lines, told, explained)?;
+    answer(alloc, scratch, scheduler, outbox, lines, told, explained)?;
     Ok(true)
 }
