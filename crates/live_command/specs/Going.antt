@@ -18,7 +18,7 @@ use Rattle.live_command.specs.declared.said.Said.TheVariants as saying
 use Rattle.live_command.specs.Said.{said_in}
 use Rattle.live_command.specs.Spoken.{is_spoken, spoken}
 use Rattle.live_command.specs.Held.{NotBegun}
-use Rattle.live_command.specs.Opening.{Opens, HasNoOpening, BreaksOffBefore, ComesTooMuchBefore, TellsSpoken}
+use Rattle.live_command.specs.Opening.{opening_in, Opens, HasNoOpening, BreaksOffBefore, ComesTooMuchBefore, TellsSpoken}
 use Rattle.live_command.specs.Talk.{start_at, BeginsWith, Conversed, Stopped, StopsTalk}
 
 -- whether a text says a configuration, lawful or not: it is JSON, and has the member `config`
@@ -30,6 +30,23 @@ says_config (Err fault) = false
 -- a line that is an opening where one may be left out: it is not long, and says a configuration
 unfoldable pub is_opening : List ℕ → Bool
 is_opening line = if nat_lt MAX_LINE (length line) then false else says_config (said_in line)
+
+-- the text of a first line is the opening, with this configuration; or it says none
+abbrev pub IsFront : Configuration → List ℕ → Bool → Type 0
+IsFront config line true = (says_config (said_in line) ≡ true) × (opening_in line ≡ Ok config)
+IsFront config line false = says_config (said_in line) ≡ false
+
+-- the text of an opening has a fault, or another configuration
+abbrev pub Misses : Configuration → List ℕ → LiveFault → Type 0
+Misses config line (Text fault) = fault ≢ Memory → opening_in line ≡ Err fault
+Misses config line Journal = ⊥
+Misses config line OtherConfig = (other : Configuration) × (other ≢ config) × (opening_in line ≡ Ok other)
+Misses config line (BadJournal n) = ⊥
+
+-- the text of a first line is an opening that has; or memory ran out
+abbrev pub MissesFront : Configuration → List ℕ → LiveFault → Type 0
+MissesFront config line fault =
+    (fault ≡ Text Memory) ⊎ ((says_config (said_in line) ≡ true) × Misses config line fault)
 
 -- The first line that is not blank is an opening, and was read
 pub record OpensAgain (unread left : Option (List ℕ)) (outcome : Result Configuration TextFault) : Type 0 where

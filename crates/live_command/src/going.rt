@@ -1,17 +1,19 @@
 //! A conversation that goes on after a journal was resumed.
 
-ghost use Rattle.std.specs.Prelude.{◌≡◌, ◌⊎◌, length, true, false, IfOk, IfErr, OnOk, Ok, Err};
-ghost use Rattle.line_stream.specs.declared.TheConstants.{MAX_LINE};
+ghost use Rattle.std.specs.Prelude.{◌≡◌, length, IfOk, IfErr, OnOk, Ok};
 ghost use Rattle.line_stream.specs.Told.{untold};
 ghost use Rattle.text_stream.specs.Watched.{FailsBy};
-ghost use Rattle.live_command.specs.declared.fault.LiveFault.TheVariants.{Text, OtherConfig, Journal as Failed};
-ghost use Rattle.live_command.specs.Going.{IsFront, WentOn, EndsGoing, NotGoing, ReadsFront, StopsGoing};
+ghost use Rattle.live_command.specs.declared.fault.LiveFault.TheVariants.{Text, Journal as Failed};
+ghost use Rattle.live_command.specs.Going.{says_config, IsFront, MissesFront, Misses, ReadsFront, StopsGoing};
+ghost use Rattle.live_command.specs.Going.{WentOn, EndsGoing, NotGoing};
 ghost use Rattle.live_command.specs.Journal.{FailsJustBy};
+ghost use Rattle.live_command.specs.Opening.{opening_in};
+ghost use Rattle.live_command.specs.Said.{said_in};
 
 use crate::fault::LiveFault;
 use crate::journal::Journal;
 use crate::noting::begin;
-use crate::opening::{lawful_said, next_spoken};
+use crate::opening::{next_spoken, opening_in};
 use crate::said::{Said, read_said};
 use crate::talk::talk_from;
 use json::Scratch;
@@ -21,32 +23,51 @@ use sched_history::Scheduler;
 use std::alloc::Global;
 use text_stream::{Sink, Source, TextFault};
 
-// Whether what was said is an opening, which then has the configuration.
-fn opens_with(said: Said, config: &Checked) -> Result<bool, LiveFault>
+// Whether a text says a configuration.
+fn says_config(alloc: Global, scratch: &mut Scratch, line: &[u8]) -> Result<bool, TextFault>
+    ensures ok { IfOk result (λ is. is ≡ says_config (said_in line.now)) }
+    ensures err { IfErr result (λ e. e ≡ TextFault.Memory) }
 {
-    let Said::Opening(_) = said else {
-        return Ok(false);
-    };
-    let other = lawful_said(said)?;
-    if other.config() == config.config() {
-        return Ok(true);
+    match read_said(alloc, scratch, line) {
+        Ok(Said::Opening(_)) => Ok(true),
+        Ok(Said::Call(_)) => Ok(false),
+        Err(TextFault::NotJson) => Ok(false),
+        Err(_) => Err(TextFault::Memory),
+    }
+}
+
+// Reads an opening, which has to have the configuration.
+fn require_config(
+    alloc: Global,
+    scratch: &mut Scratch,
+    config: &Checked,
+    line: &[u8],
+) -> Result<(), LiveFault>
+    ensures ok { OnOk result (opening_in line.now ≡ Ok config.now) }
+    ensures err { IfErr result (Misses config.now line.now) }
+{
+    let found = opening_in(alloc, scratch, line)?;
+    if found.config() == config.config() {
+        return Ok(());
     }
     Err(LiveFault::OtherConfig)
 }
 
-// Whether a line that is not long is an opening, which then has the configuration.
+// Whether the text of a first line is the opening, which then has the configuration.
 fn is_opening(
     alloc: Global,
     scratch: &mut Scratch,
     config: &Checked,
     line: &[u8],
 ) -> Result<bool, LiveFault>
+    ensures ok { IfOk result (IsFront config.now line.now) }
+    ensures err { IfErr result (MissesFront config.now line.now) }
 {
-    match read_said(alloc, scratch, line) {
-        Ok(said) => opens_with(said, config),
-        Err(TextFault::NotJson) => Ok(false),
-        Err(_) => Err(LiveFault::Text(TextFault::Memory)),
+    if !says_config(alloc, scratch, line)? {
+        return Ok(false);
     }
+    require_config(alloc, scratch, config, line)?;
+    Ok(true)
 }
 
 // Reads what stands in front of the lines that are answered, and tells the first of these where it was read.

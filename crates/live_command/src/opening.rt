@@ -25,9 +25,13 @@ fn config_said(said: Said) -> Result<Config, TextFault>
     }
 }
 
-// The configuration that the text of an opening says, where it is lawful.
+/// The configuration that the text of an opening says, where it is lawful.
 #[tactic(auto, unfolding(crate::specs::Opening::opening_in))]
-fn opening_in(alloc: Global, scratch: &mut Scratch, line: &[u8]) -> Result<Checked, TextFault>
+pub(crate) fn opening_in(
+    alloc: Global,
+    scratch: &mut Scratch,
+    line: &[u8],
+) -> Result<Checked, TextFault>
     ensures { Gives (λ config. config) result (opening_in line.now) }
 {
     let said = read_said(alloc, scratch, line)?;
@@ -36,8 +40,11 @@ fn opening_in(alloc: Global, scratch: &mut Scratch, line: &[u8]) -> Result<Check
     Ok(config)
 }
 
-// Tells the next line that is not blank; none where there is none.
-fn next_spoken<R: Source>(lines: &mut Lines, reader: &mut R) -> Result<Option<Told>, TextFault>
+/// Tells the next line that is not blank; none where there is none.
+pub(crate) fn next_spoken<R: Source>(
+    lines: &mut Lines,
+    reader: &mut R,
+) -> Result<Option<Told>, TextFault>
     ensures finds { IfOk result (FindsSpoken (untold lines.old (R.remaining reader.old))
         (untold lines.new (R.remaining reader.new)) lines.new) }
     ensures stops { IfErr result (StopsBefore (untold lines.old (R.remaining reader.old)) (R.remaining reader.new)) }
