@@ -107,3 +107,26 @@ Talk-start explained m unread written stands handed stood = record {
   handed = handed;
   many = omega arith;
 }
+
+-- so many turns were taken, and so none at least
+pub talk_again : {A E : Type 0} (s : Start) (m : Machine) (left written : Option (List ℕ))
+    (stands : List Entry → Type 0) (waits : List ℕ) (S : E → Type 0) (r : Result A E)
+    → MatchResult r (λ _. Talk s 1 m left written stands waits) S
+    → MatchResult r (λ _. Talk s 0 m left written stands waits) S
+talk_again s m left written stands waits S (Ok x) talk = record {
+  lines = talk.lines;
+  texts = talk.texts;
+  history = talk.history;
+  says = talk.says;
+  stood = talk.stood;
+  out = talk.out;
+  more = talk.more;
+  answers = talk.answers;
+  says_more = talk.says_more;
+  waiting = talk.waiting;
+  read = talk.read;
+  config = talk.config;
+  handed = talk.handed;
+  many = omega arith;
+}
+talk_again s m left written stands waits S (Err e) stopped = stopped

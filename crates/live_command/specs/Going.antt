@@ -1,11 +1,12 @@
 -- A conversation that goes on after a journal was resumed.
-use Rattle.std.specs.Prelude.{◌≡◌, ◌≢◌, ◌⊎◌, ℕ, ◌-◌, ◌^◌, ◌≤◌, Bool, true, false, nat_lt, if◌then◌else◌}
-use Rattle.std.specs.Prelude.{List, [], ◌∷◌, ◌++◌, length, Option, None, Some, Result, Ok, Err}
+use Rattle.std.specs.Prelude.{◌≡◌, ◌≢◌, ◌⊎◌, ℕ, ◌-◌, ◌^◌, ◌≤◌, Bool, true, false, nat_lt}
+use Rattle.std.specs.Prelude.{if◌then◌else◌, List, [], ◌∷◌, ◌++◌, length, Option, None, Some, Result, Ok, Err}
 use Rattle.minislots.specs.declared.config.Config.{Config as Configuration}
 use Rattle.sched_history.specs.declared.reply.Entry.{Entry}
 use Rattle.sched_history.specs.Machine.{Machine}
 use Rattle.line_stream.specs.declared.TheConstants.{MAX_LINE}
 use Rattle.line_stream.specs.declared.Told.{Told}
+use Rattle.line_stream.specs.declared.Told.TheVariants.{Line, Long}
 use Rattle.line_stream.specs.Lines.{TakesLines}
 use Rattle.line_stream.specs.Told.{AtHand}
 use Rattle.text_stream.specs.declared.fault.TextFault.{TextFault}
@@ -18,7 +19,8 @@ use Rattle.live_command.specs.declared.said.Said.TheVariants as saying
 use Rattle.live_command.specs.Said.{said_in}
 use Rattle.live_command.specs.Spoken.{is_spoken, spoken}
 use Rattle.live_command.specs.Held.{NotBegun}
-use Rattle.live_command.specs.Opening.{opening_in, Opens, HasNoOpening, BreaksOffBefore, ComesTooMuchBefore, TellsSpoken}
+use Rattle.live_command.specs.Opening.{opening_in, Opens, HasNoOpening, BreaksOffBefore, ComesTooMuchBefore}
+use Rattle.live_command.specs.Opening.{TellsSpoken}
 use Rattle.live_command.specs.Talk.{start_at, BeginsWith, Conversed, Stopped, StopsTalk}
 
 -- whether a text says a configuration, lawful or not: it is JSON, and has the member `config`
@@ -31,10 +33,11 @@ says_config (Err fault) = false
 unfoldable pub is_opening : List ℕ → Bool
 is_opening line = if nat_lt MAX_LINE (length line) then false else says_config (said_in line)
 
--- the text of a first line is the opening, with this configuration; or it says none
-abbrev pub IsFront : Configuration → List ℕ → Bool → Type 0
-IsFront config line true = (says_config (said_in line) ≡ true) × (opening_in line ≡ Ok config)
-IsFront config line false = says_config (said_in line) ≡ false
+-- the text of a first line is told, since it says no configuration; or it is the opening, with this one
+abbrev pub IsFront : Configuration → List ℕ → Option Told → Type 0
+IsFront config line None = (says_config (said_in line) ≡ true) × (opening_in line ≡ Ok config)
+IsFront config line (Some Line) = says_config (said_in line) ≡ false
+IsFront config line (Some Long) = ⊥
 
 -- the text of an opening has a fault, or another configuration
 abbrev pub Misses : Configuration → List ℕ → LiveFault → Type 0

@@ -53,21 +53,21 @@ fn require_config(
     Err(LiveFault::OtherConfig)
 }
 
-// Whether the text of a first line is the opening, which then has the configuration.
-fn is_opening(
+// Tells a first line that is not long, unless it is the opening, which then has the configuration.
+fn tell_first(
     alloc: Global,
     scratch: &mut Scratch,
     config: &Checked,
     line: &[u8],
-) -> Result<bool, LiveFault>
+) -> Result<Option<Told>, LiveFault>
     ensures ok { IfOk result (IsFront config.now line.now) }
     ensures err { IfErr result (MissesFront config.now line.now) }
 {
     if !says_config(alloc, scratch, line)? {
-        return Ok(false);
+        return Ok(Some(Told::Line));
     }
     require_config(alloc, scratch, config, line)?;
-    Ok(true)
+    Ok(None)
 }
 
 // Reads what stands in front of the lines that are answered, and tells the first of these where it was read.
@@ -85,17 +85,15 @@ fn read_front<R: Source>(
     ensures failed { FailsBy (Text TextFault.Input) result (R.has_failed reader.old) (R.has_failed reader.new) }
 {
     match next_spoken(lines, reader)? {
-        Some(Told::Line) => match is_opening(alloc, scratch, config, lines.line())? {
-            true => Ok(None),
-            false => Ok(Some(Told::Line)),
-        },
-        told => Ok(told),
+        Some(Told::Line) => tell_first(alloc, scratch, config, lines.line()),
+        Some(Told::Long) => Ok(Some(Told::Long)),
+        None => Ok(None),
     }
 }
 
 /// Goes on with a conversation whose journal was resumed, to the end of the input. The whole history of the scheduler
-/// is what the journal stands for, and none of it is kept. The first line that is not blank may be the opening: where it
-/// has the member `config` it is one, and must have the journal's configuration; else it is the first line that is
+/// is what the journal stands for, and none of it is kept. The first line that is not blank may be the opening: where
+/// it has the member `config` it is one, and must have the journal's configuration; else it is the first line that is
 /// answered, as a long line is and one that is not JSON. The journal begins only behind that, and then each line is
 /// answered as [`converse`](crate::converse) does.
 pub fn go_on<R: Source, W: Sink, J: Journal>(
@@ -126,13 +124,14 @@ pub fn go_on<R: Source, W: Sink, J: Journal>(
     // A failed read or write is told where one has failed, and where all went well none did.
     ensures failed_read { FailsBy (Text TextFault.Input) result (R.has_failed reader.old)
         (R.has_failed reader.new) }
-    ensures failed_write { FailsBy (Text TextFault.Output) result (W.has_failed writer.old)
+    ensures failed_write { FailsJustBy (Text TextFault.Output) result (W.has_failed writer.old)
         (W.has_failed writer.new) }
     ensures failed_journal { FailsJustBy Failed result (J.has_failed journal.old) (J.has_failed journal.new) }
 {
     let mut scratch = Scratch::new(alloc);
-    let told = read_front(alloc, &mut scratch, scheduler.config(), lines, reader)?;
-    begin(journal, scheduler.config())?;
+    let config = *scheduler.config();
+    let told = read_front(alloc, &mut scratch, &config, lines, reader)?;
+    begin(journal, &config)?;
     talk_from(
         alloc,
         &mut scratch,

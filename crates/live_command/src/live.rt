@@ -41,7 +41,7 @@ pub fn hold<R: Source, W: Sink, J: Journal>(
     // A failed read or write is told where one has failed, and where all went well none did.
     ensures failed_read { FailsBy (Text TextFault.Input) result (R.has_failed reader.old)
         (R.has_failed reader.new) }
-    ensures failed_write { FailsBy (Text TextFault.Output) result (W.has_failed writer.old)
+    ensures failed_write { FailsJustBy (Text TextFault.Output) result (W.has_failed writer.old)
         (W.has_failed writer.new) }
     ensures failed_journal { FailsJustBy Failed result (J.has_failed journal.old) (J.has_failed journal.new) }
 {

@@ -36,7 +36,7 @@ pub(crate) fn settle<W: Sink, J: Journal>(
     ensures settled { OnOk result (outbox.new ≡ []) }
     ensures handed { OnOk result (scheduler.new ≡ record scheduler.old { handed = length scheduler.old.history }) }
     ensures err { IfErr result IsAnywhere }
-    ensures failed_write { FailsBy (Text TextFault.Output) result (W.has_failed writer.old)
+    ensures failed_write { FailsJustBy (Text TextFault.Output) result (W.has_failed writer.old)
         (W.has_failed writer.new) }
     ensures failed_journal { FailsJustBy Failed result (J.has_failed journal.old) (J.has_failed journal.new) }
 {
@@ -60,7 +60,7 @@ fn make_room<W: Sink, J: Journal>(
         (λ _. Stopped s (W.contents writer.new) (J.stands_for journal.new s.config)) }
     ensures room { OnOk result (length (kept_of scheduler.new) < scheduler.new.config.calls) }
     ensures err { IfErr result IsAnywhere }
-    ensures failed_write { FailsBy (Text TextFault.Output) result (W.has_failed writer.old)
+    ensures failed_write { FailsJustBy (Text TextFault.Output) result (W.has_failed writer.old)
         (W.has_failed writer.new) }
     ensures failed_journal { FailsJustBy Failed result (J.has_failed journal.old) (J.has_failed journal.new) }
 {
@@ -93,7 +93,7 @@ fn next_line<R: Source, W: Sink, J: Journal>(
         × StopsTalk s scheduler.new (R.remaining reader.new) (W.contents writer.new) (J.stands_for journal.new s.config) e) }
     ensures failed_read { FailsBy (Text TextFault.Input) result (R.has_failed reader.old)
         (R.has_failed reader.new) }
-    ensures failed_write { FailsBy (Text TextFault.Output) result (W.has_failed writer.old)
+    ensures failed_write { FailsJustBy (Text TextFault.Output) result (W.has_failed writer.old)
         (W.has_failed writer.new) }
     ensures failed_journal { FailsJustBy Failed result (J.has_failed journal.old) (J.has_failed journal.new) }
 {
@@ -125,7 +125,7 @@ fn take_told<W: Sink, J: Journal>(
         outbox.new)
         (λ _. Stopped s (W.contents writer.new) (J.stands_for journal.new s.config)) }
     ensures err { IfErr result IsAnywhere }
-    ensures failed_write { FailsBy (Text TextFault.Output) result (W.has_failed writer.old)
+    ensures failed_write { FailsJustBy (Text TextFault.Output) result (W.has_failed writer.old)
         (W.has_failed writer.new) }
     ensures failed_journal { FailsJustBy Failed result (J.has_failed journal.old) (J.has_failed journal.new) }
 {
@@ -155,7 +155,7 @@ pub(crate) fn take_first<W: Sink, J: Journal>(
         (λ _. Talk s 0 scheduler.new left (W.contents writer.new) (J.stands_for journal.new s.config) outbox.new)
         (λ _. Stopped s (W.contents writer.new) (J.stands_for journal.new s.config)) }
     ensures err { IfErr result IsAnywhere }
-    ensures failed_write { FailsBy (Text TextFault.Output) result (W.has_failed writer.old)
+    ensures failed_write { FailsJustBy (Text TextFault.Output) result (W.has_failed writer.old)
         (W.has_failed writer.new) }
     ensures failed_journal { FailsJustBy Failed result (J.has_failed journal.old) (J.has_failed journal.new) }
 {
@@ -189,7 +189,7 @@ pub(crate) fn take_turn<R: Source, W: Sink, J: Journal>(
         × StopsTalk s scheduler.new (R.remaining reader.new) (W.contents writer.new) (J.stands_for journal.new s.config) e) }
     ensures failed_read { FailsBy (Text TextFault.Input) result (R.has_failed reader.old)
         (R.has_failed reader.new) }
-    ensures failed_write { FailsBy (Text TextFault.Output) result (W.has_failed writer.old)
+    ensures failed_write { FailsJustBy (Text TextFault.Output) result (W.has_failed writer.old)
         (W.has_failed writer.new) }
     ensures failed_journal { FailsJustBy Failed result (J.has_failed journal.old) (J.has_failed journal.new) }
 {

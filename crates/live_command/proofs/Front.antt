@@ -1,18 +1,20 @@
 -- What stands in front of a conversation that goes on.
 use Rattle.std.proofs.Common.{◌≡◌, ℕ, ◌<◌, ◌≤◌, Bool, true, false, List, [], length, Option, None, Some}
 use Rattle.std.proofs.Common.{Result, Ok, Err, refl, sym, ap, subst, ◌∙◌, inl, inr}
-use Rattle.std.specs.Prelude.{◌≢◌, IfErr}
+use Rattle.std.specs.Prelude.{◌≢◌, IfOk, IfErr}
 use Rattle.std.proofs.lemmas.Bool.{le-ltb, lt-ltb}
 use Rattle.minislots.specs.declared.config.Config.{Config as Configuration}
 use Rattle.minislots.specs.declared.config.ConfigFault.{ConfigFault}
 use Rattle.minislots.specs.Config.{first_wrong}
 use Rattle.line_stream.specs.declared.TheConstants.{MAX_LINE}
+use Rattle.line_stream.specs.declared.Told.{Told}
 use Rattle.line_stream.specs.declared.Told.TheVariants.{Line, Long}
 use Rattle.line_stream.specs.Told.{AtHand}
 use Rattle.text_stream.specs.declared.fault.TextFault.{TextFault}
 use Rattle.text_stream.specs.declared.fault.TextFault.TheVariants.{Input, TooLong, NotJson, Shape, Config, Memory}
 use Rattle.text_stream.specs.declared.fault.TextFault.TheVariants.{Output}
 use Rattle.text_stream.specs.Outcome.{◌>>=◌, unless_wrong}
+use Rattle.text_stream.specs.Watched.{FailsBy}
 use Rattle.text_stream.proofs.Outcome.{IsOfText}
 use Rattle.live_command.specs.declared.fault.LiveFault.{LiveFault}
 use Rattle.live_command.specs.declared.fault.LiveFault.TheVariants.{Text, Journal, OtherConfig, BadJournal}
@@ -22,7 +24,7 @@ use Rattle.live_command.specs.Said.{said_in}
 use Rattle.live_command.specs.Opening.{config_said, opening_in, Opens, TellsSpoken, PassesAll}
 use Rattle.live_command.specs.Going.{says_config, is_opening, OpensAgain, GoesFrom, StopsGoing, IsFront, Misses}
 use Rattle.live_command.specs.Going.{MissesFront, ReadsFront, TellsFirst, PassesFront}
-use Rattle.live_command.proofs.OpeningFaults.{opens, of_text}
+use Rattle.live_command.proofs.OpeningFaults.{opens, of_text, faults-opening_in}
 use Rattle.live_command.proofs.OpeningLines.{HasNoOpening-passed}
 use Rattle.live_command.proofs.Talking.{TakesLines-none}
 
@@ -58,26 +60,28 @@ module _ (config : Configuration) (unread left : Option (List ℕ)) (hand : AtHa
       is_opening-short tells.line tells.is.1 ∙ ap (λ (l : List ℕ). says_config (said_in l)) (sym tells.is.0) in
       record { opens = opens unread left hand outcome tells is; is = same ∙ says }
 
-  -- the first line is the opening
-  pub front_opens : TellsSpoken unread left hand Line → IsFront config hand.line true
-      → PassesFront config unread left
-  front_opens tells is = record {
+  -- the first line was told, or it is the opening
+  front_read : (told : Option Told) → TellsSpoken unread left hand Line → IsFront config hand.line told
+      → ReadsFront config unread left hand told
+  front_read None tells is = record {
     behind = left;
     goes = inl (again (Ok config) tells is.0 is.1);
     blanks = [];
     blank = refl;
     passed = TakesLines-none left;
   }
-
-  -- or the first of the conversation
-  pub front_tells : TellsSpoken unread left hand Line → IsFront config hand.line false
-      → TellsFirst unread left hand Line
-  front_tells tells is = record {
+  front_read (Some Line) tells is = record {
     tells = tells;
     other = is_opening-short tells.line tells.is.1 ∙ ap (λ (l : List ℕ). says_config (said_in l)) (sym tells.is.0) ∙ is;
   }
+  front_read (Some Long) tells is = absurd is
 
-  -- as a long one is
+  pub reads_front : (r : Result (Option Told) LiveFault) → TellsSpoken unread left hand Line
+      → IfOk r (IsFront config hand.line) → IfOk r (ReadsFront config unread left hand)
+  reads_front (Ok told) tells is = front_read told tells is
+  reads_front (Err fault) tells is = tt
+
+  -- a long line was told
   pub front_long : TellsSpoken unread left hand Long → TellsFirst unread left hand Long
   front_long tells = record { tells = tells; other = is_opening-long tells.line tells.is }
 
@@ -109,8 +113,27 @@ module _ (config : Configuration) (unread left : Option (List ℕ)) (hand : AtHa
   missed after OtherConfig tells says why = (why.0, why.1, (left, again (Ok why.0) tells says why.2))
   missed after (BadJournal n) tells says why = absurd why
 
-  -- or it is an opening with a fault, or with another configuration
-  pub front_misses : (after : Option (List ℕ)) (fault : LiveFault) → TellsSpoken unread left hand Line
+  missed_front : (after : Option (List ℕ)) (fault : LiveFault) → TellsSpoken unread left hand Line
       → MissesFront config hand.line fault → StopsGoing config unread after fault
-  front_misses after fault tells (inl is) = subst (StopsGoing config unread after) (sym is) tt
-  front_misses after fault tells (inr why) = missed after fault tells why.0 why.1
+  missed_front after fault tells (inl is) = subst (StopsGoing config unread after) (sym is) tt
+  missed_front after fault tells (inr why) = missed after fault tells why.0 why.1
+
+  -- or it is an opening with a fault, or with another configuration
+  pub misses_front : (after : Option (List ℕ)) (r : Result (Option Told) LiveFault) → TellsSpoken unread left hand Line
+      → IfErr r (MissesFront config hand.line) → IfErr r (StopsGoing config unread after)
+  misses_front after (Ok told) tells is = tt
+  misses_front after (Err fault) tells is = missed_front after fault tells is
+
+-- no read failed there
+not_input : (config : Configuration) (line : List ℕ) (fault : LiveFault) → MissesFront config line fault
+    → fault ≢ Text Input
+not_input config line fault (inl is) input = (let no : Text Input ≡ Text Memory = sym input ∙ is in cc)
+not_input config line fault (inr why) input =
+    let misses : Misses config line (Text Input) = subst (Misses config line) input why.1 in
+    absurd (subst (λ (r : Result Configuration TextFault). IfErr r IsOfText) (misses (λ e. cc)) (faults-opening_in line))
+
+pub unfailed_front : (config : Configuration) (line : List ℕ) (r : Result (Option Told) LiveFault)
+    → IfErr r (MissesFront config line) → (before after : Bool) → after ≡ before
+    → FailsBy (Text Input) r before after
+unfailed_front config line (Ok told) misses before after same = same
+unfailed_front config line (Err fault) misses before after same = λ is. absurd (not_input config line fault misses is)
