@@ -130,7 +130,8 @@ not_input : (config : Configuration) (line : List ℕ) (fault : LiveFault) → M
 not_input config line fault (inl is) input = (let no : Text Input ≡ Text Memory = sym input ∙ is in cc)
 not_input config line fault (inr why) input =
     let misses : Misses config line (Text Input) = subst (Misses config line) input why.1 in
-    absurd (subst (λ (r : Result Configuration TextFault). IfErr r IsOfText) (misses (λ e. cc)) (faults-opening_in line))
+    absurd (subst (λ (r : Result Configuration TextFault). IfErr r IsOfText) (misses (λ e. cc))
+    (faults-opening_in line))
 
 pub unfailed_front : (config : Configuration) (line : List ℕ) (r : Result (Option Told) LiveFault)
     → IfErr r (MissesFront config line) → (before after : Bool) → after ≡ before

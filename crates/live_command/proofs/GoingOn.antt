@@ -65,16 +65,22 @@ module _ (explained : Bool) (m : Machine) (unread left : Option (List ℕ)) (han
   pub front_goes : (told : Option Told) → ReadsFront m.config unread left hand told
       → (behind : Option (List ℕ)) × GoesFrom m.config unread behind
   front_goes None passes = (passes.behind, passes.goes)
-  front_goes (Some told) first = (unread, inr (inr (record {
-    blanks = first.tells.blanks;
-    line = first.tells.line;
-    blank = first.tells.blank;
-    spoken_is = first.tells.spoken_is;
-    read = TakesLines-front unread left (first.tells.blanks ++ first.tells.line ∷ [])
-        (TakesLines-trans unread first.tells.between left first.tells.blanks (first.tells.line ∷ [])
-        first.tells.passed first.tells.taken);
-    other = first.other;
-  }), refl))
+  front_goes (Some told) first = (
+    unread,
+    inr (
+      inr (record {
+        blanks = first.tells.blanks;
+        line = first.tells.line;
+        blank = first.tells.blank;
+        spoken_is = first.tells.spoken_is;
+        read = TakesLines-front unread left (first.tells.blanks ++ first.tells.line ∷ [])
+            (TakesLines-trans unread first.tells.between left first.tells.blanks (first.tells.line ∷ [])
+            first.tells.passed first.tells.taken);
+        other = first.other;
+      }),
+      refl,
+    ),
+  )
 
   -- the conversation begins there
   pub front_begins : (written : Option (List ℕ)) (stands : List Entry → Type 0) (told : Option Told)

@@ -19,7 +19,8 @@ use std::alloc::Global;
 use text_stream::{Sink, Source, TextFault};
 
 /// Reads the opening of a conversation, which has its configuration, begins the journal, and converses with a new
-/// scheduler to the end of the input. The journal has no whole line before, and it is changed once the opening was read.
+/// scheduler to the end of the input. The journal has no whole line before, and is not changed before the opening was
+/// read.
 pub fn hold<R: Source, W: Sink, J: Journal>(
     alloc: Global,
     reader: &mut R,

@@ -87,10 +87,26 @@ pub(crate) fn talk_from<R: Source, W: Sink, J: Journal>(
 {
     let mut outbox = Outbox::new(alloc)?;
     take_first(
-        alloc, scratch, scheduler, &mut outbox, lines, told, writer, journal, explained,
+        alloc,
+        scratch,
+        scheduler,
+        &mut outbox,
+        lines,
+        told,
+        writer,
+        journal,
+        explained,
     )?;
     talk_on(
-        alloc, scratch, scheduler, &mut outbox, lines, reader, writer, journal, explained,
+        alloc,
+        scratch,
+        scheduler,
+        &mut outbox,
+        lines,
+        reader,
+        writer,
+        journal,
+        explained,
     )
 }
 

@@ -90,7 +90,8 @@ fn next_line<R: Source, W: Sink, J: Journal>(
         (TellsOn s turns scheduler.new (untold lines.new (R.remaining reader.new)) (W.contents writer.new)
         (J.stands_for journal.new s.config) outbox.new lines.new))
         (λ e. Stopped s (W.contents writer.new) (J.stands_for journal.new s.config)
-        × StopsTalk s scheduler.new (R.remaining reader.new) (W.contents writer.new) (J.stands_for journal.new s.config) e) }
+        × StopsTalk s scheduler.new (R.remaining reader.new) (W.contents writer.new)
+        (J.stands_for journal.new s.config) e) }
     ensures failed_read { FailsBy (Text TextFault.Input) result (R.has_failed reader.old)
         (R.has_failed reader.new) }
     ensures failed_write { FailsJustBy (Text TextFault.Output) result (W.has_failed writer.old)
@@ -186,7 +187,8 @@ pub(crate) fn take_turn<R: Source, W: Sink, J: Journal>(
         (IsTurn s turns scheduler.new (untold lines.new (R.remaining reader.new)) (W.contents writer.new)
         (J.stands_for journal.new s.config) outbox.new)
         (λ e. Stopped s (W.contents writer.new) (J.stands_for journal.new s.config)
-        × StopsTalk s scheduler.new (R.remaining reader.new) (W.contents writer.new) (J.stands_for journal.new s.config) e) }
+        × StopsTalk s scheduler.new (R.remaining reader.new) (W.contents writer.new)
+        (J.stands_for journal.new s.config) e) }
     ensures failed_read { FailsBy (Text TextFault.Input) result (R.has_failed reader.old)
         (R.has_failed reader.new) }
     ensures failed_write { FailsJustBy (Text TextFault.Output) result (W.has_failed writer.old)

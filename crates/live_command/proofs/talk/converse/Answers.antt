@@ -13,6 +13,7 @@ returns-clause-ok g c =
     let start = Talk-start c.args.explained c.args.scheduler.now unread written
     (g.J.Journal.stands_for c.args.journal.now s.config) c.requires.handed c.requires.stands in
     on_ok _ _ _ c.talk_from.result (c.talk_from.ensures.talk s refl start)
+
 pub returns-clause-stopped : goal.returns-clause-stopped
 returns-clause-stopped g c =
     let unread = untold c.args.lines.now (g.R.Source.remaining c.args.reader.now) in
@@ -21,6 +22,7 @@ returns-clause-stopped g c =
     let start = Talk-start c.args.explained c.args.scheduler.now unread written
     (g.J.Journal.stands_for c.args.journal.now s.config) c.requires.handed c.requires.stands in
     on_err-first _ _ _ c.talk_from.result (c.talk_from.ensures.talk s refl start)
+
 pub returns-clause-stops : goal.returns-clause-stops
 returns-clause-stops g c =
     let unread = untold c.args.lines.now (g.R.Source.remaining c.args.reader.now) in
