@@ -21,7 +21,7 @@ use Rattle.live_command.specs.declared.fault.LiveFault.TheVariants.{Text, Journa
 use Rattle.live_command.specs.declared.said.Said.{Said}
 use Rattle.live_command.specs.declared.said.Said.TheVariants as saying
 use Rattle.live_command.specs.Said.{said_in}
-use Rattle.live_command.specs.Opening.{config_said, opening_in, Opens, TellsSpoken, PassesAll}
+use Rattle.live_command.specs.Opening.{config_said, opening_in, Opens, TellsSpoken, PassesAll, StopsBefore}
 use Rattle.live_command.specs.Going.{says_config, is_opening, OpensAgain, GoesFrom, StopsGoing, IsFront, Misses}
 use Rattle.live_command.specs.Going.{MissesFront, ReadsFront, TellsFirst, PassesFront}
 use Rattle.live_command.proofs.OpeningFaults.{opens, of_text, faults-opening_in}
@@ -45,8 +45,8 @@ says-json : (r : Result Said TextFault) → says_config r ≡ true
     → (r >>= (λ said. config_said said >>= (λ config. unless_wrong (first_wrong config) config))) ≢ Err NotJson
 says-json (Ok (saying.Opening (Some config))) says is = lawful-json (first_wrong config) config is
 says-json (Ok (saying.Opening None)) says is = cc
-says-json (Ok (saying.Call call)) says is = cc
-says-json (Err fault) says is = cc
+says-json (Ok (saying.Call call)) says is = (let no : false ≡ true = says in cc)
+says-json (Err fault) says is = (let no : false ≡ true = says in cc)
 
 opening-json : (line : List ℕ) → says_config (said_in line) ≡ true → opening_in line ≢ Err NotJson
 unfolding opening_in
@@ -124,6 +124,17 @@ module _ (config : Configuration) (unread left : Option (List ℕ)) (hand : AtHa
   misses_front after (Ok told) tells is = tt
   misses_front after (Err fault) tells is = missed_front after fault tells is
 
+-- no line came
+pub stops_before : (config : Configuration) (unread left : Option (List ℕ)) (fault : TextFault)
+    → StopsBefore unread left fault → StopsGoing config unread left (Text fault)
+stops_before config unread left Input stops = stops
+stops_before config unread left TooLong stops = stops
+stops_before config unread left NotJson stops = stops
+stops_before config unread left (Shape n) stops = absurd stops
+stops_before config unread left (Config field) stops = absurd stops
+stops_before config unread left Memory stops = absurd stops
+stops_before config unread left Output stops = stops
+
 -- no read failed there
 not_input : (config : Configuration) (line : List ℕ) (fault : LiveFault) → MissesFront config line fault
     → fault ≢ Text Input
@@ -136,5 +147,5 @@ not_input config line fault (inr why) input =
 pub unfailed_front : (config : Configuration) (line : List ℕ) (r : Result (Option Told) LiveFault)
     → IfErr r (MissesFront config line) → (before after : Bool) → after ≡ before
     → FailsBy (Text Input) r before after
-unfailed_front config line (Ok told) misses before after same = same
-unfailed_front config line (Err fault) misses before after same = λ is. absurd (not_input config line fault misses is)
+unfailed_front config line (Ok told) why before after same = same
+unfailed_front config line (Err fault) why before after same = λ is. absurd (not_input config line fault why is)

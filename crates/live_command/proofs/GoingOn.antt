@@ -62,7 +62,7 @@ begins_quiet s m left written stands waits hand (Some told) tells =
 
 module _ (explained : Bool) (m : Machine) (unread left : Option (List ℕ)) (hand : AtHand) where
   -- where the lines that are answered begin
-  pub front_goes : (told : Option Told) → ReadsFront m.config unread left hand told
+  abbrev pub front_goes : (told : Option Told) → ReadsFront m.config unread left hand told
       → (behind : Option (List ℕ)) × GoesFrom m.config unread behind
   front_goes None passes = (passes.behind, passes.goes)
   front_goes (Some told) first = (

@@ -38,7 +38,7 @@ faults-opening_in bytes =
     (λ said. faults-bind (config_said said) (λ config. unless_wrong (first_wrong config) config)
     (faults-config_said said) (λ config. faults-unless_wrong (first_wrong config) config))
 
-opening_of_short : (line : List ℕ) → length line ≤ MAX_LINE → opening_of_line line ≡ opening_in line
+pub opening_of_short : (line : List ℕ) → length line ≤ MAX_LINE → opening_of_line line ≡ opening_in line
 unfolding opening_of_line
 opening_of_short line short = rw (le-ltb MAX_LINE (length line) short) refl
 
@@ -47,7 +47,7 @@ unfolding opening_of_line
 opening_of_long line long = rw (lt-ltb MAX_LINE (length line) long) refl
 
 module _ (unread left : Option (List ℕ)) (hand : AtHand) where
-  pub opens : (outcome : Result Configuration TextFault) → TellsSpoken unread left hand Line
+  abbrev pub opens : (outcome : Result Configuration TextFault) → TellsSpoken unread left hand Line
       → opening_in hand.line ≡ outcome → Opens unread left outcome
   opens outcome tells says = record {
     blanks = tells.blanks;

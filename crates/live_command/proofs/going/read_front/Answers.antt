@@ -19,7 +19,7 @@ returns-in-Some-Line-clause-failed g c =
 pub returns-in-Some-Long-clause-ok : goal.returns-in-Some-Long-clause-ok
 returns-in-Some-Long-clause-ok g c =
     let found = rw (c.in-Some-Long.is, c.in-Some-Long.field-0-is) at c.in_ok-next_spoken.ensures.finds in
-    front_long _ _ _ _ found
+    front_long c.args.config.now _ _ _ found
 
 pub returns-in-None-clause-ok : goal.returns-in-None-clause-ok
 returns-in-None-clause-ok g c =

@@ -1,5 +1,5 @@
 -- A conversation goes on turn by turn, and ends.
-use Rattle.std.proofs.Common.{refl, inr}
+use Rattle.std.proofs.Common.{◌-◌, ◌^◌, ◌++◌, refl, inr, arith}
 use Rattle.std.proofs.lemmas.Result.{err_from_is_err_and}
 use Rattle.live_command.proofs.Talking.{Stopped-quiet, too_many}
 use Rattle.live_command.proofs.Turning.{stops_anywhere}
@@ -25,4 +25,12 @@ returns-in_err-settle-clause-talk g c = λ s same talk.
     rw (p.1, p.2) (
       c.in_err-settle.ensures.talk s c.loop.counter _ (c.loop.invariant.talk s same talk),
       stops_anywhere s _ _ _ _ _ c.in_err-settle.ensures.err,
+    )
+
+pub returns-clause-talk : goal.returns-clause-talk
+returns-clause-talk g c = λ s same talk.
+    let settled = c.in_ok-settle.ensures.talk s c.loop.counter _ (c.loop.invariant.talk s same talk) in
+    let lines = too_many s c.loop.counter _ _ _ _ _ settled.0 (2 ^ 64 - 1) (omega (arith, c.loop-test.false)) in (
+      Stopped-quiet s c.loop.counter _ _ _ _ _ settled.0,
+      inr (record { lines = settled.0.lines ++ settled.0.more; read = lines.0; many = lines.1 }),
     )
