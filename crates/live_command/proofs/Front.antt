@@ -21,8 +21,8 @@ use Rattle.live_command.specs.declared.fault.LiveFault.TheVariants.{Text, Journa
 use Rattle.live_command.specs.declared.said.Said.{Said}
 use Rattle.live_command.specs.declared.said.Said.TheVariants as saying
 use Rattle.live_command.specs.Said.{said_in}
-use Rattle.live_command.specs.Opening.{config_said, opening_in, Opens, TellsSpoken, PassesAll, StopsBefore}
-use Rattle.live_command.specs.Going.{says_config, is_opening, OpensAgain, GoesFrom, StopsGoing, IsFront, Misses}
+use Rattle.live_command.specs.Opening.{config_said, opening_in, TellsSpoken, PassesAll, StopsBefore}
+use Rattle.live_command.specs.Going.{says_config, is_opening, OpensAgain, StopsGoing, IsFront, Misses}
 use Rattle.live_command.specs.Going.{MissesFront, ReadsFront, TellsFirst, PassesFront}
 use Rattle.live_command.proofs.OpeningFaults.{opens, of_text, faults-opening_in}
 use Rattle.live_command.proofs.OpeningLines.{HasNoOpening-passed}

@@ -1,6 +1,6 @@
 -- A conversation goes on behind what stands in front of it.
 use Rattle.std.proofs.Common.{◌≡◌, ℕ, Bool, List, [], ◌∷◌, ◌++◌, length, Option, None, Some, Result, Ok, Err}
-use Rattle.std.proofs.Common.{refl, sym, subst, inl, inr, append_assoc, arith}
+use Rattle.std.proofs.Common.{refl, sym, subst, inr, append_assoc, arith}
 use Rattle.std.specs.Prelude.{IfErr, OnOk, MatchOption, MatchResult}
 use Rattle.std.proofs.lemmas.List.{append-nil}
 use Rattle.sched_history.specs.declared.reply.Entry.{Entry}
@@ -11,7 +11,7 @@ use Rattle.line_stream.specs.Told.{AtHand}
 use Rattle.live_command.specs.declared.fault.LiveFault.{LiveFault}
 use Rattle.live_command.specs.Spoken.{spoken}
 use Rattle.live_command.specs.Answers.{SaysEach}
-use Rattle.live_command.specs.Going.{GoesFrom, TellsFirst, PassesFront, ReadsFront, WentOn, EndsGoing}
+use Rattle.live_command.specs.Going.{GoesFrom, ReadsFront, WentOn, EndsGoing}
 use Rattle.live_command.specs.Talk.{start_at, Start, Talk, TellsOn, Conversed, Stopped, StopsTalk}
 use Rattle.live_command.proofs.Saying.{SaysEach-spoken}
 use Rattle.live_command.proofs.Talking.{Stopped-quiet, TakesLines-trans, TakesLines-front}

@@ -1,7 +1,6 @@
 -- Lines before an opening.
 use Rattle.std.proofs.Common.{◌≡◌, ℕ, ◌+◌, ◌-◌, ◌^◌, ◌≤◌, Bool, true, false, List, [], ◌∷◌, ◌++◌, length, Option, None, Some}
 use Rattle.std.proofs.Common.{refl, sym, ap, ◌∙◌, inl, arith, length-append}
-use Rattle.std.specs.Io.KnownBytes.{IsAtEnd}
 use Rattle.line_stream.specs.declared.Told.{Told}
 use Rattle.line_stream.specs.Lines.{lines_of, TakesLines}
 use Rattle.line_stream.specs.Told.{AtHand, HasEnded, HasNoEnd, TellsNext, StopsLine}

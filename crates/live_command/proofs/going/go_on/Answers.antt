@@ -1,7 +1,6 @@
 -- What stands in front is read, the journal begins, and the conversation goes on.
 use Rattle.std.proofs.Common.{refl, inl, inr}
 use Rattle.std.proofs.lemmas.Result.{err_from_is_err_and}
-use Rattle.line_stream.specs.Told.{untold}
 use Rattle.live_command.specs.Talk.{start_at}
 use Rattle.live_command.proofs.GoingOn.{front_goes, front_begins, goes_well, goes_early}
 use Rattle.live_command.proofs.going.go_on.Goals as goal
