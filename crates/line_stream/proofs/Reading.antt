@@ -1,5 +1,6 @@
 -- How far the reading of a line has come.
-use Rattle.std.proofs.Common.{◌≡◌, ℕ, ◌+◌, ◌-◌, ◌^◌, ◌<◌, ◌≤◌, min, Bool, List, [], ◌∷◌, ◌++◌, length, take, drop, Option, None, Some}
+use Rattle.std.proofs.Common.{◌≡◌, ℕ, ◌+◌, ◌-◌, ◌^◌, ◌<◌, ◌≤◌, min, Bool, List, [], ◌∷◌, ◌++◌, length, take, drop}
+use Rattle.std.proofs.Common.{Option, None, Some}
 use Rattle.std.proofs.Common.{refl, sym, ap, ◌∙◌, append_assoc, arith, length-append}
 use Rattle.std.specs.Prelude.{IfSome}
 use Rattle.std.specs.Io.KnownBytes.{Consumes, IsAtEnd, prepend_known}
@@ -13,7 +14,8 @@ use Rattle.line_stream.specs.declared.Told.{Told}
 use Rattle.line_stream.specs.declared.Told.TheVariants.{Line, Long}
 use Rattle.line_stream.specs.Told.{AtHand, untold, IsTold, TellsAtHand, TellsNext, TellsWhole, whole_of, IsWhole}
 use Rattle.line_stream.specs.Piece.{IsHeld, IsCut, IsLast, EndsAt, TellsCut, whole_from, whole_cut, FindsLine, Finds}
-use Rattle.line_stream.proofs.Taking.{IsWithinLine-append, IsWithinLine-before, at_newline, TakesLines-line, TakesLines-last}
+use Rattle.line_stream.proofs.Taking.{IsWithinLine-append, IsWithinLine-before, at_newline, TakesLines-line}
+use Rattle.line_stream.proofs.Taking.{TakesLines-last}
 
 -- so many reads gave the front of a line, which has so many bytes, and no newline
 pub record Reads (before now : Option (List ℕ)) (is_long : Bool) (kept : List ℕ) (reads count : ℕ) : Type 0 where
