@@ -8,30 +8,30 @@
  * `without_end [CALLS]`: a hundred million where no number is given.
  */
 #include "drawn_calls.h"
-#include <sys/resource.h>
-#include <unistd.h>
+#include <string.h>
 
 enum { CALLS = 100000000, FIRST = 100000, KEPT = 1000, STEP = 10, STEPS = 100000 };
 
 /* How often forgetting took so many steps of nanoseconds. */
 static unsigned forgotten[STEPS];
 
-/* The kilobytes of memory that are resident now. */
-static long resident(void) {
-  long size = 0, pages = 0;
-  FILE *file = fopen("/proc/self/statm", "r");
-  if (!file || fscanf(file, "%ld %ld", &size, &pages) != 2) fail("no statm");
+/* The kilobytes of memory that the kernel tells under a name. */
+static long kilobytes(const char *name) {
+  char line[256];
+  long told = -1;
+  FILE *file = fopen("/proc/self/status", "r");
+  if (!file) fail("no status");
+  while (told < 0 && fgets(line, sizeof line, file))
+    if (strncmp(line, name, strlen(name)) == 0) told = strtol(line + strlen(name), NULL, 10);
   fclose(file);
-  return pages * (sysconf(_SC_PAGESIZE) / 1024);
+  return told;
 }
 
 /* Prints what was taken since two moments of processor time, and the memory. */
 static void print_after(size_t calls, double start, size_t calls_before, double before) {
   double at = now(CLOCK_PROCESS_CPUTIME_ID);
-  struct rusage usage;
-  getrusage(RUSAGE_SELF, &usage);
   printf("after %zu: %.1f %.1f ns, %ld %ld kB\n", calls, (at - start) / (double)calls,
-         (at - before) / (double)(calls - calls_before), resident(), usage.ru_maxrss);
+         (at - before) / (double)(calls - calls_before), kilobytes("VmRSS:"), kilobytes("VmHWM:"));
   fflush(stdout);
 }
 
