@@ -123,8 +123,8 @@ impl Workplace {
         ensures entered { IfOk result (λ r. HasEntered ticket r.0 × IsEntered r.0 r.1) }
         ensures given_back { IfErr result (λ t. t ≡ record ticket { looks = ticket.looks + 1 }) }
     {
-        let (held, desk) = self.lock.try_enter(ticket)?;
-        Ok((held, desk))
+        let (holder, desk) = self.lock.try_enter(ticket)?;
+        Ok((holder, desk))
     }
 
     // The scheduler of the desk that was entered.
