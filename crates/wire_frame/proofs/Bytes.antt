@@ -10,13 +10,18 @@ use Rattle.wire_frame.proofs.Shifts.{shifts_past, shifts_join, byte_step}
 use Rattle.wire_frame.proofs.Values.{value, value_append, value_bits, length-bits}
 
 -- the bits of a byte and those behind it
-value_first : (b : ℕ) (bs : List ℕ)
-    → value (wire_bits (b ∷ bs)) ≡ bit_xor (b % 2 ^ 8) (value (wire_bits bs) * 2 ^ 8)
+pub value_first : (b : ℕ) (bs : List ℕ) → value (wire_bits (b ∷ bs)) ≡ value (wire_bits bs) * 2 ^ 8 + b % 2 ^ 8
 unfolding wire_bits
 value_first b bs =
-    let rest = value (wire_bits bs) in
     value_append (bits 8 b) (wire_bits bs)
-    ∙ ap₂ (λ x y. rest * 2 ^ x + y) (length-bits 8 b) (value_bits 8 b)
+    ∙ ap₂ (λ x y. value (wire_bits bs) * 2 ^ x + y) (length-bits 8 b) (value_bits 8 b)
+
+-- the same as a sum of polynomials
+value_first_sum : (b : ℕ) (bs : List ℕ)
+    → value (wire_bits (b ∷ bs)) ≡ bit_xor (b % 2 ^ 8) (value (wire_bits bs) * 2 ^ 8)
+value_first_sum b bs =
+    let rest = value (wire_bits bs) in
+    value_first b bs
     ∙ sym (xor_shifted rest 8 (b % 2 ^ 8) (mod-lt b (pow_pos 8)))
     ∙ xor_comm (rest * 2 ^ 8) (b % 2 ^ 8)
 
@@ -33,7 +38,7 @@ after_bytes_is g r (b ∷ bs) =
     let rest = value (wire_bits bs) in
     let n = length (wire_bits bs) in
     after_bytes_is g (after_byte g r b) bs
-    ∙ sym (ap₂ (λ x y. shifts g x (bit_xor r y)) (length-first b bs) (value_first b bs)
+    ∙ sym (ap₂ (λ x y. shifts g x (bit_xor r y)) (length-first b bs) (value_first_sum b bs)
     ∙ ap (shifts g (8 + n)) (sym (xor_assoc r (b % 2 ^ 8) (rest * 2 ^ 8)))
     ∙ shifts_join g 8 n (bit_xor (bit_xor r (b % 2 ^ 8)) (rest * 2 ^ 8))
     ∙ ap (shifts g n) (shifts_past g 8 (bit_xor r (b % 2 ^ 8)) rest))

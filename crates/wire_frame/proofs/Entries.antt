@@ -1,17 +1,21 @@
--- A table is held against a function at each byte, by computing.
-use Rattle.std.proofs.Common.{◌≡◌, ℕ, zero, suc, ◌-◌, ◌<◌, Bool, true, ◌&&◌, T, eqb, List, get_or, arith}
-use Rattle.std.proofs.Common.{inl, inr, eq-zero-or-pos, eqb→eq}
+-- A table is held against a function at each place, by computing.
+use Rattle.std.proofs.Common.{◌≡◌, ℕ, zero, suc, ◌+◌, ◌<◌, Bool, true, ◌&&◌, T, eqb, List, [], ◌∷◌, length, get_or}
+use Rattle.std.proofs.Common.{ap, ◌∙◌, eqb→eq, arith}
 use lib.Ieee.Fits.{and_l, and_r}
 
--- the first n entries are the function's
+-- the entries are the function's, the first of them at this place
 abbrev agrees : List ℕ → (ℕ → ℕ) → ℕ → Bool
-agrees table f zero = true
-agrees table f (suc n) = eqb (get_or table n 0) (f n) && agrees table f n
+agrees [] f at = true
+agrees (entry ∷ table) f at = eqb entry (f at) && agrees table f (suc at)
 
-pub from_table : (table : List ℕ) (f : ℕ → ℕ) (n i : ℕ) → T (agrees table f n) → i < n → get_or table i 0 ≡ f i
-from_table table f zero i t h = absurd (omega arith)
-from_table table f (suc n) i t h =
-    elim (eq-zero-or-pos (n - i)) [
-      | inl z ↦ let e : i ≡ n = omega arith in rw e (eqb→eq _ _ (and_l _ (agrees table f n) t))
-      | inr g ↦ from_table table f n i (and_r _ (agrees table f n) t) (omega arith)
-    ]
+from_table : (table : List ℕ) (f : ℕ → ℕ) (at i : ℕ) → T (agrees table f at) → i < length table
+    → get_or table i 0 ≡ f (at + i)
+from_table [] f at i t h = absurd (omega arith)
+from_table (entry ∷ table) f at zero t h =
+    eqb→eq _ _ (and_l _ (agrees table f (suc at)) t) ∙ ap f (omega arith)
+from_table (entry ∷ table) f at (suc i) t h =
+    from_table table f (suc at) i (and_r _ (agrees table f (suc at)) t) (omega arith) ∙ ap f (omega arith)
+
+pub entry_is : (table : List ℕ) (f : ℕ → ℕ) (i : ℕ) → T (agrees table f 0) → i < length table
+    → get_or table i 0 ≡ f i
+entry_is table f i t h = from_table table f 0 i t h ∙ ap f (omega arith)

@@ -1,12 +1,15 @@
 -- A payload has one frame from an address, and a frame is of one address and one payload.
-use Rattle.std.proofs.Common.{◌≡◌, ℕ, ◌+◌, ◌^◌, ◌<◌, List, ◌++◌, length, sym, ap₂, ◌∙◌, arith}
+use Rattle.std.proofs.Common.{◌≡◌, ℕ, ◌+◌, ◌^◌, ◌<◌, List, ◌++◌, length, refl, sym, ap₂, ◌∙◌, arith}
 use Rattle.std.specs.Int.{w16, w32, to_le_bytes}
+use Rattle.map_codec.specs.WireMap.{spelling}
+use Rattle.map_codec.proofs.Spelling.{length-spelling}
 use Rattle.wire_frame.specs.Checksum.{ccitt, ethernet, IsHcs, IsCrc}
 use Rattle.wire_frame.specs.MapFrame.{message, mac_header, IsMapFrame, hcs_of, crc_of, frame_of_map}
-use Rattle.wire_frame.specs.MapFrame.{EachHasOneFrame, EachIsOfOneMap}
+use Rattle.wire_frame.specs.MapFrame.{EachHasOneFrame, EachIsOfOneMap, EachMapHasItsFrame}
 use Rattle.wire_frame.proofs.Sums.{is_checksum, same_sum}
 use Rattle.wire_frame.proofs.Generators.{ccitt_sum, ccitt-lt, ethernet_sum, ethernet-lt}
 use Rattle.wire_frame.proofs.MapFrames.{heard}
+use Rattle.wire_frame.proofs.Placed.{length-message}
 
 -- the functions give the remainders
 hcs_is : (bytes : List ℕ) → IsHcs bytes (hcs_of bytes)
@@ -52,3 +55,11 @@ each_is_of_one address payload another other frame six also f g =
     let one = heard address payload frame six f in
     let two = heard another other frame also g in
     (sym two.from_there ∙ one.from_there, sym two.carries ∙ one.carries)
+
+-- a spelling has at most 976 bytes
+pub each_map_has_its : EachMapHasItsFrame
+each_map_has_its m address well six =
+    let long = length-message address (spelling m) six in
+    let size = length-spelling m in
+    let few = well.count in
+    is_frame address (spelling m) (frame_of_map address (spelling m)) (omega (arith, long, size, few)) refl

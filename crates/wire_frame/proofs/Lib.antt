@@ -3,6 +3,7 @@ pub mod Values
 pub mod Division
 pub mod Sums
 pub mod Bytes
+pub mod Eights
 pub mod Entries
 pub mod Generators
 pub mod Requests

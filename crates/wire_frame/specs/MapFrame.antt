@@ -1,6 +1,8 @@
 -- The MAC management message of a MAP, as a downstream channel carries it.
 use Rattle.std.specs.Prelude.{◌≡◌, ℕ, ◌+◌, ◌-◌, ◌^◌, ◌<◌, ◌↔◌, List, [], ◌∷◌, ◌++◌, length}
 use Rattle.std.specs.Int.{w16, w32, to_be_bytes, to_le_bytes}
+use Rattle.map_codec.specs.declared.wire_map.WireMap.{WireMap}
+use Rattle.map_codec.specs.WireMap.{spelling, IsWellFormed}
 use Rattle.wire_frame.specs.declared.tables.TheConstants.{CCITT, ETHERNET}
 use Rattle.wire_frame.specs.Checksum.{IsHcs, IsCrc}
 use Rattle.wire_frame.specs.Register.{after_bytes}
@@ -63,3 +65,11 @@ EachIsOfOneMap =
     → length address ≡ 6 → length another ≡ 6
     → IsMapFrame address payload frame → IsMapFrame another other frame
     → (another ≡ address) × (other ≡ payload)
+
+-- the spelling of a well formed MAP is never too long: from each address of six bytes it has a frame, which is that
+-- function's value
+abbrev pub EachMapHasItsFrame : Type 0
+EachMapHasItsFrame =
+    (m : WireMap) (address : List ℕ)
+    → IsWellFormed m → length address ≡ 6
+    → IsMapFrame address (spelling m) (frame_of_map address (spelling m))

@@ -1,7 +1,7 @@
 //! The frame of a MAP as it is heard: its sender's address and its payload.
 
 ghost use Rattle.std.specs.Prelude.{◌≡◌, ◌↔◌, List, ℕ, length, true, IsTrue, IfOk, IfErr, OnOk, IsOkAnd};
-ghost use Rattle.wire_frame.specs.MapFrame.{IsMapFrame, EachHasOneFrame, EachIsOfOneMap};
+ghost use Rattle.wire_frame.specs.MapFrame.{IsMapFrame, EachHasOneFrame, EachIsOfOneMap, EachMapHasItsFrame};
 ghost use Rattle.wire_frame.specs.Heard.{has_all_bytes, is_management, IsBegun, HasHeaderSum, HasMessageSum, HasSums};
 ghost use Rattle.wire_frame.specs.Heard.{HasMapHeader, IsMapFrameFault};
 
@@ -107,8 +107,10 @@ pub fn read_map_frame(bytes: &[u8]) -> Result<MapFrame<'_>, MapFrameFault>
     })
 }
 
-/// A payload has one frame from an address, and a frame is of one address and one payload.
+/// A payload has one frame from an address, and a frame is of one address and one payload; each well formed MAP has its
+/// frame, with its spelling as the payload.
 pub fn every_map_frame()
     ensures one { EachHasOneFrame }
     ensures back { EachIsOfOneMap }
+    ensures maps { EachMapHasItsFrame }
 {}

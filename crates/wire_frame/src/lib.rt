@@ -4,6 +4,7 @@
 
 mod asking;
 mod checksum;
+mod ethernet;
 mod framing;
 mod heard;
 mod request;
