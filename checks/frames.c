@@ -76,21 +76,25 @@ __attribute__((noinline)) size_t frame_in_c(const uint8_t *payload, size_t lengt
   return length + OVERHEAD;
 }
 
+static uint8_t digit_of(char letter) { return (uint8_t)(letter <= '9' ? letter - '0' : letter - 'a' + 10); }
+
 int main(void) {
-  static char line[2 * MOST + 16];
+  static const char letters[] = "0123456789abcdef";
+  static char line[2 * (MOST + OVERHEAD) + 16];
   static uint8_t payload[MOST], out[MOST + OVERHEAD];
   make_tables();
   while (fgets(line, sizeof line, stdin)) {
     size_t length = (strcspn(line, "\n") - 4) / 2;
+    if (length > MOST) return 1;
+    for (size_t at = 0; at < length; at++)
+      payload[at] = (uint8_t)(digit_of(line[4 + 2 * at]) << 4 | digit_of(line[5 + 2 * at]));
+    length = frame_in_c(payload, length, out);
     for (size_t at = 0; at < length; at++) {
-      unsigned byte;
-      if (sscanf(line + 4 + 2 * at, "%2x", &byte) != 1) return 1;
-      payload[at] = (uint8_t)byte;
+      line[4 + 2 * at] = letters[out[at] >> 4];
+      line[5 + 2 * at] = letters[out[at] & 15];
     }
-    size_t long_ = frame_in_c(payload, length, out);
-    fputs("map ", stdout);
-    for (size_t at = 0; at < long_; at++) printf("%02x", out[at]);
-    putchar('\n');
+    line[4 + 2 * length] = '\n';
+    fwrite(line, 1, 5 + 2 * length, stdout);
   }
   return 0;
 }
