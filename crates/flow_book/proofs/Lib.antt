@@ -17,6 +17,7 @@ pub mod RowsBucket
 pub mod RowsCeiling
 pub mod RowsChoice
 pub mod RowsFaults
+pub mod NextServed
 pub mod Serving
 pub mod Sinking
 pub mod Started
