@@ -259,7 +259,8 @@ uint32_t mapsched_turn(struct mapsched_worker *worker, const struct mapsched_cal
 /*
  * If the ticket is served, the turn begins and goes on until mapsched_turn_forget or mapsched_end: in it the worker
  * looks at the scheduler, while no other worker has a turn. If it is not: MAPSCHED_NOT_SERVED. It looks once and never
- * waits. In such a turn no call is made. A worker that is not in one gets MAPSCHED_NO_TURN from the functions below.
+ * waits. In such a turn no call is made. A worker that is not in one gets MAPSCHED_NO_TURN from mapsched_turn_count to
+ * mapsched_end.
  */
 uint32_t mapsched_begin(struct mapsched_worker *worker);
 

@@ -29,8 +29,8 @@ takes_requests (Polled interval jitter rate burst) = true
 takes_requests (BestEffort priority rate burst) = true
 
 -- the rank of a flow that asks, by which it is served, the highest first: a best effort flow has its traffic priority,
--- 0 to 7, and a polled flow 8, so it comes before all of them. The 0 of an unsolicited flow is never used, since such a
--- flow asks for nothing.
+-- 0 to 7, and a polled flow 8, so it comes before all of them. No choice depends on the 0 of an unsolicited
+-- flow, since such a flow asks for nothing.
 abbrev pub rank_of : FlowSpec → ℕ
 rank_of (Unsolicited size interval jitter grants) = 0
 rank_of (Polled interval jitter rate burst) = 8

@@ -39,7 +39,8 @@ pub fn hold<R: Source, W: Sink, J: Journal>(
         (W.contents writer.old) (W.contents writer.new) (J.may_begin journal.new) (J.stands_for journal.new)
         (NotOpened writer.old writer.new journal.old journal.new) (writer.new ≡ writer.old)) }
 
-    // A failed read or write is told where one has failed, and where all went well none did.
+    // A failed read is told only where one has failed, a failed write or journal exactly there; where all went well
+    // none did.
     ensures failed_read { FailsBy (Text TextFault.Input) result (R.has_failed reader.old)
         (R.has_failed reader.new) }
     ensures failed_write { FailsJustBy (Text TextFault.Output) result (W.has_failed writer.old)

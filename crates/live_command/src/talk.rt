@@ -141,7 +141,8 @@ pub fn converse<R: Source, W: Sink, J: Journal>(
         scheduler.new (R.remaining reader.new) (W.contents writer.new)
         (J.stands_for journal.new scheduler.old.config)) }
 
-    // A failed read or write is told where one has failed, and where all went well none did.
+    // A failed read is told only where one has failed, a failed write or journal exactly there; where all went well
+    // none did.
     ensures failed_read { FailsBy (Text TextFault.Input) result (R.has_failed reader.old)
         (R.has_failed reader.new) }
     ensures failed_write { FailsJustBy (Text TextFault.Output) result (W.has_failed writer.old)

@@ -14,7 +14,7 @@ use Rattle.map_build.specs.EachAfter.{EachAfter}
 
 -- what an allocation is for
 pub data Purpose : Type 0 where
-  -- a request opportunity for the polled flow of this SID
+  -- a poll: minislots in which the polled flow of this SID may request
   Poll : ℕ → Purpose
   -- a grant of the unsolicited flow of this SID, at its place in the cycle
   UnsolicitedGrant : ℕ → Purpose

@@ -1,4 +1,4 @@
-//! A worker in its turn: it looks at the scheduler, and ends the turn by one call, by a forget, or by neither.
+//! A worker in its turn: it looks at the scheduler, and ends the turn with what is kept let go, or with nothing changed.
 ghost use Rattle.std.specs.Prelude.{◌≡◌, option_copied};
 ghost use Rattle.worker_sched.specs.Worker.{BeginsTurn, scheduler_of, EndsForgetting, EndsTurn};
 
