@@ -89,7 +89,9 @@ fn the_numbers_of_a_history_are_those_worked_out_by_hand(rt: HostRuntime) -> Res
     assert!(rt; sums.asks == 1 && sums.asked == 100 && sums.granted == 100);
     let delays = sums.delays;
     assert!(rt; delays.served == 1 && delays.least == Some(53) && delays.greatest == Some(53));
-    assert!(rt; life.granted == 100 && life.outstanding == 0 && life.waiting == 0 && life.dropped == 0);
+    assert!(rt;
+        life.granted == 100 && life.outstanding == 0 && life.waiting == 0 && life.dropped == 0
+    );
     assert!(rt; life.priority == Some(3) && life.middle == Some(53) && life.p99 == Some(53));
     let voice = reporter.life(1);
     assert!(rt; voice.granted == 32 && voice.sums.granted == 0 && voice.outstanding == 0);
