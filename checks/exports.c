@@ -75,6 +75,10 @@ static uint32_t admits_voice(void) { return mapsched_call(&now.scheduler, &stamp
 static uint32_t admits_data(void) { return mapsched_call(&now.scheduler, &stamp, &data, &now.reply); }
 static uint32_t builds(void) { return mapsched_call(&now.scheduler, &stamp, &build, &now.reply); }
 static uint32_t writes(void) { return mapsched_history(&now.scheduler, now.text, sizeof now.text, &now.length); }
+static uint32_t opens_journal(void) {
+  return mapsched_opening(&now.scheduler, now.text, sizeof now.text, &now.length);
+}
+static uint32_t writes_lines(void) { return mapsched_lines(&now.scheduler, now.text, sizeof now.text, &now.length); }
 static uint32_t audits(void) { return mapsched_audit(now.text, now.length, &now.place); }
 static uint32_t decodes(void) { return mapsched_decode(now.reply.payload, now.reply.length, &now.map, &now.place); }
 static uint32_t encodes(void) {
@@ -83,6 +87,9 @@ static uint32_t encodes(void) {
 static uint32_t opens_workers(void) { return mapsched_open_workers(&now.first, &config, 2); }
 static uint32_t hires(void) { return mapsched_hire(&now.first, &now.second); }
 static uint32_t closes_workers(void) { return mapsched_close_workers(&now.first, &now.scheduler); }
+
+static uint32_t opens_without_end(void) { return mapsched_open_workers_without_end(&now.first, &config, 1); }
+static uint32_t looks(void) { return mapsched_turn_lines(&now.first, now.text, sizeof now.text, &now.length); }
 
 /* A turn: where memory runs out it has ended, and the next try has a ticket of its own. */
 static uint32_t turn(struct mapsched_worker *worker, const struct mapsched_call *call) {
@@ -102,6 +109,8 @@ static void alone(void) {
   make(decodes);
   make(encodes);
   if (now.length != now.reply.length || memcmp(now.payload, now.reply.payload, now.length) != 0) end("other bytes", 3);
+  make(opens_journal);
+  make(writes_lines);
   make(writes);
   make(audits);
   if (now.place != 3 || mapsched_close(&now.scheduler) != MAPSCHED_OK) end("not three entries", 3);
@@ -120,9 +129,22 @@ static void workers(void) {
   if (now.place != 2 || mapsched_close(&now.scheduler) != MAPSCHED_OK) end("not two entries", 3);
 }
 
+/* A worker that goes on without end. */
+static void without_end(void) {
+  make(opens_without_end);
+  make(first_builds);
+  if (mapsched_draw(&now.first) != MAPSCHED_OK || mapsched_begin(&now.first) != MAPSCHED_OK) end("no turn", 3);
+  make(looks);
+  if (now.length == 0 || mapsched_turn_forget(&now.first) != MAPSCHED_OK) end("no lines", 3);
+  make(closes_workers);
+  if (mapsched_kept_from(&now.scheduler, &now.place) != MAPSCHED_OK || now.place != 1) end("not forgotten", 3);
+  if (mapsched_close(&now.scheduler) != MAPSCHED_OK) end("not closed", 3);
+}
+
 int main(void) {
   setvbuf(stdout, NULL, _IONBF, 0);
   alone();
   workers();
+  without_end();
   end("whole", 0);
 }

@@ -27,6 +27,10 @@ extern "C" {
 #define MAPSCHED_MAX_ELEMENTS 240
 #define MAPSCHED_MAX_BYTES (MAPSCHED_FIXED_BYTES + MAPSCHED_MAX_ELEMENTS * MAPSCHED_ELEMENT_BYTES)
 
+/* The MAC management message of a MAP: the bytes that it has beside the payload, and the most that it has. */
+#define MAPSCHED_FRAME_OVERHEAD 30
+#define MAPSCHED_MAX_FRAME_BYTES (MAPSCHED_FRAME_OVERHEAD + MAPSCHED_MAX_BYTES)
+
 /* A placement: the most grants in an interval, frames of a cycle, and starts, one for each grant in each frame. */
 #define MAPSCHED_MAX_GRANTS 8
 #define MAPSCHED_MAX_CYCLE 64
@@ -43,10 +47,11 @@ extern "C" {
 #define MAPSCHED_MAX_SEATS 64
 #define MAPSCHED_MAX_TEXT_BYTES 16777216
 
-/* How many fields of a configuration can be wrong, and faults a payload and the numbers of a MAP can have. */
+/* How many fields of a configuration can be wrong, and faults a payload, the numbers of a MAP and a request have. */
 #define MAPSCHED_CONFIG_FIELDS 19
 #define MAPSCHED_PAYLOAD_FAULTS 7
 #define MAPSCHED_MAP_FAULTS 5
+#define MAPSCHED_REQUEST_FAULTS 4
 
 enum mapsched_status {
   MAPSCHED_OK = 0,
@@ -58,19 +63,22 @@ enum mapsched_status {
   MAPSCHED_NO_ENTRY = 6,      /* the history has no entry of this number */
   MAPSCHED_NO_ROOM = 7,       /* the room is shorter than the text, whose length is told */
   MAPSCHED_ILLEGAL = 8,       /* an entry may not follow those before it: its place is told */
-  MAPSCHED_TOO_LONG = 9,      /* a text is longer than MAPSCHED_MAX_TEXT_BYTES */
+  MAPSCHED_TOO_LONG = 9,      /* a text is longer than MAPSCHED_MAX_TEXT_BYTES, or a payload than MAPSCHED_MAX_BYTES */
   MAPSCHED_NOT_JSON = 10,     /* a text is not JSON in UTF-8 */
   MAPSCHED_NO_HISTORY = 11,   /* a text is no history: the place of the entry is told, from 1, or 0 */
   MAPSCHED_NO_TICKET = 12,    /* the worker has no ticket */
   MAPSCHED_NOT_SERVED = 13,   /* the worker's ticket is not served yet */
-  MAPSCHED_HAS_TICKET = 14,   /* the worker has a ticket */
+  MAPSCHED_HAS_TICKET = 14,   /* the worker has a ticket, or is in its turn */
   MAPSCHED_NO_SEAT = 15,      /* no seat is with the worker */
   MAPSCHED_WORKERS_OUT = 16,  /* other workers are left */
   MAPSCHED_BAD_SEATS = 17,    /* fewer than 1 seat, or more than MAPSCHED_MAX_SEATS */
   MAPSCHED_HANDED_OVER = 18,  /* an entry, or one of a history, is no longer kept: it was let go */
+  MAPSCHED_NO_TURN = 19,      /* the worker is not in its turn */
+  MAPSCHED_KEEPS_ALL = 20,    /* the scheduler of the workplace keeps its whole history: nothing was let go */
   MAPSCHED_BAD_CONFIG = 100,  /* and the number of the first wrong field: 101 to 119, in the order of README's table */
   MAPSCHED_BAD_PAYLOAD = 200, /* and the number of the first fault: 201 to 207, in the order of README's list */
-  MAPSCHED_BAD_MAP = 300      /* and the number of the first fault of numbers that are no MAP: 301 to 305 */
+  MAPSCHED_BAD_MAP = 300,     /* and the number of the first fault of numbers that are no MAP: 301 to 305 */
+  MAPSCHED_BAD_REQUEST = 400  /* and the number of the first fault of bytes that are no request frame: 401 to 404 */
 };
 
 /* The configuration of a channel. README's table has the values that are lawful. */
@@ -165,7 +173,7 @@ uint32_t mapsched_kept_from(struct mapsched_scheduler *scheduler, size_t *place)
 
 /*
  * Lets go of all recorded calls that are kept, so that there is room for others. Their numbers are not given again. A
- * program that wants them reads them before, from mapsched_kept_from to mapsched_count.
+ * program that wants them reads them before, from mapsched_kept_from to mapsched_count, or as lines of a journal.
  */
 uint32_t mapsched_forget(struct mapsched_scheduler *scheduler);
 
@@ -177,6 +185,18 @@ uint32_t mapsched_entry(struct mapsched_scheduler *scheduler, size_t place, stru
  * nothing is written: MAPSCHED_HANDED_OVER.
  */
 uint32_t mapsched_history(struct mapsched_scheduler *scheduler, uint8_t *room, size_t room_length, size_t *length);
+
+/*
+ * Writes the recorded calls that are kept, with their replies, as lines of a journal, and tells their length: no line
+ * where none is kept. The first is that of the number that mapsched_kept_from tells.
+ */
+uint32_t mapsched_lines(struct mapsched_scheduler *scheduler, uint8_t *room, size_t room_length, size_t *length);
+
+/*
+ * Writes the first line of a journal, the configuration, and tells its length. With the lines before each
+ * mapsched_forget behind it, and those at the end, it is what `mapsched audit --journal` reads.
+ */
+uint32_t mapsched_opening(struct mapsched_scheduler *scheduler, uint8_t *room, size_t room_length, size_t *length);
 
 /* Audits the text of a history, and tells how many entries a legal one has. */
 uint32_t mapsched_audit(const uint8_t *text, size_t length, size_t *place);
@@ -205,6 +225,24 @@ uint32_t mapsched_decode(const uint8_t *payload, size_t length, struct mapsched_
 uint32_t mapsched_encode(const struct mapsched_map *map, uint8_t *room, size_t room_length, size_t *length,
                          size_t *element);
 
+/*
+ * Writes the frame of a MAP's payload, the MAC management message of DOCSIS 3.0 with its two checksums, from the
+ * address of the sender, six bytes, and tells its length, MAPSCHED_FRAME_OVERHEAD more than the payload's. The payload
+ * is not read; one longer than MAPSCHED_MAX_BYTES is MAPSCHED_TOO_LONG.
+ */
+uint32_t mapsched_map_frame(const uint8_t *payload, size_t payload_length, const uint8_t address[6], uint8_t *room,
+                            size_t room_length, size_t *length);
+
+/* A request frame asks for minislots, a queue-depth request frame tells units of the queue of its flow. */
+enum mapsched_request_kind { MAPSCHED_ASKS_MINISLOTS = 0, MAPSCHED_TELLS_QUEUE = 1 };
+
+/*
+ * Reads a request frame or a queue-depth request frame, and tells which it is, its number and its SID. Bytes that are
+ * neither: 1 the length is neither 6 nor 7, 2 the first byte is not C4 in 6 bytes nor C8 in 7, 3 the SID has more than
+ * 14 bits, 4 the HCS is wrong.
+ */
+uint32_t mapsched_request(const uint8_t *bytes, size_t length, uint32_t *kind, uint16_t *number, uint16_t *sid);
+
 /* Frees the scheduler. */
 uint32_t mapsched_close(struct mapsched_scheduler *scheduler);
 
@@ -219,8 +257,15 @@ struct mapsched_worker {
   void *at;
 };
 
-/* Opens a scheduler with 1 to 64 seats, and puts its first worker into an empty handle. The other seats are with it. */
+/*
+ * Opens a scheduler with 1 to 64 seats, and puts its first worker into an empty handle. The other seats are with it.
+ * The scheduler keeps all recorded calls.
+ */
 uint32_t mapsched_open_workers(struct mapsched_worker *worker, const struct mapsched_config *config, uint32_t seats);
+
+/* Opens one that goes on without end: a worker in its turn can let go of what is kept. */
+uint32_t mapsched_open_workers_without_end(struct mapsched_worker *worker, const struct mapsched_config *config,
+                                           uint32_t seats);
 
 /* Gives one of the seats that are with a worker to a new one, in an empty handle: another than the first. */
 uint32_t mapsched_hire(struct mapsched_worker *worker, struct mapsched_worker *hired);
@@ -235,7 +280,35 @@ uint32_t mapsched_draw(struct mapsched_worker *worker);
  */
 uint32_t mapsched_turn(struct mapsched_worker *worker, const struct mapsched_call *call, struct mapsched_reply *reply);
 
-/* Lets a worker go, if it has no ticket, with the seats that are with it. */
+/*
+ * If the ticket is served, the turn begins and goes on until mapsched_turn_forget or mapsched_end: in it the worker
+ * looks at the scheduler, while no other worker has a turn. If it is not: MAPSCHED_NOT_SERVED. It looks once and never
+ * waits. In such a turn no call is made. A worker that is not in one gets MAPSCHED_NO_TURN from the functions below.
+ */
+uint32_t mapsched_begin(struct mapsched_worker *worker);
+
+/* To a worker in its turn: how many calls were recorded, those included that are no longer kept. */
+uint32_t mapsched_turn_count(struct mapsched_worker *worker, size_t *count);
+
+/* The number of the first recorded call that is kept, from 0: so many were let go. */
+uint32_t mapsched_turn_kept_from(struct mapsched_worker *worker, size_t *place);
+
+/* The recorded call of this number, from 0, where it is kept; else MAPSCHED_HANDED_OVER. */
+uint32_t mapsched_turn_entry(struct mapsched_worker *worker, size_t place, struct mapsched_entry *entry);
+
+/* Writes the recorded calls that are kept as mapsched_lines does. */
+uint32_t mapsched_turn_lines(struct mapsched_worker *worker, uint8_t *room, size_t room_length, size_t *length);
+
+/*
+ * Lets go of all recorded calls that are kept, and ends the turn. The turn ends too where the scheduler keeps all:
+ * MAPSCHED_KEEPS_ALL.
+ */
+uint32_t mapsched_turn_forget(struct mapsched_worker *worker);
+
+/* Ends the turn, and lets nothing go. */
+uint32_t mapsched_end(struct mapsched_worker *worker);
+
+/* Lets a worker go, if it has no ticket and is not in its turn, with the seats that are with it. */
 uint32_t mapsched_leave(struct mapsched_worker *worker);
 
 /* When all others have left: closes the workplace, and puts its scheduler with the history into an empty handle. */
@@ -247,7 +320,8 @@ static inline const char *mapsched_status_text(uint32_t status) {
                                       "history full", "out of memory",   "no such entry",       "no room",
                                       "illegal",      "text too long",   "not json",            "no history",
                                       "no ticket",    "not served",      "has a ticket",        "no seat",
-                                      "workers left", "seats",           "not kept"};
+                                      "workers left", "seats",           "not kept",            "no turn",
+                                      "keeps all"};
   static const char *const fields[] = {"ticks",         "bytes_per_slot", "overhead",   "frame",     "cycle",
                                        "req_slots",     "poll_slots",     "lead",       "short_max", "quantum",
                                        "grant_cap",     "receivers",      "calls",      "start",     "ranging_start",
@@ -256,13 +330,16 @@ static inline const char *mapsched_status_text(uint32_t status) {
                                        "a descent", "no null",           "a second null"};
   static const char *const map_faults[] = {"too many elements", "out of range", "a descent", "no null",
                                            "a second null"};
-  if (status <= MAPSCHED_HANDED_OVER) return texts[status];
+  static const char *const request_faults[] = {"length", "kind", "sid", "hcs"};
+  if (status <= MAPSCHED_KEEPS_ALL) return texts[status];
   if (status > MAPSCHED_BAD_CONFIG && status <= MAPSCHED_BAD_CONFIG + MAPSCHED_CONFIG_FIELDS)
     return fields[status - MAPSCHED_BAD_CONFIG - 1];
   if (status > MAPSCHED_BAD_PAYLOAD && status <= MAPSCHED_BAD_PAYLOAD + MAPSCHED_PAYLOAD_FAULTS)
     return faults[status - MAPSCHED_BAD_PAYLOAD - 1];
   if (status > MAPSCHED_BAD_MAP && status <= MAPSCHED_BAD_MAP + MAPSCHED_MAP_FAULTS)
     return map_faults[status - MAPSCHED_BAD_MAP - 1];
+  if (status > MAPSCHED_BAD_REQUEST && status <= MAPSCHED_BAD_REQUEST + MAPSCHED_REQUEST_FAULTS)
+    return request_faults[status - MAPSCHED_BAD_REQUEST - 1];
   return "unknown status";
 }
 

@@ -108,6 +108,8 @@ static void forgetting(void) {
 
   WANT(mapsched_forget(&scheduler) == MAPSCHED_EMPTY);
   WANT(mapsched_kept_from(&scheduler, &place) == MAPSCHED_EMPTY && place == 99);
+  WANT(mapsched_lines(&scheduler, text, 1, &length) == MAPSCHED_EMPTY && length == 7 && text[0] == 0xa5);
+  WANT(mapsched_opening(&scheduler, text, 1, &length) == MAPSCHED_EMPTY && length == 7 && text[0] == 0xa5);
   WANT(mapsched_open(&scheduler, &config) == MAPSCHED_OK && mapsched_open(&whole, &roomy) == MAPSCHED_OK);
   WANT(mapsched_kept_from(&scheduler, &place) == MAPSCHED_OK && place == 0);
   WANT(mapsched_call(&scheduler, &stamp, &data, &reply) == MAPSCHED_OK);
@@ -132,6 +134,151 @@ static void forgetting(void) {
   WANT(mapsched_history(&whole, text, 1, &length) == MAPSCHED_NO_ROOM && length > 1);
   WANT(strcmp(mapsched_status_text(MAPSCHED_HANDED_OVER), "not kept") == 0);
   WANT(mapsched_close(&scheduler) == MAPSCHED_OK && mapsched_close(&whole) == MAPSCHED_OK);
+}
+
+/* Whether bytes of this length are a request of this kind, number and SID. */
+static int is_request(const uint8_t *bytes, size_t length, uint32_t kind, uint16_t number, uint16_t sid) {
+  uint32_t found = 9;
+  uint16_t many = 0, of = 0;
+  uint32_t status = mapsched_request(bytes, length, &found, &many, &of);
+  return status == MAPSCHED_OK && found == kind && many == number && of == sid;
+}
+
+/* The frame of README's first MAP, and two requests, as another program reads them; then each fault. */
+static void frames(void) {
+  static const uint8_t wanted[] = {
+      0xc2, 0x00, 0x00, 0x34, 0xd6, 0x89, 0x01, 0xe0, 0x2f, 0x00, 0x00, 0x01, 0x02, 0x00, 0x00, 0x00,
+      0x00, 0x01, 0x00, 0x22, 0x00, 0x00, 0x03, 0x01, 0x03, 0x00, 0x03, 0x01, 0x03, 0x00, 0x00, 0x00,
+      0x03, 0x20, 0x00, 0x00, 0x03, 0x20, 0x00, 0x00, 0x00, 0x00, 0xff, 0xfc, 0x40, 0x00, 0x00, 0x01,
+      0x80, 0x04, 0x00, 0x01, 0xc0, 0x28, 0xc2, 0x86, 0xf0, 0xa5};
+  static const uint8_t address[6] = {0x02, 0, 0, 0, 0, 0x01}, longest[MAPSCHED_MAX_BYTES + 1] = {0};
+  uint8_t minislots[6] = {0xc4, 0x09, 0x00, 0x11, 0xfd, 0x28}, frame[MAPSCHED_MAX_FRAME_BYTES] = {0};
+  static const uint8_t queue[7] = {0xc8, 0x00, 0x64, 0x00, 0x11, 0x04, 0xb9};
+  size_t length = 0, payload = sizeof wanted - MAPSCHED_FRAME_OVERHEAD;
+  uint32_t kind = 9;
+  uint16_t number = 7, sid = 7;
+
+  WANT(mapsched_map_frame(wanted + 26, payload, address, frame, sizeof wanted - 1, &length) == MAPSCHED_NO_ROOM);
+  WANT(length == sizeof wanted && frame[0] == 0);
+  WANT(mapsched_map_frame(wanted + 26, payload, address, frame, sizeof frame, &length) == MAPSCHED_OK);
+  WANT(length == sizeof wanted && memcmp(frame, wanted, length) == 0 && frame[length] == 0);
+  WANT(mapsched_map_frame(longest, sizeof longest, address, frame, sizeof frame, &length) == MAPSCHED_TOO_LONG);
+  WANT(length == sizeof wanted && memcmp(frame, wanted, length) == 0);
+  WANT(mapsched_map_frame(longest, MAPSCHED_MAX_BYTES, address, frame, sizeof frame, &length) == MAPSCHED_OK);
+  WANT(length == MAPSCHED_MAX_FRAME_BYTES);
+
+  WANT(is_request(minislots, 6, MAPSCHED_ASKS_MINISLOTS, 9, 17) && is_request(queue, 7, MAPSCHED_TELLS_QUEUE, 100, 17));
+  WANT(mapsched_request(minislots, 5, &kind, &number, &sid) == MAPSCHED_BAD_REQUEST + 1);
+  WANT(mapsched_request(queue, 6, &kind, &number, &sid) == MAPSCHED_BAD_REQUEST + 2);
+  minislots[1]++;
+  WANT(mapsched_request(minislots, 6, &kind, &number, &sid) == MAPSCHED_BAD_REQUEST + 4);
+  minislots[2] = 0x40;
+  WANT(mapsched_request(minislots, 6, &kind, &number, &sid) == MAPSCHED_BAD_REQUEST + 3);
+  WANT(kind == 9 && number == 7 && sid == 7 && strcmp(mapsched_status_text(403), "sid") == 0);
+}
+
+/* How many lines a text has. */
+static size_t lines_in(const uint8_t *text, size_t length) {
+  size_t lines = 0;
+  for (size_t at = 0; at < length; at++) lines += text[at] == '\n';
+  return lines;
+}
+
+/* A worker that is in no turn is told so, and nothing has changed. */
+static void no_turn(struct mapsched_worker *worker, uint32_t status) {
+  struct mapsched_entry entry = {0};
+  uint8_t text[1] = {0xa5};
+  size_t count = 99, place = 99, length = 99;
+  WANT(mapsched_turn_count(worker, &count) == status && count == 99);
+  WANT(mapsched_turn_kept_from(worker, &place) == status && place == 99);
+  WANT(mapsched_turn_entry(worker, 0, &entry) == status && entry.reply.length == 0);
+  WANT(mapsched_turn_lines(worker, text, sizeof text, &length) == status && length == 99 && text[0] == 0xa5);
+  WANT(mapsched_turn_forget(worker) == status && mapsched_end(worker) == status);
+}
+
+/* What a worker in its turn sees after so many calls, of which the last is kept alone, and how it may not go. */
+static void in_turn(struct mapsched_worker *worker, size_t made, uint64_t value) {
+  struct mapsched_scheduler scheduler = {0};
+  struct mapsched_call build = {.kind = MAPSCHED_BUILD, .minislot = 760};
+  struct mapsched_reply reply = {0};
+  struct mapsched_entry entry = {0};
+  static uint8_t text[10000];
+  size_t count = 99, place = 99, length = 99;
+  WANT(mapsched_turn_count(worker, &count) == MAPSCHED_OK && count == made);
+  WANT(mapsched_turn_kept_from(worker, &place) == MAPSCHED_OK && place == made - 1);
+  WANT(mapsched_turn_entry(worker, made - 1, &entry) == MAPSCHED_OK && entry.reply.value == value);
+  WANT(made == 1 || mapsched_turn_entry(worker, made - 2, &entry) == MAPSCHED_HANDED_OVER);
+  WANT(mapsched_turn_entry(worker, made, &entry) == MAPSCHED_NO_ENTRY && entry.reply.value == value);
+  WANT(mapsched_turn_lines(worker, text, 1, &length) == MAPSCHED_NO_ROOM && length > 1);
+  WANT(mapsched_turn_lines(worker, text, sizeof text, &length) == MAPSCHED_OK && lines_in(text, length) == 1);
+  WANT(mapsched_begin(worker) == MAPSCHED_NO_TICKET && mapsched_draw(worker) == MAPSCHED_HAS_TICKET);
+  WANT(mapsched_turn(worker, &build, &reply) == MAPSCHED_NO_TICKET && mapsched_leave(worker) == MAPSCHED_HAS_TICKET);
+  WANT(mapsched_close_workers(worker, &scheduler) == MAPSCHED_HAS_TICKET && worker->full);
+}
+
+/* A worker whose turn begins and ends, at a workplace that goes on without end and at one that keeps all. */
+static void turns(void) {
+  struct mapsched_config config = lawful();
+  struct mapsched_worker first = {0}, second = {0};
+  struct mapsched_scheduler scheduler = {0};
+  struct mapsched_call build = {.kind = MAPSCHED_BUILD, .minislot = 760};
+  struct mapsched_reply reply = {0};
+  size_t count = 99, place = 99;
+  config.calls = 1;
+
+  WANT(mapsched_begin(&first) == MAPSCHED_EMPTY);
+  no_turn(&first, MAPSCHED_EMPTY);
+  WANT(mapsched_open_workers_without_end(&first, &config, 2) == MAPSCHED_OK);
+  WANT(mapsched_open_workers_without_end(&first, &config, 2) == MAPSCHED_FULL);
+  WANT(mapsched_hire(&first, &second) == MAPSCHED_OK && mapsched_begin(&first) == MAPSCHED_NO_TICKET);
+  for (size_t made = 1; made < 7; made++, build.minislot += 40) {
+    WANT(mapsched_draw(&second) == MAPSCHED_OK && mapsched_turn(&second, &build, &reply) == MAPSCHED_OK);
+    WANT(mapsched_draw(&second) == MAPSCHED_OK && mapsched_draw(&first) == MAPSCHED_OK);
+    WANT(mapsched_begin(&first) == MAPSCHED_NOT_SERVED && mapsched_begin(&second) == MAPSCHED_OK);
+    no_turn(&first, MAPSCHED_NO_TURN);
+    in_turn(&second, made, reply.value);
+    WANT(mapsched_begin(&first) == MAPSCHED_NOT_SERVED && mapsched_turn_forget(&second) == MAPSCHED_OK);
+    WANT(mapsched_begin(&first) == MAPSCHED_OK && mapsched_turn_kept_from(&first, &place) == MAPSCHED_OK);
+    WANT(place == made && mapsched_end(&first) == MAPSCHED_OK);
+    no_turn(&first, MAPSCHED_NO_TURN);
+  }
+  WANT(mapsched_leave(&second) == MAPSCHED_OK && mapsched_close_workers(&first, &scheduler) == MAPSCHED_OK);
+  WANT(mapsched_count(&scheduler, &count) == MAPSCHED_OK && count == 6);
+  WANT(mapsched_kept_from(&scheduler, &place) == MAPSCHED_OK && place == 6);
+  WANT(mapsched_close(&scheduler) == MAPSCHED_OK);
+
+  WANT(mapsched_open_workers(&first, &config, 1) == MAPSCHED_OK && mapsched_draw(&first) == MAPSCHED_OK);
+  WANT(mapsched_begin(&first) == MAPSCHED_OK && mapsched_turn_forget(&first) == MAPSCHED_KEEPS_ALL);
+  WANT(mapsched_leave(&first) == MAPSCHED_OK);
+  WANT(strcmp(mapsched_status_text(MAPSCHED_NO_TURN), "no turn") == 0);
+  WANT(strcmp(mapsched_status_text(MAPSCHED_KEEPS_ALL), "keeps all") == 0);
+}
+
+/* The lines of a journal are those of what is kept, and the opening is that of the configuration. */
+static void journals(void) {
+  static const char front[] = "{\"config\":{\"bytes_per_slot\":16,\"calls\":2,\"channel\":3,";
+  struct mapsched_config config = lawful();
+  struct mapsched_scheduler scheduler = {0};
+  struct mapsched_stamp stamp = {.ticket = 0, .seat = 3};
+  struct mapsched_call bytes = {.kind = MAPSCHED_STATUS, .sid = 9};
+  struct mapsched_reply reply;
+  static uint8_t text[10000];
+  size_t length = 7;
+  config.calls = 2;
+
+  WANT(mapsched_open(&scheduler, &config) == MAPSCHED_OK);
+  WANT(mapsched_lines(&scheduler, text, 0, &length) == MAPSCHED_OK && length == 0);
+  for (stamp.ticket = 0; stamp.ticket < 5; stamp.ticket++) {
+    if (stamp.ticket % 2 == 0) WANT(mapsched_forget(&scheduler) == MAPSCHED_OK);
+    WANT(mapsched_call(&scheduler, &stamp, &bytes, &reply) == MAPSCHED_OK);
+  }
+  WANT(mapsched_lines(&scheduler, text, 1, &length) == MAPSCHED_NO_ROOM && length > 1 && text[0] == 0);
+  WANT(mapsched_lines(&scheduler, text, sizeof text, &length) == MAPSCHED_OK && text[length] == 0);
+  WANT(text[length - 1] == '\n' && lines_in(text, length) == 1 && strstr((char *)text, "\"seat\":3,\"ticket\":4}\n"));
+  WANT(mapsched_opening(&scheduler, text, 1, &length) == MAPSCHED_NO_ROOM && length > 1);
+  WANT(mapsched_opening(&scheduler, text, sizeof text, &length) == MAPSCHED_OK && text[length - 1] == '\n');
+  WANT(lines_in(text, length) == 1 && memcmp(text, front, sizeof front - 1) == 0);
+  WANT(mapsched_close(&scheduler) == MAPSCHED_OK);
 }
 
 int main(void) {
@@ -259,9 +406,12 @@ int main(void) {
   WANT(reply.starts[0] == 4 && reply.starts[1] == 10 && reply.starts[2] == 16);
   WANT(mapsched_entry(&scheduler, 1, &entry) == MAPSCHED_OK && memcmp(&entry.call, &voice, NUMBERS) == 0);
   WANT(mapsched_close(&scheduler) == MAPSCHED_OK);
-  WANT(strcmp(mapsched_status_text(19), "unknown status") == 0);
+  WANT(strcmp(mapsched_status_text(21), "unknown status") == 0);
   WANT(strcmp(mapsched_status_text(100), "unknown status") == 0);
   workers();
   forgetting();
+  journals();
+  turns();
+  frames();
   return failures != 0;
 }

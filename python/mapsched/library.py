@@ -90,6 +90,8 @@ _FUNCTIONS = {
     "forget": [POINTER(Handle)],
     "entry": [POINTER(Handle), c_size_t, POINTER(EntryNumbers)],
     "history": [POINTER(Handle), _BYTES, c_size_t, _SIZE],
+    "lines": [POINTER(Handle), _BYTES, c_size_t, _SIZE],
+    "opening": [POINTER(Handle), _BYTES, c_size_t, _SIZE],
     "audit": [_BYTES, c_size_t, _SIZE],
     "decode": [_BYTES, c_size_t, POINTER(MapNumbers), _SIZE],
     "encode": [POINTER(MapNumbers), _BYTES, c_size_t, _SIZE, _SIZE],

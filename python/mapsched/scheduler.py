@@ -138,14 +138,28 @@ class Scheduler:
 
     __iter__ = history
 
+    def _text(self, name: str) -> str:
+        """The text that a function of the library writes."""
+        length, room = c_size_t(), (c_uint8 * 1)()
+        with self._lock:
+            status = run(name, self._handle, room, 0, byref(length))
+            if status == NO_ROOM:
+                room = (c_uint8 * length.value)()
+                status = run(name, self._handle, room, length.value, byref(length))
+            want(status)
+        return bytes(room)[: length.value].decode()
+
     def history_text(self) -> str:
         """The text of the history, as `mapsched run --history` prints it. Raises HandedOver where a part of it is no
         longer kept."""
-        length, room = c_size_t(), (c_uint8 * 1)()
-        with self._lock:
-            status = run("history", self._handle, room, 0, byref(length))
-            if status == NO_ROOM:
-                room = (c_uint8 * length.value)()
-                status = run("history", self._handle, room, length.value, byref(length))
-            want(status)
-        return bytes(room).decode()
+        return self._text("history")
+
+    def lines(self) -> str:
+        """The recorded calls that are kept, with their replies, as lines of a journal: each ends with a newline, and
+        where none is kept there is no line. The first is that of the number `kept_from`."""
+        return self._text("lines")
+
+    def opening(self) -> str:
+        """The first line of a journal, the configuration. With the lines before each `forget` behind it, and those at
+        the end, it is what `mapsched audit --journal` reads."""
+        return self._text("opening")

@@ -38,6 +38,26 @@ class BesideTheProgram(unittest.TestCase):
                 self.assertEqual((ran.returncode, ran.stdout), (0, wanted), f"script {number}")
 
 
+    @unittest.skipUnless(PROGRAM, "MAPSCHED_PROGRAM names no program")
+    def test_a_scheduler_that_forgets_leaves_the_journal_of_the_program(self):
+        for number in range(1000, 1010):
+            drawing = tables.drawing_of(number)
+            calls, config = drawing.play()[0], {**drawing.config, "calls": 10000}
+            with Scheduler(Config(**config)) as scheduler:
+                parts = [scheduler.opening()]
+                for place, call in enumerate(calls):
+                    scheduler.call(mapsched.call_of(call))
+                    if place % 7 == 3:
+                        parts.append(scheduler.lines())
+                        scheduler.forget()
+                parts.append(scheduler.lines())
+            script = json.dumps({"config": config, "calls": calls})
+            for words, text, wanted in [(["run", "--journal"], script, "".join(parts)),
+                                        (["audit", "--journal"], "".join(parts), f"legal {len(calls)}\n")]:
+                ran = subprocess.run([PROGRAM, *words], input=text, capture_output=True, encoding="utf-8")
+                self.assertEqual((ran.returncode, ran.stdout, ran.stderr), (0, wanted, ""), f"script {number}")
+
+
 class Module(unittest.TestCase):
     def test_a_closed_scheduler_takes_no_call(self):
         scheduler = Scheduler(CONFIG)
@@ -45,7 +65,7 @@ class Module(unittest.TestCase):
         scheduler.close()
         for use in (lambda: scheduler.call(Build(760)), lambda: len(scheduler), lambda: scheduler[0],
                     scheduler.history_text, lambda: next(scheduler.history()), scheduler.forget,
-                    lambda: scheduler.kept_from):
+                    scheduler.lines, scheduler.opening, lambda: scheduler.kept_from):
             self.assertRaises(Closed, use)
 
     def test_a_value_that_does_not_fit_is_not_cut_off(self):
@@ -78,6 +98,20 @@ class Module(unittest.TestCase):
             self.assertEqual([*scheduler], [whole[6]])
             for use in (lambda: scheduler[5], lambda: scheduler[-2], scheduler.history_text):
                 self.assertRaises(HandedOver, use)
+
+    def test_the_lines_are_those_of_what_is_kept(self):
+        with Scheduler(CONFIG) as scheduler:
+            self.assertEqual(json.loads(scheduler.opening()), {"config": {**json.loads(texts.CONFIG), "phy": 0}})
+            self.assertEqual(scheduler.lines(), "")
+            for place in range(3):
+                scheduler.call(Build(760 + 40 * place))
+            entries = json.loads(scheduler.history_text())["entries"]
+            self.assertEqual([json.loads(it) for it in scheduler.lines().splitlines()], entries)
+            scheduler.forget()
+            self.assertEqual(scheduler.lines(), "")
+            scheduler.call(Build(880))
+            self.assertEqual([json.loads(it)["ticket"] for it in scheduler.lines().splitlines(True)], [3])
+            self.assertTrue(scheduler.lines().endswith("}\n"))
 
     def test_the_stamp_is_recorded(self):
         with Scheduler(CONFIG) as scheduler:

@@ -5,7 +5,10 @@ pub mod Reply
 pub mod Entry
 pub mod Answer
 pub mod Text
+pub mod Journal
 pub mod Map
 pub mod Encode
+pub mod Frame
 pub mod Post
 pub mod Worker
+pub mod Turn

@@ -1,7 +1,7 @@
 -- What the exports of workers answer, and what is in their handles then.
 use Rattle.std.specs.Prelude.{◌≡◌, ℕ, ◌+◌, ◌<◌, ◌⊎◌, true, [], Option, None, Some, MatchOption, Result, Ok}
 use Rattle.std.specs.Prelude.{Err}
-use Rattle.std.specs.Prelude.{is_some}
+use Rattle.std.specs.Prelude.{is_some, ◌||◌, Bool}
 use Rattle.minislots.specs.declared.config.Config.{Config}
 use Rattle.minislots.specs.Config.{first_wrong}
 use Rattle.sched_history.specs.declared.call.Call.{Call}
@@ -26,18 +26,18 @@ use Rattle.mapsched_c.specs.Reply.{plain_reply}
 abbrev pub Held : Type 0
 Held = Option WorkerState
 
--- a lawful configuration makes a workplace with so many seats and its first worker, or there cannot be so many seats,
--- or memory ran out, and then there is none
-abbrev pub OpensPlace : Held → Config → ℕ → ℕ → Type 0
-OpensPlace new c seats status =
-    ((status ≡ OK) × (w : WorkerState) × (new ≡ Some w) × IsFirstWorker c true seats w)
+-- a lawful configuration makes a workplace with so many seats and its first worker, whose scheduler keeps its whole
+-- history or goes on without end, or there cannot be so many seats, or memory ran out, and then there is none
+abbrev pub OpensPlace : Bool → Held → Config → ℕ → ℕ → Type 0
+OpensPlace keeps new c seats status =
+    ((status ≡ OK) × (w : WorkerState) × (new ≡ Some w) × IsFirstWorker c keeps seats w)
     ⊎ (((status ≡ BAD_SEATS) × (new ≡ None) × ((seats ≡ 0) ⊎ (MAX_SEATS < seats)))
     ⊎ ((status ≡ OUT_OF_MEMORY) × (new ≡ None)))
 
 -- what the opening of a workplace answers: a handle that is full, and a wrong configuration, change nothing
-abbrev pub OpensWorkers : Held → Held → Config → ℕ → ℕ → Type 0
-OpensWorkers (Some w) new c seats status = (status ≡ FULL) × (new ≡ Some w)
-OpensWorkers None new c seats status = MatchOption (first_wrong c) (OpensPlace new c seats status)
+abbrev pub OpensWorkers : Bool → Held → Held → Config → ℕ → ℕ → Type 0
+OpensWorkers keeps (Some w) new c seats status = (status ≡ FULL) × (new ≡ Some w)
+OpensWorkers keeps None new c seats status = MatchOption (first_wrong c) (OpensPlace keeps new c seats status)
     (λ fault. (status ≡ BAD_CONFIG + field_number fault) × (new ≡ None))
 
 -- neither handle changes
@@ -92,11 +92,11 @@ Turns (Some w) new (Some call) status before after =
     MatchOption w.ticket ((status ≡ NO_TICKET) × Stay (Some w) new before after)
     (λ t. TurnsWith w t new call status before after)
 
--- what a worker that leaves is answered: one with a ticket stays
+-- what a worker that leaves is answered: one with a ticket stays, and so does one in its turn
 abbrev pub LeavesPlace : Held → Held → ℕ → Type 0
 LeavesPlace None new status = (status ≡ EMPTY) × (new ≡ None)
-LeavesPlace (Some w) new status = ((status ≡ OK) × (new ≡ None) × (w.ticket ≡ None))
-    ⊎ ((status ≡ HAS_TICKET) × (new ≡ Some w) × (is_some w.ticket ≡ true))
+LeavesPlace (Some w) new status = ((status ≡ OK) × (new ≡ None) × (w.ticket ≡ None) × (w.entered ≡ None))
+    ⊎ ((status ≡ HAS_TICKET) × (new ≡ Some w) × ((is_some w.ticket || is_some w.entered) ≡ true))
 
 -- the status of a workplace that is not closed
 abbrev pub close_status : CloseFault → ℕ

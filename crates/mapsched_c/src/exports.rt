@@ -123,7 +123,7 @@ pub extern "C" fn mapsched_forget(alloc: Global, scheduler: &mut Handle) -> u32
 }
 
 // Writes the entry at this place of the whole history, from 0, where it is kept.
-fn put_entry_at(scheduler: &Scheduler, place: usize, entry: &mut PlainEntry) -> u32
+pub(crate) fn put_entry_at(scheduler: &Scheduler, place: usize, entry: &mut PlainEntry) -> u32
     ensures status { result ≡ entry_status (Some scheduler.now) place }
     ensures entry { entry.new ≡ entry_over entry.old (entry_at (Some scheduler.now) place) }
 {

@@ -38,9 +38,15 @@ pub const WORKERS_OUT: u32 = 16;
 pub const BAD_SEATS: u32 = 17;
 /// An entry was handed over or forgotten.
 pub const HANDED_OVER: u32 = 18;
+/// The worker is not in its turn.
+pub const NO_TURN: u32 = 19;
+/// The scheduler of the workplace keeps its whole history.
+pub const KEEPS_ALL: u32 = 20;
 /// To this the number of the first fault of a payload is added, from 1.
 pub const BAD_PAYLOAD: u32 = 200;
 /// To this the number of the first fault of a MAP that has no bytes is added, from 1.
 pub const BAD_MAP: u32 = 300;
+/// To this the number of the first fault of bytes that are no request frame is added, from 1.
+pub const BAD_REQUEST: u32 = 400;
 /// To this the number of the first wrong field of a configuration is added, from 1.
 pub const BAD_CONFIG: u32 = 100;

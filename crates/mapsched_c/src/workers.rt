@@ -1,6 +1,8 @@
 //! The exports for threads: workers, one for each thread, at one scheduler under the ticket lock.
 
-ghost use Rattle.std.specs.Prelude.{◌≡◌};
+ghost use Rattle.std.specs.Prelude.{◌≡◌, ◌↔◌, ◌⊎◌, ◌<◌, true, false, IfOk, IsErrOf};
+ghost use Rattle.ticket_core.specs.declared.TheConstants.{MAX_SEATS};
+ghost use Rattle.worker_sched.specs.Worker.{IsFirstWorker};
 ghost use Rattle.mapsched_c.specs.Call.{call_of};
 ghost use Rattle.mapsched_c.specs.Config.{config_of};
 ghost use Rattle.mapsched_c.specs.Worker.{OpensWorkers, HiresWorker, Draws, Turns, Writes, LeavesPlace, ClosesPlace};
@@ -12,22 +14,39 @@ use crate::handle::Handle;
 use crate::reply::PlainReply;
 use crate::status;
 use crate::worker_handle::WorkerHandle;
+use minislots::Checked;
 use sched_history::{Call, Unrecorded};
 use std::alloc::Global;
 use text_stream::field_number;
 use ticket_lock::LockFault;
 use worker_sched::{CloseFault, HireFault, Turn, Worker};
 
-/// Opens a workplace with so many seats, 1 to 64, and puts its first worker into an empty handle. The other seats are
-/// with that worker, which hires others. A handle that is full, and a wrong configuration, stay as they are.
-#[unsafe(no_mangle)]
-pub extern "C" fn mapsched_open_workers(
+// The first worker of a workplace, whose scheduler keeps its whole history or goes on without end.
+fn first_worker(
+    alloc: Global,
+    checked: Checked,
+    seats: u32,
+    keeps: bool,
+) -> Result<Box<Worker>, LockFault>
+    ensures opened { IfOk result (λ w. IsFirstWorker checked keeps seats w.value) }
+    ensures count { IsErrOf result LockFault.SeatCount ↔ ((seats ≡ 0) ⊎ (MAX_SEATS < seats)) }
+{
+    if keeps {
+        Worker::open(alloc, checked, seats as usize)
+    } else {
+        Worker::open_without_end(alloc, checked, seats as usize)
+    }
+}
+
+// Opens a workplace of the one kind or the other.
+fn open_workers(
     alloc: Global,
     worker: &mut WorkerHandle,
     config: &PlainConfig,
     seats: u32,
+    keeps: bool,
 ) -> u32
-    ensures { OpensWorkers worker.old.post.worker worker.new.post.worker (config_of config.now) seats result }
+    ensures { OpensWorkers keeps worker.old.post.worker worker.new.post.worker (config_of config.now) seats result }
 {
     if worker.is_full() {
         return status::FULL;
@@ -36,7 +55,7 @@ pub extern "C" fn mapsched_open_workers(
         Ok(checked) => checked,
         Err(fault) => return status::BAD_CONFIG + u32::from(field_number(fault)),
     };
-    match Worker::open(alloc, checked, seats as usize) {
+    match first_worker(alloc, checked, seats, keeps) {
         Ok(first) => {
             worker.put(first);
             status::OK
@@ -44,6 +63,34 @@ pub extern "C" fn mapsched_open_workers(
         Err(LockFault::SeatCount) => status::BAD_SEATS,
         Err(LockFault::Memory) => status::OUT_OF_MEMORY,
     }
+}
+
+/// Opens a workplace with so many seats, 1 to 64, and puts its first worker into an empty handle. The other seats are
+/// with that worker, which hires others. A handle that is full, and a wrong configuration, stay as they are. The
+/// scheduler keeps its whole history.
+#[unsafe(no_mangle)]
+pub extern "C" fn mapsched_open_workers(
+    alloc: Global,
+    worker: &mut WorkerHandle,
+    config: &PlainConfig,
+    seats: u32,
+) -> u32
+    ensures { OpensWorkers true worker.old.post.worker worker.new.post.worker (config_of config.now) seats result }
+{
+    open_workers(alloc, worker, config, seats, true)
+}
+
+/// Opens one whose scheduler goes on without end: a worker in its turn can let go of what is kept.
+#[unsafe(no_mangle)]
+pub extern "C" fn mapsched_open_workers_without_end(
+    alloc: Global,
+    worker: &mut WorkerHandle,
+    config: &PlainConfig,
+    seats: u32,
+) -> u32
+    ensures { OpensWorkers false worker.old.post.worker worker.new.post.worker (config_of config.now) seats result }
+{
+    open_workers(alloc, worker, config, seats, false)
 }
 
 /// Gives one of the seats that are with a worker to a new one, in an empty handle.
@@ -133,7 +180,8 @@ pub extern "C" fn mapsched_turn(
     answered
 }
 
-/// Lets a worker go, with the seats that are with it, and leaves its handle empty. One with a ticket stays.
+/// Lets a worker go, with the seats that are with it, and leaves its handle empty. One with a ticket stays, and so does
+/// one in its turn.
 #[unsafe(no_mangle)]
 pub extern "C" fn mapsched_leave(alloc: Global, worker: &mut WorkerHandle) -> u32
     ensures { LeavesPlace worker.old.post.worker worker.new.post.worker result }
@@ -141,7 +189,7 @@ pub extern "C" fn mapsched_leave(alloc: Global, worker: &mut WorkerHandle) -> u3
     let Some(leaving) = worker.take(alloc) else {
         return status::EMPTY;
     };
-    if leaving.has_ticket() {
+    if leaving.has_ticket() || leaving.is_in_turn() {
         worker.put(leaving);
         return status::HAS_TICKET;
     }

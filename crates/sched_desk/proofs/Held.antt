@@ -23,8 +23,8 @@ use Rattle.sched_desk.specs.declared.event.Event.{Event}
 use Rattle.sched_desk.specs.declared.event.Event.TheVariants.{Recorded, Marked}
 use Rattle.sched_desk.specs.Events.{author_of, history_in, handed_in, kept_in, nothing_yet, parted_after}
 use Rattle.sched_desk.specs.Portions.{Portion, portion_of, portions_of, portions_in}
-use Rattle.sched_desk.specs.Desk.{DeskState, FixedDesk, fixed_of, events_of, history_of, IsDeskLock, SeesLegal}
-use Rattle.sched_desk.specs.Desk.{history_seen, own_entries, own_portions, HasPress}
+use Rattle.sched_desk.specs.Desk.{DeskState, FixedDesk, fixed_of, events_of, history_of, machine_of, machine_seen}
+use Rattle.sched_desk.specs.Desk.{history_seen, own_entries, own_portions, HasPress, IsDeskLock, SeesLegal}
 use Rattle.sched_desk.specs.Calls.{IsEntered, HasCalled, added_by, entry_by, AnswersHeld}
 use Rattle.sched_desk.specs.Handing.{HasHandedOver, Gives, marked_by, is_given, mark_by, portion_by, MarksHeld, HandsOverHeld}
 use Rattle.sched_desk.specs.Handing.{ForgetsHeld}
@@ -232,6 +232,10 @@ module _ (c : Config) (lock : Lock FixedDesk Event) (s : Standing FixedDesk Even
     events = entered_is.entries_are i;
   }
 
+  -- its scheduler is what its holder has seen
+  pub scheduler_entered : machine_of d ≡ machine_seen c s
+  scheduler_entered = ap machine_of here
+
   module _ (w : Standing FixedDesk Event) (x : DeskState) (stamp : Stamp) (stamped : stamp ≡ stamp_of s)
       (left : Leaves author_of fixed_of events_of s x w) where
     -- the call of a holder at the desk that it entered, which has given back what the call left
@@ -239,6 +243,10 @@ module _ (c : Config) (lock : Lock FixedDesk Event) (s : Standing FixedDesk Even
         → AnswersHeld c s call w answer
     answers_entered call answer told = answers c s x w desk_round left call answer
         (subst (λ (y : DeskState × Stamp). HasCalled y.0 y.1 call x answer) (λ i. (here i, stamped i)) told)
+
+    -- a holder that changed nothing
+    pub leaves_entered : x ≡ d → IsLegal x.config (history_of x) → MarksHeld c s false w
+    leaves_entered same legal = marks c s x w desk_round left false legal (same ∙ here)
 
     module _ (keeps : Bool) (press : Book) (has : HasPress c press keeps lock) where
       keeps_is : d.keeps ≡ keeps

@@ -10,7 +10,7 @@ use crate::recorder::Recorder;
 use crate::records::Records;
 use map_snapshot::Told;
 use minislots::{Config, Stamp};
-use sched_history::Entry;
+use sched_history::{Entry, Scheduler};
 use std::alloc::Global;
 use std::marker::Model;
 use ticket_core::MAX_SEATS;
@@ -109,7 +109,14 @@ impl<S: Records> Desk<S> {
     fn kept(&self) -> &[Entry]
         ensures { result.now ≡ kept_in self.now.events }
     {
-        self.recorder.scheduler().history()
+        self.scheduler().history()
+    }
+
+    /// The scheduler, at which its holder can look.
+    pub fn scheduler(&self) -> &Scheduler
+        ensures { result.now ≡ machine_of self.now }
+    {
+        self.recorder.scheduler()
     }
 
     /// What it has, in the memory that it has, with how many entries of its history each seat made.

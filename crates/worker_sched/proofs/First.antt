@@ -12,10 +12,11 @@ use Rattle.worker_sched.proofs.Seats.{Every-left, Every-taken, opens_own}
 module _ (place : SharedDesk) (all rest : List Stands) (found : Option Stands)
     (is : all ≡ rest ++ option_to_list found) where
   -- the seats that it has are its workplace's own
-  pub has_own : Every (λ s. s.lock ≡ place.lock) all → HasOwn place found None rest
+  pub has_own : Every (λ s. s.lock ≡ place.lock) all → HasOwn place found None None rest
   has_own own = record {
     seat_is = Every-taken (λ s. s.lock ≡ place.lock) all rest found is own;
     ticket_is = tt;
+    entered_is = tt;
     spare_are = Every-left (λ s. s.lock ≡ place.lock) all rest found is own;
   }
 
@@ -32,6 +33,7 @@ is_first c keeps count place all w config keeping some opens first =
       keeping = ap (λ (p : SharedDesk). p.keeps) first.place_is ∙ keeping;
       seat_is = first.seat_is (subst (λ n. 0 < n) (sym many) some);
       ticket_is = first.ticket_is;
+      entered_is = first.entered_is;
       opened = subst (λ (y : SharedDesk × List Stands).
           Opens fixed_of events_of (empty_desk c no_press keeps) count 0 y.0.lock y.1)
           (λ i. (sym first.place_is i, first.seats_are i)) opens;

@@ -24,7 +24,7 @@ use Rattle.worker_sched.specs.Workplace.{HasEntered, AnswersTurn, HandsOverTurn,
 module _ (c : Config) (t h w : Standing FixedDesk Event) (x : DeskState)
     (entered : Enters author_of fixed_of events_of t h x) where
   -- a seat that entered has seen what others had added
-  has_entered : HasEntered t h
+  pub has_entered : HasEntered t h
   has_entered = record {
     others = entered.more;
     are_others = entered.others;

@@ -13,9 +13,9 @@ use Rattle.ticket_lock.specs.Standing.{Standing, seats_of, seen}
 use Rattle.ticket_lock.specs.Calls.{Draws}
 use Rattle.sched_desk.specs.declared.event.Event.{Event}
 use Rattle.sched_desk.specs.Events.{author_of, history_in, handed_in}
-use Rattle.sched_desk.specs.Calls.{entry_by, AnswersHeld}
+use Rattle.sched_desk.specs.Calls.{IsEntered, entry_by, AnswersHeld}
 use Rattle.sched_desk.specs.Handing.{is_given, portion_by, HandsOverHeld, ForgetsHeld}
-use Rattle.sched_desk.specs.Desk.{FixedDesk, history_seen, own_entries, own_portions}
+use Rattle.sched_desk.specs.Desk.{DeskState, FixedDesk, history_seen, machine_of, own_entries, own_portions}
 use Rattle.sched_history.specs.History.{IsLegal}
 use Rattle.sched_history.specs.Machine.{Machine}
 
@@ -28,6 +28,10 @@ pub record HasEntered (t holder : Standing FixedDesk Event) : Type 0 where
   pub history_is : history_seen holder ≡ history_seen t ++ history_in (map entry_of others)
   pub own_are : own_entries holder ≡ own_entries t
   pub portions_are : own_portions holder ≡ own_portions t
+
+-- the scheduler of the desk that this holder entered
+abbrev pub IsSchedulerOf : Standing FixedDesk Event → Machine → Type 0
+IsSchedulerOf h m = (d : DeskState) × IsEntered h d × (m ≡ machine_of d)
 
 module _ (c : Config) (t : Standing FixedDesk Event) (call : Call) where
   -- a seat with this ticket has entered after entries of other seats alone, made its call and left

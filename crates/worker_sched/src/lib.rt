@@ -9,8 +9,8 @@ mod worker;
 mod workplace;
 
 pub use closed::Closed;
-pub use drawn::Drawn;
+pub use drawn::{Drawn, Entered};
 pub use opening::{open, open_without_end};
-pub use turning::{Forget, HandOver};
+pub use turning::{Begin, Forget, HandOver};
 pub use worker::{CloseFault, HireFault, Turn, Worker};
 pub use workplace::{Desk, Workplace};

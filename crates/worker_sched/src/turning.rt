@@ -1,6 +1,17 @@
-//! How a turn ends that hands over what is kept, or has it forgotten.
+//! How a turn begins, and how one ends that hands over what is kept, or has it forgotten.
 
 use sched_history::{Entry, HandedOver};
+
+/// How a turn begins.
+#[derive(Clone, Copy, Debug, PartialEq, Eq, Drop)]
+pub enum Begin {
+    /// The turn has begun.
+    Entered,
+    /// The ticket is not served yet.
+    NotYet,
+    /// The worker has no ticket.
+    NoTicket,
+}
 
 /// How a turn ends that hands over what is kept.
 #[derive(Drop)]

@@ -8,7 +8,7 @@ ghost use Rattle.ticket_lock.specs.Standing.{seats_of};
 ghost use Rattle.worker_sched.specs.Worker.{IsFirstWorker, IsFirstOf, Hires, DrawsTicket, TakesTurn, TurnsOver};
 ghost use Rattle.worker_sched.specs.Worker.{TurnsForgetting, is_busy, ClosesWorker, StaysOpen};
 
-use crate::drawn::Drawn;
+use crate::drawn::{Drawn, Entered};
 use crate::opening::{open, open_without_end};
 use crate::turning::{Forget, HandOver};
 use crate::workplace::{Desk, Workplace};
@@ -19,13 +19,16 @@ use std::marker::Model;
 use std::sync::Arc;
 use ticket_lock::{LockFault, Seat};
 
-/// A worker at a workplace: its seat, or the ticket that it drew with it, and the seats of nobody that are with it. It
-/// goes with its thread.
+mod in_turn;
+
+/// A worker at a workplace: its seat, or the ticket that it drew with it, or the desk in its turn, and the seats of
+/// nobody that are with it. It goes with its thread.
 #[derive(Drop)]
 pub struct Worker {
     place: Arc<Workplace>,
     seat: Option<Seat<Desk>>,
     ticket: Option<Drawn>,
+    entered: Option<Entered>,
     spare: Vec<Seat<Desk>>,
 }
 
@@ -39,10 +42,11 @@ impl Model for Worker {
       place = arc_value w.place;
       seat = w.seat;
       ticket = w.ticket;
+      entered = w.entered;
       spare = w.spare.items;
     } };
 
-    ghost invariant = { λ w. HasOwn (arc_value w.place) w.seat w.ticket w.spare.items };
+    ghost invariant = { λ w. HasOwn (arc_value w.place) w.seat w.ticket w.entered w.spare.items };
 }
 
 /// How a turn ends.
@@ -90,6 +94,7 @@ fn first(alloc: Global, place: Workplace, seats: Vec<Seat<Desk>>) -> Result<Box<
         place,
         seat: spare.pop(),
         ticket: None,
+        entered: None,
         spare,
     };
     match Box::new(alloc, worker) {
@@ -129,6 +134,7 @@ impl Worker {
           place = arc_value place;
           seat = None;
           ticket = None;
+          entered = None;
           spare = [];
         }) }
         ensures memory { IfErr result (λ e. e ≡ HireFault.Memory) }
@@ -137,6 +143,7 @@ impl Worker {
             place,
             seat: None,
             ticket: None,
+            entered: None,
             spare: Vec::new(alloc),
         };
         match Box::new(alloc, worker) {
@@ -254,6 +261,13 @@ impl Worker {
         ensures { result ≡ is_busy self.now }
     {
         self.ticket.is_some() || self.seat.is_none()
+    }
+
+    /// Whether the worker is in its turn.
+    pub fn is_in_turn(&self) -> bool
+        ensures { result ≡ is_some self.now.entered }
+    {
+        self.entered.is_some()
     }
 
     /// Whether the worker has a ticket.

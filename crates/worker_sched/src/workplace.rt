@@ -1,15 +1,16 @@
 //! The scheduler that workers share, and its calls.
-ghost use Rattle.std.specs.Prelude.{◌≡◌, ◌+◌, true, IfOk, IfErr, length};
+ghost use Rattle.std.specs.Prelude.{◌≡◌, ◌+◌, true, false, IfOk, IfErr, length};
 ghost use Rattle.ticket_lock.specs.Rule.{Every};
 ghost use Rattle.ticket_lock.specs.Standing.{seats_of};
-ghost use Rattle.sched_desk.specs.Desk.{IsDeskLock, HasPress, no_press};
+ghost use Rattle.sched_desk.specs.Desk.{IsDeskLock, HasPress, machine_seen, no_press};
 ghost use Rattle.sched_desk.specs.Calls.{IsEntered, AnswersHeld};
 ghost use Rattle.sched_desk.specs.Closed.{ClosesTo};
-ghost use Rattle.sched_desk.specs.Handing.{HandsOverHeld, ForgetsHeld};
+ghost use Rattle.sched_desk.specs.Handing.{HandsOverHeld, ForgetsHeld, MarksHeld};
 ghost use Rattle.worker_sched.specs.Workplace.{AnswersTurn, HandsOverTurn, ForgetsTurn, EndsWith, IsNotServed};
+ghost use Rattle.worker_sched.specs.Workplace.{HasEntered};
 
 use crate::closed::Closed;
-use crate::drawn::let_go;
+use crate::drawn::{Entered, let_go};
 use minislots::Checked;
 use sched_desk::close;
 use sched_history::{Call, Entry, HandedOver, Reply, Scheduler, Unrecorded};
@@ -113,6 +114,38 @@ impl Workplace {
         let answer = desk.call_alone(held.stamp(), call);
         let seat = self.lock.leave(held, desk);
         (seat, answer)
+    }
+
+    /// Enters, if the ticket is served: the holder has the desk until it leaves, and nobody else enters. If it is not,
+    /// gives the ticket back. One look, no wait.
+    pub fn enter(&self, ticket: Ticket<Desk>) -> Result<(Held<Desk>, Desk), Ticket<Desk>>
+        requires own { ticket.lock ≡ self.now.lock }
+        ensures entered { IfOk result (λ r. HasEntered ticket r.0 × IsEntered r.0 r.1) }
+        ensures given_back { IfErr result (λ t. t ≡ record ticket { looks = ticket.looks + 1 }) }
+    {
+        let (held, desk) = self.lock.try_enter(ticket)?;
+        Ok((held, desk))
+    }
+
+    // The scheduler of the desk that was entered.
+    pub(crate) fn look<'a>(&self, entered: &'a Entered) -> &'a Scheduler
+        requires own { entered.now.lock ≡ self.now.lock }
+        ensures { result.now ≡ machine_seen self.now.config entered.now }
+    {
+        // That the lock is one round a desk is told on.
+        let _round = self.lock();
+        entered.scheduler()
+    }
+
+    /// Leaves, by the seat that holds the desk, which is as it was entered.
+    pub fn leave_held(&self, held: Held<Desk>, desk: Desk) -> Seat<Desk>
+        requires own { held.lock ≡ self.now.lock }
+        requires entered { IsEntered held desk }
+        ensures left { MarksHeld self.now.config held false result }
+    {
+        // That the history is legal is told on.
+        let _kept = desk.scheduler().history();
+        self.lock.leave(held, desk)
     }
 
     /// Hands over the entries that are kept, with the place of the first in the whole history, if the ticket is served,
