@@ -10,7 +10,7 @@ use Rattle.line_stream.specs.Told.{AtHand, IsTold, HasNoEnd}
 use Rattle.text_stream.specs.declared.fault.TextFault.TheVariants.{Input, TooLong, NotJson, Shape, Config, Memory}
 use Rattle.text_stream.specs.declared.fault.TextFault.TheVariants.{Output}
 use Rattle.live_command.specs.declared.fault.LiveFault.{LiveFault}
-use Rattle.live_command.specs.declared.fault.LiveFault.TheVariants.{Text, Journal}
+use Rattle.live_command.specs.declared.fault.LiveFault.TheVariants.{Text, Journal, OtherConfig, BadJournal}
 use Rattle.live_command.specs.Spoken.{spoken}
 use Rattle.live_command.specs.Answers.{SaysEach, joined}
 use Rattle.live_command.specs.Sending.{AppendsInPart}
@@ -82,26 +82,26 @@ IsTurn s turns m left written stands waits false = Conversed s m left written st
 -- However a conversation ends, its answers are those to the first lines of the input, and what was written is the first
 -- bytes of the texts. The journal stands for a front of the history of the lines that were answered, and has the entry
 -- of each answer of which a byte was written
-pub record Stopped (s : Start) (written : Option (List ℕ)) (stands : List Entry → Type 0) : Type 0 where
-  -- lines, of whose answers bytes may have been written
-  pub lines : List (List ℕ)
-  pub texts : List (List ℕ)
-  pub history : List Entry
-  pub says : SaysEach s.config s.explained s.resumed (spoken lines) texts history
-  pub out : AppendsInPart s.written written (joined texts)
-  -- and lines behind them, of whose answers no byte was written
-  pub more : List (List ℕ)
-  pub answers : List (List ℕ)
-  pub whole : List Entry
-  pub says_more : SaysEach s.config s.explained history (spoken more) answers whole
-  pub read : BeginsWith s.unread (lines ++ more)
-  -- the entries of the first lines and some behind them
-  pub stood : List Entry
-  pub stands_for : stands stood
-  pub behind : List Entry
-  pub stood_is : stood ≡ history ++ behind
-  pub others : List Entry
-  pub whole_is : whole ≡ stood ++ others
+pub record Stopped (s : Start) (whole : List Entry) (written : Option (List ℕ)) (stands : List Entry → Type 0) : Type 0
+  where
+    -- lines, of whose answers bytes may have been written
+    pub lines : List (List ℕ)
+    pub texts : List (List ℕ)
+    pub history : List Entry
+    pub says : SaysEach s.config s.explained s.resumed (spoken lines) texts history
+    pub out : AppendsInPart s.written written (joined texts)
+    -- and lines behind them, of whose answers no byte was written
+    pub more : List (List ℕ)
+    pub answers : List (List ℕ)
+    pub says_more : SaysEach s.config s.explained history (spoken more) answers whole
+    pub read : BeginsWith s.unread (lines ++ more)
+    -- the entries of the first lines and some behind them
+    pub stood : List Entry
+    pub stands_for : stands stood
+    pub behind : List Entry
+    pub stood_is : stood ≡ history ++ behind
+    pub others : List Entry
+    pub whole_is : whole ≡ stood ++ others
 
 -- All whole lines that came were answered, the answers are written and their entries are in the journal; and no
 -- newline came behind them
@@ -122,6 +122,10 @@ pub record ComesTooMuch (s : Start) : Type 0 where
   pub read : BeginsWith s.unread lines
   pub many : 2 ^ 64 - 1 ≤ length lines
 
+-- the journal, memory or a writer, which may fail anywhere
+abbrev pub IsAnywhere : LiveFault → Type 0
+IsAnywhere fault = (fault ≡ Journal) ⊎ ((fault ≡ Text Memory) ⊎ (fault ≡ Text Output))
+
 -- why a conversation ends before its input does
 abbrev pub StopsTalk : Start → Machine → Option (List ℕ) → Option (List ℕ) → (List Entry → Type 0) → LiveFault → Type 0
 StopsTalk s m left written stands (Text Input) = BreaksOff s m left written stands
@@ -133,6 +137,8 @@ StopsTalk s m left written stands (Text (Config field)) = ⊥
 StopsTalk s m left written stands (Text Memory) = Unit {0}
 StopsTalk s m left written stands (Text Output) = Unit {0}
 StopsTalk s m left written stands Journal = Unit {0}
+StopsTalk s m left written stands OtherConfig = ⊥
+StopsTalk s m left written stands (BadJournal line) = ⊥
 
 -- where a conversation begins with this scheduler
 abbrev pub start_at : Bool → Machine → Option (List ℕ) → Option (List ℕ) → Start

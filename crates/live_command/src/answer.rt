@@ -1,17 +1,18 @@
 //! The answer to a line.
 
-ghost use Rattle.std.specs.Prelude.{◌≡◌, ◌≤◌, ◌<◌, List, ℕ, [], ◌∷◌, ◌++◌, length, IfOk, IfErr, OnOk};
+ghost use Rattle.std.specs.Prelude.{◌≡◌, ◌≤◌, ◌<◌, List, ℕ, ◌++◌, length, IfOk, IfErr, OnOk, OnErr};
 ghost use Rattle.line_stream.specs.declared.TheConstants.{MAX_LINE};
 ghost use Rattle.line_stream.specs.Told.{IsTold};
 ghost use Rattle.sched_history.specs.Machine.{kept_of};
 ghost use Rattle.sched_lines.specs.Line.{Answer, HasLine};
-ghost use Rattle.live_command.specs.Answers.{MayGet, after, answer_line, AnswersLines};
-ghost use Rattle.live_command.specs.Spoken.{call_said, call_of_line};
+ghost use Rattle.live_command.specs.Answers.{MayGet, after, answer_line, AnswersHeard, SaysOne};
+ghost use Rattle.live_command.specs.Spoken.{call_said, call_of_line, heard_of};
 
 use crate::blank::is_spoken;
 use crate::fault::LineFault;
 use crate::outbox::Outbox;
 use crate::said::{Said, read_said};
+use json::Scratch;
 use line_stream::{Lines, MAX_LINE, Told};
 use minislots::Stamp;
 use sched_history::{Call, Reply, Scheduler, Unrecorded};
@@ -29,12 +30,16 @@ fn call_said(said: Said) -> Result<Call, LineFault>
 }
 
 // The call of a line that is not long, or its first fault.
-fn read_short(alloc: Global, line: &[u8]) -> Result<Result<Call, LineFault>, TextFault>
+fn read_short(
+    alloc: Global,
+    scratch: &mut Scratch,
+    line: &[u8],
+) -> Result<Result<Call, LineFault>, TextFault>
     requires { length line.now ≤ MAX_LINE }
     ensures ok { IfOk result (λ call. call ≡ call_of_line line.now) }
     ensures err { IfErr result (λ e. e ≡ TextFault.Memory) }
 {
-    match read_said(alloc, line) {
+    match read_said(alloc, scratch, line) {
         Ok(said) => Ok(call_said(said)),
         Err(TextFault::NotJson) => Ok(Err(LineFault::Json)),
         Err(_) => Err(TextFault::Memory),
@@ -43,14 +48,18 @@ fn read_short(alloc: Global, line: &[u8]) -> Result<Result<Call, LineFault>, Tex
 
 // The call of a line, or its first fault.
 #[tactic(auto, using(crate::proofs::Saying::call_of_long))]
-fn read_call(alloc: Global, line: &[u8]) -> Result<Result<Call, LineFault>, TextFault>
+fn read_call(
+    alloc: Global,
+    scratch: &mut Scratch,
+    line: &[u8],
+) -> Result<Result<Call, LineFault>, TextFault>
     ensures ok { IfOk result (λ call. call ≡ call_of_line line.now) }
     ensures err { IfErr result (λ e. e ≡ TextFault.Memory) }
 {
     if line.len() > MAX_LINE {
         return Ok(Err(LineFault::Long));
     }
-    read_short(alloc, line)
+    read_short(alloc, scratch, line)
 }
 
 // Makes a call. It has seat 0, and its place in the history for a ticket.
@@ -80,51 +89,66 @@ fn answer_call(
         × MayGet scheduler.old.config scheduler.old.history call answer
         × (outbox.new ≡ outbox.old ++ answer_line explained answer)
         × (scheduler.new ≡ record scheduler.old { history = after scheduler.old.history call answer })) }
+    ensures unput { OnErr result ((answer : Answer)
+        × MayGet scheduler.old.config scheduler.old.history call answer
+        × (scheduler.new ≡ record scheduler.old { history = after scheduler.old.history call answer })) }
     ensures err { IfErr result (λ e. e ≡ TextFault.Memory) }
 {
     let answer = make_call(scheduler, call);
     outbox.put_answer(&answer, explained)
 }
 
-// Answers a line.
-fn answer_text(
+// What is heard of a line: its call or its first fault, and nothing of one that is not answered.
+fn hear_text(
     alloc: Global,
-    scheduler: &mut Scheduler,
-    outbox: &mut Outbox,
+    scratch: &mut Scratch,
     line: &[u8],
-    explained: bool,
-) -> Result<(), TextFault>
-    requires { length (kept_of scheduler.old) < scheduler.old.config.calls }
-    ensures ok { OnOk result
-        (AnswersLines explained (line.now ∷ []) scheduler.old scheduler.new outbox.old outbox.new) }
+) -> Result<Option<Result<Call, LineFault>>, TextFault>
+    ensures ok { IfOk result (λ heard. heard ≡ heard_of line.now) }
     ensures err { IfErr result (λ e. e ≡ TextFault.Memory) }
 {
     if !is_spoken(line) {
-        return Ok(());
+        return Ok(None);
     }
-    match read_call(alloc, line) {
-        Ok(Ok(call)) => answer_call(scheduler, outbox, call, explained),
-        Ok(Err(fault)) => outbox.put_fault(fault),
+    match read_call(alloc, scratch, line) {
+        Ok(call) => Ok(Some(call)),
         Err(fault) => Err(fault),
     }
 }
 
-/// Answers the line that was told last: what is said goes behind what waits. Nothing is said to a blank line.
-pub(crate) fn answer(
+/// What is heard of the line that was told last.
+pub(crate) fn hear(
     alloc: Global,
-    scheduler: &mut Scheduler,
-    outbox: &mut Outbox,
+    scratch: &mut Scratch,
     lines: &Lines,
     told: Told,
-    explained: bool,
-) -> Result<(), TextFault>
-    requires { length (kept_of scheduler.old) < scheduler.old.config.calls }
-    ensures ok { OnOk result ((line : List ℕ) → IsTold line told lines.now.line →
-        AnswersLines explained (line ∷ []) scheduler.old scheduler.new outbox.old outbox.new) }
+) -> Result<Option<Result<Call, LineFault>>, TextFault>
+    ensures ok { IfOk result (λ heard. (line : List ℕ) → IsTold line told lines.now.line →
+        heard ≡ heard_of line) }
     ensures err { IfErr result (λ e. e ≡ TextFault.Memory) }
 {
     match told {
-        Told::Long => outbox.put_fault(LineFault::Long),
-        Told::Line => answer_text(alloc, scheduler, outbox, lines.line(), explained),
+        Told::Long => Ok(Some(Err(LineFault::Long))),
+        Told::Line => hear_text(alloc, scratch, lines.line()),
+    }
+}
+
+/// Answers what was heard of a line: what is said goes behind what waits. Nothing is said where nothing was heard. Where
+/// memory runs out a call is made all the same, and its answer is not among those that wait.
+pub(crate) fn answer(
+    scheduler: &mut Scheduler,
+    outbox: &mut Outbox,
+    heard: Option<Result<Call, LineFault>>,
+    explained: bool,
+) -> Result<(), TextFault>
+    requires { length (kept_of scheduler.old) < scheduler.old.config.calls }
+    ensures ok { OnOk result (AnswersHeard explained heard scheduler.old scheduler.new outbox.old outbox.new) }
+    ensures unput { OnErr result (SaysOne explained heard scheduler.old scheduler.new) }
+    ensures err { IfErr result (λ e. e ≡ TextFault.Memory) }
+{
+    match heard {
+        Some(Ok(call)) => answer_call(scheduler, outbox, call, explained),
+        Some(Err(fault)) => outbox.put_fault(fault),
+        None => Ok(()),
     }
 }
