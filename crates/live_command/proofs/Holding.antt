@@ -1,6 +1,6 @@
 -- A conversation with its opening.
 use Rattle.std.proofs.Common.{◌≡◌, ℕ, Bool, List, [], ◌∷◌, ◌++◌, Option, None, Some, Result, Ok, Err, refl, inr}
-use Rattle.std.specs.Prelude.{IfErr, OnOk}
+use Rattle.std.specs.Prelude.{IfErr, OnOk, MatchResult}
 use Rattle.std.specs.Io.KnownBytes.{IsAtEnd, prepend_known}
 use Rattle.minislots.specs.declared.config.Config.{Config}
 use Rattle.sched_history.specs.declared.reply.Entry.{Entry}
@@ -22,33 +22,38 @@ at_end-behind [] (Some text) ended = ended
 at_end-behind (b ∷ held) (Some text) ended = absurd (let no : b ∷ (held ++ text) ≡ [] = ended in cc)
 
 module _ (explained : Bool) (config : Config) (unread behind left before written : Option (List ℕ))
-    (stands : List Entry → Type 0) (m : Machine) (opened : Opens unread behind (Ok config)) where
-  -- one that ends early
-  pub ends_early : {A : Type 0} (untouched : Type 0) (r : Result A LiveFault)
-      → IfErr r (λ _. Stopped (start_new config explained behind before) written stands)
-      → IfErr r (StopsTalk (start_new config explained behind before) m left written stands)
-      → IfErr r (Ends explained unread left before written stands untouched)
-  ends_early untouched (Ok x) stopped stops = tt
-  ends_early untouched (Err e) stopped stops = inr (record {
-    config = config;
-    behind = behind;
-    opened = opened;
-    stopped = stopped;
-    scheduler = m;
-    stops = stops;
-  })
+    (stands : Config → List Entry → Type 0) (m : Machine) (opened : Opens unread behind (Ok config)) (held : List ℕ)
+  where
+    -- how a conversation ended behind its opening
+    abbrev pub Ended : {A : Type 0} → Result A LiveFault → Type 0
+    Ended r = MatchResult r
+        (λ _. Conversed (start_new config explained behind before) m (prepend_known held left) written (stands config))
+        (λ e. Stopped (start_new config explained behind before) written (stands config)
+        × StopsTalk (start_new config explained behind before) m left written (stands config) e)
 
-  -- one whose input has ended
-  pub ends_well : {A : Type 0} (held : List ℕ) (r : Result A LiveFault)
-      → OnOk r (Conversed (start_new config explained behind before) m (prepend_known held left) written stands)
-      → OnOk r (Held explained unread left before written stands)
-  ends_well held (Ok x) conversed = record {
-    config = config;
-    behind = behind;
-    opened = opened;
-    scheduler = m;
-    rest = prepend_known held left;
-    conversed = conversed;
-    ended = at_end-behind held left conversed.ended;
-  }
-  ends_well held (Err e) conversed = tt
+    -- one that ends early
+    pub ends_early : {A : Type 0} (may : Config → List Entry → Type 0) (untouched quiet : Type 0)
+        (r : Result A LiveFault) → Ended r → IfErr r (Ends explained unread left before written may stands untouched quiet)
+    ends_early may untouched quiet (Ok x) conversed = tt
+    ends_early may untouched quiet (Err e) stopped = inr (inr (record {
+      config = config;
+      behind = behind;
+      opened = opened;
+      stopped = stopped.0;
+      scheduler = m;
+      stops = stopped.1;
+    }))
+
+    -- one whose input has ended
+    pub ends_well : {A : Type 0} (r : Result A LiveFault) → Ended r
+        → OnOk r (Held explained unread left before written stands)
+    ends_well (Ok x) conversed = record {
+      config = config;
+      behind = behind;
+      opened = opened;
+      scheduler = m;
+      rest = prepend_known held left;
+      conversed = conversed;
+      ended = at_end-behind held left conversed.ended;
+    }
+    ends_well (Err e) stopped = tt

@@ -5,3 +5,5 @@ pub mod Turning
 pub mod OpeningLines
 pub mod OpeningFaults
 pub mod Holding
+pub mod Front
+pub mod GoingOn

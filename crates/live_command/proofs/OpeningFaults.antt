@@ -1,5 +1,5 @@
 -- What an opening says, and its faults.
-use Rattle.std.proofs.Common.{◌≡◌, ℕ, ◌<◌, ◌≤◌, List, length, Option, None, Some, Result, Ok, Err, refl, ap, subst, sym}
+use Rattle.std.proofs.Common.{◌≡◌, ℕ, ◌<◌, ◌≤◌, List, [], ◌∷◌, length, Option, None, Some, Result, Ok, Err, refl, ap, subst, sym}
 use Rattle.std.proofs.Common.{◌∙◌, inl}
 use Rattle.std.specs.Prelude.{◌≢◌, IfOk, IfErr}
 use Rattle.std.proofs.lemmas.Bool.{le-ltb, lt-ltb}
@@ -17,6 +17,7 @@ use Rattle.text_stream.proofs.Outcome.{IsOfText, faults-bind, faults-value_of, f
 use Rattle.live_command.specs.declared.said.Said.{Said}
 use Rattle.live_command.specs.declared.said.Said.TheVariants as saying
 use Rattle.live_command.specs.Said.{said_by, said_in}
+use Rattle.live_command.proofs.Talking.{TakesLines-trans}
 use Rattle.live_command.specs.Opening.{config_said, opening_in, opening_of_line, Opens, TellsSpoken, StopsOpening}
 
 faults-said_in : (bytes : List ℕ) → IfErr (said_in bytes) IsOfText
@@ -37,7 +38,7 @@ faults-opening_in bytes =
     (λ said. faults-bind (config_said said) (λ config. unless_wrong (first_wrong config) config)
     (faults-config_said said) (λ config. faults-unless_wrong (first_wrong config) config))
 
-opening_of_short : (line : List ℕ) → length line ≤ MAX_LINE → opening_of_line line ≡ opening_in line
+pub opening_of_short : (line : List ℕ) → length line ≤ MAX_LINE → opening_of_line line ≡ opening_in line
 unfolding opening_of_line
 opening_of_short line short = rw (le-ltb MAX_LINE (length line) short) refl
 
@@ -46,14 +47,14 @@ unfolding opening_of_line
 opening_of_long line long = rw (lt-ltb MAX_LINE (length line) long) refl
 
 module _ (unread left : Option (List ℕ)) (hand : AtHand) where
-  opens : (outcome : Result Configuration TextFault) → TellsSpoken unread left hand Line
+  abbrev pub opens : (outcome : Result Configuration TextFault) → TellsSpoken unread left hand Line
       → opening_in hand.line ≡ outcome → Opens unread left outcome
   opens outcome tells says = record {
     blanks = tells.blanks;
     line = tells.line;
     blank = tells.blank;
     is = tells.spoken_is;
-    taken = tells.taken;
+    taken = TakesLines-trans unread tells.between left tells.blanks (tells.line ∷ []) tells.passed tells.taken;
     says = opening_of_short tells.line tells.is.1 ∙ ap opening_in (sym tells.is.0) ∙ says;
   }
 
@@ -63,7 +64,7 @@ module _ (unread left : Option (List ℕ)) (hand : AtHand) where
   opens_well (Ok config) tells gives = opens (Ok config) tells gives
   opens_well (Err fault) tells gives = tt
 
-  of_text : (fault : TextFault) → opening_in hand.line ≡ Err fault → IsOfText fault
+  pub of_text : (fault : TextFault) → opening_in hand.line ≡ Err fault → IsOfText fault
   of_text fault e = subst (λ (r : Result Configuration TextFault). IfErr r IsOfText) e (faults-opening_in hand.line)
 
   stops : (after : Option (List ℕ)) (fault : TextFault) → TellsSpoken unread left hand Line
@@ -90,6 +91,6 @@ module _ (unread left : Option (List ℕ)) (hand : AtHand) where
     line = tells.line;
     blank = tells.blank;
     is = tells.spoken_is;
-    taken = tells.taken;
+    taken = TakesLines-trans unread tells.between left tells.blanks (tells.line ∷ []) tells.passed tells.taken;
     says = opening_of_long tells.line tells.is;
   }

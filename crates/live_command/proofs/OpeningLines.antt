@@ -1,17 +1,33 @@
 -- Lines before an opening.
-use Rattle.std.proofs.Common.{◌≡◌, ℕ, ◌+◌, ◌-◌, ◌^◌, ◌≤◌, Bool, true, false, List, [], ◌∷◌, ◌++◌, length, Option}
+use Rattle.std.proofs.Common.{◌≡◌, ℕ, ◌+◌, ◌-◌, ◌^◌, ◌≤◌, Bool, true, false, List, [], ◌∷◌, ◌++◌, length, Option, None, Some}
 use Rattle.std.proofs.Common.{refl, sym, ap, ◌∙◌, inl, arith, length-append}
-use Rattle.std.specs.Io.KnownBytes.{IsAtEnd}
 use Rattle.line_stream.specs.declared.Told.{Told}
-use Rattle.line_stream.specs.Lines.{TakesLines}
-use Rattle.line_stream.specs.Told.{AtHand, HasNoEnd, TellsNext, StopsLine}
+use Rattle.line_stream.specs.Lines.{lines_of, TakesLines}
+use Rattle.line_stream.specs.Told.{AtHand, HasEnded, HasNoEnd, TellsNext, StopsLine}
 use Rattle.text_stream.specs.declared.fault.TextFault.{TextFault}
 use Rattle.text_stream.specs.declared.fault.TextFault.TheVariants.{Input, TooLong, NotJson, Shape, Config, Memory}
 use Rattle.text_stream.specs.declared.fault.TextFault.TheVariants.{Output}
 use Rattle.live_command.specs.Spoken.{is_spoken, spoken}
-use Rattle.live_command.specs.Opening.{BreaksOffBefore, ComesTooMuchBefore, HasNoOpening, TellsSpoken, StopsBefore}
+use Rattle.live_command.specs.Opening.{BreaksOffBefore, ComesTooMuchBefore, HasNoOpening, TellsSpoken, PassesAll}
+use Rattle.live_command.specs.Opening.{StopsBefore}
 use Rattle.live_command.proofs.Saying.{spoken-append}
 use Rattle.live_command.proofs.Talking.{TakesLines-none, TakesLines-trans, TakesLines-front, TakesLines-all}
+
+-- the input has ended behind lines that were taken
+TakesLines-ended : (a b c : Option (List ℕ)) (xs : List (List ℕ)) → TakesLines a xs b → HasEnded b c
+    → TakesLines a xs c
+TakesLines-ended None b c xs takes ended = tt
+TakesLines-ended (Some t) None c xs takes ended = absurd takes
+TakesLines-ended (Some t) (Some u) None xs takes ended = absurd ended.2
+TakesLines-ended (Some t) (Some u) (Some v) xs takes ended = takes ∙ ap (λ (l : List ℕ). xs ++ lines_of l) ended.2
+
+-- all lines were blank, so there is no opening
+pub HasNoOpening-passed : (unread left : Option (List ℕ)) → PassesAll unread left → HasNoOpening unread
+HasNoOpening-passed unread left passes = record {
+  blanks = passes.blanks;
+  blank = passes.blank;
+  read = TakesLines-all unread left passes.blanks passes.passed passes.ended;
+}
 
 -- so many lines were told, all of them blank
 pub record PassesBlanks (unread left : Option (List ℕ)) (turns : ℕ) : Type 0 where
@@ -48,17 +64,20 @@ module _ (unread mid : Option (List ℕ)) (turns : ℕ) (passes : PassesBlanks u
     blanks = passes.blanks;
     line = next.line;
     blank = passes.blank;
+    between = mid;
+    passed = passes.read;
     spoken_is = sym same ∙ is;
-    taken = TakesLines-trans unread mid left passes.blanks (next.line ∷ []) passes.read next.taken;
+    taken = next.taken;
     is = next.is;
   }
 
   -- the end
-  pub PassesBlanks-ended : IsAtEnd mid → HasNoOpening unread
-  PassesBlanks-ended ended = record {
+  pub PassesBlanks-ended : (left : Option (List ℕ)) → HasEnded mid left → PassesAll unread left
+  PassesBlanks-ended left ended = record {
     blanks = passes.blanks;
     blank = passes.blank;
-    read = TakesLines-all unread mid passes.blanks passes.read ended;
+    passed = TakesLines-ended unread mid left passes.blanks passes.read ended;
+    ended = ended.1;
   }
 
   abbrev off : (left : Option (List ℕ)) → HasNoEnd mid left → BreaksOffBefore unread left

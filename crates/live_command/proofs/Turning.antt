@@ -1,7 +1,7 @@
 -- A turn of a conversation.
 use Rattle.std.proofs.Common.{◌≡◌, ℕ, ◌<◌, Bool, List, [], length, drop, Option, None, Some}
 use Rattle.std.proofs.Common.{Result, Ok, Err, refl, sym, ap, subst, inl, inr, arith}
-use Rattle.std.specs.Prelude.{◌⊎◌, MatchOption, MatchResult}
+use Rattle.std.specs.Prelude.{◌⊎◌, IfErr, OnOk, MatchOption, MatchResult}
 use Rattle.std.proofs.Math.Seq.{drop-length}
 use Rattle.sched_history.specs.declared.reply.Entry.{Entry}
 use Rattle.sched_history.specs.Machine.{Machine, kept_of}
@@ -20,6 +20,22 @@ pub first_of_two : {A E : Type 0} (P Q : Type 0) (S : E → Type 0) (r : Result 
     → MatchResult r (λ _. P) S
 first_of_two P Q S (Ok x) holds = holds.0
 first_of_two P Q S (Err e) holds = holds
+
+-- what follows where there is a value, and where there is none
+pub on_ok : {A E : Type 0} (P : Type 0) (Q S : E → Type 0) (r : Result A E) → MatchResult r (λ _. P) (λ e. Q e × S e)
+    → OnOk r P
+on_ok P Q S (Ok x) holds = holds
+on_ok P Q S (Err e) holds = tt
+
+pub on_err-first : {A E : Type 0} (P : Type 0) (Q S : E → Type 0) (r : Result A E)
+    → MatchResult r (λ _. P) (λ e. Q e × S e) → IfErr r Q
+on_err-first P Q S (Ok x) holds = tt
+on_err-first P Q S (Err e) holds = holds.0
+
+pub on_err-second : {A E : Type 0} (P : Type 0) (Q S : E → Type 0) (r : Result A E)
+    → MatchResult r (λ _. P) (λ e. Q e × S e) → IfErr r S
+on_err-second P Q S (Ok x) holds = tt
+on_err-second P Q S (Err e) holds = holds.1
 
 -- where all that was kept is handed over there is room
 pub settled_room : (m new : Machine) → 0 < m.config.calls → new ≡ record m { handed = length m.history }
@@ -91,3 +107,26 @@ Talk-start explained m unread written stands handed stood = record {
   handed = handed;
   many = omega arith;
 }
+
+-- so many turns were taken, and so none at least
+pub talk_again : {A E : Type 0} (s : Start) (m : Machine) (left written : Option (List ℕ))
+    (stands : List Entry → Type 0) (waits : List ℕ) (S : E → Type 0) (r : Result A E)
+    → MatchResult r (λ _. Talk s 1 m left written stands waits) S
+    → MatchResult r (λ _. Talk s 0 m left written stands waits) S
+talk_again s m left written stands waits S (Ok x) talk = record {
+  lines = talk.lines;
+  texts = talk.texts;
+  history = talk.history;
+  says = talk.says;
+  stood = talk.stood;
+  out = talk.out;
+  more = talk.more;
+  answers = talk.answers;
+  says_more = talk.says_more;
+  waiting = talk.waiting;
+  read = talk.read;
+  config = talk.config;
+  handed = talk.handed;
+  many = omega arith;
+}
+talk_again s m left written stands waits S (Err e) stopped = stopped

@@ -7,6 +7,8 @@ use Rattle.sched_history.specs.Machine.{Machine}
 use Rattle.text_stream.specs.declared.fault.TextFault.{TextFault}
 use Rattle.live_command.specs.declared.fault.LiveFault.{LiveFault}
 use Rattle.live_command.specs.declared.fault.LiveFault.TheVariants.{Text}
+use Rattle.live_command.specs.declared.journal.BeginFault.{BeginFault}
+use Rattle.live_command.specs.Fault.{fault_of_begin}
 use Rattle.live_command.specs.Opening.{Opens, StopsOpening}
 use Rattle.live_command.specs.Talk.{Start, Conversed, Stopped, StopsTalk}
 
@@ -21,33 +23,54 @@ start_new config explained unread written = record {
 }
 
 -- The opening was read, and all lines behind it were answered
-pub record Held (explained : Bool) (unread left before written : Option (List ℕ)) (stands : List Entry → Type 0) :
-    Type 0 where
+pub record Held (explained : Bool) (unread left before written : Option (List ℕ))
+    (stands : Config → List Entry → Type 0) : Type 0 where
   pub config : Config
   pub behind : Option (List ℕ)
   pub opened : Opens unread behind (Ok config)
   pub scheduler : Machine
   pub rest : Option (List ℕ)
-  pub conversed : Conversed (start_new config explained behind before) scheduler rest written stands
+  pub conversed : Conversed (start_new config explained behind before) scheduler rest written (stands config)
   pub ended : IsAtEnd left
 
 -- nothing was written, to the writer and the journal
 abbrev pub NotOpened : {W J : Type 0} → W → W → J → J → Type 0
 NotOpened writer_old writer_new journal_old journal_new = (writer_new ≡ writer_old) × (journal_new ≡ journal_old)
 
--- The opening was read, and the conversation behind it ended early
-pub record EndsTalk (explained : Bool) (unread left before written : Option (List ℕ)) (stands : List Entry → Type 0)
+-- A conversation ended since its journal did not begin: nothing was written, and it may begin as before
+pub record NotBegun (quiet : Type 0) (may : List Entry → Type 0) (entries : List Entry) (fault : LiveFault) : Type 0
+  where
+    pub why : BeginFault
+    pub is : fault ≡ fault_of_begin why
+    pub unwritten : quiet
+    pub begins : may entries
+
+-- The opening was read, and the journal did not begin
+pub record EndsUnbegun (unread : Option (List ℕ)) (quiet : Type 0) (may : Config → List Entry → Type 0)
     (fault : LiveFault) : Type 0 where
   pub config : Config
   pub behind : Option (List ℕ)
   pub opened : Opens unread behind (Ok config)
-  pub stopped : Stopped (start_new config explained behind before) written stands
-  pub scheduler : Machine
-  pub stops : StopsTalk (start_new config explained behind before) scheduler left written stands fault
+  pub unbegun : NotBegun quiet (may config) [] fault
 
--- a conversation ended early: before its opening was read, or behind it
+-- The opening was read, and the conversation behind it ended early
+pub record EndsTalk (explained : Bool) (unread left before written : Option (List ℕ))
+    (stands : Config → List Entry → Type 0) (fault : LiveFault) : Type 0 where
+  pub config : Config
+  pub behind : Option (List ℕ)
+  pub opened : Opens unread behind (Ok config)
+  pub stopped : Stopped (start_new config explained behind before) written (stands config)
+  pub scheduler : Machine
+  pub stops : StopsTalk (start_new config explained behind before) scheduler left written (stands config) fault
+
+-- the opening was not read
+abbrev pub EndsUnopened : Option (List ℕ) → Option (List ℕ) → Type 0 → LiveFault → Type 0
+EndsUnopened unread left untouched fault =
+    (why : TextFault) × (fault ≡ Text why) × StopsOpening unread left why × untouched
+
+-- a conversation ended early: before its opening was read, before its journal began, or behind these
 abbrev pub Ends : Bool → Option (List ℕ) → Option (List ℕ) → Option (List ℕ) → Option (List ℕ)
-    → (List Entry → Type 0) → Type 0 → LiveFault → Type 0
-Ends explained unread left before written stands untouched fault =
-    ((why : TextFault) × (fault ≡ Text why) × StopsOpening unread left why × untouched)
-    ⊎ EndsTalk explained unread left before written stands fault
+    → (Config → List Entry → Type 0) → (Config → List Entry → Type 0) → Type 0 → Type 0 → LiveFault → Type 0
+Ends explained unread left before written may stands untouched quiet fault =
+    EndsUnopened unread left untouched fault
+    ⊎ (EndsUnbegun unread quiet may fault ⊎ EndsTalk explained unread left before written stands fault)

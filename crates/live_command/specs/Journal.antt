@@ -1,6 +1,10 @@
--- What a journal stands for.
+-- What a journal stands for, and how a call of it fails.
 use Rattle.std.specs.Prelude.{◌≡◌, ◌≢◌, ℕ, Bool, true, List, ◌++◌, take, Result, MatchResult}
 use Rattle.sched_history.specs.declared.reply.Entry.{Entry}
+
+-- whatever entries the journal stood for, it stands for them
+abbrev pub Keeps : (List Entry → Type 0) → (List Entry → Type 0) → Type 0
+Keeps old new = (entries : List Entry) → old entries → new entries
 
 -- whatever entries the journal stood for, it stands for them with these behind them
 abbrev pub Grows : (List Entry → Type 0) → (List Entry → Type 0) → List Entry → Type 0

@@ -6,4 +6,5 @@ pub mod Sending
 pub mod Talk
 pub mod Opening
 pub mod Held
+pub mod Going
 pub mod Fault

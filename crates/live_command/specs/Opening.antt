@@ -1,6 +1,7 @@
 -- The opening of a conversation.
 use Rattle.std.specs.Prelude.{◌≡◌, ◌⊎◌, ℕ, ◌-◌, ◌^◌, ◌≤◌, true, nat_lt, if◌then◌else◌, List, [], ◌∷◌, ◌++◌}
 use Rattle.std.specs.Prelude.{length, Option, None, Some, Result, Ok, Err}
+use Rattle.std.specs.Io.KnownBytes.{IsAtEnd}
 use Rattle.minislots.specs.declared.config.Config.{Config as Configuration}
 use Rattle.minislots.specs.Config.{first_wrong}
 use Rattle.line_stream.specs.declared.TheConstants.{MAX_LINE}
@@ -84,13 +85,21 @@ pub record TellsSpoken (unread left : Option (List ℕ)) (hand : AtHand) (told :
   pub blanks : List (List ℕ)
   pub line : List ℕ
   pub blank : spoken blanks ≡ []
+  pub between : Option (List ℕ)
+  pub passed : TakesLines unread blanks between
   pub spoken_is : is_spoken line ≡ true
-  pub taken : TakesLines unread (blanks ++ line ∷ []) left
+  pub taken : TakesLines between (line ∷ []) left
   pub is : IsTold line told hand.line
 
--- or there was none
+-- or all lines were blank
+pub record PassesAll (unread left : Option (List ℕ)) : Type 0 where
+  pub blanks : List (List ℕ)
+  pub blank : spoken blanks ≡ []
+  pub passed : TakesLines unread blanks left
+  pub ended : IsAtEnd left
+
 abbrev pub FindsSpoken : Option (List ℕ) → Option (List ℕ) → AtHand → Option Told → Type 0
-FindsSpoken unread left hand None = HasNoOpening unread
+FindsSpoken unread left hand None = PassesAll unread left
 FindsSpoken unread left hand (Some told) = TellsSpoken unread left hand told
 
 -- why none was told

@@ -10,7 +10,7 @@ use Rattle.line_stream.specs.Told.{AtHand, IsTold, HasNoEnd}
 use Rattle.text_stream.specs.declared.fault.TextFault.TheVariants.{Input, TooLong, NotJson, Shape, Config, Memory}
 use Rattle.text_stream.specs.declared.fault.TextFault.TheVariants.{Output}
 use Rattle.live_command.specs.declared.fault.LiveFault.{LiveFault}
-use Rattle.live_command.specs.declared.fault.LiveFault.TheVariants.{Text, Journal}
+use Rattle.live_command.specs.declared.fault.LiveFault.TheVariants.{Text, Journal, OtherConfig, BadJournal}
 use Rattle.live_command.specs.Spoken.{spoken}
 use Rattle.live_command.specs.Answers.{SaysEach, joined}
 use Rattle.live_command.specs.Sending.{AppendsInPart}
@@ -122,6 +122,10 @@ pub record ComesTooMuch (s : Start) : Type 0 where
   pub read : BeginsWith s.unread lines
   pub many : 2 ^ 64 - 1 ≤ length lines
 
+-- the journal, memory or a writer, which may fail anywhere
+abbrev pub IsAnywhere : LiveFault → Type 0
+IsAnywhere fault = (fault ≡ Journal) ⊎ ((fault ≡ Text Memory) ⊎ (fault ≡ Text Output))
+
 -- why a conversation ends before its input does
 abbrev pub StopsTalk : Start → Machine → Option (List ℕ) → Option (List ℕ) → (List Entry → Type 0) → LiveFault → Type 0
 StopsTalk s m left written stands (Text Input) = BreaksOff s m left written stands
@@ -133,6 +137,8 @@ StopsTalk s m left written stands (Text (Config field)) = ⊥
 StopsTalk s m left written stands (Text Memory) = Unit {0}
 StopsTalk s m left written stands (Text Output) = Unit {0}
 StopsTalk s m left written stands Journal = Unit {0}
+StopsTalk s m left written stands OtherConfig = ⊥
+StopsTalk s m left written stands (BadJournal line) = ⊥
 
 -- where a conversation begins with this scheduler
 abbrev pub start_at : Bool → Machine → Option (List ℕ) → Option (List ℕ) → Start

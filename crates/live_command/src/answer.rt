@@ -12,6 +12,7 @@ use crate::blank::is_spoken;
 use crate::fault::LineFault;
 use crate::outbox::Outbox;
 use crate::said::{Said, read_said};
+use json::Scratch;
 use line_stream::{Lines, MAX_LINE, Told};
 use minislots::Stamp;
 use sched_history::{Call, Reply, Scheduler, Unrecorded};
@@ -29,12 +30,16 @@ fn call_said(said: Said) -> Result<Call, LineFault>
 }
 
 // The call of a line that is not long, or its first fault.
-fn read_short(alloc: Global, line: &[u8]) -> Result<Result<Call, LineFault>, TextFault>
+fn read_short(
+    alloc: Global,
+    scratch: &mut Scratch,
+    line: &[u8],
+) -> Result<Result<Call, LineFault>, TextFault>
     requires { length line.now ≤ MAX_LINE }
     ensures ok { IfOk result (λ call. call ≡ call_of_line line.now) }
     ensures err { IfErr result (λ e. e ≡ TextFault.Memory) }
 {
-    match read_said(alloc, line) {
+    match read_said(alloc, scratch, line) {
         Ok(said) => Ok(call_said(said)),
         Err(TextFault::NotJson) => Ok(Err(LineFault::Json)),
         Err(_) => Err(TextFault::Memory),
@@ -43,14 +48,18 @@ fn read_short(alloc: Global, line: &[u8]) -> Result<Result<Call, LineFault>, Tex
 
 // The call of a line, or its first fault.
 #[tactic(auto, using(crate::proofs::Saying::call_of_long))]
-fn read_call(alloc: Global, line: &[u8]) -> Result<Result<Call, LineFault>, TextFault>
+fn read_call(
+    alloc: Global,
+    scratch: &mut Scratch,
+    line: &[u8],
+) -> Result<Result<Call, LineFault>, TextFault>
     ensures ok { IfOk result (λ call. call ≡ call_of_line line.now) }
     ensures err { IfErr result (λ e. e ≡ TextFault.Memory) }
 {
     if line.len() > MAX_LINE {
         return Ok(Err(LineFault::Long));
     }
-    read_short(alloc, line)
+    read_short(alloc, scratch, line)
 }
 
 // Makes a call. It has seat 0, and its place in the history for a ticket.
@@ -89,6 +98,7 @@ fn answer_call(
 // Answers a line.
 fn answer_text(
     alloc: Global,
+    scratch: &mut Scratch,
     scheduler: &mut Scheduler,
     outbox: &mut Outbox,
     line: &[u8],
@@ -102,7 +112,7 @@ fn answer_text(
     if !is_spoken(line) {
         return Ok(());
     }
-    match read_call(alloc, line) {
+    match read_call(alloc, scratch, line) {
         Ok(Ok(call)) => answer_call(scheduler, outbox, call, explained),
         Ok(Err(fault)) => outbox.put_fault(fault),
         Err(fault) => Err(fault),
@@ -112,6 +122,7 @@ fn answer_text(
 /// Answers the line that was told last: what is said goes behind what waits. Nothing is said to a blank line.
 pub(crate) fn answer(
     alloc: Global,
+    scratch: &mut Scratch,
     scheduler: &mut Scheduler,
     outbox: &mut Outbox,
     lines: &Lines,
@@ -125,6 +136,6 @@ pub(crate) fn answer(
 {
     match told {
         Told::Long => outbox.put_fault(LineFault::Long),
-        Told::Line => answer_text(alloc, scheduler, outbox, lines.line(), explained),
+        Told::Line => answer_text(alloc, scratch, scheduler, outbox, lines.line(), explained),
     }
 }

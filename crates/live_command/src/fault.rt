@@ -2,11 +2,10 @@
 
 ghost use Rattle.std.specs.Prelude.{◌≡◌};
 ghost use Rattle.text_stream.specs.declared.fault.TextFault.TheVariants.{Memory};
-ghost use Rattle.live_command.specs.declared.fault.LiveFault.TheVariants.{Text, Journal};
+ghost use Rattle.live_command.specs.declared.fault.LiveFault.TheVariants.{Text};
 ghost use Rattle.live_command.specs.Fault.{status_of};
 ghost use Rattle.live_command.specs.Spoken.{fault_words};
 
-use crate::journal::JournalFailed;
 use std::alloc::AllocError;
 use text_stream::{RunFault, TextFault};
 use thiserror::Error;
@@ -41,9 +40,15 @@ pub enum LiveFault {
     /// The opening was not read, a read failed, memory ran out or an answer was not written.
     #[error(transparent)]
     Text(TextFault),
-    /// An entry was not written to the journal.
+    /// The journal was not begun, or an entry was not written to it.
     #[error("journal failed")]
     Journal,
+    /// The opening has another configuration than the journal that was resumed.
+    #[error("other config")]
+    OtherConfig,
+    /// This line of the journal, counted from 0, is the first that is wrong.
+    #[error("bad journal at {0}")]
+    BadJournal(u64),
 }
 
 impl From<TextFault> for LiveFault {
@@ -62,14 +67,6 @@ impl From<AllocError> for LiveFault {
     }
 }
 
-impl From<JournalFailed> for LiveFault {
-    ghost from_gives = { λ _ made. made ≡ Journal };
-
-    fn from(_e: JournalFailed) -> LiveFault {
-        LiveFault::Journal
-    }
-}
-
 impl LiveFault {
     /// The exit status of the program: 3 for a fault of the input, 4 for one of the machine.
     pub fn status(self) -> u8
@@ -78,6 +75,7 @@ impl LiveFault {
         match self {
             LiveFault::Text(fault) => RunFault::Text(fault).status(),
             LiveFault::Journal => 4,
+            LiveFault::OtherConfig | LiveFault::BadJournal(_) => 3,
         }
     }
 }

@@ -1,39 +1,64 @@
 //! What a conversation is recorded in.
 
-ghost use Rattle.std.specs.Prelude.{◌≡◌, Bool, true, false, List, [], OnOk, OnErr};
+ghost use Rattle.std.specs.Prelude.{◌≡◌, Bool, true, false, List, OnOk, OnErr};
 ghost use Rattle.std.specs.List.{AllByRecursion};
+ghost use Rattle.minislots.specs.declared.config.Config.{Config as Configuration};
 ghost use Rattle.sched_history.specs.declared.reply.Entry.{Entry as Recorded};
 ghost use Rattle.sched_history.specs.Machine.{IsEncodable};
-ghost use Rattle.text_stream.specs.Watched.{TellsFailure};
-ghost use Rattle.live_command.specs.Journal.{Grows, GrowsInPart};
+ghost use Rattle.live_command.specs.Journal.{Keeps, Grows, GrowsInPart, FailsJustBy};
 
 use minislots::Checked;
 use sched_history::Entry;
 
-/// A call of a journal failed.
+/// Why a journal does not begin.
 #[derive(Clone, Copy, Debug, PartialEq, Eq)]
-pub struct JournalFailed;
+pub enum BeginFault {
+    /// Memory ran out.
+    Memory,
+    /// What it has is no front of a journal under this configuration.
+    Other,
+    /// A call of it failed: a write, a cut, or that what was written reaches the device.
+    Failed,
+}
+
+/// Why entries are not recorded.
+#[derive(Clone, Copy, Debug, PartialEq, Eq)]
+pub enum RecordFault {
+    /// Memory ran out.
+    Memory,
+    /// A call of it failed.
+    Failed,
+}
 
 /// What a conversation is recorded in, so that another one can resume it.
 pub trait Journal {
-    /// Whether it stands for these entries; true, too, where nothing is known of it.
-    ghost stands_for: { Self → List Recorded → Type 0 } = { λ _ _. Unit {0} };
+    /// Whether it was begun, and stands for this configuration and these entries; true, too, where nothing is known of
+    /// it.
+    ghost stands_for: { Self → Configuration → List Recorded → Type 0 } = { λ _ _ _. Unit {0} };
+
+    /// Whether it stands for this configuration and these entries once it is begun under it: it does already, but for
+    /// what is to be cut behind them, or there are none and it has no whole line. True, too, where nothing is known.
+    ghost may_begin: { Self → Configuration → List Recorded → Type 0 } = { λ _ _ _. Unit {0} };
 
     /// Whether a call has failed; true, too, where nothing is known of it.
     ghost has_failed: { Self → Bool } = { λ _. true };
 
-    /// Begins it under this configuration, or makes it ready to go on where it was begun.
-    fn begin(&mut self, config: &Checked) -> Result<(), JournalFailed>
-        ensures same { Grows (stands_for self.old) (stands_for self.new) [] }
-        ensures failed { TellsFailure result (has_failed self.old) (has_failed self.new) };
+    /// Begins it under this configuration, or makes it ready to go on where it was begun. Nothing of it is changed
+    /// before.
+    fn begin(&mut self, config: &Checked) -> Result<(), BeginFault>
+        ensures ok { OnOk result (Keeps (may_begin self.old config.now) (stands_for self.new config.now)) }
+        ensures err { OnErr result (Keeps (may_begin self.old config.now) (may_begin self.new config.now)) }
+        ensures failed { FailsJustBy BeginFault.Failed result (has_failed self.old) (has_failed self.new) };
 
     /// Puts entries behind those that it stands for. At the return all of them are in it; where the call failed, the
     /// first of them may be.
-    fn record(&mut self, entries: &[Entry]) -> Result<(), JournalFailed>
+    fn record(&mut self, entries: &[Entry]) -> Result<(), RecordFault>
         requires { AllByRecursion (λ e. IsEncodable e.reply) entries.now }
-        ensures ok { OnOk result (Grows (stands_for self.old) (stands_for self.new) entries.now) }
-        ensures err { OnErr result (GrowsInPart (stands_for self.old) (stands_for self.new) entries.now) }
-        ensures failed { TellsFailure result (has_failed self.old) (has_failed self.new) };
+        ensures ok { OnOk result ((c : Configuration) →
+            Grows (stands_for self.old c) (stands_for self.new c) entries.now) }
+        ensures err { OnErr result ((c : Configuration) →
+            GrowsInPart (stands_for self.old c) (stands_for self.new c) entries.now) }
+        ensures failed { FailsJustBy RecordFault.Failed result (has_failed self.old) (has_failed self.new) };
 }
 
 /// The journal of a conversation that is not recorded.
@@ -43,11 +68,11 @@ pub struct NoJournal;
 impl Journal for NoJournal {
     ghost has_failed = { λ _. false };
 
-    fn begin(&mut self, _config: &Checked) -> Result<(), JournalFailed> {
+    fn begin(&mut self, _config: &Checked) -> Result<(), BeginFault> {
         Ok(())
     }
 
-    fn record(&mut self, _entries: &[Entry]) -> Result<(), JournalFailed> {
+    fn record(&mut self, _entries: &[Entry]) -> Result<(), RecordFault> {
         Ok(())
     }
 }

@@ -4,9 +4,11 @@
 mod answer;
 mod blank;
 mod fault;
+mod going;
 mod input;
 mod journal;
 mod live;
+mod noting;
 mod opening;
 mod outbox;
 mod said;
@@ -14,7 +16,8 @@ mod talk;
 mod turn;
 
 pub use fault::{LineFault, LiveFault};
+pub use going::go_on;
 pub use input::live_input;
-pub use journal::{Journal, JournalFailed, NoJournal};
+pub use journal::{BeginFault, Journal, NoJournal, RecordFault};
 pub use live::hold;
 pub use talk::converse;

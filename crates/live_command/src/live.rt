@@ -1,6 +1,7 @@
 //! A conversation from its opening on.
 
 ghost use Rattle.std.specs.Prelude.{◌≡◌, [], IfErr, OnOk};
+ghost use Rattle.minislots.specs.declared.config.Config.{Config};
 ghost use Rattle.text_stream.specs.Watched.{FailsBy};
 ghost use Rattle.live_command.specs.declared.fault.LiveFault.TheVariants.{Text, Journal as Failed};
 ghost use Rattle.live_command.specs.Held.{Held, Ends, NotOpened};
@@ -8,15 +9,18 @@ ghost use Rattle.live_command.specs.Journal.{FailsJustBy};
 
 use crate::fault::LiveFault;
 use crate::journal::Journal;
+use crate::noting::begin;
 use crate::opening::read_opening;
-use crate::talk::converse;
+use crate::talk::talk_from;
+use json::Scratch;
 use line_stream::Lines;
 use sched_history::Scheduler;
 use std::alloc::Global;
 use text_stream::{Sink, Source, TextFault};
 
 /// Reads the opening of a conversation, which has its configuration, begins the journal, and converses with a new
-/// scheduler to the end of the input. The journal has no entry before.
+/// scheduler to the end of the input. The journal has no whole line before, and is not changed before the opening was
+/// read.
 pub fn hold<R: Source, W: Sink, J: Journal>(
     alloc: Global,
     reader: &mut R,
@@ -24,32 +28,35 @@ pub fn hold<R: Source, W: Sink, J: Journal>(
     journal: &mut J,
     explained: bool,
 ) -> Result<(), LiveFault>
-    requires { J.stands_for journal.old [] }
+    requires { (c : Config) → J.may_begin journal.old c [] }
 
     // The opening was read, and all lines behind it were answered.
     ensures ok { OnOk result (Held explained (R.remaining reader.old) (R.remaining reader.new)
         (W.contents writer.old) (W.contents writer.new) (J.stands_for journal.new)) }
 
-    // Else no opening was read, and nothing was written; or the conversation ended early.
+    // Else no opening was read, or the journal did not begin, and nothing was written; or the conversation ended early.
     ensures ends { IfErr result (Ends explained (R.remaining reader.old) (R.remaining reader.new)
-        (W.contents writer.old) (W.contents writer.new) (J.stands_for journal.new)
-        (NotOpened writer.old writer.new journal.old journal.new)) }
+        (W.contents writer.old) (W.contents writer.new) (J.may_begin journal.new) (J.stands_for journal.new)
+        (NotOpened writer.old writer.new journal.old journal.new) (writer.new ≡ writer.old)) }
 
     // A failed read or write is told where one has failed, and where all went well none did.
     ensures failed_read { FailsBy (Text TextFault.Input) result (R.has_failed reader.old)
         (R.has_failed reader.new) }
-    ensures failed_write { FailsBy (Text TextFault.Output) result (W.has_failed writer.old)
+    ensures failed_write { FailsJustBy (Text TextFault.Output) result (W.has_failed writer.old)
         (W.has_failed writer.new) }
     ensures failed_journal { FailsJustBy Failed result (J.has_failed journal.old) (J.has_failed journal.new) }
 {
     let mut lines = Lines::new();
-    let config = read_opening(alloc, &mut lines, reader)?;
+    let mut scratch = Scratch::new(alloc);
+    let config = read_opening(alloc, &mut scratch, &mut lines, reader)?;
     let mut scheduler = Scheduler::open(alloc, config)?;
-    journal.begin(&config)?;
-    converse(
+    begin(journal, &config)?;
+    talk_from(
         alloc,
+        &mut scratch,
         &mut scheduler,
         &mut lines,
+        None,
         reader,
         writer,
         journal,

@@ -9,6 +9,7 @@ ghost use Rattle.live_command.specs.Opening.{config_said, opening_in, Opens, Sto
 
 use crate::blank::is_told_spoken;
 use crate::said::{Said, read_said};
+use json::Scratch;
 use line_stream::{Lines, Told};
 use minislots::{Checked, Config};
 use std::alloc::Global;
@@ -24,19 +25,26 @@ fn config_said(said: Said) -> Result<Config, TextFault>
     }
 }
 
-// The configuration that the text of an opening says, where it is lawful.
+/// The configuration that the text of an opening says, where it is lawful.
 #[tactic(auto, unfolding(crate::specs::Opening::opening_in))]
-fn opening_in(alloc: Global, line: &[u8]) -> Result<Checked, TextFault>
+pub(crate) fn opening_in(
+    alloc: Global,
+    scratch: &mut Scratch,
+    line: &[u8],
+) -> Result<Checked, TextFault>
     ensures { Gives (λ config. config) result (opening_in line.now) }
 {
-    let said = read_said(alloc, line)?;
+    let said = read_said(alloc, scratch, line)?;
     let config = config_said(said)?;
     let config = config.check()?;
     Ok(config)
 }
 
-// Tells the next line that is not blank; none where there is none.
-fn next_spoken<R: Source>(lines: &mut Lines, reader: &mut R) -> Result<Option<Told>, TextFault>
+/// Tells the next line that is not blank; none where there is none.
+pub(crate) fn next_spoken<R: Source>(
+    lines: &mut Lines,
+    reader: &mut R,
+) -> Result<Option<Told>, TextFault>
     ensures finds { IfOk result (FindsSpoken (untold lines.old (R.remaining reader.old))
         (untold lines.new (R.remaining reader.new)) lines.new) }
     ensures stops { IfErr result (StopsBefore (untold lines.old (R.remaining reader.old)) (R.remaining reader.new)) }
@@ -56,6 +64,7 @@ fn next_spoken<R: Source>(lines: &mut Lines, reader: &mut R) -> Result<Option<To
 /// Reads the opening: the first line that is not blank.
 pub(crate) fn read_opening<R: Source>(
     alloc: Global,
+    scratch: &mut Scratch,
     lines: &mut Lines,
     reader: &mut R,
 ) -> Result<Checked, TextFault>
@@ -65,7 +74,7 @@ pub(crate) fn read_opening<R: Source>(
     ensures failed { FailsBy TextFault.Input result (R.has_failed reader.old) (R.has_failed reader.new) }
 {
     match next_spoken(lines, reader)? {
-        Some(Told::Line) => opening_in(alloc, lines.line()),
+        Some(Told::Line) => opening_in(alloc, scratch, lines.line()),
         Some(Told::Long) => Err(TextFault::TooLong),
         None => Err(TextFault::NotJson),
     }

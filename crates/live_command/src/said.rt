@@ -36,14 +36,13 @@ fn said_by<T: Tree>(value: &T) -> Said
 }
 
 // What a text says, read from its tokens.
-fn read_tokens(alloc: Global, bytes: &[u8]) -> Result<Said, Stop>
+fn read_tokens(alloc: Global, scratch: &mut Scratch, bytes: &[u8]) -> Result<Said, Stop>
     ensures { IfOk result (λ said. said_in bytes.now ≡ Ok said) }
 {
     let Ok(text) = std::str::from_utf8(bytes) else {
         return Err(Stop::Unusual);
     };
-    let mut scratch = Scratch::new(alloc);
-    let mut reader = Reader::new(text, &mut scratch)?;
+    let mut reader = Reader::new(text, scratch)?;
     let value = read_plain(alloc, &mut reader, MAX_DEPTH)?;
     if reader.next().is_some() {
         return Err(Stop::Unusual);
@@ -62,11 +61,15 @@ fn read_tree(alloc: Global, bytes: &[u8]) -> Result<Said, TextFault>
 }
 
 /// What the text of a line says. One that has other values than whole numbers, texts, arrays and objects is read as a
-/// tree, and so is one that is not JSON.
-pub(crate) fn read_said(alloc: Global, bytes: &[u8]) -> Result<Said, TextFault>
+/// tree, and so is one that is not JSON. What memory the scratch has is used again from text to text.
+pub(crate) fn read_said(
+    alloc: Global,
+    scratch: &mut Scratch,
+    bytes: &[u8],
+) -> Result<Said, TextFault>
     ensures { Gives (λ said. said) result (said_in bytes.now) }
 {
-    match read_tokens(alloc, bytes) {
+    match read_tokens(alloc, scratch, bytes) {
         Ok(said) => Ok(said),
         Err(Stop::Memory) => Err(TextFault::Memory),
         Err(Stop::Unusual) => read_tree(alloc, bytes),

@@ -1,20 +1,114 @@
 //! A conversation, from the first line behind its opening to the end of its input.
 
-ghost use Rattle.std.specs.Prelude.{◌≡◌, length, IfErr, OnOk};
+ghost use Rattle.std.specs.Prelude.{◌≡◌, [], length, IfErr, OnOk, MatchResult, MatchOption};
 ghost use Rattle.line_stream.specs.Told.{untold};
 ghost use Rattle.text_stream.specs.Watched.{FailsBy};
 ghost use Rattle.live_command.specs.declared.fault.LiveFault.TheVariants.{Text, Journal as Failed};
 ghost use Rattle.live_command.specs.Journal.{FailsJustBy};
-ghost use Rattle.live_command.specs.Talk.{start_at, Conversed, Stopped, StopsTalk};
+ghost use Rattle.live_command.specs.Talk.{Start, start_at, Talk, TellsOn, Conversed, Stopped, StopsTalk};
 
 use crate::fault::LiveFault;
 use crate::journal::Journal;
 use crate::outbox::Outbox;
-use crate::turn::{settle, take_turn};
-use line_stream::Lines;
+use crate::turn::{settle, take_first, take_turn};
+use json::Scratch;
+use line_stream::{Lines, Told};
 use sched_history::Scheduler;
 use std::alloc::Global;
 use text_stream::{Sink, Source, TextFault};
+
+// Converses to the end of the input, where answers may wait.
+fn talk_on<R: Source, W: Sink, J: Journal>(
+    alloc: Global,
+    scratch: &mut Scratch,
+    scheduler: &mut Scheduler,
+    outbox: &mut Outbox,
+    lines: &mut Lines,
+    reader: &mut R,
+    writer: &mut W,
+    journal: &mut J,
+    explained: bool,
+) -> Result<(), LiveFault>
+    ensures talk { (s : Start) → s.explained ≡ explained →
+        Talk s 0 scheduler.old (untold lines.old (R.remaining reader.old)) (W.contents writer.old)
+        (J.stands_for journal.old s.config) outbox.old →
+        MatchResult result
+        (λ _. Conversed s scheduler.new (untold lines.new (R.remaining reader.new)) (W.contents writer.new)
+        (J.stands_for journal.new s.config))
+        (λ e. Stopped s (W.contents writer.new) (J.stands_for journal.new s.config)
+        × StopsTalk s scheduler.new (R.remaining reader.new) (W.contents writer.new)
+        (J.stands_for journal.new s.config) e) }
+    ensures failed_read { FailsBy (Text TextFault.Input) result (R.has_failed reader.old)
+        (R.has_failed reader.new) }
+    ensures failed_write { FailsJustBy (Text TextFault.Output) result (W.has_failed writer.old)
+        (W.has_failed writer.new) }
+    ensures failed_journal { FailsJustBy Failed result (J.has_failed journal.old) (J.has_failed journal.new) }
+{
+    for _ in 0..u64::MAX {
+        if !take_turn(
+            alloc, scratch, scheduler, outbox, lines, reader, writer, journal, explained,
+        )? {
+            return Ok(());
+        }
+    }
+    settle(scheduler, outbox, writer, journal)?;
+    Err(LiveFault::Text(TextFault::TooLong))
+}
+
+/// Converses from the line that was told last, where it is to be answered, to the end of the input.
+pub(crate) fn talk_from<R: Source, W: Sink, J: Journal>(
+    alloc: Global,
+    scratch: &mut Scratch,
+    scheduler: &mut Scheduler,
+    lines: &mut Lines,
+    told: Option<Told>,
+    reader: &mut R,
+    writer: &mut W,
+    journal: &mut J,
+    explained: bool,
+) -> Result<(), LiveFault>
+    ensures talk { (s : Start) → s.explained ≡ explained →
+        MatchOption told
+        (Talk s 0 scheduler.old (untold lines.old (R.remaining reader.old)) (W.contents writer.old)
+        (J.stands_for journal.old s.config) [])
+        (TellsOn s 0 scheduler.old (untold lines.old (R.remaining reader.old)) (W.contents writer.old)
+        (J.stands_for journal.old s.config) [] lines.old) →
+        MatchResult result
+        (λ _. Conversed s scheduler.new (untold lines.new (R.remaining reader.new)) (W.contents writer.new)
+        (J.stands_for journal.new s.config))
+        (λ e. Stopped s (W.contents writer.new) (J.stands_for journal.new s.config)
+        × StopsTalk s scheduler.new (R.remaining reader.new) (W.contents writer.new)
+        (J.stands_for journal.new s.config) e) }
+    ensures failed_read { FailsBy (Text TextFault.Input) result (R.has_failed reader.old)
+        (R.has_failed reader.new) }
+    ensures failed_write { FailsJustBy (Text TextFault.Output) result (W.has_failed writer.old)
+        (W.has_failed writer.new) }
+    ensures failed_journal { FailsJustBy Failed result (J.has_failed journal.old) (J.has_failed journal.new) }
+{
+    let mut outbox = Outbox::new(alloc)?;
+    take_first(
+        alloc,
+        scratch,
+        scheduler,
+        &mut outbox,
+        lines,
+        told,
+        writer,
+        journal,
+        explained,
+    )?;
+    talk_on(
+        alloc,
+        scratch,
+        scheduler,
+        &mut outbox,
+        lines,
+        reader,
+        writer,
+        journal,
+        explained,
+    )
+}
 
 /// Reads lines to the end of an input, and answers each that is not blank by one line: a call as a run does, with seat 0
 /// and its place in the whole history for a ticket, and any other with what is wrong with it. Before an answer is
@@ -30,44 +124,40 @@ pub fn converse<R: Source, W: Sink, J: Journal>(
     explained: bool,
 ) -> Result<(), LiveFault>
     requires handed { scheduler.old.handed ≡ length scheduler.old.history }
-    requires stands { J.stands_for journal.old scheduler.old.history }
+    requires stands { J.stands_for journal.old scheduler.old.config scheduler.old.history }
 
     // All lines were answered, and nothing else was written; the journal stands for the whole history.
     ensures ok { OnOk result (Conversed
         (start_at explained scheduler.old (untold lines.old (R.remaining reader.old)) (W.contents writer.old))
         scheduler.new (untold lines.new (R.remaining reader.new)) (W.contents writer.new)
-        (J.stands_for journal.new)) }
+        (J.stands_for journal.new scheduler.old.config)) }
 
     // Wherever else it ended, the journal has the entry of each answer of which a byte was written.
     ensures stopped { IfErr result (λ _. Stopped
         (start_at explained scheduler.old (untold lines.old (R.remaining reader.old)) (W.contents writer.old))
-        (W.contents writer.new) (J.stands_for journal.new)) }
+        (W.contents writer.new) (J.stands_for journal.new scheduler.old.config)) }
     ensures stops { IfErr result (StopsTalk
         (start_at explained scheduler.old (untold lines.old (R.remaining reader.old)) (W.contents writer.old))
-        scheduler.new (R.remaining reader.new) (W.contents writer.new) (J.stands_for journal.new)) }
+        scheduler.new (R.remaining reader.new) (W.contents writer.new)
+        (J.stands_for journal.new scheduler.old.config)) }
 
     // A failed read or write is told where one has failed, and where all went well none did.
     ensures failed_read { FailsBy (Text TextFault.Input) result (R.has_failed reader.old)
         (R.has_failed reader.new) }
-    ensures failed_write { FailsBy (Text TextFault.Output) result (W.has_failed writer.old)
+    ensures failed_write { FailsJustBy (Text TextFault.Output) result (W.has_failed writer.old)
         (W.has_failed writer.new) }
     ensures failed_journal { FailsJustBy Failed result (J.has_failed journal.old) (J.has_failed journal.new) }
 {
-    let mut outbox = Outbox::new(alloc)?;
-    for _ in 0..u64::MAX {
-        if !take_turn(
-            alloc,
-            scheduler,
-            &mut outbox,
-            lines,
-            reader,
-            writer,
-            journal,
-            explained,
-        )? {
-            return Ok(());
-        }
-    }
-    settle(scheduler, &mut outbox, writer, journal)?;
-    Err(LiveFault::Text(TextFault::TooLong))
+    let mut scratch = Scratch::new(alloc);
+    talk_from(
+        alloc,
+        &mut scratch,
+        scheduler,
+        lines,
+        None,
+        reader,
+        writer,
+        journal,
+        explained,
+    )
 }

@@ -1,18 +1,20 @@
 //! A turn of a conversation: the next line is read, and answered.
 
-ghost use Rattle.std.specs.Prelude.{◌≡◌, ◌⊎◌, ◌<◌, ℕ, List, Option, [], length, IfErr, OnOk, MatchResult};
+ghost use Rattle.std.specs.Prelude.{◌≡◌, ◌<◌, ◌+◌, ℕ, List, Option, [], length, IfErr, OnOk, MatchResult};
 ghost use Rattle.std.specs.Prelude.{MatchOption};
 ghost use Rattle.line_stream.specs.Told.{untold};
 ghost use Rattle.sched_history.specs.Machine.{kept_of};
 ghost use Rattle.text_stream.specs.Watched.{FailsBy};
 ghost use Rattle.live_command.specs.declared.fault.LiveFault.TheVariants.{Text, Journal as Failed};
 ghost use Rattle.live_command.specs.Journal.{FailsJustBy};
-ghost use Rattle.live_command.specs.Talk.{Start, Talk, TellsOn, IsTurn, Conversed, Stopped, StopsTalk};
+ghost use Rattle.live_command.specs.Talk.{Start, Talk, TellsOn, IsTurn, IsAnywhere, Conversed, Stopped, StopsTalk};
 
 use crate::answer::answer;
 use crate::fault::LiveFault;
 use crate::journal::Journal;
+use crate::noting::record;
 use crate::outbox::Outbox;
+use json::Scratch;
 use line_stream::{Lines, Told};
 use sched_history::Scheduler;
 use std::alloc::Global;
@@ -26,19 +28,19 @@ pub(crate) fn settle<W: Sink, J: Journal>(
     journal: &mut J,
 ) -> Result<(), LiveFault>
     ensures talk { (s : Start) (turns : ℕ) (left : Option (List ℕ)) →
-        Talk s turns scheduler.old left (W.contents writer.old) (J.stands_for journal.old) outbox.old →
+        Talk s turns scheduler.old left (W.contents writer.old) (J.stands_for journal.old s.config) outbox.old →
         MatchResult result
-        (λ _. Talk s turns scheduler.new left (W.contents writer.new) (J.stands_for journal.new) outbox.new
-        × J.stands_for journal.new scheduler.new.history)
-        (λ _. Stopped s (W.contents writer.new) (J.stands_for journal.new)) }
+        (λ _. Talk s turns scheduler.new left (W.contents writer.new) (J.stands_for journal.new s.config) outbox.new
+        × J.stands_for journal.new s.config scheduler.new.history)
+        (λ _. Stopped s (W.contents writer.new) (J.stands_for journal.new s.config)) }
     ensures settled { OnOk result (outbox.new ≡ []) }
     ensures handed { OnOk result (scheduler.new ≡ record scheduler.old { handed = length scheduler.old.history }) }
-    ensures err { IfErr result (λ e. (e ≡ Failed) ⊎ ((e ≡ Text TextFault.Memory) ⊎ (e ≡ Text TextFault.Output))) }
-    ensures failed_write { FailsBy (Text TextFault.Output) result (W.has_failed writer.old)
+    ensures err { IfErr result IsAnywhere }
+    ensures failed_write { FailsJustBy (Text TextFault.Output) result (W.has_failed writer.old)
         (W.has_failed writer.new) }
     ensures failed_journal { FailsJustBy Failed result (J.has_failed journal.old) (J.has_failed journal.new) }
 {
-    journal.record(scheduler.history())?;
+    record(journal, scheduler.history())?;
     scheduler.forget();
     outbox.send(writer)?;
     Ok(())
@@ -52,13 +54,13 @@ fn make_room<W: Sink, J: Journal>(
     journal: &mut J,
 ) -> Result<(), LiveFault>
     ensures talk { (s : Start) (turns : ℕ) (left : Option (List ℕ)) →
-        Talk s turns scheduler.old left (W.contents writer.old) (J.stands_for journal.old) outbox.old →
+        Talk s turns scheduler.old left (W.contents writer.old) (J.stands_for journal.old s.config) outbox.old →
         MatchResult result
-        (λ _. Talk s turns scheduler.new left (W.contents writer.new) (J.stands_for journal.new) outbox.new)
-        (λ _. Stopped s (W.contents writer.new) (J.stands_for journal.new)) }
+        (λ _. Talk s turns scheduler.new left (W.contents writer.new) (J.stands_for journal.new s.config) outbox.new)
+        (λ _. Stopped s (W.contents writer.new) (J.stands_for journal.new s.config)) }
     ensures room { OnOk result (length (kept_of scheduler.new) < scheduler.new.config.calls) }
-    ensures err { IfErr result (λ e. (e ≡ Failed) ⊎ ((e ≡ Text TextFault.Memory) ⊎ (e ≡ Text TextFault.Output))) }
-    ensures failed_write { FailsBy (Text TextFault.Output) result (W.has_failed writer.old)
+    ensures err { IfErr result IsAnywhere }
+    ensures failed_write { FailsJustBy (Text TextFault.Output) result (W.has_failed writer.old)
         (W.has_failed writer.new) }
     ensures failed_journal { FailsJustBy Failed result (J.has_failed journal.old) (J.has_failed journal.new) }
 {
@@ -80,18 +82,19 @@ fn next_line<R: Source, W: Sink, J: Journal>(
 ) -> Result<Option<Told>, LiveFault>
     ensures talk { (s : Start) (turns : ℕ) →
         Talk s turns scheduler.old (untold lines.old (R.remaining reader.old)) (W.contents writer.old)
-        (J.stands_for journal.old) outbox.old →
+        (J.stands_for journal.old s.config) outbox.old →
         MatchResult result
         (λ told. MatchOption told
         (Conversed s scheduler.new (untold lines.new (R.remaining reader.new)) (W.contents writer.new)
-        (J.stands_for journal.new))
+        (J.stands_for journal.new s.config))
         (TellsOn s turns scheduler.new (untold lines.new (R.remaining reader.new)) (W.contents writer.new)
-        (J.stands_for journal.new) outbox.new lines.new))
-        (λ e. Stopped s (W.contents writer.new) (J.stands_for journal.new)
-        × StopsTalk s scheduler.new (R.remaining reader.new) (W.contents writer.new) (J.stands_for journal.new) e) }
+        (J.stands_for journal.new s.config) outbox.new lines.new))
+        (λ e. Stopped s (W.contents writer.new) (J.stands_for journal.new s.config)
+        × StopsTalk s scheduler.new (R.remaining reader.new) (W.contents writer.new)
+        (J.stands_for journal.new s.config) e) }
     ensures failed_read { FailsBy (Text TextFault.Input) result (R.has_failed reader.old)
         (R.has_failed reader.new) }
-    ensures failed_write { FailsBy (Text TextFault.Output) result (W.has_failed writer.old)
+    ensures failed_write { FailsJustBy (Text TextFault.Output) result (W.has_failed writer.old)
         (W.has_failed writer.new) }
     ensures failed_journal { FailsJustBy Failed result (J.has_failed journal.old) (J.has_failed journal.new) }
 {
@@ -103,9 +106,72 @@ fn next_line<R: Source, W: Sink, J: Journal>(
     Ok(told)
 }
 
+// Answers the line that was told.
+fn take_told<W: Sink, J: Journal>(
+    alloc: Global,
+    scratch: &mut Scratch,
+    scheduler: &mut Scheduler,
+    outbox: &mut Outbox,
+    lines: &Lines,
+    told: Told,
+    writer: &mut W,
+    journal: &mut J,
+    explained: bool,
+) -> Result<(), LiveFault>
+    ensures talk { (s : Start) (turns : ℕ) (left : Option (List ℕ)) → s.explained ≡ explained →
+        TellsOn s turns scheduler.old left (W.contents writer.old) (J.stands_for journal.old s.config) outbox.old
+        lines.now told →
+        MatchResult result
+        (λ _. Talk s (turns + 1) scheduler.new left (W.contents writer.new) (J.stands_for journal.new s.config)
+        outbox.new)
+        (λ _. Stopped s (W.contents writer.new) (J.stands_for journal.new s.config)) }
+    ensures err { IfErr result IsAnywhere }
+    ensures failed_write { FailsJustBy (Text TextFault.Output) result (W.has_failed writer.old)
+        (W.has_failed writer.new) }
+    ensures failed_journal { FailsJustBy Failed result (J.has_failed journal.old) (J.has_failed journal.new) }
+{
+    make_room(scheduler, outbox, writer, journal)?;
+    answer(alloc, scratch, scheduler, outbox, lines, told, explained)?;
+    Ok(())
+}
+
+// Answers the line that was told, where one was.
+pub(crate) fn take_first<W: Sink, J: Journal>(
+    alloc: Global,
+    scratch: &mut Scratch,
+    scheduler: &mut Scheduler,
+    outbox: &mut Outbox,
+    lines: &Lines,
+    told: Option<Told>,
+    writer: &mut W,
+    journal: &mut J,
+    explained: bool,
+) -> Result<(), LiveFault>
+    ensures talk { (s : Start) (left : Option (List ℕ)) → s.explained ≡ explained →
+        MatchOption told
+        (Talk s 0 scheduler.old left (W.contents writer.old) (J.stands_for journal.old s.config) outbox.old)
+        (TellsOn s 0 scheduler.old left (W.contents writer.old) (J.stands_for journal.old s.config) outbox.old
+        lines.now) →
+        MatchResult result
+        (λ _. Talk s 0 scheduler.new left (W.contents writer.new) (J.stands_for journal.new s.config) outbox.new)
+        (λ _. Stopped s (W.contents writer.new) (J.stands_for journal.new s.config)) }
+    ensures err { IfErr result IsAnywhere }
+    ensures failed_write { FailsJustBy (Text TextFault.Output) result (W.has_failed writer.old)
+        (W.has_failed writer.new) }
+    ensures failed_journal { FailsJustBy Failed result (J.has_failed journal.old) (J.has_failed journal.new) }
+{
+    match told {
+        Some(told) => take_told(
+            alloc, scratch, scheduler, outbox, lines, told, writer, journal, explained,
+        ),
+        None => Ok(()),
+    }
+}
+
 // Reads a line and answers it; false where all lines were answered.
 pub(crate) fn take_turn<R: Source, W: Sink, J: Journal>(
     alloc: Global,
+    scratch: &mut Scratch,
     scheduler: &mut Scheduler,
     outbox: &mut Outbox,
     lines: &mut Lines,
@@ -116,22 +182,24 @@ pub(crate) fn take_turn<R: Source, W: Sink, J: Journal>(
 ) -> Result<bool, LiveFault>
     ensures talk { (s : Start) (turns : ℕ) → s.explained ≡ explained →
         Talk s turns scheduler.old (untold lines.old (R.remaining reader.old)) (W.contents writer.old)
-        (J.stands_for journal.old) outbox.old →
+        (J.stands_for journal.old s.config) outbox.old →
         MatchResult result
         (IsTurn s turns scheduler.new (untold lines.new (R.remaining reader.new)) (W.contents writer.new)
-        (J.stands_for journal.new) outbox.new)
-        (λ e. Stopped s (W.contents writer.new) (J.stands_for journal.new)
-        × StopsTalk s scheduler.new (R.remaining reader.new) (W.contents writer.new) (J.stands_for journal.new) e) }
+        (J.stands_for journal.new s.config) outbox.new)
+        (λ e. Stopped s (W.contents writer.new) (J.stands_for journal.new s.config)
+        × StopsTalk s scheduler.new (R.remaining reader.new) (W.contents writer.new)
+        (J.stands_for journal.new s.config) e) }
     ensures failed_read { FailsBy (Text TextFault.Input) result (R.has_failed reader.old)
         (R.has_failed reader.new) }
-    ensures failed_write { FailsBy (Text TextFault.Output) result (W.has_failed writer.old)
+    ensures failed_write { FailsJustBy (Text TextFault.Output) result (W.has_failed writer.old)
         (W.has_failed writer.new) }
     ensures failed_journal { FailsJustBy Failed result (J.has_failed journal.old) (J.has_failed journal.new) }
 {
     let Some(told) = next_line(scheduler, outbox, lines, reader, writer, journal)? else {
         return Ok(false);
     };
-    make_room(scheduler, outbox, writer, journal)?;
-    answer(alloc, scheduler, outbox, lines, told, explained)?;
+    take_told(
+        alloc, scratch, scheduler, outbox, lines, told, writer, journal, explained,
+    )?;
     Ok(true)
 }

@@ -3,8 +3,8 @@ use Rattle.std.proofs.Common.{◌≡◌, ℕ, List, [], Option, Ok, refl, ap, su
 use Rattle.std.proofs.lemmas.Result.{err_from_is_err_and}
 use Rattle.sched_history.specs.Machine.{Machine}
 use Rattle.line_stream.specs.Told.{AtHand, untold}
+use Rattle.live_command.specs.Held.{start_new}
 use Rattle.live_command.specs.Opening.{Opens, StopsOpening}
-use Rattle.live_command.proofs.Talking.{Stopped-quiet}
 use Rattle.live_command.proofs.Turning.{Talk-start}
 use Rattle.live_command.proofs.Holding.{none_at_hand, ends_early, ends_well}
 use Rattle.live_command.proofs.live.hold.Goals as goal
@@ -30,17 +30,17 @@ returns-in_err-begin-clause-ends g c =
     let same : untold c.new-lines.result unread ≡ unread =
     ap (λ (h : AtHand). untold h unread) c.new-lines.ensures ∙ none_at_hand unread in
     let opened = subst (λ (u : Option (List ℕ)). Opens u behind (Ok config)) same c.in_ok-config.ensures.ok in
-    let m : Machine = record { config = config; history = []; handed = 0 } in
-    let start = Talk-start c.args.explained m behind (g.W.Sink.contents c.args.writer.now)
-    (g.J.Journal.stands_for c.begin.new.self) refl (c.in_err-begin.ensures.same [] c.requires) in
-    rw (p.1, p.2) (inr (record {
+    rw (p.1, p.2) (inr (inl (record {
       config = config;
       behind = behind;
       opened = opened;
-      stopped = Stopped-quiet _ 0 _ _ _ _ _ start;
-      scheduler = m;
-      stops = tt;
-    }))
+      unbegun = record {
+        why = c.in_err-begin.ensures.why.0;
+        is = c.in_err-begin.ensures.why.1;
+        unwritten = refl;
+        begins = c.in_err-begin.ensures.err [] (c.requires config);
+      };
+    })))
 
 pub returns-clause-ok : goal.returns-clause-ok
 returns-clause-ok g c =
@@ -50,9 +50,14 @@ returns-clause-ok g c =
     let same : untold c.new-lines.result unread ≡ unread =
     ap (λ (h : AtHand). untold h unread) c.new-lines.ensures ∙ none_at_hand unread in
     let opened = subst (λ (u : Option (List ℕ)). Opens u behind (Ok config)) same c.in_ok-config.ensures.ok in
-    let conversed = rw c.in_ok-scheduler.ensures at c.converse.ensures.ok in
-    ends_well c.args.explained config unread behind _ _ _ _ _ opened c.converse.new.lines.bytes c.converse.result
-    conversed
+    let m : Machine = record { config = config; history = []; handed = 0 } in
+    let stands = g.J.Journal.stands_for c.begin.new.journal in
+    let start = Talk-start c.args.explained m behind (g.W.Sink.contents c.args.writer.now) (stands config) refl
+    (c.in_ok-begin.ensures.ok [] (c.requires config)) in
+    let s = start_new config c.args.explained behind (g.W.Sink.contents c.args.writer.now) in
+    let talks = rw c.in_ok-scheduler.ensures at c.talk_from.ensures.talk in
+    ends_well c.args.explained config unread behind _ _ _ (g.J.Journal.stands_for c.talk_from.new.journal)
+    c.talk_from.new.scheduler opened c.talk_from.new.lines.bytes c.talk_from.result (talks s refl start)
 
 pub returns-clause-ends : goal.returns-clause-ends
 returns-clause-ends g c =
@@ -62,6 +67,12 @@ returns-clause-ends g c =
     let same : untold c.new-lines.result unread ≡ unread =
     ap (λ (h : AtHand). untold h unread) c.new-lines.ensures ∙ none_at_hand unread in
     let opened = subst (λ (u : Option (List ℕ)). Opens u behind (Ok config)) same c.in_ok-config.ensures.ok in
-    let stopped = rw c.in_ok-scheduler.ensures at c.converse.ensures.stopped in
-    let stops = rw c.in_ok-scheduler.ensures at c.converse.ensures.stops in
-    ends_early c.args.explained config unread behind _ _ _ _ _ opened _ c.converse.result stopped stops
+    let m : Machine = record { config = config; history = []; handed = 0 } in
+    let stands = g.J.Journal.stands_for c.begin.new.journal in
+    let start = Talk-start c.args.explained m behind (g.W.Sink.contents c.args.writer.now) (stands config) refl
+    (c.in_ok-begin.ensures.ok [] (c.requires config)) in
+    let s = start_new config c.args.explained behind (g.W.Sink.contents c.args.writer.now) in
+    let talks = rw c.in_ok-scheduler.ensures at c.talk_from.ensures.talk in
+    ends_early c.args.explained config unread behind _ _ _ (g.J.Journal.stands_for c.talk_from.new.journal)
+    c.talk_from.new.scheduler opened c.talk_from.new.lines.bytes (g.J.Journal.may_begin c.talk_from.new.journal) _ _
+    c.talk_from.result (talks s refl start)
