@@ -1,12 +1,15 @@
 -- From what the ceiling leaves to a flow follow its amount and whether it may be served.
-use Rattle.std.proofs.Common.{◌≡◌, sym, subst, ℕ, ◌<◌, ◌≤◌, min, true, nat_eq, IsTrue, ◌↔◌, arith}
+use Rattle.std.proofs.Common.{◌≡◌, sym, subst, ℕ, ◌<◌, ◌≤◌, min, true, nat_eq, IsTrue, ◌↔◌, inl, inr, arith}
+use Rattle.std.proofs.lemmas.Bool.{cases_eq}
 use Rattle.std.proofs.lemmas.Bool.Decides.{nat_tests}
 use Rattle.minislots.specs.declared.config.Config.{Config}
+use Rattle.minislots.specs.Config.{IsLawful, HasBounds}
 use Rattle.minislots.specs.Units.{slots_for, bytes_in}
+use Rattle.minislots.proofs.Bounds.{bounds_of}
 use Rattle.minislots.proofs.UnitLaws.{fits_bytes, fits_slots}
 use Rattle.flow_book.specs.FlowSpec.{takes_requests, rate_of, burst_of}
 use Rattle.flow_book.specs.Flows.{LiveFlow, outstanding}
-use Rattle.flow_book.specs.Choice.{KeepsWith, MayGrant, IsMost, IsEligible}
+use Rattle.flow_book.specs.Choice.{KeepsWith, MayGrant, IsAmount, IsMost, IsEligible}
 use Rattle.flow_book.specs.Bucket.{BucketView, HaveStartedBy, StandsFor, most_of}
 use Rattle.flow_book.proofs.Buckets.{most-within, most-kept, most-greatest}
 
@@ -73,3 +76,23 @@ bucket-within c f b start room limit most stands started is =
       keeps = λ n some le. most-kept c rate burst b f.grants stands start n started limit le;
       greatest = λ n some le kept. most-greatest c rate burst b f.grants stands start n started limit le kept;
     })
+
+module _ (c : Config) (lawful : IsLawful c) (start room : ℕ) where
+  -- an eligible flow may be granted some bytes
+  some_may : (f : LiveFlow) → IsEligible c start room f → MayGrant c f start room (min (outstanding f) c.quantum)
+  some_may f may =
+      let bounds : HasBounds c = bounds_of c lawful in
+      record {
+        positive = omega (arith, may.waits, bounds.quantum_least);
+        asked = omega arith;
+        capped = omega (arith, bounds.cap_least);
+        taken = may.takes;
+      }
+
+  -- so the most that it may be granted are its amount
+  pub amount-of_most : (f : LiveFlow) (bytes : ℕ) → IsEligible c start room f → IsMost c f start room bytes
+      → IsAmount c f start room bytes
+  amount-of_most f bytes may is = elim (cases_eq bytes 0) [
+    | inl none ↦ absurd (is.none none (min (outstanding f) c.quantum) (some_may f may))
+    | inr some ↦ is.amount (omega arith)
+  ]

@@ -6,6 +6,7 @@ pub mod Changes
 pub mod Faults
 pub mod FirstGrant
 pub mod Insertion
+pub mod KeptQueue
 pub mod Levels
 pub mod Order
 pub mod Places
@@ -17,6 +18,7 @@ pub mod RowsBucket
 pub mod RowsCeiling
 pub mod RowsChoice
 pub mod RowsFaults
+pub mod NextServed
 pub mod Serving
 pub mod Sinking
 pub mod Started

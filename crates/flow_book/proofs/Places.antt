@@ -1,7 +1,7 @@
 -- Where the flow of an SID stands in a list of flows.
 use Rattle.std.proofs.Common.{◌≡◌, refl, sym, subst, ap, ◌∙◌, ℕ, zero, suc, ◌+◌, ◌<◌, Bool, true, false, not, cond}
 use Rattle.std.proofs.Common.{◌==◌, List, [], ◌∷◌, map, length, get_or, slice_get, find, position, Option, Some, None}
-use Rattle.std.proofs.Common.{IsSome, option_map, unwrap_or, Contains, arith}
+use Rattle.std.proofs.Common.{IsSome, IsSomeAnd, option_map, unwrap_or, Contains, arith}
 use Rattle.std.specs.List.{prefix_len, position_or_len, AllByRecursion}
 use Rattle.std.proofs.lemmas.Bool.Decides.{nat_tests}
 use Rattle.std.proofs.lemmas.List.{length-map}
@@ -15,6 +15,7 @@ use Rattle.flow_book.specs.declared.flow.Flow.{Flow}
 use Rattle.flow_book.specs.Flows.{LiveFlow, flow_of}
 use Rattle.flow_book.specs.Entry.{live}
 use Rattle.flow_book.specs.Book.{Ascend}
+use Rattle.flow_book.proofs.Searches.{found-first}
 
 cond-option : {X Y : Type 0} (h : X → Y) (b : Bool) (x : X) (r : Option X) → cond b (Some (h x)) (option_map h r)
     ≡ option_map h (cond b (Some x) r)
@@ -144,3 +145,20 @@ pub flow_of-member : (flows : List LiveFlow) (f : LiveFlow) → Ascend flows →
 flow_of-member flows f up (k, lt, at) =
     ap (λ (g : LiveFlow). flow_of g.sid flows) (sym at) ∙ flow_of-at flows k f up lt ∙ slice_get-get_or flows k f lt
     ∙ ap Some at
+
+-- in a list by SID each flow stands at its place
+pub placed-at : (items : List Flow) (i : ℕ) (f : Flow) → Ascend (map live items) → i < length items → f ≡ get_or items i f
+    → StandsAt f.sid items i f
+placed-at items i f up within is =
+    let here : (get_or items i f).sid ≡ f.sid = ap (λ (g : Flow). g.sid) (sym is) in
+    placed f.sid items i f
+    (position-map live (λ g. g.sid == f.sid) items ∙ found-first items f.sid up f i within here) is
+
+-- what holds of the flow at a place holds of the one that is read there
+pub some-here : (P : LiveFlow → Type 0) (items : List Flow) (k : ℕ) → IsSomeAnd (slice_get (map live items) k) P
+    → (k < length items) × ((f : Flow) → f ≡ get_or items k f → P (live f))
+some-here P [] k some = absurd some
+some-here P (f ∷ items) zero some =
+    (omega arith, λ g is. let e : g ≡ f = is in subst (λ (h : Flow). P (live h)) (sym e) some)
+some-here P (f ∷ items) (suc k) some =
+    let rest = some-here P items k some in (omega (arith, rest.0), rest.1)

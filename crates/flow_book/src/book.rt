@@ -5,13 +5,14 @@ ghost use Rattle.std.specs.Prelude.{IsSomeAnd, MatchOption, map, option_map, sli
 ghost use Rattle.std.specs.List.{AllByRecursion};
 ghost use Rattle.minislots.specs.Units.{slots_for};
 ghost use Rattle.flow_book.specs.Flows.{flow_of, outstanding, with_grant};
-ghost use Rattle.flow_book.specs.Choice.{MayGrant, IsMost, IsNext, IsNextSid, NoneEligible, HasStartedBy};
+ghost use Rattle.flow_book.specs.Choice.{MayGrant, IsMost, IsAmount, IsNext, IsNextSid, NoneEligible};
+ghost use Rattle.flow_book.specs.Choice.{HasStartedBy};
 ghost use Rattle.flow_book.specs.Entry.{live, IsSoundFlow, KeepsSums};
 ghost use Rattle.flow_book.specs.Book.{IsLive, Ascend, KeepsRoom, room_of, new_flow, with_flow, without, changed};
 ghost use Rattle.flow_book.specs.Book.{with_asked};
 
-use crate::flow::{Flow, first_eligible, reserve_each};
-use crate::queue::{Waiting, first_in_turn, follow, place_by_queue, queue_of};
+use crate::flow::{Flow, Served, first_eligible, reserve_each};
+use crate::queue::{Waiting, copy_of, first_in_turn, follow, place_by_queue, queue_of};
 use crate::spec::FlowSpec;
 use minislots::Checked;
 use std::alloc::{AllocError, Global};
@@ -188,7 +189,8 @@ impl Book {
     {
         let place = self.place(sid);
         self.flows[place].asked += u64::from(bytes);
-        self.is_queued = false;
+        let is_known = self.is_queued;
+        self.is_queued = follow(&mut self.queue, is_known, &self.flows, place);
     }
 
     /// The most bytes of a data grant to a live flow at minislot `start`, in `room` minislots: at most
@@ -225,10 +227,11 @@ impl Book {
         ensures kept { KeepsRoom self.old.rooms self.new.rooms }
         ensures same { self.new ≡ record self.old { rooms = self.new.rooms } }
     {
-        self.is_queued = false;
         reserve_each(&mut self.flows, grants);
-        self.queue = queue_of(*self.flows.allocator(), &self.flows)?;
-        self.is_queued = true;
+        if !self.is_queued {
+            self.queue = queue_of(*self.flows.allocator(), &self.flows)?;
+            self.is_queued = true;
+        }
         Ok(())
     }
 
@@ -252,6 +255,33 @@ impl Book {
         self.is_queued = follow(&mut self.queue, self.is_queued, &self.flows, place);
     }
 
+    /// Grants the flow that is next at minislot `start`, with `room` minislots before what comes next
+    /// ([`Book::eligible`]), the most bytes that it may have there ([`Book::most`]), and answers to whom
+    /// they went. `None` where no flow may be served: then nothing changes. Room for the grant was made
+    /// by [`Book::reserve`], and all grants start at or before `start`.
+    pub fn serve(&mut self, start: u64, room: u32) -> Option<Served>
+        requires room { (sid : ℕ) → IsLive sid self.old.flows → 0 < room_of sid self.old.rooms }
+        requires started { AllByRecursion (HasStartedBy start) self.old.flows }
+
+        ensures next { IsNextSid self.old.config start room self.old.flows
+            (option_map (λ s. s.sid) result) }
+        ensures amount { IfSome result (λ s. IfSome (flow_of s.sid self.old.flows)
+            (λ f. IsAmount self.old.config f start room s.bytes)) }
+        ensures flows { IfSome result (λ s. self.new.flows ≡ changed s.sid
+            (with_grant (record { start = start; bytes = s.bytes })) self.old.flows) }
+        ensures none { result ≡ None → self.new ≡ self.old }
+        ensures config { self.new.config ≡ self.old.config }
+        ensures room { IfSome result (λ s.
+            room_of s.sid self.new.rooms + 1 ≡ room_of s.sid self.old.rooms) }
+        ensures other_room { IfSome result (λ s. (other : ℕ)
+            → other ≢ s.sid → room_of other self.new.rooms ≡ room_of other self.old.rooms) }
+    {
+        let place = self.next_place(start, room)?;
+        let served = self.flows[place].serve(&self.config, start, room);
+        self.is_queued = follow(&mut self.queue, self.is_queued, &self.flows, place);
+        Some(served)
+    }
+
     /// Another book that shows the same configuration and flows. It has no room for grants that
     /// isn't made by [`Book::reserve`].
     pub fn copy(&self) -> Result<Book, AllocError>
@@ -261,8 +291,8 @@ impl Book {
         Ok(Book {
             config: self.config,
             flows: self.flows.clone()?,
-            queue: Vec::new(*self.flows.allocator()),
-            is_queued: false,
+            queue: copy_of(*self.flows.allocator(), &self.queue, self.flows.len())?,
+            is_queued: self.is_queued,
         })
     }
 

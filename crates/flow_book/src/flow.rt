@@ -5,8 +5,9 @@ ghost use Rattle.std.specs.Prelude.{◌↔◌, None, nat_lt, ◌&&◌, MatchOpti
 ghost use Rattle.std.specs.Prelude.{option_copied};
 ghost use Rattle.std.specs.List.{AllByRecursion};
 ghost use Rattle.minislots.specs.declared.config.Config.{Config};
+ghost use Rattle.minislots.specs.Config.{IsLawful};
 ghost use Rattle.flow_book.specs.Flows.{granted, outstanding, with_grant};
-ghost use Rattle.flow_book.specs.Choice.{is_before, IsEligible, IsMost, KeepsWith};
+ghost use Rattle.flow_book.specs.Choice.{is_before, IsEligible, IsAmount, IsMost, KeepsWith};
 ghost use Rattle.flow_book.specs.Choice.{IsNextOf, HasStartedBy};
 ghost use Rattle.flow_book.specs.Bucket.{HaveStartedBy};
 ghost use Rattle.flow_book.specs.Entry.{live, room_in, IsSoundFlow, IsSoundBook, IsCopy, IsTurn, KnowsTurn, KeepsSums};
@@ -25,6 +26,15 @@ pub struct Grant {
     /// The minislot at which it starts.
     pub start: u64,
     /// The bytes that it carries.
+    pub bytes: u32,
+}
+
+/// A data grant that was made: the SID of its flow, and its bytes.
+#[derive(Clone, Copy, Debug, PartialEq, Eq)]
+pub struct Served {
+    /// The SID of the flow.
+    pub sid: u16,
+    /// The bytes that it was granted.
     pub bytes: u32,
 }
 
@@ -123,7 +133,8 @@ impl Flow {
         requires sound { IsSoundFlow config.now (live self.now) }
         requires sums { KeepsSums config.now self.now }
         requires started { HaveStartedBy start self.now.grants.items }
-        ensures { IsMost config.now (live self.now) start room result }
+        ensures most { IsMost config.now (live self.now) start room result }
+        ensures lawful { IsLawful config.now }
     {
         let asked = self.outstanding().min(u64::from(config.grant_cap()));
         let limit = asked.min(config.bytes_in(room)) as u32;
@@ -146,6 +157,26 @@ impl Flow {
             return false;
         }
         self.bucket.most(start, wanted) == wanted
+    }
+
+    // Grants the flow, which may be served, the most bytes that it may have. There is room for the grant.
+    pub(crate) fn serve(&mut self, config: &Checked, start: u64, room: u32) -> Served
+        requires sound { IsSoundFlow config.now (live self.old) }
+        requires sums { KeepsSums config.now self.old }
+        requires started { HaveStartedBy start self.old.grants.items }
+        requires may { IsEligible config.now start room (live self.old) }
+        requires space { 0 < (room_in self.old).grants }
+        ensures sid { result.sid ≡ self.old.sid }
+        ensures amount { IsAmount config.now (live self.old) start room result.bytes }
+        ensures live { live self.new
+            ≡ with_grant (record { start = start; bytes = result.bytes }) (live self.old) }
+        ensures space { (room_in self.new).grants + 1 ≡ (room_in self.old).grants }
+        ensures sums { KeepsSums config.now self.new }
+    {
+        let bytes = self.most(config, start, room);
+        self.grant(start, bytes);
+        let sid = self.sid;
+        Served { sid, bytes }
     }
 
     // Adds a data grant, for which there is room, of bytes that were asked. The grants start at or before

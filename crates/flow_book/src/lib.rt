@@ -12,7 +12,7 @@ mod spec;
 
 pub use book::Book;
 pub use bucket::Bucket;
-pub use flow::Grant;
+pub use flow::{Grant, Served};
 pub use spec::{FlowFault, FlowSpec};
 
 /// The most flows that are live at a time on one channel.

@@ -80,6 +80,19 @@ pub(crate) fn queue_of(alloc: Global, flows: &[Flow]) -> Result<Vec<Waiting>, Al
     Ok(queue)
 }
 
+// The queue again, with room for so many that wait.
+pub(crate) fn copy_of(
+    alloc: Global,
+    queue: &[Waiting],
+    most: usize,
+) -> Result<Vec<Waiting>, AllocError>
+    ensures { IfOk result (λ copy. copy.items ≡ queue.now) }
+{
+    let mut copy = Vec::with_capacity(alloc, most)?;
+    copy.extend_from_slice(queue)?;
+    Ok(copy)
+}
+
 // The place of the flow that is served first at this minislot, of those in the queue that may be served.
 pub(crate) fn first_in_turn(
     queue: &[Waiting],

@@ -3,12 +3,13 @@ use Rattle.std.proofs.Common.{◌≡◌, ℕ, ◌+◌, ◌≤◌, Bool, true, fa
 use Rattle.std.proofs.Common.{None, Some, IsSome, if◌then◌else◌, refl, sym, ap, ◌∙◌, arith}
 use Rattle.std.specs.Option.{option_map}
 use Rattle.std.specs.List.{AllByRecursion}
+use Rattle.std.proofs.lemmas.Bool.Decides.{nat_tests}
 use Rattle.std.proofs.lemmas.List.{append-nil, append_assoc}
 use Rattle.std.proofs.lemmas.List.Elements.{filter_map-append}
 use Rattle.flow_book.specs.declared.flow.Grant.{Grant}
-use Rattle.flow_book.specs.Flows.{LiveFlow, flow_of}
+use Rattle.flow_book.specs.Flows.{LiveFlow, flow_of, with_grant}
 use Rattle.flow_book.specs.Choice.{HasStartedBy}
-use Rattle.flow_book.specs.Book.{IsLive}
+use Rattle.flow_book.specs.Book.{IsLive, changed}
 use Rattle.flow_book.proofs.Places.{find-map}
 use Rattle.periodic.proofs.Joined.{all-append}
 use Rattle.map_build.specs.Plan.{Purpose, Poll, UnsolicitedGrant, DataGrant, Idle, Allocation, grant_to, grants_to}
@@ -64,6 +65,27 @@ grants_to-one : (start sid other offset slots bytes : ℕ) →
     ≡ granted_if (sid == other) (record { start = start + offset; bytes = bytes })
 grants_to-one start sid other offset slots bytes =
     one-if (sid == other) (record { start = start + offset; bytes = bytes })
+
+granted-one : (f : LiveFlow) (g : Grant) (b d : Bool) → b ≡ d →
+    with_grants f (f.grants ++ granted_if b g) ≡ (if d then with_grant g f else f)
+granted-one f g true true same = refl
+granted-one f g true false same = absurd (cc)
+granted-one f g false true same = absurd (cc)
+granted-one f g false false same = ap (with_grants f) (append-nil f.grants)
+
+-- after a data grant the flow of its SID has one more
+pub flows_after-grant : (start sid offset slots bytes : ℕ) (flows : List LiveFlow) →
+    flows_after start (allocation offset slots (DataGrant sid bytes) ∷ []) flows
+    ≡ changed sid (with_grant (record { start = start + offset; bytes = bytes })) flows
+flows_after-grant start sid offset slots bytes [] = refl
+flows_after-grant start sid offset slots bytes (f ∷ flows) =
+    let g : Grant = record { start = start + offset; bytes = bytes } in
+    let same : (sid == f.sid) ≡ (f.sid == sid) = grind (arith, nat_tests) in
+    let here : flow_after start (allocation offset slots (DataGrant sid bytes) ∷ []) f
+    ≡ (if f.sid == sid then with_grant g f else f) =
+    ap (λ gs. with_grants f (f.grants ++ gs)) (grants_to-one start sid f.sid offset slots bytes)
+    ∙ granted-one f g (sid == f.sid) (f.sid == sid) same in
+    rw (here, flows_after-grant start sid offset slots bytes flows) refl
 
 -- the flow of an SID after a plan
 pub flow_of-after : (start sid : ℕ) (plan : List Allocation) (flows : List LiveFlow) →

@@ -16,7 +16,7 @@ use Rattle.map_build.specs.Plan.{Allocation, DataGrant, next_stop, room_at, end_
 use Rattle.map_build.specs.Plan.{StandsByItsRule, allocation_of}
 use Rattle.periodic.specs.Table.{FollowInTurn}
 use Rattle.map_build.specs.Spots.{IsInFrame, AreInFrame}
-use Rattle.map_build.specs.Walk.{IsAfter, IsServed, IsNextAmount, idle_to, grant_here}
+use Rattle.map_build.specs.Walk.{IsAfter, IsNextAmount, NoneServed, idle_to, grant_here}
 use Rattle.map_build.proofs.Stops.{next_stop-is}
 
 found-cond : {X : Type 0} (p : X → Bool) (b : Bool) (y x : X) (xs : List X) → p y ≡ b → cond b (Some y) (find p xs)
@@ -149,7 +149,7 @@ module _ (flows : List LiveFlow) (spots : List Spot) (plan : List Allocation) (d
 
   -- an idle up to the next stop, where no flow gets a grant
   pub idle-stands : (stop : ℕ) → stop ≡ next_stop d.book.config spots d.offset → d.offset < stop →
-      IsServed d (room_at d.book.config spots d.offset) None →
+      NoneServed d (room_at d.book.config spots d.offset) →
       Stands d.book.config flows spots d.start plan (idle_to d stop)
   idle-stands stop is behind served = record {
     some_slots = omega arith;

@@ -1,6 +1,8 @@
 -- Steps of a draft: an element more of it is an allocation more.
 use Rattle.std.proofs.Common.{◌≡◌, ℕ, ◌-◌, Bool, true, false, [], ◌∷◌, ◌++◌, if◌then◌else◌, refl, sym, ap, ◌∙◌, arith}
 use Rattle.map_codec.specs.declared.element.iuc.TheConstants.{REQUEST}
+use Rattle.minislots.specs.Units.{slots_for}
+use Rattle.flow_book.specs.declared.flow.Served.{Served}
 use Rattle.flow_book.specs.Book.{BookView, room_of}
 use Rattle.periodic.specs.declared.placement.Spot.{Spot}
 use Rattle.map_build.specs.declared.draft.Draft.{Draft}
@@ -8,8 +10,8 @@ use Rattle.map_build.specs.Plan.{Allocation, Poll, UnsolicitedGrant, grants_in, 
 use Rattle.map_build.specs.UsageCodes.{long_iuc, unsolicited_iuc}
 use Rattle.map_build.specs.FrameMap.{element_of, bytes_for}
 use Rattle.map_build.specs.Draft.{Puts}
-use Rattle.map_build.specs.Walk.{Takes, idle_to}
-use Rattle.map_build.proofs.FlowsAfter.{flows_after-none}
+use Rattle.map_build.specs.Walk.{Takes, Serves, PutsGrant, grant_here, idle_to}
+use Rattle.map_build.proofs.FlowsAfter.{flows_after-none, flows_after-grant}
 
 module _ (sid iuc slots : ℕ) (old new : Draft) (puts : Puts sid iuc slots 0 old new) where
   -- an allocation that grants no bytes
@@ -51,3 +53,21 @@ pub Takes-spot : (s : Spot) (iuc : ℕ) (old new : Draft) →
     iuc ≡ (if s.poll then REQUEST else unsolicited_iuc old.book.config s.slots) → s.offset ≡ old.offset →
     Puts s.sid iuc s.slots 0 old new → Takes (allocation_of s) old new
 Takes-spot s iuc old new code here puts = spot-takes s.poll s.sid iuc s.offset s.slots old new code here puts
+
+-- a data grant, whose element comes behind it
+pub Takes-grant : (room : ℕ) (s : Served) (old mid new : Draft) → Serves room s old mid → PutsGrant s mid new →
+    Takes (grant_here old s.sid s.bytes) old new
+Takes-grant room s old mid new serves puts =
+    let slots = slots_for old.book.config s.bytes in
+    let one : grants_in (grant_here old s.sid s.bytes ∷ []) ≡ 1 = refl in
+    record {
+      elements = puts.elements ∙ rw (serves.elements, serves.config, serves.offset) refl;
+      bytes_of = puts.bytes_of ∙ ap (λ ns. ns ++ s.bytes ∷ []) serves.bytes_of;
+      offset = omega (arith, puts.offset, serves.offset, ap (λ c. slots_for c s.bytes) serves.config);
+      start = puts.start ∙ serves.start;
+      config = ap (λ b. b.config) puts.book ∙ serves.config;
+      flows = ap (λ b. b.flows) puts.book ∙ serves.flows
+          ∙ sym (flows_after-grant old.start s.sid old.offset slots s.bytes old.book.flows);
+      grants = omega (arith, puts.grants, serves.grants, one);
+      rooms = λ other. omega (arith, serves.rooms other, ap (λ (b : BookView). room_of other b.rooms) puts.book, one);
+    }

@@ -5,11 +5,14 @@ use Rattle.std.specs.List.{AllByRecursion}
 use Rattle.minislots.specs.declared.config.Config.{Config}
 use Rattle.minislots.specs.Config.{IsLawful}
 use Rattle.minislots.specs.Units.{slots_for}
-use Rattle.flow_book.specs.Flows.{LiveFlow, flow_of}
-use Rattle.flow_book.specs.Book.{IsLive, room_of}
-use Rattle.flow_book.specs.Choice.{IsNext, IsNextSid, IsAmount, NoneEligible, HasStartedBy}
+use Rattle.flow_book.specs.declared.flow.Served.{Served}
+use Rattle.flow_book.specs.Flows.{LiveFlow, flow_of, with_grant}
+use Rattle.flow_book.specs.Book.{IsLive, changed, room_of}
+use Rattle.flow_book.specs.Choice.{IsNext, IsAmount, NoneEligible, HasStartedBy}
 use Rattle.periodic.specs.declared.placement.Spot.{Spot}
 use Rattle.map_build.specs.declared.draft.Draft.{Draft}
+use Rattle.map_build.specs.UsageCodes.{data_iuc}
+use Rattle.map_build.specs.Draft.{Puts}
 use Rattle.map_build.specs.EachAfter.{EachAfter}
 use Rattle.map_build.specs.Plan.{Allocation, DataGrant, Idle, most_grants, grants_in, end_of, flows_after, Stands}
 use Rattle.map_build.specs.Plan.{allocation_of}
@@ -47,24 +50,39 @@ grant_here d sid bytes = record {
   purpose = DataGrant sid bytes;
 }
 
--- the flow with this SID is next here, in so many minislots
-abbrev pub IsNextHere : Draft → ℕ → ℕ → Type 0
-IsNextHere d room sid = IsNextSid d.book.config (d.start + d.offset) room d.book.flows (Some sid)
-
--- it is next here, and these are the bytes that it gets
+-- the flow with this SID is next here, in so many minislots, and these are the bytes that it gets
 abbrev pub IsNextAmount : Draft → ℕ → ℕ → ℕ → Type 0
 IsNextAmount d room sid bytes = IsSomeAnd (flow_of sid d.book.flows)
     (λ f. IsNext d.book.config d.book.flows (d.start + d.offset) room f
     × IsAmount d.book.config f (d.start + d.offset) room bytes)
 
--- a draft with its amount granted to the flow that is next
-abbrev pub Grants : ℕ → ℕ → Draft → Draft → Type 0
-Grants sid room old new = (bytes : ℕ) × IsNextAmount old room sid bytes × Takes (grant_here old sid bytes) old new
+-- no more data grant stands here, in so many minislots: there are as many as may be, or no flow is eligible
+abbrev pub NoneServed : Draft → ℕ → Type 0
+NoneServed d room = (most_grants ≤ d.grants) ⊎ NoneEligible d.book.config d.book.flows (d.start + d.offset) room
 
--- which flow gets the next data grant: none where no more may stand or no flow is eligible
-abbrev pub IsServed : Draft → ℕ → Option ℕ → Type 0
-IsServed d room None = (most_grants ≤ d.grants) ⊎ NoneEligible d.book.config d.book.flows (d.start + d.offset) room
-IsServed d room (Some sid) = (d.grants < most_grants) × IsNextHere d room sid
+-- The book of the draft has a data grant more, of its amount, to the flow that is next here. Its element is to come.
+pub record Serves (room : ℕ) (s : Served) (old new : Draft) : Type 0 where
+  pub few : old.grants < most_grants
+  pub next : IsNextAmount old room s.sid s.bytes
+  pub flows : new.book.flows
+      ≡ changed s.sid (with_grant (record { start = old.start + old.offset; bytes = s.bytes })) old.book.flows
+  pub config : new.book.config ≡ old.book.config
+  pub rooms : (sid : ℕ) → room_of sid old.book.rooms ≤ room_of sid new.book.rooms + 1
+  pub grants : new.grants ≡ old.grants + 1
+  pub elements : new.elements.items ≡ old.elements.items
+  pub bytes_of : new.bytes.items ≡ old.bytes.items
+  pub start : new.start ≡ old.start
+  pub offset : new.offset ≡ old.offset
+
+-- the data grant that the book of the draft has more, if one may stand here: else nothing changes
+abbrev pub ServesNext : ℕ → Option Served → Draft → Draft → Type 0
+ServesNext room None old new = (new ≡ old) × NoneServed old room
+ServesNext room (Some s) old new = Serves room s old new
+
+-- a draft with the element of a data grant that its book has
+abbrev pub PutsGrant : Served → Draft → Draft → Type 0
+PutsGrant s old new = Puts s.sid (data_iuc old.book.config (slots_for old.book.config s.bytes))
+    (slots_for old.book.config s.bytes) s.bytes old new
 
 -- the draft is where this plan ends, and its book has the plan's grants
 pub record IsAfter (flows : List LiveFlow) (plan : List Allocation) (d : Draft) : Type 0 where

@@ -1,16 +1,18 @@
 //! The walk along a frame: what stands at each offset, up to the end.
 
 ghost use Rattle.std.specs.Prelude.{◌≡◌, ◌<◌, ◌≤◌, ◌+◌, ◌^◌, ◌==◌, OnOk, find, option_copied};
-ghost use Rattle.map_build.specs.Plan.{most_grants, next_stop, allocation_of};
+ghost use Rattle.map_build.specs.Plan.{next_stop, allocation_of};
 ghost use Rattle.map_build.specs.Spots.{AreInFrame};
-ghost use Rattle.map_build.specs.Walk.{IsWellBegun, IsUnfilled, IsFilled, Takes, TakesNext, Grants, IsServed};
-ghost use Rattle.map_build.specs.Walk.{IsNextHere, IsNextAmount, idle_to};
+ghost use Rattle.map_build.specs.Walk.{IsWellBegun, IsUnfilled, IsFilled, Takes, TakesNext, ServesNext, PutsGrant};
+ghost use Rattle.map_build.specs.Walk.{idle_to};
 ghost use Rattle.map_build.specs.Left.{left_at, AreAhead};
 ghost use Rattle.minislots.specs.declared.config.Config.{Config};
+ghost use Rattle.minislots.specs.Units.{slots_for};
 
 use crate::MAX_DATA_GRANTS;
 use crate::draft::{Draft, NOBODY};
 use crate::usage_codes::{data_iuc, long_iuc, unsolicited_iuc};
+use flow_book::Served;
 use map_codec::iuc;
 use minislots::Checked;
 use periodic::Spot;
@@ -46,8 +48,8 @@ impl Draft {
         }
         let stop = next_stop(spots, self.offset, self.book.config());
         let room = u32::from(stop - self.offset);
-        match self.next_flow(room) {
-            Some(sid) => self.grant(sid, room),
+        match self.serve(room) {
+            Some(served) => self.put_grant(served),
             None => self.put_idle(stop),
         }
     }
@@ -85,43 +87,28 @@ impl Draft {
         self.start + u64::from(self.offset)
     }
 
-    // The flow that the next data grant goes to.
-    fn next_flow(&self, room: u32) -> Option<u16>
-        requires { IsWellBegun self.now }
-        ensures { IsServed self.now room result }
+    // The data grant of the book to the flow that is next, where one more may stand. Its element is to come.
+    fn serve(&mut self, room: u32) -> Option<Served>
+        requires { IsWellBegun self.old }
+        ensures { ServesNext room result self.old self.new }
     {
         if self.grants < MAX_DATA_GRANTS {
-            self.book.eligible(self.minislot(), room)
-        } else {
-            None
+            let start = self.minislot();
+            let served = self.book.serve(start, room)?;
+            self.grants += 1;
+            return Some(served);
         }
+        None
     }
 
-    // The bytes of the next data grant to the flow that is next.
-    fn next_bytes(&self, sid: u16, room: u32) -> u32
-        requires ready { IsWellBegun self.now }
-        requires next { IsNextHere self.now room sid }
-        ensures { IsNextAmount self.now room sid result }
+    // The element of a data grant that the book has.
+    fn put_grant(&mut self, served: Served) -> Result<(), AllocError>
+        requires { self.old.offset + slots_for self.old.book.config served.bytes < 2 ^ 16 }
+        ensures { OnOk result (PutsGrant served self.old self.new) }
     {
-        self.book.most(sid, self.minislot(), room)
-    }
-
-    // A data grant to the flow that is next.
-    fn grant(&mut self, sid: u16, room: u32) -> Result<(), AllocError>
-        requires ready { IsWellBegun self.old }
-        requires inside { self.old.offset + room ≤ self.old.book.config.frame }
-        requires few { self.old.grants < most_grants }
-        requires next { IsNextHere self.old room sid }
-        ensures { OnOk result (Grants sid room self.old self.new) }
-    {
-        let start = self.minislot();
-        let bytes = self.next_bytes(sid, room);
-        let slots = self.book.config().slots_for(bytes);
+        let slots = self.book.config().slots_for(served.bytes);
         let iuc = data_iuc(self.book.config(), slots);
-        self.put_slots(sid, iuc, slots as u16, bytes)?;
-        self.book.grant(sid, start, bytes);
-        self.grants += 1;
-        Ok(())
+        self.put_slots(served.sid, iuc, slots as u16, served.bytes)
     }
 }
 

@@ -10,8 +10,8 @@ use Rattle.flow_book.proofs.flow.Flow.most.Goals as goal
 pub most-requires : goal.most-requires
 most-requires c = c.requires.sums.bucket.since c.args.start c.requires.started
 
-pub returns : goal.returns
-returns c =
+pub returns-clause-most : goal.returns-clause-most
+returns-clause-most c =
     let f = live c.args.self.now in
     let limits : c.min-limit.result ≡ min (min (outstanding f) c.args.config.now.grant_cap)
     (bytes_in c.args.config.now c.args.room) = omega arith in

@@ -1,9 +1,13 @@
 -- What stands next: a spot that begins here, else a data grant or an idle up to the next stop.
-use Rattle.std.proofs.Common.{◌≡◌, ◌-◌, ◌<◌, ◌==◌, find, None, sym, ap, ◌∙◌, arith}
+use Rattle.std.proofs.Common.{◌≡◌, ◌+◌, ◌-◌, ◌<◌, ◌==◌, find, None, sym, ap, ◌∙◌, arith}
 use Rattle.minislots.proofs.Bounds.{bounds_of}
+use Rattle.minislots.specs.Units.{slots_for}
+use Rattle.flow_book.specs.Flows.{flow_of}
 use Rattle.flow_book.proofs.Rooms.{on-ok}
 use Rattle.map_build.specs.Plan.{next_stop, room_at}
+use Rattle.map_build.proofs.NextGrants.{amount-fits}
 use Rattle.map_build.proofs.Standings.{spot-here, spot-within, stop-behind, spot-stands, grant-stands, idle-stands}
+use Rattle.map_build.proofs.Takings.{Takes-grant}
 use Rattle.map_build.proofs.draft.Draft.put_next.Goals as goal
 
 pub spot_at-requires-clause-placed : goal.spot_at-requires-clause-placed
@@ -37,18 +41,39 @@ returns-in-Some c =
           spot-stands d.book.config flows c.args.spots.now d.start plan s c.requires.placed is.0 (is.1 ∙ after.ends),
     )) c.put_spot.ensures
 
-pub returns-in-Some-next_flow : goal.returns-in-Some-next_flow
-returns-in-Some-next_flow c =
+-- what the data grant has fits the room, and so the frame
+pub put_grant-requires : goal.put_grant-requires
+put_grant-requires c =
     let d = c.args.self.now in
+    let s = c.in-Some-serve.served in
+    let serves = c.in-Some-serve.ensures in
+    let fits = amount-fits d.book.config d.book.flows (d.start + d.offset) c.from-room.result s.bytes
+    (flow_of s.sid d.book.flows) serves.next in
+    omega (
+      arith,
+      fits,
+      serves.offset,
+      ap (λ k. slots_for k s.bytes) serves.config,
+      c.from-room.ensures,
+      c.next_stop-stop.ensures.most,
+      ap (λ k. k.frame) c.config.ensures.value,
+      (bounds_of _ c.requires.ready.lawful).frame_most,
+    )
+
+pub returns-in-Some-serve : goal.returns-in-Some-serve
+returns-in-Some-serve c =
+    let d = c.args.self.now in
+    let s = c.in-Some-serve.served in
+    let serves = c.in-Some-serve.ensures in
     let room : c.from-room.result ≡ room_at d.book.config c.args.spots.now d.offset = c.from-room.ensures
     ∙ ap (λ n. n - d.offset) (rw c.config.ensures.value at c.next_stop-stop.ensures.value) in
-    on-ok c.grant.result (λ grants. (
+    on-ok c.put_grant.result (λ puts. (
       _,
-      grants.2,
+      Takes-grant c.from-room.result s d c.serve.new.self c.put_grant.new.self serves puts,
       λ flows plan after.
-          grant-stands flows c.args.spots.now plan d after _ grants.0
-          (bounds_of _ c.requires.ready.lawful).overhead_positive c.in-Some-next_flow.ensures.0 (rw room at grants.1),
-    )) c.grant.ensures
+          grant-stands flows c.args.spots.now plan d after s.sid s.bytes
+          (bounds_of _ c.requires.ready.lawful).overhead_positive serves.few (rw room at serves.next),
+    )) c.put_grant.ensures
 
 pub returns-in-None : goal.returns-in-None
 returns-in-None c =
@@ -66,8 +91,8 @@ returns-in-None c =
     ) in
     on-ok c.put_idle.result (λ takes. (
       _,
-      takes,
+      rw c.in-None.ensures.0 at takes,
       λ flows plan after.
           idle-stands flows c.args.spots.now plan d after c.next_stop-stop.result stop behind
-          (rw room at c.in-None.ensures),
+          (rw room at c.in-None.ensures.1),
     )) c.put_idle.ensures
