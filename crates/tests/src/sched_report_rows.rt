@@ -4,7 +4,7 @@ use crate::base::{BASE, checked};
 use flow_book::FlowSpec;
 use minislots::Stamp;
 use sched_history::{Call, Scheduler};
-use sched_report::{POLLED, Reporter};
+use sched_report::Reporter;
 use std::alloc::AllocGlobal;
 use std::test::Fail;
 
@@ -89,76 +89,5 @@ fn the_numbers_of_a_history_are_those_worked_out_by_hand(rt: HostRuntime) -> Res
     assert!(rt; sums.asks == 1 && sums.asked == 100 && sums.granted == 100);
     let delays = sums.delays;
     assert!(rt; delays.served == 1 && delays.least == Some(53) && delays.greatest == Some(53));
-    assert!(rt;
-        life.granted == 100 && life.outstanding == 0 && life.waiting == 0 && life.dropped == 0
-    );
-    assert!(rt; life.priority == Some(3) && life.middle == Some(53) && life.p99 == Some(53));
-    let voice = reporter.life(1);
-    assert!(rt; voice.granted == 32 && voice.sums.granted == 0 && voice.outstanding == 0);
-    assert!(rt; voice.priority == None && voice.middle == None && voice.p99 == None);
-    let rank = reporter.rank(3);
-    assert!(rt; rank.sums.asks == 1 && rank.sums.granted == 100 && rank.sums.served == 1);
-    assert!(rt; rank.sums.waiting == 0 && rank.sums.dropped == 0);
-    assert!(rt; rank.middle == Some(53) && rank.p99 == Some(53));
-    let polled = reporter.rank(POLLED);
-    assert!(rt; polled.sums.asks == 0 && polled.sums.least == None && polled.middle == None);
-    Ok(())
-}
-
-// Six requests of one flow. The first MAP serves three, with one grant of 12 minislots up to 856; two more are heard
-// long before the MAP that serves them, and one waits when the flow is removed.
-fn late() -> [Call; 13] {
-    let flow = FlowSpec::BestEffort {
-        priority: 3,
-        rate: 0,
-        burst: 0,
-    };
-    [
-        Call::Build { now: 760 },
-        Call::Admit(17, flow),
-        ask(100, 800),
-        ask(40, 810),
-        ask(10, 820),
-        Call::Build { now: 800 },
-        Call::Skip { now: 200_000 },
-        ask(16, 850),
-        ask(16, 860),
-        Call::Build { now: 200_000 },
-        ask(16, 200_000),
-        Call::Remove(17),
-        Call::Build { now: 200_040 },
-    ]
-}
-
-fn ask(bytes: u32, heard: u64) -> Call {
-    Call::Ask {
-        receiver: 0,
-        sid: 17,
-        bytes,
-        heard,
-    }
-}
-
-#[test]
-fn a_percentile_is_exact_or_one_part_in_a_hundred_above(rt: HostRuntime) -> Result<(), Fail> {
-    let config = checked(&rt, BASE);
-    let mut scheduler = Scheduler::open(rt.alloc(), config)?;
-    let mut reporter = Reporter::open(rt.alloc(), config)?;
-    let stamp = Stamp { seat: 0, ticket: 0 };
-    for call in late() {
-        let _ = scheduler.call(stamp, call)?;
-    }
-    for entry in scheduler.history() {
-        reporter.take(entry)?;
-    }
-    assert!(rt; reporter.lives() == 1, "one flow was admitted");
-    let life = reporter.life(0);
-    assert!(rt; life.ended && life.sums.asks == 6 && life.sums.delays.served == 5);
-    assert!(rt; life.waiting == 0 && life.dropped == 1 && life.outstanding == 16);
-    assert!(rt; life.sums.delays.least == Some(36) && life.middle == Some(56));
-    let greatest = life.sums.delays.greatest.unwrap_or(0);
-    let told = life.p99.unwrap_or(0);
-    assert!(rt; 65_536 < greatest && greatest <= told);
-    assert!(rt; 100 * u128::from(told) <= 101 * u128::from(greatest));
     Ok(())
 }
