@@ -42,7 +42,8 @@ impl Calls {
     // Counts the call of an entry.
     pub(crate) fn add(&mut self, entry: &Entry)
         requires { (h : List Entry) × (self.old ≡ calls_of h) × (length h < MAX_WHOLE_HISTORY) }
-        ensures { (h : List Entry) → self.old ≡ calls_of h → self.new ≡ calls_of (h ++ entry.now ∷ []) }
+        ensures { (h : List Entry) → self.old ≡ calls_of h
+            → self.new ≡ calls_of (h ++ entry.now ∷ []) }
     {
         match entry.call {
             Call::Admit(..) => self.admit += 1,
@@ -59,7 +60,8 @@ impl Calls {
 // Counts the refusal of an entry, where it is one.
 pub(crate) fn count_refusal(counts: &mut [u64; REFUSALS], entry: &Entry)
     requires { (h : List Entry) × CountsRefusals counts.old h × (length h < MAX_WHOLE_HISTORY) }
-    ensures { (h : List Entry) → CountsRefusals counts.old h → CountsRefusals counts.new (h ++ entry.now ∷ []) }
+    ensures { (h : List Entry) → CountsRefusals counts.old h
+        → CountsRefusals counts.new (h ++ entry.now ∷ []) }
 {
     if let Reply::Refused(refusal) = entry.reply {
         let place = refusal_number(refusal) as usize - 1;
