@@ -29,7 +29,8 @@ fn add(gathered: Gathered, worked: Worked) -> Gathered
     ensures len { vec_len result.seats ≡ vec_len gathered.seats + 1 }
     ensures room { vec_capacity result.seats ≡ vec_capacity gathered.seats }
     ensures unrecorded { result.unrecorded ≡ gathered.unrecorded + worked.unrecorded }
-    ensures held { result.held ≡ held_then gathered.held (length gathered.seats.items) worked.ended }
+    ensures held { result.held
+        ≡ held_then gathered.held (length gathered.seats.items) worked.ended }
     ensures stopped { result.stopped ≡ (gathered.stopped || is_stopped worked.ended) }
 {
     let Gathered {
