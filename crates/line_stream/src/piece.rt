@@ -27,13 +27,13 @@ pub(crate) type Bytes = ArrayVec<u8, ROOM>;
 /// Where a line ends among bytes that were read.
 #[derive(Clone, Copy)]
 pub(crate) struct Cut {
-    // What is told of it. The front of a long one is no more among the bytes.
+    /// What is told of it. The front of a long one is no more among the bytes.
     pub told: Told,
-    // Where it ends.
+    /// Where it ends.
     pub end: usize,
-    // Where the bytes behind it begin.
+    /// Where the bytes behind it begin.
     pub next: usize,
-    // How many bytes it has, where no newline ends it.
+    /// How many bytes it has, where no newline ends it.
     pub torn: Option<u64>,
 }
 
