@@ -14,12 +14,19 @@ pub const REFUSALS: usize = 17;
 /// How many calls of each kind there were, refused ones among them.
 #[derive(Clone, Copy)]
 pub struct Calls {
+    /// Admissions of flows.
     pub admit: u64,
+    /// Requests for bytes.
     pub ask: u64,
+    /// Builds of MAPs.
     pub build: u64,
+    /// Notices of the minislot before which a receiver has handed in all that it heard.
     pub heard: u64,
+    /// Removals of flows.
     pub remove: u64,
+    /// Calls that leave out the frames whose MAP would be late.
     pub skip: u64,
+    /// Questions for the bytes of a flow.
     pub status: u64,
 }
 

@@ -23,7 +23,9 @@ use std::collections::VecDeque;
 /// A request: its bytes, and the minislot at which it was heard.
 #[derive(Clone, Copy)]
 pub struct Request {
+    /// The bytes that it asks for.
     pub bytes: u32,
+    /// The minislot at which a receiver heard it.
     pub heard: u64,
 }
 
