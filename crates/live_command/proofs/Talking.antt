@@ -208,7 +208,8 @@ module _ (s : Start) (turns : ℕ) (m : Machine) (left written : Option (List �
       ))
 
   -- so many lines came
-  pub too_many : (n : ℕ) → n ≤ turns → BeginsWith s.unread (talk.lines ++ talk.more) × (n ≤ length (talk.lines ++ talk.more))
+  pub too_many : (n : ℕ) → n ≤ turns → BeginsWith s.unread (talk.lines ++ talk.more)
+      × (n ≤ length (talk.lines ++ talk.more))
   too_many n most = (
     TakesLines-front s.unread left (talk.lines ++ talk.more) talk.read,
     omega (arith, most, talk.many),

@@ -115,8 +115,8 @@ pub(crate) fn talk_from<R: Source, W: Sink, J: Journal>(
     )
 }
 
-/// Reads lines to the end of an input, and answers each that is not blank by one line: a call as a run does, with seat 0
-/// and its place in the whole history for a ticket, and any other with what is wrong with it. Before an answer is
+/// Reads lines to the end of an input, and answers each that is not blank by one line: a call as a run does, with seat
+/// 0 and its place in the whole history for a ticket, and any other with what is wrong with it. Before an answer is
 /// written its entry is in the journal, and before a read that may wait all answers are written. Nothing that the
 /// scheduler has recorded is kept at the beginning.
 pub fn converse<R: Source, W: Sink, J: Journal>(
