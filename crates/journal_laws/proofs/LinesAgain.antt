@@ -63,7 +63,8 @@ opening_depth : (c : Config) → depth (opening_data c) ≤ 2
 unfolding opening_data config_data
 opening_depth c = omega arith
 
-opening_in-line : (c : Config) → ConfigFits c → first_wrong c ≡ None → opening_in (compact_text (opening_data c)) ≡ Some c
+opening_in-line : (c : Config) → ConfigFits c → first_wrong c ≡ None
+    → opening_in (compact_text (opening_data c)) ≡ Some c
 unfolding opening_in opening_data
 opening_in-line c fits lawful =
     let deep = opening_depth c in
