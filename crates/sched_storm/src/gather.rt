@@ -13,7 +13,9 @@ use ticket_lock::Seat;
 
 /// The seats of all workers, in their order, and what they count together.
 pub struct Gathered {
+    /// The seats, in the order of their workers.
     pub seats: Vec<Seat<Desk>>,
+    /// How many calls of all workers were not recorded.
     pub unrecorded: u64,
     /// The first worker that its gate held, if any.
     pub held: Option<usize>,

@@ -22,10 +22,15 @@ use ticket_lock::Seat;
 /// What a worker is given, for contracts alone.
 #[derive(Drop)]
 pub struct Given<R: Starts, G: Gate> {
+    /// The scheduler's configuration.
     pub config: Snapshot<Checked>,
+    /// The gate that lets the worker pass before each call.
     pub gate: Snapshot<G>,
+    /// The seat by which it makes its calls.
     pub seat: Snapshot<Seat<Desk>>,
+    /// The calls that it makes, in their order.
     pub script: Snapshot<Vec<Call>>,
+    /// What starts its thread.
     pub starts: PhantomData<R>,
 }
 
@@ -45,7 +50,9 @@ pub enum Job<R: Starts, G: Gate> {
 /// Room for the threads of a storm and for the seats that come back, made before they start.
 #[derive(Drop)]
 pub struct Rooms<R: Starts, G: Gate> {
+    /// Room for the workers that run, one for each script.
     pub jobs: Vec<Job<R, G>>,
+    /// Room for their seats, one for each script.
     pub row: Vec<Seat<Desk>>,
 }
 
