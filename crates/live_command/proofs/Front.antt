@@ -145,7 +145,7 @@ not_input config line fault (inr why) input =
     absurd (subst (λ (r : Result Configuration TextFault). IfErr r IsOfText) (misses (λ e. cc))
     (faults-opening_in line))
 
--- so such a fault tells no failed read
+-- where what stands in front is at fault, no read has failed
 pub unfailed_front : (config : Configuration) (line : List ℕ) (r : Result (Option Told) LiveFault)
     → IfErr r (MissesFront config line) → (before after : Bool) → after ≡ before
     → FailsBy (Text Input) r before after

@@ -27,13 +27,13 @@ pub on_ok : {A E : Type 0} (P : Type 0) (Q S : E → Type 0) (r : Result A E) �
 on_ok P Q S (Ok x) holds = holds
 on_ok P Q S (Err e) holds = tt
 
--- what follows from the first of two facts that hold where there is none
+-- where there is a fault, the first of two facts that hold of it
 pub on_err-first : {A E : Type 0} (P : Type 0) (Q S : E → Type 0) (r : Result A E)
     → MatchResult r (λ _. P) (λ e. Q e × S e) → IfErr r Q
 on_err-first P Q S (Ok x) holds = tt
 on_err-first P Q S (Err e) holds = holds.0
 
--- and from the second
+-- and the second of them
 pub on_err-second : {A E : Type 0} (P : Type 0) (Q S : E → Type 0) (r : Result A E)
     → MatchResult r (λ _. P) (λ e. Q e × S e) → IfErr r S
 on_err-second P Q S (Ok x) holds = tt
