@@ -48,7 +48,7 @@ unfolding opening_of_line
 opening_of_long line long = rw (lt-ltb MAX_LINE (length line) long) refl
 
 module _ (unread left : Option (List ℕ)) (hand : AtHand) where
-  -- the line that was told is what an opening is read from
+  -- the opening is the line that was told, and was read
   abbrev pub opens : (outcome : Result Configuration TextFault) → TellsSpoken unread left hand Line
       → opening_in hand.line ≡ outcome → Opens unread left outcome
   opens outcome tells says = record {
