@@ -35,12 +35,15 @@ pub fn run_audit_journal<R: Source, W: Sink>(
         (W.contents writer.old) (W.contents writer.new)) }
 
     // Each fault comes under its own condition.
-    ensures stops { IfErr result (StopsJournalAudit (R.remaining reader.old) (R.remaining reader.new)) }
+    ensures stops { IfErr result
+        (StopsJournalAudit (R.remaining reader.old) (R.remaining reader.new)) }
     ensures quiet { WritesLast result writer.old writer.new }
 
     // A failed read or write is told where one has failed, and where all went well none did.
-    ensures failed_read { TellsFailedRead result (R.has_failed reader.old) (R.has_failed reader.new) }
-    ensures failed_write { TellsFailedWrite result (W.has_failed writer.old) (W.has_failed writer.new) }
+    ensures failed_read { TellsFailedRead result
+        (R.has_failed reader.old) (R.has_failed reader.new) }
+    ensures failed_write { TellsFailedWrite result
+        (W.has_failed writer.old) (W.has_failed writer.new) }
 {
     match judge_journal(alloc, reader)? {
         Judged::Legal(auditor, torn) => {

@@ -18,7 +18,9 @@ pub enum Doing<L> {
 
 /// What a token knows. No value of it is made.
 pub struct View<A, L> {
+    /// What the tray was told when it was opened.
     pub about: A,
+    /// What the token does there.
     pub doing: Doing<L>,
 }
 
@@ -56,10 +58,14 @@ impl<D: Deal> TableRule<Lying<D>, View<D::About, D::Left>, D::About> for TrayRul
     ghost first = { idle_view };
 }
 
+/// What lies in the slot of a tray, if anything does.
 pub type Lying<D: Deal> = Option<Kept<D::Left, D::Back>>;
 
+/// The table of a tray.
 pub type Board<D: Deal> = Table<Lying<D>, View<D::About, D::Left>, D::About, TrayRule<D>, Global>;
 
+/// What the tokens of a tray share of its table.
 pub type Steps<D: Deal> = Shared<Lying<D>, View<D::About, D::Left>, D::About, TrayRule<D>>;
 
+/// A token at the table of a tray.
 pub type Place<D: Deal> = Seat<Lying<D>, View<D::About, D::Left>>;

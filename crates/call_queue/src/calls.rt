@@ -182,7 +182,8 @@ impl<T: Journal, C: Calling<T>> CallQueue<T, C> {
 
     // Puts back what was taken up, whose ticket is served: its seat goes on by itself.
     fn give_back(&self, taken: Taken<'_, T, C>)
-        requires taken { taken.serving ≡ record { tray = taken.tray.now; left = Some (taken.ticket, taken.call) } }
+        requires taken { taken.serving
+            ≡ record { tray = taken.tray.now; left = Some (taken.ticket, taken.call) } }
     {
         let Taken {
             tray,
@@ -200,7 +201,8 @@ impl<T: Journal, C: Calling<T>> CallQueue<T, C> {
     // next ticket, if it was.
     fn make_next<'a, R: Wait>(&'a self, rt: &R, taken: Taken<'a, T, C>) -> Option<Taken<'a, T, C>>
         requires own { taken.ticket.lock ≡ self.now }
-        requires taken { taken.serving ≡ record { tray = taken.tray.now; left = Some (taken.ticket, taken.call) } }
+        requires taken { taken.serving
+            ≡ record { tray = taken.tray.now; left = Some (taken.ticket, taken.call) } }
         ensures taken { IfSome result (λ t. (t.ticket.lock ≡ self.now)
             × (t.serving ≡ record { tray = t.tray.now; left = Some (t.ticket, t.call) })) }
     {
@@ -220,7 +222,8 @@ impl<T: Journal, C: Calling<T>> CallQueue<T, C> {
     // Makes the calls that were left with the next tickets, at most so many, and then wakes those who sleep.
     fn call_for_others<'a, R: Wait>(&'a self, rt: &R, first: Taken<'a, T, C>)
         requires own { first.ticket.lock ≡ self.now }
-        requires taken { first.serving ≡ record { tray = first.tray.now; left = Some (first.ticket, first.call) } }
+        requires taken { first.serving
+            ≡ record { tray = first.tray.now; left = Some (first.ticket, first.call) } }
     {
         let mut taken = first;
         let mut answered = 0;

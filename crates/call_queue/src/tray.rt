@@ -49,7 +49,8 @@ impl<D: Deal> Model for Waiting<D> {
 
     ghost view = { λ w. standing_of w.place.table_id w.place.me.0 };
 
-    ghost invariant = { λ w. ((l : D.Left) × (w.place.me.0.doing ≡ Waits l)) × (w.place.me.1 ≡ []) };
+    ghost invariant = { λ w. ((l : D.Left) × (w.place.me.0.doing ≡ Waits l))
+        × (w.place.me.1 ≡ []) };
 }
 
 /// What a thread has that has taken up what was left on a tray. It has no `Drop`, so it has to answer it, or put it
@@ -106,7 +107,8 @@ impl<D: Deal> Tray<D> {
     /// Takes back the answer to what was left, if it is there. One step, no memory, no wait.
     pub fn take_back(&self, waiting: Waiting<D>) -> Result<D::Back, Waiting<D>>
         requires own { waiting.tray ≡ self.now }
-        ensures answered { IfOk result (λ b. (l : D.Left) × (waiting.left ≡ Some l) × D.answers l b) }
+        ensures answered { IfOk result
+            (λ b. (l : D.Left) × (waiting.left ≡ Some l) × D.answers l b) }
         ensures given_back { IfErr result (λ w. w ≡ waiting) }
     {
         let Waiting { mut place } = waiting;

@@ -20,7 +20,8 @@ impl<D: Deal> Tray<D> {
     /// Looks or sleeps until what was left is answered, or this thread is to take it back.
     pub fn wait<R: Wait>(&self, rt: &R, waiting: Waiting<D>) -> Result<D::Back, D::Left>
         requires own { waiting.tray ≡ self.now }
-        ensures answered { IfOk result (λ b. (l : D.Left) × (waiting.left ≡ Some l) × D.answers l b) }
+        ensures answered { IfOk result
+            (λ b. (l : D.Left) × (waiting.left ≡ Some l) × D.answers l b) }
         ensures left { IfErr result (λ l. waiting.left ≡ Some l) }
     {
         let mut mine = waiting;

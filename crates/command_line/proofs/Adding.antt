@@ -10,6 +10,7 @@ map_push : {A B : Type 0} (f : A → B) (xs : List A) (x : A) → map f (xs ++ x
 map_push f [] x = refl
 map_push f (y ∷ ys) x = ap (λ l. f y ∷ l) (map_push f ys x)
 
+-- a command with one argument more, which does not count for its subcommands, has its id behind the others
 pub IsCommand-arg : (old new : Command) (arg : Arg) (name id : List ℕ) (ids : List (List ℕ))
     (subs : List (List ℕ × List (List ℕ))) → IsCommand old name ids subs → AddsArg old arg new → arg.global ≡ false
     → arg.id.now ≡ id → IsCommand new name (ids ++ id ∷ []) subs
@@ -24,6 +25,7 @@ IsCommand-arg old new arg name id ids subs was adds plain called =
       local = adds.globals ∙ ap (λ b. b || arg.global) was.local ∙ plain;
     }
 
+-- a command with one subcommand more has its words behind those of the others
 pub IsCommand-sub : (old sub new : Command) (name sub_name : List ℕ) (ids sub_ids : List (List ℕ))
     (subs none : List (List ℕ × List (List ℕ))) → IsCommand old name ids subs → AddsSubcommand old sub new
     → IsCommand sub sub_name sub_ids none → IsCommand new name ids (subs ++ (sub_name, sub_ids) ∷ [])

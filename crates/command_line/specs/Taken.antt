@@ -4,6 +4,7 @@ use Rattle.clap.specs.Words.{Rule, Shape, app_of}
 use Rattle.clap.specs.declared.builder.command.Command.{Command}
 use Rattle.clap.specs.declared.builder.command.Command.TheViews.{out-Command as fields_of}
 
+-- the ids of some arguments, in their order
 abbrev pub ids_of : List Rule → List (List ℕ)
 ids_of rules = map (λ (r : Rule). r.id) rules
 

@@ -137,7 +137,8 @@ fn decode_command<'a>(alloc: Global) -> Result<Command<'a>, AllocError>
 
 // The command that judges a history.
 fn audit_command<'a>(alloc: Global) -> Result<Command<'a>, AllocError>
-    ensures { IfOk result (λ r. IsCommand r (codes "audit") (codes "explain" ∷ codes "journal" ∷ []) []) }
+    ensures { IfOk result
+        (λ r. IsCommand r (codes "audit") (codes "explain" ∷ codes "journal" ∷ []) []) }
 {
     let about = "Reads a history from standard input and prints whether it is legal";
     let journal = flag(alloc, "journal", "Reads a journal, of any length");
@@ -224,7 +225,8 @@ pub fn commands<'a>(alloc: Global) -> Result<Command<'a>, AllocError>
         ((codes "run", codes "history" ∷ codes "journal" ∷ codes "explain" ∷ codes "frames" ∷ [])
         ∷ (codes "decode", codes "HEX" ∷ codes "draw" ∷ codes "columns" ∷ codes "explain" ∷ codes "frame" ∷ [])
         ∷ (codes "draw", codes "from" ∷ codes "count" ∷ [])
-        ∷ (codes "audit", codes "explain" ∷ codes "journal" ∷ []) ∷ (codes "storm", []) ∷ (codes "check", [])
+        ∷ (codes "audit", codes "explain" ∷ codes "journal" ∷ [])
+        ∷ (codes "storm", []) ∷ (codes "check", [])
         ∷ (codes "pcap", codes "mac" ∷ []) ∷ (codes "live", codes "explain" ∷ []) ∷ [])) }
 {
     program(alloc)

@@ -39,13 +39,15 @@ address_text (first ∷ bytes) = encode_lower (first ∷ []) ++ flat_map byte_te
 unfoldable pub map_frame_line : List ℕ → List ℕ
 map_frame_line address = codes "frame map " ++ address_text address ++ codes "\n"
 
--- the number of a fault among those of all frames: 1 length, 2 kind, 3 SID, 4 HCS, 5 CRC, 6 management header
+-- the number of a fault of a request's frame among those of all frames: 1 length, 2 kind, 3 SID, 4 HCS, 5 CRC,
+-- 6 management header
 abbrev pub request_fault_number : RequestFault → ℕ
 request_fault_number requests.Length = 1
 request_fault_number requests.Kind = 2
 request_fault_number requests.Sid = 3
 request_fault_number requests.Hcs = 4
 
+-- the number of a fault of a MAP's frame, among the same
 abbrev pub map_frame_fault_number : MapFrameFault → ℕ
 map_frame_fault_number maps.Length = 1
 map_frame_fault_number maps.Kind = 2
@@ -78,6 +80,7 @@ pub record PutsMapFrame (columns : Option ℕ) (bytes : List ℕ) (old new : Opt
   pub frame : IsMapFrame address payload bytes
   pub carried : PutsCarried columns address payload old new
 
+-- the bytes are a frame of one kind or the other, and what was written shows it
 abbrev pub PutsFrame : Option ℕ → List ℕ → Option (List ℕ) → Option (List ℕ) → Type 0
 PutsFrame columns bytes old new = PutsRequest bytes old new ⊎ PutsMapFrame columns bytes old new
 
@@ -103,6 +106,7 @@ pub record PutsPayloadFault (bytes : List ℕ) (old new : Option (List ℕ)) : T
   pub frame : IsMapFrame address payload bytes
   pub faulty : PutsFault payload old new
 
+-- the bytes are no frame that is shown, and what was written is the first fault
 abbrev pub PutsFrameFault : List ℕ → Option (List ℕ) → Option (List ℕ) → Type 0
 PutsFrameFault bytes old new =
     PutsRequestFault bytes old new ⊎ PutsMapFrameFault bytes old new ⊎ PutsPayloadFault bytes old new

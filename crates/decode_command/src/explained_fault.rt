@@ -109,9 +109,11 @@ fn put_decoded<W: Sink>(
     ensures shown { IfOk result (λ is_payload. MatchBool is_payload
         (PutsMap columns bytes.now (W.contents writer.old) (W.contents writer.new))
         (PutsExplained bytes.now (W.contents writer.old) (W.contents writer.new))) }
-    ensures err { IfErr result (λ e. (e ≡ RunFault.Text TextFault.Memory) ⊎ (e ≡ RunFault.Text TextFault.Output)) }
+    ensures err { IfErr result
+        (λ e. (e ≡ RunFault.Text TextFault.Memory) ⊎ (e ≡ RunFault.Text TextFault.Output)) }
     ensures failed { TellsFailedWrite result (W.has_failed writer.old) (W.has_failed writer.new) }
-    ensures quiet { IfErr result (λ e. e ≡ RunFault.Text TextFault.Memory → writer.new ≡ writer.old) }
+    ensures quiet { IfErr result
+        (λ e. e ≡ RunFault.Text TextFault.Memory → writer.new ≡ writer.old) }
 {
     match decode(alloc, bytes) {
         Ok(map) => {
@@ -144,9 +146,11 @@ pub fn decode_explained<W: Sink>(
         (ShowsExplained text.now (W.contents writer.old) (W.contents writer.new))) }
 
     // No other fault ends it; want of memory only before anything is written.
-    ensures err { IfErr result (λ e. (e ≡ RunFault.Text TextFault.Memory) ⊎ (e ≡ RunFault.Text TextFault.Output)) }
+    ensures err { IfErr result
+        (λ e. (e ≡ RunFault.Text TextFault.Memory) ⊎ (e ≡ RunFault.Text TextFault.Output)) }
     ensures failed { TellsFailedWrite result (W.has_failed writer.old) (W.has_failed writer.new) }
-    ensures quiet { IfErr result (λ e. e ≡ RunFault.Text TextFault.Memory → writer.new ≡ writer.old) }
+    ensures quiet { IfErr result
+        (λ e. e ≡ RunFault.Text TextFault.Memory → writer.new ≡ writer.old) }
 {
     match hex::decode(alloc, text) {
         Ok(bytes) => put_decoded(alloc, &bytes, columns, writer),

@@ -26,7 +26,8 @@ use wire_frame::{MapFrame, MapFrameFault, Request, RequestFault, read_map_frame}
 // A kind, a SID and a number.
 #[tactic(auto, unfolding(crate::specs::Frame::kind_line))]
 fn put_kind<W: Sink>(writer: &mut W, kind: &[u8], sid: u16, number: u16) -> Result<(), TextFault>
-    ensures { Writes W.contents W.has_failed writer.old writer.new (kind_line kind.now sid number) result }
+    ensures { Writes W.contents W.has_failed writer.old writer.new
+        (kind_line kind.now sid number) result }
 {
     put_labelled(writer, kind, u64::from(sid))?;
     put_labelled(writer, b" ", u64::from(number))?;
@@ -60,7 +61,8 @@ fn digits_of(byte: u8) -> [u8; 2]
 // Bytes in hexadecimal, each behind a colon.
 #[tactic(auto, unfolding(crate::specs::Frame::byte_text))]
 fn put_bytes<W: Sink>(writer: &mut W, bytes: &[u8]) -> Result<(), TextFault>
-    ensures { Writes W.contents W.has_failed writer.old writer.new (flat_map byte_text bytes.now) result }
+    ensures { Writes W.contents W.has_failed writer.old writer.new
+        (flat_map byte_text bytes.now) result }
 {
     for byte in bytes {
         put(writer, b":")?;
@@ -71,7 +73,8 @@ fn put_bytes<W: Sink>(writer: &mut W, bytes: &[u8]) -> Result<(), TextFault>
 
 // The line of a MAP's frame from an address.
 fn put_address<W: Sink>(writer: &mut W, address: &[u8; 6]) -> Result<(), TextFault>
-    ensures { Writes W.contents W.has_failed writer.old writer.new (map_frame_line address.now) result }
+    ensures { Writes W.contents W.has_failed writer.old writer.new
+        (map_frame_line address.now) result }
 {
     put(writer, b"frame map ")?;
     put(writer, &digits_of(address[0]))?;
@@ -82,7 +85,8 @@ fn put_address<W: Sink>(writer: &mut W, address: &[u8; 6]) -> Result<(), TextFau
 // The line of a fault of a frame.
 #[tactic(auto, unfolding(crate::specs::Frame::frame_fault_line))]
 fn put_frame_fault<W: Sink>(writer: &mut W, number: u64) -> Result<(), TextFault>
-    ensures { Writes W.contents W.has_failed writer.old writer.new (frame_fault_line number) result }
+    ensures { Writes W.contents W.has_failed writer.old writer.new
+        (frame_fault_line number) result }
 {
     put_labelled(writer, b"fault frame ", number)?;
     put(writer, b"\n")
@@ -124,9 +128,11 @@ fn put_map_from<W: Sink>(
     requires { IsWellFormed map.now }
     ensures ok { OnOk result (Appends (W.contents writer.old) (W.contents writer.new)
         (map_frame_line address.now ++ shown_text columns map.now)) }
-    ensures err { IfErr result (λ e. (e ≡ RunFault.Text TextFault.Memory) ⊎ (e ≡ RunFault.Text TextFault.Output)) }
+    ensures err { IfErr result
+        (λ e. (e ≡ RunFault.Text TextFault.Memory) ⊎ (e ≡ RunFault.Text TextFault.Output)) }
     ensures failed { TellsFailedWrite result (W.has_failed writer.old) (W.has_failed writer.new) }
-    ensures quiet { IfErr result (λ e. e ≡ RunFault.Text TextFault.Memory → writer.new ≡ writer.old) }
+    ensures quiet { IfErr result
+        (λ e. e ≡ RunFault.Text TextFault.Memory → writer.new ≡ writer.old) }
 {
     let Some(columns) = columns else {
         put_address(writer, address)?;
@@ -149,13 +155,17 @@ fn put_carried<W: Sink>(
     columns: Option<u16>,
     writer: &mut W,
 ) -> Result<bool, RunFault>
-    ensures exact { IfOk result (λ is_payload. IsTrue is_payload ↔ IsPayload frame.now.payload.now) }
+    ensures exact { IfOk result
+        (λ is_payload. IsTrue is_payload ↔ IsPayload frame.now.payload.now) }
     ensures shown { IfOk result (λ is_payload. MatchBool is_payload
-        (PutsCarried columns frame.now.address frame.now.payload.now (W.contents writer.old) (W.contents writer.new))
+        (PutsCarried columns frame.now.address frame.now.payload.now
+        (W.contents writer.old) (W.contents writer.new))
         (PutsFault frame.now.payload.now (W.contents writer.old) (W.contents writer.new))) }
-    ensures err { IfErr result (λ e. (e ≡ RunFault.Text TextFault.Memory) ⊎ (e ≡ RunFault.Text TextFault.Output)) }
+    ensures err { IfErr result
+        (λ e. (e ≡ RunFault.Text TextFault.Memory) ⊎ (e ≡ RunFault.Text TextFault.Output)) }
     ensures failed { TellsFailedWrite result (W.has_failed writer.old) (W.has_failed writer.new) }
-    ensures quiet { IfErr result (λ e. e ≡ RunFault.Text TextFault.Memory → writer.new ≡ writer.old) }
+    ensures quiet { IfErr result
+        (λ e. e ≡ RunFault.Text TextFault.Memory → writer.new ≡ writer.old) }
 {
     match decode(alloc, frame.payload) {
         Ok(map) => {
@@ -182,9 +192,11 @@ fn put_map_frame<W: Sink>(
     ensures shown { IfOk result (λ is_frame. MatchBool is_frame
         (PutsMapFrame columns bytes.now (W.contents writer.old) (W.contents writer.new))
         (PutsFrameFault bytes.now (W.contents writer.old) (W.contents writer.new))) }
-    ensures err { IfErr result (λ e. (e ≡ RunFault.Text TextFault.Memory) ⊎ (e ≡ RunFault.Text TextFault.Output)) }
+    ensures err { IfErr result
+        (λ e. (e ≡ RunFault.Text TextFault.Memory) ⊎ (e ≡ RunFault.Text TextFault.Output)) }
     ensures failed { TellsFailedWrite result (W.has_failed writer.old) (W.has_failed writer.new) }
-    ensures quiet { IfErr result (λ e. e ≡ RunFault.Text TextFault.Memory → writer.new ≡ writer.old) }
+    ensures quiet { IfErr result
+        (λ e. e ≡ RunFault.Text TextFault.Memory → writer.new ≡ writer.old) }
 {
     match read_map_frame(bytes) {
         Ok(frame) => put_carried(alloc, &frame, columns, writer),
@@ -213,9 +225,11 @@ fn put_frame<W: Sink>(
     ensures shown { IfOk result (λ is_frame. MatchBool is_frame
         (PutsFrame columns bytes.now (W.contents writer.old) (W.contents writer.new))
         (PutsFrameFault bytes.now (W.contents writer.old) (W.contents writer.new))) }
-    ensures err { IfErr result (λ e. (e ≡ RunFault.Text TextFault.Memory) ⊎ (e ≡ RunFault.Text TextFault.Output)) }
+    ensures err { IfErr result
+        (λ e. (e ≡ RunFault.Text TextFault.Memory) ⊎ (e ≡ RunFault.Text TextFault.Output)) }
     ensures failed { TellsFailedWrite result (W.has_failed writer.old) (W.has_failed writer.new) }
-    ensures quiet { IfErr result (λ e. e ≡ RunFault.Text TextFault.Memory → writer.new ≡ writer.old) }
+    ensures quiet { IfErr result
+        (λ e. e ≡ RunFault.Text TextFault.Memory → writer.new ≡ writer.old) }
 {
     if !is_request_long(bytes) {
         return put_map_frame(alloc, bytes, columns, writer);
@@ -255,9 +269,11 @@ pub fn decode_frame<W: Sink>(
 
     // No other fault ends it; want of memory only before anything is written, and not where the digits are odd in
     // number.
-    ensures err { IfErr result (λ e. (e ≡ RunFault.Text TextFault.Memory) ⊎ (e ≡ RunFault.Text TextFault.Output)) }
+    ensures err { IfErr result
+        (λ e. (e ≡ RunFault.Text TextFault.Memory) ⊎ (e ≡ RunFault.Text TextFault.Output)) }
     ensures failed { TellsFailedWrite result (W.has_failed writer.old) (W.has_failed writer.new) }
-    ensures quiet { IfErr result (λ e. e ≡ RunFault.Text TextFault.Memory → writer.new ≡ writer.old) }
+    ensures quiet { IfErr result
+        (λ e. e ≡ RunFault.Text TextFault.Memory → writer.new ≡ writer.old) }
     ensures odd { length text.now % 2 ≡ 1 → IfErr result (λ e. e ≡ RunFault.Text TextFault.Output) }
 {
     match hex::decode(alloc, text) {

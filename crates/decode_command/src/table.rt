@@ -195,10 +195,13 @@ pub(crate) fn put_map<W: Sink>(
     writer: &mut W,
 ) -> Result<(), RunFault>
     requires { IsWellFormed map.now }
-    ensures ok { OnOk result (Appends (W.contents writer.old) (W.contents writer.new) (shown_text columns map.now)) }
-    ensures err { IfErr result (λ e. (e ≡ RunFault.Text TextFault.Memory) ⊎ (e ≡ RunFault.Text TextFault.Output)) }
+    ensures ok { OnOk result
+        (Appends (W.contents writer.old) (W.contents writer.new) (shown_text columns map.now)) }
+    ensures err { IfErr result
+        (λ e. (e ≡ RunFault.Text TextFault.Memory) ⊎ (e ≡ RunFault.Text TextFault.Output)) }
     ensures failed { TellsFailedWrite result (W.has_failed writer.old) (W.has_failed writer.new) }
-    ensures quiet { IfErr result (λ e. e ≡ RunFault.Text TextFault.Memory → writer.new ≡ writer.old) }
+    ensures quiet { IfErr result
+        (λ e. e ≡ RunFault.Text TextFault.Memory → writer.new ≡ writer.old) }
 {
     let Some(columns) = columns else {
         put_table(writer, map)?;
@@ -223,9 +226,11 @@ fn put_decoded<W: Sink>(
     ensures shown { IfOk result (λ is_payload. MatchBool is_payload
         (PutsMap columns bytes.now (W.contents writer.old) (W.contents writer.new))
         (PutsFault bytes.now (W.contents writer.old) (W.contents writer.new))) }
-    ensures err { IfErr result (λ e. (e ≡ RunFault.Text TextFault.Memory) ⊎ (e ≡ RunFault.Text TextFault.Output)) }
+    ensures err { IfErr result
+        (λ e. (e ≡ RunFault.Text TextFault.Memory) ⊎ (e ≡ RunFault.Text TextFault.Output)) }
     ensures failed { TellsFailedWrite result (W.has_failed writer.old) (W.has_failed writer.new) }
-    ensures quiet { IfErr result (λ e. e ≡ RunFault.Text TextFault.Memory → writer.new ≡ writer.old) }
+    ensures quiet { IfErr result
+        (λ e. e ≡ RunFault.Text TextFault.Memory → writer.new ≡ writer.old) }
     ensures payload { IfErr result (λ e. e ≡ RunFault.Text TextFault.Memory → IsPayload bytes.now) }
 {
     match decode(alloc, bytes) {
@@ -263,9 +268,11 @@ pub fn decode_text<W: Sink>(
 
     // No other fault ends it; want of memory only before anything is written, and not where the
     // digits are odd in number.
-    ensures err { IfErr result (λ e. (e ≡ RunFault.Text TextFault.Memory) ⊎ (e ≡ RunFault.Text TextFault.Output)) }
+    ensures err { IfErr result
+        (λ e. (e ≡ RunFault.Text TextFault.Memory) ⊎ (e ≡ RunFault.Text TextFault.Output)) }
     ensures failed { TellsFailedWrite result (W.has_failed writer.old) (W.has_failed writer.new) }
-    ensures quiet { IfErr result (λ e. e ≡ RunFault.Text TextFault.Memory → writer.new ≡ writer.old) }
+    ensures quiet { IfErr result
+        (λ e. e ≡ RunFault.Text TextFault.Memory → writer.new ≡ writer.old) }
     ensures odd { length text.now % 2 ≡ 1 → IfErr result (λ e. e ≡ RunFault.Text TextFault.Output) }
 {
     match hex::decode(alloc, text) {

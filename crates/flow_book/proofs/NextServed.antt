@@ -17,6 +17,7 @@ pub record IsFound (c : Config) (items : List Flow) (start room i : ℕ) (f : Fl
   pub next : IsNext c (map live items) start room (live f)
 
 module _ (c : Config) (items : List Flow) (start room i : ℕ) (f : Flow) where
+  -- the flow at a place where the test for the next to be served holds is the one that is found
   pub found-next : Ascend (map live items)
       → IsSomeAnd (slice_get (map live items) i) (IsNext c (map live items) start room) → f ≡ get_or items i f
       → IsFound c items start room i f

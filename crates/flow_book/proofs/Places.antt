@@ -147,8 +147,8 @@ flow_of-member flows f up (k, lt, at) =
     ∙ ap Some at
 
 -- in a list by SID each flow stands at its place
-pub placed-at : (items : List Flow) (i : ℕ) (f : Flow) → Ascend (map live items) → i < length items → f ≡ get_or items i f
-    → StandsAt f.sid items i f
+pub placed-at : (items : List Flow) (i : ℕ) (f : Flow) → Ascend (map live items) → i < length items
+    → f ≡ get_or items i f → StandsAt f.sid items i f
 placed-at items i f up within is =
     let here : (get_or items i f).sid ≡ f.sid = ap (λ (g : Flow). g.sid) (sym is) in
     placed f.sid items i f

@@ -167,6 +167,7 @@ IsUtf8-one : (x : ℕ) (text : List ℕ) → are_ascii (x ∷ []) ≡ true → I
 IsUtf8-one x text small h = IsUtf8-append (x ∷ []) text (IsUtf8-are_ascii (x ∷ []) small) h
 
 mutual
+  -- the text of readable data is UTF-8
   pub IsUtf8-compact : (d : Data) → IsReadable d → IsUtf8 (compact_text d)
   IsUtf8-compact null h = IsUtf8-are_ascii (compact_text null) refl
   IsUtf8-compact (boolean true) h = IsUtf8-are_ascii (compact_text (boolean true)) refl

@@ -42,6 +42,7 @@ entry_in-line e fits =
     let deep = depth-entry e in
     rw (value-compact (entry_data e) (entry_readable e fits) (omega (arith, deep))) (entry_of-data e fits)
 
+-- the line of an entry is read back as that entry
 pub entry_line-read : IsEntryLine
 unfolding entry_line
 entry_line-read e fits = (
@@ -62,7 +63,8 @@ opening_depth : (c : Config) → depth (opening_data c) ≤ 2
 unfolding opening_data config_data
 opening_depth c = omega arith
 
-opening_in-line : (c : Config) → ConfigFits c → first_wrong c ≡ None → opening_in (compact_text (opening_data c)) ≡ Some c
+opening_in-line : (c : Config) → ConfigFits c → first_wrong c ≡ None
+    → opening_in (compact_text (opening_data c)) ≡ Some c
 unfolding opening_in opening_data
 opening_in-line c fits lawful =
     let deep = opening_depth c in
@@ -92,6 +94,7 @@ lines_within : (es : List Entry) → AllByRecursion EntryFits es → AllByRecurs
 lines_within [] fits = tt
 lines_within (e ∷ es) fits = (compact_within (entry_data e) (entry_readable e fits.0), lines_within es fits.1)
 
+-- the text of a journal is lines, none of them too long, that are read back as its configuration and its entries
 pub journal_text-read : IsJournalAgain
 unfolding opening_line
 journal_text-read c es config_fits lawful fits short_opening short =

@@ -316,6 +316,7 @@ opened-line before remaining hand shown (Some c) told same is =
     StandSoFar-opening before (untold hand remaining) told.line c told.within told.taken
     (in_line-short opening_in told.line told.is.1 ∙ ap opening_in (sym (same ∙ told.is.0)) ∙ sym is)
 
+-- a first line that is too long stands for no configuration
 pub HasOtherOpening-long : (before remaining : Option (List ℕ)) (hand : AtHand)
     → TellsWhole before (untold hand remaining) hand Long → HasNoOpening before remaining
 HasOtherOpening-long before remaining hand told =
@@ -325,6 +326,7 @@ HasOtherOpening-long before remaining hand told =
 -- what comes of a line behind the first
 module _ (before mid remaining : Option (List ℕ)) (hand : AtHand) (c : Config) (past : Past) (same : past.config ≡ c)
     (so_far : StandSoFar before mid c past.history) where
+  -- one that is too long stands for no entry
   pub FindsNoEntry-long : TellsWhole mid (untold hand remaining) hand Long
       → FindsNoEntry before remaining (length past.history + 1)
   FindsNoEntry-long told =
@@ -335,6 +337,7 @@ module _ (before mid remaining : Option (List ℕ)) (hand : AtHand) (c : Config)
     at_line : {o : Option Entry} → entry_in_line shown ≡ o → entry_in_line told.line ≡ o
     at_line stands = ap entry_in_line (sym (is ∙ told.is.0)) ∙ stands
 
+    -- one that stands for an entry that may follow goes on with the history
     pub StandSoFar-entry : (new : Past) → TakesEntry past new shown
         → StandSoFar before (untold hand remaining) c new.history
     StandSoFar-entry new takes =
@@ -345,6 +348,7 @@ module _ (before mid remaining : Option (List ℕ)) (hand : AtHand) (c : Config)
         (StandSoFar-push before mid remaining hand.bytes c past.history so_far told.line told.within told.taken
         takes.entry (at_line takes.is) legal)
 
+    -- one whose entry may not follow is the first that may not
     pub FindsIllegal-entry : (new : Past) (n : ℕ) → MeetsIllegal past new shown → n ≡ length new.history
         → FindsIllegal before remaining n
     FindsIllegal-entry new n meets count =
@@ -354,6 +358,7 @@ module _ (before mid remaining : Option (List ℕ)) (hand : AtHand) (c : Config)
         (FindsIllegal-line before mid remaining hand.bytes c past.history so_far told.line told.within told.taken
         meets.entry (at_line meets.is) no_step)
 
+    -- one that stands for no entry is the first that does not
     pub FindsNoEntry-none : (new : Past) (n : ℕ) → entry_in_line shown ≡ None → new ≡ past → n ≡ length new.history
         → FindsNoEntry before remaining (n + 1)
     FindsNoEntry-none new n none stays count =
@@ -362,6 +367,7 @@ module _ (before mid remaining : Option (List ℕ)) (hand : AtHand) (c : Config)
         (FindsNoEntry-line before mid remaining hand.bytes c past.history so_far told.line told.within told.taken
         (at_line none))
 
+    -- one that is not judged stops the journal, with the same fault
     pub StopsJournal-taking : (fault : TextFault) → StopsTaking past shown fault → StopsJournal before remaining fault
     StopsJournal-taking Input stops = absurd stops
     StopsJournal-taking TooLong stops =

@@ -38,7 +38,8 @@ fn read_opening<R: Source>(
         (untold lines.new (R.remaining reader.new)) c [])) }
     ensures stops { IfErr result
         (StopsJournal (untold lines.old (R.remaining reader.old)) (R.remaining reader.new)) }
-    ensures failed { FailsBy TextFault.Input result (R.has_failed reader.old) (R.has_failed reader.new) }
+    ensures failed { FailsBy TextFault.Input result
+        (R.has_failed reader.old) (R.has_failed reader.new) }
 {
     match lines.next_whole(reader) {
         Ok(Whole::Line) => match opening_in(alloc, lines.line()) {
@@ -65,7 +66,8 @@ fn judge_entries<R: Source>(
     ensures stops { IfErr result (λ fault. (before : Option (List ℕ)) →
         StandSoFar before (untold lines.old (R.remaining reader.old)) auditor.config [] →
         StopsJournal before (R.remaining reader.new) fault) }
-    ensures failed { FailsBy TextFault.Input result (R.has_failed reader.old) (R.has_failed reader.new) }
+    ensures failed { FailsBy TextFault.Input result
+        (R.has_failed reader.old) (R.has_failed reader.new) }
 {
     let mut scratch = Scratch::new(alloc);
     for _ in 0..=MAX_WHOLE_HISTORY {
@@ -97,7 +99,8 @@ pub fn judge_journal<R: Source>(alloc: Global, reader: &mut R) -> Result<Judged,
     // A failed read is told where one has failed, and a journal is too long only above 2^44 entries or where a line has
     // more bytes than 64 bits can count.
     ensures stops { IfErr result (StopsJournal (R.remaining reader.old) (R.remaining reader.new)) }
-    ensures failed { FailsBy TextFault.Input result (R.has_failed reader.old) (R.has_failed reader.new) }
+    ensures failed { FailsBy TextFault.Input result
+        (R.has_failed reader.old) (R.has_failed reader.new) }
 {
     let mut lines = Lines::new();
     match read_opening(alloc, &mut lines, reader) {

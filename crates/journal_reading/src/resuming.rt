@@ -24,7 +24,8 @@ pub enum Resumed {
 pub fn resume<R: Source>(alloc: Global, reader: &mut R) -> Result<Resumed, TextFault>
     ensures resumes { IfOk result (Resumes (R.remaining reader.old) (R.remaining reader.new)) }
     ensures stops { IfErr result (StopsJournal (R.remaining reader.old) (R.remaining reader.new)) }
-    ensures failed { FailsBy TextFault.Input result (R.has_failed reader.old) (R.has_failed reader.new) }
+    ensures failed { FailsBy TextFault.Input result
+        (R.has_failed reader.old) (R.has_failed reader.new) }
 {
     match judge_journal(alloc, reader) {
         Ok(Judged::Legal(auditor, torn)) => match auditor.into_scheduler() {

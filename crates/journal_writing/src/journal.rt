@@ -21,7 +21,8 @@ use text_stream::{Sink, TextFault, put};
 // Writes the opening: an object with the configuration.
 #[tactic(auto, unfolding(crate::specs::Journal::opening_data))]
 fn put_opening(out: &mut Writer, config: &Config) -> Result<(), AllocError>
-    ensures ok { OnOk result (out.new.tokens ≡ out.old.tokens ++ tokens_of (opening_data config.now)) }
+    ensures ok { OnOk result
+        (out.new.tokens ≡ out.old.tokens ++ tokens_of (opening_data config.now)) }
     ensures before { out.new.before ≡ out.old.before }
 {
     out.begin_object()?;
@@ -45,7 +46,8 @@ pub fn opening_text(alloc: Global, config: &Config) -> Result<Vec<u8>, AllocErro
 // Puts an entry behind a text, without a newline: a part of it where memory runs out.
 fn put_object(alloc: Global, text: &mut Vec<u8>, entry: &Entry) -> Result<(), AllocError>
     requires { IsEncodable entry.now.reply }
-    ensures ok { OnOk result (text.new.items ≡ text.old.items ++ compact_text (entry_data entry.now)) }
+    ensures ok { OnOk result
+        (text.new.items ≡ text.old.items ++ compact_text (entry_data entry.now)) }
     ensures part { (part : List ℕ) × (text.new.items ≡ text.old.items ++ part) }
 {
     let mut out = Writer::new(mem::replace(text, Vec::new(alloc)));
@@ -105,7 +107,8 @@ pub fn put_journal<W: Sink>(
         (journal_text config.now entries.now)) }
     ensures quiet { IfErr result (λ e. e ≢ TextFault.Output → writer.new ≡ writer.old) }
     ensures err { IfErr result (λ e. (e ≡ TextFault.Memory) ⊎ (e ≡ TextFault.Output)) }
-    ensures failed { FailsBy TextFault.Output result (W.has_failed writer.old) (W.has_failed writer.new) }
+    ensures failed { FailsBy TextFault.Output result
+        (W.has_failed writer.old) (W.has_failed writer.new) }
 {
     let text = journal_text(alloc, config, entries)?;
     put(writer, &text)

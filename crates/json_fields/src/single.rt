@@ -15,7 +15,8 @@ fn read_thing<Place, X: FromTokens<Place>>(
     alloc: Global,
     reader: &mut Reader<'_>,
 ) -> Result<X, Stop>
-    ensures { IfOk result (λ thing. (d : Data) × (read_tokens reader.old ≡ Some d) × X.stands_for d thing) }
+    ensures { IfOk result
+        (λ thing. (d : Data) × (read_tokens reader.old ≡ Some d) × X.stands_for d thing) }
 {
     let thing = X::read(alloc, reader, MAX_DEPTH)?;
     if reader.next().is_some() {
@@ -31,7 +32,8 @@ pub fn read_single<Place, X: FromTokens<Place>>(
     scratch: &mut Scratch,
     bytes: &[u8],
 ) -> Result<X, Stop>
-    ensures { IfOk result (λ thing. (d : Data) × (value_of bytes.now ≡ Ok d) × X.stands_for d thing) }
+    ensures { IfOk result
+        (λ thing. (d : Data) × (value_of bytes.now ≡ Ok d) × X.stands_for d thing) }
 {
     let Ok(text) = std::str::from_utf8(bytes) else {
         return Err(Stop::Unusual);

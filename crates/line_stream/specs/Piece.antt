@@ -54,11 +54,12 @@ pub record TellsCut (before after : Option (List ℕ)) (new : AtHand) (c : Cut) 
   pub ends : EndsAt before after line c.torn
   pub is : IsTold line c.told new.line
 
--- what comes of a line that was read
+-- what comes of a line that was told, and that no newline ended where a count of its bytes is given
 abbrev pub whole_from : Option ℕ → Told → Whole
 whole_from None told = whole_of told
 whole_from (Some count) told = Torn count
 
+-- what comes of a line by its cut
 abbrev pub whole_cut : Cut → Whole
 whole_cut c = whole_from c.torn c.told
 

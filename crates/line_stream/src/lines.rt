@@ -88,12 +88,15 @@ impl Lines {
     /// that fails ends it, one that was interrupted among them; the front of a line that was begun is then lost.
     pub fn next<R: Source>(&mut self, reader: &mut R) -> Result<Option<Told>, TextFault>
         ensures told { IfOk result (λ told. MatchOption told
-            (HasEnded (untold self.old (R.remaining reader.old)) (untold self.new (R.remaining reader.new)))
-            (TellsNext (untold self.old (R.remaining reader.old)) (untold self.new (R.remaining reader.new))
+            (HasEnded (untold self.old (R.remaining reader.old))
+            (untold self.new (R.remaining reader.new)))
+            (TellsNext (untold self.old (R.remaining reader.old))
+            (untold self.new (R.remaining reader.new))
             self.new)) }
         ensures stops { IfErr result
             (StopsLine (untold self.old (R.remaining reader.old)) (R.remaining reader.new)) }
-        ensures failed { FailsBy TextFault.Input result (R.has_failed reader.old) (R.has_failed reader.new) }
+        ensures failed { FailsBy TextFault.Input result
+            (R.has_failed reader.old) (R.has_failed reader.new) }
     {
         if let Some(told) = self.at_hand() {
             return Ok(Some(told));
@@ -112,7 +115,8 @@ impl Lines {
             (untold self.new (R.remaining reader.new)) self.new) }
         ensures stops { IfErr result
             (StopsLine (untold self.old (R.remaining reader.old)) (R.remaining reader.new)) }
-        ensures failed { FailsBy TextFault.Input result (R.has_failed reader.old) (R.has_failed reader.new) }
+        ensures failed { FailsBy TextFault.Input result
+            (R.has_failed reader.old) (R.has_failed reader.new) }
     {
         if let Some(told) = self.at_hand() {
             return Ok(whole_of(told));
@@ -128,12 +132,15 @@ impl Lines {
     fn read_on<R: Source>(&mut self, reader: &mut R) -> Result<Option<Cut>, TextFault>
         requires { IsWithinLine self.old.bytes }
         ensures told { IfOk result (λ cut. MatchOption cut
-            (HasEnded (untold self.old (R.remaining reader.old)) (untold self.new (R.remaining reader.new)))
-            (TellsCut (untold self.old (R.remaining reader.old)) (untold self.new (R.remaining reader.new))
+            (HasEnded (untold self.old (R.remaining reader.old))
+            (untold self.new (R.remaining reader.new)))
+            (TellsCut (untold self.old (R.remaining reader.old))
+            (untold self.new (R.remaining reader.new))
             self.new)) }
         ensures stops { IfErr result
             (StopsLine (untold self.old (R.remaining reader.old)) (R.remaining reader.new)) }
-        ensures failed { FailsBy TextFault.Input result (R.has_failed reader.old) (R.has_failed reader.new) }
+        ensures failed { FailsBy TextFault.Input result
+            (R.has_failed reader.old) (R.has_failed reader.new) }
     {
         drop_front(&mut self.bytes, self.next);
         self.line = 0;

@@ -27,13 +27,13 @@ pub(crate) type Bytes = ArrayVec<u8, ROOM>;
 /// Where a line ends among bytes that were read.
 #[derive(Clone, Copy)]
 pub(crate) struct Cut {
-    // What is told of it. The front of a long one is no more among the bytes.
+    /// What is told of it. The front of a long one is no more among the bytes.
     pub told: Told,
-    // Where it ends.
+    /// Where it ends.
     pub end: usize,
-    // Where the bytes behind it begin.
+    /// Where the bytes behind it begin.
     pub next: usize,
-    // How many bytes it has, where no newline ends it.
+    /// How many bytes it has, where no newline ends it.
     pub torn: Option<u64>,
 }
 
@@ -91,7 +91,8 @@ fn end_line(bytes: &mut Bytes, is_long: bool, piece: &[u8], at: usize) -> Cut
 // Ends the last line, which no newline ends, where it has bytes: so many.
 fn last(bytes: &Bytes, is_long: bool, count: u64) -> Option<Cut>
     ensures torn { IfSome result (λ c. c.torn ≡ Some count) }
-    ensures cuts { (front : List ℕ) → IsHeld front is_long bytes.now.items → IsLast front bytes.now.items result }
+    ensures cuts { (front : List ℕ) → IsHeld front is_long bytes.now.items
+        → IsLast front bytes.now.items result }
 {
     let len = bytes.len();
     if len == 0 && !is_long {
@@ -119,7 +120,8 @@ pub(crate) fn read_line<R: Source>(
     ensures stops { IfErr result (StopsLine (prepend_known bytes.old.items (R.remaining reader.old))
         (R.remaining reader.new)) }
     ensures left { IfErr result (λ _. length bytes.new.items ≤ MAX_LINE) }
-    ensures failed { FailsBy TextFault.Input result (R.has_failed reader.old) (R.has_failed reader.new) }
+    ensures failed { FailsBy TextFault.Input result
+        (R.has_failed reader.old) (R.has_failed reader.new) }
 {
     let mut is_long = false;
     let mut count = bytes.len() as u64;

@@ -76,6 +76,7 @@ module _ (config : Configuration) (unread left : Option (List ℕ)) (hand : AtHa
   }
   front_read (Some Long) tells is = absurd is
 
+  -- so what stands in front was read, where there is no fault
   pub reads_front : (r : Result (Option Told) LiveFault) → TellsSpoken unread left hand Line
       → IfOk r (IsFront config hand.line) → IfOk r (ReadsFront config unread left hand)
   reads_front (Ok told) tells is = front_read told tells is
@@ -144,6 +145,7 @@ not_input config line fault (inr why) input =
     absurd (subst (λ (r : Result Configuration TextFault). IfErr r IsOfText) (misses (λ e. cc))
     (faults-opening_in line))
 
+-- a fault of what stands in front is never that a read failed
 pub unfailed_front : (config : Configuration) (line : List ℕ) (r : Result (Option Told) LiveFault)
     → IfErr r (MissesFront config line) → (before after : Bool) → after ≡ before
     → FailsBy (Text Input) r before after

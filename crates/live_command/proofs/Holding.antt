@@ -33,7 +33,8 @@ module _ (explained : Bool) (config : Config) (unread behind left before written
 
     -- one that ends early
     pub ends_early : {A : Type 0} (may : Config → List Entry → Type 0) (untouched quiet : Type 0)
-        (r : Result A LiveFault) → Ended r → IfErr r (Ends explained unread left before written may stands untouched quiet)
+        (r : Result A LiveFault) → Ended r
+        → IfErr r (Ends explained unread left before written may stands untouched quiet)
     ends_early may untouched quiet (Ok x) conversed = tt
     ends_early may untouched quiet (Err e) stopped = inr (inr (record {
       config = config;

@@ -38,6 +38,7 @@ faults-opening_in bytes =
     (λ said. faults-bind (config_said said) (λ config. unless_wrong (first_wrong config) config)
     (faults-config_said said) (λ config. faults-unless_wrong (first_wrong config) config))
 
+-- a line that is not too long is read as an opening
 pub opening_of_short : (line : List ℕ) → length line ≤ MAX_LINE → opening_of_line line ≡ opening_in line
 unfolding opening_of_line
 opening_of_short line short = rw (le-ltb MAX_LINE (length line) short) refl
@@ -47,6 +48,7 @@ unfolding opening_of_line
 opening_of_long line long = rw (lt-ltb MAX_LINE (length line) long) refl
 
 module _ (unread left : Option (List ℕ)) (hand : AtHand) where
+  -- the opening is the line that was told, and was read
   abbrev pub opens : (outcome : Result Configuration TextFault) → TellsSpoken unread left hand Line
       → opening_in hand.line ≡ outcome → Opens unread left outcome
   opens outcome tells says = record {
@@ -64,6 +66,7 @@ module _ (unread left : Option (List ℕ)) (hand : AtHand) where
   opens_well (Ok config) tells gives = opens (Ok config) tells gives
   opens_well (Err fault) tells gives = tt
 
+  -- a fault of an opening is one of a text
   pub of_text : (fault : TextFault) → opening_in hand.line ≡ Err fault → IsOfText fault
   of_text fault e = subst (λ (r : Result Configuration TextFault). IfErr r IsOfText) e (faults-opening_in hand.line)
 

@@ -25,15 +25,18 @@ TakesLines-trans (Some t) (Some u) None xs ys first then = absurd then
 TakesLines-trans (Some t) (Some u) (Some v) xs ys first then =
     first ∙ ap (λ (l : List (List ℕ)). xs ++ l) then ∙ sym (append_assoc xs ys (lines_of v))
 
+-- no line was taken
 pub TakesLines-none : (a : Option (List ℕ)) → TakesLines a [] a
 TakesLines-none None = tt
 TakesLines-none (Some t) = refl
 
+-- lines that were taken are the first ones
 pub TakesLines-front : (a b : Option (List ℕ)) (xs : List (List ℕ)) → TakesLines a xs b → BeginsWith a xs
 TakesLines-front None b xs takes = tt
 TakesLines-front (Some t) None xs takes = absurd takes
 TakesLines-front (Some t) (Some u) xs takes = (lines_of u, takes)
 
+-- and they are all of them, where the input has ended
 pub TakesLines-all : (a b : Option (List ℕ)) (xs : List (List ℕ)) → TakesLines a xs b → IsAtEnd b → AreLines a xs
 TakesLines-all None b xs takes ended = tt
 TakesLines-all (Some t) None xs takes ended = absurd takes
@@ -53,6 +56,7 @@ pub AppendsInPart-all : (a b : Option (List ℕ)) (text : List ℕ) → Appends 
 AppendsInPart-all a b text first =
     (length text, subst (Appends a b) (sym (take_all (length text) text (omega arith))) first)
 
+-- nothing was written
 pub Appends-none : (a : Option (List ℕ)) → Appends a a []
 Appends-none None = tt
 Appends-none (Some xs) = sym (append-nil xs)
@@ -208,7 +212,8 @@ module _ (s : Start) (turns : ℕ) (m : Machine) (left written : Option (List �
       ))
 
   -- so many lines came
-  pub too_many : (n : ℕ) → n ≤ turns → BeginsWith s.unread (talk.lines ++ talk.more) × (n ≤ length (talk.lines ++ talk.more))
+  pub too_many : (n : ℕ) → n ≤ turns → BeginsWith s.unread (talk.lines ++ talk.more)
+      × (n ≤ length (talk.lines ++ talk.more))
   too_many n most = (
     TakesLines-front s.unread left (talk.lines ++ talk.more) talk.read,
     omega (arith, most, talk.many),
@@ -216,6 +221,7 @@ module _ (s : Start) (turns : ℕ) (m : Machine) (left written : Option (List �
 
 module _ (s : Start) (turns : ℕ) (m : Machine) (left written : Option (List ℕ)) (stands : List Entry → Type 0)
     (talk : Talk s turns m left written stands []) where
+  -- all that was said was written
   pub nothing-waits : Appends s.written written (joined (talk.texts ++ talk.answers))
   nothing-waits = out_all s turns m left written stands [] talk written (Appends-none written)
 

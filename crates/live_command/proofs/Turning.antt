@@ -21,17 +21,19 @@ pub first_of_two : {A E : Type 0} (P Q : Type 0) (S : E → Type 0) (r : Result 
 first_of_two P Q S (Ok x) holds = holds.0
 first_of_two P Q S (Err e) holds = holds
 
--- what follows where there is a value, and where there is none
+-- what follows where there is a value
 pub on_ok : {A E : Type 0} (P : Type 0) (Q S : E → Type 0) (r : Result A E) → MatchResult r (λ _. P) (λ e. Q e × S e)
     → OnOk r P
 on_ok P Q S (Ok x) holds = holds
 on_ok P Q S (Err e) holds = tt
 
+-- where there is a fault, the first of two facts that hold of it
 pub on_err-first : {A E : Type 0} (P : Type 0) (Q S : E → Type 0) (r : Result A E)
     → MatchResult r (λ _. P) (λ e. Q e × S e) → IfErr r Q
 on_err-first P Q S (Ok x) holds = tt
 on_err-first P Q S (Err e) holds = holds.0
 
+-- and the second of them
 pub on_err-second : {A E : Type 0} (P : Type 0) (Q S : E → Type 0) (r : Result A E)
     → MatchResult r (λ _. P) (λ e. Q e × S e) → IfErr r S
 on_err-second P Q S (Ok x) holds = tt

@@ -98,6 +98,7 @@ pub record PassesAll (unread left : Option (List ℕ)) : Type 0 where
   pub passed : TakesLines unread blanks left
   pub ended : IsAtEnd left
 
+-- the next line that is not blank was told, or all lines were blank
 abbrev pub FindsSpoken : Option (List ℕ) → Option (List ℕ) → AtHand → Option Told → Type 0
 FindsSpoken unread left hand None = PassesAll unread left
 FindsSpoken unread left hand (Some told) = TellsSpoken unread left hand told

@@ -88,7 +88,8 @@ fn answer_call(
     ensures ok { OnOk result ((answer : Answer)
         × MayGet scheduler.old.config scheduler.old.history call answer
         × (outbox.new ≡ outbox.old ++ answer_line explained answer)
-        × (scheduler.new ≡ record scheduler.old { history = after scheduler.old.history call answer })) }
+        × (scheduler.new
+        ≡ record scheduler.old { history = after scheduler.old.history call answer })) }
     ensures err { IfErr result (λ e. e ≡ TextFault.Memory) }
 {
     let answer = make_call(scheduler, call);

@@ -82,7 +82,8 @@ fn read_front<R: Source>(
         (untold lines.new (R.remaining reader.new)) lines.new) }
     ensures stops { IfErr result (StopsGoing config.now (untold lines.old (R.remaining reader.old))
         (R.remaining reader.new)) }
-    ensures failed { FailsBy (Text TextFault.Input) result (R.has_failed reader.old) (R.has_failed reader.new) }
+    ensures failed { FailsBy (Text TextFault.Input) result
+        (R.has_failed reader.old) (R.has_failed reader.new) }
 {
     match next_spoken(lines, reader)? {
         Some(Told::Line) => tell_first(alloc, scratch, config, lines.line()),
@@ -111,13 +112,15 @@ pub fn go_on<R: Source, W: Sink, J: Journal>(
     // All lines were answered; the journal stands for what was resumed, and the calls of these lines behind it.
     ensures ok { OnOk result (WentOn explained scheduler.old scheduler.new
         (untold lines.old (R.remaining reader.old)) (untold lines.new (R.remaining reader.new))
-        (W.contents writer.old) (W.contents writer.new) (J.stands_for journal.new scheduler.old.config)) }
+        (W.contents writer.old) (W.contents writer.new)
+        (J.stands_for journal.new scheduler.old.config)) }
 
     // Else no line of the conversation came, or the journal did not begin, and nothing was written; or it ended early.
     ensures ends { IfErr result (EndsGoing explained scheduler.old scheduler.new
         (untold lines.old (R.remaining reader.old)) (R.remaining reader.new)
         (W.contents writer.old) (W.contents writer.new)
-        (J.may_begin journal.new scheduler.old.config) (J.stands_for journal.new scheduler.old.config)
+        (J.may_begin journal.new scheduler.old.config)
+        (J.stands_for journal.new scheduler.old.config)
         (NotGoing scheduler.old scheduler.new writer.old writer.new journal.old journal.new)
         (writer.new ≡ writer.old)) }
 
@@ -127,7 +130,8 @@ pub fn go_on<R: Source, W: Sink, J: Journal>(
         (R.has_failed reader.new) }
     ensures failed_write { FailsJustBy (Text TextFault.Output) result (W.has_failed writer.old)
         (W.has_failed writer.new) }
-    ensures failed_journal { FailsJustBy Failed result (J.has_failed journal.old) (J.has_failed journal.new) }
+    ensures failed_journal { FailsJustBy Failed result
+        (J.has_failed journal.old) (J.has_failed journal.new) }
 {
     let mut scratch = Scratch::new(alloc);
     let config = *scheduler.config();

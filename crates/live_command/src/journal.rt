@@ -46,9 +46,12 @@ pub trait Journal {
     /// Begins it under this configuration, or makes it ready to go on where it was begun. Nothing of it is changed
     /// before.
     fn begin(&mut self, config: &Checked) -> Result<(), BeginFault>
-        ensures ok { OnOk result (Keeps (may_begin self.old config.now) (stands_for self.new config.now)) }
-        ensures err { OnErr result (Keeps (may_begin self.old config.now) (may_begin self.new config.now)) }
-        ensures failed { FailsJustBy BeginFault.Failed result (has_failed self.old) (has_failed self.new) };
+        ensures ok { OnOk result
+            (Keeps (may_begin self.old config.now) (stands_for self.new config.now)) }
+        ensures err { OnErr result
+            (Keeps (may_begin self.old config.now) (may_begin self.new config.now)) }
+        ensures failed { FailsJustBy BeginFault.Failed result
+            (has_failed self.old) (has_failed self.new) };
 
     /// Puts entries behind those that it stands for. At the return all of them are in it; where the call failed, the
     /// first of them may be.
@@ -58,7 +61,8 @@ pub trait Journal {
             Grows (stands_for self.old c) (stands_for self.new c) entries.now) }
         ensures err { OnErr result ((c : Configuration) →
             GrowsInPart (stands_for self.old c) (stands_for self.new c) entries.now) }
-        ensures failed { FailsJustBy RecordFault.Failed result (has_failed self.old) (has_failed self.new) };
+        ensures failed { FailsJustBy RecordFault.Failed result
+            (has_failed self.old) (has_failed self.new) };
 }
 
 /// The journal of a conversation that is not recorded.

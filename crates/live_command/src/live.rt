@@ -36,7 +36,8 @@ pub fn hold<R: Source, W: Sink, J: Journal>(
 
     // Else no opening was read, or the journal did not begin, and nothing was written; or the conversation ended early.
     ensures ends { IfErr result (Ends explained (R.remaining reader.old) (R.remaining reader.new)
-        (W.contents writer.old) (W.contents writer.new) (J.may_begin journal.new) (J.stands_for journal.new)
+        (W.contents writer.old) (W.contents writer.new)
+        (J.may_begin journal.new) (J.stands_for journal.new)
         (NotOpened writer.old writer.new journal.old journal.new) (writer.new ≡ writer.old)) }
 
     // A failed read is told only where one has failed, a failed write or journal exactly there; where all went well
@@ -45,7 +46,8 @@ pub fn hold<R: Source, W: Sink, J: Journal>(
         (R.has_failed reader.new) }
     ensures failed_write { FailsJustBy (Text TextFault.Output) result (W.has_failed writer.old)
         (W.has_failed writer.new) }
-    ensures failed_journal { FailsJustBy Failed result (J.has_failed journal.old) (J.has_failed journal.new) }
+    ensures failed_journal { FailsJustBy Failed result
+        (J.has_failed journal.old) (J.has_failed journal.new) }
 {
     let mut lines = Lines::new();
     let mut scratch = Scratch::new(alloc);

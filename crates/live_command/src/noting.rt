@@ -17,10 +17,13 @@ use text_stream::TextFault;
 
 // Begins a journal.
 pub(crate) fn begin<J: Journal>(journal: &mut J, config: &Checked) -> Result<(), LiveFault>
-    ensures ok { OnOk result (Keeps (J.may_begin journal.old config.now) (J.stands_for journal.new config.now)) }
-    ensures err { OnErr result (Keeps (J.may_begin journal.old config.now) (J.may_begin journal.new config.now)) }
+    ensures ok { OnOk result
+        (Keeps (J.may_begin journal.old config.now) (J.stands_for journal.new config.now)) }
+    ensures err { OnErr result
+        (Keeps (J.may_begin journal.old config.now) (J.may_begin journal.new config.now)) }
     ensures why { IfErr result (λ e. (why : BeginFault) × (e ≡ fault_of_begin why)) }
-    ensures failed { FailsJustBy Failed result (J.has_failed journal.old) (J.has_failed journal.new) }
+    ensures failed { FailsJustBy Failed result
+        (J.has_failed journal.old) (J.has_failed journal.new) }
 {
     match journal.begin(config) {
         Ok(()) => Ok(()),
@@ -38,7 +41,8 @@ pub(crate) fn record<J: Journal>(journal: &mut J, entries: &[Entry]) -> Result<(
     ensures err { OnErr result ((c : Configuration) →
         GrowsInPart (J.stands_for journal.old c) (J.stands_for journal.new c) entries.now) }
     ensures why { IfErr result (λ e. (e ≡ Failed) ⊎ (e ≡ Text TextFault.Memory)) }
-    ensures failed { FailsJustBy Failed result (J.has_failed journal.old) (J.has_failed journal.new) }
+    ensures failed { FailsJustBy Failed result
+        (J.has_failed journal.old) (J.has_failed journal.new) }
 {
     match journal.record(entries) {
         Ok(()) => Ok(()),

@@ -47,8 +47,10 @@ pub(crate) fn next_spoken<R: Source>(
 ) -> Result<Option<Told>, TextFault>
     ensures finds { IfOk result (FindsSpoken (untold lines.old (R.remaining reader.old))
         (untold lines.new (R.remaining reader.new)) lines.new) }
-    ensures stops { IfErr result (StopsBefore (untold lines.old (R.remaining reader.old)) (R.remaining reader.new)) }
-    ensures failed { FailsBy TextFault.Input result (R.has_failed reader.old) (R.has_failed reader.new) }
+    ensures stops { IfErr result
+        (StopsBefore (untold lines.old (R.remaining reader.old)) (R.remaining reader.new)) }
+    ensures failed { FailsBy TextFault.Input result
+        (R.has_failed reader.old) (R.has_failed reader.new) }
 {
     for _ in 0..u64::MAX {
         let Some(told) = lines.next(reader)? else {
@@ -70,8 +72,10 @@ pub(crate) fn read_opening<R: Source>(
 ) -> Result<Checked, TextFault>
     ensures ok { IfOk result (λ config. Opens (untold lines.old (R.remaining reader.old))
         (untold lines.new (R.remaining reader.new)) (Ok config)) }
-    ensures stops { IfErr result (StopsOpening (untold lines.old (R.remaining reader.old)) (R.remaining reader.new)) }
-    ensures failed { FailsBy TextFault.Input result (R.has_failed reader.old) (R.has_failed reader.new) }
+    ensures stops { IfErr result
+        (StopsOpening (untold lines.old (R.remaining reader.old)) (R.remaining reader.new)) }
+    ensures failed { FailsBy TextFault.Input result
+        (R.has_failed reader.old) (R.has_failed reader.new) }
 {
     match next_spoken(lines, reader)? {
         Some(Told::Line) => opening_in(alloc, scratch, lines.line()),

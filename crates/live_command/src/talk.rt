@@ -33,7 +33,8 @@ fn talk_on<R: Source, W: Sink, J: Journal>(
         Talk s 0 scheduler.old (untold lines.old (R.remaining reader.old)) (W.contents writer.old)
         (J.stands_for journal.old s.config) outbox.old →
         MatchResult result
-        (λ _. Conversed s scheduler.new (untold lines.new (R.remaining reader.new)) (W.contents writer.new)
+        (λ _. Conversed s scheduler.new
+        (untold lines.new (R.remaining reader.new)) (W.contents writer.new)
         (J.stands_for journal.new s.config))
         (λ e. Stopped s (W.contents writer.new) (J.stands_for journal.new s.config)
         × StopsTalk s scheduler.new (R.remaining reader.new) (W.contents writer.new)
@@ -42,7 +43,8 @@ fn talk_on<R: Source, W: Sink, J: Journal>(
         (R.has_failed reader.new) }
     ensures failed_write { FailsJustBy (Text TextFault.Output) result (W.has_failed writer.old)
         (W.has_failed writer.new) }
-    ensures failed_journal { FailsJustBy Failed result (J.has_failed journal.old) (J.has_failed journal.new) }
+    ensures failed_journal { FailsJustBy Failed result
+        (J.has_failed journal.old) (J.has_failed journal.new) }
 {
     for _ in 0..u64::MAX {
         if !take_turn(
@@ -71,10 +73,12 @@ pub(crate) fn talk_from<R: Source, W: Sink, J: Journal>(
         MatchOption told
         (Talk s 0 scheduler.old (untold lines.old (R.remaining reader.old)) (W.contents writer.old)
         (J.stands_for journal.old s.config) [])
-        (TellsOn s 0 scheduler.old (untold lines.old (R.remaining reader.old)) (W.contents writer.old)
+        (TellsOn s 0 scheduler.old
+        (untold lines.old (R.remaining reader.old)) (W.contents writer.old)
         (J.stands_for journal.old s.config) [] lines.old) →
         MatchResult result
-        (λ _. Conversed s scheduler.new (untold lines.new (R.remaining reader.new)) (W.contents writer.new)
+        (λ _. Conversed s scheduler.new
+        (untold lines.new (R.remaining reader.new)) (W.contents writer.new)
         (J.stands_for journal.new s.config))
         (λ e. Stopped s (W.contents writer.new) (J.stands_for journal.new s.config)
         × StopsTalk s scheduler.new (R.remaining reader.new) (W.contents writer.new)
@@ -83,7 +87,8 @@ pub(crate) fn talk_from<R: Source, W: Sink, J: Journal>(
         (R.has_failed reader.new) }
     ensures failed_write { FailsJustBy (Text TextFault.Output) result (W.has_failed writer.old)
         (W.has_failed writer.new) }
-    ensures failed_journal { FailsJustBy Failed result (J.has_failed journal.old) (J.has_failed journal.new) }
+    ensures failed_journal { FailsJustBy Failed result
+        (J.has_failed journal.old) (J.has_failed journal.new) }
 {
     let mut outbox = Outbox::new(alloc)?;
     take_first(
@@ -110,8 +115,8 @@ pub(crate) fn talk_from<R: Source, W: Sink, J: Journal>(
     )
 }
 
-/// Reads lines to the end of an input, and answers each that is not blank by one line: a call as a run does, with seat 0
-/// and its place in the whole history for a ticket, and any other with what is wrong with it. Before an answer is
+/// Reads lines to the end of an input, and answers each that is not blank by one line: a call as a run does, with seat
+/// 0 and its place in the whole history for a ticket, and any other with what is wrong with it. Before an answer is
 /// written its entry is in the journal, and before a read that may wait all answers are written. Nothing that the
 /// scheduler has recorded is kept at the beginning.
 pub fn converse<R: Source, W: Sink, J: Journal>(
@@ -128,16 +133,19 @@ pub fn converse<R: Source, W: Sink, J: Journal>(
 
     // All lines were answered, and nothing else was written; the journal stands for the whole history.
     ensures ok { OnOk result (Conversed
-        (start_at explained scheduler.old (untold lines.old (R.remaining reader.old)) (W.contents writer.old))
+        (start_at explained scheduler.old
+        (untold lines.old (R.remaining reader.old)) (W.contents writer.old))
         scheduler.new (untold lines.new (R.remaining reader.new)) (W.contents writer.new)
         (J.stands_for journal.new scheduler.old.config)) }
 
     // Wherever else it ended, the journal has the entry of each answer of which a byte was written.
     ensures stopped { IfErr result (λ _. Stopped
-        (start_at explained scheduler.old (untold lines.old (R.remaining reader.old)) (W.contents writer.old))
+        (start_at explained scheduler.old
+        (untold lines.old (R.remaining reader.old)) (W.contents writer.old))
         (W.contents writer.new) (J.stands_for journal.new scheduler.old.config)) }
     ensures stops { IfErr result (StopsTalk
-        (start_at explained scheduler.old (untold lines.old (R.remaining reader.old)) (W.contents writer.old))
+        (start_at explained scheduler.old
+        (untold lines.old (R.remaining reader.old)) (W.contents writer.old))
         scheduler.new (R.remaining reader.new) (W.contents writer.new)
         (J.stands_for journal.new scheduler.old.config)) }
 
@@ -147,7 +155,8 @@ pub fn converse<R: Source, W: Sink, J: Journal>(
         (R.has_failed reader.new) }
     ensures failed_write { FailsJustBy (Text TextFault.Output) result (W.has_failed writer.old)
         (W.has_failed writer.new) }
-    ensures failed_journal { FailsJustBy Failed result (J.has_failed journal.old) (J.has_failed journal.new) }
+    ensures failed_journal { FailsJustBy Failed result
+        (J.has_failed journal.old) (J.has_failed journal.new) }
 {
     let mut scratch = Scratch::new(alloc);
     talk_from(

@@ -28,17 +28,21 @@ pub(crate) fn settle<W: Sink, J: Journal>(
     journal: &mut J,
 ) -> Result<(), LiveFault>
     ensures talk { (s : Start) (turns : ℕ) (left : Option (List ℕ)) →
-        Talk s turns scheduler.old left (W.contents writer.old) (J.stands_for journal.old s.config) outbox.old →
+        Talk s turns scheduler.old left
+        (W.contents writer.old) (J.stands_for journal.old s.config) outbox.old →
         MatchResult result
-        (λ _. Talk s turns scheduler.new left (W.contents writer.new) (J.stands_for journal.new s.config) outbox.new
+        (λ _. Talk s turns scheduler.new left
+        (W.contents writer.new) (J.stands_for journal.new s.config) outbox.new
         × J.stands_for journal.new s.config scheduler.new.history)
         (λ _. Stopped s (W.contents writer.new) (J.stands_for journal.new s.config)) }
     ensures settled { OnOk result (outbox.new ≡ []) }
-    ensures handed { OnOk result (scheduler.new ≡ record scheduler.old { handed = length scheduler.old.history }) }
+    ensures handed { OnOk result
+        (scheduler.new ≡ record scheduler.old { handed = length scheduler.old.history }) }
     ensures err { IfErr result IsAnywhere }
     ensures failed_write { FailsJustBy (Text TextFault.Output) result (W.has_failed writer.old)
         (W.has_failed writer.new) }
-    ensures failed_journal { FailsJustBy Failed result (J.has_failed journal.old) (J.has_failed journal.new) }
+    ensures failed_journal { FailsJustBy Failed result
+        (J.has_failed journal.old) (J.has_failed journal.new) }
 {
     record(journal, scheduler.history())?;
     scheduler.forget();
@@ -54,15 +58,18 @@ fn make_room<W: Sink, J: Journal>(
     journal: &mut J,
 ) -> Result<(), LiveFault>
     ensures talk { (s : Start) (turns : ℕ) (left : Option (List ℕ)) →
-        Talk s turns scheduler.old left (W.contents writer.old) (J.stands_for journal.old s.config) outbox.old →
+        Talk s turns scheduler.old left
+        (W.contents writer.old) (J.stands_for journal.old s.config) outbox.old →
         MatchResult result
-        (λ _. Talk s turns scheduler.new left (W.contents writer.new) (J.stands_for journal.new s.config) outbox.new)
+        (λ _. Talk s turns scheduler.new left
+        (W.contents writer.new) (J.stands_for journal.new s.config) outbox.new)
         (λ _. Stopped s (W.contents writer.new) (J.stands_for journal.new s.config)) }
     ensures room { OnOk result (length (kept_of scheduler.new) < scheduler.new.config.calls) }
     ensures err { IfErr result IsAnywhere }
     ensures failed_write { FailsJustBy (Text TextFault.Output) result (W.has_failed writer.old)
         (W.has_failed writer.new) }
-    ensures failed_journal { FailsJustBy Failed result (J.has_failed journal.old) (J.has_failed journal.new) }
+    ensures failed_journal { FailsJustBy Failed result
+        (J.has_failed journal.old) (J.has_failed journal.new) }
 {
     let calls = scheduler.config().calls() as usize;
     if scheduler.history().len() < calls && !outbox.is_full() {
@@ -81,13 +88,16 @@ fn next_line<R: Source, W: Sink, J: Journal>(
     journal: &mut J,
 ) -> Result<Option<Told>, LiveFault>
     ensures talk { (s : Start) (turns : ℕ) →
-        Talk s turns scheduler.old (untold lines.old (R.remaining reader.old)) (W.contents writer.old)
+        Talk s turns scheduler.old
+        (untold lines.old (R.remaining reader.old)) (W.contents writer.old)
         (J.stands_for journal.old s.config) outbox.old →
         MatchResult result
         (λ told. MatchOption told
-        (Conversed s scheduler.new (untold lines.new (R.remaining reader.new)) (W.contents writer.new)
+        (Conversed s scheduler.new
+        (untold lines.new (R.remaining reader.new)) (W.contents writer.new)
         (J.stands_for journal.new s.config))
-        (TellsOn s turns scheduler.new (untold lines.new (R.remaining reader.new)) (W.contents writer.new)
+        (TellsOn s turns scheduler.new
+        (untold lines.new (R.remaining reader.new)) (W.contents writer.new)
         (J.stands_for journal.new s.config) outbox.new lines.new))
         (λ e. Stopped s (W.contents writer.new) (J.stands_for journal.new s.config)
         × StopsTalk s scheduler.new (R.remaining reader.new) (W.contents writer.new)
@@ -96,7 +106,8 @@ fn next_line<R: Source, W: Sink, J: Journal>(
         (R.has_failed reader.new) }
     ensures failed_write { FailsJustBy (Text TextFault.Output) result (W.has_failed writer.old)
         (W.has_failed writer.new) }
-    ensures failed_journal { FailsJustBy Failed result (J.has_failed journal.old) (J.has_failed journal.new) }
+    ensures failed_journal { FailsJustBy Failed result
+        (J.has_failed journal.old) (J.has_failed journal.new) }
 {
     if let Some(told) = lines.at_hand() {
         return Ok(Some(told));
@@ -119,16 +130,19 @@ fn take_told<W: Sink, J: Journal>(
     explained: bool,
 ) -> Result<(), LiveFault>
     ensures talk { (s : Start) (turns : ℕ) (left : Option (List ℕ)) → s.explained ≡ explained →
-        TellsOn s turns scheduler.old left (W.contents writer.old) (J.stands_for journal.old s.config) outbox.old
+        TellsOn s turns scheduler.old left
+        (W.contents writer.old) (J.stands_for journal.old s.config) outbox.old
         lines.now told →
         MatchResult result
-        (λ _. Talk s (turns + 1) scheduler.new left (W.contents writer.new) (J.stands_for journal.new s.config)
+        (λ _. Talk s (turns + 1) scheduler.new left
+        (W.contents writer.new) (J.stands_for journal.new s.config)
         outbox.new)
         (λ _. Stopped s (W.contents writer.new) (J.stands_for journal.new s.config)) }
     ensures err { IfErr result IsAnywhere }
     ensures failed_write { FailsJustBy (Text TextFault.Output) result (W.has_failed writer.old)
         (W.has_failed writer.new) }
-    ensures failed_journal { FailsJustBy Failed result (J.has_failed journal.old) (J.has_failed journal.new) }
+    ensures failed_journal { FailsJustBy Failed result
+        (J.has_failed journal.old) (J.has_failed journal.new) }
 {
     make_room(scheduler, outbox, writer, journal)?;
     answer(alloc, scratch, scheduler, outbox, lines, told, explained)?;
@@ -149,16 +163,20 @@ pub(crate) fn take_first<W: Sink, J: Journal>(
 ) -> Result<(), LiveFault>
     ensures talk { (s : Start) (left : Option (List ℕ)) → s.explained ≡ explained →
         MatchOption told
-        (Talk s 0 scheduler.old left (W.contents writer.old) (J.stands_for journal.old s.config) outbox.old)
-        (TellsOn s 0 scheduler.old left (W.contents writer.old) (J.stands_for journal.old s.config) outbox.old
+        (Talk s 0 scheduler.old left
+        (W.contents writer.old) (J.stands_for journal.old s.config) outbox.old)
+        (TellsOn s 0 scheduler.old left
+        (W.contents writer.old) (J.stands_for journal.old s.config) outbox.old
         lines.now) →
         MatchResult result
-        (λ _. Talk s 0 scheduler.new left (W.contents writer.new) (J.stands_for journal.new s.config) outbox.new)
+        (λ _. Talk s 0 scheduler.new left
+        (W.contents writer.new) (J.stands_for journal.new s.config) outbox.new)
         (λ _. Stopped s (W.contents writer.new) (J.stands_for journal.new s.config)) }
     ensures err { IfErr result IsAnywhere }
     ensures failed_write { FailsJustBy (Text TextFault.Output) result (W.has_failed writer.old)
         (W.has_failed writer.new) }
-    ensures failed_journal { FailsJustBy Failed result (J.has_failed journal.old) (J.has_failed journal.new) }
+    ensures failed_journal { FailsJustBy Failed result
+        (J.has_failed journal.old) (J.has_failed journal.new) }
 {
     match told {
         Some(told) => take_told(
@@ -181,10 +199,12 @@ pub(crate) fn take_turn<R: Source, W: Sink, J: Journal>(
     explained: bool,
 ) -> Result<bool, LiveFault>
     ensures talk { (s : Start) (turns : ℕ) → s.explained ≡ explained →
-        Talk s turns scheduler.old (untold lines.old (R.remaining reader.old)) (W.contents writer.old)
+        Talk s turns scheduler.old
+        (untold lines.old (R.remaining reader.old)) (W.contents writer.old)
         (J.stands_for journal.old s.config) outbox.old →
         MatchResult result
-        (IsTurn s turns scheduler.new (untold lines.new (R.remaining reader.new)) (W.contents writer.new)
+        (IsTurn s turns scheduler.new
+        (untold lines.new (R.remaining reader.new)) (W.contents writer.new)
         (J.stands_for journal.new s.config) outbox.new)
         (λ e. Stopped s (W.contents writer.new) (J.stands_for journal.new s.config)
         × StopsTalk s scheduler.new (R.remaining reader.new) (W.contents writer.new)
@@ -193,7 +213,8 @@ pub(crate) fn take_turn<R: Source, W: Sink, J: Journal>(
         (R.has_failed reader.new) }
     ensures failed_write { FailsJustBy (Text TextFault.Output) result (W.has_failed writer.old)
         (W.has_failed writer.new) }
-    ensures failed_journal { FailsJustBy Failed result (J.has_failed journal.old) (J.has_failed journal.new) }
+    ensures failed_journal { FailsJustBy Failed result
+        (J.has_failed journal.old) (J.has_failed journal.new) }
 {
     let Some(told) = next_line(scheduler, outbox, lines, reader, writer, journal)? else {
         return Ok(false);

@@ -8,27 +8,37 @@ use sched_history::Call;
 
 /// The kinds of calls.
 pub mod kind {
+    /// Admits a flow.
     pub const ADMIT: u32 = 0;
 
+    /// Forgets a flow.
     pub const REMOVE: u32 = 1;
 
+    /// Hands in a request for bytes.
     pub const ASK: u32 = 2;
 
+    /// Says that a receiver has handed in all that it heard before a minislot.
     pub const HEARD: u32 = 3;
 
+    /// Builds the next MAP.
     pub const BUILD: u32 = 4;
 
+    /// Leaves out the frames whose MAP would be late.
     pub const SKIP: u32 = 5;
 
+    /// Asks for a flow's bytes.
     pub const STATUS: u32 = 6;
 }
 
 /// The kinds of flows.
 pub mod flow {
+    /// Unsolicited Grant Service.
     pub const UNSOLICITED: u32 = 0;
 
+    /// Real-time polling.
     pub const POLLED: u32 = 1;
 
+    /// Best effort.
     pub const BEST_EFFORT: u32 = 2;
 }
 
@@ -36,20 +46,29 @@ pub mod flow {
 #[repr(C)]
 #[derive(Clone, Copy)]
 pub struct PlainCall {
+    /// The number of its kind: one of [`kind`].
     pub kind: u32,
-    /// An admission's kind of flow.
+    /// An admission's kind of flow: one of [`flow`].
     pub flow: u32,
+    /// An unsolicited flow's bytes in a grant.
     pub size: u32,
+    /// A periodic flow's nominal interval, in microseconds.
     pub interval_us: u32,
+    /// A periodic flow's tolerated jitter, in microseconds.
     pub jitter_us: u32,
+    /// The rate ceiling of a flow that asks, in bits per second.
     pub rate: u32,
+    /// The burst that this ceiling allows, in bytes.
     pub burst: u32,
     /// A request's bytes.
     pub bytes: u32,
     /// The minislot at which it is made or was heard, or up to which all was heard.
     pub minislot: u64,
+    /// The service identifier of the flow.
     pub sid: u16,
+    /// The receiver that heard a request, or has handed in all.
     pub receiver: u8,
+    /// A best effort flow's traffic priority, from 0 to 7.
     pub priority: u8,
     /// An unsolicited flow's grants in an interval.
     pub grants: u8,

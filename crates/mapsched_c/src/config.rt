@@ -9,26 +9,47 @@ use minislots::Config;
 #[repr(C)]
 #[derive(Clone, Copy)]
 pub struct PlainConfig {
+    /// Ticks of 6.25 microseconds in a minislot.
     pub ticks: u32,
+    /// Bytes that a minislot carries.
     pub bytes_per_slot: u32,
+    /// Minislots of guard time and preamble in each burst.
     pub overhead: u32,
+    /// Minislots that one MAP describes.
     pub frame: u32,
+    /// Frames after which the places of periodic flows repeat.
     pub cycle: u32,
+    /// Minislots of the request region at the head of each MAP.
     pub req_slots: u32,
+    /// Minislots of a poll.
     pub poll_slots: u32,
+    /// Minislots before its start at which a MAP must be built.
     pub lead: u32,
+    /// The longest grant that is a Short Data Grant, in minislots.
     pub short_max: u32,
+    /// The bytes of a grant that a flow must be able to take to be served.
     pub quantum: u32,
+    /// The most bytes of one data grant.
     pub grant_cap: u32,
+    /// How many recorded calls are kept at a time.
     pub calls: u32,
+    /// The minislot at which the first MAP starts.
     pub start: u64,
+    /// How many receivers hear requests.
     pub receivers: u8,
+    /// The exponent of the first ranging backoff window.
     pub ranging_start: u8,
+    /// The exponent of the last ranging backoff window.
     pub ranging_end: u8,
+    /// The exponent of the first data backoff window.
     pub data_start: u8,
+    /// The exponent of the last data backoff window.
     pub data_end: u8,
+    /// The channel's ID.
     pub channel: u8,
+    /// The UCD count.
     pub ucd_count: u8,
+    /// 0 for a channel of TDMA bursts alone, 1 for one with Advanced PHY bursts.
     pub phy: u8,
 }
 

@@ -101,7 +101,8 @@ pub extern "C" fn mapsched_encode(
     length: &mut usize,
     element: &mut usize,
 ) -> u32
-    ensures { Encodes map.now result room.old room.new length.old length.new element.old element.new }
+    ensures { Encodes map.now result
+        room.old room.new length.old length.new element.old element.new }
 {
     if map.count > u32::from(MAX_ELEMENTS) {
         return tell_fault(MapFault::TooMany, element);

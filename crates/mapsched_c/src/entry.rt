@@ -16,7 +16,9 @@ use sched_history::Entry;
 #[repr(C)]
 #[derive(Clone, Copy)]
 pub struct PlainStamp {
+    /// The ticket that the seat held.
     pub ticket: u64,
+    /// The number of the seat.
     pub seat: u32,
 }
 
@@ -36,8 +38,11 @@ impl PlainStamp {
 #[repr(C)]
 #[derive(Drop)]
 pub struct PlainEntry {
+    /// Who made the call.
     pub stamp: PlainStamp,
+    /// The call.
     pub call: PlainCall,
+    /// What it was answered.
     pub reply: PlainReply,
 }
 

@@ -32,7 +32,8 @@ pub extern "C" fn mapsched_check(config: &PlainConfig) -> u32
 /// Opens a scheduler into an empty handle. A handle that is full, and a wrong configuration, stay as they are.
 #[unsafe(no_mangle)]
 pub extern "C" fn mapsched_open(alloc: Global, scheduler: &mut Handle, config: &PlainConfig) -> u32
-    ensures { Opens scheduler.old.place.machine scheduler.new.place.machine (config_of config.now) result }
+    ensures { Opens scheduler.old.place.machine scheduler.new.place.machine
+        (config_of config.now) result }
 {
     if scheduler.is_full() {
         return status::FULL;
@@ -60,8 +61,8 @@ pub extern "C" fn mapsched_call(
     call: &PlainCall,
     reply: &mut PlainReply,
 ) -> u32
-    ensures answer { Answers scheduler.old.place.machine scheduler.new.place.machine (stamp_of stamp.now)
-        (call_of call.now) result reply.old reply.new }
+    ensures answer { Answers scheduler.old.place.machine scheduler.new.place.machine
+        (stamp_of stamp.now) (call_of call.now) result reply.old reply.new }
 {
     let Some(mut taken) = scheduler.take(alloc) else {
         return status::EMPTY;

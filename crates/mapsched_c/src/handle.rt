@@ -14,6 +14,7 @@ use std::mem::replace;
 #[derive(Drop)]
 pub struct Handle {
     full: u32,
+    /// Where the scheduler lies, if there is one.
     pub place: Place,
     ghost empty: { full ≡ 0 → place.machine ≡ None },
     ghost holds: { full ≢ 0 → IsSome place.machine },

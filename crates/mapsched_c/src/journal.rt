@@ -32,7 +32,8 @@ pub(crate) fn give_lines(
     room: &mut [u8],
     length: &mut usize,
 ) -> u32
-    ensures { GivesTextOrNone (lines_of (kept_of scheduler.now)) result room.old room.new length.old length.new }
+    ensures { GivesTextOrNone (lines_of (kept_of scheduler.now)) result
+        room.old room.new length.old length.new }
 {
     let kept = entries(scheduler);
     match lines_text(alloc, kept) {
@@ -51,7 +52,8 @@ pub extern "C" fn mapsched_lines(
     room: &mut [u8],
     length: &mut usize,
 ) -> u32
-    ensures text { GivesLines scheduler.old.place.machine result room.old room.new length.old length.new }
+    ensures text { GivesLines scheduler.old.place.machine result
+        room.old room.new length.old length.new }
     ensures same { scheduler.new.place.machine ≡ scheduler.old.place.machine }
 {
     let Some(taken) = scheduler.take(alloc) else {
@@ -82,7 +84,8 @@ pub extern "C" fn mapsched_opening(
     room: &mut [u8],
     length: &mut usize,
 ) -> u32
-    ensures text { GivesOpening scheduler.old.place.machine result room.old room.new length.old length.new }
+    ensures text { GivesOpening scheduler.old.place.machine result
+        room.old room.new length.old length.new }
     ensures same { scheduler.new.place.machine ≡ scheduler.old.place.machine }
 {
     let Some(taken) = scheduler.take(alloc) else {

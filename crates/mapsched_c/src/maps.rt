@@ -15,8 +15,11 @@ pub const MAX_PLAIN: usize = 240;
 #[repr(C)]
 #[derive(Clone, Copy)]
 pub struct PlainElement {
+    /// The service identifier that it addresses.
     pub sid: u16,
+    /// The minislot at which it begins, counted from the MAP's alloc start.
     pub offset: u16,
+    /// The interval usage code.
     pub iuc: u8,
 }
 
@@ -24,15 +27,25 @@ pub struct PlainElement {
 #[repr(C)]
 #[derive(Drop)]
 pub struct PlainMap {
+    /// The minislot at which the MAP's allocations begin, low 32 bits.
     pub alloc_start: u32,
+    /// The acknowledge time: the minislot before which all that was heard was handed in, low 32 bits.
     pub ack: u32,
+    /// How many elements it has.
     pub count: u32,
+    /// The upstream channel.
     pub channel: u8,
+    /// The configuration change count of the UCD that the MAP goes by.
     pub ucd_count: u8,
+    /// The reserved byte.
     pub reserved: u8,
+    /// The start of the backoff window for ranging, an exponent.
     pub ranging_start: u8,
+    /// The end of the backoff window for ranging, an exponent.
     pub ranging_end: u8,
+    /// The start of the backoff window for requests and data, an exponent.
     pub data_start: u8,
+    /// The end of the backoff window for requests and data, an exponent.
     pub data_end: u8,
     /// What stands behind the last element stays as it was.
     pub elements: [PlainElement; MAX_PLAIN],

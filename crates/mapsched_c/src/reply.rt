@@ -19,18 +19,25 @@ pub mod answer {
     /// Admitted, a periodic flow with its placement.
     pub const PLACED: u32 = 1;
 
+    /// The flow is forgotten.
     pub const REMOVED: u32 = 2;
 
+    /// The request is counted.
     pub const TAKEN: u32 = 3;
 
+    /// The progress of a receiver is noted.
     pub const NOTED: u32 = 4;
 
+    /// The MAP of the next frame, as its bytes.
     pub const BUILT: u32 = 5;
 
+    /// The start of the frame that the next MAP describes.
     pub const SKIPPED: u32 = 6;
 
+    /// A flow's bytes.
     pub const FLOW: u32 = 7;
 
+    /// The call changes nothing.
     pub const REFUSED: u32 = 8;
 }
 
@@ -41,6 +48,7 @@ pub const MAX_STARTS: usize = 512;
 #[repr(C)]
 #[derive(Drop)]
 pub struct PlainReply {
+    /// The number of its kind: one of [`answer`].
     pub kind: u32,
     /// The number of a refusal, from 1.
     pub refusal: u32,
@@ -50,9 +58,11 @@ pub struct PlainReply {
     pub length: u32,
     /// A placement's reference, the start of a MAP's frame, the start of the next frame, or a refusal's value.
     pub value: u64,
-    /// Bytes asked, granted and outstanding.
+    /// Bytes asked since the flow was admitted.
     pub asked: u64,
+    /// Bytes granted since the flow was admitted.
     pub granted: u64,
+    /// Bytes asked that are not granted.
     pub outstanding: u64,
     /// The starts of a placement. What stands behind them stays as it was.
     pub starts: [u16; MAX_STARTS],

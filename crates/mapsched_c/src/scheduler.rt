@@ -29,7 +29,8 @@ pub(crate) fn entries(scheduler: &Scheduler) -> &[Entry]
 // The text of the history, of which nothing was handed over.
 pub(crate) fn text_of(alloc: Global, scheduler: &Scheduler) -> Result<Vec<u8>, AllocError>
     requires { scheduler.now.handed ≡ 0 }
-    ensures { IfOk result (λ text. text.items ≡ history_text scheduler.now.config scheduler.now.history) }
+    ensures { IfOk result
+        (λ text. text.items ≡ history_text scheduler.now.config scheduler.now.history) }
 {
     let mut text = Vec::new(alloc);
     match put_history(
@@ -51,7 +52,8 @@ pub(crate) fn answer(
     call: Call,
     reply: &mut PlainReply,
 ) -> u32
-    ensures answer { AnswersCall scheduler.old (Some scheduler.new) stamp call result reply.old reply.new }
+    ensures answer { AnswersCall scheduler.old (Some scheduler.new) stamp call
+        result reply.old reply.new }
     ensures legal { IsLegal scheduler.new.config scheduler.new.history }
 {
     let _cycle = scheduler.config().cycle();

@@ -47,7 +47,8 @@ pub extern "C" fn mapsched_history(
     room: &mut [u8],
     length: &mut usize,
 ) -> u32
-    ensures text { GivesHistoryText scheduler.old.place.machine result room.old room.new length.old length.new }
+    ensures text { GivesHistoryText scheduler.old.place.machine result
+        room.old room.new length.old length.new }
     ensures same { scheduler.new.place.machine ≡ scheduler.old.place.machine }
 {
     let Some(taken) = scheduler.take(alloc) else {

@@ -88,8 +88,10 @@ pub extern "C" fn mapsched_turn_entry(
     place: usize,
     entry: &mut PlainEntry,
 ) -> u32
-    ensures status { result ≡ look_status worker.old.post.worker (λ m. entry_status (Some m) place) }
-    ensures entry { entry.new ≡ entry_over entry.old (entry_at (seen_by worker.old.post.worker) place) }
+    ensures status { result
+        ≡ look_status worker.old.post.worker (λ m. entry_status (Some m) place) }
+    ensures entry { entry.new
+        ≡ entry_over entry.old (entry_at (seen_by worker.old.post.worker) place) }
     ensures same { worker.new.post.worker ≡ worker.old.post.worker }
 {
     let Some(looking) = worker.take(alloc) else {
@@ -111,7 +113,8 @@ pub extern "C" fn mapsched_turn_lines(
     room: &mut [u8],
     length: &mut usize,
 ) -> u32
-    ensures text { LooksAtLines worker.old.post.worker result room.old room.new length.old length.new }
+    ensures text { LooksAtLines worker.old.post.worker result
+        room.old room.new length.old length.new }
     ensures same { worker.new.post.worker ≡ worker.old.post.worker }
 {
     let Some(looking) = worker.take(alloc) else {

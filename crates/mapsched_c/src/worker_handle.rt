@@ -14,6 +14,7 @@ use worker_sched::Worker;
 #[derive(Drop)]
 pub struct WorkerHandle {
     full: u32,
+    /// Where the worker lies, if there is one.
     pub post: Post,
     ghost empty: { full ≡ 0 → post.worker ≡ None },
     ghost holds: { full ≢ 0 → IsSome post.worker },

@@ -46,7 +46,8 @@ fn open_workers(
     seats: u32,
     keeps: bool,
 ) -> u32
-    ensures { OpensWorkers keeps worker.old.post.worker worker.new.post.worker (config_of config.now) seats result }
+    ensures { OpensWorkers keeps worker.old.post.worker worker.new.post.worker
+        (config_of config.now) seats result }
 {
     if worker.is_full() {
         return status::FULL;
@@ -75,7 +76,8 @@ pub extern "C" fn mapsched_open_workers(
     config: &PlainConfig,
     seats: u32,
 ) -> u32
-    ensures { OpensWorkers true worker.old.post.worker worker.new.post.worker (config_of config.now) seats result }
+    ensures { OpensWorkers true worker.old.post.worker worker.new.post.worker
+        (config_of config.now) seats result }
 {
     open_workers(alloc, worker, config, seats, true)
 }
@@ -88,7 +90,8 @@ pub extern "C" fn mapsched_open_workers_without_end(
     config: &PlainConfig,
     seats: u32,
 ) -> u32
-    ensures { OpensWorkers false worker.old.post.worker worker.new.post.worker (config_of config.now) seats result }
+    ensures { OpensWorkers false worker.old.post.worker worker.new.post.worker
+        (config_of config.now) seats result }
 {
     open_workers(alloc, worker, config, seats, false)
 }
@@ -167,7 +170,8 @@ pub extern "C" fn mapsched_turn(
     call: &PlainCall,
     reply: &mut PlainReply,
 ) -> u32
-    ensures { Turns worker.old.post.worker worker.new.post.worker (call_of call.now) result reply.old reply.new }
+    ensures { Turns worker.old.post.worker worker.new.post.worker
+        (call_of call.now) result reply.old reply.new }
 {
     let Some(mut turning) = worker.take(alloc) else {
         return status::EMPTY;

@@ -25,8 +25,11 @@ use Rattle.pcap_command.specs.Ran.{PutsOnWire}
 -- from one state of the scheduler and the writer these calls led to others, and what each answer adds was written
 pub record Runs (item : Answer → List ℕ) (old new : Machine) (calls : List Call)
     (before after : Option (List ℕ)) : Type 0 where
+  -- the answers, in the order of their calls
   pub answers : List Answer
+  -- they are those that the scheduler gives
   pub makes : MakesCalls old new calls answers
+  -- and what they add was written
   pub written : Appends before after (flat_map item answers)
 
 -- one call more, and what its answer adds

@@ -51,10 +51,11 @@ line_or address (Some m) answer = map_line address m
 abbrev pub nanoseconds_to : Config → ℕ → ℕ
 nanoseconds_to c slot = slot * c.ticks * 6250
 
--- the whole seconds in them, of which a packet has the low 32 bits, and the nanoseconds behind these
+-- the whole seconds in them, of which a packet has the low 32 bits
 abbrev pub seconds_of : Config → ℕ → ℕ
 seconds_of c slot = nanoseconds_to c slot / 10 ^ 9 % 2 ^ 32
 
+-- the nanoseconds behind the whole seconds
 abbrev pub nanoseconds_of : Config → ℕ → ℕ
 nanoseconds_of c slot = nanoseconds_to c slot % 10 ^ 9
 

@@ -73,7 +73,8 @@ impl WireBuffer {
 
     /// Puts the head of a capture behind what waits.
     pub(crate) fn put_head<W: Sink>(&mut self, writer: &mut W, head: &[u8]) -> Result<(), TextFault>
-        ensures { Puts W.contents W.has_failed writer.old writer.new self.old self.new head.now result }
+        ensures { Puts W.contents W.has_failed writer.old writer.new
+            self.old self.new head.now result }
     {
         self.waiting.put(writer, head)
     }
@@ -127,7 +128,8 @@ impl WireBuffer {
         answer: &Result<Reply, Unrecorded>,
     ) -> Result<(), TextFault>
         requires { HasLine answer.now }
-        ensures { Puts W.contents W.has_failed writer.old writer.new self.old self.new (line_of answer.now) result }
+        ensures { Puts W.contents W.has_failed writer.old writer.new self.old self.new
+            (line_of answer.now) result }
     {
         self.line.clear();
         if put_line(&mut self.line, answer).is_ok() {

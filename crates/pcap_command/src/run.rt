@@ -25,7 +25,8 @@ fn put_head<W: Sink>(
     writer: &mut W,
     output: WireOutput,
 ) -> Result<(), TextFault>
-    ensures { Puts W.contents W.has_failed writer.old writer.new buffer.old buffer.new (head_of output) result }
+    ensures { Puts W.contents W.has_failed writer.old writer.new buffer.old buffer.new
+        (head_of output) result }
 {
     match output {
         WireOutput::Lines => buffer.put_head(writer, b""),
@@ -87,7 +88,8 @@ fn run_calls<W: Sink>(
     ensures ok { IfOk result (PutsOnWire output address.now scheduler.old.config calls.now
         (W.contents writer.old) (W.contents writer.new)) }
     ensures err { IfErr result (λ e. e ≡ TextFault.Output) }
-    ensures failed { FailsBy TextFault.Output result (W.has_failed writer.old) (W.has_failed writer.new) }
+    ensures failed { FailsBy TextFault.Output result
+        (W.has_failed writer.old) (W.has_failed writer.new) }
 {
     let mut buffer = WireBuffer::new();
     put_head(&mut buffer, writer, output)?;
@@ -112,7 +114,8 @@ pub fn run_on_wire<R: Source, W: Sink>(
 ) -> Result<usize, RunFault>
     // What was written is the lines of the answers, or the capture of their MAPs, and nothing else; and so many calls
     // were not recorded.
-    ensures ok { IfOk result (RanOnWire output address.now (R.remaining reader.old) (R.remaining reader.new)
+    ensures ok { IfOk result (RanOnWire output address.now
+        (R.remaining reader.old) (R.remaining reader.new)
         (W.contents writer.old) (W.contents writer.new)) }
 
     // Each fault comes under its own condition, the first one in their order.
@@ -120,8 +123,10 @@ pub fn run_on_wire<R: Source, W: Sink>(
     ensures quiet { WritesLast result writer.old writer.new }
 
     // A failed read or write is told where one has failed, and where all went well none did.
-    ensures failed_read { TellsFailedRead result (R.has_failed reader.old) (R.has_failed reader.new) }
-    ensures failed_write { TellsFailedWrite result (W.has_failed writer.old) (W.has_failed writer.new) }
+    ensures failed_read { TellsFailedRead result
+        (R.has_failed reader.old) (R.has_failed reader.new) }
+    ensures failed_write { TellsFailedWrite result
+        (W.has_failed writer.old) (W.has_failed writer.new) }
 {
     let (config, calls) = read_script(alloc, reader)?;
     let Ok(mut scheduler) = Scheduler::open(alloc, config) else {

@@ -24,8 +24,11 @@ use Rattle.sched_lines.proofs.Leaving.{MakesCalls-count}
 -- written
 pub record Runs (line : Answer → List ℕ) (old new : Machine) (calls : List Call)
     (before after : Option (List ℕ)) : Type 0 where
+  -- the answers, in the order of their calls
   pub answers : List Answer
+  -- they are those that the scheduler gives
   pub makes : MakesCalls old new calls answers
+  -- and their lines were written
   pub written : Appends before after (flat_map line answers)
 
 -- one call more, and its line

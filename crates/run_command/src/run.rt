@@ -51,7 +51,8 @@ fn run_calls<W: Sink>(
     ensures ok { IfOk result (AnswersLeaving (RunOutput.Lines words) scheduler.old.config calls.now
         (W.contents writer.old) (W.contents writer.new)) }
     ensures err { IfErr result (λ e. e ≡ TextFault.Output) }
-    ensures failed { FailsBy TextFault.Output result (W.has_failed writer.old) (W.has_failed writer.new) }
+    ensures failed { FailsBy TextFault.Output result
+        (W.has_failed writer.old) (W.has_failed writer.new) }
 {
     let mut lines = LineBuffer::new();
     for (place, call) in calls.iter().enumerate() {
@@ -89,7 +90,8 @@ fn run_history<W: Sink>(
     ensures ok { IfOk result (AnswersLeaving RunOutput.History scheduler.old.config calls.now
         (W.contents writer.old) (W.contents writer.new)) }
     ensures err { IfErr result (λ e. (e ≡ TextFault.Memory) ⊎ (e ≡ TextFault.Output)) }
-    ensures failed { FailsBy TextFault.Output result (W.has_failed writer.old) (W.has_failed writer.new) }
+    ensures failed { FailsBy TextFault.Output result
+        (W.has_failed writer.old) (W.has_failed writer.new) }
     ensures quiet { IfErr result (λ e. e ≢ TextFault.Output → writer.new ≡ writer.old) }
 {
     make_calls(scheduler, calls);
@@ -114,7 +116,8 @@ fn run_journal<W: Sink>(
     ensures ok { IfOk result (AnswersLeaving RunOutput.Journal scheduler.old.config calls.now
         (W.contents writer.old) (W.contents writer.new)) }
     ensures err { IfErr result (λ e. (e ≡ TextFault.Memory) ⊎ (e ≡ TextFault.Output)) }
-    ensures failed { FailsBy TextFault.Output result (W.has_failed writer.old) (W.has_failed writer.new) }
+    ensures failed { FailsBy TextFault.Output result
+        (W.has_failed writer.old) (W.has_failed writer.new) }
     ensures quiet { IfErr result (λ e. e ≢ TextFault.Output → writer.new ≡ writer.old) }
 {
     make_calls(scheduler, calls);
@@ -140,7 +143,8 @@ fn answer_calls<W: Sink>(
     ensures ok { IfOk result (AnswersLeaving output scheduler.old.config calls.now
         (W.contents writer.old) (W.contents writer.new)) }
     ensures err { IfErr result (λ e. (e ≡ TextFault.Memory) ⊎ (e ≡ TextFault.Output)) }
-    ensures failed { FailsBy TextFault.Output result (W.has_failed writer.old) (W.has_failed writer.new) }
+    ensures failed { FailsBy TextFault.Output result
+        (W.has_failed writer.old) (W.has_failed writer.new) }
     ensures quiet { IfErr result (λ e. e ≢ TextFault.Output → writer.new ≡ writer.old) }
 {
     match output {
@@ -171,8 +175,10 @@ pub fn run_with<R: Source, W: Sink>(
     ensures quiet { WritesLast result writer.old writer.new }
 
     // A failed read or write is told where one has failed, and where all went well none did.
-    ensures failed_read { TellsFailedRead result (R.has_failed reader.old) (R.has_failed reader.new) }
-    ensures failed_write { TellsFailedWrite result (W.has_failed writer.old) (W.has_failed writer.new) }
+    ensures failed_read { TellsFailedRead result
+        (R.has_failed reader.old) (R.has_failed reader.new) }
+    ensures failed_write { TellsFailedWrite result
+        (W.has_failed writer.old) (W.has_failed writer.new) }
 {
     let (config, calls) = read_script(alloc, reader)?;
     let Ok(mut scheduler) = Scheduler::open(alloc, config) else {
@@ -190,7 +196,8 @@ pub fn run_script<R: Source, W: Sink>(
     as_history: bool,
 ) -> Result<(), RunFault>
     // What was written is the lines of the answers, or the text of their history, and nothing else.
-    ensures ok { OnOk result (Ran (output_asked as_history) (R.remaining reader.old) (R.remaining reader.new)
+    ensures ok { OnOk result (Ran (output_asked as_history)
+        (R.remaining reader.old) (R.remaining reader.new)
         (W.contents writer.old) (W.contents writer.new)) }
 
     // Each fault comes under its own condition, the first one in their order.
@@ -198,8 +205,10 @@ pub fn run_script<R: Source, W: Sink>(
     ensures quiet { WritesLast result writer.old writer.new }
 
     // A failed read or write is told where one has failed, and where all went well none did.
-    ensures failed_read { TellsFailedRead result (R.has_failed reader.old) (R.has_failed reader.new) }
-    ensures failed_write { TellsFailedWrite result (W.has_failed writer.old) (W.has_failed writer.new) }
+    ensures failed_read { TellsFailedRead result
+        (R.has_failed reader.old) (R.has_failed reader.new) }
+    ensures failed_write { TellsFailedWrite result
+        (W.has_failed writer.old) (W.has_failed writer.new) }
 {
     run_with(alloc, reader, writer, output_asked(as_history))?;
     Ok(())

@@ -140,6 +140,7 @@ module _ (r : Recording) (noted : Docketed) (agrees : Agrees r noted) where
         whole = λ keeps. absurd (true≢false (sym keeps ∙ free));
       }
 
+      -- their desk is the one before, with that mark
       pub desk_marked : desk_of x marking ≡ marked_by (desk_of r noted) stamp true
       desk_marked = λ i. record {
         config = (handed i).config;

@@ -35,6 +35,7 @@ whole_after p (Marked stamp ∷ xs) =
     whole_after (all_handed p) xs
     ∙ ap (λ (l : List Entry). l ++ history_in xs) (append-nil (p.handed ++ p.kept))
 
+-- so it is after all events
 pub whole_history : (events : List Event)
     → (parted_after nothing_yet events).handed ++ kept_in events ≡ history_in events
 whole_history events = whole_after nothing_yet events

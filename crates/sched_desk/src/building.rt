@@ -47,7 +47,8 @@ pub fn prepare(
 
     ensures clock { IfOk result (λ planned. planned.clock ≡ now) }
     ensures fits { IfOk result (IsPlanAfter scheduler.old) }
-    ensures appended { IfOk result (λ planned. Appends press.old (spelling planned.map.wire) press.new) }
+    ensures appended { IfOk result
+        (λ planned. Appends press.old (spelling planned.map.wire) press.new) }
 
     ensures err { OnErr result (press.new ≡ press.old) }
     ensures full { IsErrOf result PlanFault.HistoryFull ↔ (is_full scheduler.old ≡ true) }
@@ -78,7 +79,8 @@ pub fn commit(
 ) -> Reply
     requires fits { IsPlanAfter scheduler.old planned }
     requires shown { ShowsPlan scheduler.old press.now maps (spelling planned.map.wire) }
-    ensures answered { HasAnswered scheduler.old stamp (Call.Build planned.clock) scheduler.new (Ok result) }
+    ensures answered { HasAnswered scheduler.old stamp
+        (Call.Build planned.clock) scheduler.new (Ok result) }
     ensures shows { ShowsHistory scheduler.new press.now (maps + 1) }
 {
     scheduler.commit(stamp, planned)

@@ -123,7 +123,8 @@ impl<S: Records> Desk<S> {
     pub fn into_recorder(self) -> (Box<S>, [u64; MAX_SEATS])
         ensures machine { (S.recording result.0.value).machine ≡ machine_of self }
         ensures press { (S.recording result.0.value).press ≡ self.press }
-        ensures whole { Agrees (S.recording result.0.value) (record { keeps = self.keeps; events = self.events }) }
+        ensures whole { Agrees
+            (S.recording result.0.value) (record { keeps = self.keeps; events = self.events }) }
         ensures counts { IsCounted result.1 (history_of self) }
     {
         let Desk { recorder, docket } = self;
@@ -136,7 +137,8 @@ impl Desk<Recorder> {
     /// Tells what was published: the encodings of the history's MAPs. It takes no memory, and waits for nobody.
     pub fn tell(&mut self) -> Told
         ensures same { self.new ≡ self.old }
-        ensures told { result ≡ record { press = self.old.press; list = published (history_of self.old) } }
+        ensures told { result
+            ≡ record { press = self.old.press; list = published (history_of self.old) } }
     {
         self.recorder.tell()
     }

@@ -54,7 +54,8 @@ impl EventList {
 
 // Counts one entry of the seat with this number, if a lock may have it.
 fn count_entry(counts: &mut [u64; MAX_SEATS], seat: u32)
-    requires few { (number : ℕ) → number < MAX_SEATS → slice_index counts.old number < MAX_WHOLE_HISTORY }
+    requires few { (number : ℕ) → number < MAX_SEATS
+        → slice_index counts.old number < MAX_WHOLE_HISTORY }
     ensures counted { counts.new ≡ counted_by seat counts.old }
 {
     let place = seat as usize;

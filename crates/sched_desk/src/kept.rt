@@ -28,7 +28,7 @@ impl Model for Kept {
 }
 
 impl Kept {
-    // The press, which a desk has from now on.
+    /// The press, which a desk has from now on.
     pub fn new(press: Press) -> Kept
         ensures { result ≡ press }
     {
@@ -37,7 +37,7 @@ impl Kept {
         Kept { press }
     }
 
-    // The press itself.
+    /// The press itself.
     pub fn into_press(self) -> Press
         ensures { result ≡ self }
     {
@@ -45,7 +45,7 @@ impl Kept {
         ManuallyDrop::into_inner(press)
     }
 
-    // What the press tells.
+    /// What the press tells.
     pub fn tell(&mut self) -> Told
         ensures same { self.new ≡ self.old }
         ensures told { result ≡ record { press = self.old.press; list = self.old.list } }
@@ -53,7 +53,7 @@ impl Kept {
         self.press.tell()
     }
 
-    // Makes room for the MAP at the press.
+    /// Makes room for the MAP at the press.
     pub fn append(&mut self, printed: Printed) -> Result<(), AllocError>
         requires settled { self.old.waiting ≡ [] }
         requires next { printed.version ≡ length self.old.list + 1 }
@@ -64,7 +64,7 @@ impl Kept {
         self.press.append(printed)
     }
 
-    // Shows readers the MAP that was appended, if one was.
+    /// Shows readers the MAP that was appended, if one was.
     pub fn publish<R: Wait>(&mut self, rt: &R)
         ensures published { self.new ≡ record self.old {
           list = self.old.list ++ map map_in self.old.waiting;
@@ -74,7 +74,7 @@ impl Kept {
         self.press.publish(rt);
     }
 
-    // Ends the press, which tells all that it has published.
+    /// Ends the press, which tells all that it has published.
     pub fn end<R: Wait>(self, rt: &R) -> Whole
         ensures whole { result ≡ record { press = self.press; list = self.list } }
     {

@@ -63,7 +63,8 @@ impl Recorder {
     /// What its press tells: the encodings of the history's MAPs. It takes no memory, and waits for nobody.
     pub fn tell(&mut self) -> Told
         ensures same { self.new ≡ self.old }
-        ensures told { result ≡ record { press = self.old.press; list = published self.old.machine.history } }
+        ensures told { result
+            ≡ record { press = self.old.press; list = published self.old.machine.history } }
     {
         self.press.tell()
     }
@@ -85,7 +86,8 @@ impl Recorder {
     /// Ends its press, which tells all that it has published: the encodings of the history's MAPs. It may wait for
     /// readers.
     pub fn end<R: Wait>(self, rt: &R) -> Whole
-        ensures whole { result ≡ record { press = self.press; list = published self.machine.history } }
+        ensures whole { result
+            ≡ record { press = self.press; list = published self.machine.history } }
     {
         let Recorder {
             scheduler: _,

@@ -18,13 +18,16 @@ pub trait Records {
     /// Hands over the entries that are kept, in exchange for an empty list with room for as many as the configuration
     /// allows.
     fn hand_over(&mut self, room: Vec<Entry>) -> Result<HandedOver, Vec<Entry>>
-        ensures entries { IfOk result (λ given. given.entries.items ≡ kept_of (recording self.old).machine) }
+        ensures entries { IfOk result
+            (λ given. given.entries.items ≡ kept_of (recording self.old).machine) }
         ensures first { IfOk result (λ given. given.first ≡ (recording self.old).machine.handed) }
-        ensures encodable { IfOk result (λ given. AllByRecursion (λ e. IsEncodable e.reply) given.entries.items) }
+        ensures encodable { IfOk result
+            (λ given. AllByRecursion (λ e. IsEncodable e.reply) given.entries.items) }
         ensures handed { OnOk result ((recording self.new).machine
             ≡ record (recording self.old).machine { handed = length (recording self.old).machine.history }) }
         ensures exact { IsOk result
-            ↔ ((room.items ≡ []) × ((recording self.old).machine.config.calls ≤ vec_capacity room)) }
+            ↔ ((room.items ≡ [])
+            × ((recording self.old).machine.config.calls ≤ vec_capacity room)) }
         ensures back { IfErr result (λ back. back ≡ room) }
         ensures err { OnErr result ((recording self.new).machine ≡ (recording self.old).machine) }
         ensures press { (recording self.new).press ≡ (recording self.old).press };

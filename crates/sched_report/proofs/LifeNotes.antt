@@ -77,6 +77,7 @@ one_request : (o : Option Request) (rs : List Request) → length (cons_option o
 one_request None rs = omega arith
 one_request (Some r) rs = omega arith
 
+-- there are no more requests than entries
 pub few_requests : (sid : ℕ) (es : List Entry) → length (requests_in sid es) ≤ length es
 few_requests sid [] = omega arith
 few_requests sid (e ∷ es) =

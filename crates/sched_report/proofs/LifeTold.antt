@@ -19,6 +19,7 @@ pub some_end : (ended : Bool) (n : ℕ) (o : Option ℕ) → o ≡ (if ended the
 some_end true n o is = ap is_some is
 some_end false n o is = ap is_some is
 
+-- where no end is told there is none
 pub no_end : (o : Option ℕ) → is_some o ≡ false → o ≡ None
 no_end None none = refl
 no_end (Some n) none = absurd (cc)

@@ -19,6 +19,7 @@ none_behind : (x : ℕ) (xs : List ℕ) (k : ℕ) → (x ≡ k → ⊥)
 none_behind x xs k apart none zero below same = apart same
 none_behind x xs k apart none (suc i) below same = none i (omega (arith, below)) same
 
+-- the place of a number in a list, or that it is not in it
 pub found_or_not : (live : List ℕ) (k : ℕ) → ((i : ℕ) × (i < length live) × (get_or live i 0 ≡ k))
     ⊎ ((i : ℕ) → i < length live → get_or live i 0 ≡ k → ⊥)
 found_or_not [] k = inr (λ i below same. absurd (omega (arith, below)))
@@ -38,6 +39,7 @@ pub ended_by : (ended : Bool) (n : ℕ) (o : Option ℕ) → o ≡ (if ended the
 ended_by true n o is never = refl
 ended_by false n o is never = absurd (never is)
 
+-- a life that has ended stays as it is with one entry more
 pub with_entry-ended : (e : Entry) (life : PastLife) → life.ended ≡ true → with_entry e life ≡ life
 with_entry-ended e life ended =
     ap (λ b. if b then life else if is_turn life.sid e then record life { ended = true }

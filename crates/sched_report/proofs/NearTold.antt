@@ -12,13 +12,14 @@ use Rattle.sched_report.specs.Steps.{CountsUpto, IsBelow}
 use Rattle.sched_report.proofs.Reaching.{yes, no}
 use Rattle.sched_report.proofs.Steps.{one-yes}
 
--- what is counted of no numbers, and of two lists
+-- what is counted of no numbers
 pub CountsUpto-none : (n : ℕ) → CountsUpto n 0 []
 CountsUpto-none n = record { within = omega arith; near = λ m near. omega arith; exact = λ m small le. omega arith }
 
 count_upto-append : (n : ℕ) (xs ys : List ℕ) → count_upto n (xs ++ ys) ≡ count_upto n xs + count_upto n ys
 count_upto-append n xs ys = sum_by-append (λ m. if nat_le m n then 1 else 0) xs ys
 
+-- what is counted of two lists is the sum of what is counted of each
 pub CountsUpto-append : (n a b : ℕ) (xs ys : List ℕ) → CountsUpto n a xs → CountsUpto n b ys
     → CountsUpto n (a + b) (xs ++ ys)
 CountsUpto-append n a b xs ys one other = record {
@@ -79,6 +80,7 @@ all_upto (n ∷ ns) g most =
       all_upto ns g parts.1,
     )
 
+-- none of some numbers is above the greatest of them
 pub all_within_greatest : (ns : List ℕ) (g : ℕ) → greatest_of ns ≡ Some g → count_upto g ns ≡ length ns
 all_within_greatest ns g is =
     let self : g ≤ g = omega arith in all_upto ns g (subst (λ (o : Option ℕ). IsMost o g) (sym is) self)

@@ -41,6 +41,7 @@ least_more n None (Some y) = refl
 least_more n (Some x) None = refl
 least_more n (Some x) (Some y) = let same : min n (min x y) ≡ min (min n x) y = omega arith in ap Some same
 
+-- the least of two lists is the least of the least of each
 pub least_of-append : (xs ys : List ℕ) → least_of (xs ++ ys) ≡ both_least (least_of xs) (least_of ys)
 least_of-append [] ys = refl
 least_of-append (n ∷ xs) ys =
@@ -54,6 +55,7 @@ greatest_more n None (Some y) = refl
 greatest_more n (Some x) None = refl
 greatest_more n (Some x) (Some y) = let same : max n (max x y) ≡ max (max n x) y = omega arith in ap Some same
 
+-- the greatest of two lists is the greatest of the greatest of each
 pub greatest_of-append : (xs ys : List ℕ) → greatest_of (xs ++ ys) ≡ both_greatest (greatest_of xs) (greatest_of ys)
 greatest_of-append [] ys = refl
 greatest_of-append (n ∷ xs) ys =

@@ -18,10 +18,11 @@ use Rattle.sched_report.specs.Delays.{least_of, greatest_of}
 pub bytes-cons : (g : Grant) (grants : List Grant) → bytes_of (g ∷ grants) ≡ g.bytes + bytes_of grants
 bytes-cons g grants = sum_by-cons (λ (g : Grant). g.bytes) g grants
 
--- a choice whose test is known
+-- a choice whose test holds
 pub yes : {X : Type 0} (b : Bool) (x y : X) → b ≡ true → (if b then x else y) ≡ x
 yes b x y is = ap (λ (b : Bool). if b then x else y) is
 
+-- a choice whose test does not hold
 pub no : {X : Type 0} (b : Bool) (x y : X) → b ≡ false → (if b then x else y) ≡ y
 no b x y is = ap (λ (b : Bool). if b then x else y) is
 
@@ -145,6 +146,7 @@ abbrev pub MarksAscend : ℕ → List Waiting → Type 0
 MarksAscend from [] = Unit {0}
 MarksAscend from (m ∷ marks) = (from ≤ m.upto) × MarksAscend m.upto marks
 
+-- the marks of requests do
 pub marks_ascend : (asked : ℕ) (requests : List Request) → MarksAscend asked (marks_from asked requests)
 marks_ascend asked [] = tt
 marks_ascend asked (r ∷ requests) = (omega arith, marks_ascend (asked + r.bytes) requests)

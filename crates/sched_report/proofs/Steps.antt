@@ -13,6 +13,7 @@ use Rattle.sched_report.specs.Steps.{upto, CountsUpto, AreStepsOf}
 abbrev pub one_upto : ℕ → ℕ → ℕ
 one_upto n m = if nat_le m n then 1 else 0
 
+-- a number up to this one counts for one
 pub one-yes : (n m : ℕ) → m ≤ n → one_upto n m ≡ 1
 one-yes n m le = ap (λ (b : Bool). if b then 1 else 0) (le-leb m n le)
 

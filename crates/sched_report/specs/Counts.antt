@@ -8,31 +8,37 @@ use Rattle.sched_history.specs.declared.reply.Entry.{Entry}
 use Rattle.sched_lines.specs.Line.{refusal_number}
 use Rattle.sched_report.specs.declared.calls.Calls.{Calls}
 
--- the kind of a call
+-- the call admits a flow
 abbrev pub is_admit : Call → Bool
 is_admit (Admit sid spec) = true
 is_admit call = false
 
+-- the call hands in a request
 abbrev pub is_ask : Call → Bool
 is_ask (Ask receiver sid bytes heard) = true
 is_ask call = false
 
+-- the call builds a MAP
 abbrev pub is_build : Call → Bool
 is_build (Build now) = true
 is_build call = false
 
+-- the call says before which minislot a receiver has handed in all that it heard
 abbrev pub is_heard : Call → Bool
 is_heard (Heard receiver upto) = true
 is_heard call = false
 
+-- the call removes a flow
 abbrev pub is_remove : Call → Bool
 is_remove (Remove sid) = true
 is_remove call = false
 
+-- the call leaves out the frames whose MAP would be late
 abbrev pub is_skip : Call → Bool
 is_skip (Skip now) = true
 is_skip call = false
 
+-- the call asks for the bytes of a flow
 abbrev pub is_status : Call → Bool
 is_status (Status sid) = true
 is_status call = false

@@ -21,6 +21,7 @@ marks_from asked [] = []
 marks_from asked (r ∷ requests) =
     record { upto = asked + r.bytes; heard = r.heard } ∷ marks_from (asked + r.bytes) requests
 
+-- each request with the bytes that its flow asked up to it and with it
 abbrev pub marks_of : List Request → List Waiting
 marks_of requests = marks_from 0 requests
 
@@ -45,11 +46,12 @@ delays_of c requests grants = filter_map (delay_of c grants) (marks_of requests)
 abbrev pub unserved_of : Config → List Request → List Grant → ℕ
 unserved_of c requests grants = count_by (λ m. is_none (delay_of c grants m)) (marks_of requests)
 
--- the least of some numbers, and the greatest
+-- the least of some numbers, where there are any
 abbrev pub least_of : List ℕ → Option ℕ
 least_of [] = None
 least_of (n ∷ ns) = Some (option_map_or (λ least. min n least) (least_of ns) n)
 
+-- the greatest of them
 abbrev pub greatest_of : List ℕ → Option ℕ
 greatest_of [] = None
 greatest_of (n ∷ ns) = Some (option_map_or (λ greatest. max n greatest) (greatest_of ns) n)

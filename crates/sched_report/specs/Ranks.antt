@@ -27,10 +27,11 @@ asks_among lives = sum_by (λ life. length (requests_in life.sid life.since)) li
 abbrev pub granted_among : List PastLife → ℕ
 granted_among lives = sum_by granted_in lives
 
--- how many of their requests wait, and how many were dropped
+-- how many of their requests wait
 abbrev pub waiting_among : Config → List PastLife → ℕ
 waiting_among c lives = sum_by (waiting_in c) lives
 
+-- how many of their requests were dropped
 abbrev pub dropped_among : Config → List PastLife → ℕ
 dropped_among c lives = sum_by (dropped_in c) lives
 
@@ -47,12 +48,13 @@ is_chosen (Some rank) spec = is_of_rank rank spec
 abbrev pub chosen : Option ℕ → List PastLife → List PastLife
 chosen rank lives = filter (λ life. is_chosen rank life.spec) lives
 
--- the least and the greatest of two numbers, where there are two
+-- the least of two numbers, where there are two
 abbrev pub both_least : Option ℕ → Option ℕ → Option ℕ
 both_least (Some m) (Some n) = Some (min m n)
 both_least (Some m) None = Some m
 both_least None n = n
 
+-- the greatest of two numbers, where there are two
 abbrev pub both_greatest : Option ℕ → Option ℕ → Option ℕ
 both_greatest (Some m) (Some n) = Some (max m n)
 both_greatest (Some m) None = Some m

@@ -47,8 +47,8 @@ pub record MayFollow (c : Config) (h : List Entry) (ts : List LifeTally) (slot :
   pub lives : AreLives c ts (lives_of h)
 
 -- These are the numbers of a life: where the next frame started at its admission, and where it started at its end or
--- starts now, whether it ended, what it asked and was granted, its requests that were not served, and the delays that 50 and 99
--- in a hundred of those that were served do not exceed
+-- starts now, whether it ended, what it asked and was granted, its requests that were not served, and the delays that
+-- 50 and 99 in a hundred of those that were served do not exceed
 pub record AreLifeNumbers (c : Config) (n : LifeNumbers) (life : PastLife) : Type 0 where
   pub sid : n.sid ≡ life.sid
   pub spec : n.spec ≡ life.spec

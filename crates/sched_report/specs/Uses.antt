@@ -22,27 +22,32 @@ use_of sid iuc unsolicited =
     else if unsolicited then Unsolicited
     else Data
 
--- the use is this one
+-- the use is the request region, where all modems may ask
 abbrev pub is_request : Use → Bool
 is_request Request = true
 is_request other = false
 
+-- it is a poll: one modem may ask
 abbrev pub is_poll : Use → Bool
 is_poll Poll = true
 is_poll other = false
 
+-- it is a grant to an unsolicited flow
 abbrev pub is_unsolicited : Use → Bool
 is_unsolicited Unsolicited = true
 is_unsolicited other = false
 
+-- it is an opportunity for initial or station maintenance
 abbrev pub is_opportunity : Use → Bool
 is_opportunity Opportunity = true
 is_opportunity other = false
 
+-- it is a data grant, for bytes that were asked
 abbrev pub is_data : Use → Bool
 is_data Data = true
 is_data other = false
 
+-- it is a grant to no modem
 abbrev pub is_idle : Use → Bool
 is_idle Idle = true
 is_idle other = false

@@ -14,12 +14,19 @@ pub const REFUSALS: usize = 17;
 /// How many calls of each kind there were, refused ones among them.
 #[derive(Clone, Copy)]
 pub struct Calls {
+    /// Admissions of flows.
     pub admit: u64,
+    /// Requests for bytes.
     pub ask: u64,
+    /// Builds of MAPs.
     pub build: u64,
+    /// Notices of the minislot before which a receiver has handed in all that it heard.
     pub heard: u64,
+    /// Removals of flows.
     pub remove: u64,
+    /// Calls that leave out the frames whose MAP would be late.
     pub skip: u64,
+    /// Questions for the bytes of a flow.
     pub status: u64,
 }
 
@@ -42,7 +49,8 @@ impl Calls {
     // Counts the call of an entry.
     pub(crate) fn add(&mut self, entry: &Entry)
         requires { (h : List Entry) × (self.old ≡ calls_of h) × (length h < MAX_WHOLE_HISTORY) }
-        ensures { (h : List Entry) → self.old ≡ calls_of h → self.new ≡ calls_of (h ++ entry.now ∷ []) }
+        ensures { (h : List Entry) → self.old ≡ calls_of h
+            → self.new ≡ calls_of (h ++ entry.now ∷ []) }
     {
         match entry.call {
             Call::Admit(..) => self.admit += 1,
@@ -59,7 +67,8 @@ impl Calls {
 // Counts the refusal of an entry, where it is one.
 pub(crate) fn count_refusal(counts: &mut [u64; REFUSALS], entry: &Entry)
     requires { (h : List Entry) × CountsRefusals counts.old h × (length h < MAX_WHOLE_HISTORY) }
-    ensures { (h : List Entry) → CountsRefusals counts.old h → CountsRefusals counts.new (h ++ entry.now ∷ []) }
+    ensures { (h : List Entry) → CountsRefusals counts.old h
+        → CountsRefusals counts.new (h ++ entry.now ∷ []) }
 {
     if let Reply::Refused(refusal) = entry.reply {
         let place = refusal_number(refusal) as usize - 1;

@@ -83,7 +83,8 @@ impl LifeTally {
     // That of a life that begins in front of the frame that starts there.
     pub(crate) fn begin(alloc: Global, sid: u16, spec: FlowSpec, from: u64) -> LifeTally
         ensures { (c : Config) (upto : List Recorded) → from ≡ next_after c upto
-            → IsLifeOf c result (record { sid = sid; spec = spec; upto = upto; since = []; ended = false }) }
+            → IsLifeOf c result
+            (record { sid = sid; spec = spec; upto = upto; since = []; ended = false }) }
     {
         LifeTally {
             sid,
@@ -126,7 +127,8 @@ impl LifeTally {
     pub(crate) fn sums(&self) -> Sums
         requires { (c : Config) × (life : PastLife) × IsLifeOf c self.now life }
         ensures sums { (c : Config) (life : PastLife) → IsLifeOf c self.now life
-            → AreSums c result (requests_in life.sid life.since) (grants_since life.sid life.since) }
+            → AreSums c result
+            (requests_in life.sid life.since) (grants_since life.sid life.since) }
         ensures few { result.delays.served ≤ 2 ^ 44 }
     {
         self.service.sums()
@@ -144,7 +146,8 @@ impl LifeTally {
 
     // Whether it is one of a rank, or whether it is one at all where no rank is named.
     pub(crate) fn is_chosen(&self, rank: Option<u8>) -> bool
-        ensures { (c : Config) (life : PastLife) → IsLifeOf c self.now life → result ≡ is_chosen rank life.spec }
+        ensures { (c : Config) (life : PastLife) → IsLifeOf c self.now life
+            → result ≡ is_chosen rank life.spec }
     {
         match rank {
             Some(rank) => is_of_rank(self.spec, rank),
@@ -155,7 +158,8 @@ impl LifeTally {
     // The bytes that it was granted.
     pub(crate) fn granted(&self) -> u128
         requires { (c : Config) × (life : PastLife) × IsLifeOf c self.now life }
-        ensures { (c : Config) (life : PastLife) → IsLifeOf c self.now life → result ≡ granted_in life }
+        ensures { (c : Config) (life : PastLife) → IsLifeOf c self.now life
+            → result ≡ granted_in life }
     {
         match self.spec {
             FlowSpec::Unsolicited { size, .. } => u128::from(size) * self.unsolicited,
@@ -165,7 +169,8 @@ impl LifeTally {
 
     // How many requests wait.
     pub(crate) fn waiting(&self) -> u64
-        ensures { (c : Config) (life : PastLife) → IsLifeOf c self.now life → result ≡ waiting_in c life }
+        ensures { (c : Config) (life : PastLife) → IsLifeOf c self.now life
+            → result ≡ waiting_in c life }
     {
         match self.to {
             Some(_) => 0,
@@ -175,7 +180,8 @@ impl LifeTally {
 
     // How many requests waited when it ended.
     pub(crate) fn dropped(&self) -> u64
-        ensures { (c : Config) (life : PastLife) → IsLifeOf c self.now life → result ≡ dropped_in c life }
+        ensures { (c : Config) (life : PastLife) → IsLifeOf c self.now life
+            → result ≡ dropped_in c life }
     {
         match self.to {
             Some(_) => self.service.unserved(),
@@ -192,9 +198,11 @@ impl LifeTally {
 
     // Takes memory for the request that an entry is, where it is one of this SID. What is told stays.
     pub(crate) fn reserve_for(&mut self, entry: &Entry) -> Result<(), AllocError>
-        ensures ok { OnOk result ((r : Asked) → request_by self.new.sid entry.now.call entry.now.reply ≡ Some r
+        ensures ok { OnOk result
+            ((r : Asked) → request_by self.new.sid entry.now.call entry.now.reply ≡ Some r
             → HasRoomFor self.new) }
-        ensures same { (c : Config) (life : PastLife) → IsLifeOf c self.old life → IsLifeOf c self.new life }
+        ensures same { (c : Config) (life : PastLife) → IsLifeOf c self.old life
+            → IsLifeOf c self.new life }
         ensures unmoved { self.new ≡ record self.old { service = self.new.service } }
     {
         if request_of(self.sid, entry).is_none() {
@@ -205,10 +213,13 @@ impl LifeTally {
 
     // Goes on with one entry more, before which the next frame starts there.
     pub(crate) fn note(&mut self, config: &Checked, next: u64, entry: &Entry)
-        requires may { (life : PastLife) × IsLifeOf config.now self.old life × MayNote config.now life next entry.now }
+        requires may { (life : PastLife) × IsLifeOf config.now self.old life
+            × MayNote config.now life next entry.now }
         requires room { self.old.to ≡ None → (r : Asked)
-            → request_by self.old.sid entry.now.call entry.now.reply ≡ Some r → HasRoomFor self.old }
-        ensures life { (life : PastLife) → IsLifeOf config.now self.old life → MayNote config.now life next entry.now
+            → request_by self.old.sid entry.now.call entry.now.reply ≡ Some r
+            → HasRoomFor self.old }
+        ensures life { (life : PastLife) → IsLifeOf config.now self.old life
+            → MayNote config.now life next entry.now
             → IsLifeOf config.now self.new (with_entry entry.now life) }
         ensures alive { self.new.to ≡ None → self.old.to ≡ None }
     {
@@ -338,8 +349,10 @@ fn grant_element(
     bytes: u32,
 )
     requires start { start < 2 ^ 62 }
-    requires granted { MayGrantAll config.now service.old (cons_option (grant_by sid start (element, bytes)) []) }
-    ensures { (requests : List Asked) (grants : List DataGrant) → IsServiceOf config.now service.old requests grants
+    requires granted { MayGrantAll config.now service.old
+        (cons_option (grant_by sid start (element, bytes)) []) }
+    ensures { (requests : List Asked) (grants : List DataGrant)
+        → IsServiceOf config.now service.old requests grants
         → IsServiceOf config.now service.new requests
         (grants ++ cons_option (grant_by sid start (element, bytes)) []) }
 {
@@ -361,7 +374,8 @@ fn grant_each(
     requires start { start < 2 ^ 62 }
     requires granted { MayGrantAll config.now service.old
         (filter_map (grant_by sid start) (zip elements.now counts.now)) }
-    ensures { (requests : List Asked) (grants : List DataGrant) → IsServiceOf config.now service.old requests grants
+    ensures { (requests : List Asked) (grants : List DataGrant)
+        → IsServiceOf config.now service.old requests grants
         → IsServiceOf config.now service.new requests
         (grants ++ filter_map (grant_by sid start) (zip elements.now counts.now)) }
 {
@@ -374,7 +388,8 @@ fn grant_each(
 fn grant_map(service: &mut Service, config: &Checked, sid: u16, map: &FrameMap)
     requires start { map.now.start < 2 ^ 62 }
     requires granted { MayGrantAll config.now service.old (grants_of_map sid map.now) }
-    ensures { (requests : List Asked) (grants : List DataGrant) → IsServiceOf config.now service.old requests grants
+    ensures { (requests : List Asked) (grants : List DataGrant)
+        → IsServiceOf config.now service.old requests grants
         → IsServiceOf config.now service.new requests (grants ++ grants_of_map sid map.now) }
 {
     let elements = map.wire.elements.as_slice();

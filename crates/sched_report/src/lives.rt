@@ -32,7 +32,8 @@ pub(crate) fn reserve_each(
 ) -> Result<(), AllocError>
     requires { AreLive live.now lives.old }
     ensures ok { OnOk result (HaveRoomFor entry.now.call entry.now.reply lives.new) }
-    ensures same { (c : Config) (ls : List PastLife) → AreLives c lives.old ls → AreLives c lives.new ls }
+    ensures same { (c : Config) (ls : List PastLife) → AreLives c lives.old ls
+        → AreLives c lives.new ls }
     ensures live { AreLive live.now lives.new }
 {
     for place in live {
@@ -49,11 +50,13 @@ pub(crate) fn note_each(
     next: u64,
     entry: &Entry,
 )
-    requires may { (ls : List PastLife) × AreLives config.now lives.old ls × MayNoteEach config.now ls next entry.now }
+    requires may { (ls : List PastLife) × AreLives config.now lives.old ls
+        × MayNoteEach config.now ls next entry.now }
     requires room { IsRequest entry.now.call entry.now.reply
         → HaveRoomFor entry.now.call entry.now.reply lives.old }
     requires live { AreLive live.now lives.old }
-    ensures lives { (ls : List PastLife) → AreLives config.now lives.old ls → MayNoteEach config.now ls next entry.now
+    ensures lives { (ls : List PastLife) → AreLives config.now lives.old ls
+        → MayNoteEach config.now ls next entry.now
         → AreLives config.now lives.new (map (with_entry entry.now) ls) }
     ensures live { AreLive live.now lives.new }
 {
@@ -75,7 +78,8 @@ pub(crate) fn reserve_for(
         vec_len lives.new < vec_capacity lives.new) }
     ensures places { OnOk result (IsOpening entry.now.call entry.now.reply →
         vec_len live.new < vec_capacity live.new) }
-    ensures same { (c : Config) (ls : List PastLife) → AreLives c lives.old.items ls → AreLives c lives.new.items ls }
+    ensures same { (c : Config) (ls : List PastLife) → AreLives c lives.old.items ls
+        → AreLives c lives.new.items ls }
     ensures live { AreLive live.new.items lives.new.items }
     ensures err { OnErr result (AddsToReport entry.now.call entry.now.reply) }
 {
@@ -105,10 +109,13 @@ pub(crate) fn begin_life(
     from: u64,
     entry: &Entry,
 )
-    requires lives { IsOpening entry.now.call entry.now.reply → vec_len lives.old < vec_capacity lives.old }
-    requires places { IsOpening entry.now.call entry.now.reply → vec_len live.old < vec_capacity live.old }
+    requires lives { IsOpening entry.now.call entry.now.reply
+        → vec_len lives.old < vec_capacity lives.old }
+    requires places { IsOpening entry.now.call entry.now.reply
+        → vec_len live.old < vec_capacity live.old }
     requires live { AreLive live.old.items lives.old.items }
-    ensures lives { (c : Config) (h : List Recorded) (ls : List PastLife) → from ≡ next_after c (h ++ entry.now ∷ [])
+    ensures lives { (c : Config) (h : List Recorded) (ls : List PastLife)
+        → from ≡ next_after c (h ++ entry.now ∷ [])
         → AreLives c lives.old.items ls
         → AreLives c lives.new.items
         (ls ++ life_begun (h ++ entry.now ∷ []) (opening_by entry.now.call entry.now.reply) []) }
@@ -184,8 +191,10 @@ pub(crate) fn follow(
     requires may { (h : List Recorded) × MayFollow config.now h lives.old.items next entry.now }
     requires requests { IsRequest entry.now.call entry.now.reply
         → HaveRoomFor entry.now.call entry.now.reply lives.old.items }
-    requires opening { IsOpening entry.now.call entry.now.reply → vec_len lives.old < vec_capacity lives.old }
-    requires places { IsOpening entry.now.call entry.now.reply → vec_len live.old < vec_capacity live.old }
+    requires opening { IsOpening entry.now.call entry.now.reply
+        → vec_len lives.old < vec_capacity lives.old }
+    requires places { IsOpening entry.now.call entry.now.reply
+        → vec_len live.old < vec_capacity live.old }
     requires live { AreLive live.old.items lives.old.items }
     ensures lives { (h : List Recorded) → MayFollow config.now h lives.old.items next entry.now
         → AreLives config.now lives.new.items (lives_of (h ++ entry.now ∷ [])) }

@@ -21,7 +21,8 @@ pub(crate) fn percentile(
     served: u128,
     greatest: Option<u64>,
 ) -> Option<u64>
-    requires lives { (c : Config) × (ls : List PastLife) × AreLives c lives.now ls × (served ≤ 2 ^ 108) }
+    requires lives { (c : Config) × (ls : List PastLife) × AreLives c lives.now ls
+        × (served ≤ 2 ^ 108) }
     requires percent { percent ≤ 100 }
     requires served { (c : Config) (ls : List PastLife) → AreLives c lives.now ls
         → served ≡ length (delays_in_all c (chosen rank ls)) }
@@ -44,7 +45,8 @@ fn search(lives: &[LifeTally], rank: Option<u8>, wanted: u128, greatest: u64) ->
         → wanted ≤ 100 * count_upto greatest (delays_in_all c (chosen rank ls)) }
     ensures enough { (c : Config) (ls : List PastLife) → AreLives c lives.now ls
         → wanted ≤ 100 * count_upto result (delays_in_all c (chosen rank ls)) }
-    ensures least { (c : Config) (ls : List PastLife) → AreLives c lives.now ls → (n : ℕ) → IsBelow n result
+    ensures least { (c : Config) (ls : List PastLife) → AreLives c lives.now ls
+        → (n : ℕ) → IsBelow n result
         → 100 * count_upto n (delays_in_all c (chosen rank ls)) < wanted }
 {
     let mut least = 0;
@@ -65,8 +67,9 @@ fn are_enough(lives: &[LifeTally], rank: Option<u8>, wanted: u128, delay: u64) -
     requires { (c : Config) × (ls : List PastLife) × AreLives c lives.now ls }
     ensures yes { result ≡ true → (c : Config) (ls : List PastLife) → AreLives c lives.now ls
         → wanted ≤ 100 * count_upto delay (delays_in_all c (chosen rank ls)) }
-    ensures no { result ≡ false → (c : Config) (ls : List PastLife) → AreLives c lives.now ls → (n : ℕ)
-        → IsBelow n (delay + 1) → 100 * count_upto n (delays_in_all c (chosen rank ls)) < wanted }
+    ensures no { result ≡ false → (c : Config) (ls : List PastLife) → AreLives c lives.now ls
+        → (n : ℕ) → IsBelow n (delay + 1)
+        → 100 * count_upto n (delays_in_all c (chosen rank ls)) < wanted }
 {
     wanted <= 100 * upto(lives, rank, delay)
 }

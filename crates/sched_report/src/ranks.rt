@@ -64,7 +64,8 @@ impl RankSums {
         requires few { (n : ℕ) × AreFew self.old n × (n < 2 ^ 64) }
         requires life { (c : Config) × (l : PastLife) × IsLifeOf c life.now l }
         ensures sums { (c : Config) (ls : List PastLife) (l : PastLife) → IsLifeOf c life.now l
-            → AreRankSums c self.old ls → AreRankSums c self.new (ls ++ lives_of_rank rank (l ∷ [])) }
+            → AreRankSums c self.old ls
+            → AreRankSums c self.new (ls ++ lives_of_rank rank (l ∷ [])) }
         ensures few { (n : ℕ) → AreFew self.old n → AreFew self.new (n + 1) }
     {
         if !life.is_chosen(Some(rank)) {
@@ -78,7 +79,8 @@ impl RankSums {
         requires few { (n : ℕ) × AreFew self.old n × (n < 2 ^ 64) }
         requires life { (c : Config) × (l : PastLife) × IsLifeOf c life.now l }
         ensures sums { (c : Config) (ls : List PastLife) (l : PastLife) → IsLifeOf c life.now l
-            → takes_requests l.spec ≡ true → AreRankSums c self.old ls → AreRankSums c self.new (ls ++ l ∷ []) }
+            → takes_requests l.spec ≡ true → AreRankSums c self.old ls
+            → AreRankSums c self.new (ls ++ l ∷ []) }
         ensures few { (n : ℕ) → AreFew self.old n → AreFew self.new (n + 1) }
     {
         let sums = life.sums();

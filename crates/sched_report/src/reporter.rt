@@ -50,7 +50,8 @@ impl Model for Reporter {
 
     ghost view = { λ r. r.auditor };
 
-    ghost invariant = { λ r. IsReport r.config r.auditor r.flows r.totals r.refused r.next r.lives.items r.live.items };
+    ghost invariant = { λ r.
+        IsReport r.config r.auditor r.flows r.totals r.refused r.next r.lives.items r.live.items };
 }
 
 impl Reporter {
@@ -75,12 +76,15 @@ impl Reporter {
     /// taken. An entry that is not taken changes nothing.
     pub fn take(&mut self, entry: &Entry) -> Result<(), JudgeFault>
         // An entry that is taken is a step, and stands behind those before it.
-        ensures taken { OnOk result (self.new ≡ record self.old { history = self.old.history ++ entry.now ∷ [] }) }
-        ensures step { OnOk result (IsStep self.old.config self.old.history entry.now.call entry.now.reply) }
+        ensures taken { OnOk result
+            (self.new ≡ record self.old { history = self.old.history ++ entry.now ∷ [] }) }
+        ensures step { OnOk result
+            (IsStep self.old.config self.old.history entry.now.call entry.now.reply) }
 
         // Else nothing changes.
         ensures err { OnErr result (self.new ≡ self.old) }
-        ensures full { IsErrOf result JudgeFault.Full ↔ (MAX_WHOLE_HISTORY ≤ length self.old.history) }
+        ensures full { IsErrOf result JudgeFault.Full
+            ↔ (MAX_WHOLE_HISTORY ≤ length self.old.history) }
         ensures illegal { IsErrOf result JudgeFault.Illegal →
             IsStep self.old.config self.old.history entry.now.call entry.now.reply → ⊥ }
         ensures memory { IsErrOf result JudgeFault.Memory →
@@ -143,7 +147,8 @@ impl Reporter {
 
     /// The numbers of a rank: of polled flows in [`POLLED`](crate::POLLED), of best effort flows in their priority.
     pub fn rank(&self, rank: u8) -> RankNumbers
-        ensures { AreRankNumbers self.now.config result (lives_of_rank rank (lives_of self.now.history)) }
+        ensures { AreRankNumbers self.now.config result
+            (lives_of_rank rank (lives_of self.now.history)) }
     {
         numbers_of(&self.lives, rank)
     }

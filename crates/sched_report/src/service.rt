@@ -23,7 +23,9 @@ use std::collections::VecDeque;
 /// A request: its bytes, and the minislot at which it was heard.
 #[derive(Clone, Copy)]
 pub struct Request {
+    /// The bytes that it asks for.
     pub bytes: u32,
+    /// The minislot at which a receiver heard it.
     pub heard: u64,
 }
 
@@ -61,7 +63,8 @@ impl Delays {
     fn add(&mut self, delay: u64)
         requires { self.old.served < 2 ^ 63 }
         ensures served { self.new.served ≡ self.old.served + 1 }
-        ensures delays { (delays : List ℕ) → AreDelays self.old delays → AreDelays self.new (delays ++ delay ∷ []) }
+        ensures delays { (delays : List ℕ) → AreDelays self.old delays
+            → AreDelays self.new (delays ++ delay ∷ []) }
     {
         self.served += 1;
         self.least = Some(least_with(self.least, delay));
@@ -198,7 +201,8 @@ impl Service {
         requires { (c : Config) × (requests : List Asked) × (grants : List DataGrant)
             × IsServiceOf c self.now requests grants × (length requests ≤ 2 ^ 44) }
         ensures counts { (c : Config) (requests : List Asked) (grants : List DataGrant)
-            → IsServiceOf c self.now requests grants → CountsUpto delay result (delays_of c requests grants) }
+            → IsServiceOf c self.now requests grants
+            → CountsUpto delay result (delays_of c requests grants) }
         ensures few { result ≤ 2 ^ 44 }
     {
         self.spread.upto(delay)
@@ -216,10 +220,12 @@ impl Service {
     fn next_served(&mut self) -> Option<Waiting>
         ensures same { self.new ≡ record self.old { waiting = self.new.waiting } }
         ensures some { IfSome result (λ mark. mark.upto ≤ self.old.granted) }
-        ensures taken { IfSome result (λ mark. self.old.waiting.items ≡ mark ∷ self.new.waiting.items) }
+        ensures taken { IfSome result
+            (λ mark. self.old.waiting.items ≡ mark ∷ self.new.waiting.items) }
         ensures none { IfNone result (IsWaitingBehind self.old.granted self.old.waiting.items) }
         ensures kept { IfNone result (self.new.waiting.items ≡ self.old.waiting.items) }
-        ensures less { IfSome result (λ mark. deque_len self.new.waiting + 1 ≡ deque_len self.old.waiting) }
+        ensures less { IfSome result
+            (λ mark. deque_len self.new.waiting + 1 ≡ deque_len self.old.waiting) }
         ensures few { deque_len self.new.waiting ≤ deque_len self.old.waiting }
     {
         if self.reaches_first() {

@@ -55,11 +55,17 @@ impl Use {
 /// How many minislots of frames have each use.
 #[derive(Clone, Copy)]
 pub struct Slots {
+    /// Minislots of data grants, for bytes that were asked.
     pub data_grants: u64,
+    /// Minislots of grants to no modem.
     pub idle: u64,
+    /// Minislots of opportunities for initial or station maintenance.
     pub opportunity: u64,
+    /// Minislots of polls.
     pub poll: u64,
+    /// Minislots of the request regions.
     pub request: u64,
+    /// Minislots of grants to unsolicited flows.
     pub unsolicited: u64,
 }
 

@@ -69,7 +69,8 @@ impl Totals {
         requires slots { all_slots self.old.slots < 2 ^ 60 }
         requires elements { AreOfFrame map.now.wire.elements }
         ensures value { (h : List Recorded) → TellsUnsolicited flows.now h
-            → self.new ≡ with_frame frame self.old map.now (slots_in (record { before = h; built = map.now })) }
+            → self.new ≡ with_frame frame self.old map.now
+            (slots_in (record { before = h; built = map.now })) }
         ensures bounded { all_slots self.new.slots ≤ all_slots self.old.slots + 2 ^ 14 }
     {
         let slots = Slots::of_frame(flows, map.wire.elements.as_slice());

@@ -42,10 +42,15 @@ Makes-append c s w x made more first then = record {
 -- a worker with this seat has made the calls before this place of its script, each after its gate let it pass
 pub record HasMadeSoFar (passes : ℕ → ℕ → Type 0) (c : Config) (s : Standing FixedDesk Event) (script : List Call)
     (place : ℕ) (w : Standing FixedDesk Event) (unrecorded : ℕ) : Type 0 where
+  -- the calls that it made, each with what it was answered
   pub made : List MadeCall
+  -- they lead its seat from the first state to the last
   pub makes : Makes c s w made
+  -- they are the front of its script
   pub front : calls_made made ≡ take place script
+  -- so many of them were not recorded
   pub unrecorded_is : unrecorded ≡ left_out_count made
+  -- the gate let it pass before each
   pub passed : (k : ℕ) → k < place → passes s.number k
 
 -- the count after a call: one more where it was not recorded

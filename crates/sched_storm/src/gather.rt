@@ -13,7 +13,9 @@ use ticket_lock::Seat;
 
 /// The seats of all workers, in their order, and what they count together.
 pub struct Gathered {
+    /// The seats, in the order of their workers.
     pub seats: Vec<Seat<Desk>>,
+    /// How many calls of all workers were not recorded.
     pub unrecorded: u64,
     /// The first worker that its gate held, if any.
     pub held: Option<usize>,
@@ -29,7 +31,8 @@ fn add(gathered: Gathered, worked: Worked) -> Gathered
     ensures len { vec_len result.seats ≡ vec_len gathered.seats + 1 }
     ensures room { vec_capacity result.seats ≡ vec_capacity gathered.seats }
     ensures unrecorded { result.unrecorded ≡ gathered.unrecorded + worked.unrecorded }
-    ensures held { result.held ≡ held_then gathered.held (length gathered.seats.items) worked.ended }
+    ensures held { result.held
+        ≡ held_then gathered.held (length gathered.seats.items) worked.ended }
     ensures stopped { result.stopped ≡ (gathered.stopped || is_stopped worked.ended) }
 {
     let Gathered {

@@ -22,10 +22,15 @@ use ticket_lock::Seat;
 /// What a worker is given, for contracts alone.
 #[derive(Drop)]
 pub struct Given<R: Starts, G: Gate> {
+    /// The scheduler's configuration.
     pub config: Snapshot<Checked>,
+    /// The gate that lets the worker pass before each call.
     pub gate: Snapshot<G>,
+    /// The seat by which it makes its calls.
     pub seat: Snapshot<Seat<Desk>>,
+    /// The calls that it makes, in their order.
     pub script: Snapshot<Vec<Call>>,
+    /// What starts its thread.
     pub starts: PhantomData<R>,
 }
 
@@ -45,7 +50,9 @@ pub enum Job<R: Starts, G: Gate> {
 /// Room for the threads of a storm and for the seats that come back, made before they start.
 #[derive(Drop)]
 pub struct Rooms<R: Starts, G: Gate> {
+    /// Room for the workers that run, one for each script.
     pub jobs: Vec<Job<R, G>>,
+    /// Room for their seats, one for each script.
     pub row: Vec<Seat<Desk>>,
 }
 
@@ -62,7 +69,8 @@ fn start<'s, E: 's, R: Starts + Wait + Sync, G: Gate>(
 ) -> Job<R, G>
     requires own { seat.lock ≡ shared.now.lock }
     requires config { shared.now.config ≡ checked }
-    ensures job { IsJob G.lets_pass G.holds_back R.lacks_thread checked gate.now seat script.items result }
+    ensures job { IsJob G.lets_pass G.holds_back R.lacks_thread
+        checked gate.now seat script.items result }
 {
     let given = Given {
         config: Snapshot::of(&checked),
@@ -73,7 +81,8 @@ fn start<'s, E: 's, R: Starts + Wait + Sync, G: Gate>(
     };
     let run = move || -> Worked
         requires { seat.lock ≡ shared.now.lock }
-        ensures { HasWorked (G.lets_pass gate.entry.now) (G.holds_back gate.entry.now) R.lacks_thread
+        ensures { HasWorked
+            (G.lets_pass gate.entry.now) (G.holds_back gate.entry.now) R.lacks_thread
             shared.entry.now.config seat script.items result.seat result.unrecorded result.ended }
     { work(rt, shared, gate, stop, seat, &script) };
     match scope.spawn_with(given, run) {
@@ -112,7 +121,8 @@ fn start_all<'s, E: 's, R: Starts + Wait + Sync, G: Gate>(
     requires each { vec_len seats ≡ vec_len scripts }
     requires empty { jobs.items ≡ [] }
     requires room { vec_len seats ≤ vec_capacity jobs }
-    ensures started { EachOf (IsJob G.lets_pass G.holds_back R.lacks_thread checked gate.now) seats.items
+    ensures started { EachOf
+        (IsJob G.lets_pass G.holds_back R.lacks_thread checked gate.now) seats.items
         (calls_each scripts.items) (reverse result.items) }
     ensures room { vec_len result ≤ vec_len seats }
 {
@@ -138,7 +148,8 @@ pub fn run_workers<R: Starts + Wait + Sync, G: Gate>(
 ) -> Gathered
     requires config { shared.now.config ≡ checked }
     requires ready { AreJobsReady shared.now.lock seats scripts rooms.jobs rooms.row }
-    ensures worked { IsGathered (G.lets_pass gate.now) (G.holds_back gate.now) R.lacks_thread checked
+    ensures worked { IsGathered
+        (G.lets_pass gate.now) (G.holds_back gate.now) R.lacks_thread checked
         seats.items (calls_each scripts.items) result }
 {
     let stop = Stop::new();
@@ -149,7 +160,8 @@ pub fn run_workers<R: Starts + Wait + Sync, G: Gate>(
         move |scope| -> Gathered
             requires config { shared.now.config ≡ checked }
             requires ready { AreJobsReady shared.now.lock seats scripts rooms.jobs rooms.row }
-            ensures { IsGathered (G.lets_pass gate.entry.now) (G.holds_back gate.entry.now) R.lacks_thread
+            ensures { IsGathered
+                (G.lets_pass gate.entry.now) (G.holds_back gate.entry.now) R.lacks_thread
                 checked seats.items (calls_each scripts.items) result }
         {
             let Rooms { jobs, row } = rooms;

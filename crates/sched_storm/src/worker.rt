@@ -32,6 +32,7 @@ pub struct Worked {
     pub seat: Seat<Desk>,
     /// How many of its calls were not recorded.
     pub unrecorded: u64,
+    /// How it ended.
     pub ended: Ended,
     ghost few: { unrecorded < 2 ^ 59 },
 }

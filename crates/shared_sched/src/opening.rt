@@ -58,7 +58,8 @@ fn share<R: Wait>(
     ensures press { IfOk result (λ r. r.0.press ≡ press.press) }
     ensures keeps { IfOk result (λ r. r.0.keeps ≡ keeps) }
     ensures opened { IfOk result (λ r.
-        Opens fixed_of events_of (empty_desk checked press.press keeps) seats 0 r.0.lock r.1.items) }
+        Opens fixed_of events_of
+        (empty_desk checked press.press keeps) seats 0 r.0.lock r.1.items) }
     ensures ended { IfErr result (λ whole. whole ≡ unread press.press) }
 {
     let mut recorder = Recorder::new(scheduler, press);

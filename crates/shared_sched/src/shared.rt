@@ -35,7 +35,8 @@ impl Model for Shared {
 
     ghost view = { λ s. record { config = s.config; press = s.told.press; keeps = s.keeps; lock = s.lock } };
 
-    ghost invariant = { λ s. IsDeskLock s.config s.lock × HasPress s.config s.told.press s.keeps s.lock };
+    ghost invariant = { λ s. IsDeskLock s.config s.lock
+        × HasPress s.config s.told.press s.keeps s.lock };
 }
 
 impl Shared {

@@ -23,9 +23,11 @@ place_of-index t = omega arith
 pub place_of-within : (t : ℕ) → place_of t < 520
 place_of-within t = omega arith
 
+-- the word of a ticket is never the first, which has the ticket that is drawn next
 pub place_of-first : (t : ℕ) → place_of t ≢ 0
 place_of-first t = λ e. omega arith
 
+-- and it begins a cache line of eight words
 pub place_of-line : (t : ℕ) → place_of t % 8 ≡ 0
 place_of-line t = omega arith
 
@@ -79,6 +81,7 @@ module _ (w after : LockWorld) (words : List ℕ) (r : WordsStand w words) where
         ∙ sym (grant_of-other t i below n) ∙ ap (λ (m : ℕ). grant_of m i) later)
         (cases_eq i ((t + 1) % 64))
 
+    -- the words of the row stand for the world once the turn with this ticket is left
     pub WordsStand-left : WordsStand after (set words (place_of (t + 1)) ((t + 1) % 2 ^ 64))
     WordsStand-left =
         let new : ℕ = (t + 1) % 2 ^ 64 in

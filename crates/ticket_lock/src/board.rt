@@ -26,15 +26,20 @@ pub struct About<H, E> {
 
 /// An entry past the opening list, with its whole ticket. No value of it is made.
 pub struct Logged<E> {
+    /// What was put behind the entries that the value had.
     pub entry: E,
+    /// The ticket of the turn that put it there, counted on past 2^64.
     pub ticket: u64,
 }
 
 /// A seat's number, with the entries past the opening list that it has seen, and how many turns it has ended. No
 /// value of it is made.
 pub struct Part<E> {
+    /// The seat's number, from 0.
     pub number: u64,
+    /// The entries past the opening list that it has seen, in the order of their tickets.
     pub log: LinkedList<Logged<E>>,
+    /// How many turns it has ended.
     pub turns: u64,
 }
 
@@ -46,15 +51,20 @@ pub struct View<H, E> {
     pub parts: LinkedList<Part<E>>,
     /// What the seat does, with its whole ticket.
     pub state: SeatState,
+    /// How many tickets it has drawn, and those that were joined to it.
     pub draws: u64,
+    /// How often it has looked whether its ticket is served, and those that were joined to it.
     pub looks: u64,
 }
 
 /// What the table is told once.
 #[derive(Drop)]
 pub struct Key<T> {
+    /// The value that the lock was opened with.
     pub value: Snapshot<T>,
+    /// How many seats were made.
     pub seats: usize,
+    /// The first ticket.
     pub first: u64,
 }
 
@@ -88,6 +98,7 @@ pub fn opening_words(first: u64) -> [u64; WORDS]
     words
 }
 
+/// The rule of the table: what holds between its words, its slot and its seats.
 pub struct LockRule;
 
 impl<T: Journal> TableRule<Option<T>, View<T::Head, T::Entry>, Key<T>> for LockRule {
@@ -98,8 +109,11 @@ impl<T: Journal> TableRule<Option<T>, View<T::Head, T::Entry>, Key<T>> for LockR
     ghost first = { λ key. first_view (about_of T.head T.entries key) };
 }
 
+/// The table: its slot has the value while no seat holds it.
 pub type Board<T: Journal> = Table<Option<T>, View<T::Head, T::Entry>, Key<T>, LockRule, Global>;
 
+/// What all seats share of the table.
 pub type Steps<T: Journal> = Shared<Option<T>, View<T::Head, T::Entry>, Key<T>, LockRule>;
 
+/// A seat at the table.
 pub type Place<T: Journal> = Seat<Option<T>, View<T::Head, T::Entry>>;

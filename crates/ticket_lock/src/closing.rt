@@ -20,7 +20,8 @@ fn gather<T: Journal>(steps: &Steps<T>, seats: Vec<Seat<T>>) -> Place<T>
       about = Some (about_of T.head T.entries steps.now.key);
     }) seats.items }
     ensures table { result.table_id ≡ steps.now.table_id }
-    ensures gathered { IsGathered (Some (about_of T.head T.entries steps.now.key)) seats.items result.me.0 }
+    ensures gathered { IsGathered
+        (Some (about_of T.head T.entries steps.now.key)) seats.items result.me.0 }
 {
     let mut seats = seats;
     let last = seats.pop();

@@ -23,7 +23,8 @@ use atomic_table::{Play, TableRule};
 pub fn one_holder<T: Journal>()
     ensures holder { (a : About T.Head T.Entry) (w : LockWorld) (log : List (Logged T.Entry))
         (s : State (Option T) (View T.Head T.Entry))
-        → Stands T.head T.entries T.stamp a w log s → HasOneHolder T.head T.entries T.stamp a w log s }
+        → Stands T.head T.entries T.stamp a w log s
+        → HasOneHolder T.head T.entries T.stamp a w log s }
     ensures running { (key : Key T) (s : State (Option T) (View T.Head T.Entry))
         → ⟦<LockRule as TableRule<Option<T>, View<T::Head, T::Entry>, Key<T>>>⟧.holds key s
         → RunsWithOneHolder T.head T.entries T.stamp (about_of T.head T.entries key) s }
@@ -34,10 +35,13 @@ pub fn one_holder<T: Journal>()
 /// be taken, and whatever step the table of a running lock allows there is that event.
 pub fn follows_the_core<T: Journal>()
     ensures steps { (a : About T.Head T.Entry) (w : LockWorld) (log : List (Logged T.Entry))
-        (s : State (Option T) (View T.Head T.Entry)) (id : ℕ) (v : View T.Head T.Entry) (p : Part T.Entry)
-        → Stands T.head T.entries T.stamp a w log s → get_elem? s.views id ≡ some v → v.parts ≡ p ∷ []
+        (s : State (Option T) (View T.Head T.Entry))
+        (id : ℕ) (v : View T.Head T.Entry) (p : Part T.Entry)
+        → Stands T.head T.entries T.stamp a w log s → get_elem? s.views id ≡ some v
+        → v.parts ≡ p ∷ []
         → FollowsTheCore T.head T.entries T.stamp a w log s id v p }
-    ensures running { (key : Key T) → RunsTheCore T.head T.entries T.stamp (about_of T.head T.entries key)
+    ensures running { (key : Key T)
+        → RunsTheCore T.head T.entries T.stamp (about_of T.head T.entries key)
         (⟦<LockRule as TableRule<Option<T>, View<T::Head, T::Entry>, Key<T>>>⟧.holds key)
         ⟦<Draw as Play<Option<T>, View<T::Head, T::Entry>>>⟧.then
         ⟦<Look as Play<Option<T>, View<T::Head, T::Entry>>>⟧.then

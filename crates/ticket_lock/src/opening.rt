@@ -29,7 +29,8 @@ fn lay<T: Journal>(
     requires few { seats ≤ MAX_SEATS }
     ensures table { IfOk result (λ r. (r.0.shared.table_id.words ≡ 520)
         × (r.0.shared.table_id.slots ≡ 1) × (r.1.table_id ≡ r.0.shared.table_id)) }
-    ensures view { IfOk result (λ r. r.1.me ≡ (first_view (about_of T.head T.entries r.0.shared.key), [])) }
+    ensures view { IfOk result
+        (λ r. r.1.me ≡ (first_view (about_of T.head T.entries r.0.shared.key), [])) }
     ensures key { IfOk result (λ r. (r.0.shared.key.value.value ≡ value)
         × (r.0.shared.key.seats ≡ seats) × (r.0.shared.key.first ≡ first)) }
     ensures back { IfErr result (λ x. x ≡ value) }

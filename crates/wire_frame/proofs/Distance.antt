@@ -116,6 +116,7 @@ header_settled xs h =
     = ap (λ n. 8 * n) (omega (arith, long)) ∙ sym (length-wire h.front) in
     ap₂ (λ n x. shifts CCITT n (bit_xor 65535 (value (wire_bits x)))) bits_long h.bytes ∙ settled h.front h.sum h.is_hcs
 
+-- a header of at most 7 bytes in which one bit is changed, or two are, is none
 pub finds_two_bits : FindsTwoBits
 finds_two_bits sent heard a long short changed b =
     let p = add (wire_bits sent) (wire_bits heard) in

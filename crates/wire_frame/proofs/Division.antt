@@ -24,6 +24,7 @@ plus_false : (a : Bool) → plus (plus a false) false ≡ a
 plus_false true = refl
 plus_false false = refl
 
+-- in a sum of three lists of bits it does not matter which two are added first
 pub add_assoc_of : (p q r : List Bool) → add (add p q) r ≡ add p (add q r)
 unfolding add
 add_assoc_of [] q r = refl

@@ -101,6 +101,7 @@ after_two g r a b c d e f h i below =
     ∙ shifts_sum g 32 (shifts g 32 (bit_xor r first)) second
     ∙ ap (λ x. bit_xor x (shifts g 32 second)) (sym (shifts_join g 32 32 (bit_xor r first)))
 
+-- the register after eight bytes, from the two words that they are
 pub after_eight : (g r : ℕ) (bytes : List ℕ) → length bytes ≡ 8 → ((k : ℕ) → slice_index bytes k < 256)
     → bit_xor (shifts g 64 (bit_xor r (from_le_bytes w32 (slice_index bytes 0 ∷ slice_index bytes 1
     ∷ slice_index bytes 2 ∷ slice_index bytes 3 ∷ []))))

@@ -16,6 +16,7 @@ from_table (entry ∷ table) f at zero t h =
 from_table (entry ∷ table) f at (suc i) t h =
     from_table table f (suc at) i (and_r _ (agrees table f (suc at)) t) (omega arith) ∙ ap f (omega arith)
 
+-- so each entry of a table that agrees with a function is its value at that place
 pub entry_is : (table : List ℕ) (f : ℕ → ℕ) (i : ℕ) → T (agrees table f 0) → i < length table
     → get_or table i 0 ≡ f i
 entry_is table f i t h = from_table table f 0 i t h ∙ ap f (omega arith)

@@ -47,9 +47,11 @@ is_frame address payload frame fits e =
       bytes = e;
     }
 
+-- a payload that fits has one frame from an address
 pub each_has_one : EachHasOneFrame
 each_has_one address payload frame fits = (frame_is address payload frame, is_frame address payload frame fits)
 
+-- a frame is of one address and one payload
 pub each_is_of_one : EachIsOfOneMap
 each_is_of_one address payload another other frame six also f g =
     let one = heard address payload frame six f in

@@ -8,10 +8,12 @@ use Rattle.wire_frame.proofs.Values.{value}
 use Rattle.wire_frame.proofs.Bytes.{after_bytes_is}
 use Rattle.wire_frame.proofs.Sums.{register, register-lt}
 
+-- the generator of CRC-CCITT as a number
 pub ccitt_value : value ccitt ≡ CCITT
 unfolding value ccitt coefficients
 ccitt_value = refl
 
+-- it has degree 16
 pub length-ccitt : length ccitt ≡ 16
 unfolding ccitt coefficients
 length-ccitt = refl
@@ -20,6 +22,7 @@ ethernet_value : value ethernet ≡ ETHERNET
 unfolding value ethernet coefficients
 ethernet_value = refl
 
+-- the generator of the CRC of Ethernet has degree 32
 pub length-ethernet : length ethernet ≡ 32
 unfolding ethernet coefficients
 length-ethernet = refl
@@ -28,6 +31,7 @@ length-ethernet = refl
 pub ccitt_register : (bytes : List ℕ) → register ccitt bytes ≡ after_bytes CCITT 65535 bytes
 ccitt_register bytes = simp (ccitt_value, length-ccitt) (sym (after_bytes_is CCITT 65535 bytes))
 
+-- the same of the CRC of Ethernet
 pub ethernet_register : (bytes : List ℕ) → register ethernet bytes ≡ after_bytes ETHERNET 4294967295 bytes
 ethernet_register bytes = simp (ethernet_value, length-ethernet) (sym (after_bytes_is ETHERNET 4294967295 bytes))
 
@@ -39,6 +43,7 @@ ccitt_sum bytes sum e =
     let same = ccitt_register bytes in
     omega (arith, e, whole, same)
 
+-- what a result owes to be the CRC of Ethernet
 pub ethernet_sum : (bytes : List ℕ) (sum : ℕ) → sum + after_bytes ETHERNET 4294967295 bytes + 1 ≡ 2 ^ 32
     → sum + register ethernet bytes + 1 ≡ 2 ^ length ethernet
 ethernet_sum bytes sum e =

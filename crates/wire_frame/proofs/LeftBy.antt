@@ -7,17 +7,21 @@ use lib.Ieee.Fits.{and_l, and_r}
 use Rattle.wire_frame.specs.declared.tables.TheConstants.{CCITT}
 use Rattle.wire_frame.specs.Register.{shift, shifts}
 
+-- what the bit at a place leaves in the register, 40 shifts later
 abbrev pub left_by : ℕ → ℕ
 left_by i = shifts CCITT 40 (2 ^ i)
 
+-- the same of so many places, the last of them first
 abbrev pub left_by_all : ℕ → List ℕ
 left_by_all zero = []
 left_by_all (suc n) = left_by n ∷ left_by_all n
 
+-- a number is none of these
 abbrev pub is_new : ℕ → List ℕ → Bool
 is_new x [] = true
 is_new x (y ∷ ys) = not (eqb x y) && is_new x ys
 
+-- no number is 0, and no two are the same
 abbrev pub are_apart : List ℕ → Bool
 are_apart [] = true
 are_apart (x ∷ xs) = not (eqb x 0) && (is_new x xs && are_apart xs)
@@ -34,6 +38,7 @@ new_at (suc n) x j t h =
       | inr g ↦ new_at n x j (and_r _ (is_new x (left_by_all n)) t) (omega arith)
     ]
 
+-- each place leaves something
 pub not_zero_at : (n i : ℕ) → T (are_apart (left_by_all n)) → i < n → left_by i ≢ 0
 not_zero_at zero i t h = absurd (omega arith)
 not_zero_at (suc n) i t h =
@@ -43,6 +48,7 @@ not_zero_at (suc n) i t h =
       | inr g ↦ not_zero_at n i (and_r _ (are_apart (left_by_all n)) (and_r _ rest t)) (omega arith)
     ]
 
+-- two places leave different numbers
 pub apart_at : (n i j : ℕ) → T (are_apart (left_by_all n)) → i < n → j < i → left_by i ≢ left_by j
 apart_at zero i j t h k = absurd (omega arith)
 apart_at (suc n) i j t h k =
@@ -53,6 +59,7 @@ apart_at (suc n) i j t h k =
       | inr g ↦ apart_at n i j (and_r _ (are_apart (left_by_all n)) (and_r _ rest t)) (omega arith) k
     ]
 
+-- so it is of all 56 places, by computing
 pub all_apart : T (are_apart (left_by_all 56))
 unfolding shifts shift
 all_apart = tt

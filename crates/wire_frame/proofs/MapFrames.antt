@@ -79,6 +79,7 @@ heard_framed (a ∷ b ∷ c ∷ d ∷ e ∷ f ∷ []) payload hcs crc six fits i
 heard_framed (a ∷ b ∷ c ∷ d ∷ e ∷ f ∷ g ∷ gs) payload hcs crc six fits is_hcs is_crc = absurd (omega arith)
 heard_framed address payload hcs crc six fits is_hcs is_crc = absurd (omega arith)
 
+-- a frame of an address and a payload shows them to whoever hears it
 pub heard : (address payload bytes : List ℕ) → length address ≡ 6 → IsMapFrame address payload bytes
     → IsHeard address payload bytes
 heard address payload bytes six f =

@@ -56,9 +56,11 @@ frame_is_read (Queue number sid) hcs fits =
     ap₂ Queue (from_be_bytes-to_be_bytes_2 number (omega (arith, fits.0)))
     (from_be_bytes-to_be_bytes_2 sid (omega (arith, fits.1)))
 
+-- a request's frame passes all tests
 pub passes : (r : Request) (bytes : List ℕ) → IsRequestFrame r bytes → Passes bytes
 passes r bytes f = subst Passes (sym f.bytes) (frame_passes r f.hcs f.fits f.is_hcs)
 
+-- and the request is read back from it
 pub is_read : (r : Request) (bytes : List ℕ) → IsRequestFrame r bytes → request_in bytes ≡ r
 is_read r bytes f = ap request_in f.bytes ∙ frame_is_read r f.hcs f.fits
 
@@ -68,6 +70,7 @@ pair-lt a b p q zero = p
 pair-lt a b p q (suc zero) = q
 pair-lt a b p q (suc (suc i)) = omega arith
 
+-- two bytes, high first, as a number and back
 pub be_pair : (a b : ℕ) → a < 256 → b < 256 → to_be_bytes w16 (from_be_bytes w16 (a ∷ b ∷ [])) ≡ a ∷ b ∷ []
 be_pair a b p q = be_bytes_2 (a ∷ b ∷ []) _ refl (pair-lt a b p q) refl
 

@@ -18,6 +18,7 @@ pub record One (p : List Bool) : Type 0 where
   pub within : at < length p
   pub is : value p ≡ 2 ^ at
 
+-- a list of bits of which one is set has such a place
 pub one_set : (p : List Bool) → bits_set p ≡ 1 → One p
 unfolding value
 one_set [] e = absurd (omega arith)
@@ -39,6 +40,7 @@ pub record Two (p : List Bool) : Type 0 where
   pub within : high < length p
   pub is : value p ≡ bit_xor (2 ^ high) (2 ^ low)
 
+-- and one of which two are set has two such places
 pub two_set : (p : List Bool) → bits_set p ≡ 2 → Two p
 unfolding value
 two_set [] e = absurd (omega arith)

@@ -17,6 +17,7 @@ unfoldable pub value : List Bool → ℕ
 value [] = 0
 value (b ∷ bs) = value bs * 2 + digit b
 
+-- a digit is 0 or 1
 pub digit-lt : (b : Bool) → digit b < 2
 digit-lt true = omega arith
 digit-lt false = omega arith
@@ -36,6 +37,7 @@ value_add (a ∷ p) (b ∷ q) =
     ap₂ (λ x y. x * 2 + y) (value_add p q) (digit_plus a b)
     ∙ sym (xor_block 1 (value p) (value q) (digit a) (digit b) (digit-lt a) (digit-lt b))
 
+-- the sum of two lists of one length has that length
 pub length-add : (p q : List Bool) → length p ≡ length q → length (add p q) ≡ length q
 unfolding add
 length-add [] q e = refl
@@ -51,6 +53,7 @@ value_append (b ∷ p) q =
     let up = up_one (value q) (length p) in
     omega (arith, rest, up)
 
+-- a list of n bits is a number below 2^n
 pub value-lt : (p : List Bool) → value p < 2 ^ length p
 unfolding value
 value-lt [] = omega arith
@@ -60,11 +63,13 @@ value-lt (b ∷ p) =
     let low = digit-lt b in
     omega (arith, rest, up, low)
 
+-- bits that are all clear are 0
 pub value_zeros : (n : ℕ) → value (zeros n) ≡ 0
 unfolding value
 value_zeros zero = refl
 value_zeros (suc n) = let rest = value_zeros n in omega (arith, rest)
 
+-- n bits that are all set are 2^n less 1
 pub value_ones : (n : ℕ) → value (ones n) + 1 ≡ 2 ^ n
 unfolding value
 value_ones zero = refl
@@ -73,6 +78,7 @@ value_ones (suc n) =
     let up = pow-suc 2 n in
     omega (arith, rest, up)
 
+-- all bits turned over: the two numbers add up to 2^n less 1
 pub value_not : (p : List Bool) → value (map not p) + value p + 1 ≡ 2 ^ length p
 unfolding value
 value_not [] = refl
@@ -85,6 +91,7 @@ value_not (false ∷ p) =
     let up = pow-suc 2 (length p) in
     omega (arith, rest, up)
 
+-- as many bits as before
 pub length-not : (p : List Bool) → length (map not p) ≡ length p
 length-not [] = refl
 length-not (b ∷ p) = ap suc (length-not p)
@@ -107,6 +114,7 @@ value_bits (suc k) n =
     split_low : (k n : ℕ) → n % 2 ^ suc k ≡ n / 2 % 2 ^ k * 2 + n % 2
     split_low k n = ap (λ x. n % x) (pow-suc 2 k) ∙ mod-mul n (pow_pos k) (omega arith)
 
+-- a number written with k bits has k bits
 pub length-bits : (k n : ℕ) → length (bits k n) ≡ k
 unfolding bits
 length-bits zero n = refl

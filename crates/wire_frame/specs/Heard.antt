@@ -40,6 +40,7 @@ pub record HasMapHeader (bytes : List ℕ) : Type 0 where
 abbrev pub IsBegun : List ℕ → Type 0
 IsBegun bytes = (has_all_bytes bytes ≡ true) × (is_management bytes ≡ true)
 
+-- both checksums are right too
 abbrev pub HasSums : List ℕ → Type 0
 HasSums bytes = IsBegun bytes × HasHeaderSum bytes × HasMessageSum bytes
 

@@ -38,10 +38,11 @@ pub record IsMapFrame (address payload frame : List ℕ) : Type 0 where
       ≡ (mac_header (message address payload) ++ to_le_bytes w16 hcs)
       ++ (message address payload ++ to_le_bytes w32 crc)
 
--- the two checksums as functions of the bytes; EachHasOneFrame says that they are the remainders
+-- the HCS of a header as a function of its bytes; EachHasOneFrame says that this and the CRC are the remainders
 abbrev pub hcs_of : List ℕ → ℕ
 hcs_of bytes = 2 ^ 16 - 1 - after_bytes CCITT (2 ^ 16 - 1) bytes
 
+-- the CRC of a message as a function of its bytes
 abbrev pub crc_of : List ℕ → ℕ
 crc_of bytes = 2 ^ 32 - 1 - after_bytes ETHERNET (2 ^ 32 - 1) bytes
 

@@ -47,7 +47,8 @@ fn put(out: &mut [u8; MAX_FRAME_BYTES], at: usize, bytes: &[u8])
 fn put_message(out: &mut [u8; MAX_FRAME_BYTES], payload: &[u8], address: &[u8; 6])
     requires { length payload.now ≤ MAX_BYTES }
     ensures { out.new
-        ≡ (take 6 out.old ++ message address.now payload.now) ++ drop (26 + length payload.now) out.old }
+        ≡ (take 6 out.old ++ message address.now payload.now)
+        ++ drop (26 + length payload.now) out.old }
 {
     let len = (6 + payload.len()) as u16;
     put(out, 6, &all_modems());

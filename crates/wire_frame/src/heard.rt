@@ -87,7 +87,8 @@ pub fn read_map_frame(bytes: &[u8]) -> Result<MapFrame<'_>, MapFrameFault>
     ensures found { IfOk result (λ r. IsMapFrame r.address r.payload.now bytes.now) }
 
     // Each frame of a payload, from an address of six bytes, is read.
-    ensures only { (address payload : List ℕ) → length address ≡ 6 → IsMapFrame address payload bytes.now
+    ensures only { (address payload : List ℕ) → length address ≡ 6
+        → IsMapFrame address payload bytes.now
         → IsOkAnd result (λ r. (r.address ≡ address) × (r.payload.now ≡ payload)) }
 
     // Which fault it is.

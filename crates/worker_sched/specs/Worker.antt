@@ -98,7 +98,7 @@ abbrev pub TakesTurn : WorkerState → WorkerState → Call → Turn → Type 0
 TakesTurn old new call turn = MatchOption old.ticket ((turn ≡ NoTicket) × (new ≡ old))
     (λ t. TakesTurnWith t old new call turn)
 
--- the turn of a worker with this ticket that hands over what is kept, or with none
+-- the turn of a worker with this ticket that hands over what is kept
 abbrev pub HandsOverWith : Stands → WorkerState → WorkerState → Vec Entry → HandOver → Type 0
 HandsOverWith t old new room (over.Ended answer) = (w : Stands) × (new ≡ record old { seat = Some w; ticket = None })
     × HandsOverTurn old.place.config old.place.keeps t room w answer
@@ -106,17 +106,19 @@ HandsOverWith t old new room (over.NotYet back) = (back ≡ room)
     × (new ≡ record old { ticket = Some (record t { looks = t.looks + 1 }) })
 HandsOverWith t old new room (over.NoTicket back) = ⊥
 
+-- the turn of a worker that hands over what is kept, with a ticket or with none
 abbrev pub TurnsOver : WorkerState → WorkerState → Vec Entry → HandOver → Type 0
 TurnsOver old new room turn = MatchOption old.ticket ((turn ≡ over.NoTicket room) × (new ≡ old))
     (λ t. HandsOverWith t old new room turn)
 
--- the turn of a worker with this ticket that forgets what is kept, or with none
+-- the turn of a worker with this ticket that forgets what is kept
 abbrev pub ForgetsWith : Stands → WorkerState → WorkerState → Forget → Type 0
 ForgetsWith t old new (forget.Ended done) = (w : Stands) × (new ≡ record old { seat = Some w; ticket = None })
     × ForgetsTurn old.place.config old.place.keeps t w done
 ForgetsWith t old new forget.NotYet = new ≡ record old { ticket = Some (record t { looks = t.looks + 1 }) }
 ForgetsWith t old new forget.NoTicket = ⊥
 
+-- the turn of a worker that forgets what is kept, with a ticket or with none
 abbrev pub TurnsForgetting : WorkerState → WorkerState → Forget → Type 0
 TurnsForgetting old new turn = MatchOption old.ticket ((turn ≡ forget.NoTicket) × (new ≡ old))
     (λ t. ForgetsWith t old new turn)
@@ -127,6 +129,7 @@ BeginsWith t old new begin.Entered = (h : Stands) × (new ≡ record old { ticke
 BeginsWith t old new begin.NotYet = new ≡ record old { ticket = Some (record t { looks = t.looks + 1 }) }
 BeginsWith t old new begin.NoTicket = ⊥
 
+-- a worker begins its turn, is not served yet, or has no ticket
 abbrev pub BeginsTurn : WorkerState → WorkerState → Begin → Type 0
 BeginsTurn old new begun = MatchOption old.ticket ((begun ≡ begin.NoTicket) × (new ≡ old))
     (λ t. BeginsWith t old new begun)

@@ -190,7 +190,8 @@ impl Workplace {
     /// One look, no wait, no memory. A desk that keeps its whole history lets nothing go: that ends the turn.
     pub fn forget(&self, ticket: Ticket<Desk>) -> Result<(Seat<Desk>, bool), Ticket<Desk>>
         requires own { ticket.lock ≡ self.now.lock }
-        ensures forgotten { IfOk result (λ r. ForgetsTurn self.now.config self.now.keeps ticket r.0 r.1) }
+        ensures forgotten { IfOk result
+            (λ r. ForgetsTurn self.now.config self.now.keeps ticket r.0 r.1) }
         ensures given_back { IfErr result (λ t. t ≡ record ticket { looks = ticket.looks + 1 }) }
     {
         let (held, desk) = self.lock.try_enter(ticket)?;

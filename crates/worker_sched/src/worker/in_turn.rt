@@ -1,4 +1,5 @@
-//! A worker in its turn: it looks at the scheduler, and ends the turn with what is kept let go, or with nothing changed.
+//! A worker in its turn: it looks at the scheduler, and ends the turn with what is kept let go, or with nothing
+//! changed.
 ghost use Rattle.std.specs.Prelude.{◌≡◌, option_copied};
 ghost use Rattle.worker_sched.specs.Worker.{BeginsTurn, scheduler_of, EndsForgetting, EndsTurn};
 

@@ -37,7 +37,8 @@ note-requires-clause-room c = λ alive r asks.
     omega (arith, same, c.requires.live.ascends j i before c.loop-place-test.true)) in
     let e = c.args.entry.now in
     subst HasRoomFor (sym whole)
-    (c.requires.room (is_request (get_or c.loop-place.lives p item).sid e.call e.reply r asks) p item r within (ap (λ (t : LifeTally). t.to) (sym whole) ∙ alive)
+    (c.requires.room (is_request (get_or c.loop-place.lives p item).sid e.call e.reply r asks) p item r within
+    (ap (λ (t : LifeTally). t.to) (sym whole) ∙ alive)
     (ap (λ (t : LifeTally). request_by t.sid e.call e.reply) (sym whole) ∙ asks))
 
 pub loop-place-preserved : goal.loop-place-preserved

@@ -38,7 +38,8 @@ loop-life-preserved c =
           (life_at k c.args.lives.now ls are i c.life-item.result no_life c.loop-life-test.true c.life-item.is) in
           subst (λ ds. CountsUpto c.args.delay (c.loop-life.count + c.from-count.result) ds) (sym more)
           (subst (λ n. CountsUpto c.args.delay (c.loop-life.count + n)
-          (delays_in_all k (chosen rank (take i ls)) ++ delays_in_all k (chosen rank (l ∷ [])))) (sym c.from-count.ensures)
+          (delays_in_all k (chosen rank (take i ls)) ++ delays_in_all k (chosen rank (l ∷ []))))
+          (sym c.from-count.ensures)
           (CountsUpto-append c.args.delay c.loop-life.count c.upto_of.result
           (delays_in_all k (chosen rank (take i ls))) (delays_in_all k (chosen rank (l ∷ [])))
           (c.loop-life.invariant.counts k ls are) own));

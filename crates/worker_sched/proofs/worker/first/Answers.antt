@@ -14,7 +14,8 @@ pub returns-in-Ok-new : goal.returns-in-Ok-new
 returns-in-Ok-new c = record {
   first = subst (IsFirstOf c.args.place c.args.seats.items) (sym (c.in-Ok-new.ensures.ok
       ∙ ap (λ (p : SharedDesk).
-      record { place = p; seat = c.pop.result; ticket = None; entered = None; spare = c.pop.new.self.items }) c.in-Ok.ensures.ok))
+      record { place = p; seat = c.pop.result; ticket = None; entered = None; spare = c.pop.new.self.items })
+      c.in-Ok.ensures.ok))
       (record {
         place_is = refl;
         seats_are = c.pop.ensures.items;

@@ -35,7 +35,8 @@ pub overflow_add-self-4 : goal.overflow_add-self-4
 overflow_add-self-4 c = omega (arith, c.requires.few.1.dropped, c.requires.few.2, c.from-4.ensures)
 
 pub overflow_add-self-5 : goal.overflow_add-self-5
-overflow_add-self-5 c = omega (arith, c.requires.few.1.served, c.requires.few.2, c.from-5.ensures, c.sums-sums.ensures.few)
+overflow_add-self-5 c =
+    omega (arith, c.requires.few.1.served, c.requires.few.2, c.from-5.ensures, c.sums-sums.ensures.few)
 
 pub returns-clause-few : goal.returns-clause-few
 returns-clause-few c = λ n are. record {

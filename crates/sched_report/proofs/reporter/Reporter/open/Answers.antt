@@ -9,7 +9,8 @@ pub invariant_of-result : goal.invariant_of-result
 invariant_of-result c =
     let none : length c.new.result.items ≡ 0 = ap length c.new.ensures.items in
     let empty : length c.new-2.result.items ≡ 0 = ap length c.new-2.ensures.items in
-    subst (λ (p : Past). IsReport c.args.config p c.no_flows.result c.none.result _ c.start.result c.new.result.items c.new-2.result.items)
+    subst (λ (p : Past).
+    IsReport c.args.config p c.no_flows.result c.none.result _ c.start.result c.new.result.items c.new-2.result.items)
     (sym c.in_ok-open.ensures)
     (record {
       config = refl;

@@ -6,4 +6,5 @@ use Rattle.sched_report.proofs.service.Service.reserve.Goals as goal
 pub returns-clause-same : goal.returns-clause-same
 returns-clause-same c = λ config requests grants is.
     IsServiceOf-same config c.args.self.now _ requests grants refl refl refl refl c.reserve.ensures.items
-    c.reserve-2.ensures.items (omega (arith, is.room, c.reserve.ensures.len, c.reserve-2.ensures.len, c.reserve-2.ensures.capacity)) is
+    c.reserve-2.ensures.items
+    (omega (arith, is.room, c.reserve.ensures.len, c.reserve-2.ensures.len, c.reserve-2.ensures.capacity)) is
