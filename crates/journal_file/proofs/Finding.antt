@@ -24,6 +24,11 @@ pub all_bytes : (text bytes : List ℕ) (left : Option (List ℕ)) → Consumes 
 all_bytes text bytes None taken ended = absurd taken
 all_bytes text bytes (Some rest) taken ended = taken ∙ ap (λ (l : List ℕ). bytes ++ l) ended ∙ append-nil bytes
 
+-- no byte
+none_of : (bytes : List ℕ) → length bytes ≡ 0 → bytes ≡ []
+none_of [] none = refl
+none_of (b ∷ bytes) none = absurd (omega (arith, none))
+
 -- the same where they may not be known
 pub has_bytes : (known left : Option (List ℕ)) (bytes : List ℕ) → Consumes (rest_at 0 known) left bytes → IsAtEnd left
     → HasBytes known bytes
@@ -35,6 +40,13 @@ pub lacks : (known : Option (List ℕ)) (bytes text others : List ℕ) → HasBy
     → Lacks known text others
 lacks None bytes text others are is = tt
 lacks (Some known) bytes text others are is = is ∙ ap (λ (front : List ℕ). front ++ others) are
+
+-- all of a text, where there are no bytes
+pub lacks_all : (known : Option (List ℕ)) (size : ℕ) (text : List ℕ) → size ≡ 0 → HasLength known size
+    → Lacks known text text
+lacks_all None size text none long = tt
+lacks_all (Some bytes) size text none long =
+    ap (λ (front : List ℕ). front ++ text) (sym (none_of bytes (sym long ∙ none)))
 
 -- nothing but bytes without a newline
 pub no_line : (known left : Option (List ℕ)) (count : ℕ) → IsLast (prepend_known [] (rest_at 0 known)) left count
@@ -69,11 +81,6 @@ journal_of c es front read = record {
   entries_are = sym (append-nil es);
   text_is = sym (append-nil front);
 }
-
--- no byte
-none_of : (bytes : List ℕ) → length bytes ≡ 0 → bytes ≡ []
-none_of [] none = refl
-none_of (b ∷ bytes) none = absurd (omega (arith, none))
 
 -- how many bytes are torn, of a file whose length is a number of 64 bits
 exact_count : (text front behind : List ℕ) (size torn : ℕ) → size < 2 ^ 64 → size ≡ length text → text ≡ front ++ behind

@@ -10,18 +10,18 @@ use Rattle.journal_writing.specs.Journal.{opening_line, entry_line}
 use Rattle.live_command.specs.Journal.{Keeps, Grows, GrowsInPart}
 use Rattle.journal_file.specs.declared.place.Place.{Place}
 use Rattle.journal_file.specs.declared.place.Place.TheVariants.{NoLine, Torn, Whole, Failed}
-use Rattle.journal_file.specs.Store.{Lacks, cut_known}
+use Rattle.journal_file.specs.Store.{HasLength, Lacks, cut_known}
 use Rattle.journal_file.specs.Standing.{IsJournal, IsTorn, IsTornJournal}
 use Rattle.journal_file.specs.Place.{MayBegin, KnownStandsFor, KnownMayBegin}
 use Rattle.journal_file.proofs.Growing.{IsJournal-more, IsJournal-begun, IsTornJournal-whole, IsTornJournal-more, opening-front}
 
 -- a file without a line that got what it lacks of the opening's
 pub begun : (c : Config) (n : ℕ) (old : Option (List ℕ)) (opening rest : List ℕ) → opening ≡ opening_line c
-    → Lacks old opening rest → (es : List Entry) → KnownMayBegin (NoLine n) old c es
+    → (HasLength old n → Lacks old opening rest) → (es : List Entry) → KnownMayBegin (NoLine n) old c es
     → KnownStandsFor Whole (append_known old rest) c es
 begun c n None opening rest is lacks es may = tt
 begun c n (Some text) opening rest is lacks es may =
-    let whole : text ++ rest ≡ opening_line c = sym lacks ∙ is in
+    let whole : text ++ rest ≡ opening_line c = sym (lacks (sym may.2)) ∙ is in
     subst (λ (found : List Entry). IsJournal c (text ++ rest) found) (sym may.0) (IsJournal-begun c _ whole)
 
 begun-front : (c : Config) (new : List ℕ) (es : List Entry) → es ≡ [] → IsTorn new ⊎ (new ≡ opening_line c)
@@ -36,11 +36,11 @@ begun-front c new es none (inr whole) =
 
 -- or a part of it, since a call failed
 pub begun-part : (c : Config) (n : ℕ) (old : Option (List ℕ)) (opening rest : List ℕ) (k : ℕ)
-    → opening ≡ opening_line c → Lacks old opening rest → (es : List Entry) → KnownMayBegin (NoLine n) old c es
-    → KnownMayBegin Failed (append_known old (take k rest)) c es
+    → opening ≡ opening_line c → (HasLength old n → Lacks old opening rest) → (es : List Entry)
+    → KnownMayBegin (NoLine n) old c es → KnownMayBegin Failed (append_known old (take k rest)) c es
 begun-part c n None opening rest k is lacks es may = tt
 begun-part c n (Some text) opening rest k is lacks es may =
-    begun-front c _ es may.0 (opening-front c text rest k (sym is ∙ lacks))
+    begun-front c _ es may.0 (opening-front c text rest k (sym is ∙ lacks (sym may.2)))
 
 -- what is torn was cut off
 pub cut-whole : (c : Config) (end : ℕ) (old : Option (List ℕ)) (es : List Entry) → KnownMayBegin (Torn end) old c es
@@ -86,12 +86,13 @@ grown_none P entries before stands = (0, subst P (sym (append-nil before)) stand
 -- The same of a file whose place and bytes are told by equations.
 module _ (c : Config) (was is : Place) (old new : Option (List ℕ)) where
   pub begun_ok : (n : ℕ) (opening rest : List ℕ) → was ≡ NoLine n → is ≡ Whole → opening ≡ opening_line c
-      → Lacks old opening rest → new ≡ append_known old rest → Keeps (KnownMayBegin was old c) (KnownStandsFor is new c)
+      → (HasLength old n → Lacks old opening rest) → new ≡ append_known old rest
+      → Keeps (KnownMayBegin was old c) (KnownStandsFor is new c)
   begun_ok n opening rest before after text lacks more es may =
       rw (after, more) (begun c n old opening rest text lacks es (rw before at may))
 
   pub begun_err : (n : ℕ) (opening rest : List ℕ) → was ≡ NoLine n → is ≡ Failed → opening ≡ opening_line c
-      → Lacks old opening rest → (k : ℕ) × new ≡ append_known old (take k rest)
+      → (HasLength old n → Lacks old opening rest) → (k : ℕ) × new ≡ append_known old (take k rest)
       → Keeps (KnownMayBegin was old c) (KnownMayBegin is new c)
   begun_err n opening rest before after text lacks more es may =
       rw (after, more.1) (begun-part c n old opening rest more.0 text lacks es (rw before at may))

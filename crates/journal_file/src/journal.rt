@@ -1,11 +1,11 @@
 //! A journal in a file.
 
-ghost use Rattle.std.specs.Prelude.{◌≡◌, ◌++◌, flat_map, ◌≢◌, IfOk, IfErr, OnOk};
+ghost use Rattle.std.specs.Prelude.{◌≡◌, ◌++◌, flat_map, IfOk, OnOk};
 ghost use Rattle.std.specs.List.{AllByRecursion};
 ghost use Rattle.sched_history.specs.Machine.{IsEncodable};
 ghost use Rattle.journal_writing.specs.Journal.{entry_line};
 ghost use Rattle.journal_file.specs.Place.{KnownStandsFor, KnownMayBegin};
-ghost use Rattle.journal_file.specs.Store.{HasBytes, Lacks};
+ghost use Rattle.journal_file.specs.Store.{HasLength, HasBytes, Lacks};
 
 use crate::line_file::LineFile;
 use crate::place::Place;
@@ -42,26 +42,31 @@ fn put_lines(alloc: Global, text: &mut Vec<u8>, entries: &[Entry]) -> Result<(),
 // All bytes of a file, which has few.
 #[tactic(auto, using(crate::proofs::Finding::has_bytes))]
 fn bytes_of<S: Store>(alloc: Global, store: &S) -> Result<Vec<u8>, BeginFault>
-    ensures ok { IfOk result (λ bytes. HasBytes (S.contents store.now) bytes.items) }
-    ensures err { IfErr result (λ e. e ≢ BeginFault.Failed) }
+    ensures { IfOk result (λ bytes. HasBytes (S.contents store.now) bytes.items) }
 {
     match read_all(alloc, &mut Reading::new(store)) {
         Ok(bytes) => Ok(bytes),
         Err(TextFault::Memory) => Err(BeginFault::Memory),
+        Err(TextFault::Input) => Err(BeginFault::Failed),
         Err(_) => Err(BeginFault::Other),
     }
 }
 
-// The bytes of the opening's line that a file of so many bytes lacks: it has the first ones, and nothing else.
+// The bytes of the opening's line that a file of so many bytes lacks: it has the first ones, and nothing else. A file
+// that has none is not read.
+#[tactic(auto, using(crate::proofs::Finding::lacks_all))]
 fn lacking<'a, S: Store>(
     alloc: Global,
     store: &S,
     size: u64,
     opening: &'a [u8],
 ) -> Result<&'a [u8], BeginFault>
-    ensures ok { IfOk result (λ rest. Lacks (S.contents store.now) opening.now rest.now) }
-    ensures err { IfErr result (λ e. e ≢ BeginFault.Failed) }
+    ensures { IfOk result (λ rest. HasLength (S.contents store.now) size →
+        Lacks (S.contents store.now) opening.now rest.now) }
 {
+    if size == 0 {
+        return Ok(opening);
+    }
     if size >= opening.len() as u64 {
         return Err(BeginFault::Other);
     }
@@ -105,7 +110,11 @@ impl<S: Store> FileJournal<S> {
         let Ok(opening) = opening_text(self.alloc, &config.config()) else {
             return Err(BeginFault::Memory);
         };
-        let rest = lacking(self.alloc, &self.file.store, size, &opening)?;
+        let rest = match lacking(self.alloc, &self.file.store, size, &opening) {
+            Ok(rest) => rest,
+            Err(BeginFault::Failed) => return Err(self.file.refuse().into()),
+            Err(fault) => return Err(fault),
+        };
         self.file.put(rest)?;
         Ok(())
     }
