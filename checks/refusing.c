@@ -2,8 +2,10 @@
 // fail, as words of the environment say. REFUSED=N refuses the N-th request for memory, and REFUSED_FROM=N it and each
 // later one. NARROW=N has each read and write move at most N bytes, where N is not 0. FAILED_READ=N and FAILED_WRITE=N
 // let the N-th read of standard input or write to standard output fail, with the error of the number ERROR where there
-// is one; ENDED_READ=N lets the input end there, and FULL_WRITE=N has the N-th write take nothing. Each such failure is
-// marked by a byte in file 3: of memory, a read or a write; where the memory is for a thread, by one more in front.
+// is one; ENDED_READ=N lets the input end there, and FULL_WRITE=N has the N-th write take nothing. FAILED_CALL=N lets
+// the N-th call on another file fail, that by which it is opened among them, and FULL_CALL=N has the N-th write there
+// take nothing. Each such failure is marked by a byte in file 3: of memory, a read, a write or a call on another file;
+// where the memory is for a thread, by one more in front.
 typedef unsigned long size_t;
 
 extern void *__libc_malloc(size_t size);
@@ -14,10 +16,11 @@ extern long syscall(long number, ...);
 extern int *__errno_location(void);
 extern void *dlsym(void *handle, const char *name);
 
-enum { READ = 0, WRITE = 1, INPUT = 0, OUTPUT = 1, MARKS = 3, IO_ERROR = 5, NO_MEMORY = 12 };
+enum { READ = 0, WRITE = 1, PREAD = 17, FLOCK = 73, FDATASYNC = 75, FTRUNCATE = 77, OPENAT = 257, STATX = 332 };
+enum { INPUT = 0, OUTPUT = 1, ERRORS = 2, MARKS = 3, IO_ERROR = 5, NO_MEMORY = 12 };
 
-// What was counted so far.
-static long requests, reads, writes;
+// What was counted so far: of reads and writes, those of the standard streams, of calls those on other files.
+static long requests, reads, writes, calls, calls_to_write;
 
 // The place in the program that made the first request, which is where its allocator asks for memory.
 static void *allocator;
@@ -85,8 +88,38 @@ long read(int file, void *bytes, size_t size) {
   return syscall(READ, file, bytes, narrowed(size));
 }
 
+// A call on another file than a standard stream, which fails where it is its turn to.
+static long call(int file, long number, long a, long b, long c, long d, long e) {
+  if (file != ERRORS && file != MARKS && one_more(&calls) == number_of("FAILED_CALL")) return fail(error_told(), "f");
+  return syscall(number, a, b, c, d, e);
+}
+
+long pread(int file, void *bytes, size_t size, long place) {
+  return call(file, PREAD, file, (long)bytes, narrowed(size), place, 0);
+}
+
+int openat(int folder, const char *path, int how, unsigned mode) {
+  return call(folder, OPENAT, folder, (long)path, how, mode, 0);
+}
+
+int statx(int file, const char *path, int how, unsigned mask, void *found) {
+  return call(file, STATX, file, (long)path, how, mask, (long)found);
+}
+
+int flock(int file, int how) { return call(file, FLOCK, file, how, 0, 0, 0); }
+
+int ftruncate(int file, long size) { return call(file, FTRUNCATE, file, size, 0, 0, 0); }
+
+int fdatasync(int file) { return call(file, FDATASYNC, file, 0, 0, 0, 0); }
+
+static long write_elsewhere(int file, const void *bytes, size_t size) {
+  if (file == ERRORS || file == MARKS) return syscall(WRITE, file, bytes, size);
+  if (one_more(&calls_to_write) == number_of("FULL_CALL")) return fail(0, "f") + 1;
+  return call(file, WRITE, file, (long)bytes, narrowed(size), 0, 0);
+}
+
 long write(int file, const void *bytes, size_t size) {
-  if (file != OUTPUT) return syscall(WRITE, file, bytes, size);
+  if (file != OUTPUT) return write_elsewhere(file, bytes, size);
   long place = one_more(&writes);
   if (place == number_of("FAILED_WRITE")) return fail(error_told(), "w");
   if (place == number_of("FULL_WRITE")) return fail(0, "w") + 1;

@@ -12,7 +12,8 @@ pub const STATUSES: &str = "Exit statuses:
      `not json`, `bad script at N` (0: the document or its configuration, else
      the call or entry, from 1), `bad config N` (the field's number in README.md);
      `mapsched check` tells where the fault is, and what was expected there
-  4  the machine failed: `out of memory`, `output failed`, `no thread`
+  4  the machine failed: `out of memory`, `output failed`, `no thread`; the journal
+     of `live` failed, or is in use
 
 `mapsched help COMMAND` tells what a command reads and prints, with an example.";
 
@@ -186,8 +187,17 @@ line that is no call changes nothing, and has one of these for an answer:
   bad line shape   it is JSON, but no call
 `calls` of the configuration is no end: what was recorded is let go.
 
-Exit statuses: 0 where the input has ended, 2 for the command line, 3 for the
-first line or a failed read, 4 for the machine. docs/LIVE.md shows a conversation.
+With --journal each call is recorded in FILE before its answer is written, and a file
+that has a journal already is gone on with: then the first line may be left out.
+Standard error tells `resumed` and how many entries there were, and `cut` and how
+many bytes of a torn line at the end. With --sync an answer is written only when its
+entry has reached the device.
+
+Exit statuses: 0 where the input has ended, 2 for the command line, 3 for the first
+line (`other config`: the journal has another one), for a failed read, or for the
+journal (`bad journal at N`, the line, counted from 0), 4 for the machine (`journal
+failed`, and `journal in use` where another program has it). docs/LIVE.md shows a
+conversation.
 
 Example:
   ./mapsched live < examples/live.txt"#;

@@ -210,13 +210,36 @@ fn program<'a>(alloc: Global) -> Command<'a>
         .subcommand_required(true)
 }
 
+// The journal of a conversation.
+fn live_journal_option<'a>(alloc: Global) -> Arg<'a>
+    ensures named { result.id.now ≡ codes "journal" }
+    ensures local { result.global ≡ false }
+{
+    let journal = Arg::new(alloc, "journal").long("journal");
+    let help = "Records the calls in a journal, and goes on with the one that is there";
+    journal.value_name("FILE").help(help)
+}
+
+// That what is recorded reaches the device.
+fn sync_option<'a>(alloc: Global) -> Result<Arg<'a>, AllocError>
+    ensures named { IfOk result (λ r. r.id.now ≡ codes "sync") }
+    ensures local { IfOk result (λ r. r.global ≡ false) }
+{
+    let about = "Answers a call when its entry has reached the device";
+    flag(alloc, "sync", about).requires_arg("journal")
+}
+
 // The command that is talked to.
 fn live_command<'a>(alloc: Global) -> Result<Command<'a>, AllocError>
-    ensures { IfOk result (λ r. IsCommand r (codes "live") (codes "explain" ∷ []) []) }
+    ensures { IfOk result (λ r. IsCommand r (codes "live")
+        (codes "explain" ∷ codes "journal" ∷ codes "sync" ∷ []) []) }
 {
     let about = "Reads calls line by line and answers each before it waits for the next";
     let explain = flag(alloc, "explain", "Tells behind each refusal what it means");
-    command(alloc, "live", about, help::LIVE).arg(explain)
+    command(alloc, "live", about, help::LIVE)
+        .arg(explain)?
+        .arg(live_journal_option(alloc))?
+        .arg(sync_option(alloc)?)
 }
 
 /// The commands of the program, with their options and their help. Out of memory is the only error.
@@ -227,7 +250,8 @@ pub fn commands<'a>(alloc: Global) -> Result<Command<'a>, AllocError>
         ∷ (codes "draw", codes "from" ∷ codes "count" ∷ [])
         ∷ (codes "audit", codes "explain" ∷ codes "journal" ∷ [])
         ∷ (codes "storm", []) ∷ (codes "check", [])
-        ∷ (codes "pcap", codes "mac" ∷ []) ∷ (codes "live", codes "explain" ∷ []) ∷ [])) }
+        ∷ (codes "pcap", codes "mac" ∷ [])
+        ∷ (codes "live", codes "explain" ∷ codes "journal" ∷ codes "sync" ∷ []) ∷ [])) }
 {
     program(alloc)
         .subcommand(run_command(alloc)?)?

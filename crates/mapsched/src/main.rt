@@ -8,13 +8,15 @@ use clap::{ArgMatches, Error};
 use command_line::commands;
 use decode_command::{show_frame, show_text};
 use draw_command::draw_input;
+use journal_file::live_journal_input;
 use live_command::live_input;
 use pcap_command::{ADDRESS, address_of, frames_input, pcap_input};
 use run_command::{RunOutput, Words, run_input};
 use sched_check::check_input;
 use std::alloc::Global;
+use std::fs::File;
 use std::process::ExitCode;
-use std::rt::Env;
+use std::rt::{Env, Files};
 use std::{env, io};
 use storm_command::storm_input;
 use text_stream::{RunFault, TextFault};
@@ -138,8 +140,29 @@ fn check(rt: &(impl Input + Print + Eprint + AllocGlobal)) -> ExitCode {
     }
 }
 
+// The command `live` with a journal.
+fn live_journal<R: Files<File = File> + Input + Print + Eprint + AllocGlobal>(
+    rt: &R,
+    path: &str,
+    live: &ArgMatches,
+) -> ExitCode {
+    match live_journal_input(rt, path, live.get_flag("explain"), live.get_flag("sync")) {
+        Ok(_) => ExitCode::SUCCESS,
+        Err(fault) => {
+            let _ = rt.eprintln(fault);
+            ExitCode::from(fault.status())
+        }
+    }
+}
+
 // The command `live`: ends as the other commands do, but for a fault of its own.
-fn live(rt: &(impl Input + Print + Eprint + AllocGlobal), live: &ArgMatches) -> ExitCode {
+fn live<R: Files<File = File> + Input + Print + Eprint + AllocGlobal>(
+    rt: &R,
+    live: &ArgMatches,
+) -> ExitCode {
+    if let Some(path) = live.get_str("journal") {
+        return live_journal(rt, path, live);
+    }
     match live_input(rt, live.get_flag("explain")) {
         Ok(_) => ExitCode::SUCCESS,
         Err(fault) => {

@@ -1,4 +1,4 @@
--- The option stands alone.
+-- The options stand in their order.
 use Rattle.std.proofs.Common.{rules, codes, []}
 use Rattle.std.proofs.lemmas.Result.{IfOk-weaker}
 use Rattle.command_line.proofs.Adding.{IsCommand-arg}
@@ -6,5 +6,10 @@ use Rattle.command_line.proofs.live_command.Goals as goal
 
 pub returns : goal.returns
 returns c =
-    IfOk-weaker _ _ _ (λ r adds. IsCommand-arg _ r _ (codes "live") (codes "explain") [] [] c.command.ensures adds
-    (search rules) (search rules)) c.arg.ensures
+    let first = IsCommand-arg c.command.result _ c.flag-explain.result (codes "live")
+    (codes "explain") [] [] c.command.ensures
+    c.in_ok-arg.ensures (search rules) (search rules) in
+    let second = IsCommand-arg _ _ c.live_journal_option.result (codes "live") (codes "journal") _ [] first
+    c.in_ok-arg-2.ensures c.live_journal_option.ensures.local c.live_journal_option.ensures.named in
+    IfOk-weaker _ _ _ (λ r adds. IsCommand-arg _ r _ (codes "live") (codes "sync") _ [] second adds
+    c.in_ok-sync_option.ensures.local c.in_ok-sync_option.ensures.named) c.arg-3.ensures

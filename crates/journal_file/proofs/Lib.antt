@@ -1,0 +1,4 @@
+mod Known
+mod Growing
+mod Places
+mod Finding

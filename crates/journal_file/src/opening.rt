@@ -1,0 +1,33 @@
+//! The opening of a journal's file.
+
+use crate::fault::FileFault;
+use crate::store::SystemFile;
+use std::fs::{File, OpenOptions, TryLockError};
+use std::io;
+use std::os::fd::AsRawFd;
+use std::rt::Files;
+
+/// The greatest descriptor of a standard stream.
+const LAST_STREAM: i32 = 2;
+
+// Opens a file to be read, and to be written at its end. It is made where there is none. It never has the descriptor
+// of a standard stream that was closed, which what is told would go to.
+fn open_file<R: Files<File = File>>(rt: &R, path: &str) -> io::Result<File> {
+    let mut options = OpenOptions::new();
+    options.read(true).append(true).create(true);
+    let file = options.open(rt, path)?;
+    if file.as_raw_fd() > LAST_STREAM {
+        return Ok(file);
+    }
+    file.try_clone()
+}
+
+/// Opens the file of a journal, which is made where there is none, and locks it without waiting.
+pub fn open_journal<R: Files<File = File>>(rt: &R, path: &str) -> Result<SystemFile, FileFault> {
+    let file = open_file(rt, path)?;
+    match file.try_lock() {
+        Ok(()) => Ok(SystemFile::new(file)),
+        Err(TryLockError::WouldBlock) => Err(FileFault::InUse),
+        Err(TryLockError::Error(_)) => Err(FileFault::Failed),
+    }
+}
