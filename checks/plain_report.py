@@ -61,7 +61,7 @@ def next_after(config, entries):
 
 
 def uses(entries):
-    """Each minislot of each frame is counted by itself."""
+    """The minislots of each allocation of each frame, by what it is for."""
     count, kinds = dict.fromkeys(USES, 0), {}
     for entry in entries:
         if accepted(entry, "admit", "admitted"):
@@ -69,9 +69,8 @@ def uses(entries):
         elif accepted(entry, "remove", "removed"):
             del kinds[entry["call"]["sid"]]
         elif entry["reply"]["kind"] == "map":
-            for sid, iuc, offset, length, _ in allocations_of(entry["reply"]):
-                for _ in range(offset, offset + length):
-                    count[use_of(kinds, sid, iuc)] += 1
+            for sid, iuc, _, length, _ in allocations_of(entry["reply"]):
+                count[use_of(kinds, sid, iuc)] += length
     return count
 
 

@@ -87,7 +87,7 @@ class Life:
 
 
 class Counts:
-    """The whole channel. `report` has the form of `mapsched report --json`."""
+    """The whole channel."""
 
     def __init__(self, config):
         self.config, self.lives, self.live = config, [], {}

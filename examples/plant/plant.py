@@ -191,7 +191,7 @@ def arguments():
     reader.add_argument("--seconds", type=float, default=60, help="of plant time (60)")
     reader.add_argument("--seed", type=int, default=1, help="another plant for another number (1)")
     reader.add_argument("--journal", metavar="FILE", help="keeps a journal; where it has calls, the plant goes on")
-    reader.add_argument("--json", action="store_true", help="prints the numbers as mapsched report --json does")
+    reader.add_argument("--json", action="store_true", help="prints all numbers in JSON, delays in minislots")
     return reader.parse_args()
 
 
@@ -209,7 +209,6 @@ def main():
         print(page(plant, given.seed), end="")
         if given.journal:
             print(f"journal\n  mapsched audit --journal < {given.journal}")
-            print(f"  mapsched report --journal < {given.journal}")
 
 
 if __name__ == "__main__":
