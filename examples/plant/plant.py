@@ -8,6 +8,7 @@ import json
 import os
 import random
 import shutil
+import subprocess
 import sys
 
 sys.dont_write_bytecode = True
@@ -20,7 +21,7 @@ from maps import ALL_MODEMS, NOBODY, REQUEST, read_map  # noqa: E402
 from modems import SECOND  # noqa: E402
 from page import page  # noqa: E402
 
-HERE = os.path.dirname(os.path.realpath(__file__))
+SCRIPT = os.path.realpath(f"{__file__}/../../../mapsched")
 
 
 class Wrong(Exception):
@@ -185,9 +186,17 @@ class Plant:
         self.ask(modem, at, slots, "with data")
 
 
+def program():
+    """The one on the path, or else the script of the repository, which first proves and builds what is out of date."""
+    if shutil.which("mapsched"):
+        return "mapsched"
+    subprocess.run([SCRIPT, "--version"], stdout=subprocess.DEVNULL, check=True)
+    return SCRIPT
+
+
 def arguments():
     reader = argparse.ArgumentParser(description="A plant of 30 modems, scheduled by mapsched live.")
-    reader.add_argument("--program", default=shutil.which("mapsched") or f"{HERE}/../../mapsched")
+    reader.add_argument("--program", help="by default mapsched on the path, or else the repository's script")
     reader.add_argument("--seconds", type=float, default=60, help="of plant time (60)")
     reader.add_argument("--seed", type=int, default=1, help="another plant for another number (1)")
     reader.add_argument("--journal", metavar="FILE", help="keeps a journal; where it has calls, the plant goes on")
@@ -198,10 +207,10 @@ def arguments():
 def main():
     given = arguments()
     try:
-        with (Again if given.journal else Live)(CONFIG, given.program, given.journal) as live:
+        with (Again if given.journal else Live)(CONFIG, given.program or program(), given.journal) as live:
             plant = Plant(live, CONFIG, given.seed)
             plant.run(given.seconds)
-    except (Fault, Wrong, OSError) as fault:
+    except (Fault, Wrong, OSError, subprocess.SubprocessError) as fault:
         sys.exit(f"plant.py: {fault}")
     if given.json:
         print(json.dumps(plant.counts.report(plant.next), sort_keys=True, separators=(",", ":")))
