@@ -98,7 +98,8 @@ class Live:
     take, the reading of a long journal before the first one among them."""
 
     def __init__(self, config, program="mapsched", journal=None, sync=False, patience=60):
-        words = [program, "live", *(["--journal", journal] if journal else []), *(["--sync"] if sync else [])]
+        opening = json.dumps({"config": config}) + "\n"
+        words = [program, "live", *([f"--journal={journal}"] if journal else []), *(["--sync"] if sync else [])]
         # A file takes what it says: a pipe that nobody reads would be full one day, and the program would wait.
         self._errors = tempfile.TemporaryFile()
         self._program = subprocess.Popen(
@@ -106,7 +107,7 @@ class Live:
         )
         self._poll, self._patience, self._heard = select.poll(), patience, b""
         self._poll.register(self._program.stdout, select.POLLIN)
-        self._exchange(json.dumps({"config": config}) + "\n", 0)
+        self._exchange(opening, 0)
 
     def __enter__(self):
         return self

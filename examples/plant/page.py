@@ -57,7 +57,7 @@ def flow_lines(counts):
     ]
 
 
-def page(plant, seed):
+def page(plant, seed, journal):
     counts, told = plant.counts, plant.counts.report(plant.next)
     whole = plant.next - plant.config["start"]
     left_out = whole // plant.config["frame"] - told["frames"]
@@ -68,5 +68,6 @@ def page(plant, seed):
         "requests", *request_lines(plant, told["refused"]),
         "delays in milliseconds, from a request to the end of the grant that serves it",
         *rank_lines(told["priorities"]),
-        "flows", *flow_lines(counts), "",
+        "flows", *flow_lines(counts),
+        *(["journal", f"  mapsched audit --journal < {journal}"] if journal else []), "",
     ])

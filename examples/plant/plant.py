@@ -212,12 +212,12 @@ def main():
             plant.run(given.seconds)
     except (Fault, Wrong, OSError, subprocess.SubprocessError) as fault:
         sys.exit(f"plant.py: {fault}")
+    except KeyboardInterrupt:
+        sys.exit(130)
     if given.json:
         print(json.dumps(plant.counts.report(plant.next), sort_keys=True, separators=(",", ":")))
     else:
-        print(page(plant, given.seed), end="")
-        if given.journal:
-            print(f"journal\n  mapsched audit --journal < {given.journal}")
+        print(page(plant, given.seed, given.journal), end="")
 
 
 if __name__ == "__main__":
