@@ -2,6 +2,8 @@
 request and every grant of a flow, and looks each delay up among them. It is slow, and says what the report has to
 say."""
 
+from itertools import accumulate
+
 REQUEST, INITIAL, STATION, NULL = 1, 3, 4, 7
 ALL_MODEMS = 0x3FFF
 CALLS = ("admit", "ask", "build", "heard", "remove", "skip", "status")
@@ -37,25 +39,15 @@ def ends(entry, sid):
     return accepted(entry, "remove", "removed") and entry["call"]["sid"] == sid
 
 
-def kind_of(entries, sid):
-    """What kind of flow lives under a SID after these entries, if one does."""
-    kind = None
-    for entry in entries:
-        if begins(entry, sid):
-            kind = entry["call"]["flow"]["kind"]
-        elif ends(entry, sid):
-            kind = None
-    return kind
-
-
-def use_of(before, sid, iuc):
+def use_of(kinds, sid, iuc):
+    """What an element is for, where flows of these kinds live."""
     if iuc == REQUEST:
         return "request" if sid == ALL_MODEMS else "poll"
     if iuc in (INITIAL, STATION):
         return "opportunity"
     if sid == 0:
         return "idle"
-    return "unsolicited" if kind_of(before, sid) == "unsolicited" else "data"
+    return "unsolicited" if kinds[sid] == "unsolicited" else "data"
 
 
 def next_after(config, entries):
@@ -69,13 +61,16 @@ def next_after(config, entries):
 
 
 def uses(entries):
-    """Each minislot of each frame is counted by itself."""
-    count = dict.fromkeys(USES, 0)
-    for at, entry in enumerate(entries):
-        if entry["reply"]["kind"] == "map":
-            for sid, iuc, offset, length, _ in allocations_of(entry["reply"]):
-                for _ in range(offset, offset + length):
-                    count[use_of(entries[:at], sid, iuc)] += 1
+    """The minislots of each allocation of each frame, by what it is for."""
+    count, kinds = dict.fromkeys(USES, 0), {}
+    for entry in entries:
+        if accepted(entry, "admit", "admitted"):
+            kinds[entry["call"]["sid"]] = entry["call"]["flow"]["kind"]
+        elif accepted(entry, "remove", "removed"):
+            del kinds[entry["call"]["sid"]]
+        elif entry["reply"]["kind"] == "map":
+            for sid, iuc, _, length, _ in allocations_of(entry["reply"]):
+                count[use_of(kinds, sid, iuc)] += length
     return count
 
 
@@ -93,46 +88,37 @@ class Life:
             self.since.append(entry)
         self.first = next_after(config, entries[:at])
         self.last = next_after(config, entries[:at + 1 + len(self.since)])
-
-    def asks(self):
-        """Its accepted requests, as (bytes, minislot at which it was heard)."""
-        return [(entry["call"]["bytes"], entry["call"]["heard"]) for entry in self.since
-                if accepted(entry, "ask", "taken") and entry["call"]["sid"] == self.sid]
-
-    def allocations(self):
-        """What the MAPs of its life have of it, as (end, bytes, IUC)."""
-        return [(entry["reply"]["start"] + offset + length, count, iuc)
-                for entry in self.since if entry["reply"]["kind"] == "map"
-                for sid, iuc, offset, length, count in allocations_of(entry["reply"]) if sid == self.sid]
-
-    def grants(self):
-        return [(end, count) for end, count, _ in self.allocations() if count > 0]
+        # Its accepted requests, as (bytes, minislot at which it was heard).
+        self.asks = [(entry["call"]["bytes"], entry["call"]["heard"]) for entry in self.since
+                     if accepted(entry, "ask", "taken") and entry["call"]["sid"] == self.sid]
+        # What the MAPs of its life have of it, as (end, bytes, IUC), and the data grants of that.
+        self.allocations = [(entry["reply"]["start"] + offset + length, count, iuc)
+                            for entry in self.since if entry["reply"]["kind"] == "map"
+                            for sid, iuc, offset, length, count in allocations_of(entry["reply"]) if sid == self.sid]
+        self.grants = [(end, count) for end, count, _ in self.allocations if count > 0]
 
     def asked(self):
-        return sum(count for count, _ in self.asks())
+        return sum(count for count, _ in self.asks)
 
     def granted(self):
         if self.flow["kind"] == "unsolicited":
-            return self.flow["size"] * sum(1 for _, _, iuc in self.allocations() if iuc != REQUEST)
-        return sum(count for _, count in self.grants())
+            return self.flow["size"] * sum(1 for _, _, iuc in self.allocations if iuc != REQUEST)
+        return sum(count for _, count in self.grants)
 
     def delays(self):
         """The delay of each request that was served: up to the end of the grant with which the bytes reach it."""
-        found, grants = [], self.grants()
-        for place, (_, heard) in enumerate(self.asks()):
-            wanted = sum(count for count, _ in self.asks()[:place + 1])
-            for last, (end, _) in enumerate(grants):
-                if sum(count for _, count in grants[:last + 1]) >= wanted:
-                    found.append(end - heard)
-                    break
+        found, granted = [], list(accumulate(count for _, count in self.grants))
+        for wanted, (_, heard) in zip(accumulate(count for count, _ in self.asks), self.asks):
+            ends = [end for (end, _), reached in zip(self.grants, granted) if reached >= wanted]
+            found += [end - heard for end in ends[:1]]
         return found
 
     def told(self):
         delays = self.delays()
-        left = len(self.asks()) - len(delays)
-        told = {"asked": self.asked(), "asks": len(self.asks()), "delay": summary(delays),
+        left = len(self.asks) - len(delays)
+        told = {"asked": self.asked(), "asks": len(self.asks), "delay": summary(delays),
                 "dropped": left if self.ended else 0, "from": self.first, "granted": self.granted(),
-                "kind": self.flow["kind"], "outstanding": self.asked() - sum(count for _, count in self.grants()),
+                "kind": self.flow["kind"], "outstanding": self.asked() - sum(count for _, count in self.grants),
                 "served": len(delays), "sid": self.sid, "to": self.last, "waiting": 0 if self.ended else left}
         if self.flow["kind"] == "best_effort":
             told["priority"] = self.flow["priority"]
@@ -177,7 +163,7 @@ def report(history):
     maps = [entry["reply"] for entry in entries if entry["reply"]["kind"] == "map"]
     numbers = [entry["reply"]["number"] for entry in entries if entry["reply"]["kind"] == "refused"]
     lives = lives_of(config, entries)
-    ranks = [rank for rank in range(8, -1, -1) if any(rank_of(life) == rank and life.asks() for life in lives)]
+    ranks = [rank for rank in range(8, -1, -1) if any(rank_of(life) == rank and life.asks for life in lives)]
     return {"calls": {name: sum(1 for entry in entries if entry["call"]["call"] == name) for name in CALLS},
             "frames": len(maps), "from": maps[0]["start"] if maps else None,
             "lives": [life.told() for life in lives],

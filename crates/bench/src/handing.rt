@@ -3,6 +3,7 @@ ghost use Rattle.std.specs.Prelude.{◌≡◌, length};
 ghost use Rattle.ticket_lock.specs.Rule.{Every};
 ghost use Rattle.ticket_lock.specs.Standing.{seats_of};
 
+use crate::alone;
 use crate::run::{Took, figure, now, print_line};
 use crate::storms::{CALLS, WIDE, call_of};
 use sched_history::{Entry, HandedOver};
@@ -145,8 +146,14 @@ fn run<R: Threads + Wait + Clock + Sync>(
     )
 }
 
-// Closes the scheduler. It says whether all calls were recorded, and were handed over or not, as is wanted.
-fn is_whole<R: Wait>(rt: &R, shared: Shared, seats: Vec<Seat<Desk>>, hands_over: bool) -> bool
+// Closes the scheduler. It says whether so many calls were recorded, and some handed over or none, as is wanted.
+pub(crate) fn is_whole<R: Wait>(
+    rt: &R,
+    shared: Shared,
+    seats: Vec<Seat<Desk>>,
+    calls: usize,
+    hands_over: bool,
+) -> bool
     requires own { Every (λ s. s.lock ≡ shared.lock) seats.items }
     requires all { length seats.items ≡ seats_of shared.lock }
 {
@@ -158,7 +165,7 @@ fn is_whole<R: Wait>(rt: &R, shared: Shared, seats: Vec<Seat<Desk>>, hands_over:
     } = shared.close(seats);
     press.end(rt);
     let kept = history.len() as u64;
-    (first > 0) == hands_over && first.saturating_add(kept) == ALL as u64
+    (first > 0) == hands_over && first.saturating_add(kept) == calls as u64
 }
 
 // What the calls of two workers take.
@@ -186,7 +193,7 @@ fn time_calls<R: Threads + Wait + Sync + Clock + CpuClock>(
     seats.push_reserved(zero);
     seats.push_reserved(one);
     seats.push_reserved(two);
-    figure(start, end, is_whole(rt, shared, seats, hands_over))
+    figure(start, end, is_whole(rt, shared, seats, ALL, hands_over))
 }
 
 /// Prints what each call of two workers takes, while all is kept, and while a third hands over every thousand calls.
@@ -195,5 +202,6 @@ pub fn print<R: Threads + Wait + Sync + Clock + CpuClock + Print>(
     alloc: Global,
 ) -> Option<()> {
     print_line(rt, 2, "kept", time_calls(rt, alloc, false)?, ALL)?;
-    print_line(rt, 2, "handed", time_calls(rt, alloc, true)?, ALL)
+    print_line(rt, 2, "handed", time_calls(rt, alloc, true)?, ALL)?;
+    alone::print(rt, alloc)
 }

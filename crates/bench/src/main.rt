@@ -2,6 +2,7 @@
 //! the figures of one part once, and `checks/figures` takes the middle of several. With no word it prints nothing.
 #![tactic(auto)]
 
+mod alone;
 mod handing;
 mod lock;
 mod readers;

@@ -1,0 +1,32 @@
+"""A conversation that is gone on with from its beginning: who makes the same calls again gets the answers that the
+journal has, and behind the last of them those of the program, which goes on where the journal ends."""
+
+import json
+
+from client import Fault, Live, answer_in
+
+
+def entries_of(path):
+    """The entries of a journal's whole lines, as they were when it was opened; none where there is no journal."""
+    try:
+        with open(path, "rb") as journal:
+            lines = [line for line in journal if line.endswith(b"\n")]
+    except FileNotFoundError:
+        return []
+    return [json.loads(line) for line in lines[1:]]
+
+
+class Again(Live):
+    """The class `Live` with a journal, for a program that makes the same calls each time."""
+
+    def __init__(self, config, program, journal, **other):
+        self._entries = iter(entries_of(journal))
+        super().__init__(config, program, journal, **other)
+
+    def call(self, call):
+        entry = next(self._entries, None)
+        if entry is None:
+            return super().call(call)
+        if entry["call"] != call:
+            raise Fault(f"the journal has {entry['call']}, not {call}")
+        return answer_in(entry["reply"])

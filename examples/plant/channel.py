@@ -1,0 +1,42 @@
+"""Which plant it is: its channel, its modems and its troubles."""
+
+from modems import MILLISECOND, SECOND, Camera, Computer, Habits, Telephone
+
+# 10.24 Mbit/s in minislots of 12.5 microseconds; a frame lasts 2 milliseconds, its MAP is built 1.6 before it.
+CONFIG = {
+    "ticks": 2, "bytes_per_slot": 16, "overhead": 2, "frame": 160, "cycle": 10, "req_slots": 6, "poll_slots": 3,
+    "lead": 128, "short_max": 18, "quantum": 256, "grant_cap": 2000, "receivers": 1, "calls": 1000, "start": 1600,
+    "ranging_start": 0, "ranging_end": 3, "data_start": 2, "data_end": 6, "channel": 3, "ucd_count": 1, "phy": 1,
+}
+# The burst of a request: 2 minislots of guard time and preamble, and 1 with its 7 bytes.
+REQUEST_SLOTS = 3
+# So long after the end of a burst the receiver hands in what was in it.
+READING = 16
+# One request of so many is lost to noise.
+NOISE = 200
+# So long it goes well, and so late is the head end then.
+WELL_FOR, LATE_BY = (SECOND, 6 * SECOND), (3 * MILLISECOND, 9 * MILLISECOND)
+
+VOICE = [
+    {"kind": "unsolicited", "size": size, "interval_us": interval, "jitter_us": 2000, "grants": 1}
+    for size, interval in [(232, 20000), (152, 10000)]
+]
+VIDEO = {"kind": "polled", "interval_us": 20000, "jitter_us": 4000, "rate": 2000000, "burst": 20000}
+OFFICE = {"kind": "best_effort", "priority": 5, "rate": 2000000, "burst": 20000}
+HOME = {"kind": "best_effort", "priority": 2, "rate": 1000000, "burst": 10000}
+DISK = {"kind": "best_effort", "priority": 0, "rate": 0, "burst": 0}
+
+HABITS = [
+    *3 * [(OFFICE, Habits((90, 900), (20000, 60000), 60, (5 * MILLISECOND, 30 * MILLISECOND), 16000))],
+    *9 * [(HOME, Habits((90, 700), (8000, 40000), 60, (5 * MILLISECOND, 40 * MILLISECOND), 12000))],
+    *3 * [(DISK, Habits((90, 900), (900000, 3000000), 2, (SECOND, 3 * SECOND), 24000))],
+]
+
+
+def modems_of(seed, now):
+    """10 telephones, 5 cameras, and computers: 3 of offices, 9 of homes, 3 that save their disks elsewhere."""
+    return [
+        *(Telephone(101 + at, VOICE[at % 2], seed, now) for at in range(10)),
+        *(Camera(201 + at, VIDEO, seed, now) for at in range(5)),
+        *(Computer(301 + at, flow, seed, now, habits) for at, (flow, habits) in enumerate(HABITS)),
+    ]

@@ -1,0 +1,131 @@
+"""What the plant counts itself: by what it says, what it is answered, and the MAPs as it reads them."""
+
+from collections import Counter, deque
+
+CALLS = ("admit", "ask", "build", "heard", "remove", "skip", "status")
+USES = ("request", "poll", "unsolicited", "opportunity", "data", "idle")
+PART = 1280000  # So many parts of a byte: a ceiling of 1 bit per second gives one in each tick.
+
+
+def rank_of(flow):
+    """Polled flows are served before all priorities; one with voice grants never asks."""
+    return {"polled": 8, "unsolicited": None}.get(flow["kind"], flow.get("priority"))
+
+
+def percentile(ordered, percent):
+    """The least of the ordered values that at least so many in a hundred do not exceed."""
+    return ordered[-(-percent * len(ordered) // 100) - 1]
+
+
+def summary(delays):
+    if not delays:
+        return None
+    ordered = sorted(delays)
+    middle, p99 = percentile(ordered, 50), percentile(ordered, 99)
+    return {"greatest": ordered[-1], "least": ordered[0], "middle": middle, "p99": p99}
+
+
+class Life:
+    """A flow from its admission to its removal."""
+
+    def __init__(self, config, sid, flow, first):
+        self.config, self.sid, self.flow = config, sid, flow
+        self.first, self.last = first, None
+        self.asked = self.granted = self.asks = 0
+        self.unserved, self.delays = deque(), []
+        self.parts, self.parts_at = flow.get("burst", 0) * PART, first
+        self.voice_at, self.late = None, 0
+
+    def outstanding(self):
+        return self.sums()[2]
+
+    def sums(self):
+        """What the call `status` has to answer: nothing of a flow that does not ask."""
+        asks = self.flow["kind"] != "unsolicited"
+        return (self.asked, self.granted, self.asked - self.granted) if asks else (0, 0, 0)
+
+    def ask(self, count, heard):
+        self.asked, self.asks = self.asked + count, self.asks + 1
+        self.unserved.append((self.asked, heard))
+
+    def voice(self, start):
+        """A voice grant. It is late where it comes after more than an interval and its jitter."""
+        self.granted += self.flow["size"]
+        between = self.flow["interval_us"] + self.flow["jitter_us"]
+        if self.voice_at is not None and (start - self.voice_at) * 25 * self.config["ticks"] > 4 * between:
+            self.late += 1
+        self.voice_at = start
+
+    def grant(self, start, slots):
+        """The bytes of a data grant: what it carries, as far as they were asked for and the ceiling lets them."""
+        room = (slots - self.config["overhead"]) * self.config["bytes_per_slot"]
+        count = min(self.outstanding(), room, self.config["grant_cap"], self.ceiling(start))
+        self.parts -= count * PART
+        self.granted += count
+        while self.unserved and self.unserved[0][0] <= self.granted:
+            self.delays.append(start + slots - self.unserved.popleft()[1])
+        return count
+
+    def ceiling(self, start):
+        """How many bytes the ceiling allows at a minislot: `rate` fills it again, and it holds `burst`."""
+        if not self.flow["rate"]:
+            return self.outstanding()
+        more = (start - self.parts_at) * self.config["ticks"] * self.flow["rate"]
+        self.parts, self.parts_at = min(self.parts + more, self.flow["burst"] * PART), start
+        return self.parts // PART
+
+    def told(self, now):
+        told = {"asked": self.asked, "asks": self.asks, "delay": summary(self.delays), "dropped": len(self.unserved),
+                "from": self.first, "granted": self.granted, "kind": self.flow["kind"],
+                "outstanding": self.outstanding(), "served": len(self.delays), "sid": self.sid, "to": self.last,
+                "waiting": 0}
+        if self.last is None:
+            told.update(dropped=0, to=now, waiting=len(self.unserved))
+        if self.flow["kind"] == "best_effort":
+            told["priority"] = self.flow["priority"]
+        return told
+
+
+class Counts:
+    """The whole channel."""
+
+    def __init__(self, config):
+        self.config, self.lives, self.live = config, [], {}
+        self.calls, self.refused, self.use = Counter(), Counter(), Counter()
+        self.frames = self.skips = 0
+        self.first = self.last = None
+        self.requests, self.blocked = Counter(), 0
+        self.grants = self.sent = self.room = 0
+
+    def called(self, name, refusal):
+        self.calls[name] += 1
+        if refusal is not None:
+            self.refused[refusal] += 1
+
+    def begins(self, sid, flow, now):
+        self.live[sid] = Life(self.config, sid, flow, now)
+        self.lives.append(self.live[sid])
+        return self.live[sid]
+
+    def ends(self, sid, now):
+        self.live.pop(sid).last = now
+
+    def frame(self, start):
+        self.frames += 1
+        self.first = start if self.first is None else self.first
+        self.last = start + self.config["frame"]
+
+    def rank(self, rank):
+        lives = [life for life in self.lives if rank_of(life.flow) == rank]
+        told = [life.told(None) for life in lives]
+        sums = {name: sum(one[name] for one in told) for name in ("asks", "dropped", "granted", "served", "waiting")}
+        delays = [delay for life in lives for delay in life.delays]
+        return {**sums, "delay": summary(delays), "rank": "polled" if rank == 8 else rank}
+
+    def report(self, now):
+        asked = {rank_of(life.flow) for life in self.lives if life.asks}
+        return {"calls": {name: self.calls[name] for name in CALLS}, "frames": self.frames, "from": self.first,
+                "lives": [life.told(now) for life in self.lives],
+                "priorities": [self.rank(rank) for rank in sorted(asked, reverse=True)],
+                "refused": {str(number): count for number, count in self.refused.items()}, "skips": self.skips,
+                "to": self.last, "use": {use: self.use[use] for use in USES}}

@@ -1,0 +1,73 @@
+"""What the plant prints at its end, in 80 columns."""
+
+from modems import MILLISECOND, SECOND
+
+PARTS = ("least", "middle", "p99", "greatest")
+
+
+def of_all(part, whole):
+    return f"{100 * part / whole:5.1f} %" if whole else "    - %"
+
+
+def in_milliseconds(delay, part):
+    return f"{delay[part] / MILLISECOND:9.2f}" if delay else f"{'-':>9}"
+
+
+def use_lines(use):
+    """The minislots of all frames by what they were for."""
+    whole = sum(use.values())
+    return [f"  {name:12}{slots:10}  {of_all(slots, whole)}" for name, slots in use.items() if slots]
+
+
+def request_lines(plant, refused):
+    """The request region's opportunities, and what became of requests."""
+    count = plant.counts.requests
+    given_up = sum(modem.given_up for modem in plant.modems.values())
+    chances, alone, collisions = (count[name] for name in ("opportunities", "alone", "collisions"))
+    told = ", ".join(f"{many} with {number}" for number, many in refused.items()) or "none"
+    return [
+        f"  {chances} opportunities in the request region: in {alone} one request,",
+        f"  in {collisions} a collision, in {chances - alone - collisions} nothing",
+        f"  {count['collided']} collided, {count['noise']} were lost to noise, {given_up} packets were given up",
+        f"  {count['poll']} requests in polls, {count['with data']} with data",
+        f"  calls refused by the scheduler: {told}",
+    ]
+
+
+def rank_lines(ranks):
+    """Requests by who is served first, and their delays."""
+    lines = ["  served first       asks dropped waiting    least   middle  99 in 100 greatest"]
+    for rank in ranks:
+        name = "polled" if rank["rank"] == "polled" else f"priority {rank['rank']}"
+        counts = f"{rank['asks']:11}{rank['dropped']:8}{rank['waiting']:8}"
+        lines.append(f"  {name:12}{counts}{''.join(in_milliseconds(rank['delay'], key) for key in PARTS)}")
+    return lines
+
+
+def flow_lines(counts):
+    """Voice and data."""
+    voice = [life for life in counts.lives if life.flow["kind"] == "unsolicited"]
+    late = sum(life.late for life in voice)
+    asked = sum(life.asked for life in counts.lives)
+    granted = sum(life.granted for life in counts.lives) - sum(life.granted for life in voice)
+    return [
+        f"  {len(voice)} calls, {counts.blocked} blocked, {counts.grants} voice grants, {late} of them late",
+        f"  {asked} bytes of data asked for, {granted} granted",
+        f"  {counts.sent} bytes sent in data grants that had room for {counts.room}",
+    ]
+
+
+def page(plant, seed, journal):
+    counts, told = plant.counts, plant.counts.report(plant.next)
+    whole = plant.next - plant.config["start"]
+    left_out = whole // plant.config["frame"] - told["frames"]
+    frames = f"{told['frames']} frames, {left_out} left out at {told['skips']} times"
+    return "\n".join([
+        f"{whole / SECOND:.3f} s of plant time, seed {seed}: {frames}",
+        "minislots", *use_lines(told["use"]),
+        "requests", *request_lines(plant, told["refused"]),
+        "delays in milliseconds, from a request to the end of the grant that serves it",
+        *rank_lines(told["priorities"]),
+        "flows", *flow_lines(counts),
+        *(["journal", f"  mapsched audit --journal < {journal}"] if journal else []), "",
+    ])

@@ -1,0 +1,224 @@
+#!/usr/bin/env python3
+"""A plant of 30 modems on one channel, whose scheduler is `mapsched live`: calls that come and go, polled cameras,
+computers that contend for requests. It goes frame by frame: the plant hands in what was heard, has a MAP built, reads
+it, and its modems obey it. At the end it prints what it counted itself. docs/PLANT.md tells what it models."""
+
+import argparse
+import json
+import os
+import random
+import shutil
+import subprocess
+import sys
+
+sys.dont_write_bytecode = True
+
+from again import Again  # noqa: E402
+from channel import CONFIG, LATE_BY, NOISE, READING, REQUEST_SLOTS, WELL_FOR, modems_of  # noqa: E402
+from client import Fault, Live, Refused  # noqa: E402
+from counts import Counts  # noqa: E402
+from maps import ALL_MODEMS, NOBODY, REQUEST, read_map  # noqa: E402
+from modems import SECOND  # noqa: E402
+from page import page  # noqa: E402
+
+SCRIPT = os.path.realpath(f"{__file__}/../../../mapsched")
+
+
+class Wrong(Exception):
+    """What a MAP or an answer has is not what the plant counts."""
+
+
+def expect(holds, what):
+    if not holds:
+        raise Wrong(what)
+
+
+class Burst:
+    """A request on its way: what the receiver has heard, and hands in when it has read it."""
+
+    def __init__(self, sid, count, begin, slots):
+        self.sid, self.count, self.begin, self.read_at = sid, count, begin, begin + slots + READING
+
+
+class Plant:
+    """The channel's time, its receiver and its modems. `live` is who answers the calls."""
+
+    def __init__(self, live, config=CONFIG, seed=1):
+        self.live, self.config, self.counts = live, config, Counts(config)
+        self.next = self.progress = config["start"]
+        self.bursts = []
+        self.modems = {modem.sid: modem for modem in modems_of(seed, self.next)}
+        self.chance = random.Random(f"{seed} head end")
+        self.late_at = self.next + self.chance.randrange(*WELL_FOR)
+
+    def call(self, name, *numbers):
+        answer = getattr(self.live, name)(*numbers)
+        self.counts.called(name, answer.number if isinstance(answer, Refused) else None)
+        return answer
+
+    def run(self, seconds):
+        end = self.config["start"] + int(seconds * SECOND)
+        while self.next < end:
+            self.frame()
+
+    def compare_sums(self):
+        """Asks for the sums of each flow, which have to be those that were counted."""
+        for sid, life in self.counts.live.items():
+            expect(self.call("status", sid) == life.sums(), f"SID {sid} has other sums than {life.sums()}")
+
+    def frame(self):
+        """One frame: the MAP is built as late as it can be, but where the head end was busy."""
+        now = self.next - self.config["lead"]
+        if now >= self.late_at:
+            now += self.chance.randrange(*LATE_BY)
+            self.late_at = now + self.chance.randrange(*WELL_FOR)
+        self.switch(now)
+        self.hand_in(now)
+        map_ = read_map(self.build(now), self.next)
+        expect(map_.start == self.next, f"a MAP of {map_.start}, not of {self.next}")
+        self.next += self.config["frame"]
+        self.counts.frame(map_.start)
+        self.obey(map_)
+
+    def build(self, now):
+        payload = self.call("build", now)
+        if payload == Refused(16, self.next):
+            self.next = self.call("skip", now)
+            self.counts.skips += 1
+            payload = self.call("build", now)
+        expect(isinstance(payload, bytes), f"no MAP at {now}: {payload}")
+        return payload
+
+    # What the head end hands in.
+
+    def switch(self, now):
+        """Flows begin and end with what their modems want."""
+        for sid, modem in self.modems.items():
+            modem.pass_to(now)
+            if modem.on and not modem.life:
+                if isinstance(self.call("admit", sid, modem.flow), Refused):
+                    modem.is_blocked(now)
+                    self.counts.blocked += 1
+                else:
+                    modem.life = self.counts.begins(sid, modem.flow, self.next)
+            elif modem.life and not modem.on:
+                self.call("remove", sid)
+                self.counts.ends(sid, self.next)
+                modem.life = None
+
+    def hand_in(self, now):
+        """The receiver hands in the requests that it has read, and tells its progress: up to the first unread one."""
+        read = [burst for burst in self.bursts if burst.read_at <= now]
+        self.bursts = [burst for burst in self.bursts if burst.read_at > now]
+        for burst in sorted(read, key=lambda burst: burst.begin):
+            if self.call("ask", 0, burst.sid, burst.count, burst.begin) is None:
+                self.counts.live[burst.sid].ask(burst.count, burst.begin)
+        upto = min([now, self.next, *(burst.begin for burst in self.bursts)])
+        self.progress = max(self.progress, upto)
+        self.call("heard", 0, self.progress)
+
+    # What the modems do with a MAP.
+
+    def obey(self, map_):
+        granted = {element.sid for element in map_.elements if element.iuc != REQUEST and element.sid != NOBODY}
+        for modem in self.modems.values():
+            modem.reads(map_, granted.union(map_.pending))
+        for element in map_.elements:
+            self.counts.use[self.use(map_, element)] += element.slots
+        owed = [sid for sid, life in sorted(self.counts.live.items()) if life.outstanding()]
+        expect(map_.pending == owed, f"pending are {map_.pending}, not {owed}")
+
+    def use(self, map_, element):
+        """What an element's minislots are used for, when it has been used."""
+        at, modem = map_.start + element.offset, self.modems.get(element.sid)
+        if element.sid == NOBODY:
+            return "idle"
+        if element.sid == ALL_MODEMS:
+            self.contend(map_, at, element.slots // REQUEST_SLOTS)
+            return "request"
+        modem.fill(at)
+        if element.iuc == REQUEST:
+            self.ask(modem, at, element.slots, "poll")
+            return "poll"
+        if modem.flow["kind"] == "unsolicited":
+            modem.life.voice(at)
+            self.counts.grants += 1
+            return "unsolicited"
+        self.send(modem, at, element.slots)
+        return "data"
+
+    def contend(self, map_, at, chances):
+        """The request region: of those that begin in one opportunity none is heard."""
+        count, tries = self.counts.requests, {}
+        for modem in self.modems.values():
+            if modem.contends and modem.life:
+                modem.fill(at)
+                tries.setdefault(modem.turn(map_, chances), []).append(modem)
+        tries.pop(None, None)
+        count["opportunities"] += chances
+        for place, modems in sorted(tries.items()):
+            if len(modems) == 1:
+                self.ask(modems[0], at + place * REQUEST_SLOTS, REQUEST_SLOTS, "alone")
+                continue
+            count["collisions"] += 1
+            count["collided"] += len(modems)
+            for modem in modems:
+                modem.asked_at = at + place * REQUEST_SLOTS
+
+    def ask(self, modem, begin, slots, how):
+        """A modem sends a request, where it has one, and mostly it is heard."""
+        wanted = modem.wants()
+        if wanted:
+            modem.asked_at = begin
+            self.counts.requests[how] += 1
+            if how == "with data" or self.chance.randrange(NOISE):
+                self.bursts.append(Burst(modem.sid, wanted, begin, slots))
+            else:
+                self.counts.requests["noise"] += 1
+
+    def send(self, modem, at, slots):
+        """A modem fills its grant, and where nothing is to come any more it asks with the data for what is left."""
+        modem.life.grant(at, slots)
+        room = (slots - self.config["overhead"]) * self.config["bytes_per_slot"]
+        self.counts.room += room
+        self.counts.sent += min(modem.queued, room)
+        modem.sent(min(modem.queued, room), at + slots)
+        self.ask(modem, at, slots, "with data")
+
+
+def program():
+    """The one on the path, or else the script of the repository, which first proves and builds what is out of date."""
+    if shutil.which("mapsched"):
+        return "mapsched"
+    subprocess.run([SCRIPT, "--version"], stdout=subprocess.DEVNULL, check=True)
+    return SCRIPT
+
+
+def arguments():
+    reader = argparse.ArgumentParser(description="A plant of 30 modems, scheduled by mapsched live.")
+    reader.add_argument("--program", help="by default mapsched on the path, or else the repository's script")
+    reader.add_argument("--seconds", type=float, default=60, help="of plant time (60)")
+    reader.add_argument("--seed", type=int, default=1, help="another plant for another number (1)")
+    reader.add_argument("--journal", metavar="FILE", help="keeps a journal; where it has calls, the plant goes on")
+    reader.add_argument("--json", action="store_true", help="prints all numbers in JSON, delays in minislots")
+    return reader.parse_args()
+
+
+def main():
+    given = arguments()
+    try:
+        with (Again if given.journal else Live)(CONFIG, given.program or program(), given.journal) as live:
+            plant = Plant(live, CONFIG, given.seed)
+            plant.run(given.seconds)
+    except (Fault, Wrong, OSError, subprocess.SubprocessError) as fault:
+        sys.exit(f"plant.py: {fault}")
+    except KeyboardInterrupt:
+        sys.exit(130)
+    if given.json:
+        print(json.dumps(plant.counts.report(plant.next), sort_keys=True, separators=(",", ":")))
+    else:
+        print(page(plant, given.seed, given.journal), end="")
+
+
+if __name__ == "__main__":
+    main()
