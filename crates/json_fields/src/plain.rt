@@ -13,6 +13,9 @@ use fast_float::Numeral;
 use json::{Invalid, Reader, Token};
 use std::alloc::{AllocError, AllocFailed, Global};
 
+// What the members of a call are at most, so that a list of them does not grow while it is read.
+const USUAL_MEMBERS: usize = 5;
+
 /// A value of whole numbers, texts, arrays and objects alone.
 #[derive(Drop)]
 pub enum Plain<'a> {
@@ -171,7 +174,7 @@ fn read_members<'a>(
         ≡ Some (members_of v.items, reader.new)) }
     ensures shorter { OnOk result (length reader.new < length reader.old) }
 {
-    let mut found = Vec::new(alloc);
+    let mut found = Vec::with_capacity(alloc, USUAL_MEMBERS)?;
     'members: while let Some(key) = reader.next_key()? {
         let member = read_plain(alloc, reader, depth)?;
         found.push((key, member))?;
