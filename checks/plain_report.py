@@ -69,13 +69,12 @@ def next_after(config, entries):
 
 
 def uses(entries):
-    """Each minislot of each frame is counted by itself."""
+    """The minislots of each allocation of each frame, by what it is for."""
     count = dict.fromkeys(USES, 0)
     for at, entry in enumerate(entries):
         if entry["reply"]["kind"] == "map":
-            for sid, iuc, offset, length, _ in allocations_of(entry["reply"]):
-                for _ in range(offset, offset + length):
-                    count[use_of(entries[:at], sid, iuc)] += 1
+            for sid, iuc, _, length, _ in allocations_of(entry["reply"]):
+                count[use_of(entries[:at], sid, iuc)] += length
     return count
 
 
