@@ -1,6 +1,6 @@
 //! The calls at a queue. Whoever holds makes its own call, and then those that were left with the next tickets, at most
 //! 64 of them, each by the seat that left it and in the order of the tickets.
-ghost use Rattle.std.specs.Prelude.{◌≡◌, ◌+◌, Some, IfOk, IfErr, IfSome};
+ghost use Rattle.std.specs.Prelude.{◌≡◌, ◌+◌, ◌%◌, ◌^◌, Some, IfOk, IfErr, IfSome};
 ghost use Rattle.ticket_lock.specs.Calls.{Draws, Enters, MayLeave, Leaves};
 ghost use Rattle.call_queue.specs.Turns.{IsHanded, EndsTurn, TakesTurn, CallsInTurn};
 
@@ -111,7 +111,7 @@ impl<T: Journal, C: Calling<T>> CallQueue<T, C> {
         ensures turn { TakesTurn T.stamp T.head T.entries C.made call result.1 ticket result.0 }
     {
         let residue = ticket.number();
-        let Some(tray) = self.tray(number) else {
+        let Some(tray) = self.free_tray(number) else {
             return self.take_turn(rt, ticket, call);
         };
         match tray.leave((ticket, call)) {
@@ -150,6 +150,7 @@ impl<T: Journal, C: Calling<T>> CallQueue<T, C> {
         ensures ended { EndsTurn T.stamp T.head T.entries C.made call result.1 held value result.0 }
         ensures taken { IfSome result.2 (λ t. (t.ticket.lock ≡ self.now)
             × (t.serving ≡ record { tray = t.tray.now; left = Some (t.ticket, t.call) })) }
+        ensures next { IfSome result.2 (λ t. t.ticket.ticket % 2 ^ 64 ≡ (held.ticket % 2 ^ 64 + 1) % 2 ^ 64) }
     {
         let mut value = value;
         let reply = C::make(rt, &held, &mut value, call);
@@ -162,6 +163,7 @@ impl<T: Journal, C: Calling<T>> CallQueue<T, C> {
     fn take_up(&self, ticket: u64) -> Option<Taken<'_, T, C>>
         ensures taken { IfSome result (λ t. (t.ticket.lock ≡ self.now)
             × (t.serving ≡ record { tray = t.tray.now; left = Some (t.ticket, t.call) })) }
+        ensures next { IfSome result (λ t. t.ticket.ticket % 2 ^ 64 ≡ ticket) }
     {
         let number = self.signs.serve(ticket)?;
         let tray = self.tray(number)?;
