@@ -56,11 +56,9 @@ impl<T: Journal, C: Calling<T>> CallQueue<T, C> {
         requires kept { MayLeave T.stamp T.head T.entries held value }
         ensures left { Leaves T.stamp T.head T.entries held value result }
     {
-        let next = self.take_up(held.stamp().ticket.wrapping_add(1));
+        let next = held.stamp().ticket.wrapping_add(1);
         let left = self.lock.leave(held, value);
-        if let Some(taken) = next {
-            self.give_back(taken);
-        }
+        self.call_up(next);
         left
     }
 
@@ -81,6 +79,7 @@ impl<T: Journal, C: Calling<T>> CallQueue<T, C> {
 
     /// Makes a call by the seat that holds, makes those that were left with the next tickets, and leaves. The value is
     /// as it was entered.
+    #[inline(always)]
     pub fn call_held<R: Wait>(
         &self,
         rt: &R,
@@ -100,6 +99,7 @@ impl<T: Journal, C: Calling<T>> CallQueue<T, C> {
     }
 
     // Leaves the ticket with the call, and waits until the turn was taken, or takes it.
+    #[tactic(auto, using(crate::proofs::Turned::turn_looked))]
     fn leave_call<R: Wait>(
         &self,
         rt: &R,
@@ -110,13 +110,34 @@ impl<T: Journal, C: Calling<T>> CallQueue<T, C> {
         requires own { ticket.lock ≡ self.now }
         ensures turn { TakesTurn T.stamp T.head T.entries C.made call result.1 ticket result.0 }
     {
-        let residue = ticket.number();
         let Some(tray) = self.free_tray(number) else {
             return self.take_turn(rt, ticket, call);
         };
+        if !self.signs.put_up(ticket.number(), number) {
+            return self.take_turn(rt, ticket, call);
+        }
+        match self.lock.try_enter(ticket) {
+            Ok((held, value)) => self.call_held(rt, held, value, call),
+            Err(ticket) => self.wait_at(rt, tray, ticket, call),
+        }
+    }
+
+    // Leaves the ticket with the call on this tray, and waits until the turn was taken, or takes it. The sign was up.
+    fn wait_at<R: Wait>(
+        &self,
+        rt: &R,
+        tray: &Tray<Turns<T, C>>,
+        ticket: Ticket<T>,
+        call: C::Call,
+    ) -> (Seat<T>, C::Reply)
+        requires own { ticket.lock ≡ self.now }
+        requires tray { tray.now.about.value ≡ self.now }
+        ensures turn { TakesTurn T.stamp T.head T.entries C.made call result.1 ticket result.0 }
+    {
+        let residue = ticket.number();
         match tray.leave((ticket, call)) {
             Ok(waiting) => {
-                if self.signs.put_up(residue, number) {
+                if self.signs.shown(residue).is_none() {
                     tray.call_up();
                 }
                 match tray.wait(rt, waiting) {
@@ -138,6 +159,7 @@ impl<T: Journal, C: Calling<T>> CallQueue<T, C> {
     }
 
     // Makes a call by the seat that holds, takes up what was left with the next ticket, and leaves.
+    #[inline(always)]
     fn turn<R: Wait>(
         &self,
         rt: &R,
@@ -154,18 +176,32 @@ impl<T: Journal, C: Calling<T>> CallQueue<T, C> {
     {
         let mut value = value;
         let reply = C::make(rt, &held, &mut value, call);
-        let next = self.take_up(held.stamp().ticket.wrapping_add(1));
+        let after = held.stamp().ticket.wrapping_add(1);
+        let next = self.take_up(after);
         let seat = self.lock.leave(held, value);
+        if next.is_none() {
+            self.call_up(after);
+        }
         (seat, reply, next)
     }
 
     // Takes up what was left with this ticket, which is served next.
+    #[inline(always)]
     fn take_up(&self, ticket: u64) -> Option<Taken<'_, T, C>>
         ensures taken { IfSome result (λ t. (t.ticket.lock ≡ self.now)
             × (t.serving ≡ record { tray = t.tray.now; left = Some (t.ticket, t.call) })) }
         ensures next { IfSome result (λ t. t.ticket.ticket % 2 ^ 64 ≡ ticket) }
     {
-        let number = self.signs.serve(ticket)?;
+        let number = self.signs.shown(ticket)?;
+        self.take_up_from(number, ticket)
+    }
+
+    // Takes up what the seat with this number left, if that is this ticket.
+    fn take_up_from(&self, number: u32, ticket: u64) -> Option<Taken<'_, T, C>>
+        ensures taken { IfSome result (λ t. (t.ticket.lock ≡ self.now)
+            × (t.serving ≡ record { tray = t.tray.now; left = Some (t.ticket, t.call) })) }
+        ensures next { IfSome result (λ t. t.ticket.ticket % 2 ^ 64 ≡ ticket) }
+    {
         let tray = self.tray(number)?;
         let (left, serving) = tray.take_up()?;
         if left.0.number() != ticket {
@@ -180,6 +216,18 @@ impl<T: Journal, C: Calling<T>> CallQueue<T, C> {
             call,
             serving,
         })
+    }
+
+    // Calls up what was left with this ticket, which is served and was not taken up: its seat goes on by itself.
+    fn call_up(&self, ticket: u64) {
+        let Some(number) = self.signs.shown(ticket) else {
+            return;
+        };
+        self.signs.take_down(ticket);
+        if let Some(tray) = self.tray(number) {
+            tray.call_up();
+            tray.wake();
+        }
     }
 
     // Puts back what was taken up, whose ticket is served: its seat goes on by itself.

@@ -1,9 +1,10 @@
 //! Where a holder sees who left the ticket that it serves next. No clause tells of it: a sign says only where to look.
 //!
-//! A ticket that was left is made or called up. Whoever leaves it puts up its sign, and whoever serves it puts up that
-//! it is served, each by one exchange of the word of that ticket. Whoever comes second sees the other's: the holder
-//! then takes up what was left, or the seat takes its ticket back. At most 64 tickets are in flight, so no two of them
-//! have one word.
+//! A ticket that was left is made or called up. A seat puts up its sign, looks once more whether its ticket is served,
+//! leaves it, and looks whether the sign is still up. Whoever serves the ticket and has not taken it up looks for the
+//! sign after that, takes it down, and calls the ticket up. So if the seat does not find its ticket served, it is seen;
+//! and if the sign is down when the ticket was left, the seat takes it back by itself. At most 64 tickets are in flight,
+//! so no two of them have one word. `checks/leaving` takes these steps in every order.
 use std::alloc::Global;
 use std::sync::atomic::AtomicU64;
 use std::sync::atomic::Ordering::SeqCst;
@@ -40,23 +41,31 @@ impl Signs {
         self.row.get((ticket % MAX_SEATS as u64) as usize)
     }
 
-    /// The seat with this number has left this ticket. Whether that is served, or none will look for it.
+    /// The seat with this number is about to leave this ticket. Whether it may: else nobody would see that.
     pub(crate) fn put_up(&self, ticket: u64, number: u32) -> bool {
         let Some(word) = self.word(ticket) else {
-            return true;
+            return false;
         };
-        let found = word.swap(sign_of(ticket, number as u64), SeqCst);
-        found == sign_of(ticket, SERVED)
+        word.store(sign_of(ticket, number as u64), SeqCst);
+        true
     }
 
-    /// This ticket is served now. The number of the seat that left it, if it was left.
-    pub(crate) fn serve(&self, ticket: u64) -> Option<u32> {
-        let found = self.word(ticket)?.swap(sign_of(ticket, SERVED), SeqCst);
+    /// The number of the seat whose sign is up at this ticket, if one is.
+    #[inline(always)]
+    pub(crate) fn shown(&self, ticket: u64) -> Option<u32> {
+        let found = self.word(ticket)?.load(SeqCst);
         let number = found.wrapping_sub(sign_of(ticket, 0));
         if number < MAX_SEATS as u64 {
             Some(number as u32)
         } else {
             None
+        }
+    }
+
+    /// Takes down what is up at this ticket, which is served.
+    pub(crate) fn take_down(&self, ticket: u64) {
+        if let Some(word) = self.word(ticket) {
+            word.store(sign_of(ticket, SERVED), SeqCst);
         }
     }
 }
