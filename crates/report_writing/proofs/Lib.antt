@@ -1,0 +1,3 @@
+mod JsonNumbers
+mod Gathering
+mod Refusals

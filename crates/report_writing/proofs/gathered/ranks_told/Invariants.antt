@@ -1,0 +1,6 @@
+-- The ranks so far.
+use Rattle.report_writing.proofs.Gathering.{AreFirstRanks}
+use Rattle.report_writing.proofs.gathered.ranks_told.Given as goal
+
+abbrev pub invariant-loop-index : goal.invariant-loop-index
+invariant-loop-index l = AreFirstRanks l.reporter.config l.reporter.history l.ranks.items l.index

@@ -1,0 +1,123 @@
+-- The JSON of a report: its numbers, each under its name, keys in ascending order.
+use Rattle.std.specs.Prelude.{◌≡◌, ℕ, zero, suc, ◌+◌, ◌==◌, List, [], ◌∷◌, ◌++◌, map, codes, decimal, slice_index, if◌then◌else◌}
+use Rattle.std.specs.Prelude.{Option, None, Some}
+use Rattle.serde_json.specs.Data.{Data, Members, string, array, object, no_members, member}
+use Rattle.serde_json.specs.View.{items_of}
+use Rattle.serde_json.specs.Written.{compact_text}
+use Rattle.minislots.specs.declared.config.Config.{Config}
+use Rattle.flow_book.specs.declared.spec.FlowSpec.{FlowSpec}
+use Rattle.flow_book.specs.declared.spec.FlowSpec.TheVariants.{Unsolicited, Polled, BestEffort}
+use Rattle.sched_history.specs.declared.reply.Entry.{Entry}
+use Rattle.sched_report.specs.declared.calls.Calls.{Calls}
+use Rattle.sched_report.specs.declared.slots.Slots.{Slots}
+use Rattle.sched_report.specs.declared.totals.Totals.{Totals}
+use Rattle.sched_report.specs.declared.life.LifeNumbers.{LifeNumbers}
+use Rattle.sched_report.specs.declared.life.TheConstants.{POLLED}
+use Rattle.sched_report.specs.Counts.{CountsRefusals}
+use Rattle.sched_report.specs.Totals.{totals_of}
+use Rattle.history_writing.specs.Json.{count}
+use Rattle.report_writing.specs.declared.gathered.RankTold.{RankTold}
+use Rattle.report_writing.specs.Cells.{delay_data, maybe_data}
+use Rattle.report_writing.specs.Gathered.{AreLivesTold, AreRanksTold}
+
+-- the name of a kind of flow
+abbrev pub kind_name : FlowSpec → List ℕ
+kind_name (Unsolicited size interval jitter grants) = codes "unsolicited"
+kind_name (Polled interval jitter rate burst) = codes "polled"
+kind_name (BestEffort priority rate burst) = codes "best_effort"
+
+-- a member for the priority, where there is one, before the others
+abbrev pub with_priority : Option ℕ → Members → Members
+with_priority None others = others
+with_priority (Some priority) others = member (codes "priority") (count priority) others
+
+-- a life of a flow
+unfoldable pub life_data : LifeNumbers → Data
+life_data n = object (
+    member (codes "asked") (count n.sums.asked) (member (codes "asks") (count n.sums.asks) (
+    member (codes "delay") (delay_data n.sums.delays.greatest n.sums.delays.least n.middle n.p99) (
+    member (codes "dropped") (count n.dropped) (member (codes "from") (count n.from) (
+    member (codes "granted") (count n.granted) (member (codes "kind") (string (kind_name n.spec)) (
+    member (codes "outstanding") (count n.outstanding) (with_priority n.priority (
+    member (codes "served") (count n.sums.delays.served) (member (codes "sid") (count n.sid) (
+    member (codes "to") (count n.to) (member (codes "waiting") (count n.waiting) no_members)))))))))))))
+
+-- the name of polled flows' rank, or else a priority
+abbrev pub rank_name : ℕ → Data
+rank_name rank = if rank == POLLED then string (codes "polled") else count rank
+
+-- a rank
+unfoldable pub rank_data : RankTold → Data
+rank_data t = object (
+    member (codes "asks") (count t.numbers.sums.asks) (
+    member (codes "delay")
+    (delay_data t.numbers.sums.greatest t.numbers.sums.least t.numbers.middle t.numbers.p99) (
+    member (codes "dropped") (count t.numbers.sums.dropped) (
+    member (codes "granted") (count t.numbers.sums.granted) (member (codes "rank") (rank_name t.rank) (
+    member (codes "served") (count t.numbers.sums.served) (
+    member (codes "waiting") (count t.numbers.sums.waiting) no_members)))))))
+
+-- the calls of each kind
+unfoldable pub calls_data : Calls → Data
+calls_data c = object (
+    member (codes "admit") (count c.admit) (member (codes "ask") (count c.ask) (
+    member (codes "build") (count c.build) (member (codes "heard") (count c.heard) (
+    member (codes "remove") (count c.remove) (member (codes "skip") (count c.skip) (
+    member (codes "status") (count c.status) no_members)))))))
+
+-- the minislots of each use
+unfoldable pub use_data : Slots → Data
+use_data s = object (
+    member (codes "data") (count s.data_grants) (member (codes "idle") (count s.idle) (
+    member (codes "opportunity") (count s.opportunity) (member (codes "poll") (count s.poll) (
+    member (codes "request") (count s.request) (member (codes "unsolicited") (count s.unsolicited) no_members))))))
+
+-- a member for the refusals with the number at a place, which are counted from 1, where there are any
+abbrev pub with_refusals : ℕ → ℕ → Members → Members
+with_refusals place zero others = others
+with_refusals place (suc n) others = member (decimal (place + 1)) (count (suc n)) others
+
+-- and for those at each of these places
+abbrev pub refused_members : List ℕ → List ℕ → Members
+refused_members [] counts = no_members
+refused_members (place ∷ places) counts =
+    with_refusals place (slice_index counts place) (refused_members places counts)
+
+-- the places of the numbers from 1 to 17, in the ascending order of their texts
+abbrev pub by_text : List ℕ
+by_text = 0 ∷ 9 ∷ 10 ∷ 11 ∷ 12 ∷ 13 ∷ 14 ∷ 15 ∷ 16 ∷ 1 ∷ 2 ∷ 3 ∷ 4 ∷ 5 ∷ 6 ∷ 7 ∷ 8 ∷ []
+
+-- the refusals with each number of which there is one
+abbrev pub refused_data : List ℕ → Data
+refused_data counts = object (refused_members by_text counts)
+
+-- the lives, in their order
+abbrev pub lives_data : List LifeNumbers → Data
+lives_data lives = array (items_of (map life_data lives))
+
+-- the ranks, in their order
+abbrev pub ranks_data : List RankTold → Data
+ranks_data ranks = array (items_of (map rank_data ranks))
+
+-- a report
+unfoldable pub report_data : Totals → List ℕ → List LifeNumbers → List RankTold → Data
+report_data t refused lives ranks = object (
+    member (codes "calls") (calls_data t.calls) (member (codes "frames") (count t.frames) (
+    member (codes "from") (maybe_data t.from) (member (codes "lives") (lives_data lives) (
+    member (codes "priorities") (ranks_data ranks) (member (codes "refused") (refused_data refused) (
+    member (codes "skips") (count t.skips) (member (codes "to") (maybe_data t.to) (
+    member (codes "use") (use_data t.slots) no_members)))))))))
+
+-- its text: without a space, and ended by one newline
+unfoldable pub report_text : Totals → List ℕ → List LifeNumbers → List RankTold → List ℕ
+report_text t refused lives ranks = compact_text (report_data t refused lives ranks) ++ 10 ∷ []
+
+-- The text is that of the report on a history
+pub record IsReportText (c : Config) (h : List Entry) (text : List ℕ) : Type 0 where
+  pub refused : List ℕ
+  pub counts : CountsRefusals refused h
+  pub lives : List LifeNumbers
+  pub are_lives : AreLivesTold c h lives
+  pub ranks : List RankTold
+  pub are_ranks : AreRanksTold c h ranks
+  pub text_is : text ≡ report_text (totals_of c h) refused lives ranks

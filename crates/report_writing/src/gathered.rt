@@ -1,0 +1,44 @@
+//! The numbers of a report, gathered from a reporter.
+
+ghost use Rattle.std.specs.Prelude.{IfOk};
+ghost use Rattle.report_writing.specs.Gathered.{AreLivesTold, AreRanksTold};
+
+use sched_report::{LifeNumbers, POLLED, RankNumbers, Reporter};
+use std::alloc::{AllocError, Global};
+
+/// The numbers of a rank.
+#[derive(Clone, Copy)]
+pub struct RankTold {
+    /// The rank: [`POLLED`], or else a priority.
+    pub rank: u8,
+    pub numbers: RankNumbers,
+}
+
+// The ranks, from the one that is served first on.
+pub(crate) const RANKS: [u8; 9] = [POLLED, 7, 6, 5, 4, 3, 2, 1, 0];
+
+// The numbers of each life, in the order of the admissions.
+pub(crate) fn lives_told(alloc: Global, reporter: &Reporter) -> Result<Vec<LifeNumbers>, AllocError>
+    ensures { IfOk result (λ lives. AreLivesTold reporter.now.config reporter.now.history lives.items) }
+{
+    let mut lives = Vec::new(alloc);
+    for place in 0..reporter.lives() {
+        lives.push(reporter.life(place))?;
+    }
+    Ok(lives)
+}
+
+// The numbers of each rank that asked, from the one that is served first on.
+pub(crate) fn ranks_told(alloc: Global, reporter: &Reporter) -> Result<Vec<RankTold>, AllocError>
+    ensures { IfOk result (λ ranks. AreRanksTold reporter.now.config reporter.now.history ranks.items) }
+{
+    let mut ranks = Vec::new(alloc);
+    for index in 0..RANKS.len() {
+        let rank = RANKS[index];
+        let numbers = reporter.rank(rank);
+        if numbers.sums.asks > 0 {
+            ranks.push(RankTold { rank, numbers })?;
+        }
+    }
+    Ok(ranks)
+}

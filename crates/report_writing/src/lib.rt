@@ -1,0 +1,13 @@
+//! A report, written: the numbers of a history as JSON for programs, and as tables for people.
+#![tactic(auto)]
+
+mod cell;
+mod gathered;
+mod members;
+mod printed;
+mod tables;
+mod text;
+
+pub use gathered::RankTold;
+pub use printed::json_text;
+pub use tables::report_text;

@@ -1,0 +1,252 @@
+//! The objects of a report's JSON: a life of a flow, a rank, the refusals, the calls and the use of minislots.
+
+ghost use Rattle.std.specs.Prelude.{◌≡◌, ◌++◌, OnOk, slice_index};
+ghost use Rattle.serde_json.specs.Data.{Members};
+ghost use Rattle.history_writing.specs.Tokens.{tokens_of};
+ghost use Rattle.report_writing.specs.Cells.{cell_data, tokens_to_end};
+ghost use Rattle.report_writing.specs.Report.{kind_name, rank_name, life_data, rank_data, calls_data, use_data};
+ghost use Rattle.report_writing.specs.Report.{refused_data, with_refusals};
+
+use crate::cell::{Cell, Spread, put_cell, put_object};
+use crate::gathered::RankTold;
+use flow_book::FlowSpec;
+use itoa::Buffer;
+use json::Writer;
+use sched_report::{Calls, LifeNumbers, POLLED, Slots};
+use std::alloc::AllocError;
+
+// The keys of a life, in ascending order, and those of one of a best effort flow.
+static LIFE: [&str; 12] = [
+    "asked",
+    "asks",
+    "delay",
+    "dropped",
+    "from",
+    "granted",
+    "kind",
+    "outstanding",
+    "served",
+    "sid",
+    "to",
+    "waiting",
+];
+
+static BEST_EFFORT: [&str; 13] = [
+    "asked",
+    "asks",
+    "delay",
+    "dropped",
+    "from",
+    "granted",
+    "kind",
+    "outstanding",
+    "priority",
+    "served",
+    "sid",
+    "to",
+    "waiting",
+];
+
+static RANK: [&str; 7] = [
+    "asks", "delay", "dropped", "granted", "rank", "served", "waiting",
+];
+
+static CALLS: [&str; 7] = ["admit", "ask", "build", "heard", "remove", "skip", "status"];
+
+static USES: [&str; 6] = [
+    "data",
+    "idle",
+    "opportunity",
+    "poll",
+    "request",
+    "unsolicited",
+];
+
+// The places of the refusals' numbers, which are counted from 1, in the ascending order of their texts.
+const BY_TEXT: [u8; 17] = [0, 9, 10, 11, 12, 13, 14, 15, 16, 1, 2, 3, 4, 5, 6, 7, 8];
+
+// The name of a kind of flow.
+fn kind_name(spec: FlowSpec) -> &'static str
+    ensures { result.now ≡ kind_name spec }
+{
+    match spec {
+        FlowSpec::Unsolicited { .. } => "unsolicited",
+        FlowSpec::Polled { .. } => "polled",
+        FlowSpec::BestEffort { .. } => "best_effort",
+    }
+}
+
+// Writes the numbers of a life.
+#[tactic(auto, unfolding(crate::specs::Report::life_data))]
+pub(crate) fn put_life(out: &mut Writer, life: &LifeNumbers) -> Result<(), AllocError>
+    ensures ok { OnOk result (out.new.tokens ≡ out.old.tokens ++ tokens_of (life_data life.now)) }
+    ensures before { out.new.before ≡ out.old.before }
+{
+    let asked = Cell::Count(life.sums.asked as u128);
+    let asks = Cell::Count(life.sums.asks as u128);
+    let delay = Cell::Delay(Spread {
+        greatest: life.sums.delays.greatest,
+        least: life.sums.delays.least,
+        middle: life.middle,
+        p99: life.p99,
+    });
+    let dropped = Cell::Count(life.dropped as u128);
+    let from = Cell::Count(life.from as u128);
+    let granted = Cell::Count(life.granted);
+    let kind = Cell::Name(kind_name(life.spec));
+    let outstanding = Cell::Count(life.outstanding as u128);
+    let served = Cell::Count(life.sums.delays.served as u128);
+    let sid = Cell::Count(life.sid as u128);
+    let to = Cell::Count(life.to as u128);
+    let waiting = Cell::Count(life.waiting as u128);
+    match life.priority {
+        None => put_object(
+            out,
+            &LIFE,
+            &[
+                asked,
+                asks,
+                delay,
+                dropped,
+                from,
+                granted,
+                kind,
+                outstanding,
+                served,
+                sid,
+                to,
+                waiting,
+            ],
+        ),
+        Some(priority) => {
+            let priority = Cell::Count(priority as u128);
+            put_object(
+                out,
+                &BEST_EFFORT,
+                &[
+                    asked,
+                    asks,
+                    delay,
+                    dropped,
+                    from,
+                    granted,
+                    kind,
+                    outstanding,
+                    priority,
+                    served,
+                    sid,
+                    to,
+                    waiting,
+                ],
+            )
+        }
+    }
+}
+
+// The name or the number of a rank.
+fn rank_cell(rank: u8) -> Cell
+    ensures { cell_data result ≡ rank_name rank }
+{
+    if rank == POLLED {
+        Cell::Name("polled")
+    } else {
+        Cell::Count(rank as u128)
+    }
+}
+
+// Writes the numbers of a rank.
+#[tactic(auto, unfolding(crate::specs::Report::rank_data))]
+pub(crate) fn put_rank(out: &mut Writer, told: &RankTold) -> Result<(), AllocError>
+    ensures ok { OnOk result (out.new.tokens ≡ out.old.tokens ++ tokens_of (rank_data told.now)) }
+    ensures before { out.new.before ≡ out.old.before }
+{
+    let sums = told.numbers.sums;
+    let spread = Spread {
+        greatest: sums.greatest,
+        least: sums.least,
+        middle: told.numbers.middle,
+        p99: told.numbers.p99,
+    };
+    let cells = [
+        Cell::Count(sums.asks),
+        Cell::Delay(spread),
+        Cell::Count(sums.dropped),
+        Cell::Count(sums.granted),
+        rank_cell(told.rank),
+        Cell::Count(sums.served),
+        Cell::Count(sums.waiting),
+    ];
+    put_object(out, &RANK, &cells)
+}
+
+// Writes how many calls of each kind there were.
+#[tactic(auto, unfolding(crate::specs::Report::calls_data))]
+pub(crate) fn put_calls(out: &mut Writer, calls: &Calls) -> Result<(), AllocError>
+    ensures ok { OnOk result (out.new.tokens ≡ out.old.tokens ++ tokens_of (calls_data calls.now)) }
+    ensures before { out.new.before ≡ out.old.before }
+{
+    let cells = [
+        Cell::Count(calls.admit as u128),
+        Cell::Count(calls.ask as u128),
+        Cell::Count(calls.build as u128),
+        Cell::Count(calls.heard as u128),
+        Cell::Count(calls.remove as u128),
+        Cell::Count(calls.skip as u128),
+        Cell::Count(calls.status as u128),
+    ];
+    put_object(out, &CALLS, &cells)
+}
+
+// Writes the minislots by their use.
+#[tactic(auto, unfolding(crate::specs::Report::use_data))]
+pub(crate) fn put_use(out: &mut Writer, slots: &Slots) -> Result<(), AllocError>
+    ensures ok { OnOk result (out.new.tokens ≡ out.old.tokens ++ tokens_of (use_data slots.now)) }
+    ensures before { out.new.before ≡ out.old.before }
+{
+    let cells = [
+        Cell::Count(slots.data_grants as u128),
+        Cell::Count(slots.idle as u128),
+        Cell::Count(slots.opportunity as u128),
+        Cell::Count(slots.poll as u128),
+        Cell::Count(slots.request as u128),
+        Cell::Count(slots.unsolicited as u128),
+    ];
+    put_object(out, &USES, &cells)
+}
+
+// How many refusals there were with the number at a place.
+fn refusals_at(refused: &[u64], place: u8) -> u64
+    ensures { result ≡ slice_index refused.now place }
+{
+    match refused.get(usize::from(place)) {
+        Some(count) => *count,
+        None => 0,
+    }
+}
+
+// Writes how many refusals there were with the number at a place, where there was one. Other members may follow.
+fn put_refusals(out: &mut Writer, place: u8, count: u64) -> Result<(), AllocError>
+    ensures ok { OnOk result ((others : Members) → out.new.tokens ++ tokens_to_end others
+        ≡ out.old.tokens ++ tokens_to_end (with_refusals place count others)) }
+    ensures before { out.new.before ≡ out.old.before }
+{
+    if count == 0 {
+        return Ok(());
+    }
+    let mut buffer = Buffer::new();
+    out.key(buffer.format(place as u64 + 1))?;
+    out.u64(count)
+}
+
+// Writes how many refusals with each number there were, where there was one.
+pub(crate) fn put_refused(out: &mut Writer, refused: &[u64]) -> Result<(), AllocError>
+    ensures ok { OnOk result (out.new.tokens ≡ out.old.tokens ++ tokens_of (refused_data refused.now)) }
+    ensures before { out.new.before ≡ out.old.before }
+{
+    out.begin_object()?;
+    for index in 0..BY_TEXT.len() {
+        let place = BY_TEXT[index];
+        put_refusals(out, place, refusals_at(refused, place))?;
+    }
+    out.end_object()
+}
