@@ -1,3 +1,2 @@
-pub mod Standing
-pub mod Taking
+pub use Rattle.journal_entries.specs.Standing
 pub mod Judging

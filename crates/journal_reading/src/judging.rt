@@ -1,14 +1,12 @@
 //! The journal in the bytes of a reader, judged.
 
-ghost use Rattle.std.specs.Prelude.{◌≡◌, ◌≤◌, [], List, ℕ, Option, IfOk, IfErr, MatchOption};
-ghost use Rattle.line_stream.specs.Told.{untold};
+ghost use Rattle.std.specs.Prelude.{◌≡◌, [], List, ℕ, Option, IfOk, IfErr};
 ghost use Rattle.text_stream.specs.Watched.{FailsBy};
-ghost use Rattle.journal_reading.specs.Judging.{StandSoFar, HasNoOpening, Finds, StopsJournal};
+ghost use Rattle.journal_entries.specs.Journal.{StopsJournal};
+ghost use Rattle.journal_entries.specs.Next.{HasGiven};
+ghost use Rattle.journal_reading.specs.Judging.{Finds};
 
-use crate::line::{Taken, opening_in, take_line};
-use json::Scratch;
-use line_stream::{Lines, Whole};
-use minislots::Checked;
+use journal_entries::{JournalEntries, Next};
 use sched_history::{Auditor, MAX_WHOLE_HISTORY};
 use std::alloc::Global;
 use text_stream::{Source, TextFault};
@@ -26,66 +24,31 @@ pub enum Judged {
     Bad(u64),
 }
 
-// Reads the first line: the configuration, where it is one.
-fn read_opening<R: Source>(
-    alloc: Global,
-    lines: &mut Lines,
-    reader: &mut R,
-) -> Result<Option<Checked>, TextFault>
-    ensures opened { IfOk result (λ config. MatchOption config
-        (HasNoOpening (untold lines.old (R.remaining reader.old)) (R.remaining reader.new))
-        (λ c. StandSoFar (untold lines.old (R.remaining reader.old))
-        (untold lines.new (R.remaining reader.new)) c [])) }
-    ensures stops { IfErr result
-        (StopsJournal (untold lines.old (R.remaining reader.old)) (R.remaining reader.new)) }
-    ensures failed { FailsBy TextFault.Input result
-        (R.has_failed reader.old) (R.has_failed reader.new) }
-{
-    match lines.next_whole(reader) {
-        Ok(Whole::Line) => match opening_in(alloc, lines.line()) {
-            Ok(config) => Ok(config),
-            Err(_) => Err(TextFault::Memory),
-        },
-        Ok(Whole::Long) => Ok(None),
-        Ok(Whole::Torn(_)) => Ok(None),
-        Err(fault) => Err(fault),
-    }
-}
-
-// Reads the lines behind the first, and judges their entries.
+// Reads the entries behind the first line, and judges them.
 fn judge_entries<R: Source>(
-    alloc: Global,
-    lines: &mut Lines,
+    mut entries: JournalEntries,
     reader: &mut R,
-    mut auditor: Auditor,
 ) -> Result<Judged, TextFault>
-    requires none { auditor.history ≡ [] }
+    requires none { entries.auditor.history ≡ [] }
     ensures finds { IfOk result (λ judged. (before : Option (List ℕ)) →
-        StandSoFar before (untold lines.old (R.remaining reader.old)) auditor.config [] →
-        Finds before (R.remaining reader.new) judged) }
+        HasGiven before (R.remaining reader.old) entries → Finds before (R.remaining reader.new) judged) }
     ensures stops { IfErr result (λ fault. (before : Option (List ℕ)) →
-        StandSoFar before (untold lines.old (R.remaining reader.old)) auditor.config [] →
+        HasGiven before (R.remaining reader.old) entries →
         StopsJournal before (R.remaining reader.new) fault) }
     ensures failed { FailsBy TextFault.Input result
         (R.has_failed reader.old) (R.has_failed reader.new) }
 {
-    let mut scratch = Scratch::new(alloc);
     for _ in 0..=MAX_WHOLE_HISTORY {
-        match lines.next_whole(reader) {
-            Ok(Whole::Line) => {}
-            Ok(Whole::Long) => return Ok(Judged::Bad(auditor.taken() + 1)),
-            Ok(Whole::Torn(bytes)) => return Ok(Judged::Legal(auditor, bytes)),
-            Err(fault) => return Err(fault),
-        }
-        match take_line(alloc, &mut scratch, &mut auditor, lines.line()) {
-            Ok(Taken::Entry) => {}
-            Ok(Taken::Illegal) => return Ok(Judged::Illegal(auditor.taken())),
-            Ok(Taken::NoEntry) => return Ok(Judged::Bad(auditor.taken() + 1)),
+        match entries.next(reader) {
+            Ok(Next::Entry(_)) => {}
+            Ok(Next::Illegal(place)) => return Ok(Judged::Illegal(place)),
+            Ok(Next::Bad(line)) => return Ok(Judged::Bad(line)),
+            Ok(Next::End(torn)) => return Ok(Judged::Legal(entries.auditor, torn)),
             Err(fault) => return Err(fault),
         }
     }
-    // An auditor takes fewer than there were turns.
-    let _most = auditor.taken();
+    // Fewer entries are given than there were turns.
+    let _most = entries.auditor.taken();
     Err(TextFault::TooLong)
 }
 
@@ -102,12 +65,8 @@ pub fn judge_journal<R: Source>(alloc: Global, reader: &mut R) -> Result<Judged,
     ensures failed { FailsBy TextFault.Input result
         (R.has_failed reader.old) (R.has_failed reader.new) }
 {
-    let mut lines = Lines::new();
-    match read_opening(alloc, &mut lines, reader) {
-        Ok(Some(config)) => match Auditor::open(alloc, config) {
-            Ok(auditor) => judge_entries(alloc, &mut lines, reader, auditor),
-            Err(_) => Err(TextFault::Memory),
-        },
+    match JournalEntries::open(alloc, reader) {
+        Ok(Some((_, entries))) => judge_entries(entries, reader),
         Ok(None) => Ok(Judged::Bad(0)),
         Err(fault) => Err(fault),
     }

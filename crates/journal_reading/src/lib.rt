@@ -2,7 +2,6 @@
 #![tactic(auto)]
 
 mod judging;
-mod line;
 mod resuming;
 
 pub use judging::{Judged, judge_journal};

@@ -2,7 +2,8 @@
 
 ghost use Rattle.std.specs.Prelude.{IfOk, IfErr};
 ghost use Rattle.text_stream.specs.Watched.{FailsBy};
-ghost use Rattle.journal_reading.specs.Judging.{Resumes, StopsJournal};
+ghost use Rattle.journal_entries.specs.Journal.{StopsJournal};
+ghost use Rattle.journal_reading.specs.Judging.{Resumes};
 
 use crate::judging::{Judged, judge_journal};
 use sched_history::Scheduler;

@@ -3,20 +3,20 @@ use Rattle.std.specs.Prelude.{◌≡◌, ℕ, ◌≤◌, List, [], ◌∷◌, �
 use Rattle.sched_history.specs.declared.reply.Entry.{Entry}
 use Rattle.sched_history.specs.declared.reply.TheConstants.{MAX_WHOLE_HISTORY}
 use Rattle.sched_history.specs.History.{IsStep, IsLegal}
-use Rattle.sched_history.specs.Machine.{Past}
+use Rattle.sched_history.specs.Machine.{Past, IsEncodable}
 use Rattle.text_stream.specs.declared.fault.TextFault.{TextFault}
 use Rattle.text_stream.specs.declared.fault.TextFault.TheVariants.{Input, TooLong, NotJson, Shape, Config, Memory}
 use Rattle.text_stream.specs.declared.fault.TextFault.TheVariants.{Output}
-use Rattle.journal_reading.specs.declared.line.Taken.{Taken}
-use Rattle.journal_reading.specs.declared.line.Taken.TheVariants as taken
-use Rattle.journal_reading.specs.Standing.{entry_in_line}
+use Rattle.journal_entries.specs.declared.line.Taken.{Taken}
+use Rattle.journal_entries.specs.declared.line.Taken.TheVariants as taken
+use Rattle.journal_entries.specs.Standing.{entry_in_line}
 
 -- The line stands for an entry, which was taken
-pub record TakesEntry (old new : Past) (line : List ℕ) : Type 0 where
-  pub entry : Entry
+pub record TakesEntry (old new : Past) (line : List ℕ) (entry : Entry) : Type 0 where
   pub is : entry_in_line line ≡ Some entry
   pub taken : new ≡ record old { history = old.history ++ entry ∷ [] }
   pub legal : IsLegal new.config new.history
+  pub encodable : IsEncodable entry.reply
 
 -- The line stands for an entry that may not follow those that were taken, which stay
 pub record MeetsIllegal (old new : Past) (line : List ℕ) : Type 0 where
@@ -27,7 +27,7 @@ pub record MeetsIllegal (old new : Past) (line : List ℕ) : Type 0 where
 
 -- what comes of a line
 abbrev pub Takes : Past → Past → List ℕ → Taken → Type 0
-Takes old new line taken.Entry = TakesEntry old new line
+Takes old new line (taken.Entry entry) = TakesEntry old new line entry
 Takes old new line taken.Illegal = MeetsIllegal old new line
 Takes old new line taken.NoEntry = (entry_in_line line ≡ None) × (new ≡ old)
 

@@ -5,14 +5,14 @@ ghost use Rattle.serde_json.specs.Find.{get};
 ghost use Rattle.serde_json.specs.View.{view};
 ghost use Rattle.json_fields.specs.Fields.{config_of};
 ghost use Rattle.line_stream.specs.declared.TheConstants.{MAX_LINE};
-ghost use Rattle.journal_reading.specs.Standing.{lawful_config, opening_in, config_in_line};
-ghost use Rattle.journal_reading.specs.Taking.{Takes, StopsTaking};
+ghost use Rattle.journal_entries.specs.Standing.{lawful_config, opening_in, config_in_line};
+ghost use Rattle.journal_entries.specs.Taking.{Takes, StopsTaking};
 
 use history_reading::entry_in;
 use json::Scratch;
 use json_fields::config_in;
 use minislots::Checked;
-use sched_history::{Auditor, JudgeFault};
+use sched_history::{Auditor, Entry, JudgeFault};
 use serde_json::Value;
 use std::alloc::{AllocError, Global};
 use text_stream::{TextFault, parse};
@@ -38,10 +38,10 @@ pub(crate) fn opening_in(alloc: Global, line: &[u8]) -> Result<Option<Checked>, 
 }
 
 // What comes of a line behind the first.
-#[derive(Clone, Copy)]
+#[derive(Drop)]
 pub(crate) enum Taken {
-    // It is an entry, which was taken.
-    Entry,
+    // It is this entry, which was taken.
+    Entry(Entry),
     // It is an entry that may not follow those before it.
     Illegal,
     // It is no entry.
@@ -63,7 +63,7 @@ pub(crate) fn take_line(
         return Ok(Taken::NoEntry);
     };
     match auditor.judge(&entry) {
-        Ok(()) => Ok(Taken::Entry),
+        Ok(()) => Ok(Taken::Entry(entry)),
         Err(JudgeFault::Illegal) => Ok(Taken::Illegal),
         Err(JudgeFault::Full) => Err(TextFault::TooLong),
         Err(JudgeFault::Memory) => Err(TextFault::Memory),

@@ -1,6 +1,6 @@
 -- The first line is the configuration, or none; or no line is whole.
-use Rattle.journal_reading.proofs.Lines.{opened-line, HasOtherOpening-long, HasNoLine-torn, StopsJournal-opening}
-use Rattle.journal_reading.proofs.judging.read_opening.Goals as goal
+use Rattle.journal_entries.proofs.Lines.{opened-line, HasOtherOpening-long, HasNoLine-torn, StopsJournal-opening}
+use Rattle.journal_entries.proofs.entries.read_opening.Goals as goal
 
 pub returns-in-Ok-clause-opened : goal.returns-in-Ok-clause-opened
 returns-in-Ok-clause-opened g c =

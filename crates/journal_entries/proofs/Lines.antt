@@ -20,15 +20,15 @@ use Rattle.line_stream.specs.Lines.{IsWithinLine}
 use Rattle.line_stream.specs.declared.Told.TheVariants.{Line, Long}
 use Rattle.line_stream.specs.Told.{AtHand, untold, TellsWhole, IsTorn, StopsLine}
 use Rattle.history_reading.specs.Recorded.{entry_in}
-use Rattle.journal_reading.specs.Standing.{StandFor, in_line, opening_in, config_in_line, entry_in_line, ended_lines}
-use Rattle.journal_reading.specs.Taking.{TakesEntry, MeetsIllegal, StopsTaking}
+use Rattle.journal_entries.specs.Standing.{StandFor, in_line, opening_in, config_in_line, entry_in_line, ended_lines}
+use Rattle.journal_entries.specs.Taking.{TakesEntry, MeetsIllegal, StopsTaking}
 use Rattle.text_stream.specs.declared.fault.TextFault.{TextFault}
 use Rattle.text_stream.specs.declared.fault.TextFault.TheVariants.{Input, TooLong, NotJson, Shape}
 use Rattle.text_stream.specs.declared.fault.TextFault.TheVariants.{Config as BadConfig, Memory}
 use Rattle.text_stream.specs.declared.fault.TextFault.TheVariants.{Output}
-use Rattle.journal_reading.specs.Judging.{Came, CameAll, StandSoFar, FindsLegal}
-use Rattle.journal_reading.specs.Judging.{FindsIllegal, FindsNoEntry, HasNoOpening}
-use Rattle.journal_reading.specs.Judging.{HasTooMany, StopsJournal}
+use Rattle.journal_entries.specs.Journal.{Came, CameAll, StandSoFar, FindsLegal}
+use Rattle.journal_entries.specs.Journal.{FindsIllegalIn, FindsNoEntryIn, HasNoOpening}
+use Rattle.journal_entries.specs.Journal.{HasTooMany, StopsJournal}
 
 -- one line more
 ended_lines-push : (lines : List (List ℕ)) (line : List ℕ)
@@ -179,14 +179,12 @@ module _ (before mid remaining : Option (List ℕ)) (hand : List ℕ) (c : Confi
     }
 
     -- a line that stands for no entry
-    pub FindsNoEntry-line : entry_in_line line ≡ None → FindsNoEntry before remaining (length es + 1)
+    pub FindsNoEntry-line : entry_in_line line ≡ None → FindsNoEntryIn before remaining c es (length es + 1)
     FindsNoEntry-line none = record {
       lines = so_far.lines;
       line = line;
       behind = hand;
       came = came_hand;
-      config = c;
-      entries = es;
       stand = so_far.stand;
       legal = so_far.legal;
       none = none;
@@ -195,15 +193,13 @@ module _ (before mid remaining : Option (List ℕ)) (hand : List ℕ) (c : Confi
 
     -- a line that stands for an entry that may not follow
     pub FindsIllegal-line : (e : Entry) → entry_in_line line ≡ Some e → (IsStep c es e.call e.reply → ⊥)
-        → FindsIllegal before remaining (length es)
+        → FindsIllegalIn before remaining c (es ++ e ∷ []) (length es)
     FindsIllegal-line e is no_step =
         let front = sym (take-append_seam es (e ∷ [])) in
         record {
           lines = so_far.lines ++ line ∷ [];
           behind = hand;
           came = came_hand;
-          config = c;
-          entries = es ++ e ∷ [];
           stand = StandFor-push so_far.lines c es line e so_far.stand is;
           last = length-append es (e ∷ []);
           first = record {
@@ -328,7 +324,7 @@ module _ (before mid remaining : Option (List ℕ)) (hand : AtHand) (c : Config)
     (so_far : StandSoFar before mid c past.history) where
   -- one that is too long stands for no entry
   pub FindsNoEntry-long : TellsWhole mid (untold hand remaining) hand Long
-      → FindsNoEntry before remaining (length past.history + 1)
+      → FindsNoEntryIn before remaining c past.history (length past.history + 1)
   FindsNoEntry-long told =
       FindsNoEntry-line before mid remaining hand.bytes c past.history so_far told.line told.within told.taken
       (none-long entry_in told.line told.is)
@@ -338,31 +334,31 @@ module _ (before mid remaining : Option (List ℕ)) (hand : AtHand) (c : Config)
     at_line stands = ap entry_in_line (sym (is ∙ told.is.0)) ∙ stands
 
     -- one that stands for an entry that may follow goes on with the history
-    pub StandSoFar-entry : (new : Past) → TakesEntry past new shown
+    pub StandSoFar-entry : (new : Past) (entry : Entry) → TakesEntry past new shown entry
         → StandSoFar before (untold hand remaining) c new.history
-    StandSoFar-entry new takes =
+    StandSoFar-entry new entry takes =
         let all = ap (λ (p : Past). p.history) takes.taken in
         let config = ap (λ (p : Past). p.config) takes.taken ∙ same in
-        let legal : IsLegal c (past.history ++ takes.entry ∷ []) = rw (config, all) at takes.legal in
+        let legal : IsLegal c (past.history ++ entry ∷ []) = rw (config, all) at takes.legal in
         subst (StandSoFar before (untold hand remaining) c) (sym all)
         (StandSoFar-push before mid remaining hand.bytes c past.history so_far told.line told.within told.taken
-        takes.entry (at_line takes.is) legal)
+        entry (at_line takes.is) legal)
 
     -- one whose entry may not follow is the first that may not
-    pub FindsIllegal-entry : (new : Past) (n : ℕ) → MeetsIllegal past new shown → n ≡ length new.history
-        → FindsIllegal before remaining n
+    pub FindsIllegal-entry : (new : Past) (n : ℕ) → (meets : MeetsIllegal past new shown) → n ≡ length new.history
+        → FindsIllegalIn before remaining c (past.history ++ meets.entry ∷ []) n
     FindsIllegal-entry new n meets count =
         let no_step : IsStep c past.history meets.entry.call meets.entry.reply → ⊥ = rw same at meets.no_step in
-        subst (FindsIllegal before remaining)
+        subst (FindsIllegalIn before remaining c (past.history ++ meets.entry ∷ []))
         (sym (count ∙ ap (λ (p : Past). length p.history) meets.same))
         (FindsIllegal-line before mid remaining hand.bytes c past.history so_far told.line told.within told.taken
         meets.entry (at_line meets.is) no_step)
 
     -- one that stands for no entry is the first that does not
     pub FindsNoEntry-none : (new : Past) (n : ℕ) → entry_in_line shown ≡ None → new ≡ past → n ≡ length new.history
-        → FindsNoEntry before remaining (n + 1)
+        → FindsNoEntryIn before remaining c past.history (n + 1)
     FindsNoEntry-none new n none stays count =
-        subst (λ n. FindsNoEntry before remaining (n + 1))
+        subst (λ n. FindsNoEntryIn before remaining c past.history (n + 1))
         (sym (count ∙ ap (λ (p : Past). length p.history) stays))
         (FindsNoEntry-line before mid remaining hand.bytes c past.history so_far told.line told.within told.taken
         (at_line none))

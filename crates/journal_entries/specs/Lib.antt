@@ -1,0 +1,5 @@
+pub mod Standing
+pub mod Taking
+pub mod Journal
+pub mod Next
+pub mod End

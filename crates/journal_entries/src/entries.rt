@@ -1,0 +1,141 @@
+//! A reader of a journal's entries.
+
+ghost use Rattle.std.specs.Prelude.{[], List, ℕ, Option, IfOk, IfErr, MatchOption};
+ghost use Rattle.line_stream.specs.Told.{untold};
+ghost use Rattle.text_stream.specs.Watched.{FailsBy};
+ghost use Rattle.journal_entries.specs.Journal.{StandSoFar, HasNoOpening, StopsJournal};
+ghost use Rattle.journal_entries.specs.Next.{HasGiven, HasOpened, IsNext, TakesNext};
+
+use crate::line::{Taken, opening_in, take_line};
+use json::Scratch;
+use line_stream::{Lines, Whole};
+use minislots::Checked;
+use sched_history::{Auditor, Entry};
+use std::alloc::Global;
+use text_stream::{Source, TextFault};
+
+/// What comes next of a journal. Lines and entries are counted from 0, and line 0 is the configuration.
+#[derive(Drop)]
+pub enum Next {
+    /// The next line is this entry, which may follow those before it.
+    Entry(Entry),
+    /// The next line is an entry that may not follow those before it: this one.
+    Illegal(u64),
+    /// The next line is no entry: this one.
+    Bad(u64),
+    /// No whole line is left. So many bytes stand behind the last newline, and count for nothing.
+    End(u64),
+}
+
+/// The entries of a journal, which are read one by one, each judged as [`sched_history::audit`] judges a list. Each line
+/// is let go of before the next, so its memory is that of an auditor and of one line, whatever the journal's length.
+/// Contracts speak of its lines, that were read and not told, and of its auditor, which has taken the entries that were
+/// given.
+#[derive(Drop)]
+pub struct JournalEntries {
+    alloc: Global,
+    scratch: Scratch,
+    /// The lines behind the last entry.
+    pub lines: Lines,
+    /// The auditor that has taken the entries.
+    pub auditor: Auditor,
+}
+
+// Reads the first line: the configuration, where it is one.
+fn read_opening<R: Source>(
+    alloc: Global,
+    lines: &mut Lines,
+    reader: &mut R,
+) -> Result<Option<Checked>, TextFault>
+    ensures opened { IfOk result (λ config. MatchOption config
+        (HasNoOpening (untold lines.old (R.remaining reader.old)) (R.remaining reader.new))
+        (λ c. StandSoFar (untold lines.old (R.remaining reader.old))
+        (untold lines.new (R.remaining reader.new)) c [])) }
+    ensures stops { IfErr result
+        (StopsJournal (untold lines.old (R.remaining reader.old)) (R.remaining reader.new)) }
+    ensures failed { FailsBy TextFault.Input result (R.has_failed reader.old) (R.has_failed reader.new) }
+{
+    match lines.next_whole(reader) {
+        Ok(Whole::Line) => match opening_in(alloc, lines.line()) {
+            Ok(config) => Ok(config),
+            Err(_) => Err(TextFault::Memory),
+        },
+        Ok(Whole::Long) => Ok(None),
+        Ok(Whole::Torn(_)) => Ok(None),
+        Err(fault) => Err(fault),
+    }
+}
+
+impl JournalEntries {
+    /// Reads the first line of a journal, its configuration. None where there is no whole line, or the first one is no
+    /// lawful configuration.
+    pub fn open<R: Source>(
+        alloc: Global,
+        reader: &mut R,
+    ) -> Result<Option<(Checked, JournalEntries)>, TextFault>
+        ensures opened { IfOk result (λ opened. MatchOption opened
+            (HasNoOpening (R.remaining reader.old) (R.remaining reader.new))
+            (λ it. HasOpened (R.remaining reader.old) (R.remaining reader.new) it.0 it.1)) }
+        ensures stops { IfErr result (StopsJournal (R.remaining reader.old) (R.remaining reader.new)) }
+        ensures failed { FailsBy TextFault.Input result (R.has_failed reader.old) (R.has_failed reader.new) }
+    {
+        let mut lines = Lines::new();
+        match read_opening(alloc, &mut lines, reader) {
+            Ok(Some(config)) => match Auditor::open(alloc, config) {
+                Ok(auditor) => {
+                    let scratch = Scratch::new(alloc);
+                    Ok(Some((
+                        config,
+                        JournalEntries {
+                            alloc,
+                            scratch,
+                            lines,
+                            auditor,
+                        },
+                    )))
+                }
+                Err(_) => Err(TextFault::Memory),
+            },
+            Ok(None) => Ok(None),
+            Err(fault) => Err(fault),
+        }
+    }
+
+    /// Reads the next line, and gives its entry where it may follow those before it. After anything else nothing comes.
+    pub fn next<R: Source>(&mut self, reader: &mut R) -> Result<Next, TextFault>
+        // An entry that is given stands behind those before it.
+        ensures takes { IfOk result (TakesNext self.old.auditor self.new.auditor) }
+
+        // What is given, in order, is what the journal's lines stand for; at the end it is all of them, and else the
+        // first line that is wrong is told by its number.
+        ensures gives { IfOk result (λ next. (before : Option (List ℕ)) →
+            HasGiven before (R.remaining reader.old) self.old →
+            IsNext before (R.remaining reader.new) self.old self.new next) }
+
+        // A failed read is told where one has failed, and a journal is too long only above 2^44 entries or where a line
+        // has more bytes than 64 bits can count.
+        ensures stops { IfErr result (λ fault. (before : Option (List ℕ)) →
+            HasGiven before (R.remaining reader.old) self.old →
+            StopsJournal before (R.remaining reader.new) fault) }
+        ensures failed { FailsBy TextFault.Input result (R.has_failed reader.old) (R.has_failed reader.new) }
+    {
+        match self.lines.next_whole(reader) {
+            Ok(Whole::Line) => {}
+            Ok(Whole::Long) => return Ok(Next::Bad(self.auditor.taken() + 1)),
+            Ok(Whole::Torn(bytes)) => return Ok(Next::End(bytes)),
+            Err(fault) => return Err(fault),
+        }
+        match take_line(
+            self.alloc,
+            &mut self.scratch,
+            &mut self.auditor,
+            self.lines.line(),
+        ) {
+            Ok(Taken::Entry(entry)) => return Ok(Next::Entry(entry)),
+            Ok(Taken::Illegal) => return Ok(Next::Illegal(self.auditor.taken())),
+            Ok(Taken::NoEntry) => {}
+            Err(fault) => return Err(fault),
+        }
+        Ok(Next::Bad(self.auditor.taken() + 1))
+    }
+}

@@ -1,0 +1,10 @@
+//! The entries of a journal, one after the other, each judged after those before it: in the memory of one line and of an
+//! auditor, however many there are.
+#![tactic(auto)]
+
+mod end;
+mod entries;
+mod line;
+
+pub use end::EntriesEnd;
+pub use entries::{JournalEntries, Next};
