@@ -23,8 +23,8 @@ use Rattle.history_laws.proofs.HistoryAgain.{entry_of-data}
 use Rattle.history_laws.proofs.HistoryReadable.{entry_readable}
 use Rattle.history_laws.proofs.HistoryDepth.{depth-entry}
 use Rattle.journal_writing.specs.Journal.{opening_data, opening_line, entry_line}
-use Rattle.journal_reading.specs.Standing.{opening_in, entry_in_line, ended_lines}
-use Rattle.journal_reading.proofs.Lines.{in_line-short}
+use Rattle.journal_entries.specs.Standing.{opening_in, entry_in_line, ended_lines}
+use Rattle.journal_entries.proofs.Lines.{in_line-short}
 use Rattle.journal_laws.specs.JournalAgain.{IsEntryLine, IsJournalAgain}
 use Rattle.journal_laws.proofs.NoNewline.{compact_within}
 

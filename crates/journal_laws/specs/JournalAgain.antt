@@ -10,7 +10,7 @@ use Rattle.line_stream.specs.Lines.{IsWithinLine}
 use Rattle.history_writing.specs.Fits.{ConfigFits, EntryFits}
 use Rattle.history_reading.specs.Recorded.{entry_in}
 use Rattle.journal_writing.specs.Journal.{opening_line, entry_line, journal_text}
-use Rattle.journal_reading.specs.Standing.{StandFor, ended_lines}
+use Rattle.journal_entries.specs.Standing.{StandFor, ended_lines}
 
 -- The line that is written of an entry is this one and a newline: it is UTF-8, no newline is in it, and it is that
 -- entry
