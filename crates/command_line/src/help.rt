@@ -133,6 +133,28 @@ history is bad, `mapsched check` tells where.
 Example:
   ./mapsched audit < examples/two_maps_history.json"#;
 
+/// The command that tells how a channel did.
+pub const REPORT: &str =
+    r#"Reads from standard input, in JSON, a history as `run --history` prints it, and
+audits it as `audit` does: of an illegal one it prints what `audit` prints.
+
+Prints how the channel did: what its minislots were for, the calls and the
+refusals by their number; for each rank and each life of a flow the requests, how
+many wait, how many were dropped since the flow was removed, and how long those
+took that were served, from where each was heard to the end of the grant with
+which its last byte was granted. Delays are in milliseconds, rates in bits per
+second; a number without room is told in thousands (k), millions (M) and so on,
+and - stands for none. Of more than 30 lives those stand there that asked most;
+with --all there are all, in the order of their admissions. With --json the same
+numbers stand in one line of JSON, with delays in minislots. docs/REPORT.md has
+each number in a line.
+
+Exit statuses: 0, or 1 illegal, 2 for the command line, 3 for the input, 4 for the
+machine.
+
+Example:
+  ./mapsched report < examples/two_maps_history.json"#;
+
 /// The command that tells what is wrong in a file.
 pub const CHECK: &str =
     r#"Reads from standard input a script, the script of a storm or a history: by its

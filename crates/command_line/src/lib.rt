@@ -153,6 +153,22 @@ fn audit_command<'a>(alloc: Global) -> Result<Command<'a>, AllocError>
         .arg(journal)
 }
 
+// The command that tells how a channel did.
+fn report_command<'a>(alloc: Global) -> Result<Command<'a>, AllocError>
+    ensures { IfOk result (λ r. IsCommand r (codes "report") (codes "all" ∷ codes "json" ∷ []) []) }
+{
+    let about = "Reads a history from standard input and prints how its channel did";
+    let all = flag(
+        alloc,
+        "all",
+        "Prints all flows, in place of the 30 that asked most",
+    );
+    let json = flag(alloc, "json", "Prints all numbers in JSON");
+    command(alloc, "report", about, help::REPORT)
+        .arg(all)?
+        .arg(json.conflicts_with("all")?)
+}
+
 // The command that tells what is wrong in a file.
 fn check_command<'a>(alloc: Global) -> Command<'a>
     ensures { IsCommand result (codes "check") [] [] }
@@ -249,7 +265,7 @@ pub fn commands<'a>(alloc: Global) -> Result<Command<'a>, AllocError>
         ∷ (codes "decode", codes "HEX" ∷ codes "draw" ∷ codes "columns" ∷ codes "explain" ∷ codes "frame" ∷ [])
         ∷ (codes "draw", codes "from" ∷ codes "count" ∷ [])
         ∷ (codes "audit", codes "explain" ∷ codes "journal" ∷ [])
-        ∷ (codes "storm", []) ∷ (codes "check", [])
+        ∷ (codes "report", codes "all" ∷ codes "json" ∷ []) ∷ (codes "storm", []) ∷ (codes "check", [])
         ∷ (codes "pcap", codes "mac" ∷ [])
         ∷ (codes "live", codes "explain" ∷ codes "journal" ∷ codes "sync" ∷ []) ∷ [])) }
 {
@@ -258,6 +274,7 @@ pub fn commands<'a>(alloc: Global) -> Result<Command<'a>, AllocError>
         .subcommand(decode_command(alloc)?)?
         .subcommand(draw_command(alloc)?)?
         .subcommand(audit_command(alloc)?)?
+        .subcommand(report_command(alloc)?)?
         .subcommand(storm_command(alloc))?
         .subcommand(check_command(alloc))?
         .subcommand(pcap_command(alloc)?)?

@@ -1,5 +1,5 @@
 //! `mapsched`: the upstream scheduler of one TDMA channel, run on a script, the picture of its frames, the capture of
-//! its MAPs, the table of a MAP, and the audit of a history.
+//! its MAPs, the table of a MAP, the audit of a history, and the report on one.
 #![tactic(auto)]
 
 use audit_command::{JournalEnd, audit_input, audit_journal_input};
@@ -11,6 +11,7 @@ use draw_command::draw_input;
 use journal_file::live_journal_input;
 use live_command::live_input;
 use pcap_command::{ADDRESS, address_of, frames_input, pcap_input};
+use report_command::{Form, report_input};
 use run_command::{RunOutput, Words, run_input};
 use sched_check::check_input;
 use std::alloc::Global;
@@ -131,6 +132,17 @@ fn draw(
     draw_input(rt, from, count)
 }
 
+// The command `report`: the form in which its numbers are asked for.
+fn form_of(report: &ArgMatches) -> Form {
+    if report.get_flag("json") {
+        return Form::Json;
+    }
+    if report.get_flag("all") {
+        return Form::All;
+    }
+    Form::Few
+}
+
 // The command `check`: ends as the command for such a file would, by what is found.
 fn check(rt: &(impl Input + Print + Eprint + AllocGlobal)) -> ExitCode {
     match check_input(rt) {
@@ -186,6 +198,7 @@ fn main(rt: HostRuntime) -> ExitCode {
         Some(("audit", audit)) if audit.get_flag("journal") => return audit_journal(&rt),
         Some(("audit", audit)) => audit_input(&rt, audit.get_flag("explain")),
         Some(("check", _)) => return check(&rt),
+        Some(("report", words)) => report_input(&rt, form_of(words)),
         Some(("storm", _)) => storm_input(&rt),
         Some(("pcap", words)) => return pcap(&rt, words),
         Some(("live", words)) => return live(&rt, words),

@@ -1,0 +1,11 @@
+-- The entries gone through are taken, and are legal.
+use Rattle.std.proofs.Common.{◌≡◌, take}
+use Rattle.sched_history.specs.History.{IsLegal}
+use Rattle.sched_history.specs.Machine.{Past}
+use Rattle.report_command.proofs.fed.feed.Given as goal
+
+abbrev pub invariant-loop-index : goal.invariant-loop-index
+invariant-loop-index l = record {
+  taken : ◌≡◌ {A = Past} l.reporter (record { config = l.config; history = take l.index l.entries });
+  legal : IsLegal l.config (take l.index l.entries);
+}

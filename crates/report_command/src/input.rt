@@ -1,0 +1,28 @@
+//! The command over what the program has: standard input and standard output, which is written with no buffer, so that
+//! nothing is left to flush.
+
+use crate::history::{run_report_json, run_report_text};
+use std::io;
+use text_stream::{RunFault, Watched};
+
+/// How a report is written.
+#[derive(Clone, Copy, Debug, PartialEq, Eq)]
+pub enum Form {
+    /// In JSON.
+    Json,
+    /// In tables, with all lives of flows.
+    All,
+    /// In tables, with the 30 lives that asked most.
+    Few,
+}
+
+/// The command `report`: whether the history is legal.
+pub fn report_input(rt: &(impl Input + Print + AllocGlobal), form: Form) -> Result<bool, RunFault> {
+    let mut reader = Watched::new(rt.reader());
+    let mut writer = Watched::new(io::writer(rt));
+    match form {
+        Form::Json => run_report_json(rt.alloc(), &mut reader, &mut writer),
+        Form::All => run_report_text(rt.alloc(), &mut reader, &mut writer, true),
+        Form::Few => run_report_text(rt.alloc(), &mut reader, &mut writer, false),
+    }
+}
