@@ -27,6 +27,10 @@ extern "C" {
 #define MAPSCHED_MAX_ELEMENTS 240
 #define MAPSCHED_MAX_BYTES (MAPSCHED_FIXED_BYTES + MAPSCHED_MAX_ELEMENTS * MAPSCHED_ELEMENT_BYTES)
 
+/* The MAC management message of a MAP: the bytes that it has beside the payload, and the most that it has. */
+#define MAPSCHED_FRAME_OVERHEAD 30
+#define MAPSCHED_MAX_FRAME_BYTES (MAPSCHED_FRAME_OVERHEAD + MAPSCHED_MAX_BYTES)
+
 /* A placement: the most grants in an interval, frames of a cycle, and starts, one for each grant in each frame. */
 #define MAPSCHED_MAX_GRANTS 8
 #define MAPSCHED_MAX_CYCLE 64
@@ -43,10 +47,11 @@ extern "C" {
 #define MAPSCHED_MAX_SEATS 64
 #define MAPSCHED_MAX_TEXT_BYTES 16777216
 
-/* How many fields of a configuration can be wrong, and faults a payload and the numbers of a MAP can have. */
+/* How many fields of a configuration can be wrong, and faults a payload, the numbers of a MAP and a request have. */
 #define MAPSCHED_CONFIG_FIELDS 19
 #define MAPSCHED_PAYLOAD_FAULTS 7
 #define MAPSCHED_MAP_FAULTS 5
+#define MAPSCHED_REQUEST_FAULTS 4
 
 enum mapsched_status {
   MAPSCHED_OK = 0,
@@ -58,7 +63,7 @@ enum mapsched_status {
   MAPSCHED_NO_ENTRY = 6,      /* the history has no entry of this number */
   MAPSCHED_NO_ROOM = 7,       /* the room is shorter than the text, whose length is told */
   MAPSCHED_ILLEGAL = 8,       /* an entry may not follow those before it: its place is told */
-  MAPSCHED_TOO_LONG = 9,      /* a text is longer than MAPSCHED_MAX_TEXT_BYTES */
+  MAPSCHED_TOO_LONG = 9,      /* a text is longer than MAPSCHED_MAX_TEXT_BYTES, or a payload than MAPSCHED_MAX_BYTES */
   MAPSCHED_NOT_JSON = 10,     /* a text is not JSON in UTF-8 */
   MAPSCHED_NO_HISTORY = 11,   /* a text is no history: the place of the entry is told, from 1, or 0 */
   MAPSCHED_NO_TICKET = 12,    /* the worker has no ticket */
@@ -72,7 +77,8 @@ enum mapsched_status {
   MAPSCHED_KEEPS_ALL = 20,    /* the scheduler of the workplace keeps its whole history: nothing was let go */
   MAPSCHED_BAD_CONFIG = 100,  /* and the number of the first wrong field: 101 to 119, in the order of README's table */
   MAPSCHED_BAD_PAYLOAD = 200, /* and the number of the first fault: 201 to 207, in the order of README's list */
-  MAPSCHED_BAD_MAP = 300      /* and the number of the first fault of numbers that are no MAP: 301 to 305 */
+  MAPSCHED_BAD_MAP = 300,     /* and the number of the first fault of numbers that are no MAP: 301 to 305 */
+  MAPSCHED_BAD_REQUEST = 400  /* and the number of the first fault of bytes that are no request frame: 401 to 404 */
 };
 
 /* The configuration of a channel. README's table has the values that are lawful. */
@@ -219,6 +225,24 @@ uint32_t mapsched_decode(const uint8_t *payload, size_t length, struct mapsched_
 uint32_t mapsched_encode(const struct mapsched_map *map, uint8_t *room, size_t room_length, size_t *length,
                          size_t *element);
 
+/*
+ * Writes the frame of a MAP's payload, the MAC management message of DOCSIS 3.0 with its two checksums, from the
+ * address of the sender, six bytes, and tells its length, MAPSCHED_FRAME_OVERHEAD more than the payload's. The payload
+ * is not read; one longer than MAPSCHED_MAX_BYTES is MAPSCHED_TOO_LONG.
+ */
+uint32_t mapsched_map_frame(const uint8_t *payload, size_t payload_length, const uint8_t address[6], uint8_t *room,
+                            size_t room_length, size_t *length);
+
+/* A request frame asks for minislots, a queue-depth request frame tells units of the queue of its flow. */
+enum mapsched_request_kind { MAPSCHED_ASKS_MINISLOTS = 0, MAPSCHED_TELLS_QUEUE = 1 };
+
+/*
+ * Reads a request frame or a queue-depth request frame, and tells which it is, its number and its SID. Bytes that are
+ * neither are MAPSCHED_BAD_REQUEST and 1 where the length is neither 6 nor 7, 2 where the first byte is not C4 in 6
+ * bytes nor C8 in 7, 3 where the SID has more than 14 bits, 4 where the HCS is wrong.
+ */
+uint32_t mapsched_request(const uint8_t *bytes, size_t length, uint32_t *kind, uint16_t *number, uint16_t *sid);
+
 /* Frees the scheduler. */
 uint32_t mapsched_close(struct mapsched_scheduler *scheduler);
 
@@ -307,6 +331,7 @@ static inline const char *mapsched_status_text(uint32_t status) {
                                        "a descent", "no null",           "a second null"};
   static const char *const map_faults[] = {"too many elements", "out of range", "a descent", "no null",
                                            "a second null"};
+  static const char *const request_faults[] = {"length", "kind", "sid", "hcs"};
   if (status <= MAPSCHED_KEEPS_ALL) return texts[status];
   if (status > MAPSCHED_BAD_CONFIG && status <= MAPSCHED_BAD_CONFIG + MAPSCHED_CONFIG_FIELDS)
     return fields[status - MAPSCHED_BAD_CONFIG - 1];
@@ -314,6 +339,8 @@ static inline const char *mapsched_status_text(uint32_t status) {
     return faults[status - MAPSCHED_BAD_PAYLOAD - 1];
   if (status > MAPSCHED_BAD_MAP && status <= MAPSCHED_BAD_MAP + MAPSCHED_MAP_FAULTS)
     return map_faults[status - MAPSCHED_BAD_MAP - 1];
+  if (status > MAPSCHED_BAD_REQUEST && status <= MAPSCHED_BAD_REQUEST + MAPSCHED_REQUEST_FAULTS)
+    return request_faults[status - MAPSCHED_BAD_REQUEST - 1];
   return "unknown status";
 }
 

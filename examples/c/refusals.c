@@ -136,6 +136,47 @@ static void forgetting(void) {
   WANT(mapsched_close(&scheduler) == MAPSCHED_OK && mapsched_close(&whole) == MAPSCHED_OK);
 }
 
+/* Whether bytes of this length are a request of this kind, number and SID. */
+static int is_request(const uint8_t *bytes, size_t length, uint32_t kind, uint16_t number, uint16_t sid) {
+  uint32_t found = 9;
+  uint16_t many = 0, of = 0;
+  uint32_t status = mapsched_request(bytes, length, &found, &many, &of);
+  return status == MAPSCHED_OK && found == kind && many == number && of == sid;
+}
+
+/* The frame of README's first MAP, and two requests, as another program reads them; then each fault. */
+static void frames(void) {
+  static const uint8_t wanted[] = {
+      0xc2, 0x00, 0x00, 0x34, 0xd6, 0x89, 0x01, 0xe0, 0x2f, 0x00, 0x00, 0x01, 0x02, 0x00, 0x00, 0x00,
+      0x00, 0x01, 0x00, 0x22, 0x00, 0x00, 0x03, 0x01, 0x03, 0x00, 0x03, 0x01, 0x03, 0x00, 0x00, 0x00,
+      0x03, 0x20, 0x00, 0x00, 0x03, 0x20, 0x00, 0x00, 0x00, 0x00, 0xff, 0xfc, 0x40, 0x00, 0x00, 0x01,
+      0x80, 0x04, 0x00, 0x01, 0xc0, 0x28, 0xc2, 0x86, 0xf0, 0xa5};
+  static const uint8_t address[6] = {0x02, 0, 0, 0, 0, 0x01}, longest[MAPSCHED_MAX_BYTES + 1] = {0};
+  uint8_t minislots[6] = {0xc4, 0x09, 0x00, 0x11, 0xfd, 0x28}, frame[MAPSCHED_MAX_FRAME_BYTES] = {0};
+  static const uint8_t queue[7] = {0xc8, 0x00, 0x64, 0x00, 0x11, 0x04, 0xb9};
+  size_t length = 0, payload = sizeof wanted - MAPSCHED_FRAME_OVERHEAD;
+  uint32_t kind = 9;
+  uint16_t number = 7, sid = 7;
+
+  WANT(mapsched_map_frame(wanted + 26, payload, address, frame, sizeof wanted - 1, &length) == MAPSCHED_NO_ROOM);
+  WANT(length == sizeof wanted && frame[0] == 0);
+  WANT(mapsched_map_frame(wanted + 26, payload, address, frame, sizeof frame, &length) == MAPSCHED_OK);
+  WANT(length == sizeof wanted && memcmp(frame, wanted, length) == 0 && frame[length] == 0);
+  WANT(mapsched_map_frame(longest, sizeof longest, address, frame, sizeof frame, &length) == MAPSCHED_TOO_LONG);
+  WANT(length == sizeof wanted && memcmp(frame, wanted, length) == 0);
+  WANT(mapsched_map_frame(longest, MAPSCHED_MAX_BYTES, address, frame, sizeof frame, &length) == MAPSCHED_OK);
+  WANT(length == MAPSCHED_MAX_FRAME_BYTES);
+
+  WANT(is_request(minislots, 6, MAPSCHED_ASKS_MINISLOTS, 9, 17) && is_request(queue, 7, MAPSCHED_TELLS_QUEUE, 100, 17));
+  WANT(mapsched_request(minislots, 5, &kind, &number, &sid) == MAPSCHED_BAD_REQUEST + 1);
+  WANT(mapsched_request(queue, 6, &kind, &number, &sid) == MAPSCHED_BAD_REQUEST + 2);
+  minislots[1]++;
+  WANT(mapsched_request(minislots, 6, &kind, &number, &sid) == MAPSCHED_BAD_REQUEST + 4);
+  minislots[2] = 0x40;
+  WANT(mapsched_request(minislots, 6, &kind, &number, &sid) == MAPSCHED_BAD_REQUEST + 3);
+  WANT(kind == 9 && number == 7 && sid == 7 && strcmp(mapsched_status_text(403), "sid") == 0);
+}
+
 /* How many lines a text has. */
 static size_t lines_in(const uint8_t *text, size_t length) {
   size_t lines = 0;
@@ -371,5 +412,6 @@ int main(void) {
   forgetting();
   journals();
   turns();
+  frames();
   return failures != 0;
 }

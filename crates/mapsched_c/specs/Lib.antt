@@ -8,6 +8,7 @@ pub mod Text
 pub mod Journal
 pub mod Map
 pub mod Encode
+pub mod Frame
 pub mod Post
 pub mod Worker
 pub mod Turn

@@ -6,6 +6,7 @@ mod config;
 mod encode;
 mod entry;
 mod exports;
+mod frames;
 mod handle;
 mod journal;
 mod maps;

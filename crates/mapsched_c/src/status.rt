@@ -18,7 +18,7 @@ pub const NO_ENTRY: u32 = 6;
 pub const NO_ROOM: u32 = 7;
 /// An entry of a history may not follow those before it.
 pub const ILLEGAL: u32 = 8;
-/// A text is longer than 16777216 bytes.
+/// A text is longer than 16777216 bytes, or a payload than 976.
 pub const TOO_LONG: u32 = 9;
 /// A text is not JSON in UTF-8.
 pub const NOT_JSON: u32 = 10;
@@ -46,5 +46,7 @@ pub const KEEPS_ALL: u32 = 20;
 pub const BAD_PAYLOAD: u32 = 200;
 /// To this the number of the first fault of a MAP that has no bytes is added, from 1.
 pub const BAD_MAP: u32 = 300;
+/// To this the number of the first fault of bytes that are no request frame is added, from 1.
+pub const BAD_REQUEST: u32 = 400;
 /// To this the number of the first wrong field of a configuration is added, from 1.
 pub const BAD_CONFIG: u32 = 100;
