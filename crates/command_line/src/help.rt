@@ -53,7 +53,14 @@ Standard error tells how many calls were not recorded.
 
 --mac 02:00:00:00:00:01 is the sender's address, six bytes in hexadecimal.
 
-Exit statuses: 0, or 2 for the command line, 3 for the input, 4 for the machine.
+With --journal it reads a journal as `run --journal` prints it, of any length, line
+by line, and judges each entry as `audit` does. The capture ends at the first line
+that is wrong, behind what stands before it, and standard error tells of it:
+`illegal` and the entry, or `bad journal at` and the line, counted from 0; so it
+tells of bytes behind the last newline, which count for nothing: `torn` and how many.
+
+Exit statuses: 0, 1 an illegal journal, 2 for the command line, 3 for the input, 4
+for the machine.
 
 Example:
   ./mapsched pcap < examples/two_maps.json"#;
@@ -189,7 +196,12 @@ grants (0 where it grants none).
 
 --from 100 --count 40 draws the frames 100 to 139 alone, with their own numbers.
 
-Exit statuses: 0, or 2 for the command line, 3 for the input, 4 for the machine.
+With --journal it reads a journal as `run --journal` prints it, of up to 16777216
+entries, and draws those before the first line that is wrong, of which standard error
+tells as with `pcap --journal`.
+
+Exit statuses: 0, 1 an illegal journal, 2 for the command line, 3 for the input, 4
+for the machine.
 Nothing is printed where memory runs out.
 
 Example:

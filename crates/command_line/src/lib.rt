@@ -79,12 +79,22 @@ fn address_option<'a>(alloc: Global) -> Arg<'a>
     address.help("The sender's address, or else 02:00:00:00:00:01")
 }
 
+// That a journal is read.
+fn journal_option<'a>(alloc: Global) -> Arg<'a>
+    ensures named { result.id.now ≡ codes "journal" }
+    ensures local { result.global ≡ false }
+{
+    flag(alloc, "journal", "Reads a journal, of any length")
+}
+
 // The command that writes a capture.
 fn pcap_command<'a>(alloc: Global) -> Result<Command<'a>, AllocError>
-    ensures { IfOk result (λ r. IsCommand r (codes "pcap") (codes "mac" ∷ []) []) }
+    ensures { IfOk result (λ r. IsCommand r (codes "pcap") (codes "mac" ∷ codes "journal" ∷ []) []) }
 {
     let about = "Reads a script from standard input and writes its MAPs as a capture for Wireshark";
-    command(alloc, "pcap", about, help::PCAP).arg(address_option(alloc))
+    command(alloc, "pcap", about, help::PCAP)
+        .arg(address_option(alloc))?
+        .arg(journal_option(alloc))
 }
 
 // The payload of the command `decode`.
@@ -141,8 +151,7 @@ fn audit_command<'a>(alloc: Global) -> Result<Command<'a>, AllocError>
         (λ r. IsCommand r (codes "audit") (codes "explain" ∷ codes "journal" ∷ []) []) }
 {
     let about = "Reads a history from standard input and prints whether it is legal";
-    let journal = flag(alloc, "journal", "Reads a journal, of any length");
-    let journal = journal.conflicts_with("explain")?;
+    let journal = journal_option(alloc).conflicts_with("explain")?;
     let explain = flag(
         alloc,
         "explain",
@@ -206,14 +215,16 @@ fn frames_option<'a>(
 
 // The command that draws the frames of a run.
 fn draw_command<'a>(alloc: Global) -> Result<Command<'a>, AllocError>
-    ensures { IfOk result (λ r. IsCommand r (codes "draw") (codes "from" ∷ codes "count" ∷ []) []) }
+    ensures { IfOk result (λ r. IsCommand r (codes "draw")
+        (codes "from" ∷ codes "count" ∷ codes "journal" ∷ []) []) }
 {
     let about = "Reads a script or a history from standard input and draws its frames in SVG";
     let from = "The first frame that is drawn, counted from 0";
     let count = "How many frames are drawn, or all";
     command(alloc, "draw", about, help::DRAW)
         .arg(frames_option(alloc, "from", 0, from)?)?
-        .arg(frames_option(alloc, "count", 1, count)?)
+        .arg(frames_option(alloc, "count", 1, count)?)?
+        .arg(flag(alloc, "journal", "Reads a journal"))
 }
 
 // The program, before its commands.
@@ -263,10 +274,10 @@ pub fn commands<'a>(alloc: Global) -> Result<Command<'a>, AllocError>
     ensures { IfOk result (λ r. IsCommand r (codes "mapsched") []
         ((codes "run", codes "history" ∷ codes "journal" ∷ codes "explain" ∷ codes "frames" ∷ [])
         ∷ (codes "decode", codes "HEX" ∷ codes "draw" ∷ codes "columns" ∷ codes "explain" ∷ codes "frame" ∷ [])
-        ∷ (codes "draw", codes "from" ∷ codes "count" ∷ [])
+        ∷ (codes "draw", codes "from" ∷ codes "count" ∷ codes "journal" ∷ [])
         ∷ (codes "audit", codes "explain" ∷ codes "journal" ∷ [])
         ∷ (codes "report", codes "all" ∷ codes "json" ∷ []) ∷ (codes "storm", []) ∷ (codes "check", [])
-        ∷ (codes "pcap", codes "mac" ∷ [])
+        ∷ (codes "pcap", codes "mac" ∷ codes "journal" ∷ [])
         ∷ (codes "live", codes "explain" ∷ codes "journal" ∷ codes "sync" ∷ []) ∷ [])) }
 {
     program(alloc)

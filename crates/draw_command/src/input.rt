@@ -2,8 +2,10 @@
 //! nothing is left to flush.
 
 use crate::draw::draw_counting;
+use crate::journal::draw_journal;
 use crate::recorded::draw_history;
 use frame_picture::Span;
+use journal_entries::EntriesEnd;
 use sched_lines::tell_unrecorded;
 use std::io;
 use text_stream::{RunFault, TextFault, Watched, read_all};
@@ -26,4 +28,18 @@ pub fn draw_input(
         Err(fault) => return Err(fault),
     }
     Ok(true)
+}
+
+/// The command `draw` on a journal: how it ends, which is told on standard error where it is torn, illegal or bad.
+pub fn draw_journal_input(
+    rt: &(impl Input + Print + Eprint + AllocGlobal),
+    from: u64,
+    count: u64,
+) -> Result<EntriesEnd, RunFault> {
+    let span = Span { from, count };
+    let mut reader = Watched::new(rt.reader());
+    let mut writer = Watched::new(io::writer(rt));
+    let end = draw_journal(rt.alloc(), &mut reader, span, &mut writer)?;
+    end.tell(rt);
+    Ok(end)
 }

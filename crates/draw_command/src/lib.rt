@@ -1,10 +1,13 @@
-//! The picture of a run or of a history: the calls of a script are made, and the frames of the MAPs are drawn.
+//! The picture of a run, of a history or of a journal: the calls of a script are made, and the frames of the MAPs are
+//! drawn.
 #![tactic(auto)]
 
 mod draw;
 mod input;
+mod journal;
 mod recorded;
 
 pub use draw::{draw_counting, draw_script};
-pub use input::draw_input;
+pub use input::{draw_input, draw_journal_input};
+pub use journal::{MAX_DRAWN, draw_journal};
 pub use recorded::draw_history;

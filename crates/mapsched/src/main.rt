@@ -7,10 +7,11 @@ use clap::error::ErrorKind;
 use clap::{ArgMatches, Error};
 use command_line::commands;
 use decode_command::{show_frame, show_text};
-use draw_command::draw_input;
+use draw_command::{draw_input, draw_journal_input};
+use journal_entries::EntriesEnd;
 use journal_file::live_journal_input;
 use live_command::live_input;
-use pcap_command::{ADDRESS, address_of, frames_input, pcap_input};
+use pcap_command::{ADDRESS, address_of, frames_input, pcap_input, pcap_journal_input};
 use report_command::{Form, report_input};
 use run_command::{RunOutput, Words, run_input};
 use sched_check::check_input;
@@ -100,12 +101,23 @@ fn address_in(alloc: Global, pcap: &ArgMatches) -> Result<[u8; 6], Error> {
     }
 }
 
+// The exit code of a command over a journal.
+fn code_of(rt: &impl Eprint, outcome: Result<EntriesEnd, RunFault>) -> ExitCode {
+    match outcome {
+        Ok(end) => ExitCode::from(end.status()),
+        Err(fault) => fail(rt, fault),
+    }
+}
+
 // The command `pcap`.
 fn pcap(rt: &(impl Input + Print + Eprint + AllocGlobal), pcap: &ArgMatches) -> ExitCode {
     let address = match address_in(rt.alloc(), pcap) {
         Ok(address) => address,
         Err(error) => return explain(rt, error),
     };
+    if pcap.get_flag("journal") {
+        return code_of(rt, pcap_journal_input(rt, &address));
+    }
     match pcap_input(rt, &address) {
         Ok(_) => ExitCode::SUCCESS,
         Err(fault) => fail(rt, fault),
@@ -123,13 +135,16 @@ fn audit_journal(rt: &(impl Input + Print + Eprint + AllocGlobal)) -> ExitCode {
 }
 
 // The command `draw`: all frames, or those that are asked for.
-fn draw(
-    rt: &(impl Input + Print + Eprint + AllocGlobal),
-    frames: &ArgMatches,
-) -> Result<bool, RunFault> {
-    let from = frames.get_one("from").unwrap_or(0);
-    let count = frames.get_one("count").unwrap_or(u64::MAX);
-    draw_input(rt, from, count)
+fn draw(rt: &(impl Input + Print + Eprint + AllocGlobal), draw: &ArgMatches) -> ExitCode {
+    let from = draw.get_one("from").unwrap_or(0);
+    let count = draw.get_one("count").unwrap_or(u64::MAX);
+    if draw.get_flag("journal") {
+        return code_of(rt, draw_journal_input(rt, from, count));
+    }
+    match draw_input(rt, from, count) {
+        Ok(_) => ExitCode::SUCCESS,
+        Err(fault) => fail(rt, fault),
+    }
 }
 
 // The command `report`: the form in which its numbers are asked for.
@@ -194,7 +209,7 @@ fn main(rt: HostRuntime) -> ExitCode {
     };
     let outcome = match matches.subcommand() {
         Some(("decode", decode)) => show(&rt, decode),
-        Some(("draw", frames)) => draw(&rt, frames),
+        Some(("draw", words)) => return draw(&rt, words),
         Some(("audit", audit)) if audit.get_flag("journal") => return audit_journal(&rt),
         Some(("audit", audit)) => audit_input(&rt, audit.get_flag("explain")),
         Some(("check", _)) => return check(&rt),

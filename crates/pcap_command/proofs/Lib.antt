@@ -1,2 +1,3 @@
 pub mod OnWire
 pub mod Times
+pub mod Entries

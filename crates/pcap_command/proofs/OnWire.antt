@@ -63,7 +63,7 @@ packet_is c address None = refl
 packet_is c address (Some m) = sym (append-nil (packet_of c address m))
 
 -- the packets of all MAPs, answer by answer
-packets_are : (c : Config) (address : List ℕ) (answers : List Answer)
+pub packets_are : (c : Config) (address : List ℕ) (answers : List Answer)
     → flat_map (item_of Capture c address) answers ≡ flat_map (packet_of c address) (maps_of answers)
 unfolding maps_of
 packets_are c address [] = refl
@@ -78,7 +78,7 @@ text_is Lines c address answers = refl
 text_is Capture c address answers = ap (λ l. capture_head ++ l) (packets_are c address answers)
 
 -- behind nothing that waits
-from_none : (a b : Option (List ℕ)) (text : List ℕ) → Appends (append_known a []) b text → Appends a b text
+pub from_none : (a b : Option (List ℕ)) (text : List ℕ) → Appends (append_known a []) b text → Appends a b text
 from_none None b text h = tt
 from_none (Some xs) None text h = absurd h
 from_none (Some xs) (Some ys) text h = h ∙ ap (λ l. l ++ text) (append-nil xs)

@@ -1,4 +1,5 @@
 pub mod Address
 pub mod Capture
 pub mod Items
+pub mod Journal
 pub mod Ran

@@ -1,8 +1,10 @@
 //! The commands over what the program has: standard input and standard output, which is written with no buffer, so that
 //! nothing is left to flush.
 
+use crate::journal::capture_journal;
 use crate::output::WireOutput;
 use crate::run::run_on_wire;
+use journal_entries::EntriesEnd;
 use sched_lines::tell_unrecorded;
 use std::io;
 use text_stream::{RunFault, Watched};
@@ -40,4 +42,16 @@ pub fn pcap_input(
     let unrecorded = run_from(rt, address, WireOutput::Capture)?;
     tell_unrecorded(rt, unrecorded);
     Ok(true)
+}
+
+/// The command `pcap` on a journal: how it ends, which is told on standard error where it is torn, illegal or bad.
+pub fn pcap_journal_input(
+    rt: &(impl Input + Print + Eprint + AllocGlobal),
+    address: &[u8; 6],
+) -> Result<EntriesEnd, RunFault> {
+    let mut reader = Watched::new(rt.reader());
+    let mut writer = Watched::new(io::writer(rt));
+    let end = capture_journal(rt.alloc(), &mut reader, &mut writer, address)?;
+    end.tell(rt);
+    Ok(end)
 }

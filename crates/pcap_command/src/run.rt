@@ -35,7 +35,7 @@ fn put_head<W: Sink>(
 }
 
 // Puts the packet of an answer that is a MAP behind what waits, and nothing for another.
-fn put_packet_of<W: Sink>(
+pub(crate) fn put_packet_of<W: Sink>(
     buffer: &mut WireBuffer,
     writer: &mut W,
     config: &Checked,

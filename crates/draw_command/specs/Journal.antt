@@ -1,0 +1,65 @@
+-- What the drawing of a journal reads and writes.
+use Rattle.std.specs.Prelude.{◌≡◌, ◌⊎◌, ℕ, ◌<◌, List, [], length, Option}
+use Rattle.std.specs.Io.KnownBytes.{Appends}
+use Rattle.minislots.specs.declared.config.Config.{Config as Configuration}
+use Rattle.sched_history.specs.declared.reply.Entry.{Entry}
+use Rattle.text_stream.specs.declared.fault.TextFault.{TextFault}
+use Rattle.text_stream.specs.declared.fault.TextFault.TheVariants.{Input, TooLong, NotJson, Shape, Config, Memory}
+use Rattle.text_stream.specs.declared.fault.TextFault.TheVariants.{Output}
+use Rattle.text_stream.specs.declared.run_fault.RunFault.{RunFault}
+use Rattle.text_stream.specs.declared.run_fault.RunFault.TheVariants.{Text, Threads}
+use Rattle.journal_entries.specs.declared.end.EntriesEnd.{EntriesEnd}
+use Rattle.journal_entries.specs.declared.end.EntriesEnd.TheVariants.{Bad}
+use Rattle.journal_entries.specs.Journal.{HasNoOpening, StopsJournal}
+use Rattle.journal_entries.specs.declared.entries.JournalEntries.{JournalEntries}
+use Rattle.journal_entries.specs.Next.{HasGiven}
+use Rattle.journal_entries.specs.End.{EndsBehind}
+use Rattle.frame_picture.specs.declared.span.Span.{Span}
+use Rattle.frame_picture.specs.Picture.{picture_text}
+use Rattle.draw_command.specs.declared.journal.TheConstants.{MAX_DRAWN}
+
+-- These entries stand before the end of a journal, and the picture of their frames in the span was written
+pub record DrawnEntries (span : Span) (unread left before after : Option (List ℕ)) (end : EntriesEnd) : Type 0 where
+  pub config : Configuration
+  pub entries : List Entry
+  pub ends : EndsBehind unread left config entries end
+  pub written : Appends before after (picture_text config span entries)
+
+-- The journal has no lawful configuration, and nothing was written
+pub record DrawnNothing (unread left before after : Option (List ℕ)) (end : EntriesEnd) : Type 0 where
+  pub none : HasNoOpening unread left
+  pub bad : end ≡ Bad 0
+  pub written : Appends before after []
+
+-- what was drawn of a journal
+abbrev pub DrawnJournal : Span → Option (List ℕ) → Option (List ℕ) → Option (List ℕ) → Option (List ℕ) → EntriesEnd
+    → Type 0
+DrawnJournal span unread left before after end =
+    DrawnEntries span unread left before after end ⊎ DrawnNothing unread left before after end
+
+-- The first lines of a journal stand for more entries than are drawn
+pub record HasTooManyDrawn (unread left : Option (List ℕ)) : Type 0 where
+  pub given : JournalEntries
+  pub stand : HasGiven unread left given
+  pub many : MAX_DRAWN < length given.auditor.history
+
+-- why the entries of a journal are not all taken
+abbrev pub StopsEntries : Option (List ℕ) → Option (List ℕ) → TextFault → Type 0
+StopsEntries unread left Input = StopsJournal unread left Input
+StopsEntries unread left TooLong = HasTooManyDrawn unread left ⊎ StopsJournal unread left TooLong
+StopsEntries unread left NotJson = ⊥
+StopsEntries unread left (Shape n) = ⊥
+StopsEntries unread left (Config field) = ⊥
+StopsEntries unread left Memory = Unit {0}
+StopsEntries unread left Output = ⊥
+
+-- why the drawing of a journal ends; want of memory and a failed write tell nothing more
+abbrev pub StopsJournalDrawing : Option (List ℕ) → Option (List ℕ) → RunFault → Type 0
+StopsJournalDrawing unread left (Text Input) = StopsEntries unread left Input
+StopsJournalDrawing unread left (Text TooLong) = StopsEntries unread left TooLong
+StopsJournalDrawing unread left (Text NotJson) = ⊥
+StopsJournalDrawing unread left (Text (Shape n)) = ⊥
+StopsJournalDrawing unread left (Text (Config field)) = ⊥
+StopsJournalDrawing unread left (Text Memory) = Unit {0}
+StopsJournalDrawing unread left (Text Output) = Unit {0}
+StopsJournalDrawing unread left Threads = ⊥
