@@ -8,10 +8,11 @@ ghost use Rattle.text_stream.specs.RunFault.{TellsFailedRead, TellsFailedWrite, 
 ghost use Rattle.journal_entries.specs.Next.{HasGiven};
 ghost use Rattle.journal_entries.specs.End.{EndsBehind};
 ghost use Rattle.draw_command.specs.declared.journal.TheConstants.{MAX_DRAWN};
-ghost use Rattle.draw_command.specs.Journal.{DrawnJournal, StopsEntries, StopsJournalDrawing};
+ghost use Rattle.draw_command.specs.Journal.{DrawnEntries, DrawnJournal, StopsEntries, StopsJournalDrawing};
 
 use frame_picture::{Span, put_picture};
 use journal_entries::{EntriesEnd, JournalEntries, Next};
+use minislots::Checked;
 use sched_history::Entry;
 use std::alloc::Global;
 use text_stream::{RunFault, Sink, Source, TextFault};
@@ -53,6 +54,37 @@ fn take_entries<R: Source>(
     Err(TextFault::TooLong)
 }
 
+// Draws the entries that come, once all are there.
+fn draw_entries<R: Source, W: Sink>(
+    alloc: Global,
+    mut entries: JournalEntries,
+    config: &Checked,
+    reader: &mut R,
+    span: Span,
+    writer: &mut W,
+) -> Result<EntriesEnd, RunFault>
+    requires none { entries.auditor.history ≡ [] }
+    requires same { entries.auditor.config ≡ config.now }
+
+    ensures draws { IfOk result (λ end. (before : Option (List ℕ)) →
+        HasGiven before (R.remaining reader.old) entries →
+        DrawnEntries span before (R.remaining reader.new) (W.contents writer.old) (W.contents writer.new) end) }
+    ensures stops { IfErr result (λ fault. (before : Option (List ℕ)) →
+        HasGiven before (R.remaining reader.old) entries →
+        StopsJournalDrawing before (R.remaining reader.new) fault) }
+    ensures quiet { WritesLast result writer.old writer.new }
+    ensures failed_read { TellsFailedRead result (R.has_failed reader.old) (R.has_failed reader.new) }
+    ensures failed_write { (before : Option (List ℕ)) → HasGiven before (R.remaining reader.old) entries →
+        TellsFailedWrite result (W.has_failed writer.old) (W.has_failed writer.new) }
+{
+    let (taken, end) = match take_entries(alloc, &mut entries, reader) {
+        Ok(all) => all,
+        Err(fault) => return Err(RunFault::Text(fault)),
+    };
+    put_picture(writer, config, span, &taken)?;
+    Ok(end)
+}
+
 /// Reads a journal and writes the picture of its frames in this span in SVG. An entry that may not follow those before
 /// it ends the journal, and so does a line that stands for nothing: what stands before is drawn. Where the first line is
 /// no lawful configuration nothing is. A picture has at most 16777216 entries, which are kept until it is written; and
@@ -76,14 +108,9 @@ pub fn draw_journal<R: Source, W: Sink>(
     ensures failed_read { TellsFailedRead result (R.has_failed reader.old) (R.has_failed reader.new) }
     ensures failed_write { TellsFailedWrite result (W.has_failed writer.old) (W.has_failed writer.new) }
 {
-    let Some((config, mut entries)) = JournalEntries::open(alloc, reader)? else {
-        return Ok(EntriesEnd::Bad(0));
-    };
-    match take_entries(alloc, &mut entries, reader) {
-        Ok((taken, end)) => {
-            put_picture(writer, &config, span, &taken)?;
-            Ok(end)
-        }
+    match JournalEntries::open(alloc, reader) {
+        Ok(Some((config, entries))) => draw_entries(alloc, entries, &config, reader, span, writer),
+        Ok(None) => Ok(EntriesEnd::Bad(0)),
         Err(fault) => Err(RunFault::Text(fault)),
     }
 }

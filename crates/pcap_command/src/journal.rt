@@ -8,7 +8,7 @@ ghost use Rattle.sched_history.specs.Machine.{IsEncodable};
 ghost use Rattle.text_stream.specs.RunFault.{TellsFailedRead, TellsFailedWrite};
 ghost use Rattle.journal_entries.specs.Next.{HasGiven};
 ghost use Rattle.journal_entries.specs.End.{StopsCommand};
-ghost use Rattle.pcap_command.specs.Journal.{Captured, PutsEntries, StopsEntries, entry_item};
+ghost use Rattle.pcap_command.specs.Journal.{Captured, CapturedEntries, PutsEntries, StopsEntries, entry_item};
 
 use crate::buffer::WireBuffer;
 use crate::packet::capture_head;
@@ -56,7 +56,8 @@ fn put_entries<R: Source, W: Sink>(
         HasGiven before (R.remaining reader.old) entries.old →
         StopsEntries before (R.remaining reader.new) fault) }
     ensures failed_read { FailsBy TextFault.Input result (R.has_failed reader.old) (R.has_failed reader.new) }
-    ensures failed_write { FailsBy TextFault.Output result (W.has_failed writer.old) (W.has_failed writer.new) }
+    ensures failed_write { (before : Option (List ℕ)) → HasGiven before (R.remaining reader.old) entries.old →
+        FailsBy TextFault.Output result (W.has_failed writer.old) (W.has_failed writer.new) }
 {
     for _ in 0..=MAX_WHOLE_HISTORY {
         match entries.next(reader) {
@@ -70,6 +71,37 @@ fn put_entries<R: Source, W: Sink>(
     // Fewer entries are given than there were turns.
     let _most = entries.auditor.taken();
     Err(TextFault::TooLong)
+}
+
+// Writes the capture of the entries that come.
+fn capture_entries<R: Source, W: Sink>(
+    mut entries: JournalEntries,
+    config: &Checked,
+    reader: &mut R,
+    writer: &mut W,
+    address: &[u8; 6],
+) -> Result<EntriesEnd, TextFault>
+    requires same { config.now ≡ entries.auditor.config }
+    requires none { entries.auditor.history ≡ [] }
+
+    ensures captures { IfOk result (λ end. (before : Option (List ℕ)) →
+        HasGiven before (R.remaining reader.old) entries →
+        CapturedEntries address.now before (R.remaining reader.new) (W.contents writer.old) (W.contents writer.new) end) }
+    ensures stops { IfErr result (λ fault. (before : Option (List ℕ)) →
+        HasGiven before (R.remaining reader.old) entries →
+        StopsEntries before (R.remaining reader.new) fault) }
+    ensures failed_read { FailsBy TextFault.Input result (R.has_failed reader.old) (R.has_failed reader.new) }
+    ensures failed_write { (before : Option (List ℕ)) → HasGiven before (R.remaining reader.old) entries →
+        FailsBy TextFault.Output result (W.has_failed writer.old) (W.has_failed writer.new) }
+{
+    let mut buffer = WireBuffer::new();
+    buffer.put_head(writer, &capture_head())?;
+    let end = match put_entries(&mut entries, config, reader, &mut buffer, writer, address) {
+        Ok(end) => end,
+        Err(fault) => return Err(fault),
+    };
+    buffer.write_out(writer)?;
+    Ok(end)
 }
 
 /// Reads a journal, of any length, in the memory of one line and of an auditor, and writes the capture of its MAPs from
@@ -93,12 +125,14 @@ pub fn capture_journal<R: Source, W: Sink>(
     ensures failed_read { TellsFailedRead result (R.has_failed reader.old) (R.has_failed reader.new) }
     ensures failed_write { TellsFailedWrite result (W.has_failed writer.old) (W.has_failed writer.new) }
 {
-    let Some((config, mut entries)) = JournalEntries::open(alloc, reader)? else {
-        return Ok(EntriesEnd::Bad(0));
-    };
-    let mut buffer = WireBuffer::new();
-    buffer.put_head(writer, &capture_head())?;
-    let end = put_entries(&mut entries, &config, reader, &mut buffer, writer, address)?;
-    buffer.write_out(writer)?;
-    Ok(end)
+    match JournalEntries::open(alloc, reader) {
+        Ok(Some((config, entries))) => {
+            match capture_entries(entries, &config, reader, writer, address) {
+                Ok(end) => Ok(end),
+                Err(fault) => Err(RunFault::Text(fault)),
+            }
+        }
+        Ok(None) => Ok(EntriesEnd::Bad(0)),
+        Err(fault) => Err(RunFault::Text(fault)),
+    }
 }

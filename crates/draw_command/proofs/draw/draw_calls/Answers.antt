@@ -1,5 +1,5 @@
 -- The calls are made, and their picture is written.
-use Rattle.std.proofs.Common.{◌≡◌, length, ap, ◌∙◌, arith}
+use Rattle.std.proofs.Common.{length, ap, ◌∙◌, arith}
 use Rattle.minislots.specs.declared.config.Config.{Config}
 use Rattle.minislots.proofs.Bounds.{bounds_of}
 use Rattle.sched_history.specs.Machine.{Machine}

@@ -1,11 +1,7 @@
--- The entries that were read were drawn.
+-- No write but those of the picture.
 use Rattle.draw_command.proofs.journal.draw_journal.Goals as goal
 
-pub returns-clause-stops : goal.returns-clause-stops
-returns-clause-stops g c = ?
-
-pub returns-clause-failed_write : goal.returns-clause-failed_write
-returns-clause-failed_write g c = ?
-
-pub returns-in-Ok-clause-ok : goal.returns-in-Ok-clause-ok
-returns-in-Ok-clause-ok g c = ?
+pub returns-in-Ok-Some-clause-failed_write : goal.returns-in-Ok-Some-clause-failed_write
+returns-in-Ok-Some-clause-failed_write g c =
+    c.draw_entries.ensures.failed_write (g.R.Source.remaining c.args.reader.now)
+    (rw c.in-Ok-Some.field-0-is at c.in-Ok-Some.ensures.opened).stand
