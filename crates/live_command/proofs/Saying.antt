@@ -14,6 +14,7 @@ use Rattle.sched_lines.specs.Line.{Answer}
 use Rattle.sched_lines.specs.Answer.{recorded}
 use Rattle.line_stream.specs.declared.TheConstants.{MAX_LINE}
 use Rattle.text_stream.specs.declared.fault.TextFault.{TextFault}
+use Rattle.live_command.specs.declared.wording.Wording.{Wording}
 use Rattle.live_command.specs.declared.fault.LineFault.{LineFault}
 use Rattle.live_command.specs.declared.fault.LineFault.TheVariants.{Long}
 use Rattle.live_command.specs.declared.said.Said.{Said}
@@ -22,7 +23,7 @@ use Rattle.live_command.specs.Spoken.{is_blank, is_spoken, spoken, call_read, ca
 use Rattle.live_command.specs.Answers.{answer_line, MayGet, after, Says, SaysEach, joined, AnswersLines}
 
 -- lines, and then others
-pub SaysEach-append : (c : Config) (e : Bool) (h : List Entry) (xs ts : List (List ℕ)) (mid : List Entry)
+pub SaysEach-append : (c : Config) (e : Wording) (h : List Entry) (xs ts : List (List ℕ)) (mid : List Entry)
     (ys us : List (List ℕ)) (new : List Entry)
     → SaysEach c e h xs ts mid → SaysEach c e mid ys us new → SaysEach c e h (xs ++ ys) (ts ++ us) new
 SaysEach-append c e h [] [] mid ys us new first then = subst (λ (k : List Entry). SaysEach c e k ys us new) first then
@@ -31,13 +32,13 @@ SaysEach-append c e h (x ∷ xs) [] mid ys us new first then = absurd first
 SaysEach-append c e h (x ∷ xs) (t ∷ ts) mid ys us new first then =
     (first.0, first.1, SaysEach-append c e first.0 xs ts mid ys us new first.2 then)
 
-Says-grows : (c : Config) (e : Bool) (h : List Entry) (call : Result Call LineFault) (text : List ℕ)
+Says-grows : (c : Config) (e : Wording) (h : List Entry) (call : Result Call LineFault) (text : List ℕ)
     (new : List Entry) → Says c e h call text new → (more : List Entry) × (new ≡ h ++ more)
 Says-grows c e h (Ok call) text new says = (recorded (length h) call says.0, says.3)
 Says-grows c e h (Err fault) text new says = ([], says.1 ∙ sym (append-nil h))
 
 -- entries come behind those that there are
-pub SaysEach-grows : (c : Config) (e : Bool) (h : List Entry) (xs ts : List (List ℕ)) (new : List Entry)
+pub SaysEach-grows : (c : Config) (e : Wording) (h : List Entry) (xs ts : List (List ℕ)) (new : List Entry)
     → SaysEach c e h xs ts new → (more : List Entry) × (new ≡ h ++ more)
 SaysEach-grows c e h [] [] new says = ([], says ∙ sym (append-nil h))
 SaysEach-grows c e h [] (t ∷ ts) new says = absurd says
@@ -52,7 +53,7 @@ pub spoken-append : (xs ys : List (List ℕ)) → spoken (xs ++ ys) ≡ spoken x
 spoken-append xs ys = filter-append is_spoken xs ys
 
 -- what is said to lines and then to others that may be blank
-pub SaysEach-spoken : (c : Config) (e : Bool) (h : List Entry) (xs ts : List (List ℕ)) (mid : List Entry)
+pub SaysEach-spoken : (c : Config) (e : Wording) (h : List Entry) (xs ts : List (List ℕ)) (mid : List Entry)
     (ys us : List (List ℕ)) (new : List Entry)
     → SaysEach c e h (spoken xs) ts mid → SaysEach c e mid (spoken ys) us new
     → SaysEach c e h (spoken (xs ++ ys)) (ts ++ us) new
@@ -64,7 +65,7 @@ pub joined-append : (ts us : List (List ℕ)) → joined (ts ++ us) ≡ joined t
 joined-append ts us = flat_map-append (λ (text : List ℕ). text) ts us
 
 -- one line that is answered
-AnswersLines-one : (e : Bool) (line text : List ℕ) (old new : Machine) (before after : List ℕ)
+AnswersLines-one : (e : Wording) (line text : List ℕ) (old new : Machine) (before after : List ℕ)
     → is_spoken line ≡ true → Says old.config e old.history (call_of_line line) text new.history
     → after ≡ before ++ text → new ≡ record old { history = new.history }
     → AnswersLines e (line ∷ []) old new before after
@@ -76,7 +77,7 @@ AnswersLines-one e line text old new before after is says waits state = record {
 }
 
 -- a line that is a call
-pub answered_call : (e : Bool) (line : List ℕ) (call : Call) (old new : Machine) (before waits : List ℕ)
+pub answered_call : (e : Wording) (line : List ℕ) (call : Call) (old new : Machine) (before waits : List ℕ)
     → is_spoken line ≡ true → call_of_line line ≡ Ok call
     → ((answer : Answer) × MayGet old.config old.history call answer × (waits ≡ before ++ answer_line e answer)
     × (new ≡ record old { history = after old.history call answer }))
@@ -89,14 +90,14 @@ answered_call e line call old new before waits is calls answered =
     (answered.3 ∙ ap (λ (h : List Entry). record old { history = h }) (sym history))
 
 -- a line with a fault
-pub answered_fault : (e : Bool) (line : List ℕ) (fault : LineFault) (old : Machine) (before waits : List ℕ)
+pub answered_fault : (e : Wording) (line : List ℕ) (fault : LineFault) (old : Machine) (before waits : List ℕ)
     → is_spoken line ≡ true → call_of_line line ≡ Err fault → waits ≡ before ++ fault_line fault
     → AnswersLines e (line ∷ []) old old before waits
 answered_fault e line fault old before waits is calls said =
     AnswersLines-one e line (fault_line fault) old old before waits is (rw calls (refl, refl)) said refl
 
 -- a line that is blank
-pub answered_blank : (e : Bool) (line : List ℕ) (old : Machine) (before : List ℕ) → is_spoken line ≡ false
+pub answered_blank : (e : Wording) (line : List ℕ) (old : Machine) (before : List ℕ) → is_spoken line ≡ false
     → AnswersLines e (line ∷ []) old old before before
 answered_blank e line old before is = record {
   texts = [];

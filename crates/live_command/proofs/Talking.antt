@@ -64,15 +64,15 @@ Appends-none (Some xs) = sym (append-nil xs)
 module _ (s : Start) (turns : ℕ) (m : Machine) (left written : Option (List ℕ)) (stands : List Entry → Type 0)
     (waits : List ℕ) (talk : Talk s turns m left written stands waits) where
   -- all that was said, and the history that it made
-  pub said : SaysEach s.config s.explained s.resumed (spoken (talk.lines ++ talk.more)) (talk.texts ++ talk.answers)
+  pub said : SaysEach s.config s.wording s.resumed (spoken (talk.lines ++ talk.more)) (talk.texts ++ talk.answers)
       m.history
-  said = SaysEach-spoken s.config s.explained s.resumed talk.lines talk.texts talk.history talk.more talk.answers
+  said = SaysEach-spoken s.config s.wording s.resumed talk.lines talk.texts talk.history talk.more talk.answers
       m.history talk.says talk.says_more
 
   -- the entries that are kept are those behind the ones in the journal
   pub kept : m.history ≡ talk.history ++ kept_of m
   kept =
-      let grown = SaysEach-grows s.config s.explained talk.history (spoken talk.more) talk.answers m.history
+      let grown = SaysEach-grows s.config s.wording talk.history (spoken talk.more) talk.answers m.history
       talk.says_more in
       let rest : kept_of m ≡ grown.0 =
       ap (λ (n : ℕ). drop n m.history) talk.handed
@@ -118,13 +118,13 @@ module _ (s : Start) (turns : ℕ) (m : Machine) (left written : Option (List �
 
   -- one line more, and its answer
   pub Talk-line : (line : List ℕ) (new : Machine) (left_new : Option (List ℕ)) (waits_new : List ℕ)
-      → TakesLines left (line ∷ []) left_new → AnswersLines s.explained (line ∷ []) m new waits waits_new
+      → TakesLines left (line ∷ []) left_new → AnswersLines s.wording (line ∷ []) m new waits waits_new
       → Talk s (turns + 1) new left_new written stands waits_new
   Talk-line line new left_new waits_new taken answers =
       let lines : (talk.lines ++ talk.more) ++ line ∷ [] ≡ talk.lines ++ (talk.more ++ line ∷ []) =
       append_assoc talk.lines talk.more (line ∷ []) in
-      let says : SaysEach s.config s.explained m.history (spoken (line ∷ [])) answers.texts new.history =
-      subst (λ c. SaysEach c s.explained m.history (spoken (line ∷ [])) answers.texts new.history) talk.config
+      let says : SaysEach s.config s.wording m.history (spoken (line ∷ [])) answers.texts new.history =
+      subst (λ c. SaysEach c s.wording m.history (spoken (line ∷ [])) answers.texts new.history) talk.config
       answers.says in
       record {
         lines = talk.lines;
@@ -135,7 +135,7 @@ module _ (s : Start) (turns : ℕ) (m : Machine) (left written : Option (List �
         out = talk.out;
         more = talk.more ++ line ∷ [];
         answers = talk.answers ++ answers.texts;
-        says_more = SaysEach-spoken s.config s.explained talk.history talk.more talk.answers m.history (line ∷ [])
+        says_more = SaysEach-spoken s.config s.wording talk.history talk.more talk.answers m.history (line ∷ [])
             answers.texts new.history talk.says_more says;
         waiting = answers.waits ∙ ap (λ (w : List ℕ). w ++ joined answers.texts) talk.waiting
             ∙ sym (joined-append talk.answers answers.texts);

@@ -12,6 +12,7 @@ use crate::blank::is_spoken;
 use crate::fault::LineFault;
 use crate::outbox::Outbox;
 use crate::said::{Said, read_said};
+use crate::wording::Wording;
 use json::Scratch;
 use line_stream::{Lines, MAX_LINE, Told};
 use minislots::Stamp;
@@ -82,18 +83,18 @@ fn answer_call(
     scheduler: &mut Scheduler,
     outbox: &mut Outbox,
     call: Call,
-    explained: bool,
+    wording: Wording,
 ) -> Result<(), TextFault>
     requires { length (kept_of scheduler.old) < scheduler.old.config.calls }
     ensures ok { OnOk result ((answer : Answer)
         × MayGet scheduler.old.config scheduler.old.history call answer
-        × (outbox.new ≡ outbox.old ++ answer_line explained answer)
+        × (outbox.new ≡ outbox.old ++ answer_line wording answer)
         × (scheduler.new
         ≡ record scheduler.old { history = after scheduler.old.history call answer })) }
     ensures err { IfErr result (λ e. e ≡ TextFault.Memory) }
 {
     let answer = make_call(scheduler, call);
-    outbox.put_answer(&answer, explained)
+    outbox.put_answer(&answer, wording)
 }
 
 // Answers a line.
@@ -103,18 +104,18 @@ fn answer_text(
     scheduler: &mut Scheduler,
     outbox: &mut Outbox,
     line: &[u8],
-    explained: bool,
+    wording: Wording,
 ) -> Result<(), TextFault>
     requires { length (kept_of scheduler.old) < scheduler.old.config.calls }
     ensures ok { OnOk result
-        (AnswersLines explained (line.now ∷ []) scheduler.old scheduler.new outbox.old outbox.new) }
+        (AnswersLines wording (line.now ∷ []) scheduler.old scheduler.new outbox.old outbox.new) }
     ensures err { IfErr result (λ e. e ≡ TextFault.Memory) }
 {
     if !is_spoken(line) {
         return Ok(());
     }
     match read_call(alloc, scratch, line) {
-        Ok(Ok(call)) => answer_call(scheduler, outbox, call, explained),
+        Ok(Ok(call)) => answer_call(scheduler, outbox, call, wording),
         Ok(Err(fault)) => outbox.put_fault(fault),
         Err(fault) => Err(fault),
     }
@@ -128,15 +129,15 @@ pub(crate) fn answer(
     outbox: &mut Outbox,
     lines: &Lines,
     told: Told,
-    explained: bool,
+    wording: Wording,
 ) -> Result<(), TextFault>
     requires { length (kept_of scheduler.old) < scheduler.old.config.calls }
     ensures ok { OnOk result ((line : List ℕ) → IsTold line told lines.now.line →
-        AnswersLines explained (line ∷ []) scheduler.old scheduler.new outbox.old outbox.new) }
+        AnswersLines wording (line ∷ []) scheduler.old scheduler.new outbox.old outbox.new) }
     ensures err { IfErr result (λ e. e ≡ TextFault.Memory) }
 {
     match told {
         Told::Long => outbox.put_fault(LineFault::Long),
-        Told::Line => answer_text(alloc, scratch, scheduler, outbox, lines.line(), explained),
+        Told::Line => answer_text(alloc, scratch, scheduler, outbox, lines.line(), wording),
     }
 }

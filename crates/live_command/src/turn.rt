@@ -14,6 +14,7 @@ use crate::fault::LiveFault;
 use crate::journal::Journal;
 use crate::noting::record;
 use crate::outbox::Outbox;
+use crate::wording::Wording;
 use json::Scratch;
 use line_stream::{Lines, Told};
 use sched_history::Scheduler;
@@ -127,9 +128,9 @@ fn take_told<W: Sink, J: Journal>(
     told: Told,
     writer: &mut W,
     journal: &mut J,
-    explained: bool,
+    wording: Wording,
 ) -> Result<(), LiveFault>
-    ensures talk { (s : Start) (turns : ℕ) (left : Option (List ℕ)) → s.explained ≡ explained →
+    ensures talk { (s : Start) (turns : ℕ) (left : Option (List ℕ)) → s.wording ≡ wording →
         TellsOn s turns scheduler.old left
         (W.contents writer.old) (J.stands_for journal.old s.config) outbox.old
         lines.now told →
@@ -145,7 +146,7 @@ fn take_told<W: Sink, J: Journal>(
         (J.has_failed journal.old) (J.has_failed journal.new) }
 {
     make_room(scheduler, outbox, writer, journal)?;
-    answer(alloc, scratch, scheduler, outbox, lines, told, explained)?;
+    answer(alloc, scratch, scheduler, outbox, lines, told, wording)?;
     Ok(())
 }
 
@@ -159,9 +160,9 @@ pub(crate) fn take_first<W: Sink, J: Journal>(
     told: Option<Told>,
     writer: &mut W,
     journal: &mut J,
-    explained: bool,
+    wording: Wording,
 ) -> Result<(), LiveFault>
-    ensures talk { (s : Start) (left : Option (List ℕ)) → s.explained ≡ explained →
+    ensures talk { (s : Start) (left : Option (List ℕ)) → s.wording ≡ wording →
         MatchOption told
         (Talk s 0 scheduler.old left
         (W.contents writer.old) (J.stands_for journal.old s.config) outbox.old)
@@ -180,7 +181,7 @@ pub(crate) fn take_first<W: Sink, J: Journal>(
 {
     match told {
         Some(told) => take_told(
-            alloc, scratch, scheduler, outbox, lines, told, writer, journal, explained,
+            alloc, scratch, scheduler, outbox, lines, told, writer, journal, wording,
         ),
         None => Ok(()),
     }
@@ -196,9 +197,9 @@ pub(crate) fn take_turn<R: Source, W: Sink, J: Journal>(
     reader: &mut R,
     writer: &mut W,
     journal: &mut J,
-    explained: bool,
+    wording: Wording,
 ) -> Result<bool, LiveFault>
-    ensures talk { (s : Start) (turns : ℕ) → s.explained ≡ explained →
+    ensures talk { (s : Start) (turns : ℕ) → s.wording ≡ wording →
         Talk s turns scheduler.old
         (untold lines.old (R.remaining reader.old)) (W.contents writer.old)
         (J.stands_for journal.old s.config) outbox.old →
@@ -220,7 +221,7 @@ pub(crate) fn take_turn<R: Source, W: Sink, J: Journal>(
         return Ok(false);
     };
     take_told(
-        alloc, scratch, scheduler, outbox, lines, told, writer, journal, explained,
+        alloc, scratch, scheduler, outbox, lines, told, writer, journal, wording,
     )?;
     Ok(true)
 }

@@ -11,5 +11,5 @@ pub returns-in-Long-clause-ok : goal.returns-in-Long-clause-ok
 returns-in-Long-clause-ok c =
     where_ok c.put_fault.result (λ said (line : List ℕ) told.
     let long : MAX_LINE < length line = subst (λ t. IsTold line t c.args.lines.now.line) c.in-Long.is told in
-    answered_fault c.args.explained line Long _ _ _ (spoken_long line long) (call_of_long line long) said)
+    answered_fault c.args.wording line Long _ _ _ (spoken_long line long) (call_of_long line long) said)
     c.put_fault.ensures.ok

@@ -8,12 +8,12 @@ pub returns-in-Ok-Ok-clause-ok : goal.returns-in-Ok-Ok-clause-ok
 returns-in-Ok-Ok-clause-ok c =
     let spoken = sym c.is_spoken.ensures ∙ c.if-not-is_spoken.false in
     where_ok c.answer_call.result (λ answered.
-    answered_call c.args.explained c.args.line.now c.in-Ok-Ok.call _ _ _ _ spoken
+    answered_call c.args.wording c.args.line.now c.in-Ok-Ok.call _ _ _ _ spoken
     (sym c.in-Ok-Ok.ensures.ok ∙ c.in-Ok-Ok.field-0-is) answered) c.answer_call.ensures.ok
 
 pub returns-in-Ok-Err-clause-ok : goal.returns-in-Ok-Err-clause-ok
 returns-in-Ok-Err-clause-ok c =
     let spoken = sym c.is_spoken.ensures ∙ c.if-not-is_spoken.false in
     where_ok c.put_fault.result (λ said.
-    answered_fault c.args.explained c.args.line.now c.in-Ok-Err.fault _ _ _ spoken
+    answered_fault c.args.wording c.args.line.now c.in-Ok-Err.fault _ _ _ spoken
     (sym c.in-Ok-Err.ensures.ok ∙ c.in-Ok-Err.field-0-is) said) c.put_fault.ensures.ok
