@@ -10,6 +10,7 @@ use Rattle.line_stream.specs.Lines.{TakesLines}
 use Rattle.line_stream.specs.Told.{AtHand}
 use Rattle.live_command.specs.declared.fault.LiveFault.{LiveFault}
 use Rattle.live_command.specs.declared.wording.Wording.{Wording}
+use Rattle.live_command.specs.declared.journal.BeginFault.{BeginFault}
 use Rattle.live_command.specs.Spoken.{spoken}
 use Rattle.live_command.specs.Answers.{SaysEach}
 use Rattle.live_command.specs.Going.{GoesFrom, ReadsFront, WentOn, EndsGoing}
@@ -56,7 +57,7 @@ Begins s m left written stands waits hand told =
 -- nothing more is written at all
 pub begins_quiet : (s : Start) (m : Machine) (left written : Option (List ℕ)) (stands : List Entry → Type 0)
     (waits : List ℕ) (hand : AtHand) (told : Option Told) → Begins s m left written stands waits hand told
-    → Stopped s written stands
+    → Stopped s m.history written stands
 begins_quiet s m left written stands waits hand None talk = Stopped-quiet s 0 m left written stands waits talk
 begins_quiet s m left written stands waits hand (Some told) tells =
     Stopped-quiet s 0 m tells.between written stands waits tells.talk
@@ -105,21 +106,21 @@ module _ (wording : Wording) (old new : Machine) (unread behind before written :
   -- one whose input has ended
   pub goes_well : {A : Type 0} (left after : Option (List ℕ)) (r : Result A LiveFault)
       → MatchResult r (λ _. Conversed (start_at wording old behind before) new left written stands)
-      (λ e. Stopped (start_at wording old behind before) written stands
+      (λ e. Stopped (start_at wording old behind before) new.history written stands
       × StopsTalk (start_at wording old behind before) new after written stands e)
       → OnOk r (WentOn wording old new unread left before written stands)
   goes_well left after (Ok x) conversed = record { behind = behind; goes = goes; conversed = conversed }
   goes_well left after (Err e) stopped = tt
 
   -- one that ends early
-  pub goes_early : {A : Type 0} (left after : Option (List ℕ)) (may : List Entry → Type 0)
-      (untouched quiet : Type 0) (r : Result A LiveFault)
+  pub goes_early : {A : Type 0} (left after : Option (List ℕ)) (refuses : BeginFault → Type 0)
+      (may : List Entry → Type 0) (untouched quiet : Type 0) (r : Result A LiveFault)
       → MatchResult r (λ _. Conversed (start_at wording old behind before) new left written stands)
-      (λ e. Stopped (start_at wording old behind before) written stands
+      (λ e. Stopped (start_at wording old behind before) new.history written stands
       × StopsTalk (start_at wording old behind before) new after written stands e)
-      → IfErr r (EndsGoing wording old new unread after before written may stands untouched quiet)
-  goes_early left after may untouched quiet (Ok x) conversed = tt
-  goes_early left after may untouched quiet (Err e) stopped = inr (inr (record {
+      → IfErr r (EndsGoing wording old new unread after before written refuses may stands untouched quiet)
+  goes_early left after refuses may untouched quiet (Ok x) conversed = tt
+  goes_early left after refuses may untouched quiet (Err e) stopped = inr (inr (record {
     behind = behind;
     goes = goes;
     stopped = stopped.0;

@@ -1,5 +1,6 @@
 -- The answers to lines, and the history that their calls make.
-use Rattle.std.specs.Prelude.{◌≡◌, ℕ, ◌<◌, ◌≤◌, List, [], ◌∷◌, ◌++◌, length, flat_map, Result, Ok, Err}
+use Rattle.std.specs.Prelude.{◌≡◌, ℕ, ◌<◌, ◌≤◌, List, [], ◌∷◌, ◌++◌, length, flat_map, Option}
+use Rattle.std.specs.Prelude.{None, Some, Result, Ok, Err}
 use Rattle.minislots.specs.declared.config.Config.{Config}
 use Rattle.sched_history.specs.declared.call.Call.{Call}
 use Rattle.sched_history.specs.declared.reply.TheConstants.{MAX_WHOLE_HISTORY}
@@ -50,6 +51,24 @@ SaysEach c wording h (line ∷ lines) (text ∷ texts) new = (mid : List Entry)
 -- the texts one behind the other
 abbrev pub joined : List (List ℕ) → List ℕ
 joined texts = flat_map (λ text. text) texts
+
+-- what is said to what was heard of a line, and the history then: nothing where nothing was heard
+abbrev pub SaysHeard : Config → Wording → List Entry → Option (Result Call LineFault) → List (List ℕ) → List Entry
+    → Type 0
+SaysHeard c wording h None texts new = (texts ≡ []) × (new ≡ h)
+SaysHeard c wording h (Some call) texts new =
+    (text : List ℕ) × (texts ≡ text ∷ []) × Says c wording h call text new
+
+-- Something is said to what was heard of a line, or nothing
+pub record SaysOne (wording : Wording) (heard : Option (Result Call LineFault)) (old new : Machine) : Type 0 where
+  pub texts : List (List ℕ)
+  pub says : SaysHeard old.config wording old.history heard texts new.history
+  pub state : new ≡ record old { history = new.history }
+
+-- and it goes behind what waited
+abbrev pub AnswersHeard : Wording → Option (Result Call LineFault) → Machine → Machine → List ℕ → List ℕ → Type 0
+AnswersHeard wording heard old new before after =
+    (said : SaysOne wording heard old new) × (after ≡ before ++ joined said.texts)
 
 -- Lines were answered, of which the blank ones are passed: what is said goes behind what waited
 pub record AnswersLines (wording : Wording) (lines : List (List ℕ)) (old new : Machine) (before after : List ℕ) : Type 0

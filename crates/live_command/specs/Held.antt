@@ -38,21 +38,22 @@ pub record Held (wording : Wording) (unread left before written : Option (List �
 abbrev pub NotOpened : {W J : Type 0} → W → W → J → J → Type 0
 NotOpened writer_old writer_new journal_old journal_new = (writer_new ≡ writer_old) × (journal_new ≡ journal_old)
 
--- A conversation ended since its journal did not begin: nothing was written, and it may begin as before
-pub record NotBegun (quiet : Type 0) (may : List Entry → Type 0) (entries : List Entry) (fault : LiveFault) : Type 0
-  where
-    pub why : BeginFault
-    pub is : fault ≡ fault_of_begin why
-    pub unwritten : quiet
-    pub begins : may entries
+-- A conversation ended since its journal refused to begin: nothing was written, and it may begin as before
+pub record NotBegun (refuses : BeginFault → Type 0) (quiet : Type 0) (may : List Entry → Type 0) (entries : List Entry)
+    (fault : LiveFault) : Type 0 where
+  pub why : BeginFault
+  pub refused : refuses why
+  pub is : fault ≡ fault_of_begin why
+  pub unwritten : quiet
+  pub begins : may entries
 
 -- The opening was read, and the journal did not begin
-pub record EndsUnbegun (unread : Option (List ℕ)) (quiet : Type 0) (may : Config → List Entry → Type 0)
-    (fault : LiveFault) : Type 0 where
+pub record EndsUnbegun (unread : Option (List ℕ)) (refuses : Config → BeginFault → Type 0) (quiet : Type 0)
+    (may : Config → List Entry → Type 0) (fault : LiveFault) : Type 0 where
   pub config : Config
   pub behind : Option (List ℕ)
   pub opened : Opens unread behind (Ok config)
-  pub unbegun : NotBegun quiet (may config) [] fault
+  pub unbegun : NotBegun (refuses config) quiet (may config) [] fault
 
 -- The opening was read, and the conversation behind it ended early
 pub record EndsTalk (wording : Wording) (unread left before written : Option (List ℕ))
@@ -60,8 +61,8 @@ pub record EndsTalk (wording : Wording) (unread left before written : Option (Li
   pub config : Config
   pub behind : Option (List ℕ)
   pub opened : Opens unread behind (Ok config)
-  pub stopped : Stopped (start_new config wording behind before) written (stands config)
   pub scheduler : Machine
+  pub stopped : Stopped (start_new config wording behind before) scheduler.history written (stands config)
   pub stops : StopsTalk (start_new config wording behind before) scheduler left written (stands config) fault
 
 -- the opening was not read
@@ -71,7 +72,8 @@ EndsUnopened unread left untouched fault =
 
 -- a conversation ended early: before its opening was read, before its journal began, or behind these
 abbrev pub Ends : Wording → Option (List ℕ) → Option (List ℕ) → Option (List ℕ) → Option (List ℕ)
-    → (Config → List Entry → Type 0) → (Config → List Entry → Type 0) → Type 0 → Type 0 → LiveFault → Type 0
-Ends wording unread left before written may stands untouched quiet fault =
+    → (Config → BeginFault → Type 0) → (Config → List Entry → Type 0) → (Config → List Entry → Type 0) → Type 0 → Type 0
+    → LiveFault → Type 0
+Ends wording unread left before written refuses may stands untouched quiet fault =
     EndsUnopened unread left untouched fault
-    ⊎ (EndsUnbegun unread quiet may fault ⊎ EndsTalk wording unread left before written stands fault)
+    ⊎ (EndsUnbegun unread refuses quiet may fault ⊎ EndsTalk wording unread left before written stands fault)

@@ -80,29 +80,29 @@ abbrev pub IsTurn : Start → ℕ → Machine → Option (List ℕ) → Option (
 IsTurn s turns m left written stands waits true = Talk s (turns + 1) m left written stands waits
 IsTurn s turns m left written stands waits false = Conversed s m left written stands
 
--- However a conversation ends, its answers are those to the first lines of the input, and what was written is the first
--- bytes of the texts. The journal stands for a front of the history of the lines that were answered, and has the entry
+-- However a conversation ends, with this whole history, its answers are those to the first lines of the input, and what
+-- was written is the first bytes of the texts. The journal stands for a front of the history of the lines that were answered, and has the entry
 -- of each answer of which a byte was written
-pub record Stopped (s : Start) (written : Option (List ℕ)) (stands : List Entry → Type 0) : Type 0 where
-  -- lines, of whose answers bytes may have been written
-  pub lines : List (List ℕ)
-  pub texts : List (List ℕ)
-  pub history : List Entry
-  pub says : SaysEach s.config s.wording s.resumed (spoken lines) texts history
-  pub out : AppendsInPart s.written written (joined texts)
-  -- and lines behind them, of whose answers no byte was written
-  pub more : List (List ℕ)
-  pub answers : List (List ℕ)
-  pub whole : List Entry
-  pub says_more : SaysEach s.config s.wording history (spoken more) answers whole
-  pub read : BeginsWith s.unread (lines ++ more)
-  -- the entries of the first lines and some behind them
-  pub stood : List Entry
-  pub stands_for : stands stood
-  pub behind : List Entry
-  pub stood_is : stood ≡ history ++ behind
-  pub others : List Entry
-  pub whole_is : whole ≡ stood ++ others
+pub record Stopped (s : Start) (whole : List Entry) (written : Option (List ℕ)) (stands : List Entry → Type 0) : Type 0
+  where
+    -- lines, of whose answers bytes may have been written
+    pub lines : List (List ℕ)
+    pub texts : List (List ℕ)
+    pub history : List Entry
+    pub says : SaysEach s.config s.wording s.resumed (spoken lines) texts history
+    pub out : AppendsInPart s.written written (joined texts)
+    -- and lines behind them, of whose answers no byte was written
+    pub more : List (List ℕ)
+    pub answers : List (List ℕ)
+    pub says_more : SaysEach s.config s.wording history (spoken more) answers whole
+    pub read : BeginsWith s.unread (lines ++ more)
+    -- the entries of the first lines and some behind them
+    pub stood : List Entry
+    pub stands_for : stands stood
+    pub behind : List Entry
+    pub stood_is : stood ≡ history ++ behind
+    pub others : List Entry
+    pub whole_is : whole ≡ stood ++ others
 
 -- All whole lines that came were answered, the answers are written and their entries are in the journal; and no
 -- newline came behind them

@@ -120,10 +120,11 @@ pub fn go_on<R: Source, W: Sink, J: Journal>(
     ensures ends { IfErr result (EndsGoing wording scheduler.old scheduler.new
         (untold lines.old (R.remaining reader.old)) (R.remaining reader.new)
         (W.contents writer.old) (W.contents writer.new)
+        (J.may_refuse journal.old scheduler.old.config)
         (J.may_begin journal.new scheduler.old.config)
         (J.stands_for journal.new scheduler.old.config)
         (NotGoing scheduler.old scheduler.new writer.old writer.new journal.old journal.new)
-        (writer.new ≡ writer.old)) }
+        ((scheduler.new ≡ scheduler.old) × (writer.new ≡ writer.old))) }
 
     // A failed read is told only where one has failed, a failed write or journal exactly there; where all went well
     // none did.

@@ -38,7 +38,7 @@ pub fn hold<R: Source, W: Sink, J: Journal>(
     // Else no opening was read, or the journal did not begin, and nothing was written; or the conversation ended early.
     ensures ends { IfErr result (Ends wording (R.remaining reader.old) (R.remaining reader.new)
         (W.contents writer.old) (W.contents writer.new)
-        (J.may_begin journal.new) (J.stands_for journal.new)
+        (J.may_refuse journal.old) (J.may_begin journal.new) (J.stands_for journal.new)
         (NotOpened writer.old writer.new journal.old journal.new) (writer.new ≡ writer.old)) }
 
     // A failed read is told only where one has failed, a failed write or journal exactly there; where all went well

@@ -37,7 +37,7 @@ fn talk_on<R: Source, W: Sink, J: Journal>(
         (λ _. Conversed s scheduler.new
         (untold lines.new (R.remaining reader.new)) (W.contents writer.new)
         (J.stands_for journal.new s.config))
-        (λ e. Stopped s (W.contents writer.new) (J.stands_for journal.new s.config)
+        (λ e. Stopped s scheduler.new.history (W.contents writer.new) (J.stands_for journal.new s.config)
         × StopsTalk s scheduler.new (R.remaining reader.new) (W.contents writer.new)
         (J.stands_for journal.new s.config) e) }
     ensures failed_read { FailsBy (Text TextFault.Input) result (R.has_failed reader.old)
@@ -81,7 +81,7 @@ pub(crate) fn talk_from<R: Source, W: Sink, J: Journal>(
         (λ _. Conversed s scheduler.new
         (untold lines.new (R.remaining reader.new)) (W.contents writer.new)
         (J.stands_for journal.new s.config))
-        (λ e. Stopped s (W.contents writer.new) (J.stands_for journal.new s.config)
+        (λ e. Stopped s scheduler.new.history (W.contents writer.new) (J.stands_for journal.new s.config)
         × StopsTalk s scheduler.new (R.remaining reader.new) (W.contents writer.new)
         (J.stands_for journal.new s.config) e) }
     ensures failed_read { FailsBy (Text TextFault.Input) result (R.has_failed reader.old)
@@ -143,7 +143,8 @@ pub fn converse<R: Source, W: Sink, J: Journal>(
     ensures stopped { IfErr result (λ _. Stopped
         (start_at wording scheduler.old
         (untold lines.old (R.remaining reader.old)) (W.contents writer.old))
-        (W.contents writer.new) (J.stands_for journal.new scheduler.old.config)) }
+        scheduler.new.history (W.contents writer.new)
+        (J.stands_for journal.new scheduler.old.config)) }
     ensures stops { IfErr result (StopsTalk
         (start_at wording scheduler.old
         (untold lines.old (R.remaining reader.old)) (W.contents writer.old))

@@ -24,8 +24,9 @@ returns-in_err-begin-clause-ends g c =
       goes = goes.1;
       unbegun = record {
         why = c.in_err-begin.ensures.why.0;
-        is = c.in_err-begin.ensures.why.1;
-        unwritten = refl;
+        refused = rw c.config.ensures at c.in_err-begin.ensures.why.1;
+        is = c.in_err-begin.ensures.why.2;
+        unwritten = (refl, refl);
         begins = keeps m.history c.requires.ready;
       };
     })))
@@ -55,5 +56,5 @@ returns-clause-ends g c =
     let begins = front_begins c.args.wording m _ _ _ written stands c.in_ok-told.told c.requires.handed
     (keeps m.history c.requires.ready) reads in
     let s = start_at c.args.wording m goes.0 written in
-    goes_early c.args.wording m c.talk_from.new.scheduler _ goes.0 written _ _ goes.1 _ _ _ _ _
+    goes_early c.args.wording m c.talk_from.new.scheduler _ goes.0 written _ _ goes.1 _ _ _ _ _ _
     c.talk_from.result (c.talk_from.ensures.talk s refl begins)

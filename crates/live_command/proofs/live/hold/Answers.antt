@@ -36,7 +36,8 @@ returns-in_err-begin-clause-ends g c =
       opened = opened;
       unbegun = record {
         why = c.in_err-begin.ensures.why.0;
-        is = c.in_err-begin.ensures.why.1;
+        refused = c.in_err-begin.ensures.why.1;
+        is = c.in_err-begin.ensures.why.2;
         unwritten = refl;
         begins = c.in_err-begin.ensures.err [] (c.requires config);
       };
@@ -74,5 +75,5 @@ returns-clause-ends g c =
     let s = start_new config c.args.wording behind (g.W.Sink.contents c.args.writer.now) in
     let talks = rw c.in_ok-scheduler.ensures at c.talk_from.ensures.talk in
     ends_early c.args.wording config unread behind _ _ _ (g.J.Journal.stands_for c.talk_from.new.journal)
-    c.talk_from.new.scheduler opened c.talk_from.new.lines.bytes (g.J.Journal.may_begin c.talk_from.new.journal) _ _
+    c.talk_from.new.scheduler opened c.talk_from.new.lines.bytes _ (g.J.Journal.may_begin c.talk_from.new.journal) _ _
     c.talk_from.result (talks s refl start)
