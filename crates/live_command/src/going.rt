@@ -16,6 +16,7 @@ use crate::noting::begin;
 use crate::opening::{next_spoken, opening_in};
 use crate::said::{Said, read_said};
 use crate::talk::talk_from;
+use crate::wording::Wording;
 use json::Scratch;
 use line_stream::{Lines, Told};
 use minislots::Checked;
@@ -104,25 +105,26 @@ pub fn go_on<R: Source, W: Sink, J: Journal>(
     reader: &mut R,
     writer: &mut W,
     journal: &mut J,
-    explained: bool,
+    wording: Wording,
 ) -> Result<(), LiveFault>
     requires handed { scheduler.old.handed ≡ length scheduler.old.history }
     requires ready { J.may_begin journal.old scheduler.old.config scheduler.old.history }
 
     // All lines were answered; the journal stands for what was resumed, and the calls of these lines behind it.
-    ensures ok { OnOk result (WentOn explained scheduler.old scheduler.new
+    ensures ok { OnOk result (WentOn wording scheduler.old scheduler.new
         (untold lines.old (R.remaining reader.old)) (untold lines.new (R.remaining reader.new))
         (W.contents writer.old) (W.contents writer.new)
         (J.stands_for journal.new scheduler.old.config)) }
 
     // Else no line of the conversation came, or the journal did not begin, and nothing was written; or it ended early.
-    ensures ends { IfErr result (EndsGoing explained scheduler.old scheduler.new
+    ensures ends { IfErr result (EndsGoing wording scheduler.old scheduler.new
         (untold lines.old (R.remaining reader.old)) (R.remaining reader.new)
         (W.contents writer.old) (W.contents writer.new)
+        (J.may_refuse journal.old scheduler.old.config)
         (J.may_begin journal.new scheduler.old.config)
         (J.stands_for journal.new scheduler.old.config)
         (NotGoing scheduler.old scheduler.new writer.old writer.new journal.old journal.new)
-        (writer.new ≡ writer.old)) }
+        ((scheduler.new ≡ scheduler.old) × (writer.new ≡ writer.old))) }
 
     // A failed read is told only where one has failed, a failed write or journal exactly there; where all went well
     // none did.
@@ -146,6 +148,6 @@ pub fn go_on<R: Source, W: Sink, J: Journal>(
         reader,
         writer,
         journal,
-        explained,
+        wording,
     )
 }

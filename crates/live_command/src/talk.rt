@@ -11,6 +11,7 @@ use crate::fault::LiveFault;
 use crate::journal::Journal;
 use crate::outbox::Outbox;
 use crate::turn::{settle, take_first, take_turn};
+use crate::wording::Wording;
 use json::Scratch;
 use line_stream::{Lines, Told};
 use sched_history::Scheduler;
@@ -27,16 +28,16 @@ fn talk_on<R: Source, W: Sink, J: Journal>(
     reader: &mut R,
     writer: &mut W,
     journal: &mut J,
-    explained: bool,
+    wording: Wording,
 ) -> Result<(), LiveFault>
-    ensures talk { (s : Start) → s.explained ≡ explained →
+    ensures talk { (s : Start) → s.wording ≡ wording →
         Talk s 0 scheduler.old (untold lines.old (R.remaining reader.old)) (W.contents writer.old)
         (J.stands_for journal.old s.config) outbox.old →
         MatchResult result
         (λ _. Conversed s scheduler.new
         (untold lines.new (R.remaining reader.new)) (W.contents writer.new)
         (J.stands_for journal.new s.config))
-        (λ e. Stopped s (W.contents writer.new) (J.stands_for journal.new s.config)
+        (λ e. Stopped s scheduler.new.history (W.contents writer.new) (J.stands_for journal.new s.config)
         × StopsTalk s scheduler.new (R.remaining reader.new) (W.contents writer.new)
         (J.stands_for journal.new s.config) e) }
     ensures failed_read { FailsBy (Text TextFault.Input) result (R.has_failed reader.old)
@@ -48,7 +49,7 @@ fn talk_on<R: Source, W: Sink, J: Journal>(
 {
     for _ in 0..u64::MAX {
         if !take_turn(
-            alloc, scratch, scheduler, outbox, lines, reader, writer, journal, explained,
+            alloc, scratch, scheduler, outbox, lines, reader, writer, journal, wording,
         )? {
             return Ok(());
         }
@@ -67,9 +68,9 @@ pub(crate) fn talk_from<R: Source, W: Sink, J: Journal>(
     reader: &mut R,
     writer: &mut W,
     journal: &mut J,
-    explained: bool,
+    wording: Wording,
 ) -> Result<(), LiveFault>
-    ensures talk { (s : Start) → s.explained ≡ explained →
+    ensures talk { (s : Start) → s.wording ≡ wording →
         MatchOption told
         (Talk s 0 scheduler.old (untold lines.old (R.remaining reader.old)) (W.contents writer.old)
         (J.stands_for journal.old s.config) [])
@@ -80,7 +81,7 @@ pub(crate) fn talk_from<R: Source, W: Sink, J: Journal>(
         (λ _. Conversed s scheduler.new
         (untold lines.new (R.remaining reader.new)) (W.contents writer.new)
         (J.stands_for journal.new s.config))
-        (λ e. Stopped s (W.contents writer.new) (J.stands_for journal.new s.config)
+        (λ e. Stopped s scheduler.new.history (W.contents writer.new) (J.stands_for journal.new s.config)
         × StopsTalk s scheduler.new (R.remaining reader.new) (W.contents writer.new)
         (J.stands_for journal.new s.config) e) }
     ensures failed_read { FailsBy (Text TextFault.Input) result (R.has_failed reader.old)
@@ -100,7 +101,7 @@ pub(crate) fn talk_from<R: Source, W: Sink, J: Journal>(
         told,
         writer,
         journal,
-        explained,
+        wording,
     )?;
     talk_on(
         alloc,
@@ -111,7 +112,7 @@ pub(crate) fn talk_from<R: Source, W: Sink, J: Journal>(
         reader,
         writer,
         journal,
-        explained,
+        wording,
     )
 }
 
@@ -126,25 +127,26 @@ pub fn converse<R: Source, W: Sink, J: Journal>(
     reader: &mut R,
     writer: &mut W,
     journal: &mut J,
-    explained: bool,
+    wording: Wording,
 ) -> Result<(), LiveFault>
     requires handed { scheduler.old.handed ≡ length scheduler.old.history }
     requires stands { J.stands_for journal.old scheduler.old.config scheduler.old.history }
 
     // All lines were answered, and nothing else was written; the journal stands for the whole history.
     ensures ok { OnOk result (Conversed
-        (start_at explained scheduler.old
+        (start_at wording scheduler.old
         (untold lines.old (R.remaining reader.old)) (W.contents writer.old))
         scheduler.new (untold lines.new (R.remaining reader.new)) (W.contents writer.new)
         (J.stands_for journal.new scheduler.old.config)) }
 
     // Wherever else it ended, the journal has the entry of each answer of which a byte was written.
     ensures stopped { IfErr result (λ _. Stopped
-        (start_at explained scheduler.old
+        (start_at wording scheduler.old
         (untold lines.old (R.remaining reader.old)) (W.contents writer.old))
-        (W.contents writer.new) (J.stands_for journal.new scheduler.old.config)) }
+        scheduler.new.history (W.contents writer.new)
+        (J.stands_for journal.new scheduler.old.config)) }
     ensures stops { IfErr result (StopsTalk
-        (start_at explained scheduler.old
+        (start_at wording scheduler.old
         (untold lines.old (R.remaining reader.old)) (W.contents writer.old))
         scheduler.new (R.remaining reader.new) (W.contents writer.new)
         (J.stands_for journal.new scheduler.old.config)) }
@@ -168,6 +170,6 @@ pub fn converse<R: Source, W: Sink, J: Journal>(
         reader,
         writer,
         journal,
-        explained,
+        wording,
     )
 }
