@@ -4,8 +4,8 @@ use Rattle.std.specs.Prelude.{flat_map, length, slice_index_or, Option, None, So
 use Rattle.std.specs.List.{range_with_len}
 use Rattle.sched_report.specs.declared.life.TheConstants.{POLLED}
 use Rattle.report_writing.specs.declared.gathered.RankTold.{RankTold}
-use Rattle.report_picture.specs.declared.delays.Spread.{Spread}
-use Rattle.report_picture.specs.declared.delays.Scale.{Scale}
+use Rattle.report_picture.specs.declared.spread.Spread.{Spread}
+use Rattle.report_picture.specs.declared.spread.Scale.{Scale}
 use Rattle.report_picture.specs.declared.ranks.TheConstants.{NO_RANK}
 use Rattle.report_picture.specs.Filled.{filled}
 use Rattle.report_picture.specs.Axis.{place, round_step, microseconds}

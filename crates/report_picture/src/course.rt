@@ -2,6 +2,7 @@
 
 ghost use Rattle.std.specs.Prelude.{◌≡◌, ◌^◌, ◌<◌, ◌≤◌};
 ghost use Rattle.report_picture.specs.Course.{first_frame, frame_behind, frames_in_step, height_of, frame_place};
+ghost use Rattle.report_picture.specs.Course.{HeightsStand};
 
 use crate::axis::place;
 
@@ -63,3 +64,8 @@ pub(crate) fn frame_place(course: Course, number: u64) -> u128
 {
     place(10240, u128::from(number), u128::from(course.frames))
 }
+
+/// Minislots of a step stand as high as they are of all minislots of its frames, to less than a tenth of a unit.
+pub fn every_height()
+    ensures { HeightsStand }
+{}

@@ -17,10 +17,11 @@ mod legend;
 mod over_time;
 mod picture;
 mod ranks;
+mod spread;
 mod timed;
 
 pub use axis::place;
-pub use course::{Course, height_of};
+pub use course::{Course, every_height, height_of};
 pub use over_time::{MOST_STEPS, every_step, every_width};
 pub use picture::put_report_picture;
 pub use timed::TimedReporter;

@@ -1,7 +1,7 @@
 -- Piece by piece.
 use Rattle.report_picture.specs.Delays.{marks_text}
 use Rattle.frame_picture.proofs.Drawn.{then_text}
-use Rattle.report_picture.proofs.delays.put_marks.Goals as goal
+use Rattle.report_picture.proofs.spread.put_marks.Goals as goal
 
 pub returns : goal.returns
 unfolding marks_text
