@@ -2,7 +2,7 @@
 
 ghost use Rattle.std.specs.Prelude.{◌≡◌, length, IfOk, IfErr, OnOk, Ok};
 ghost use Rattle.line_stream.specs.Told.{untold};
-ghost use Rattle.text_stream.specs.Watched.{FailsBy};
+ghost use Rattle.live_command.specs.Failing.{FailsButFor};
 ghost use Rattle.live_command.specs.declared.fault.LiveFault.TheVariants.{Text, Journal as Failed};
 ghost use Rattle.live_command.specs.Going.{says_config, IsFront, MissesFront, Misses, ReadsFront, StopsGoing};
 ghost use Rattle.live_command.specs.Going.{WentOn, EndsGoing, NotGoing};
@@ -83,7 +83,7 @@ fn read_front<R: Source>(
         (untold lines.new (R.remaining reader.new)) lines.new) }
     ensures stops { IfErr result (StopsGoing config.now (untold lines.old (R.remaining reader.old))
         (R.remaining reader.new)) }
-    ensures failed { FailsBy (Text TextFault.Input) result
+    ensures failed { FailsButFor (Text TextFault.Input) (Text TextFault.TooLong) result
         (R.has_failed reader.old) (R.has_failed reader.new) }
 {
     match next_spoken(lines, reader)? {
@@ -126,9 +126,9 @@ pub fn go_on<R: Source, W: Sink, J: Journal>(
         (NotGoing scheduler.old scheduler.new writer.old writer.new journal.old journal.new)
         ((scheduler.new ≡ scheduler.old) × (writer.new ≡ writer.old))) }
 
-    // A failed read is told only where one has failed, a failed write or journal exactly there; where all went well
-    // none did.
-    ensures failed_read { FailsBy (Text TextFault.Input) result (R.has_failed reader.old)
+    // A failed read, write or journal is told exactly where one has failed, but that an input which is too long tells
+    // nothing of reads; where all went well none did.
+    ensures failed_read { FailsButFor (Text TextFault.Input) (Text TextFault.TooLong) result (R.has_failed reader.old)
         (R.has_failed reader.new) }
     ensures failed_write { FailsJustBy (Text TextFault.Output) result (W.has_failed writer.old)
         (W.has_failed writer.new) }

@@ -2,7 +2,7 @@
 
 ghost use Rattle.std.specs.Prelude.{◌≡◌, [], length, IfErr, OnOk, MatchResult, MatchOption};
 ghost use Rattle.line_stream.specs.Told.{untold};
-ghost use Rattle.text_stream.specs.Watched.{FailsBy};
+ghost use Rattle.live_command.specs.Failing.{FailsButFor};
 ghost use Rattle.live_command.specs.declared.fault.LiveFault.TheVariants.{Text, Journal as Failed};
 ghost use Rattle.live_command.specs.Journal.{FailsJustBy};
 ghost use Rattle.live_command.specs.Talk.{Start, start_at, Talk, TellsOn, Conversed, Stopped, StopsTalk};
@@ -40,7 +40,7 @@ fn talk_on<R: Source, W: Sink, J: Journal>(
         (λ e. Stopped s scheduler.new.history (W.contents writer.new) (J.stands_for journal.new s.config)
         × StopsTalk s scheduler.new (R.remaining reader.new) (W.contents writer.new)
         (J.stands_for journal.new s.config) e) }
-    ensures failed_read { FailsBy (Text TextFault.Input) result (R.has_failed reader.old)
+    ensures failed_read { FailsButFor (Text TextFault.Input) (Text TextFault.TooLong) result (R.has_failed reader.old)
         (R.has_failed reader.new) }
     ensures failed_write { FailsJustBy (Text TextFault.Output) result (W.has_failed writer.old)
         (W.has_failed writer.new) }
@@ -84,7 +84,7 @@ pub(crate) fn talk_from<R: Source, W: Sink, J: Journal>(
         (λ e. Stopped s scheduler.new.history (W.contents writer.new) (J.stands_for journal.new s.config)
         × StopsTalk s scheduler.new (R.remaining reader.new) (W.contents writer.new)
         (J.stands_for journal.new s.config) e) }
-    ensures failed_read { FailsBy (Text TextFault.Input) result (R.has_failed reader.old)
+    ensures failed_read { FailsButFor (Text TextFault.Input) (Text TextFault.TooLong) result (R.has_failed reader.old)
         (R.has_failed reader.new) }
     ensures failed_write { FailsJustBy (Text TextFault.Output) result (W.has_failed writer.old)
         (W.has_failed writer.new) }
@@ -151,9 +151,9 @@ pub fn converse<R: Source, W: Sink, J: Journal>(
         scheduler.new (R.remaining reader.new) (W.contents writer.new)
         (J.stands_for journal.new scheduler.old.config)) }
 
-    // A failed read is told only where one has failed, a failed write or journal exactly there; where all went well
-    // none did.
-    ensures failed_read { FailsBy (Text TextFault.Input) result (R.has_failed reader.old)
+    // A failed read, write or journal is told exactly where one has failed, but that an input which is too long tells
+    // nothing of reads; where all went well none did.
+    ensures failed_read { FailsButFor (Text TextFault.Input) (Text TextFault.TooLong) result (R.has_failed reader.old)
         (R.has_failed reader.new) }
     ensures failed_write { FailsJustBy (Text TextFault.Output) result (W.has_failed writer.old)
         (W.has_failed writer.new) }

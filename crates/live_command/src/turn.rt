@@ -4,7 +4,7 @@ ghost use Rattle.std.specs.Prelude.{◌≡◌, ◌<◌, ◌+◌, ℕ, List, Opti
 ghost use Rattle.std.specs.Prelude.{MatchOption};
 ghost use Rattle.line_stream.specs.Told.{untold};
 ghost use Rattle.sched_history.specs.Machine.{kept_of};
-ghost use Rattle.text_stream.specs.Watched.{FailsBy};
+ghost use Rattle.live_command.specs.Failing.{FailsButFor};
 ghost use Rattle.live_command.specs.declared.fault.LiveFault.TheVariants.{Text, Journal as Failed};
 ghost use Rattle.live_command.specs.Journal.{FailsJustBy};
 ghost use Rattle.live_command.specs.Talk.{Start, Talk, TellsOn, IsTurn, IsAnywhere, Conversed, Stopped, StopsTalk};
@@ -103,7 +103,7 @@ fn next_line<R: Source, W: Sink, J: Journal>(
         (λ e. Stopped s scheduler.new.history (W.contents writer.new) (J.stands_for journal.new s.config)
         × StopsTalk s scheduler.new (R.remaining reader.new) (W.contents writer.new)
         (J.stands_for journal.new s.config) e) }
-    ensures failed_read { FailsBy (Text TextFault.Input) result (R.has_failed reader.old)
+    ensures failed_read { FailsButFor (Text TextFault.Input) (Text TextFault.TooLong) result (R.has_failed reader.old)
         (R.has_failed reader.new) }
     ensures failed_write { FailsJustBy (Text TextFault.Output) result (W.has_failed writer.old)
         (W.has_failed writer.new) }
@@ -217,7 +217,7 @@ pub(crate) fn take_turn<R: Source, W: Sink, J: Journal>(
         (λ e. Stopped s scheduler.new.history (W.contents writer.new) (J.stands_for journal.new s.config)
         × StopsTalk s scheduler.new (R.remaining reader.new) (W.contents writer.new)
         (J.stands_for journal.new s.config) e) }
-    ensures failed_read { FailsBy (Text TextFault.Input) result (R.has_failed reader.old)
+    ensures failed_read { FailsButFor (Text TextFault.Input) (Text TextFault.TooLong) result (R.has_failed reader.old)
         (R.has_failed reader.new) }
     ensures failed_write { FailsJustBy (Text TextFault.Output) result (W.has_failed writer.old)
         (W.has_failed writer.new) }
