@@ -66,6 +66,7 @@ impl<T: Journal, C: Calling<T>> CallQueue<T, C> {
 
     /// Makes a call by this seat: it draws a ticket, and takes its turn with it. Where the ticket is not served at
     /// once, the seat leaves it with the call, and waits: whoever holds makes the call, or serves the ticket.
+    #[inline(always)]
     #[tactic(auto, using(crate::proofs::Turned::turn_looked))]
     pub fn call<R: Wait>(&self, rt: &R, seat: Seat<T>, call: C::Call) -> (Seat<T>, C::Reply)
         requires own { seat.lock ≡ self.now }
@@ -94,23 +95,12 @@ impl<T: Journal, C: Calling<T>> CallQueue<T, C> {
         ensures ended { EndsTurn T.stamp T.head T.entries C.made call result.1 held value result.0 }
     {
         let after = held.stamp().ticket.wrapping_add(1);
-        let ended = self.turn(rt, held, value, call);
-        if let Some(number) = self.signs.shown(after) {
-            self.go_on(rt, number, after);
-        }
-        ended
-    }
-
-    // Makes a call by the seat that holds, and leaves.
-    #[inline(always)]
-    fn turn<R: Wait>(&self, rt: &R, held: Held<T>, value: T, call: C::Call) -> (Seat<T>, C::Reply)
-        requires own { held.lock ≡ self.now }
-        requires handed { IsHanded T.head T.entries held value }
-        ensures ended { EndsTurn T.stamp T.head T.entries C.made call result.1 held value result.0 }
-    {
         let mut value = value;
         let reply = C::make(rt, &held, &mut value, call);
         let seat = self.lock.leave(held, value);
+        if let Some(number) = self.signs.shown(after) {
+            self.go_on(rt, number, after);
+        }
         (seat, reply)
     }
 
@@ -247,6 +237,19 @@ impl<T: Journal, C: Calling<T>> CallQueue<T, C> {
         tray.put_back(serving, (ticket, call));
         tray.call_up();
         tray.wake();
+    }
+
+    // Makes a call by the seat that holds, and leaves. `call_held` has these steps itself, so that the reply is moved once
+    // less where nobody waits.
+    fn turn<R: Wait>(&self, rt: &R, held: Held<T>, value: T, call: C::Call) -> (Seat<T>, C::Reply)
+        requires own { held.lock ≡ self.now }
+        requires handed { IsHanded T.head T.entries held value }
+        ensures ended { EndsTurn T.stamp T.head T.entries C.made call result.1 held value result.0 }
+    {
+        let mut value = value;
+        let reply = C::make(rt, &held, &mut value, call);
+        let seat = self.lock.leave(held, value);
+        (seat, reply)
     }
 
     // Makes the call that was taken up, whose ticket is served, by its own seat, and answers it. What was left with the

@@ -17,6 +17,7 @@ impl Calling<Desk> for Calls {
 
     ghost made = { IsMade };
 
+    #[inline(always)]
     fn make<R: Wait>(
         rt: &R,
         held: &Held<Desk>,
