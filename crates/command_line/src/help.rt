@@ -156,6 +156,11 @@ with --all there are all, in the order of their admissions. With --json the same
 numbers stand in one line of JSON, with delays in minislots. docs/REPORT.md has
 each number in a line.
 
+With --journal it reads a journal as `run --journal` prints it, of any length, line
+by line, and reports on it as on that history: standard error tells of bytes behind
+the last newline, which count for nothing (`torn` and how many), and of a line that
+is no entry (`bad journal at` and the line, counted from 0; nothing is printed).
+
 Exit statuses: 0, or 1 illegal, 2 for the command line, 3 for the input, 4 for the
 machine.
 

@@ -172,7 +172,8 @@ fn audit_command<'a>(alloc: Global) -> Result<Command<'a>, AllocError>
 
 // The command that tells how a channel did.
 fn report_command<'a>(alloc: Global) -> Result<Command<'a>, AllocError>
-    ensures { IfOk result (λ r. IsCommand r (codes "report") (codes "all" ∷ codes "json" ∷ []) []) }
+    ensures { IfOk result (λ r. IsCommand r (codes "report")
+        (codes "all" ∷ codes "json" ∷ codes "journal" ∷ []) []) }
 {
     let about = "Reads a history from standard input and prints how its channel did";
     let all = flag(
@@ -181,9 +182,11 @@ fn report_command<'a>(alloc: Global) -> Result<Command<'a>, AllocError>
         "Prints all flows, in place of the 30 that asked most",
     );
     let json = flag(alloc, "json", "Prints all numbers in JSON");
+    let lines = journal_option(alloc);
     command(alloc, "report", about, help::REPORT)
         .arg(all)?
-        .arg(json.conflicts_with("all")?)
+        .arg(json.conflicts_with("all")?)?
+        .arg(lines)
 }
 
 // The command that tells what is wrong in a file.
@@ -293,7 +296,8 @@ pub fn commands<'a>(alloc: Global) -> Result<Command<'a>, AllocError>
         ∷ (codes "decode", codes "HEX" ∷ codes "draw" ∷ codes "columns" ∷ codes "explain" ∷ codes "frame" ∷ [])
         ∷ (codes "draw", codes "from" ∷ codes "count" ∷ codes "journal" ∷ [])
         ∷ (codes "audit", codes "explain" ∷ codes "journal" ∷ [])
-        ∷ (codes "report", codes "all" ∷ codes "json" ∷ []) ∷ (codes "storm", []) ∷ (codes "check", [])
+        ∷ (codes "report", codes "all" ∷ codes "json" ∷ codes "journal" ∷ [])
+        ∷ (codes "storm", []) ∷ (codes "check", [])
         ∷ (codes "pcap", codes "mac" ∷ codes "journal" ∷ [])
         ∷ (codes "live", codes "explain" ∷ codes "frames" ∷ codes "journal" ∷ codes "sync" ∷ []) ∷ [])) }
 {

@@ -12,7 +12,7 @@ use journal_entries::EntriesEnd;
 use journal_file::live_journal_input;
 use live_command::{Wording, live_input};
 use pcap_command::{ADDRESS, address_of, frames_input, pcap_input, pcap_journal_input};
-use report_command::{Form, report_input};
+use report_command::{Form, report_input, report_journal_input};
 use run_command::{RunOutput, Words, run_input};
 use sched_check::check_input;
 use std::alloc::Global;
@@ -224,6 +224,9 @@ fn main(rt: HostRuntime) -> ExitCode {
         Some(("audit", audit)) if audit.get_flag("journal") => return audit_journal(&rt),
         Some(("audit", audit)) => audit_input(&rt, audit.get_flag("explain")),
         Some(("check", _)) => return check(&rt),
+        Some(("report", words)) if words.get_flag("journal") => {
+            return code_of(&rt, report_journal_input(&rt, form_of(words)));
+        }
         Some(("report", words)) => report_input(&rt, form_of(words)),
         Some(("storm", _)) => storm_input(&rt),
         Some(("pcap", words)) => return pcap(&rt, words),

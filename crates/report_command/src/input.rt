@@ -2,6 +2,8 @@
 //! nothing is left to flush.
 
 use crate::history::{run_report_json, run_report_text};
+use crate::journal_report::{run_journal_json, run_journal_text};
+use journal_entries::EntriesEnd;
 use std::io;
 use text_stream::{RunFault, Watched};
 
@@ -25,4 +27,23 @@ pub fn report_input(rt: &(impl Input + Print + AllocGlobal), form: Form) -> Resu
         Form::All => run_report_text(rt.alloc(), &mut reader, &mut writer, true),
         Form::Few => run_report_text(rt.alloc(), &mut reader, &mut writer, false),
     }
+}
+
+/// The command `report` on a journal: how it ends. What is torn, and which line is bad, is told on standard error.
+pub fn report_journal_input(
+    rt: &(impl Input + Print + Eprint + AllocGlobal),
+    form: Form,
+) -> Result<EntriesEnd, RunFault> {
+    let mut reader = Watched::new(rt.reader());
+    let mut writer = Watched::new(io::writer(rt));
+    let end = match form {
+        Form::Json => run_journal_json(rt.alloc(), &mut reader, &mut writer),
+        Form::All => run_journal_text(rt.alloc(), &mut reader, &mut writer, true),
+        Form::Few => run_journal_text(rt.alloc(), &mut reader, &mut writer, false),
+    }?;
+    // What is illegal stands on standard output.
+    if !matches!(end, EntriesEnd::Illegal(_)) {
+        end.tell(rt);
+    }
+    Ok(end)
 }

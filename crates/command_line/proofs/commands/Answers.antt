@@ -14,11 +14,13 @@ returns c =
     c.in_ok-draw_command.ensures in
     let audit = IsCommand-sub _ _ _ (codes "mapsched") (codes "audit") [] _ _ [] draw c.in_ok-subcommand-4.ensures
     c.in_ok-audit_command.ensures in
-    let storm = IsCommand-sub _ _ _ (codes "mapsched") (codes "storm") [] [] _ [] audit c.in_ok-subcommand-5.ensures
+    let report = IsCommand-sub _ _ _ (codes "mapsched") (codes "report") [] _ _ [] audit c.in_ok-subcommand-5.ensures
+    c.in_ok-report_command.ensures in
+    let storm = IsCommand-sub _ _ _ (codes "mapsched") (codes "storm") [] [] _ [] report c.in_ok-subcommand-6.ensures
     c.storm_command.ensures in
-    let check = IsCommand-sub _ _ _ (codes "mapsched") (codes "check") [] [] _ [] storm c.in_ok-subcommand-6.ensures
+    let check = IsCommand-sub _ _ _ (codes "mapsched") (codes "check") [] [] _ [] storm c.in_ok-subcommand-7.ensures
     c.check_command.ensures in
-    let pcap = IsCommand-sub _ _ _ (codes "mapsched") (codes "pcap") [] _ _ [] check c.in_ok-subcommand-7.ensures
+    let pcap = IsCommand-sub _ _ _ (codes "mapsched") (codes "pcap") [] _ _ [] check c.in_ok-subcommand-8.ensures
     c.in_ok-pcap_command.ensures in
     IfOk-weaker _ _ _ (λ r adds. IsCommand-sub _ _ r (codes "mapsched") (codes "live") [] _ _ [] pcap adds
-    c.in_ok-live_command.ensures) c.subcommand-8.ensures
+    c.in_ok-live_command.ensures) c.subcommand-9.ensures

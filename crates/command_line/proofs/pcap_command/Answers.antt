@@ -1,4 +1,4 @@
--- The option stands alone.
+-- The options stand in their order.
 use Rattle.std.proofs.Common.{codes, []}
 use Rattle.std.proofs.lemmas.Result.{IfOk-weaker}
 use Rattle.command_line.proofs.Adding.{IsCommand-arg}
@@ -6,5 +6,7 @@ use Rattle.command_line.proofs.pcap_command.Goals as goal
 
 pub returns : goal.returns
 returns c =
-    IfOk-weaker _ _ _ (λ r adds. IsCommand-arg c.command.result r _ (codes "pcap") (codes "mac") [] [] c.command.ensures
-    adds c.address_option.ensures.local c.address_option.ensures.named) c.arg.ensures
+    let first = IsCommand-arg c.command.result _ c.address_option.result (codes "pcap") (codes "mac") [] []
+    c.command.ensures c.in_ok-arg.ensures c.address_option.ensures.local c.address_option.ensures.named in
+    IfOk-weaker _ _ _ (λ r adds. IsCommand-arg _ r _ (codes "pcap") (codes "journal") _ [] first adds
+    c.journal_option.ensures.local c.journal_option.ensures.named) c.arg-2.ensures

@@ -24,7 +24,7 @@ fn push_rank(
 ) -> Result<(), AllocError> {
     let sums = told.numbers.sums;
     push_name(words, told.rank)?;
-    push_number(words, alloc, sums.granted, 10)?;
+    push_number(words, alloc, sums.granted, 9)?;
     push_number(words, alloc, sums.asks, 7)?;
     push_number(words, alloc, sums.served, 7)?;
     push_number(words, alloc, sums.waiting, 5)?;

@@ -1,5 +1,5 @@
 -- Before any entry none is taken; the first entry that may not follow is the one that is named.
-use Rattle.std.proofs.Common.{ℕ, length, refl, subst, arith}
+use Rattle.std.proofs.Common.{length, refl, subst, arith}
 use Rattle.std.proofs.lemmas.Option.{slice_get_read}
 use Rattle.sched_history.specs.History.{IsStep}
 use Rattle.sched_history.specs.Machine.{Past}

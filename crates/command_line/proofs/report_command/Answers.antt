@@ -1,0 +1,14 @@
+-- The options stand in their order.
+use Rattle.std.proofs.Common.{rules, codes, []}
+use Rattle.std.proofs.lemmas.Result.{IfOk-weaker}
+use Rattle.command_line.proofs.Adding.{IsCommand-arg}
+use Rattle.command_line.proofs.report_command.Goals as goal
+
+pub returns : goal.returns
+returns c =
+    let first = IsCommand-arg c.command.result _ c.flag-all.result (codes "report") (codes "all") [] []
+    c.command.ensures c.in_ok-arg.ensures (search rules) (search rules) in
+    let second = IsCommand-arg _ _ _ (codes "report") (codes "json") _ [] first c.in_ok-arg-2.ensures
+    (search rules) (search rules) in
+    IfOk-weaker _ _ _ (λ r adds. IsCommand-arg _ r _ (codes "report") (codes "journal") _ [] second adds
+    c.journal_option-lines.ensures.local c.journal_option-lines.ensures.named) c.arg-3.ensures
