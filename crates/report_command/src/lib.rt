@@ -5,5 +5,5 @@ mod fed;
 mod history;
 mod input;
 
-pub use history::{run_report_json, run_report_text};
+pub use history::{run_report_json, run_report_picture, run_report_text};
 pub use input::{Form, report_input};
