@@ -153,8 +153,9 @@ which its last byte was granted. Delays are in milliseconds, rates in bits per
 second; a number without room is told in thousands (k), millions (M) and so on,
 and - stands for none. Of more than 30 lives those stand there that asked most;
 with --all there are all, in the order of their admissions. With --json the same
-numbers stand in one line of JSON, with delays in minislots. docs/REPORT.md has
-each number in a line.
+numbers stand in one line of JSON, with delays in minislots; with --svg a picture
+of them in SVG, the use of minislots over time and the delays by rank.
+docs/REPORT.md has each number in a line.
 
 With --journal it reads a journal as `run --journal` prints it, of any length, line
 by line, and reports on it as on that history: standard error tells of bytes behind

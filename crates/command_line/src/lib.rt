@@ -173,7 +173,7 @@ fn audit_command<'a>(alloc: Global) -> Result<Command<'a>, AllocError>
 // The command that tells how a channel did.
 fn report_command<'a>(alloc: Global) -> Result<Command<'a>, AllocError>
     ensures { IfOk result (λ r. IsCommand r (codes "report")
-        (codes "all" ∷ codes "json" ∷ codes "journal" ∷ []) []) }
+        (codes "all" ∷ codes "json" ∷ codes "svg" ∷ codes "journal" ∷ []) []) }
 {
     let about = "Reads a history from standard input and prints how its channel did";
     let all = flag(
@@ -182,10 +182,12 @@ fn report_command<'a>(alloc: Global) -> Result<Command<'a>, AllocError>
         "Prints all flows, in place of the 30 that asked most",
     );
     let json = flag(alloc, "json", "Prints all numbers in JSON");
+    let svg = flag(alloc, "svg", "Prints a picture of them in SVG");
     let lines = journal_option(alloc);
     command(alloc, "report", about, help::REPORT)
         .arg(all)?
         .arg(json.conflicts_with("all")?)?
+        .arg(svg.conflicts_with("all")?.conflicts_with("json")?)?
         .arg(lines)
 }
 
@@ -296,7 +298,7 @@ pub fn commands<'a>(alloc: Global) -> Result<Command<'a>, AllocError>
         ∷ (codes "decode", codes "HEX" ∷ codes "draw" ∷ codes "columns" ∷ codes "explain" ∷ codes "frame" ∷ [])
         ∷ (codes "draw", codes "from" ∷ codes "count" ∷ codes "journal" ∷ [])
         ∷ (codes "audit", codes "explain" ∷ codes "journal" ∷ [])
-        ∷ (codes "report", codes "all" ∷ codes "json" ∷ codes "journal" ∷ [])
+        ∷ (codes "report", codes "all" ∷ codes "json" ∷ codes "svg" ∷ codes "journal" ∷ [])
         ∷ (codes "storm", []) ∷ (codes "check", [])
         ∷ (codes "pcap", codes "mac" ∷ codes "journal" ∷ [])
         ∷ (codes "live", codes "explain" ∷ codes "frames" ∷ codes "journal" ∷ codes "sync" ∷ []) ∷ [])) }

@@ -152,6 +152,9 @@ fn form_of(report: &ArgMatches) -> Form {
     if report.get_flag("json") {
         return Form::Json;
     }
+    if report.get_flag("svg") {
+        return Form::Picture;
+    }
     if report.get_flag("all") {
         return Form::All;
     }

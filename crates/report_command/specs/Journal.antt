@@ -8,6 +8,7 @@ use Rattle.journal_entries.specs.declared.end.EntriesEnd.{EntriesEnd}
 use Rattle.journal_entries.specs.declared.end.EntriesEnd.TheVariants as ends
 use Rattle.journal_reading.specs.Judging.{FindsLegal, FindsIllegal, FindsBad}
 use Rattle.report_writing.specs.Report.{IsReportText}
+use Rattle.report_picture.specs.Picture.{IsReportPicture}
 use Rattle.report_command.specs.declared.journal.Shown.{Shown}
 use Rattle.report_command.specs.declared.journal.Shown.TheVariants as shown
 use Rattle.report_command.specs.Report.{IsText}
@@ -44,3 +45,7 @@ JournalJson unread left before after end = ReportedJournal IsReportText unread l
 -- with a text of which nothing is promised
 abbrev pub JournalText : Option (List ℕ) → Option (List ℕ) → Option (List ℕ) → Option (List ℕ) → EntriesEnd → Type 0
 JournalText unread left before after end = ReportedJournal IsText unread left before after end
+
+-- with its picture
+abbrev pub JournalPicture : Option (List ℕ) → Option (List ℕ) → Option (List ℕ) → Option (List ℕ) → EntriesEnd → Type 0
+JournalPicture unread left before after end = ReportedJournal IsReportPicture unread left before after end

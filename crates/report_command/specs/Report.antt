@@ -13,6 +13,7 @@ use Rattle.text_stream.specs.declared.fault.TextFault.TheVariants.{Input, TooLon
 use Rattle.text_stream.specs.declared.fault.TextFault.TheVariants.{Output}
 use Rattle.text_stream.specs.declared.run_fault.RunFault.TheVariants.{Text, Threads}
 use Rattle.report_writing.specs.Report.{IsReportText}
+use Rattle.report_picture.specs.Picture.{IsReportPicture}
 use Rattle.report_command.specs.declared.fed.Fed.{Fed}
 use Rattle.report_command.specs.declared.fed.Fed.TheVariants.{Legal, Illegal}
 
@@ -44,6 +45,11 @@ pub record ReportsIllegal (unread left before after : Option (List ℕ)) : Type 
 abbrev pub ReportedJson : Option (List ℕ) → Option (List ℕ) → Option (List ℕ) → Option (List ℕ) → Bool → Type 0
 ReportedJson unread left before after true = ReportsLegal IsReportText unread left before after
 ReportedJson unread left before after false = ReportsIllegal unread left before after
+
+-- the same with its picture
+abbrev pub ReportedPicture : Option (List ℕ) → Option (List ℕ) → Option (List ℕ) → Option (List ℕ) → Bool → Type 0
+ReportedPicture unread left before after true = ReportsLegal IsReportPicture unread left before after
+ReportedPicture unread left before after false = ReportsIllegal unread left before after
 
 -- any text
 abbrev pub IsText : Configuration → List Entry → List ℕ → Type 0

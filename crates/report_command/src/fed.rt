@@ -5,8 +5,8 @@ ghost use Rattle.sched_history.specs.declared.reply.TheConstants.{MAX_ENTRIES};
 ghost use Rattle.report_command.specs.Report.{IsFed};
 
 use minislots::Checked;
+use report_picture::TimedReporter;
 use sched_history::{Entry, JudgeFault};
-use sched_report::Reporter;
 use std::alloc::Global;
 use text_stream::TextFault;
 
@@ -14,7 +14,7 @@ use text_stream::TextFault;
 #[derive(Drop)]
 pub(crate) enum Fed {
     // Legal: the reporter has taken them all.
-    Legal(Reporter),
+    Legal(TimedReporter),
     // This one, counted from 0, is the first that may not follow those before it.
     Illegal(usize),
 }
@@ -25,7 +25,7 @@ pub(crate) fn feed(alloc: Global, config: &Checked, entries: &[Entry]) -> Result
     ensures ok { IfOk result (IsFed config.now entries.now) }
     ensures err { IfErr result (λ e. e ≡ TextFault.Memory) }
 {
-    let Ok(mut reporter) = Reporter::open(alloc, *config) else {
+    let Ok(mut reporter) = TimedReporter::open(alloc, *config) else {
         return Err(TextFault::Memory);
     };
     for index in 0..entries.len() {

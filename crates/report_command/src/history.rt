@@ -4,10 +4,11 @@ ghost use Rattle.std.specs.Prelude.{◌≡◌, codes, false, IfOk, IfErr};
 ghost use Rattle.text_stream.specs.Writing.{Writes};
 ghost use Rattle.text_stream.specs.RunFault.{TellsFailedRead, TellsFailedWrite, WritesLast};
 ghost use Rattle.sched_lines.specs.Line.{number_line};
-ghost use Rattle.report_command.specs.Report.{ReportedJson, ReportedText, StopsReport};
+ghost use Rattle.report_command.specs.Report.{ReportedJson, ReportedPicture, ReportedText, StopsReport};
 
 use crate::fed::{Fed, feed};
 use history_reading::read_history;
+use report_picture::put_report_picture;
 use report_writing::{json_text, report_text};
 use sched_lines::put_named;
 use std::alloc::Global;
@@ -48,7 +49,7 @@ pub fn run_report_json<R: Source, W: Sink>(
         Fed::Legal(reporter) => reporter,
         Fed::Illegal(place) => return Ok(put_illegal(writer, place)?),
     };
-    let Ok(text) = json_text(alloc, &reporter) else {
+    let Ok(text) = json_text(alloc, reporter.reporter()) else {
         return Err(RunFault::Text(TextFault::Memory));
     };
     put(writer, &text)?;
@@ -79,9 +80,36 @@ pub fn run_report_text<R: Source, W: Sink>(
         Fed::Legal(reporter) => reporter,
         Fed::Illegal(place) => return Ok(put_illegal(writer, place)?),
     };
-    let Ok(words) = report_text(alloc, &config, &reporter, all) else {
+    let Ok(words) = report_text(alloc, &config, reporter.reporter(), all) else {
         return Err(RunFault::Text(TextFault::Memory));
     };
     put(writer, words.as_bytes())?;
+    Ok(true)
+}
+
+/// The same with the report as a picture in SVG: the use of minislots over time, stacked, and delays by rank.
+pub fn run_report_picture<R: Source, W: Sink>(
+    alloc: Global,
+    reader: &mut R,
+    writer: &mut W,
+) -> Result<bool, RunFault>
+    // What was written is the picture of the report on the history that was read, and nothing else.
+    ensures ok { IfOk result (ReportedPicture (R.remaining reader.old) (R.remaining reader.new)
+        (W.contents writer.old) (W.contents writer.new)) }
+
+    // Each fault comes under its own condition, the first one in their order.
+    ensures stops { IfErr result (StopsReport (R.remaining reader.old) (R.remaining reader.new)) }
+    ensures quiet { WritesLast result writer.old writer.new }
+
+    // A failed read or write is told where one has failed, and where all went well none did.
+    ensures failed_read { TellsFailedRead result (R.has_failed reader.old) (R.has_failed reader.new) }
+    ensures failed_write { TellsFailedWrite result (W.has_failed writer.old) (W.has_failed writer.new) }
+{
+    let (config, entries) = read_history(alloc, reader)?;
+    let reporter = match feed(alloc, &config, &entries)? {
+        Fed::Legal(reporter) => reporter,
+        Fed::Illegal(place) => return Ok(put_illegal(writer, place)?),
+    };
+    put_report_picture(writer, &config, &reporter)?;
     Ok(true)
 }

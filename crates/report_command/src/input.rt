@@ -1,8 +1,8 @@
 //! The command over what the program has: standard input and standard output, which is written with no buffer, so that
 //! nothing is left to flush.
 
-use crate::history::{run_report_json, run_report_text};
-use crate::journal_report::{run_journal_json, run_journal_text};
+use crate::history::{run_report_json, run_report_picture, run_report_text};
+use crate::journal_report::{run_journal_json, run_journal_picture, run_journal_text};
 use journal_entries::EntriesEnd;
 use std::io;
 use text_stream::{RunFault, Watched};
@@ -16,6 +16,8 @@ pub enum Form {
     All,
     /// In tables, with the 30 lives that asked most.
     Few,
+    /// As a picture in SVG.
+    Picture,
 }
 
 /// The command `report`: whether the history is legal.
@@ -26,6 +28,7 @@ pub fn report_input(rt: &(impl Input + Print + AllocGlobal), form: Form) -> Resu
         Form::Json => run_report_json(rt.alloc(), &mut reader, &mut writer),
         Form::All => run_report_text(rt.alloc(), &mut reader, &mut writer, true),
         Form::Few => run_report_text(rt.alloc(), &mut reader, &mut writer, false),
+        Form::Picture => run_report_picture(rt.alloc(), &mut reader, &mut writer),
     }
 }
 
@@ -40,6 +43,7 @@ pub fn report_journal_input(
         Form::Json => run_journal_json(rt.alloc(), &mut reader, &mut writer),
         Form::All => run_journal_text(rt.alloc(), &mut reader, &mut writer, true),
         Form::Few => run_journal_text(rt.alloc(), &mut reader, &mut writer, false),
+        Form::Picture => run_journal_picture(rt.alloc(), &mut reader, &mut writer),
     }?;
     // What is illegal stands on standard output.
     if !matches!(end, EntriesEnd::Illegal(_)) {

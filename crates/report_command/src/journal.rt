@@ -11,8 +11,8 @@ ghost use Rattle.report_command.specs.Journal.{IsShown};
 
 use journal_entries::{EntriesEnd, JournalEntries, Next};
 use minislots::Checked;
+use report_picture::TimedReporter;
 use sched_history::{Entry, JudgeFault, MAX_WHOLE_HISTORY};
-use sched_report::Reporter;
 use std::alloc::Global;
 use text_stream::{Source, TextFault};
 
@@ -21,7 +21,7 @@ use text_stream::{Source, TextFault};
 pub(crate) enum Shown {
     // A legal history under this configuration: the reporter has taken all its entries. So many bytes stand behind the
     // last newline.
-    Legal(Checked, Reporter, u64),
+    Legal(Checked, TimedReporter, u64),
     // This entry, counted from 0, is the first that may not follow those before it.
     Illegal(u64),
     // This line, counted from 0, stands for nothing.
@@ -29,7 +29,7 @@ pub(crate) enum Shown {
 }
 
 // Shows an entry to a reporter that may follow those that it has taken.
-fn take_legal(reporter: &mut Reporter, entry: &Entry) -> Result<(), TextFault>
+fn take_legal(reporter: &mut TimedReporter, entry: &Entry) -> Result<(), TextFault>
     requires legal { IsLegal reporter.old.config (reporter.old.history ++ entry.now ∷ []) }
     requires few { length reporter.old.history < MAX_WHOLE_HISTORY }
     ensures taken { OnOk result
@@ -47,7 +47,7 @@ fn take_legal(reporter: &mut Reporter, entry: &Entry) -> Result<(), TextFault>
 // Shows the entries of a journal to a reporter, up to what ends it.
 fn take_entries<R: Source>(
     entries: &mut JournalEntries,
-    reporter: &mut Reporter,
+    reporter: &mut TimedReporter,
     reader: &mut R,
 ) -> Result<EntriesEnd, TextFault>
     requires same { reporter.old ≡ entries.old.auditor }
@@ -101,7 +101,7 @@ fn show_entries<R: Source>(
         StopsJournal before (R.remaining reader.new) fault) }
     ensures failed { FailsBy TextFault.Input result (R.has_failed reader.old) (R.has_failed reader.new) }
 {
-    let Ok(mut reporter) = Reporter::open(alloc, config) else {
+    let Ok(mut reporter) = TimedReporter::open(alloc, config) else {
         return Err(TextFault::Memory);
     };
     match take_entries(&mut entries, &mut reporter, reader) {

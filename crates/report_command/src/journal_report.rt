@@ -5,10 +5,11 @@ ghost use Rattle.text_stream.specs.Writing.{Writes};
 ghost use Rattle.text_stream.specs.RunFault.{TellsFailedRead, TellsFailedWrite, WritesLast};
 ghost use Rattle.sched_lines.specs.Line.{number_line};
 ghost use Rattle.journal_entries.specs.End.{StopsCommand};
-ghost use Rattle.report_command.specs.Journal.{JournalJson, JournalText};
+ghost use Rattle.report_command.specs.Journal.{JournalJson, JournalPicture, JournalText};
 
 use crate::journal::{Shown, show_journal};
 use journal_entries::EntriesEnd;
+use report_picture::put_report_picture;
 use report_writing::{json_text, report_text};
 use sched_lines::put_named;
 use std::alloc::Global;
@@ -49,7 +50,7 @@ pub fn run_journal_json<R: Source, W: Sink>(
         Shown::Illegal(place) => return Ok(put_illegal_entry(writer, place)?),
         Shown::Bad(line) => return Ok(EntriesEnd::Bad(line)),
     };
-    let Ok(text) = json_text(alloc, &reporter) else {
+    let Ok(text) = json_text(alloc, reporter.reporter()) else {
         return Err(RunFault::Text(TextFault::Memory));
     };
     put(writer, &text)?;
@@ -80,9 +81,36 @@ pub fn run_journal_text<R: Source, W: Sink>(
         Shown::Illegal(place) => return Ok(put_illegal_entry(writer, place)?),
         Shown::Bad(line) => return Ok(EntriesEnd::Bad(line)),
     };
-    let Ok(words) = report_text(alloc, &config, &reporter, all) else {
+    let Ok(words) = report_text(alloc, &config, reporter.reporter(), all) else {
         return Err(RunFault::Text(TextFault::Memory));
     };
     put(writer, words.as_bytes())?;
+    Ok(EntriesEnd::Legal(torn))
+}
+
+/// The same with the report as a picture in SVG: the use of minislots over time, stacked, and delays by rank.
+pub fn run_journal_picture<R: Source, W: Sink>(
+    alloc: Global,
+    reader: &mut R,
+    writer: &mut W,
+) -> Result<EntriesEnd, RunFault>
+    // What was written is the picture of the report on exactly the entries that the journal stands for, and nothing else.
+    ensures ok { IfOk result (JournalPicture (R.remaining reader.old) (R.remaining reader.new)
+        (W.contents writer.old) (W.contents writer.new)) }
+
+    // Each fault comes under its own condition.
+    ensures stops { IfErr result (StopsCommand (R.remaining reader.old) (R.remaining reader.new)) }
+    ensures quiet { WritesLast result writer.old writer.new }
+
+    // A failed read or write is told where one has failed, and where all went well none did.
+    ensures failed_read { TellsFailedRead result (R.has_failed reader.old) (R.has_failed reader.new) }
+    ensures failed_write { TellsFailedWrite result (W.has_failed writer.old) (W.has_failed writer.new) }
+{
+    let (config, reporter, torn) = match show_journal(alloc, reader)? {
+        Shown::Legal(config, reporter, torn) => (config, reporter, torn),
+        Shown::Illegal(place) => return Ok(put_illegal_entry(writer, place)?),
+        Shown::Bad(line) => return Ok(EntriesEnd::Bad(line)),
+    };
+    put_report_picture(writer, &config, &reporter)?;
     Ok(EntriesEnd::Legal(torn))
 }

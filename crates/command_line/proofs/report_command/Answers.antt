@@ -10,5 +10,7 @@ returns c =
     c.command.ensures c.in_ok-arg.ensures (search rules) (search rules) in
     let second = IsCommand-arg _ _ _ (codes "report") (codes "json") _ [] first c.in_ok-arg-2.ensures
     (search rules) (search rules) in
-    IfOk-weaker _ _ _ (λ r adds. IsCommand-arg _ r _ (codes "report") (codes "journal") _ [] second adds
-    c.journal_option-lines.ensures.local c.journal_option-lines.ensures.named) c.arg-3.ensures
+    let third = IsCommand-arg _ _ _ (codes "report") (codes "svg") _ [] second c.in_ok-arg-3.ensures
+    (search rules) (search rules) in
+    IfOk-weaker _ _ _ (λ r adds. IsCommand-arg _ r _ (codes "report") (codes "journal") _ [] third adds
+    c.journal_option-lines.ensures.local c.journal_option-lines.ensures.named) c.arg-4.ensures
