@@ -1,7 +1,8 @@
 -- What is kept after one frame more.
 use Rattle.std.proofs.Common.{◌≡◌, ℕ, ◌+◌, ◌*◌, ◌/◌, ◌%◌, ◌<◌, ◌≤◌, List, [], ◌∷◌, ◌++◌, length, take, suc}
 use Rattle.std.proofs.Common.{get_or, set, inl, inr, ap, sym, subst, refl, ◌∙◌, None, arith}
-use Rattle.std.proofs.Math.Nat.{mul-le-mul_left, two-pow-succ, mul-div_cancel, mul-mod_right, mod-eq-sub-mul-div, div-lt_iff_lt-mul, mul-div-le}
+use Rattle.std.proofs.Math.Nat.{mul-le-mul_left, two-pow-succ, mul-div_cancel, mul-mod_right, mod-eq-sub-mul-div}
+use Rattle.std.proofs.Math.Nat.{div-lt_iff_lt-mul, mul-div-le}
 use Rattle.std.proofs.lemmas.Bool.{cases_lt}
 use Rattle.std.proofs.lemmas.Grind.{get_or-set_at}
 use Rattle.std.proofs.lemmas.List.{take-append-le, take_all, length_push, length-set, get_or-set_other}

@@ -58,7 +58,8 @@ step_text c uses i =
     (frame_place c (first_frame c i) ∷ frame_place c (frame_behind c i) ∷ first_frame c i ∷ (frame_behind c i - 1)
     ∷ (use_at uses i).request ∷ (use_at uses i).poll ∷ [])
     ++ filled (codes "unsolicited @, opportunities @, data grants @, idle @</title></path>\n")
-    ((use_at uses i).unsolicited ∷ (use_at uses i).opportunity ∷ (use_at uses i).data_grants ∷ (use_at uses i).idle ∷ [])
+    ((use_at uses i).unsolicited ∷ (use_at uses i).opportunity ∷ (use_at uses i).data_grants
+    ∷ (use_at uses i).idle ∷ [])
 
 -- what all steps say
 abbrev pub steps_text : Course → List Slots → List ℕ

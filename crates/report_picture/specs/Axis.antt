@@ -2,8 +2,8 @@
 use Rattle.std.specs.Prelude.{ℕ, ◌+◌, ◌*◌, ◌/◌, max, nat_le, if◌then◌else◌, List, [], ◌∷◌}
 use Rattle.report_picture.specs.declared.axis.TheConstants.{ROUND}
 
--- the place of an amount on an axis that is so many units long and has this amount at its end: at the part of its length
--- that the amount is of that one, rounded down
+-- the place of an amount on an axis that is so many units long and has this amount at its end: at the part of its
+-- length that the amount is of that one, rounded down
 abbrev pub place : ℕ → ℕ → ℕ → ℕ
 place long amount full = long * amount / max full 1
 

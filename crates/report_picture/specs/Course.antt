@@ -15,7 +15,7 @@ frame_behind c i = min (c.width * (i + 1)) c.frames
 abbrev pub frames_in_step : Course → ℕ → ℕ
 frames_in_step c i = frame_behind c i - first_frame c i
 
--- how high so many minislots of a step stand, in tenths of a unit, where 320 units stand for all minislots of its frames
+-- how high so many minislots of a step stand, in tenths of a unit: 320 units stand for all minislots of its frames
 abbrev pub height_of : Course → ℕ → ℕ → ℕ
 height_of c i slots = place 3200 slots (frames_in_step c i * c.frame)
 

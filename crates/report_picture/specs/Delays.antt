@@ -59,7 +59,8 @@ rank_text rank =
 -- the marks of delays: from the least to the 99th, to the greatest, at the 99th and at the middle
 unfoldable pub marks_text : Scale → Spread → List ℕ
 marks_text s d =
-    filled (codes "<path class='range' d='M~ 9V23H~V9z'/><path class='most' d='M~ 16H~'/><path class='most' d='M~ 8v16'/>")
+    filled
+    (codes "<path class='range' d='M~ 9V23H~V9z'/><path class='most' d='M~ 16H~'/><path class='most' d='M~ 8v16'/>")
     (delay_place s d.least ∷ delay_place s d.p99 ∷ delay_place s d.least ∷ delay_place s d.greatest
     ∷ delay_place s d.greatest ∷ [])
     ++ filled (codes "<path d='M~ 9l7 14h-14z'/><circle class='middle' cx='~' cy='16' r='5'/>\n")

@@ -22,7 +22,8 @@ unfoldable pub style_text : List ℕ
 style_text =
     codes "' font-family='sans-serif' font-size='12' style='background:#fff'>\n<style>.head{font-size:14px}"
     ++ (codes ".at,.end,.part{font-size:11px}.at{text-anchor:middle}.end{text-anchor:end}.key,.area{stroke:#333;"
-    ++ (codes "stroke-width:.5px}\n.tick{stroke:#000;stroke-opacity:.2}.edge{stroke:#333;fill:none}.step{fill-opacity:0}\n"
+    ++ (codes
+    "stroke-width:.5px}\n.tick{stroke:#000;stroke-opacity:.2}.edge{stroke:#333;fill:none}.step{fill-opacity:0}\n"
     ++ (codes ".request{fill:url(#request)}.poll{fill:url(#poll)}.unsolicited{fill:url(#unsolicited)}\n"
     ++ (codes ".opportunity{fill:url(#opportunity)}.data{fill:#2f7fc1}.idle{fill:#fff}.range{fill:#ccc}\n"
     ++ (codes ".most{stroke:#333;stroke-width:2px}.middle{fill:#fff;stroke:#000;stroke-width:2px}</style>\n")))))
@@ -57,7 +58,8 @@ title_text c t =
     (c.frames ∷ c.frame ∷ microseconds c.ticks c.frame ∷ [])
     ++ (span_text c.ticks t.from t.to
     ++ (filled (codes " Skips: @.</text>\n") (t.skips ∷ [])
-    ++ filled (codes "<text x='96' y='47'>Frames in a step: @. The height of a step is the mean of its frames.</text>\n")
+    ++ filled
+    (codes "<text x='96' y='47'>Frames in a step: @. The height of a step is the mean of its frames.</text>\n")
     (c.width ∷ [])))
 
 -- a key of the legend: a look, and how many in a thousand of all minislots have it
@@ -71,13 +73,15 @@ first_keys s =
     s.request (all_slots s)
     ++ (key_text (codes "<path class='key poll' d='M290 60h28v16h-28z'/><text x='326' y='73'>polls ~ %</text>\n")
     s.poll (all_slots s)
-    ++ key_text (codes "<path class='key unsolicited' d='M420 60h28v16h-28z'/><text x='456' y='73'>unsolicited ~ %</text>\n")
+    ++ key_text
+    (codes "<path class='key unsolicited' d='M420 60h28v16h-28z'/><text x='456' y='73'>unsolicited ~ %</text>\n")
     s.unsolicited (all_slots s))
 
 -- the others
 unfoldable pub last_keys : Slots → List ℕ
 last_keys s =
-    key_text (codes "<path class='key opportunity' d='M590 60h28v16h-28z'/><text x='626' y='73'>opportunities ~ %</text>\n")
+    key_text
+    (codes "<path class='key opportunity' d='M590 60h28v16h-28z'/><text x='626' y='73'>opportunities ~ %</text>\n")
     s.opportunity (all_slots s)
     ++ (key_text (codes "<path class='key data' d='M786 60h28v16h-28z'/><text x='822' y='73'>data grants ~ %</text>\n")
     s.data_grants (all_slots s)

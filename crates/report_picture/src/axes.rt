@@ -1,8 +1,8 @@
 //! The axes of the use of minislots: frames and their milliseconds to the right, minislots of a frame upwards.
 
 ghost use Rattle.std.specs.Prelude.{◌≡◌, ◌<◌, ◌≤◌, ◌^◌};
-ghost use Rattle.report_picture.specs.Axes.{frame_mark, frame_tick, frame_ticks, slots_tick, slots_ticks, part_ticks, axes_names};
-ghost use Rattle.report_picture.specs.Axes.{axes_text};
+ghost use Rattle.report_picture.specs.Axes.{frame_mark, frame_tick, frame_ticks, slots_tick, slots_ticks};
+ghost use Rattle.report_picture.specs.Axes.{part_ticks, axes_names, axes_text};
 ghost use Rattle.text_stream.specs.Writing.{Puts};
 
 use crate::axis::{microseconds, place, round_step};

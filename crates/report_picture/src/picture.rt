@@ -99,8 +99,8 @@ fn course_of(config: &Checked, over_time: &UseOverTime) -> Course
 }
 
 /// Writes the picture of the report on the entries that were taken, under the configuration of the reporter: the use of
-/// minislots over time, stacked, in at most 800 steps, and the delays of each rank that asked. Takes no memory, and only
-/// a failed write ends it.
+/// minislots over time, stacked, in at most 800 steps, and the delays of each rank that asked. Takes no memory, and
+/// only a failed write ends it.
 pub fn put_report_picture<W: Sink>(
     writer: &mut W,
     config: &Checked,

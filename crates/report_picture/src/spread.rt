@@ -1,7 +1,8 @@
 //! How the delays of a rank are spread, and how that is drawn.
 
 ghost use Rattle.std.specs.Prelude.{◌≡◌, ◌<◌, ◌^◌};
-ghost use Rattle.report_picture.specs.Delays.{spread_with, scale_to, delay_place, marks_text, numbers_text, spread_text};
+ghost use Rattle.report_picture.specs.Delays.{spread_with, scale_to, delay_place, marks_text, numbers_text};
+ghost use Rattle.report_picture.specs.Delays.{spread_text};
 ghost use Rattle.text_stream.specs.Writing.{Puts};
 
 use crate::axis::{microseconds, place};

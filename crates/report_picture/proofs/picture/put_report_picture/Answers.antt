@@ -13,7 +13,8 @@ returns g c =
     let width = c.over_time-over_time.result.now.width in
     let told = c.over_time-over_time.ensures.told in
     let ranks = c.ranks_told-ranks.result in (
-      report_text (course_of past.config (length fs) width) (totals_of past.config past.history) (uses_of width fs) ranks,
+      report_text (course_of past.config (length fs) width) (totals_of past.config past.history)
+          (uses_of width fs) ranks,
       record {
         width = width;
         is_width = told.width;
