@@ -239,8 +239,8 @@ impl<T: Journal, C: Calling<T>> CallQueue<T, C> {
         tray.wake();
     }
 
-    // Makes a call by the seat that holds, and leaves. `call_held` has these steps itself, so that the reply is moved once
-    // less where nobody waits.
+    // Makes a call by the seat that holds, and leaves. `call_held` has these steps itself, so that the reply is moved
+    // once less where nobody waits.
     fn turn<R: Wait>(&self, rt: &R, held: Held<T>, value: T, call: C::Call) -> (Seat<T>, C::Reply)
         requires own { held.lock ≡ self.now }
         requires handed { IsHanded T.head T.entries held value }
@@ -260,7 +260,8 @@ impl<T: Journal, C: Calling<T>> CallQueue<T, C> {
             ≡ record { tray = taken.tray.now; left = Some (taken.ticket, taken.call) } }
         ensures taken { IfSome result (λ t. (t.ticket.lock ≡ self.now)
             × (t.serving ≡ record { tray = t.tray.now; left = Some (t.ticket, t.call) })) }
-        ensures next { IfSome result (λ t. t.ticket.ticket % 2 ^ 64 ≡ (taken.entry.ticket.ticket % 2 ^ 64 + 1) % 2 ^ 64) }
+        ensures next { IfSome result (λ t.
+            t.ticket.ticket % 2 ^ 64 ≡ (taken.entry.ticket.ticket % 2 ^ 64 + 1) % 2 ^ 64) }
     {
         let Taken {
             tray,
