@@ -219,7 +219,9 @@ line that is no call changes nothing, and has one of these for an answer:
   bad line long    it has more than 65536 bytes
   bad line json    it is not JSON
   bad line shape   it is JSON, but no call
-`calls` of the configuration is no end: what was recorded is let go.
+`calls` of the configuration is no end: what was recorded is let go. With --explain the
+meaning of a refusal stands behind it, and with --frames the whole frame of a MAP behind
+`map`, as `run` has them.
 
 With --journal each call is recorded in FILE before its answer is written, and a file
 that has a journal already is gone on with: then the first line may be left out.

@@ -46,11 +46,19 @@ fn run_explain_option<'a>(alloc: Global) -> Result<Arg<'a>, AllocError>
 }
 
 // The whole frames of MAPs.
+fn frames_flag<'a>(alloc: Global) -> Arg<'a>
+    ensures named { result.id.now ≡ codes "frames" }
+    ensures local { result.global ≡ false }
+{
+    flag(alloc, "frames", "Prints the whole frame of each MAP")
+}
+
+// The whole frames of the MAPs of a run.
 fn run_frames_option<'a>(alloc: Global) -> Result<Arg<'a>, AllocError>
     ensures named { IfOk result (λ r. r.id.now ≡ codes "frames") }
     ensures local { IfOk result (λ r. r.global ≡ false) }
 {
-    flag(alloc, "frames", "Prints the whole frame of each MAP")
+    frames_flag(alloc)
         .conflicts_with("history")?
         .conflicts_with("explain")?
         .conflicts_with("journal")
@@ -237,6 +245,14 @@ fn program<'a>(alloc: Global) -> Command<'a>
         .subcommand_required(true)
 }
 
+// The whole frames of the MAPs of a conversation.
+fn live_frames_option<'a>(alloc: Global) -> Result<Arg<'a>, AllocError>
+    ensures named { IfOk result (λ r. r.id.now ≡ codes "frames") }
+    ensures local { IfOk result (λ r. r.global ≡ false) }
+{
+    frames_flag(alloc).conflicts_with("explain")
+}
+
 // The journal of a conversation.
 fn live_journal_option<'a>(alloc: Global) -> Arg<'a>
     ensures named { result.id.now ≡ codes "journal" }
@@ -259,12 +275,13 @@ fn sync_option<'a>(alloc: Global) -> Result<Arg<'a>, AllocError>
 // The command that is talked to.
 fn live_command<'a>(alloc: Global) -> Result<Command<'a>, AllocError>
     ensures { IfOk result (λ r. IsCommand r (codes "live")
-        (codes "explain" ∷ codes "journal" ∷ codes "sync" ∷ []) []) }
+        (codes "explain" ∷ codes "frames" ∷ codes "journal" ∷ codes "sync" ∷ []) []) }
 {
     let about = "Reads calls line by line and answers each before it waits for the next";
     let explain = flag(alloc, "explain", "Tells behind each refusal what it means");
     command(alloc, "live", about, help::LIVE)
         .arg(explain)?
+        .arg(live_frames_option(alloc)?)?
         .arg(live_journal_option(alloc))?
         .arg(sync_option(alloc)?)
 }
@@ -278,7 +295,7 @@ pub fn commands<'a>(alloc: Global) -> Result<Command<'a>, AllocError>
         ∷ (codes "audit", codes "explain" ∷ codes "journal" ∷ [])
         ∷ (codes "report", codes "all" ∷ codes "json" ∷ []) ∷ (codes "storm", []) ∷ (codes "check", [])
         ∷ (codes "pcap", codes "mac" ∷ codes "journal" ∷ [])
-        ∷ (codes "live", codes "explain" ∷ codes "journal" ∷ codes "sync" ∷ []) ∷ [])) }
+        ∷ (codes "live", codes "explain" ∷ codes "frames" ∷ codes "journal" ∷ codes "sync" ∷ []) ∷ [])) }
 {
     program(alloc)
         .subcommand(run_command(alloc)?)?

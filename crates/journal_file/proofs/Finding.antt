@@ -25,7 +25,7 @@ all_bytes text bytes None taken ended = absurd taken
 all_bytes text bytes (Some rest) taken ended = taken ∙ ap (λ (l : List ℕ). bytes ++ l) ended ∙ append-nil bytes
 
 -- no byte
-none_of : (bytes : List ℕ) → length bytes ≡ 0 → bytes ≡ []
+pub none_of : (bytes : List ℕ) → length bytes ≡ 0 → bytes ≡ []
 none_of [] none = refl
 none_of (b ∷ bytes) none = absurd (omega (arith, none))
 

@@ -2,3 +2,4 @@ mod Known
 mod Growing
 mod Places
 mod Finding
+mod Refusing

@@ -4,5 +4,6 @@ pub mod Reading
 pub mod LineFile
 pub mod Standing
 pub mod Place
+pub mod Refusing
 pub mod Journal
 pub mod Found

@@ -8,7 +8,7 @@ use crate::opening::open_journal;
 use crate::store::SystemFile;
 use crate::telling::Telling;
 use line_stream::Lines;
-use live_command::{LiveFault, go_on, hold};
+use live_command::{LiveFault, Wording, go_on, hold};
 use sched_history::Scheduler;
 use std::fs::File;
 use std::io;
@@ -19,11 +19,11 @@ use text_stream::Watched;
 fn begin<R: Input + Print + Eprint + AllocGlobal>(
     rt: &R,
     journal: &mut Telling<'_, R, SystemFile>,
-    explained: bool,
+    wording: Wording,
 ) -> Result<(), LiveFault> {
     let mut reader = Watched::new(rt.reader());
     let mut writer = Watched::new(io::writer(rt));
-    hold(rt.alloc(), &mut reader, &mut writer, journal, explained)
+    hold(rt.alloc(), &mut reader, &mut writer, journal, wording)
 }
 
 // Goes on with a conversation.
@@ -31,7 +31,7 @@ fn resume<R: Input + Print + Eprint + AllocGlobal>(
     rt: &R,
     scheduler: &mut Scheduler,
     journal: &mut Telling<'_, R, SystemFile>,
-    explained: bool,
+    wording: Wording,
 ) -> Result<(), LiveFault>
     requires { scheduler.old.handed ≡ length scheduler.old.history }
 {
@@ -45,7 +45,7 @@ fn resume<R: Input + Print + Eprint + AllocGlobal>(
         &mut reader,
         &mut writer,
         journal,
-        explained,
+        wording,
     )
 }
 
@@ -54,16 +54,16 @@ fn resume<R: Input + Print + Eprint + AllocGlobal>(
 pub fn live_journal_input<R: Files<File = File> + Input + Print + Eprint + AllocGlobal>(
     rt: &R,
     path: &str,
-    explained: bool,
+    wording: Wording,
     is_synced: bool,
 ) -> Result<bool, JournalFault> {
     let (journal, found) = read_journal(rt.alloc(), open_journal(rt, path)?, is_synced)?;
     match found {
-        Found::NoLine => begin(rt, &mut Telling::new(rt, journal, None), explained)?,
+        Found::NoLine => begin(rt, &mut Telling::new(rt, journal, None), wording)?,
         Found::Ready(mut scheduler, torn) => {
             let resumed = Some((scheduler.recorded(), torn));
             let mut journal = Telling::new(rt, journal, resumed);
-            resume(rt, &mut scheduler, &mut journal, explained)?;
+            resume(rt, &mut scheduler, &mut journal, wording)?;
         }
     }
     Ok(true)

@@ -1,10 +1,11 @@
 //! A journal in a file.
 
-ghost use Rattle.std.specs.Prelude.{◌≡◌, ◌++◌, flat_map, IfOk, OnOk};
+ghost use Rattle.std.specs.Prelude.{◌≡◌, ◌≢◌, ◌++◌, flat_map, IfOk, IfErr, OnOk};
 ghost use Rattle.std.specs.List.{AllByRecursion};
 ghost use Rattle.sched_history.specs.Machine.{IsEncodable};
 ghost use Rattle.journal_writing.specs.Journal.{entry_line};
 ghost use Rattle.journal_file.specs.Place.{KnownStandsFor, KnownMayBegin};
+ghost use Rattle.journal_file.specs.Refusing.{IsNoFront, MayRefuse};
 ghost use Rattle.journal_file.specs.Store.{HasLength, HasBytes, Lacks};
 
 use crate::line_file::LineFile;
@@ -42,27 +43,29 @@ fn put_lines(alloc: Global, text: &mut Vec<u8>, entries: &[Entry]) -> Result<(),
 // All bytes of a file, which has few.
 #[tactic(auto, using(crate::proofs::Finding::has_bytes))]
 fn bytes_of<S: Store>(alloc: Global, store: &S) -> Result<Vec<u8>, BeginFault>
-    ensures { IfOk result (λ bytes. HasBytes (S.contents store.now) bytes.items) }
+    ensures all { IfOk result (λ bytes. HasBytes (S.contents store.now) bytes.items) }
+    ensures err { IfErr result (λ e. e ≢ BeginFault.Other) }
 {
     match read_all(alloc, &mut Reading::new(store)) {
         Ok(bytes) => Ok(bytes),
         Err(TextFault::Memory) => Err(BeginFault::Memory),
-        Err(TextFault::Input) => Err(BeginFault::Failed),
-        Err(_) => Err(BeginFault::Other),
+        Err(_) => Err(BeginFault::Failed),
     }
 }
 
 // The bytes of the opening's line that a file of so many bytes lacks: it has the first ones, and nothing else. A file
 // that has none is not read.
-#[tactic(auto, using(crate::proofs::Finding::lacks_all))]
+#[tactic(auto, using(crate::proofs::Finding::lacks_all, crate::proofs::Refusing::no_front_long))]
 fn lacking<'a, S: Store>(
     alloc: Global,
     store: &S,
     size: u64,
     opening: &'a [u8],
 ) -> Result<&'a [u8], BeginFault>
-    ensures { IfOk result (λ rest. HasLength (S.contents store.now) size →
+    ensures rest { IfOk result (λ rest. HasLength (S.contents store.now) size →
         Lacks (S.contents store.now) opening.now rest.now) }
+    ensures other { IfErr result (λ e. e ≡ BeginFault.Other →
+        IsNoFront opening.now size (S.contents store.now)) }
 {
     if size == 0 {
         return Ok(opening);
@@ -77,13 +80,14 @@ fn lacking<'a, S: Store>(
 }
 
 impl<S: Store> FileJournal<S> {
-    ghost use Rattle.std.specs.Prelude.{◌≡◌, true, OnOk, OnErr};
+    ghost use Rattle.std.specs.Prelude.{◌≡◌, true, IfErr, OnOk, OnErr};
     ghost use Rattle.std.specs.List.{AllByRecursion};
     ghost use Rattle.minislots.specs.declared.config.Config.{Config as Configuration};
     ghost use Rattle.sched_history.specs.Machine.{IsEncodable};
     ghost use Rattle.live_command.specs.Journal.{Keeps, Grows, GrowsInPart, FailsJustBy};
     ghost use Rattle.journal_file.specs.declared.place.Place.TheVariants.{NoLine, Torn, Whole};
     ghost use Rattle.journal_file.specs.Place.{KnownStandsFor, KnownMayBegin};
+    ghost use Rattle.journal_file.specs.Refusing.{MayRefuse};
 
     pub(crate) fn new(alloc: Global, file: LineFile<S>) -> FileJournal<S>
         ensures { result.file ≡ file }
@@ -105,6 +109,8 @@ impl<S: Store> FileJournal<S> {
         ensures err { OnErr result (Keeps
             (KnownMayBegin self.old.file.place (S.contents self.old.file.store) config.now)
             (KnownMayBegin self.new.file.place (S.contents self.new.file.store) config.now)) }
+        ensures refused { IfErr result
+            (MayRefuse self.old.file.place (S.contents self.old.file.store) config.now) }
         ensures failed { FailsJustBy BeginFault.Failed result self.old.file.has_failed self.new.file.has_failed }
     {
         let Ok(opening) = opening_text(self.alloc, &config.config()) else {
@@ -129,6 +135,8 @@ impl<S: Store> FileJournal<S> {
         ensures err { OnErr result ((c : Configuration) → Keeps
             (KnownMayBegin self.old.file.place (S.contents self.old.file.store) c)
             (KnownMayBegin self.new.file.place (S.contents self.new.file.store) c)) }
+        ensures refused { IfErr result (λ e. (c : Configuration) →
+            MayRefuse self.old.file.place (S.contents self.old.file.store) c e) }
         ensures failed { FailsJustBy BeginFault.Failed result self.old.file.has_failed self.new.file.has_failed }
     {
         self.file.cut(end)?;
@@ -162,6 +170,8 @@ impl<S: Store> Journal for FileJournal<S> {
     ghost stands_for = { λ j. KnownStandsFor j.file.place (S.contents j.file.store) };
 
     ghost may_begin = { λ j. KnownMayBegin j.file.place (S.contents j.file.store) };
+
+    ghost may_refuse = { λ j. MayRefuse j.file.place (S.contents j.file.store) };
 
     ghost has_failed = { λ j. j.file.has_failed };
 

@@ -1,6 +1,6 @@
 //! A journal that tells how it is gone on with.
 
-ghost use Rattle.journal_file.specs.Journal.{FileStandsFor, FileMayBegin, has_failed};
+ghost use Rattle.journal_file.specs.Journal.{FileStandsFor, FileMayBegin, FileMayRefuse, has_failed};
 
 use crate::journal::FileJournal;
 use crate::store::Store;
@@ -47,6 +47,8 @@ impl<'a, R: Eprint, S: Store> Journal for Telling<'a, R, S> {
     ghost stands_for = { λ t. FileStandsFor S.contents t.journal };
 
     ghost may_begin = { λ t. FileMayBegin S.contents t.journal };
+
+    ghost may_refuse = { λ t. FileMayRefuse S.contents t.journal };
 
     ghost has_failed = { λ t. has_failed t.journal };
 

@@ -1,5 +1,5 @@
 -- A conversation goes on behind what stands in front of it.
-use Rattle.std.proofs.Common.{◌≡◌, ℕ, Bool, List, [], ◌∷◌, ◌++◌, length, Option, None, Some, Result, Ok, Err}
+use Rattle.std.proofs.Common.{◌≡◌, ℕ, List, [], ◌∷◌, ◌++◌, length, Option, None, Some, Result, Ok, Err}
 use Rattle.std.proofs.Common.{refl, sym, subst, inr, append_assoc, arith}
 use Rattle.std.specs.Prelude.{IfErr, OnOk, MatchOption, MatchResult}
 use Rattle.std.proofs.lemmas.List.{append-nil}
@@ -9,6 +9,8 @@ use Rattle.line_stream.specs.declared.Told.{Told}
 use Rattle.line_stream.specs.Lines.{TakesLines}
 use Rattle.line_stream.specs.Told.{AtHand}
 use Rattle.live_command.specs.declared.fault.LiveFault.{LiveFault}
+use Rattle.live_command.specs.declared.wording.Wording.{Wording}
+use Rattle.live_command.specs.declared.journal.BeginFault.{BeginFault}
 use Rattle.live_command.specs.Spoken.{spoken}
 use Rattle.live_command.specs.Answers.{SaysEach}
 use Rattle.live_command.specs.Going.{GoesFrom, ReadsFront, WentOn, EndsGoing}
@@ -22,9 +24,9 @@ pub Talk-passed : (s : Start) (m : Machine) (left after written : Option (List �
     (blanks : List (List ℕ)) → Talk s 0 m left written stands [] → spoken blanks ≡ [] → TakesLines left blanks after
     → Talk s 0 m after written stands []
 Talk-passed s m left after written stands blanks talk blank passed =
-    let none : SaysEach s.config s.explained m.history (spoken blanks) [] m.history =
-    subst (λ (l : List (List ℕ)). SaysEach s.config s.explained m.history l [] m.history) (sym blank) refl in
-    let says = SaysEach-spoken s.config s.explained talk.history talk.more talk.answers m.history blanks [] m.history
+    let none : SaysEach s.config s.wording m.history (spoken blanks) [] m.history =
+    subst (λ (l : List (List ℕ)). SaysEach s.config s.wording m.history l [] m.history) (sym blank) refl in
+    let says = SaysEach-spoken s.config s.wording talk.history talk.more talk.answers m.history blanks [] m.history
     talk.says_more none in
     record {
       lines = talk.lines;
@@ -35,7 +37,7 @@ Talk-passed s m left after written stands blanks talk blank passed =
       out = talk.out;
       more = talk.more ++ blanks;
       answers = talk.answers;
-      says_more = subst (λ (l : List (List ℕ)). SaysEach s.config s.explained talk.history
+      says_more = subst (λ (l : List (List ℕ)). SaysEach s.config s.wording talk.history
           (spoken (talk.more ++ blanks)) l m.history) (append-nil talk.answers) says;
       waiting = talk.waiting;
       read = subst (λ (l : List (List ℕ)). TakesLines s.unread l after)
@@ -55,12 +57,12 @@ Begins s m left written stands waits hand told =
 -- nothing more is written at all
 pub begins_quiet : (s : Start) (m : Machine) (left written : Option (List ℕ)) (stands : List Entry → Type 0)
     (waits : List ℕ) (hand : AtHand) (told : Option Told) → Begins s m left written stands waits hand told
-    → Stopped s written stands
+    → Stopped s m.history written stands
 begins_quiet s m left written stands waits hand None talk = Stopped-quiet s 0 m left written stands waits talk
 begins_quiet s m left written stands waits hand (Some told) tells =
     Stopped-quiet s 0 m tells.between written stands waits tells.talk
 
-module _ (explained : Bool) (m : Machine) (unread left : Option (List ℕ)) (hand : AtHand) where
+module _ (wording : Wording) (m : Machine) (unread left : Option (List ℕ)) (hand : AtHand) where
   -- where the lines that are answered begin
   abbrev pub front_goes : (told : Option Told) → ReadsFront m.config unread left hand told
       → (behind : Option (List ℕ)) × GoesFrom m.config unread behind
@@ -85,40 +87,40 @@ module _ (explained : Bool) (m : Machine) (unread left : Option (List ℕ)) (han
   -- the conversation begins there
   pub front_begins : (written : Option (List ℕ)) (stands : List Entry → Type 0) (told : Option Told)
       → m.handed ≡ length m.history → stands m.history → (reads : ReadsFront m.config unread left hand told)
-      → Begins (start_at explained m (front_goes told reads).0 written) m left written stands [] hand told
+      → Begins (start_at wording m (front_goes told reads).0 written) m left written stands [] hand told
   front_begins written stands None handed stood passes =
-      Talk-passed (start_at explained m passes.behind written) m passes.behind left written stands passes.blanks
-      (Talk-start explained m passes.behind written stands handed stood) passes.blank passes.passed
+      Talk-passed (start_at wording m passes.behind written) m passes.behind left written stands passes.blanks
+      (Talk-start wording m passes.behind written stands handed stood) passes.blank passes.passed
   front_begins written stands (Some told) handed stood first = record {
     line = first.tells.line;
     is = first.tells.is;
     between = first.tells.between;
-    talk = Talk-passed (start_at explained m unread written) m unread first.tells.between written stands
-        first.tells.blanks (Talk-start explained m unread written stands handed stood) first.tells.blank
+    talk = Talk-passed (start_at wording m unread written) m unread first.tells.between written stands
+        first.tells.blanks (Talk-start wording m unread written stands handed stood) first.tells.blank
         first.tells.passed;
     taken = first.tells.taken;
   }
 
-module _ (explained : Bool) (old new : Machine) (unread behind before written : Option (List ℕ))
+module _ (wording : Wording) (old new : Machine) (unread behind before written : Option (List ℕ))
     (stands : List Entry → Type 0) (goes : GoesFrom old.config unread behind) where
   -- one whose input has ended
   pub goes_well : {A : Type 0} (left after : Option (List ℕ)) (r : Result A LiveFault)
-      → MatchResult r (λ _. Conversed (start_at explained old behind before) new left written stands)
-      (λ e. Stopped (start_at explained old behind before) written stands
-      × StopsTalk (start_at explained old behind before) new after written stands e)
-      → OnOk r (WentOn explained old new unread left before written stands)
+      → MatchResult r (λ _. Conversed (start_at wording old behind before) new left written stands)
+      (λ e. Stopped (start_at wording old behind before) new.history written stands
+      × StopsTalk (start_at wording old behind before) new after written stands e)
+      → OnOk r (WentOn wording old new unread left before written stands)
   goes_well left after (Ok x) conversed = record { behind = behind; goes = goes; conversed = conversed }
   goes_well left after (Err e) stopped = tt
 
   -- one that ends early
-  pub goes_early : {A : Type 0} (left after : Option (List ℕ)) (may : List Entry → Type 0)
-      (untouched quiet : Type 0) (r : Result A LiveFault)
-      → MatchResult r (λ _. Conversed (start_at explained old behind before) new left written stands)
-      (λ e. Stopped (start_at explained old behind before) written stands
-      × StopsTalk (start_at explained old behind before) new after written stands e)
-      → IfErr r (EndsGoing explained old new unread after before written may stands untouched quiet)
-  goes_early left after may untouched quiet (Ok x) conversed = tt
-  goes_early left after may untouched quiet (Err e) stopped = inr (inr (record {
+  pub goes_early : {A : Type 0} (left after : Option (List ℕ)) (refuses : BeginFault → Type 0)
+      (may : List Entry → Type 0) (untouched quiet : Type 0) (r : Result A LiveFault)
+      → MatchResult r (λ _. Conversed (start_at wording old behind before) new left written stands)
+      (λ e. Stopped (start_at wording old behind before) new.history written stands
+      × StopsTalk (start_at wording old behind before) new after written stands e)
+      → IfErr r (EndsGoing wording old new unread after before written refuses may stands untouched quiet)
+  goes_early left after refuses may untouched quiet (Ok x) conversed = tt
+  goes_early left after refuses may untouched quiet (Err e) stopped = inr (inr (record {
     behind = behind;
     goes = goes;
     stopped = stopped.0;

@@ -1,10 +1,12 @@
 -- A conversation with its opening.
-use Rattle.std.proofs.Common.{◌≡◌, ℕ, Bool, List, [], ◌∷◌, ◌++◌, Option, None, Some, Result, Ok, Err, refl, inr}
+use Rattle.std.proofs.Common.{◌≡◌, ℕ, List, [], ◌∷◌, ◌++◌, Option, None, Some, Result, Ok, Err, refl, inr}
 use Rattle.std.specs.Prelude.{IfErr, OnOk, MatchResult}
 use Rattle.std.specs.Io.KnownBytes.{IsAtEnd, prepend_known}
 use Rattle.minislots.specs.declared.config.Config.{Config}
 use Rattle.sched_history.specs.declared.reply.Entry.{Entry}
 use Rattle.sched_history.specs.Machine.{Machine}
+use Rattle.live_command.specs.declared.wording.Wording.{Wording}
+use Rattle.live_command.specs.declared.journal.BeginFault.{BeginFault}
 use Rattle.live_command.specs.declared.fault.LiveFault.{LiveFault}
 use Rattle.live_command.specs.Held.{start_new, Held, Ends}
 use Rattle.live_command.specs.Opening.{Opens}
@@ -21,33 +23,33 @@ at_end-behind held None ended = tt
 at_end-behind [] (Some text) ended = ended
 at_end-behind (b ∷ held) (Some text) ended = absurd (let no : b ∷ (held ++ text) ≡ [] = ended in cc)
 
-module _ (explained : Bool) (config : Config) (unread behind left before written : Option (List ℕ))
+module _ (wording : Wording) (config : Config) (unread behind left before written : Option (List ℕ))
     (stands : Config → List Entry → Type 0) (m : Machine) (opened : Opens unread behind (Ok config)) (held : List ℕ)
   where
     -- how a conversation ended behind its opening
     abbrev pub Ended : {A : Type 0} → Result A LiveFault → Type 0
     Ended r = MatchResult r
-        (λ _. Conversed (start_new config explained behind before) m (prepend_known held left) written (stands config))
-        (λ e. Stopped (start_new config explained behind before) written (stands config)
-        × StopsTalk (start_new config explained behind before) m left written (stands config) e)
+        (λ _. Conversed (start_new config wording behind before) m (prepend_known held left) written (stands config))
+        (λ e. Stopped (start_new config wording behind before) m.history written (stands config)
+        × StopsTalk (start_new config wording behind before) m left written (stands config) e)
 
     -- one that ends early
-    pub ends_early : {A : Type 0} (may : Config → List Entry → Type 0) (untouched quiet : Type 0)
-        (r : Result A LiveFault) → Ended r
-        → IfErr r (Ends explained unread left before written may stands untouched quiet)
-    ends_early may untouched quiet (Ok x) conversed = tt
-    ends_early may untouched quiet (Err e) stopped = inr (inr (record {
+    pub ends_early : {A : Type 0} (refuses : Config → BeginFault → Type 0) (may : Config → List Entry → Type 0)
+        (untouched quiet : Type 0) (r : Result A LiveFault) → Ended r
+        → IfErr r (Ends wording unread left before written refuses may stands untouched quiet)
+    ends_early refuses may untouched quiet (Ok x) conversed = tt
+    ends_early refuses may untouched quiet (Err e) stopped = inr (inr (record {
       config = config;
       behind = behind;
       opened = opened;
-      stopped = stopped.0;
       scheduler = m;
+      stopped = stopped.0;
       stops = stopped.1;
     }))
 
     -- one whose input has ended
     pub ends_well : {A : Type 0} (r : Result A LiveFault) → Ended r
-        → OnOk r (Held explained unread left before written stands)
+        → OnOk r (Held wording unread left before written stands)
     ends_well (Ok x) conversed = record {
       config = config;
       behind = behind;

@@ -2,6 +2,7 @@ pub mod Read
 pub mod Saying
 pub mod Talking
 pub mod Turning
+mod Failing
 pub mod OpeningLines
 pub mod OpeningFaults
 pub mod Holding

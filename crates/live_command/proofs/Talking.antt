@@ -64,15 +64,15 @@ Appends-none (Some xs) = sym (append-nil xs)
 module _ (s : Start) (turns : ℕ) (m : Machine) (left written : Option (List ℕ)) (stands : List Entry → Type 0)
     (waits : List ℕ) (talk : Talk s turns m left written stands waits) where
   -- all that was said, and the history that it made
-  pub said : SaysEach s.config s.explained s.resumed (spoken (talk.lines ++ talk.more)) (talk.texts ++ talk.answers)
+  pub said : SaysEach s.config s.wording s.resumed (spoken (talk.lines ++ talk.more)) (talk.texts ++ talk.answers)
       m.history
-  said = SaysEach-spoken s.config s.explained s.resumed talk.lines talk.texts talk.history talk.more talk.answers
+  said = SaysEach-spoken s.config s.wording s.resumed talk.lines talk.texts talk.history talk.more talk.answers
       m.history talk.says talk.says_more
 
   -- the entries that are kept are those behind the ones in the journal
   pub kept : m.history ≡ talk.history ++ kept_of m
   kept =
-      let grown = SaysEach-grows s.config s.explained talk.history (spoken talk.more) talk.answers m.history
+      let grown = SaysEach-grows s.config s.wording talk.history (spoken talk.more) talk.answers m.history
       talk.says_more in
       let rest : kept_of m ≡ grown.0 =
       ap (λ (n : ℕ). drop n m.history) talk.handed
@@ -118,13 +118,13 @@ module _ (s : Start) (turns : ℕ) (m : Machine) (left written : Option (List �
 
   -- one line more, and its answer
   pub Talk-line : (line : List ℕ) (new : Machine) (left_new : Option (List ℕ)) (waits_new : List ℕ)
-      → TakesLines left (line ∷ []) left_new → AnswersLines s.explained (line ∷ []) m new waits waits_new
+      → TakesLines left (line ∷ []) left_new → AnswersLines s.wording (line ∷ []) m new waits waits_new
       → Talk s (turns + 1) new left_new written stands waits_new
   Talk-line line new left_new waits_new taken answers =
       let lines : (talk.lines ++ talk.more) ++ line ∷ [] ≡ talk.lines ++ (talk.more ++ line ∷ []) =
       append_assoc talk.lines talk.more (line ∷ []) in
-      let says : SaysEach s.config s.explained m.history (spoken (line ∷ [])) answers.texts new.history =
-      subst (λ c. SaysEach c s.explained m.history (spoken (line ∷ [])) answers.texts new.history) talk.config
+      let says : SaysEach s.config s.wording m.history (spoken (line ∷ [])) answers.texts new.history =
+      subst (λ c. SaysEach c s.wording m.history (spoken (line ∷ [])) answers.texts new.history) talk.config
       answers.says in
       record {
         lines = talk.lines;
@@ -135,7 +135,7 @@ module _ (s : Start) (turns : ℕ) (m : Machine) (left written : Option (List �
         out = talk.out;
         more = talk.more ++ line ∷ [];
         answers = talk.answers ++ answers.texts;
-        says_more = SaysEach-spoken s.config s.explained talk.history talk.more talk.answers m.history (line ∷ [])
+        says_more = SaysEach-spoken s.config s.wording talk.history talk.more talk.answers m.history (line ∷ [])
             answers.texts new.history talk.says_more says;
         waiting = answers.waits ∙ ap (λ (w : List ℕ). w ++ joined answers.texts) talk.waiting
             ∙ sym (joined-append talk.answers answers.texts);
@@ -148,7 +148,8 @@ module _ (s : Start) (turns : ℕ) (m : Machine) (left written : Option (List �
       }
 
   -- nothing more is written, and some of the entries that were kept come into the journal
-  pub Stopped-recording : (now : List Entry → Type 0) → GrowsInPart stands now (kept_of m) → Stopped s written now
+  pub Stopped-recording : (now : List Entry → Type 0) → GrowsInPart stands now (kept_of m)
+      → Stopped s m.history written now
   Stopped-recording now grows =
       let part = grows talk.history talk.stood in
       record {
@@ -159,7 +160,6 @@ module _ (s : Start) (turns : ℕ) (m : Machine) (left written : Option (List �
         out = AppendsInPart-all s.written written (joined talk.texts) talk.out;
         more = talk.more;
         answers = talk.answers;
-        whole = m.history;
         says_more = talk.says_more;
         read = TakesLines-front s.unread left (talk.lines ++ talk.more) talk.read;
         stood = talk.history ++ take part.0 (kept_of m);
@@ -173,13 +173,13 @@ module _ (s : Start) (turns : ℕ) (m : Machine) (left written : Option (List �
       }
 
   -- nothing more is written at all
-  pub Stopped-quiet : Stopped s written stands
+  pub Stopped-quiet : Stopped s m.history written stands
   Stopped-quiet = Stopped-recording stands
       (λ (before : List Entry) stood. (0, subst stands (sym (append-nil before)) stood))
 
   -- all entries are in the journal, and some of the answers that waited are written
   pub Stopped-sending : (sent : Option (List ℕ)) (now : List Entry → Type 0) → Grows stands now (kept_of m)
-      → AppendsInPart written sent waits → Stopped s sent now
+      → AppendsInPart written sent waits → Stopped s m.history sent now
   Stopped-sending sent now grows out = record {
     lines = talk.lines ++ talk.more;
     texts = talk.texts ++ talk.answers;
@@ -190,7 +190,6 @@ module _ (s : Start) (turns : ℕ) (m : Machine) (left written : Option (List �
         (subst (AppendsInPart written sent) talk.waiting out));
     more = [];
     answers = [];
-    whole = m.history;
     says_more = refl;
     read = subst (BeginsWith s.unread) (sym (append-nil (talk.lines ++ talk.more)))
         (TakesLines-front s.unread left (talk.lines ++ talk.more) talk.read);
@@ -203,13 +202,43 @@ module _ (s : Start) (turns : ℕ) (m : Machine) (left written : Option (List �
   }
 
   -- and the answers could not be sent for lack of memory
-  pub Stopped-unsent : (now : List Entry → Type 0) → Grows stands now (kept_of m) → Stopped s written now
+  pub Stopped-unsent : (now : List Entry → Type 0) → Grows stands now (kept_of m)
+      → Stopped s m.history written now
   Stopped-unsent now grows = Stopped-recording now
       (λ (before : List Entry) stood. (
         length (kept_of m),
         subst (λ (h : List Entry). now (before ++ h))
             (sym (take_all (length (kept_of m)) (kept_of m) (omega arith))) (grows before stood),
       ))
+
+  -- nothing more is written, and one line more has an answer, of which no byte was written
+  pub Stopped-unput : (line : List ℕ) (texts : List (List ℕ)) (new : List Entry) (left_new : Option (List ℕ))
+      → TakesLines left (line ∷ []) left_new
+      → SaysEach s.config s.wording m.history (spoken (line ∷ [])) texts new → Stopped s new written stands
+  Stopped-unput line texts new left_new taken says =
+      let grown = SaysEach-grows s.config s.wording m.history (spoken (line ∷ [])) texts new says in
+      record {
+        lines = talk.lines;
+        texts = talk.texts;
+        history = talk.history;
+        says = talk.says;
+        out = AppendsInPart-all s.written written (joined talk.texts) talk.out;
+        more = talk.more ++ line ∷ [];
+        answers = talk.answers ++ texts;
+        says_more = SaysEach-spoken s.config s.wording talk.history talk.more talk.answers m.history (line ∷ [])
+            texts new talk.says_more says;
+        read = TakesLines-front s.unread left_new (talk.lines ++ (talk.more ++ line ∷ []))
+            (subst (λ (l : List (List ℕ)). TakesLines s.unread l left_new)
+            (append_assoc talk.lines talk.more (line ∷ []))
+            (TakesLines-trans s.unread left left_new (talk.lines ++ talk.more) (line ∷ []) talk.read taken));
+        stood = talk.history;
+        stands_for = talk.stood;
+        behind = [];
+        stood_is = sym (append-nil talk.history);
+        others = kept_of m ++ grown.0;
+        whole_is = grown.1 ∙ ap (λ (h : List Entry). h ++ grown.0) kept
+            ∙ append_assoc talk.history (kept_of m) grown.0;
+      }
 
   -- so many lines came
   pub too_many : (n : ℕ) → n ≤ turns → BeginsWith s.unread (talk.lines ++ talk.more)

@@ -1,5 +1,5 @@
 -- A turn of a conversation.
-use Rattle.std.proofs.Common.{◌≡◌, ℕ, ◌<◌, Bool, List, [], length, drop, Option, None, Some}
+use Rattle.std.proofs.Common.{◌≡◌, ℕ, ◌<◌, List, [], length, drop, Option, None, Some}
 use Rattle.std.proofs.Common.{Result, Ok, Err, refl, sym, ap, subst, inl, inr, arith}
 use Rattle.std.specs.Prelude.{◌⊎◌, IfErr, OnOk, MatchOption, MatchResult}
 use Rattle.std.proofs.Math.Seq.{drop-length}
@@ -10,6 +10,7 @@ use Rattle.line_stream.specs.Told.{AtHand, HasEnded, TellsNext, StopsLine}
 use Rattle.text_stream.specs.declared.fault.TextFault.{TextFault}
 use Rattle.text_stream.specs.declared.fault.TextFault.TheVariants.{Input, TooLong, NotJson, Shape, Config, Memory}
 use Rattle.text_stream.specs.declared.fault.TextFault.TheVariants.{Output}
+use Rattle.live_command.specs.declared.wording.Wording.{Wording}
 use Rattle.live_command.specs.declared.fault.LiveFault.{LiveFault}
 use Rattle.live_command.specs.declared.fault.LiveFault.TheVariants.{Text, Journal}
 use Rattle.live_command.specs.Talk.{start_at, Start, Talk, TellsOn, Conversed, StopsTalk}
@@ -90,10 +91,10 @@ stops_anywhere s m left written stands e (inr (inl is)) = subst (StopsTalk s m l
 stops_anywhere s m left written stands e (inr (inr is)) = subst (StopsTalk s m left written stands) (sym is) tt
 
 -- a conversation begins
-pub Talk-start : (explained : Bool) (m : Machine) (unread written : Option (List ℕ)) (stands : List Entry → Type 0)
+pub Talk-start : (wording : Wording) (m : Machine) (unread written : Option (List ℕ)) (stands : List Entry → Type 0)
     → m.handed ≡ length m.history → stands m.history
-    → Talk (start_at explained m unread written) 0 m unread written stands []
-Talk-start explained m unread written stands handed stood = record {
+    → Talk (start_at wording m unread written) 0 m unread written stands []
+Talk-start wording m unread written stands handed stood = record {
   lines = [];
   texts = [];
   history = m.history;

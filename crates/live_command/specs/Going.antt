@@ -14,7 +14,9 @@ use Rattle.text_stream.specs.declared.fault.TextFault.TheVariants.{Input, TooLon
 use Rattle.text_stream.specs.declared.fault.TextFault.TheVariants.{Output}
 use Rattle.live_command.specs.declared.fault.LiveFault.{LiveFault}
 use Rattle.live_command.specs.declared.fault.LiveFault.TheVariants.{Text, Journal, OtherConfig, BadJournal}
+use Rattle.live_command.specs.declared.journal.BeginFault.{BeginFault}
 use Rattle.live_command.specs.declared.said.Said.{Said}
+use Rattle.live_command.specs.declared.wording.Wording.{Wording}
 use Rattle.live_command.specs.declared.said.Said.TheVariants as saying
 use Rattle.live_command.specs.Said.{said_in}
 use Rattle.live_command.specs.Spoken.{is_spoken, spoken}
@@ -72,11 +74,11 @@ GoesFrom config unread behind =
     OpensAgain unread behind (Ok config) ⊎ ((HasNoOpening unread ⊎ BeginsOtherwise unread) × (behind ≡ unread))
 
 -- All lines were answered, and the history that was resumed has their calls behind it
-pub record WentOn (explained : Bool) (old new : Machine) (unread left before written : Option (List ℕ))
+pub record WentOn (wording : Wording) (old new : Machine) (unread left before written : Option (List ℕ))
     (stands : List Entry → Type 0) : Type 0 where
   pub behind : Option (List ℕ)
   pub goes : GoesFrom old.config unread behind
-  pub conversed : Conversed (start_at explained old behind before) new left written stands
+  pub conversed : Conversed (start_at wording old behind before) new left written stands
 
 -- nothing was written, to the writer and the journal, and no call was made
 abbrev pub NotGoing : {W J : Type 0} → Machine → Machine → W → W → J → J → Type 0
@@ -107,27 +109,28 @@ StopsGoing config unread left OtherConfig = OpensOther config unread
 StopsGoing config unread left (BadJournal line) = ⊥
 
 -- What stands in front was read, and the journal did not begin
-pub record GoesUnbegun (old : Machine) (unread : Option (List ℕ)) (quiet : Type 0) (may : List Entry → Type 0)
-    (fault : LiveFault) : Type 0 where
+pub record GoesUnbegun (old : Machine) (unread : Option (List ℕ)) (refuses : BeginFault → Type 0) (quiet : Type 0)
+    (may : List Entry → Type 0) (fault : LiveFault) : Type 0 where
   pub behind : Option (List ℕ)
   pub goes : GoesFrom old.config unread behind
-  pub unbegun : NotBegun quiet may old.history fault
+  pub unbegun : NotBegun refuses quiet may old.history fault
 
 -- What stands in front was read, and the conversation ended early
-pub record GoesEarly (explained : Bool) (old new : Machine) (unread left before written : Option (List ℕ))
+pub record GoesEarly (wording : Wording) (old new : Machine) (unread left before written : Option (List ℕ))
     (stands : List Entry → Type 0) (fault : LiveFault) : Type 0 where
   pub behind : Option (List ℕ)
   pub goes : GoesFrom old.config unread behind
-  pub stopped : Stopped (start_at explained old behind before) written stands
-  pub stops : StopsTalk (start_at explained old behind before) new left written stands fault
+  pub stopped : Stopped (start_at wording old behind before) new.history written stands
+  pub stops : StopsTalk (start_at wording old behind before) new left written stands fault
 
 -- a conversation that was to go on ended early: before what stands in front was read, before its journal began, or
 -- behind these
-abbrev pub EndsGoing : Bool → Machine → Machine → Option (List ℕ) → Option (List ℕ) → Option (List ℕ) → Option (List ℕ)
-    → (List Entry → Type 0) → (List Entry → Type 0) → Type 0 → Type 0 → LiveFault → Type 0
-EndsGoing explained old new unread left before written may stands untouched quiet fault =
+abbrev pub EndsGoing : Wording → Machine → Machine → Option (List ℕ) → Option (List ℕ) → Option (List ℕ)
+    → Option (List ℕ) → (BeginFault → Type 0) → (List Entry → Type 0) → (List Entry → Type 0) → Type 0 → Type 0
+    → LiveFault → Type 0
+EndsGoing wording old new unread left before written refuses may stands untouched quiet fault =
     (StopsGoing old.config unread left fault × untouched)
-    ⊎ (GoesUnbegun old unread quiet may fault ⊎ GoesEarly explained old new unread left before written stands fault)
+    ⊎ (GoesUnbegun old unread refuses quiet may fault ⊎ GoesEarly wording old new unread left before written stands fault)
 
 -- The first line is a line of the conversation, and was told
 pub record TellsFirst (unread left : Option (List ℕ)) (hand : AtHand) (told : Told) : Type 0 where

@@ -1,5 +1,5 @@
 -- A conversation from its opening on.
-use Rattle.std.specs.Prelude.{◌≡◌, ◌⊎◌, ℕ, Bool, List, [], Option, Ok}
+use Rattle.std.specs.Prelude.{◌≡◌, ◌⊎◌, ℕ, List, [], Option, Ok}
 use Rattle.std.specs.Io.KnownBytes.{IsAtEnd}
 use Rattle.minislots.specs.declared.config.Config.{Config}
 use Rattle.sched_history.specs.declared.reply.Entry.{Entry}
@@ -8,60 +8,62 @@ use Rattle.text_stream.specs.declared.fault.TextFault.{TextFault}
 use Rattle.live_command.specs.declared.fault.LiveFault.{LiveFault}
 use Rattle.live_command.specs.declared.fault.LiveFault.TheVariants.{Text}
 use Rattle.live_command.specs.declared.journal.BeginFault.{BeginFault}
+use Rattle.live_command.specs.declared.wording.Wording.{Wording}
 use Rattle.live_command.specs.Fault.{fault_of_begin}
 use Rattle.live_command.specs.Opening.{Opens, StopsOpening}
 use Rattle.live_command.specs.Talk.{Start, Conversed, Stopped, StopsTalk}
 
 -- where a new conversation begins, behind its opening
-abbrev pub start_new : Config → Bool → Option (List ℕ) → Option (List ℕ) → Start
-start_new config explained unread written = record {
+abbrev pub start_new : Config → Wording → Option (List ℕ) → Option (List ℕ) → Start
+start_new config wording unread written = record {
   config = config;
-  explained = explained;
+  wording = wording;
   resumed = [];
   unread = unread;
   written = written;
 }
 
 -- The opening was read, and all lines behind it were answered
-pub record Held (explained : Bool) (unread left before written : Option (List ℕ))
+pub record Held (wording : Wording) (unread left before written : Option (List ℕ))
     (stands : Config → List Entry → Type 0) : Type 0 where
   pub config : Config
   pub behind : Option (List ℕ)
   pub opened : Opens unread behind (Ok config)
   pub scheduler : Machine
   pub rest : Option (List ℕ)
-  pub conversed : Conversed (start_new config explained behind before) scheduler rest written (stands config)
+  pub conversed : Conversed (start_new config wording behind before) scheduler rest written (stands config)
   pub ended : IsAtEnd left
 
 -- nothing was written, to the writer and the journal
 abbrev pub NotOpened : {W J : Type 0} → W → W → J → J → Type 0
 NotOpened writer_old writer_new journal_old journal_new = (writer_new ≡ writer_old) × (journal_new ≡ journal_old)
 
--- A conversation ended since its journal did not begin: nothing was written, and it may begin as before
-pub record NotBegun (quiet : Type 0) (may : List Entry → Type 0) (entries : List Entry) (fault : LiveFault) : Type 0
-  where
-    pub why : BeginFault
-    pub is : fault ≡ fault_of_begin why
-    pub unwritten : quiet
-    pub begins : may entries
+-- A conversation ended since its journal refused to begin: nothing was written, and it may begin as before
+pub record NotBegun (refuses : BeginFault → Type 0) (quiet : Type 0) (may : List Entry → Type 0) (entries : List Entry)
+    (fault : LiveFault) : Type 0 where
+  pub why : BeginFault
+  pub refused : refuses why
+  pub is : fault ≡ fault_of_begin why
+  pub unwritten : quiet
+  pub begins : may entries
 
 -- The opening was read, and the journal did not begin
-pub record EndsUnbegun (unread : Option (List ℕ)) (quiet : Type 0) (may : Config → List Entry → Type 0)
-    (fault : LiveFault) : Type 0 where
+pub record EndsUnbegun (unread : Option (List ℕ)) (refuses : Config → BeginFault → Type 0) (quiet : Type 0)
+    (may : Config → List Entry → Type 0) (fault : LiveFault) : Type 0 where
   pub config : Config
   pub behind : Option (List ℕ)
   pub opened : Opens unread behind (Ok config)
-  pub unbegun : NotBegun quiet (may config) [] fault
+  pub unbegun : NotBegun (refuses config) quiet (may config) [] fault
 
 -- The opening was read, and the conversation behind it ended early
-pub record EndsTalk (explained : Bool) (unread left before written : Option (List ℕ))
+pub record EndsTalk (wording : Wording) (unread left before written : Option (List ℕ))
     (stands : Config → List Entry → Type 0) (fault : LiveFault) : Type 0 where
   pub config : Config
   pub behind : Option (List ℕ)
   pub opened : Opens unread behind (Ok config)
-  pub stopped : Stopped (start_new config explained behind before) written (stands config)
   pub scheduler : Machine
-  pub stops : StopsTalk (start_new config explained behind before) scheduler left written (stands config) fault
+  pub stopped : Stopped (start_new config wording behind before) scheduler.history written (stands config)
+  pub stops : StopsTalk (start_new config wording behind before) scheduler left written (stands config) fault
 
 -- the opening was not read
 abbrev pub EndsUnopened : Option (List ℕ) → Option (List ℕ) → Type 0 → LiveFault → Type 0
@@ -69,8 +71,9 @@ EndsUnopened unread left untouched fault =
     (why : TextFault) × (fault ≡ Text why) × StopsOpening unread left why × untouched
 
 -- a conversation ended early: before its opening was read, before its journal began, or behind these
-abbrev pub Ends : Bool → Option (List ℕ) → Option (List ℕ) → Option (List ℕ) → Option (List ℕ)
-    → (Config → List Entry → Type 0) → (Config → List Entry → Type 0) → Type 0 → Type 0 → LiveFault → Type 0
-Ends explained unread left before written may stands untouched quiet fault =
+abbrev pub Ends : Wording → Option (List ℕ) → Option (List ℕ) → Option (List ℕ) → Option (List ℕ)
+    → (Config → BeginFault → Type 0) → (Config → List Entry → Type 0) → (Config → List Entry → Type 0) → Type 0 → Type 0
+    → LiveFault → Type 0
+Ends wording unread left before written refuses may stands untouched quiet fault =
     EndsUnopened unread left untouched fault
-    ⊎ (EndsUnbegun unread quiet may fault ⊎ EndsTalk explained unread left before written stands fault)
+    ⊎ (EndsUnbegun unread refuses quiet may fault ⊎ EndsTalk wording unread left before written stands fault)

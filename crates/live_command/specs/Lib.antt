@@ -8,3 +8,4 @@ pub mod Opening
 pub mod Held
 pub mod Going
 pub mod Fault
+pub mod Failing

@@ -1,6 +1,6 @@
 -- Which lines are answered, and the call of one.
 use Rattle.std.specs.Prelude.{ℕ, Bool, true, not, ◌&&◌, ◌||◌, ◌==◌, nat_lt, if◌then◌else◌, List, [], ◌∷◌, ◌++◌, length}
-use Rattle.std.specs.Prelude.{codes, None, Some, Result, Ok, Err}
+use Rattle.std.specs.Prelude.{codes, Option, None, Some, Result, Ok, Err}
 use Rattle.std.specs.List.{filter}
 use Rattle.line_stream.specs.declared.TheConstants.{MAX_LINE}
 use Rattle.text_stream.specs.declared.fault.TextFault.{TextFault}
@@ -42,6 +42,10 @@ call_read (Err fault) = Err Json
 -- the call of a line, or its first fault
 unfoldable pub call_of_line : List ℕ → Result Call LineFault
 call_of_line line = if nat_lt MAX_LINE (length line) then Err Long else call_read (said_in line)
+
+-- what is heard of a line: its call or its first fault, and nothing of one that is not answered
+abbrev pub heard_of : List ℕ → Option (Result Call LineFault)
+heard_of line = if is_spoken line then Some (call_of_line line) else None
 
 -- what is wrong with a line
 abbrev pub fault_words : LineFault → List ℕ

@@ -11,6 +11,7 @@ use Rattle.text_stream.specs.declared.fault.TextFault.TheVariants.{Input, TooLon
 use Rattle.text_stream.specs.declared.fault.TextFault.TheVariants.{Output}
 use Rattle.live_command.specs.declared.fault.LiveFault.{LiveFault}
 use Rattle.live_command.specs.declared.fault.LiveFault.TheVariants.{Text, Journal, OtherConfig, BadJournal}
+use Rattle.live_command.specs.declared.wording.Wording.{Wording}
 use Rattle.live_command.specs.Spoken.{spoken}
 use Rattle.live_command.specs.Answers.{SaysEach, joined}
 use Rattle.live_command.specs.Sending.{AppendsInPart}
@@ -19,7 +20,7 @@ use Rattle.live_command.specs.Sending.{AppendsInPart}
 -- and what was written
 pub record Start : Type 0 where
   pub config : Configuration
-  pub explained : Bool
+  pub wording : Wording
   pub resumed : List Entry
   pub unread : Option (List ℕ)
   pub written : Option (List ℕ)
@@ -41,12 +42,12 @@ pub record Talk (s : Start) (turns : ℕ) (m : Machine) (left written : Option (
   pub lines : List (List ℕ)
   pub texts : List (List ℕ)
   pub history : List Entry
-  pub says : SaysEach s.config s.explained s.resumed (spoken lines) texts history
+  pub says : SaysEach s.config s.wording s.resumed (spoken lines) texts history
   pub stood : stands history
   pub out : Appends s.written written (joined texts)
   pub more : List (List ℕ)
   pub answers : List (List ℕ)
-  pub says_more : SaysEach s.config s.explained history (spoken more) answers m.history
+  pub says_more : SaysEach s.config s.wording history (spoken more) answers m.history
   pub waiting : waits ≡ joined answers
   pub read : TakesLines s.unread (lines ++ more) left
   pub config : m.config ≡ s.config
@@ -70,7 +71,7 @@ pub record Conversed (s : Start) (m : Machine) (left written : Option (List ℕ)
     pub read : AreLines s.unread lines
     pub ended : IsAtEnd left
     pub texts : List (List ℕ)
-    pub says : SaysEach s.config s.explained s.resumed (spoken lines) texts m.history
+    pub says : SaysEach s.config s.wording s.resumed (spoken lines) texts m.history
     pub out : Appends s.written written (joined texts)
     pub stood : stands m.history
 
@@ -79,29 +80,29 @@ abbrev pub IsTurn : Start → ℕ → Machine → Option (List ℕ) → Option (
 IsTurn s turns m left written stands waits true = Talk s (turns + 1) m left written stands waits
 IsTurn s turns m left written stands waits false = Conversed s m left written stands
 
--- However a conversation ends, its answers are those to the first lines of the input, and what was written is the first
--- bytes of the texts. The journal stands for a front of the history of the lines that were answered, and has the entry
+-- However a conversation ends, with this whole history, its answers are those to the first lines of the input, and what
+-- was written is the first bytes of the texts. The journal stands for a front of the history of the lines that were answered, and has the entry
 -- of each answer of which a byte was written
-pub record Stopped (s : Start) (written : Option (List ℕ)) (stands : List Entry → Type 0) : Type 0 where
-  -- lines, of whose answers bytes may have been written
-  pub lines : List (List ℕ)
-  pub texts : List (List ℕ)
-  pub history : List Entry
-  pub says : SaysEach s.config s.explained s.resumed (spoken lines) texts history
-  pub out : AppendsInPart s.written written (joined texts)
-  -- and lines behind them, of whose answers no byte was written
-  pub more : List (List ℕ)
-  pub answers : List (List ℕ)
-  pub whole : List Entry
-  pub says_more : SaysEach s.config s.explained history (spoken more) answers whole
-  pub read : BeginsWith s.unread (lines ++ more)
-  -- the entries of the first lines and some behind them
-  pub stood : List Entry
-  pub stands_for : stands stood
-  pub behind : List Entry
-  pub stood_is : stood ≡ history ++ behind
-  pub others : List Entry
-  pub whole_is : whole ≡ stood ++ others
+pub record Stopped (s : Start) (whole : List Entry) (written : Option (List ℕ)) (stands : List Entry → Type 0) : Type 0
+  where
+    -- lines, of whose answers bytes may have been written
+    pub lines : List (List ℕ)
+    pub texts : List (List ℕ)
+    pub history : List Entry
+    pub says : SaysEach s.config s.wording s.resumed (spoken lines) texts history
+    pub out : AppendsInPart s.written written (joined texts)
+    -- and lines behind them, of whose answers no byte was written
+    pub more : List (List ℕ)
+    pub answers : List (List ℕ)
+    pub says_more : SaysEach s.config s.wording history (spoken more) answers whole
+    pub read : BeginsWith s.unread (lines ++ more)
+    -- the entries of the first lines and some behind them
+    pub stood : List Entry
+    pub stands_for : stands stood
+    pub behind : List Entry
+    pub stood_is : stood ≡ history ++ behind
+    pub others : List Entry
+    pub whole_is : whole ≡ stood ++ others
 
 -- All whole lines that came were answered, the answers are written and their entries are in the journal; and no
 -- newline came behind them
@@ -112,7 +113,7 @@ pub record BreaksOff (s : Start) (m : Machine) (left written : Option (List ℕ)
     pub read : TakesLines s.unread lines between
     pub none : HasNoEnd between left
     pub texts : List (List ℕ)
-    pub says : SaysEach s.config s.explained s.resumed (spoken lines) texts m.history
+    pub says : SaysEach s.config s.wording s.resumed (spoken lines) texts m.history
     pub out : Appends s.written written (joined texts)
     pub stood : stands m.history
 
@@ -141,10 +142,10 @@ StopsTalk s m left written stands OtherConfig = ⊥
 StopsTalk s m left written stands (BadJournal line) = ⊥
 
 -- where a conversation begins with this scheduler
-abbrev pub start_at : Bool → Machine → Option (List ℕ) → Option (List ℕ) → Start
-start_at explained m unread written = record {
+abbrev pub start_at : Wording → Machine → Option (List ℕ) → Option (List ℕ) → Start
+start_at wording m unread written = record {
   config = m.config;
-  explained = explained;
+  wording = wording;
   resumed = m.history;
   unread = unread;
   written = written;

@@ -2,7 +2,7 @@
 
 ghost use Rattle.std.specs.Prelude.{◌≡◌, length, IfOk, IfErr, OnOk, Ok};
 ghost use Rattle.line_stream.specs.Told.{untold};
-ghost use Rattle.text_stream.specs.Watched.{FailsBy};
+ghost use Rattle.live_command.specs.Failing.{FailsButFor};
 ghost use Rattle.live_command.specs.declared.fault.LiveFault.TheVariants.{Text, Journal as Failed};
 ghost use Rattle.live_command.specs.Going.{says_config, IsFront, MissesFront, Misses, ReadsFront, StopsGoing};
 ghost use Rattle.live_command.specs.Going.{WentOn, EndsGoing, NotGoing};
@@ -16,6 +16,7 @@ use crate::noting::begin;
 use crate::opening::{next_spoken, opening_in};
 use crate::said::{Said, read_said};
 use crate::talk::talk_from;
+use crate::wording::Wording;
 use json::Scratch;
 use line_stream::{Lines, Told};
 use minislots::Checked;
@@ -82,7 +83,7 @@ fn read_front<R: Source>(
         (untold lines.new (R.remaining reader.new)) lines.new) }
     ensures stops { IfErr result (StopsGoing config.now (untold lines.old (R.remaining reader.old))
         (R.remaining reader.new)) }
-    ensures failed { FailsBy (Text TextFault.Input) result
+    ensures failed { FailsButFor (Text TextFault.Input) (Text TextFault.TooLong) result
         (R.has_failed reader.old) (R.has_failed reader.new) }
 {
     match next_spoken(lines, reader)? {
@@ -104,29 +105,30 @@ pub fn go_on<R: Source, W: Sink, J: Journal>(
     reader: &mut R,
     writer: &mut W,
     journal: &mut J,
-    explained: bool,
+    wording: Wording,
 ) -> Result<(), LiveFault>
     requires handed { scheduler.old.handed ≡ length scheduler.old.history }
     requires ready { J.may_begin journal.old scheduler.old.config scheduler.old.history }
 
     // All lines were answered; the journal stands for what was resumed, and the calls of these lines behind it.
-    ensures ok { OnOk result (WentOn explained scheduler.old scheduler.new
+    ensures ok { OnOk result (WentOn wording scheduler.old scheduler.new
         (untold lines.old (R.remaining reader.old)) (untold lines.new (R.remaining reader.new))
         (W.contents writer.old) (W.contents writer.new)
         (J.stands_for journal.new scheduler.old.config)) }
 
     // Else no line of the conversation came, or the journal did not begin, and nothing was written; or it ended early.
-    ensures ends { IfErr result (EndsGoing explained scheduler.old scheduler.new
+    ensures ends { IfErr result (EndsGoing wording scheduler.old scheduler.new
         (untold lines.old (R.remaining reader.old)) (R.remaining reader.new)
         (W.contents writer.old) (W.contents writer.new)
+        (J.may_refuse journal.old scheduler.old.config)
         (J.may_begin journal.new scheduler.old.config)
         (J.stands_for journal.new scheduler.old.config)
         (NotGoing scheduler.old scheduler.new writer.old writer.new journal.old journal.new)
-        (writer.new ≡ writer.old)) }
+        ((scheduler.new ≡ scheduler.old) × (writer.new ≡ writer.old))) }
 
-    // A failed read is told only where one has failed, a failed write or journal exactly there; where all went well
-    // none did.
-    ensures failed_read { FailsBy (Text TextFault.Input) result (R.has_failed reader.old)
+    // A failed read, write or journal is told exactly where one has failed, but that an input which is too long tells
+    // nothing of reads; where all went well none did.
+    ensures failed_read { FailsButFor (Text TextFault.Input) (Text TextFault.TooLong) result (R.has_failed reader.old)
         (R.has_failed reader.new) }
     ensures failed_write { FailsJustBy (Text TextFault.Output) result (W.has_failed writer.old)
         (W.has_failed writer.new) }
@@ -146,6 +148,6 @@ pub fn go_on<R: Source, W: Sink, J: Journal>(
         reader,
         writer,
         journal,
-        explained,
+        wording,
     )
 }

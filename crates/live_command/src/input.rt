@@ -4,20 +4,21 @@
 use crate::fault::LiveFault;
 use crate::journal::NoJournal;
 use crate::live::hold;
+use crate::wording::Wording;
 use std::io;
 use text_stream::Watched;
 
 /// The command `live` without a journal.
 pub fn live_input(
     rt: &(impl Input + Print + AllocGlobal),
-    explained: bool,
+    wording: Wording,
 ) -> Result<bool, LiveFault> {
     hold(
         rt.alloc(),
         &mut Watched::new(rt.reader()),
         &mut Watched::new(io::writer(rt)),
         &mut NoJournal,
-        explained,
+        wording,
     )?;
     Ok(true)
 }

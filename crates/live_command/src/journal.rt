@@ -1,10 +1,11 @@
 //! What a conversation is recorded in.
 
-ghost use Rattle.std.specs.Prelude.{◌≡◌, Bool, true, false, List, OnOk, OnErr};
+ghost use Rattle.std.specs.Prelude.{◌≡◌, Bool, true, false, List, IfErr, OnOk, OnErr};
 ghost use Rattle.std.specs.List.{AllByRecursion};
 ghost use Rattle.minislots.specs.declared.config.Config.{Config as Configuration};
 ghost use Rattle.sched_history.specs.declared.reply.Entry.{Entry as Recorded};
 ghost use Rattle.sched_history.specs.Machine.{IsEncodable};
+ghost use Rattle.live_command.specs.declared.journal.BeginFault.{BeginFault as Refusal};
 ghost use Rattle.live_command.specs.Journal.{Keeps, Grows, GrowsInPart, FailsJustBy};
 
 use minislots::Checked;
@@ -40,6 +41,9 @@ pub trait Journal {
     /// what is to be cut behind them, or there are none and it has no whole line. True, too, where nothing is known.
     ghost may_begin: { Self → Configuration → List Recorded → Type 0 } = { λ _ _ _. Unit {0} };
 
+    /// Whether it may refuse to begin under this configuration, and why; true, too, where nothing is known.
+    ghost may_refuse: { Self → Configuration → Refusal → Type 0 } = { λ _ _ _. Unit {0} };
+
     /// Whether a call has failed; true, too, where nothing is known of it.
     ghost has_failed: { Self → Bool } = { λ _. true };
 
@@ -50,6 +54,7 @@ pub trait Journal {
             (Keeps (may_begin self.old config.now) (stands_for self.new config.now)) }
         ensures err { OnErr result
             (Keeps (may_begin self.old config.now) (may_begin self.new config.now)) }
+        ensures refused { IfErr result (may_refuse self.old config.now) }
         ensures failed { FailsJustBy BeginFault.Failed result
             (has_failed self.old) (has_failed self.new) };
 
@@ -65,11 +70,13 @@ pub trait Journal {
             (has_failed self.old) (has_failed self.new) };
 }
 
-/// The journal of a conversation that is not recorded.
+/// The journal of a conversation that is not recorded. It never refuses to begin.
 #[derive(Drop)]
 pub struct NoJournal;
 
 impl Journal for NoJournal {
+    ghost may_refuse = { λ _ _ _. ⊥ };
+
     ghost has_failed = { λ _. false };
 
     fn begin(&mut self, _config: &Checked) -> Result<(), BeginFault> {

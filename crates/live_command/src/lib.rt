@@ -14,6 +14,7 @@ mod outbox;
 mod said;
 mod talk;
 mod turn;
+mod wording;
 
 pub use fault::{LineFault, LiveFault};
 pub use going::go_on;
@@ -21,3 +22,4 @@ pub use input::live_input;
 pub use journal::{BeginFault, Journal, NoJournal, RecordFault};
 pub use live::hold;
 pub use talk::converse;
+pub use wording::Wording;

@@ -2,7 +2,7 @@
 
 ghost use Rattle.std.specs.Prelude.{◌≡◌, [], IfErr, OnOk};
 ghost use Rattle.minislots.specs.declared.config.Config.{Config};
-ghost use Rattle.text_stream.specs.Watched.{FailsBy};
+ghost use Rattle.live_command.specs.Failing.{FailsButFor};
 ghost use Rattle.live_command.specs.declared.fault.LiveFault.TheVariants.{Text, Journal as Failed};
 ghost use Rattle.live_command.specs.Held.{Held, Ends, NotOpened};
 ghost use Rattle.live_command.specs.Journal.{FailsJustBy};
@@ -12,6 +12,7 @@ use crate::journal::Journal;
 use crate::noting::begin;
 use crate::opening::read_opening;
 use crate::talk::talk_from;
+use crate::wording::Wording;
 use json::Scratch;
 use line_stream::Lines;
 use sched_history::Scheduler;
@@ -26,23 +27,23 @@ pub fn hold<R: Source, W: Sink, J: Journal>(
     reader: &mut R,
     writer: &mut W,
     journal: &mut J,
-    explained: bool,
+    wording: Wording,
 ) -> Result<(), LiveFault>
     requires { (c : Config) → J.may_begin journal.old c [] }
 
     // The opening was read, and all lines behind it were answered.
-    ensures ok { OnOk result (Held explained (R.remaining reader.old) (R.remaining reader.new)
+    ensures ok { OnOk result (Held wording (R.remaining reader.old) (R.remaining reader.new)
         (W.contents writer.old) (W.contents writer.new) (J.stands_for journal.new)) }
 
     // Else no opening was read, or the journal did not begin, and nothing was written; or the conversation ended early.
-    ensures ends { IfErr result (Ends explained (R.remaining reader.old) (R.remaining reader.new)
+    ensures ends { IfErr result (Ends wording (R.remaining reader.old) (R.remaining reader.new)
         (W.contents writer.old) (W.contents writer.new)
-        (J.may_begin journal.new) (J.stands_for journal.new)
+        (J.may_refuse journal.old) (J.may_begin journal.new) (J.stands_for journal.new)
         (NotOpened writer.old writer.new journal.old journal.new) (writer.new ≡ writer.old)) }
 
-    // A failed read is told only where one has failed, a failed write or journal exactly there; where all went well
-    // none did.
-    ensures failed_read { FailsBy (Text TextFault.Input) result (R.has_failed reader.old)
+    // A failed read, write or journal is told exactly where one has failed, but that an input which is too long tells
+    // nothing of reads; where all went well none did.
+    ensures failed_read { FailsButFor (Text TextFault.Input) (Text TextFault.TooLong) result (R.has_failed reader.old)
         (R.has_failed reader.new) }
     ensures failed_write { FailsJustBy (Text TextFault.Output) result (W.has_failed writer.old)
         (W.has_failed writer.new) }
@@ -63,6 +64,6 @@ pub fn hold<R: Source, W: Sink, J: Journal>(
         reader,
         writer,
         journal,
-        explained,
+        wording,
     )
 }

@@ -21,7 +21,8 @@ pub(crate) fn begin<J: Journal>(journal: &mut J, config: &Checked) -> Result<(),
         (Keeps (J.may_begin journal.old config.now) (J.stands_for journal.new config.now)) }
     ensures err { OnErr result
         (Keeps (J.may_begin journal.old config.now) (J.may_begin journal.new config.now)) }
-    ensures why { IfErr result (λ e. (why : BeginFault) × (e ≡ fault_of_begin why)) }
+    ensures why { IfErr result (λ e. (why : BeginFault) × J.may_refuse journal.old config.now why
+        × (e ≡ fault_of_begin why)) }
     ensures failed { FailsJustBy Failed result
         (J.has_failed journal.old) (J.has_failed journal.new) }
 {

@@ -4,7 +4,7 @@ ghost use Rattle.std.specs.Prelude.{◌≡◌, ◌≤◌, length, IfOk, IfErr, O
 ghost use Rattle.line_stream.specs.declared.TheConstants.{MAX_LINE};
 ghost use Rattle.line_stream.specs.Told.{untold};
 ghost use Rattle.text_stream.specs.Input.{Gives};
-ghost use Rattle.text_stream.specs.Watched.{FailsBy};
+ghost use Rattle.live_command.specs.Failing.{FailsButFor};
 ghost use Rattle.live_command.specs.Opening.{config_said, opening_in, Opens, StopsOpening, FindsSpoken, StopsBefore};
 
 use crate::blank::is_told_spoken;
@@ -49,7 +49,7 @@ pub(crate) fn next_spoken<R: Source>(
         (untold lines.new (R.remaining reader.new)) lines.new) }
     ensures stops { IfErr result
         (StopsBefore (untold lines.old (R.remaining reader.old)) (R.remaining reader.new)) }
-    ensures failed { FailsBy TextFault.Input result
+    ensures failed { FailsButFor TextFault.Input TextFault.TooLong result
         (R.has_failed reader.old) (R.has_failed reader.new) }
 {
     for _ in 0..u64::MAX {
@@ -74,7 +74,7 @@ pub(crate) fn read_opening<R: Source>(
         (untold lines.new (R.remaining reader.new)) (Ok config)) }
     ensures stops { IfErr result
         (StopsOpening (untold lines.old (R.remaining reader.old)) (R.remaining reader.new)) }
-    ensures failed { FailsBy TextFault.Input result
+    ensures failed { FailsButFor TextFault.Input TextFault.TooLong result
         (R.has_failed reader.old) (R.has_failed reader.new) }
 {
     match next_spoken(lines, reader)? {

@@ -8,6 +8,8 @@ ghost use Rattle.live_command.specs.Sending.{WritesFront, Sends};
 ghost use Rattle.live_command.specs.Spoken.{fault_line};
 
 use crate::fault::LineFault;
+use crate::wording::Wording;
+use frame_lines::put_framed_line;
 use sched_history::{Reply, Unrecorded};
 use sched_lines::LineBuffer;
 use std::alloc::{AllocError, Global};
@@ -41,16 +43,19 @@ fn put_line(
     lines: &mut LineBuffer,
     text: &mut Vec<u8>,
     answer: &Result<Reply, Unrecorded>,
-    explained: bool,
+    wording: Wording,
 ) -> Result<(), TextFault>
     requires { HasLine answer.now }
     ensures { OnOk result (text.new.items ++ lines.new
-        ≡ (text.old.items ++ lines.old) ++ answer_line explained answer.now) }
+        ≡ (text.old.items ++ lines.old) ++ answer_line wording answer.now) }
 {
-    if explained {
-        lines.put_explained(text, answer)
-    } else {
-        lines.put_line(text, answer)
+    match wording {
+        Wording::Plain => lines.put_line(text, answer),
+        Wording::Explained => lines.put_explained(text, answer),
+        Wording::Frames(address) => {
+            lines.write_out(text)?;
+            put_framed_line(text, &address, answer)
+        }
     }
 }
 
@@ -88,13 +93,13 @@ impl Outbox {
     pub fn put_answer(
         &mut self,
         answer: &Result<Reply, Unrecorded>,
-        explained: bool,
+        wording: Wording,
     ) -> Result<(), TextFault>
         requires { HasLine answer.now }
-        ensures ok { OnOk result (self.new ≡ self.old ++ answer_line explained answer.now) }
+        ensures ok { OnOk result (self.new ≡ self.old ++ answer_line wording answer.now) }
         ensures err { IfErr result (λ e. e ≡ TextFault.Memory) }
     {
-        match put_line(&mut self.lines, &mut self.text, answer, explained) {
+        match put_line(&mut self.lines, &mut self.text, answer, wording) {
             Ok(()) => Ok(()),
             Err(_) => Err(TextFault::Memory),
         }

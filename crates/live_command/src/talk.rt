@@ -2,7 +2,7 @@
 
 ghost use Rattle.std.specs.Prelude.{◌≡◌, [], length, IfErr, OnOk, MatchResult, MatchOption};
 ghost use Rattle.line_stream.specs.Told.{untold};
-ghost use Rattle.text_stream.specs.Watched.{FailsBy};
+ghost use Rattle.live_command.specs.Failing.{FailsButFor};
 ghost use Rattle.live_command.specs.declared.fault.LiveFault.TheVariants.{Text, Journal as Failed};
 ghost use Rattle.live_command.specs.Journal.{FailsJustBy};
 ghost use Rattle.live_command.specs.Talk.{Start, start_at, Talk, TellsOn, Conversed, Stopped, StopsTalk};
@@ -11,6 +11,7 @@ use crate::fault::LiveFault;
 use crate::journal::Journal;
 use crate::outbox::Outbox;
 use crate::turn::{settle, take_first, take_turn};
+use crate::wording::Wording;
 use json::Scratch;
 use line_stream::{Lines, Told};
 use sched_history::Scheduler;
@@ -27,19 +28,19 @@ fn talk_on<R: Source, W: Sink, J: Journal>(
     reader: &mut R,
     writer: &mut W,
     journal: &mut J,
-    explained: bool,
+    wording: Wording,
 ) -> Result<(), LiveFault>
-    ensures talk { (s : Start) → s.explained ≡ explained →
+    ensures talk { (s : Start) → s.wording ≡ wording →
         Talk s 0 scheduler.old (untold lines.old (R.remaining reader.old)) (W.contents writer.old)
         (J.stands_for journal.old s.config) outbox.old →
         MatchResult result
         (λ _. Conversed s scheduler.new
         (untold lines.new (R.remaining reader.new)) (W.contents writer.new)
         (J.stands_for journal.new s.config))
-        (λ e. Stopped s (W.contents writer.new) (J.stands_for journal.new s.config)
+        (λ e. Stopped s scheduler.new.history (W.contents writer.new) (J.stands_for journal.new s.config)
         × StopsTalk s scheduler.new (R.remaining reader.new) (W.contents writer.new)
         (J.stands_for journal.new s.config) e) }
-    ensures failed_read { FailsBy (Text TextFault.Input) result (R.has_failed reader.old)
+    ensures failed_read { FailsButFor (Text TextFault.Input) (Text TextFault.TooLong) result (R.has_failed reader.old)
         (R.has_failed reader.new) }
     ensures failed_write { FailsJustBy (Text TextFault.Output) result (W.has_failed writer.old)
         (W.has_failed writer.new) }
@@ -48,7 +49,7 @@ fn talk_on<R: Source, W: Sink, J: Journal>(
 {
     for _ in 0..u64::MAX {
         if !take_turn(
-            alloc, scratch, scheduler, outbox, lines, reader, writer, journal, explained,
+            alloc, scratch, scheduler, outbox, lines, reader, writer, journal, wording,
         )? {
             return Ok(());
         }
@@ -67,9 +68,9 @@ pub(crate) fn talk_from<R: Source, W: Sink, J: Journal>(
     reader: &mut R,
     writer: &mut W,
     journal: &mut J,
-    explained: bool,
+    wording: Wording,
 ) -> Result<(), LiveFault>
-    ensures talk { (s : Start) → s.explained ≡ explained →
+    ensures talk { (s : Start) → s.wording ≡ wording →
         MatchOption told
         (Talk s 0 scheduler.old (untold lines.old (R.remaining reader.old)) (W.contents writer.old)
         (J.stands_for journal.old s.config) [])
@@ -80,10 +81,10 @@ pub(crate) fn talk_from<R: Source, W: Sink, J: Journal>(
         (λ _. Conversed s scheduler.new
         (untold lines.new (R.remaining reader.new)) (W.contents writer.new)
         (J.stands_for journal.new s.config))
-        (λ e. Stopped s (W.contents writer.new) (J.stands_for journal.new s.config)
+        (λ e. Stopped s scheduler.new.history (W.contents writer.new) (J.stands_for journal.new s.config)
         × StopsTalk s scheduler.new (R.remaining reader.new) (W.contents writer.new)
         (J.stands_for journal.new s.config) e) }
-    ensures failed_read { FailsBy (Text TextFault.Input) result (R.has_failed reader.old)
+    ensures failed_read { FailsButFor (Text TextFault.Input) (Text TextFault.TooLong) result (R.has_failed reader.old)
         (R.has_failed reader.new) }
     ensures failed_write { FailsJustBy (Text TextFault.Output) result (W.has_failed writer.old)
         (W.has_failed writer.new) }
@@ -100,7 +101,7 @@ pub(crate) fn talk_from<R: Source, W: Sink, J: Journal>(
         told,
         writer,
         journal,
-        explained,
+        wording,
     )?;
     talk_on(
         alloc,
@@ -111,7 +112,7 @@ pub(crate) fn talk_from<R: Source, W: Sink, J: Journal>(
         reader,
         writer,
         journal,
-        explained,
+        wording,
     )
 }
 
@@ -126,32 +127,33 @@ pub fn converse<R: Source, W: Sink, J: Journal>(
     reader: &mut R,
     writer: &mut W,
     journal: &mut J,
-    explained: bool,
+    wording: Wording,
 ) -> Result<(), LiveFault>
     requires handed { scheduler.old.handed ≡ length scheduler.old.history }
     requires stands { J.stands_for journal.old scheduler.old.config scheduler.old.history }
 
     // All lines were answered, and nothing else was written; the journal stands for the whole history.
     ensures ok { OnOk result (Conversed
-        (start_at explained scheduler.old
+        (start_at wording scheduler.old
         (untold lines.old (R.remaining reader.old)) (W.contents writer.old))
         scheduler.new (untold lines.new (R.remaining reader.new)) (W.contents writer.new)
         (J.stands_for journal.new scheduler.old.config)) }
 
     // Wherever else it ended, the journal has the entry of each answer of which a byte was written.
     ensures stopped { IfErr result (λ _. Stopped
-        (start_at explained scheduler.old
+        (start_at wording scheduler.old
         (untold lines.old (R.remaining reader.old)) (W.contents writer.old))
-        (W.contents writer.new) (J.stands_for journal.new scheduler.old.config)) }
+        scheduler.new.history (W.contents writer.new)
+        (J.stands_for journal.new scheduler.old.config)) }
     ensures stops { IfErr result (StopsTalk
-        (start_at explained scheduler.old
+        (start_at wording scheduler.old
         (untold lines.old (R.remaining reader.old)) (W.contents writer.old))
         scheduler.new (R.remaining reader.new) (W.contents writer.new)
         (J.stands_for journal.new scheduler.old.config)) }
 
-    // A failed read is told only where one has failed, a failed write or journal exactly there; where all went well
-    // none did.
-    ensures failed_read { FailsBy (Text TextFault.Input) result (R.has_failed reader.old)
+    // A failed read, write or journal is told exactly where one has failed, but that an input which is too long tells
+    // nothing of reads; where all went well none did.
+    ensures failed_read { FailsButFor (Text TextFault.Input) (Text TextFault.TooLong) result (R.has_failed reader.old)
         (R.has_failed reader.new) }
     ensures failed_write { FailsJustBy (Text TextFault.Output) result (W.has_failed writer.old)
         (W.has_failed writer.new) }
@@ -168,6 +170,6 @@ pub fn converse<R: Source, W: Sink, J: Journal>(
         reader,
         writer,
         journal,
-        explained,
+        wording,
     )
 }

@@ -4,16 +4,17 @@ ghost use Rattle.std.specs.Prelude.{◌≡◌, ◌<◌, ◌+◌, ℕ, List, Opti
 ghost use Rattle.std.specs.Prelude.{MatchOption};
 ghost use Rattle.line_stream.specs.Told.{untold};
 ghost use Rattle.sched_history.specs.Machine.{kept_of};
-ghost use Rattle.text_stream.specs.Watched.{FailsBy};
+ghost use Rattle.live_command.specs.Failing.{FailsButFor};
 ghost use Rattle.live_command.specs.declared.fault.LiveFault.TheVariants.{Text, Journal as Failed};
 ghost use Rattle.live_command.specs.Journal.{FailsJustBy};
 ghost use Rattle.live_command.specs.Talk.{Start, Talk, TellsOn, IsTurn, IsAnywhere, Conversed, Stopped, StopsTalk};
 
-use crate::answer::answer;
+use crate::answer::{answer, hear};
 use crate::fault::LiveFault;
 use crate::journal::Journal;
 use crate::noting::record;
 use crate::outbox::Outbox;
+use crate::wording::Wording;
 use json::Scratch;
 use line_stream::{Lines, Told};
 use sched_history::Scheduler;
@@ -34,7 +35,7 @@ pub(crate) fn settle<W: Sink, J: Journal>(
         (λ _. Talk s turns scheduler.new left
         (W.contents writer.new) (J.stands_for journal.new s.config) outbox.new
         × J.stands_for journal.new s.config scheduler.new.history)
-        (λ _. Stopped s (W.contents writer.new) (J.stands_for journal.new s.config)) }
+        (λ _. Stopped s scheduler.new.history (W.contents writer.new) (J.stands_for journal.new s.config)) }
     ensures settled { OnOk result (outbox.new ≡ []) }
     ensures handed { OnOk result
         (scheduler.new ≡ record scheduler.old { handed = length scheduler.old.history }) }
@@ -63,7 +64,7 @@ fn make_room<W: Sink, J: Journal>(
         MatchResult result
         (λ _. Talk s turns scheduler.new left
         (W.contents writer.new) (J.stands_for journal.new s.config) outbox.new)
-        (λ _. Stopped s (W.contents writer.new) (J.stands_for journal.new s.config)) }
+        (λ _. Stopped s scheduler.new.history (W.contents writer.new) (J.stands_for journal.new s.config)) }
     ensures room { OnOk result (length (kept_of scheduler.new) < scheduler.new.config.calls) }
     ensures err { IfErr result IsAnywhere }
     ensures failed_write { FailsJustBy (Text TextFault.Output) result (W.has_failed writer.old)
@@ -99,10 +100,10 @@ fn next_line<R: Source, W: Sink, J: Journal>(
         (TellsOn s turns scheduler.new
         (untold lines.new (R.remaining reader.new)) (W.contents writer.new)
         (J.stands_for journal.new s.config) outbox.new lines.new))
-        (λ e. Stopped s (W.contents writer.new) (J.stands_for journal.new s.config)
+        (λ e. Stopped s scheduler.new.history (W.contents writer.new) (J.stands_for journal.new s.config)
         × StopsTalk s scheduler.new (R.remaining reader.new) (W.contents writer.new)
         (J.stands_for journal.new s.config) e) }
-    ensures failed_read { FailsBy (Text TextFault.Input) result (R.has_failed reader.old)
+    ensures failed_read { FailsButFor (Text TextFault.Input) (Text TextFault.TooLong) result (R.has_failed reader.old)
         (R.has_failed reader.new) }
     ensures failed_write { FailsJustBy (Text TextFault.Output) result (W.has_failed writer.old)
         (W.has_failed writer.new) }
@@ -117,7 +118,7 @@ fn next_line<R: Source, W: Sink, J: Journal>(
     Ok(told)
 }
 
-// Answers the line that was told.
+// Answers the line that was told. Where memory runs out before it was read, what was said before is settled.
 fn take_told<W: Sink, J: Journal>(
     alloc: Global,
     scratch: &mut Scratch,
@@ -127,9 +128,9 @@ fn take_told<W: Sink, J: Journal>(
     told: Told,
     writer: &mut W,
     journal: &mut J,
-    explained: bool,
+    wording: Wording,
 ) -> Result<(), LiveFault>
-    ensures talk { (s : Start) (turns : ℕ) (left : Option (List ℕ)) → s.explained ≡ explained →
+    ensures talk { (s : Start) (turns : ℕ) (left : Option (List ℕ)) → s.wording ≡ wording →
         TellsOn s turns scheduler.old left
         (W.contents writer.old) (J.stands_for journal.old s.config) outbox.old
         lines.now told →
@@ -137,7 +138,7 @@ fn take_told<W: Sink, J: Journal>(
         (λ _. Talk s (turns + 1) scheduler.new left
         (W.contents writer.new) (J.stands_for journal.new s.config)
         outbox.new)
-        (λ _. Stopped s (W.contents writer.new) (J.stands_for journal.new s.config)) }
+        (λ _. Stopped s scheduler.new.history (W.contents writer.new) (J.stands_for journal.new s.config)) }
     ensures err { IfErr result IsAnywhere }
     ensures failed_write { FailsJustBy (Text TextFault.Output) result (W.has_failed writer.old)
         (W.has_failed writer.new) }
@@ -145,7 +146,14 @@ fn take_told<W: Sink, J: Journal>(
         (J.has_failed journal.old) (J.has_failed journal.new) }
 {
     make_room(scheduler, outbox, writer, journal)?;
-    answer(alloc, scratch, scheduler, outbox, lines, told, explained)?;
+    let heard = match hear(alloc, scratch, lines, told) {
+        Ok(heard) => heard,
+        Err(fault) => {
+            settle(scheduler, outbox, writer, journal)?;
+            return Err(LiveFault::Text(fault));
+        }
+    };
+    answer(scheduler, outbox, heard, wording)?;
     Ok(())
 }
 
@@ -159,9 +167,9 @@ pub(crate) fn take_first<W: Sink, J: Journal>(
     told: Option<Told>,
     writer: &mut W,
     journal: &mut J,
-    explained: bool,
+    wording: Wording,
 ) -> Result<(), LiveFault>
-    ensures talk { (s : Start) (left : Option (List ℕ)) → s.explained ≡ explained →
+    ensures talk { (s : Start) (left : Option (List ℕ)) → s.wording ≡ wording →
         MatchOption told
         (Talk s 0 scheduler.old left
         (W.contents writer.old) (J.stands_for journal.old s.config) outbox.old)
@@ -171,7 +179,7 @@ pub(crate) fn take_first<W: Sink, J: Journal>(
         MatchResult result
         (λ _. Talk s 0 scheduler.new left
         (W.contents writer.new) (J.stands_for journal.new s.config) outbox.new)
-        (λ _. Stopped s (W.contents writer.new) (J.stands_for journal.new s.config)) }
+        (λ _. Stopped s scheduler.new.history (W.contents writer.new) (J.stands_for journal.new s.config)) }
     ensures err { IfErr result IsAnywhere }
     ensures failed_write { FailsJustBy (Text TextFault.Output) result (W.has_failed writer.old)
         (W.has_failed writer.new) }
@@ -180,7 +188,7 @@ pub(crate) fn take_first<W: Sink, J: Journal>(
 {
     match told {
         Some(told) => take_told(
-            alloc, scratch, scheduler, outbox, lines, told, writer, journal, explained,
+            alloc, scratch, scheduler, outbox, lines, told, writer, journal, wording,
         ),
         None => Ok(()),
     }
@@ -196,9 +204,9 @@ pub(crate) fn take_turn<R: Source, W: Sink, J: Journal>(
     reader: &mut R,
     writer: &mut W,
     journal: &mut J,
-    explained: bool,
+    wording: Wording,
 ) -> Result<bool, LiveFault>
-    ensures talk { (s : Start) (turns : ℕ) → s.explained ≡ explained →
+    ensures talk { (s : Start) (turns : ℕ) → s.wording ≡ wording →
         Talk s turns scheduler.old
         (untold lines.old (R.remaining reader.old)) (W.contents writer.old)
         (J.stands_for journal.old s.config) outbox.old →
@@ -206,10 +214,10 @@ pub(crate) fn take_turn<R: Source, W: Sink, J: Journal>(
         (IsTurn s turns scheduler.new
         (untold lines.new (R.remaining reader.new)) (W.contents writer.new)
         (J.stands_for journal.new s.config) outbox.new)
-        (λ e. Stopped s (W.contents writer.new) (J.stands_for journal.new s.config)
+        (λ e. Stopped s scheduler.new.history (W.contents writer.new) (J.stands_for journal.new s.config)
         × StopsTalk s scheduler.new (R.remaining reader.new) (W.contents writer.new)
         (J.stands_for journal.new s.config) e) }
-    ensures failed_read { FailsBy (Text TextFault.Input) result (R.has_failed reader.old)
+    ensures failed_read { FailsButFor (Text TextFault.Input) (Text TextFault.TooLong) result (R.has_failed reader.old)
         (R.has_failed reader.new) }
     ensures failed_write { FailsJustBy (Text TextFault.Output) result (W.has_failed writer.old)
         (W.has_failed writer.new) }
@@ -220,7 +228,7 @@ pub(crate) fn take_turn<R: Source, W: Sink, J: Journal>(
         return Ok(false);
     };
     take_told(
-        alloc, scratch, scheduler, outbox, lines, told, writer, journal, explained,
+        alloc, scratch, scheduler, outbox, lines, told, writer, journal, wording,
     )?;
     Ok(true)
 }

@@ -10,7 +10,7 @@ use decode_command::{show_frame, show_text};
 use draw_command::{draw_input, draw_journal_input};
 use journal_entries::EntriesEnd;
 use journal_file::live_journal_input;
-use live_command::live_input;
+use live_command::{Wording, live_input};
 use pcap_command::{ADDRESS, address_of, frames_input, pcap_input, pcap_journal_input};
 use report_command::{Form, report_input};
 use run_command::{RunOutput, Words, run_input};
@@ -167,13 +167,24 @@ fn check(rt: &(impl Input + Print + Eprint + AllocGlobal)) -> ExitCode {
     }
 }
 
+// In what words the command `live` answers.
+fn wording_of(live: &ArgMatches) -> Wording {
+    if live.get_flag("explain") {
+        return Wording::Explained;
+    }
+    if live.get_flag("frames") {
+        return Wording::Frames(ADDRESS);
+    }
+    Wording::Plain
+}
+
 // The command `live` with a journal.
 fn live_journal<R: Files<File = File> + Input + Print + Eprint + AllocGlobal>(
     rt: &R,
     path: &str,
     live: &ArgMatches,
 ) -> ExitCode {
-    match live_journal_input(rt, path, live.get_flag("explain"), live.get_flag("sync")) {
+    match live_journal_input(rt, path, wording_of(live), live.get_flag("sync")) {
         Ok(_) => ExitCode::SUCCESS,
         Err(fault) => {
             let _ = rt.eprintln(fault);
@@ -190,7 +201,7 @@ fn live<R: Files<File = File> + Input + Print + Eprint + AllocGlobal>(
     if let Some(path) = live.get_str("journal") {
         return live_journal(rt, path, live);
     }
-    match live_input(rt, live.get_flag("explain")) {
+    match live_input(rt, wording_of(live)) {
         Ok(_) => ExitCode::SUCCESS,
         Err(fault) => {
             let _ = rt.eprintln(fault);

@@ -12,13 +12,14 @@ use Rattle.map_build.specs.declared.frame_map.FrameMap.{FrameMap}
 use Rattle.sched_history.specs.declared.call.Call.{Call}
 use Rattle.sched_history.specs.Machine.{Machine}
 use Rattle.sched_lines.specs.Line.{Answer}
+use Rattle.frame_lines.specs.Line.{map_in}
 use Rattle.sched_lines.specs.Answer.{MakesCall, MakesCalls}
 use Rattle.sched_lines.proofs.Made.{MakesCalls-push, MakesCalls-legal}
 use Rattle.text_stream.proofs.Written.{Appends-out}
 use Rattle.sched_lines.proofs.Leaving.{MakesCalls-count}
 use Rattle.pcap_command.specs.declared.output.WireOutput.{WireOutput}
 use Rattle.pcap_command.specs.declared.output.WireOutput.TheVariants.{Lines, Capture}
-use Rattle.pcap_command.specs.Capture.{packet_of, map_in, listed, maps_of, capture_head, wire_text}
+use Rattle.pcap_command.specs.Capture.{packet_of, listed, maps_of, capture_head, wire_text}
 use Rattle.pcap_command.specs.Items.{head_of, packet_or, item_of}
 use Rattle.pcap_command.specs.Ran.{PutsOnWire}
 

@@ -1,29 +1,13 @@
 -- What a run puts on the channel: lines with whole frames, and a capture of the MAPs.
-use Rattle.std.specs.Prelude.{ℕ, ◌*◌, ◌/◌, ◌%◌, ◌^◌, List, [], ◌∷◌, ◌++◌, length, codes, Option, Some, None, Ok, Err}
+use Rattle.std.specs.Prelude.{ℕ, ◌*◌, ◌/◌, ◌%◌, ◌^◌, List, [], ◌∷◌, ◌++◌, length, Option, Some, None}
 use Rattle.std.specs.List.{flat_map}
 use Rattle.std.specs.Int.{w16, w32, to_le_bytes}
 use Rattle.minislots.specs.declared.config.Config.{Config}
-use Rattle.hex.specs.Hex.{encode_lower}
-use Rattle.map_codec.specs.WireMap.{spelling}
 use Rattle.map_build.specs.declared.frame_map.FrameMap.{FrameMap}
-use Rattle.sched_history.specs.declared.reply.Reply.TheVariants.{Admitted, Removed, Taken, Noted, Built, Skipped, Flow}
-use Rattle.sched_history.specs.declared.reply.Reply.TheVariants.{Refused}
-use Rattle.wire_frame.specs.MapFrame.{frame_of_map}
-use Rattle.sched_lines.specs.Line.{Answer, line_of}
+use Rattle.sched_lines.specs.Line.{Answer}
+use Rattle.frame_lines.specs.Line.{map_in, frame_of, framed_line}
 use Rattle.pcap_command.specs.declared.output.WireOutput.{WireOutput}
 use Rattle.pcap_command.specs.declared.output.WireOutput.TheVariants.{Lines, Capture}
-
--- the MAP that an answer has
-abbrev pub map_in : Answer → Option FrameMap
-map_in (Ok (Built m)) = Some m
-map_in (Ok (Admitted p)) = None
-map_in (Ok Removed) = None
-map_in (Ok Taken) = None
-map_in (Ok Noted) = None
-map_in (Ok (Skipped next)) = None
-map_in (Ok (Flow asked granted outstanding)) = None
-map_in (Ok (Refused refusal)) = None
-map_in (Err unrecorded) = None
 
 -- a list of what is there
 abbrev pub listed : Option FrameMap → List FrameMap
@@ -33,19 +17,6 @@ listed (Some m) = m ∷ []
 -- the MAPs of answers, in their order
 unfoldable pub maps_of : List Answer → List FrameMap
 maps_of answers = flat_map (λ answer. listed (map_in answer)) answers
-
--- the frame of a MAP from an address
-abbrev pub frame_of : List ℕ → FrameMap → List ℕ
-frame_of address m = frame_of_map address (spelling m.wire)
-
--- the line of a MAP: its frame in hexadecimal
-unfoldable pub map_line : List ℕ → FrameMap → List ℕ
-map_line address m = codes "map " ++ encode_lower (frame_of address m) ++ codes "\n"
-
--- the line of a MAP where there is one, or the line that an answer has by itself
-abbrev pub line_or : List ℕ → Option FrameMap → Answer → List ℕ
-line_or address None answer = line_of answer
-line_or address (Some m) answer = map_line address m
 
 -- the nanoseconds from minislot 0 to the start of another: a tick is 6250 of them
 abbrev pub nanoseconds_to : Config → ℕ → ℕ
@@ -82,5 +53,5 @@ capture_of c address maps = capture_head ++ flat_map (packet_of c address) maps
 
 -- what is written of the answers of a run: the line of each, or the capture of their MAPs
 abbrev pub wire_text : WireOutput → Config → List ℕ → List Answer → List ℕ
-wire_text Lines c address answers = flat_map (λ answer. line_or address (map_in answer) answer) answers
+wire_text Lines c address answers = flat_map (λ answer. framed_line address answer) answers
 wire_text Capture c address answers = capture_of c address (maps_of answers)

@@ -4,9 +4,10 @@ use Rattle.std.specs.Prelude.{ℕ, List, [], Option, Some, None}
 use Rattle.minislots.specs.declared.config.Config.{Config}
 use Rattle.map_build.specs.declared.frame_map.FrameMap.{FrameMap}
 use Rattle.sched_lines.specs.Line.{Answer}
+use Rattle.frame_lines.specs.Line.{map_in, framed_line}
 use Rattle.pcap_command.specs.declared.output.WireOutput.{WireOutput}
 use Rattle.pcap_command.specs.declared.output.WireOutput.TheVariants.{Lines, Capture}
-use Rattle.pcap_command.specs.Capture.{capture_head, packet_of, map_in, line_or}
+use Rattle.pcap_command.specs.Capture.{capture_head, packet_of}
 
 -- what stands in front
 abbrev pub head_of : WireOutput → List ℕ
@@ -20,5 +21,5 @@ packet_or c address (Some m) = packet_of c address m
 
 -- what an answer adds
 abbrev pub item_of : WireOutput → Config → List ℕ → Answer → List ℕ
-item_of Lines c address answer = line_or address (map_in answer) answer
+item_of Lines c address answer = framed_line address answer
 item_of Capture c address answer = packet_or c address (map_in answer)

@@ -9,9 +9,10 @@ ghost use Rattle.script_reading.specs.Stops.{Stops};
 ghost use Rattle.pcap_command.specs.Items.{head_of, item_of};
 ghost use Rattle.pcap_command.specs.Ran.{PutsOnWire, RanOnWire};
 
-use crate::buffer::{WireBuffer, map_in};
+use crate::buffer::WireBuffer;
 use crate::output::WireOutput;
 use crate::packet::capture_head;
+use frame_lines::map_in;
 use minislots::Checked;
 use sched_history::{Call, Reply, Scheduler, Unrecorded};
 use sched_lines::{count_unrecorded, make_call};

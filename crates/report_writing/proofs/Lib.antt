@@ -1,3 +1,3 @@
 mod JsonNumbers
-mod Gathering
+pub mod Gathering
 mod Refusals

@@ -17,15 +17,16 @@ returns-in_err-begin-clause-ends g c =
     let p = err_from_is_err_and exit.result exit.ensures.1 in
     let m = c.args.scheduler.now in
     let reads = rw c.config.ensures at c.in_ok-told.ensures.ok in
-    let goes = front_goes c.args.explained m _ _ _ c.in_ok-told.told reads in
+    let goes = front_goes c.args.wording m _ _ _ c.in_ok-told.told reads in
     let keeps = rw c.config.ensures at c.in_err-begin.ensures.err in
     rw (p.1, p.2) (inr (inl (record {
       behind = goes.0;
       goes = goes.1;
       unbegun = record {
         why = c.in_err-begin.ensures.why.0;
-        is = c.in_err-begin.ensures.why.1;
-        unwritten = refl;
+        refused = rw c.config.ensures at c.in_err-begin.ensures.why.1;
+        is = c.in_err-begin.ensures.why.2;
+        unwritten = (refl, refl);
         begins = keeps m.history c.requires.ready;
       };
     })))
@@ -36,12 +37,12 @@ returns-clause-ok g c =
     let written = g.W.Sink.contents c.args.writer.now in
     let stands = g.J.Journal.stands_for c.begin.new.journal m.config in
     let reads = rw c.config.ensures at c.in_ok-told.ensures.ok in
-    let goes = front_goes c.args.explained m _ _ _ c.in_ok-told.told reads in
+    let goes = front_goes c.args.wording m _ _ _ c.in_ok-told.told reads in
     let keeps = rw c.config.ensures at c.in_ok-begin.ensures.ok in
-    let begins = front_begins c.args.explained m _ _ _ written stands c.in_ok-told.told c.requires.handed
+    let begins = front_begins c.args.wording m _ _ _ written stands c.in_ok-told.told c.requires.handed
     (keeps m.history c.requires.ready) reads in
-    let s = start_at c.args.explained m goes.0 written in
-    goes_well c.args.explained m c.talk_from.new.scheduler _ goes.0 written _ _ goes.1 _ _ c.talk_from.result
+    let s = start_at c.args.wording m goes.0 written in
+    goes_well c.args.wording m c.talk_from.new.scheduler _ goes.0 written _ _ goes.1 _ _ c.talk_from.result
     (c.talk_from.ensures.talk s refl begins)
 
 pub returns-clause-ends : goal.returns-clause-ends
@@ -50,10 +51,10 @@ returns-clause-ends g c =
     let written = g.W.Sink.contents c.args.writer.now in
     let stands = g.J.Journal.stands_for c.begin.new.journal m.config in
     let reads = rw c.config.ensures at c.in_ok-told.ensures.ok in
-    let goes = front_goes c.args.explained m _ _ _ c.in_ok-told.told reads in
+    let goes = front_goes c.args.wording m _ _ _ c.in_ok-told.told reads in
     let keeps = rw c.config.ensures at c.in_ok-begin.ensures.ok in
-    let begins = front_begins c.args.explained m _ _ _ written stands c.in_ok-told.told c.requires.handed
+    let begins = front_begins c.args.wording m _ _ _ written stands c.in_ok-told.told c.requires.handed
     (keeps m.history c.requires.ready) reads in
-    let s = start_at c.args.explained m goes.0 written in
-    goes_early c.args.explained m c.talk_from.new.scheduler _ goes.0 written _ _ goes.1 _ _ _ _ _
+    let s = start_at c.args.wording m goes.0 written in
+    goes_early c.args.wording m c.talk_from.new.scheduler _ goes.0 written _ _ goes.1 _ _ _ _ _ _
     c.talk_from.result (c.talk_from.ensures.talk s refl begins)

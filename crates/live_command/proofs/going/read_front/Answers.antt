@@ -1,5 +1,6 @@
 -- The first line is told, unless it is the opening.
 use Rattle.live_command.proofs.Front.{reads_front, misses_front, unfailed_front, front_long, front_none}
+use Rattle.live_command.proofs.Failing.{unread}
 use Rattle.live_command.proofs.going.read_front.Goals as goal
 
 pub returns-in-Some-Line-clause-ok : goal.returns-in-Some-Line-clause-ok
@@ -14,7 +15,8 @@ returns-in-Some-Line-clause-stops g c =
 
 pub returns-in-Some-Line-clause-failed : goal.returns-in-Some-Line-clause-failed
 returns-in-Some-Line-clause-failed g c =
-    unfailed_front _ _ c.tell_first.result c.tell_first.ensures.err _ _ c.in_ok-next_spoken.ensures.failed
+    let same = c.in_ok-next_spoken.ensures.failed in
+    unread _ _ c.tell_first.result _ _ (unfailed_front _ _ c.tell_first.result c.tell_first.ensures.err _ _ same) same
 
 pub returns-in-Some-Long-clause-ok : goal.returns-in-Some-Long-clause-ok
 returns-in-Some-Long-clause-ok g c =

@@ -36,7 +36,8 @@ returns-in_err-begin-clause-ends g c =
       opened = opened;
       unbegun = record {
         why = c.in_err-begin.ensures.why.0;
-        is = c.in_err-begin.ensures.why.1;
+        refused = c.in_err-begin.ensures.why.1;
+        is = c.in_err-begin.ensures.why.2;
         unwritten = refl;
         begins = c.in_err-begin.ensures.err [] (c.requires config);
       };
@@ -52,11 +53,11 @@ returns-clause-ok g c =
     let opened = subst (λ (u : Option (List ℕ)). Opens u behind (Ok config)) same c.in_ok-config.ensures.ok in
     let m : Machine = record { config = config; history = []; handed = 0 } in
     let stands = g.J.Journal.stands_for c.begin.new.journal in
-    let start = Talk-start c.args.explained m behind (g.W.Sink.contents c.args.writer.now) (stands config) refl
+    let start = Talk-start c.args.wording m behind (g.W.Sink.contents c.args.writer.now) (stands config) refl
     (c.in_ok-begin.ensures.ok [] (c.requires config)) in
-    let s = start_new config c.args.explained behind (g.W.Sink.contents c.args.writer.now) in
+    let s = start_new config c.args.wording behind (g.W.Sink.contents c.args.writer.now) in
     let talks = rw c.in_ok-scheduler.ensures at c.talk_from.ensures.talk in
-    ends_well c.args.explained config unread behind _ _ _ (g.J.Journal.stands_for c.talk_from.new.journal)
+    ends_well c.args.wording config unread behind _ _ _ (g.J.Journal.stands_for c.talk_from.new.journal)
     c.talk_from.new.scheduler opened c.talk_from.new.lines.bytes c.talk_from.result (talks s refl start)
 
 pub returns-clause-ends : goal.returns-clause-ends
@@ -69,10 +70,10 @@ returns-clause-ends g c =
     let opened = subst (λ (u : Option (List ℕ)). Opens u behind (Ok config)) same c.in_ok-config.ensures.ok in
     let m : Machine = record { config = config; history = []; handed = 0 } in
     let stands = g.J.Journal.stands_for c.begin.new.journal in
-    let start = Talk-start c.args.explained m behind (g.W.Sink.contents c.args.writer.now) (stands config) refl
+    let start = Talk-start c.args.wording m behind (g.W.Sink.contents c.args.writer.now) (stands config) refl
     (c.in_ok-begin.ensures.ok [] (c.requires config)) in
-    let s = start_new config c.args.explained behind (g.W.Sink.contents c.args.writer.now) in
+    let s = start_new config c.args.wording behind (g.W.Sink.contents c.args.writer.now) in
     let talks = rw c.in_ok-scheduler.ensures at c.talk_from.ensures.talk in
-    ends_early c.args.explained config unread behind _ _ _ (g.J.Journal.stands_for c.talk_from.new.journal)
-    c.talk_from.new.scheduler opened c.talk_from.new.lines.bytes (g.J.Journal.may_begin c.talk_from.new.journal) _ _
+    ends_early c.args.wording config unread behind _ _ _ (g.J.Journal.stands_for c.talk_from.new.journal)
+    c.talk_from.new.scheduler opened c.talk_from.new.lines.bytes _ (g.J.Journal.may_begin c.talk_from.new.journal) _ _
     c.talk_from.result (talks s refl start)

@@ -3,6 +3,7 @@ use Rattle.std.proofs.Common.{inl}
 use Rattle.text_stream.proofs.Outcome.{unfailed}
 use Rattle.live_command.specs.Opening.{opening_in}
 use Rattle.live_command.proofs.OpeningFaults.{faults-opening_in, opens_well, opens_badly, opens_long}
+use Rattle.live_command.proofs.Failing.{unread}
 use Rattle.live_command.proofs.opening.read_opening.Goals as goal
 
 pub returns-in-Some-Line-clause-ok : goal.returns-in-Some-Line-clause-ok
@@ -19,8 +20,9 @@ returns-in-Some-Line-clause-stops g c =
 
 pub returns-in-Some-Line-clause-failed : goal.returns-in-Some-Line-clause-failed
 returns-in-Some-Line-clause-failed g c =
-    unfailed (λ config. config) c.opening_in.result (opening_in c.line.result.now) (faults-opening_in c.line.result.now)
-    c.opening_in.ensures _ _ c.in_ok-next_spoken.ensures.failed
+    let same = c.in_ok-next_spoken.ensures.failed in
+    unread _ _ c.opening_in.result _ _ (unfailed (λ config. config) c.opening_in.result (opening_in c.line.result.now)
+    (faults-opening_in c.line.result.now) c.opening_in.ensures _ _ same) same
 
 pub returns-in-Some-Long-clause-stops : goal.returns-in-Some-Long-clause-stops
 returns-in-Some-Long-clause-stops g c =

@@ -9,8 +9,8 @@ pub returns-clause-ok : goal.returns-clause-ok
 returns-clause-ok g c =
     let unread = untold c.args.lines.now (g.R.Source.remaining c.args.reader.now) in
     let written = g.W.Sink.contents c.args.writer.now in
-    let s = start_at c.args.explained c.args.scheduler.now unread written in
-    let start = Talk-start c.args.explained c.args.scheduler.now unread written
+    let s = start_at c.args.wording c.args.scheduler.now unread written in
+    let start = Talk-start c.args.wording c.args.scheduler.now unread written
     (g.J.Journal.stands_for c.args.journal.now s.config) c.requires.handed c.requires.stands in
     on_ok _ _ _ c.talk_from.result (c.talk_from.ensures.talk s refl start)
 
@@ -18,8 +18,8 @@ pub returns-clause-stopped : goal.returns-clause-stopped
 returns-clause-stopped g c =
     let unread = untold c.args.lines.now (g.R.Source.remaining c.args.reader.now) in
     let written = g.W.Sink.contents c.args.writer.now in
-    let s = start_at c.args.explained c.args.scheduler.now unread written in
-    let start = Talk-start c.args.explained c.args.scheduler.now unread written
+    let s = start_at c.args.wording c.args.scheduler.now unread written in
+    let start = Talk-start c.args.wording c.args.scheduler.now unread written
     (g.J.Journal.stands_for c.args.journal.now s.config) c.requires.handed c.requires.stands in
     on_err-first _ _ _ c.talk_from.result (c.talk_from.ensures.talk s refl start)
 
@@ -27,7 +27,7 @@ pub returns-clause-stops : goal.returns-clause-stops
 returns-clause-stops g c =
     let unread = untold c.args.lines.now (g.R.Source.remaining c.args.reader.now) in
     let written = g.W.Sink.contents c.args.writer.now in
-    let s = start_at c.args.explained c.args.scheduler.now unread written in
-    let start = Talk-start c.args.explained c.args.scheduler.now unread written
+    let s = start_at c.args.wording c.args.scheduler.now unread written in
+    let start = Talk-start c.args.wording c.args.scheduler.now unread written
     (g.J.Journal.stands_for c.args.journal.now s.config) c.requires.handed c.requires.stands in
     on_err-second _ _ _ c.talk_from.result (c.talk_from.ensures.talk s refl start)

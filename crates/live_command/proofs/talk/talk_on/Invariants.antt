@@ -6,7 +6,7 @@ use Rattle.live_command.proofs.talk.talk_on.Given as goal
 
 abbrev pub invariant-loop : goal.invariant-loop
 invariant-loop g l = record {
-  talk : (s : Start) → s.explained ≡ l.explained → Talk s 0 l.fn.scheduler
+  talk : (s : Start) → s.wording ≡ l.wording → Talk s 0 l.fn.scheduler
       (untold l.fn.lines (g.R.Source.remaining l.fn.reader)) (g.W.Sink.contents l.fn.writer)
       (g.J.Journal.stands_for l.fn.journal s.config) l.fn.outbox → Talk s l.counter l.scheduler
       (untold l.lines (g.R.Source.remaining l.reader)) (g.W.Sink.contents l.writer)

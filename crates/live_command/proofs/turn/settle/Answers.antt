@@ -16,7 +16,7 @@ returns-in_err-send-clause-talk g c = λ s turns left talk.
     let p = err_from_is_err_and exit.result exit.ensures.1 in
     let grows = rw c.history.ensures.value at (c.in_ok-record.ensures.ok s.config) in
     let now = g.J.Journal.stands_for c.«record».new.journal s.config in
-    rw p.1 (elim c.in_err-send.ensures.sends [
+    rw (p.1, c.forget.ensures) (elim c.in_err-send.ensures.sends [
       | inl out ↦ Stopped-sending s turns _ left _ _ _ talk _ now grows out.2
       | inr none ↦ rw none.1 (Stopped-unsent s turns _ left _ _ _ talk now grows)
     ])

@@ -3,7 +3,6 @@ use Rattle.std.proofs.Common.{ℕ, length, refl, subst, arith}
 use Rattle.std.proofs.lemmas.Option.{slice_get_read}
 use Rattle.sched_history.specs.History.{IsStep}
 use Rattle.sched_history.specs.Machine.{Past}
-use Rattle.sched_history.specs.Audit.{IsFirstIllegal}
 use Rattle.report_command.proofs.fed.feed.Goals as goal
 
 pub loop-index-init : goal.loop-index-init

@@ -9,11 +9,11 @@ pub returns-in_err-put-clause-err : goal.returns-in_err-put-clause-err
 returns-in_err-put-clause-err g c =
     let line : c.deref.result.now ≡ opening_line c.args.config.now = search rules in
     on_err c.from_residual.result (begun_err c.args.config.now _ _ _ _ c.args.size c.deref.result.now
-    c.in-Ok-lacking.rest.now c.requires c.in_err-put.ensures.err.place line c.in-Ok-lacking.ensures
+    c.in-Ok-lacking.rest.now c.requires c.in_err-put.ensures.err.place line c.in-Ok-lacking.ensures.rest
     c.in_err-put.ensures.bytes)
 
 pub returns-clause-ok : goal.returns-clause-ok
 returns-clause-ok g c =
     let line : c.deref.result.now ≡ opening_line c.args.config.now = search rules in
     begun_ok c.args.config.now _ _ _ _ c.args.size c.deref.result.now c.in-Ok-lacking.rest.now c.requires
-    c.in_ok-put.ensures.ok.place line c.in-Ok-lacking.ensures c.in_ok-put.ensures.bytes
+    c.in_ok-put.ensures.ok.place line c.in-Ok-lacking.ensures.rest c.in_ok-put.ensures.bytes

@@ -1,0 +1,5 @@
+pub mod Enough
+pub mod Filling
+pub mod Widths
+pub mod Marks
+pub mod Kept

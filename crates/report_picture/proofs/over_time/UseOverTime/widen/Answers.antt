@@ -1,0 +1,8 @@
+-- Wider steps.
+use Rattle.report_picture.proofs.Kept.{widened}
+use Rattle.report_picture.proofs.over_time.UseOverTime.widen.Goals as goal
+
+pub returns : goal.returns
+returns c = λ fs is.
+    widened c.args.self.now c.joined-self.result fs is c.if-self.false c.joined-self.ensures.long
+    c.joined-self.ensures.each

@@ -1,0 +1,8 @@
+-- The ranks so far.
+use Rattle.std.proofs.Common.{◌≤◌, length}
+use Rattle.report_writing.proofs.Gathering.{AreFirstRanks}
+use Rattle.report_picture.proofs.ranks.ranks_told.Given as goal
+
+abbrev pub invariant-loop-index : goal.invariant-loop-index
+invariant-loop-index l =
+    AreFirstRanks l.reporter.config l.reporter.history l.ranks l.index × (length l.ranks ≤ l.index)

@@ -1,0 +1,119 @@
+-- The delays of requests by rank.
+use Rattle.std.specs.Prelude.{ℕ, ◌+◌, ◌*◌, ◌/◌, ◌==◌, nat_le, if◌then◌else◌, max, List, [], ◌∷◌, ◌++◌, codes}
+use Rattle.std.specs.Prelude.{flat_map, length, slice_index_or, Option, None, Some}
+use Rattle.std.specs.List.{range_with_len}
+use Rattle.sched_report.specs.declared.life.TheConstants.{POLLED}
+use Rattle.report_writing.specs.declared.gathered.RankTold.{RankTold}
+use Rattle.report_picture.specs.declared.spread.Spread.{Spread}
+use Rattle.report_picture.specs.declared.spread.Scale.{Scale}
+use Rattle.report_picture.specs.declared.ranks.TheConstants.{NO_RANK}
+use Rattle.report_picture.specs.Filled.{filled}
+use Rattle.report_picture.specs.Axis.{place, round_step, microseconds}
+
+-- these delays, where there are all four
+unfoldable pub spread_with : Option ℕ → Option ℕ → Option ℕ → Option ℕ → Option Spread
+spread_with (Some least) (Some middle) (Some p99) (Some greatest) =
+    Some (record { least = least; middle = middle; p99 = p99; greatest = greatest })
+spread_with least middle p99 greatest = None
+
+-- how the delays of a rank are spread, where a request of it was served
+abbrev pub spread_of : RankTold → Option Spread
+spread_of r = spread_with r.numbers.sums.least r.numbers.middle r.numbers.p99 r.numbers.sums.greatest
+
+-- a number, or 0 where there is none
+abbrev pub or_zero : Option ℕ → ℕ
+or_zero None = 0
+or_zero (Some n) = n
+
+-- the greatest delay of some ranks
+abbrev pub most_of : List RankTold → ℕ
+most_of [] = 0
+most_of (r ∷ rs) = max (or_zero r.numbers.sums.greatest) (most_of rs)
+
+-- the scale of delays up to this one: it ends at the tenth of a millisecond, 16 ticks, that it reaches
+abbrev pub scale_to : ℕ → ℕ → Scale
+scale_to ticks most = record { ticks = ticks; tenths = (most * ticks + 15) / 16 }
+
+-- where a delay stands, in tenths of a unit, where 640 units are the whole scale
+abbrev pub delay_place : Scale → ℕ → ℕ
+delay_place s delay = place 6400 (delay * s.ticks) (16 * s.tenths)
+
+-- the tick of so many tenths of a millisecond over so many rows
+unfoldable pub delay_tick : Scale → ℕ → ℕ → List ℕ
+delay_tick s rows n =
+    if nat_le n s.tenths then
+    filled (codes "<path class='tick' d='M~-4V@'/><text class='at' x='~' y='-10'>~</text>\n")
+    (place 6400 n s.tenths ∷ (32 * rows) ∷ place 6400 n s.tenths ∷ n ∷ [])
+    else []
+
+-- the ticks of delays
+abbrev pub delay_ticks : Scale → ℕ → List ℕ
+delay_ticks s rows = flat_map (λ i. delay_tick s rows (round_step s.tenths * i)) (range_with_len 0 11)
+
+-- the name of a rank
+unfoldable pub rank_text : ℕ → List ℕ
+rank_text rank =
+    if rank == POLLED then codes "<text class='end' x='-8' y='20'>polled</text>"
+    else filled (codes "<text class='end' x='-8' y='20'>priority @</text>") (rank ∷ [])
+
+-- the marks of delays: from the least to the 99th, to the greatest, at the 99th and at the middle
+unfoldable pub marks_text : Scale → Spread → List ℕ
+marks_text s d =
+    filled (codes "<path class='range' d='M~ 9V23H~V9z'/><path class='most' d='M~ 16H~'/><path class='most' d='M~ 8v16'/>")
+    (delay_place s d.least ∷ delay_place s d.p99 ∷ delay_place s d.least ∷ delay_place s d.greatest
+    ∷ delay_place s d.greatest ∷ [])
+    ++ filled (codes "<path d='M~ 9l7 14h-14z'/><circle class='middle' cx='~' cy='16' r='5'/>\n")
+    (delay_place s d.p99 ∷ delay_place s d.middle ∷ [])
+
+-- delays in milliseconds
+unfoldable pub numbers_text : Scale → Spread → List ℕ
+numbers_text s d =
+    filled (codes "<text class='end' x='824' y='20'>^</text><text class='end' x='914' y='20'>^</text>")
+    (microseconds s.ticks d.least ∷ microseconds s.ticks d.middle ∷ [])
+    ++ filled (codes "<text class='end' x='1014' y='20'>^</text><text class='end' x='1104' y='20'>^</text>")
+    (microseconds s.ticks d.p99 ∷ microseconds s.ticks d.greatest ∷ [])
+
+-- the delays of a rank, where there are any
+unfoldable pub spread_text : Scale → Option Spread → List ℕ
+spread_text s None = []
+spread_text s (Some d) = marks_text s d ++ numbers_text s d
+
+-- the rank at a place
+abbrev pub rank_at : List RankTold → ℕ → RankTold
+rank_at ranks i = slice_index_or ranks i NO_RANK
+
+-- the row of a rank: its name, how many of its requests were served, and their delays
+unfoldable pub row_text : Scale → List RankTold → ℕ → List ℕ
+row_text s ranks i =
+    filled (codes "<g transform='translate(0 @)'>") ((32 * i) ∷ [])
+    ++ (rank_text (rank_at ranks i).rank
+    ++ (filled (codes "<text class='end' x='724' y='20'>@</text>\n") ((rank_at ranks i).numbers.sums.served ∷ [])
+    ++ (spread_text s (spread_of (rank_at ranks i)) ++ codes "</g>\n")))
+
+-- the rows of ranks, one below the other
+abbrev pub rows_text : Scale → List RankTold → List ℕ
+rows_text s ranks = flat_map (row_text s ranks) (range_with_len 0 (length ranks))
+
+-- what the delays are, and what their marks are for
+unfoldable pub delays_legend : List ℕ
+delays_legend =
+    codes "<text class='head' x='96' y='492'>Delays of requests by rank, in ms: from where a request was heard "
+    ++ (codes "to the end of the data grant that served it.</text>\n<path class='range' d='M96 506h28v14h-28z'/>"
+    ++ (codes "<text x='132' y='517'>least to 99 in a hundred</text><circle class='middle' cx='330' cy='513' r='5'/>"
+    ++ (codes "<text x='344' y='517'>middle: 50 in a hundred</text><path d='M520 506l7 14h-14z'/>"
+    ++ (codes "<text x='536' y='517'>99 in a hundred</text><path class='most' d='M670 513h20'/>"
+    ++ codes "<path class='most' d='M690 505v16'/><text x='702' y='517'>greatest</text>\n"))))
+
+-- the names of the columns of numbers
+unfoldable pub columns_text : List ℕ
+columns_text =
+    codes "<g transform='translate(96 560)'>\n<text class='end' x='-24' y='-10'>ms</text>"
+    ++ (codes "<text class='end' x='724' y='-10'>served</text><text class='end' x='824' y='-10'>least</text>"
+    ++ (codes "<text class='end' x='914' y='-10'>middle</text><text class='end' x='1014' y='-10'>99 in 100</text>"
+    ++ codes "<text class='end' x='1104' y='-10'>greatest</text>\n"))
+
+-- the delays of ranks, on channels whose minislots have so many ticks
+unfoldable pub delays_text : ℕ → List RankTold → List ℕ
+delays_text ticks ranks =
+    delays_legend ++ (columns_text ++ (delay_ticks (scale_to ticks (most_of ranks)) (length ranks)
+    ++ (rows_text (scale_to ticks (most_of ranks)) ranks ++ codes "</g>\n")))

@@ -1,0 +1,31 @@
+-- What is kept of the use of minislots over time.
+use Rattle.std.specs.Prelude.{◌≡◌, ℕ, ◌+◌, ◌*◌, ◌≤◌, List, take, length, slice_index_or}
+use Rattle.sched_history.specs.declared.reply.Entry.{Entry}
+use Rattle.sched_history.specs.declared.reply.TheConstants.{MAX_WHOLE_HISTORY}
+use Rattle.frame_picture.specs.Frames.{Frame, frames_of}
+use Rattle.sched_report.specs.declared.slots.Slots.{Slots}
+use Rattle.report_picture.specs.declared.over_time.UseOverTime.{UseOverTime}
+use Rattle.report_picture.specs.OverTime.{use_in, IsWidth}
+
+-- The frames are counted, and each mark is the use of all of them before its step
+pub record AreMarks (u : UseOverTime) (fs : List Frame) : Type 0 where
+  pub count : u.frames ≡ length fs
+  pub long : length u.marks ≡ 801
+  pub total : u.total ≡ use_in fs
+  pub marks : (i : ℕ) (s : Slots) → u.width * i ≤ length fs
+      → slice_index_or u.marks i s ≡ use_in (take (u.width * i) fs)
+
+-- The steps have the width that so many frames have
+pub record IsOverTime (u : UseOverTime) (fs : List Frame) : Type 0 where
+  pub are : AreMarks u fs
+  pub width : IsWidth (length fs) u.width
+
+-- The use is that of the frames of a history, which is no longer than one may be
+pub record IsTimed (u : UseOverTime) (h : List Entry) : Type 0 where
+  pub over_time : IsOverTime u (frames_of h)
+  pub short : length h ≤ MAX_WHOLE_HISTORY
+
+-- The steps have the width that one frame more has
+pub record IsReadyFor (u : UseOverTime) (fs : List Frame) : Type 0 where
+  pub are : AreMarks u fs
+  pub width : IsWidth (length fs + 1) u.width

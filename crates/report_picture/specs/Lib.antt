@@ -1,0 +1,10 @@
+pub mod Filled
+pub mod Axis
+pub mod OverTime
+pub mod Kept
+pub mod Course
+pub mod Head
+pub mod Areas
+pub mod Axes
+pub mod Delays
+pub mod Picture

@@ -1,0 +1,47 @@
+-- The use of minislots over time, in steps of so many frames each.
+use Rattle.std.specs.Prelude.{◌≡◌, ℕ, ◌+◌, ◌-◌, ◌*◌, ◌/◌, ◌^◌, ◌<◌, ◌≤◌, List, take, drop, length, map, flat_map, sum_by}
+use Rattle.std.specs.List.{range_with_len}
+use Rattle.frame_picture.specs.Frames.{Frame}
+use Rattle.sched_report.specs.declared.slots.Slots.{Slots}
+use Rattle.sched_report.specs.Uses.{slots_in}
+
+-- the minislots of some frames by their use
+abbrev pub use_in : List Frame → Slots
+use_in fs = record {
+  data_grants = sum_by (λ f. (slots_in f).data_grants) fs;
+  idle = sum_by (λ f. (slots_in f).idle) fs;
+  opportunity = sum_by (λ f. (slots_in f).opportunity) fs;
+  poll = sum_by (λ f. (slots_in f).poll) fs;
+  request = sum_by (λ f. (slots_in f).request) fs;
+  unsolicited = sum_by (λ f. (slots_in f).unsolicited) fs;
+}
+
+-- the frames of the step at a place, where a step has so many: the last one has those that are left
+abbrev pub frames_at : ℕ → List Frame → ℕ → List Frame
+frames_at width fs i = take width (drop (width * i) fs)
+
+-- how many steps so many frames have
+abbrev pub steps_of : ℕ → ℕ → ℕ
+steps_of width n = (n + (width - 1)) / width
+
+-- the minislots of each step by their use
+abbrev pub uses_of : ℕ → List Frame → List Slots
+uses_of width fs = map (λ i. use_in (frames_at width fs i)) (range_with_len 0 (steps_of width (length fs)))
+
+-- So many frames have steps of this width: the least power of two with which there are no more than 800 of them
+pub record IsWidth (n width : ℕ) : Type 0 where
+  pub exponent : ℕ
+  pub power : width ≡ 2 ^ exponent
+  pub enough : n ≤ 800 * width
+  pub least : 1 < width → 400 * width < n
+
+-- the steps have all frames, each once, in their order
+abbrev pub CoversEachFrame : Type 0
+CoversEachFrame =
+    (width : ℕ) → 0 < width → (fs : List Frame)
+    → flat_map (frames_at width fs) (range_with_len 0 (steps_of width (length fs))) ≡ fs
+
+-- there is one such width for so many frames, and no more than 800 steps
+pub record HasOneWidth : Type 0 where
+  pub one : (n a b : ℕ) → IsWidth n a → IsWidth n b → a ≡ b
+  pub few : (n width : ℕ) → IsWidth n width → steps_of width n ≤ 800

@@ -1,0 +1,212 @@
+//! The delays of requests by rank.
+
+ghost use Rattle.std.specs.Prelude.{◌≡◌, ◌<◌, ◌≤◌, ◌^◌, length};
+ghost use Rattle.report_picture.specs.Delays.{most_of, delay_tick, delay_ticks, rank_text, row_text, rows_text};
+ghost use Rattle.report_picture.specs.Delays.{delays_legend, columns_text, delays_text};
+ghost use Rattle.text_stream.specs.Writing.{Puts};
+
+use crate::axis::{place, round_step};
+use crate::filled::put_filled;
+use crate::spread::{Scale, put_spread, scale_to, spread_with};
+use report_writing::RankTold;
+use sched_report::POLLED;
+use text_stream::{Sink, TextBuffer, TextFault};
+
+// The greatest delay of some ranks.
+fn most_of(ranks: &[RankTold]) -> u64
+    ensures { result ≡ most_of ranks.now }
+{
+    let mut most = 0;
+    for told in ranks {
+        most = most.max(told.numbers.sums.greatest.unwrap_or(0));
+    }
+    most
+}
+
+// The tick of so many tenths of a millisecond over so many rows.
+#[tactic(auto, unfolding(crate::specs::Delays::delay_tick))]
+fn put_delay_tick<W: Sink>(
+    lines: &mut TextBuffer,
+    writer: &mut W,
+    scale: Scale,
+    rows: usize,
+    number: u128,
+) -> Result<(), TextFault>
+    requires small { scale.tenths < 2 ^ 96 }
+    requires few { rows ≤ 9 }
+    ensures { Puts W.contents W.has_failed writer.old writer.new lines.old lines.new
+        (delay_tick scale rows number) result }
+{
+    if number > scale.tenths {
+        return Ok(());
+    }
+    let x = place(6400, number, scale.tenths);
+    put_filled(
+        lines,
+        writer,
+        b"<path class='tick' d='M~-4V@'/><text class='at' x='~' y='-10'>~</text>\n",
+        &[x, 32 * rows as u128, x, number],
+    )
+}
+
+// The ticks of delays.
+fn put_delay_ticks<W: Sink>(
+    lines: &mut TextBuffer,
+    writer: &mut W,
+    scale: Scale,
+    rows: usize,
+) -> Result<(), TextFault>
+    requires small { scale.tenths < 2 ^ 96 }
+    requires few { rows ≤ 9 }
+    ensures { Puts W.contents W.has_failed writer.old writer.new lines.old lines.new
+        (delay_ticks scale rows) result }
+{
+    let step = round_step(scale.tenths);
+    for i in 0..11usize {
+        put_delay_tick(lines, writer, scale, rows, step * i as u128)?;
+    }
+    Ok(())
+}
+
+// The name of a rank.
+#[tactic(auto, unfolding(crate::specs::Delays::rank_text))]
+fn put_rank<W: Sink>(lines: &mut TextBuffer, writer: &mut W, rank: u8) -> Result<(), TextFault>
+    ensures { Puts W.contents W.has_failed writer.old writer.new lines.old lines.new
+        (rank_text rank) result }
+{
+    if rank == POLLED {
+        return lines.put(writer, b"<text class='end' x='-8' y='20'>polled</text>");
+    }
+    let template = b"<text class='end' x='-8' y='20'>priority @</text>";
+    put_filled(lines, writer, template, &[u128::from(rank)])
+}
+
+// The row of a rank: its name, how many of its requests were served, and their delays.
+#[tactic(auto, unfolding(crate::specs::Delays::row_text))]
+fn put_row<W: Sink>(
+    lines: &mut TextBuffer,
+    writer: &mut W,
+    scale: Scale,
+    ranks: &[RankTold],
+    i: usize,
+) -> Result<(), TextFault>
+    requires small { scale.tenths < 2 ^ 96 }
+    requires inside { i < length ranks.now }
+    requires few { length ranks.now ≤ 9 }
+    ensures { Puts W.contents W.has_failed writer.old writer.new lines.old lines.new
+        (row_text scale ranks.now i) result }
+{
+    let told = ranks[i];
+    let sums = told.numbers.sums;
+    let spread = spread_with(
+        sums.least,
+        told.numbers.middle,
+        told.numbers.p99,
+        sums.greatest,
+    );
+    put_filled(
+        lines,
+        writer,
+        b"<g transform='translate(0 @)'>",
+        &[32 * i as u128],
+    )?;
+    put_rank(lines, writer, told.rank)?;
+    let template = b"<text class='end' x='724' y='20'>@</text>\n";
+    put_filled(lines, writer, template, &[sums.served])?;
+    put_spread(lines, writer, scale, spread)?;
+    lines.put(writer, b"</g>\n")
+}
+
+// The rows of ranks, one below the other.
+fn put_rows<W: Sink>(
+    lines: &mut TextBuffer,
+    writer: &mut W,
+    scale: Scale,
+    ranks: &[RankTold],
+) -> Result<(), TextFault>
+    requires small { scale.tenths < 2 ^ 96 }
+    requires few { length ranks.now ≤ 9 }
+    ensures { Puts W.contents W.has_failed writer.old writer.new lines.old lines.new
+        (rows_text scale ranks.now) result }
+{
+    for i in 0..ranks.len() {
+        put_row(lines, writer, scale, ranks, i)?;
+    }
+    Ok(())
+}
+
+// What the delays are, and what their marks are for.
+#[tactic(auto, unfolding(crate::specs::Delays::delays_legend))]
+fn put_delays_legend<W: Sink>(lines: &mut TextBuffer, writer: &mut W) -> Result<(), TextFault>
+    ensures { Puts W.contents W.has_failed writer.old writer.new lines.old lines.new
+        (delays_legend) result }
+{
+    lines.put(
+        writer,
+        b"<text class='head' x='96' y='492'>Delays of requests by rank, in ms: from where a request was heard ",
+    )?;
+    lines.put(
+        writer,
+        b"to the end of the data grant that served it.</text>\n<path class='range' d='M96 506h28v14h-28z'/>",
+    )?;
+    lines.put(
+        writer,
+        b"<text x='132' y='517'>least to 99 in a hundred</text><circle class='middle' cx='330' cy='513' r='5'/>",
+    )?;
+    lines.put(
+        writer,
+        b"<text x='344' y='517'>middle: 50 in a hundred</text><path d='M520 506l7 14h-14z'/>",
+    )?;
+    lines.put(
+        writer,
+        b"<text x='536' y='517'>99 in a hundred</text><path class='most' d='M670 513h20'/>",
+    )?;
+    lines.put(
+        writer,
+        b"<path class='most' d='M690 505v16'/><text x='702' y='517'>greatest</text>\n",
+    )
+}
+
+// The names of the columns of numbers.
+#[tactic(auto, unfolding(crate::specs::Delays::columns_text))]
+fn put_columns<W: Sink>(lines: &mut TextBuffer, writer: &mut W) -> Result<(), TextFault>
+    ensures { Puts W.contents W.has_failed writer.old writer.new lines.old lines.new
+        (columns_text) result }
+{
+    lines.put(
+        writer,
+        b"<g transform='translate(96 560)'>\n<text class='end' x='-24' y='-10'>ms</text>",
+    )?;
+    lines.put(
+        writer,
+        b"<text class='end' x='724' y='-10'>served</text><text class='end' x='824' y='-10'>least</text>",
+    )?;
+    lines.put(
+        writer,
+        b"<text class='end' x='914' y='-10'>middle</text><text class='end' x='1014' y='-10'>99 in 100</text>",
+    )?;
+    lines.put(
+        writer,
+        b"<text class='end' x='1104' y='-10'>greatest</text>\n",
+    )
+}
+
+// The delays of ranks, on a channel whose minislots have so many ticks.
+#[tactic(auto, unfolding(crate::specs::Delays::delays_text))]
+pub(crate) fn put_delays<W: Sink>(
+    lines: &mut TextBuffer,
+    writer: &mut W,
+    ticks: u32,
+    ranks: &[RankTold],
+) -> Result<(), TextFault>
+    requires { length ranks.now ≤ 9 }
+    ensures { Puts W.contents W.has_failed writer.old writer.new lines.old lines.new
+        (delays_text ticks ranks.now) result }
+{
+    let scale = scale_to(ticks, most_of(ranks));
+    put_delays_legend(lines, writer)?;
+    put_columns(lines, writer)?;
+    put_delay_ticks(lines, writer, scale, ranks.len())?;
+    put_rows(lines, writer, scale, ranks)?;
+    lines.put(writer, b"</g>\n")
+}

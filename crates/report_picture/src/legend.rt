@@ -1,0 +1,106 @@
+//! What each look of the use of minislots is for.
+
+ghost use Rattle.std.specs.Prelude.{◌≡◌, ◌<◌, ◌^◌};
+ghost use Rattle.sched_report.specs.Uses.{all_slots};
+ghost use Rattle.report_picture.specs.Head.{key_text, first_keys, last_keys};
+ghost use Rattle.text_stream.specs.Writing.{Puts};
+
+use crate::axis::place;
+use crate::filled::put_filled;
+use sched_report::Slots;
+use text_stream::{Sink, TextBuffer, TextFault};
+
+// The minislots of all uses together.
+pub(crate) fn all_slots(slots: &Slots) -> u128
+    ensures { result ≡ all_slots slots.now }
+{
+    u128::from(slots.data_grants)
+        + u128::from(slots.idle)
+        + u128::from(slots.opportunity)
+        + u128::from(slots.poll)
+        + u128::from(slots.request)
+        + u128::from(slots.unsolicited)
+}
+
+// A key of the legend: a look, and how many in a thousand of all minislots have it.
+fn put_key<W: Sink>(
+    lines: &mut TextBuffer,
+    writer: &mut W,
+    template: &[u8],
+    part: u64,
+    all: u128,
+) -> Result<(), TextFault>
+    ensures { Puts W.contents W.has_failed writer.old writer.new lines.old lines.new
+        (key_text template.now part all) result }
+{
+    let share = place(1000, u128::from(part), all);
+    put_filled(lines, writer, template, &[share])
+}
+
+// The keys of minislots in which modems may ask, and of unsolicited grants.
+#[tactic(auto, unfolding(crate::specs::Head::first_keys))]
+pub(crate) fn put_first_keys<W: Sink>(
+    lines: &mut TextBuffer,
+    writer: &mut W,
+    slots: &Slots,
+) -> Result<(), TextFault>
+    ensures { Puts W.contents W.has_failed writer.old writer.new lines.old lines.new
+        (first_keys slots.now) result }
+{
+    let all = all_slots(slots);
+    put_key(
+        lines,
+        writer,
+        b"<path class='key request' d='M96 60h28v16h-28z'/><text x='132' y='73'>request region ~ %</text>\n",
+        slots.request,
+        all,
+    )?;
+    put_key(
+        lines,
+        writer,
+        b"<path class='key poll' d='M290 60h28v16h-28z'/><text x='326' y='73'>polls ~ %</text>\n",
+        slots.poll,
+        all,
+    )?;
+    put_key(
+        lines,
+        writer,
+        b"<path class='key unsolicited' d='M420 60h28v16h-28z'/><text x='456' y='73'>unsolicited ~ %</text>\n",
+        slots.unsolicited,
+        all,
+    )
+}
+
+// The others.
+#[tactic(auto, unfolding(crate::specs::Head::last_keys))]
+pub(crate) fn put_last_keys<W: Sink>(
+    lines: &mut TextBuffer,
+    writer: &mut W,
+    slots: &Slots,
+) -> Result<(), TextFault>
+    ensures { Puts W.contents W.has_failed writer.old writer.new lines.old lines.new
+        (last_keys slots.now) result }
+{
+    let all = all_slots(slots);
+    put_key(
+        lines,
+        writer,
+        b"<path class='key opportunity' d='M590 60h28v16h-28z'/><text x='626' y='73'>opportunities ~ %</text>\n",
+        slots.opportunity,
+        all,
+    )?;
+    put_key(
+        lines,
+        writer,
+        b"<path class='key data' d='M786 60h28v16h-28z'/><text x='822' y='73'>data grants ~ %</text>\n",
+        slots.data_grants,
+        all,
+    )?;
+    put_key(
+        lines,
+        writer,
+        b"<path class='key idle' d='M970 60h28v16h-28z'/><text x='1006' y='73'>idle ~ %</text>\n",
+        slots.idle,
+        all,
+    )
+}

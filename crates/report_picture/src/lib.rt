@@ -1,0 +1,27 @@
+//! The picture of a report in SVG: the use of minislots over time, stacked, and the delays of requests by rank.
+//!
+//! However many frames there are, time is put into at most 800 steps of as many frames each, and no frame is kept. The
+//! use of a step stands upon those below it, as high as its minislots are of all minislots of the step's frames. Places
+//! are told in tenths of a unit, rounded down.
+#![tactic(auto)]
+
+mod areas;
+mod axes;
+mod axis;
+mod course;
+mod delays;
+mod few;
+mod filled;
+mod head;
+mod legend;
+mod over_time;
+mod picture;
+mod ranks;
+mod spread;
+mod timed;
+
+pub use axis::place;
+pub use course::{Course, every_height, height_of};
+pub use over_time::{MOST_STEPS, every_step, every_width};
+pub use picture::put_report_picture;
+pub use timed::TimedReporter;

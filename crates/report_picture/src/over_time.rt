@@ -1,0 +1,154 @@
+//! The use of minislots over time, in steps of as many frames each.
+
+ghost use Rattle.std.specs.Prelude.{◌≡◌, ◌+◌, ◌*◌, ◌^◌, ◌<◌, ◌≤◌, ◌++◌, ◌∷◌, [], List, ℕ, length, slice_index_or};
+ghost use Rattle.frame_picture.specs.Frames.{Frame};
+ghost use Rattle.sched_report.specs.declared.slots.Slots.{Slots as Uses};
+ghost use Rattle.sched_report.specs.Uses.{sum_of};
+ghost use Rattle.report_picture.specs.OverTime.{use_in, frames_at, steps_of, uses_of, CoversEachFrame, HasOneWidth};
+ghost use Rattle.report_picture.specs.Kept.{IsOverTime, IsReadyFor};
+
+use crate::few::Few;
+use sched_report::Slots;
+
+/// The most steps that there are.
+pub const MOST_STEPS: usize = 800;
+
+// No minislots.
+pub(crate) const NO_SLOTS: Slots = Slots {
+    data_grants: 0,
+    idle: 0,
+    opportunity: 0,
+    poll: 0,
+    request: 0,
+    unsolicited: 0,
+};
+
+// The marks: one more than there are steps.
+type Marks = [Slots; 801];
+
+/// The use of minislots over time. It keeps the use of all frames before each step alone.
+#[derive(Clone, Copy)]
+pub(crate) struct UseOverTime {
+    // How many frames a step has.
+    pub(crate) width: u64,
+    // How many frames there are.
+    pub(crate) frames: u64,
+    // The use of all of them.
+    pub(crate) total: Slots,
+    // The use of those before each step, and before the first one that is not whole.
+    pub(crate) marks: Marks,
+}
+
+// The marks of steps that are twice as wide: each second one.
+fn joined(marks: &Marks) -> Marks
+    ensures long { length result ≡ 801 }
+    ensures each { (i : ℕ) (s : Uses) → i ≤ 400
+        → slice_index_or result i s ≡ slice_index_or marks.now (2 * i) s }
+{
+    let mut wider = *marks;
+    for i in 0..401 {
+        wider[i] = marks[2 * i];
+    }
+    wider
+}
+
+// The minislots of one that are not among those of the other.
+fn rest_of(all: Slots, before: Slots) -> Slots
+    requires { (rest : Uses) × (all ≡ sum_of before rest) }
+    ensures { (rest : Uses) → all ≡ sum_of before rest → result ≡ rest }
+{
+    Slots {
+        data_grants: all.data_grants - before.data_grants,
+        idle: all.idle - before.idle,
+        opportunity: all.opportunity - before.opportunity,
+        poll: all.poll - before.poll,
+        request: all.request - before.request,
+        unsolicited: all.unsolicited - before.unsolicited,
+    }
+}
+
+impl UseOverTime {
+    // That of no frames.
+    pub(crate) fn none() -> UseOverTime
+        ensures { IsOverTime result [] }
+    {
+        UseOverTime {
+            width: 1,
+            frames: 0,
+            total: NO_SLOTS,
+            marks: [NO_SLOTS; 801],
+        }
+    }
+
+    // Makes the steps twice as wide, where one frame more has no step.
+    fn widen(&mut self)
+        requires { (fs : List Frame) × IsOverTime self.old fs × (length fs < 2 ^ 45) }
+        ensures { (fs : List Frame) → IsOverTime self.old fs → IsReadyFor self.new fs }
+    {
+        if self.frames < 800 * self.width {
+            return;
+        }
+        self.marks = joined(&self.marks);
+        self.width *= 2;
+    }
+
+    // Counts one frame more, where this is the use of all frames with it.
+    pub(crate) fn add(&mut self, total: Slots)
+        requires { (fs : List Frame) × IsOverTime self.old fs × (length fs < 2 ^ 45) }
+        ensures { (fs : List Frame) (f : Frame) → IsOverTime self.old fs → total ≡ use_in (fs ++ f ∷ [])
+            → IsOverTime self.new (fs ++ f ∷ []) }
+    {
+        self.widen();
+        self.frames += 1;
+        self.total = total;
+        if self.frames % self.width == 0 {
+            self.marks[(self.frames / self.width) as usize] = total;
+        }
+    }
+
+    // How many steps there are.
+    pub(crate) fn steps(&self) -> usize
+        requires { (fs : List Frame) × IsOverTime self.now fs × (length fs < 2 ^ 46) }
+        ensures value { result ≡ steps_of self.now.width self.now.frames }
+        ensures most { result ≤ 800 }
+    {
+        ((self.frames + (self.width - 1)) / self.width) as usize
+    }
+
+    // The use of the step at a place.
+    pub(crate) fn step(&self, i: usize) -> Slots
+        requires { (fs : List Frame) × IsOverTime self.now fs × (length fs < 2 ^ 46)
+            × (i < steps_of self.now.width self.now.frames) }
+        ensures { (fs : List Frame) → IsOverTime self.now fs → result ≡ use_in (frames_at self.now.width fs i) }
+    {
+        let behind = self.width * (i as u64 + 1);
+        let all = if behind <= self.frames {
+            self.marks[i + 1]
+        } else {
+            self.total
+        };
+        rest_of(all, self.marks[i])
+    }
+
+    // The use of each step.
+    pub(crate) fn uses(&self) -> Few<Slots, MOST_STEPS>
+        requires { (fs : List Frame) × IsOverTime self.now fs × (length fs < 2 ^ 46) }
+        ensures { (fs : List Frame) → IsOverTime self.now fs → result ≡ uses_of self.now.width fs }
+    {
+        let mut uses = Few::none(NO_SLOTS);
+        for i in 0..self.steps() {
+            uses.push(self.step(i));
+        }
+        uses
+    }
+}
+
+/// The steps have all frames, each once, in their order.
+pub fn every_step()
+    ensures { CoversEachFrame }
+{}
+
+/// There is one width for so many frames, and no more than 800 steps.
+pub fn every_width()
+    ensures { HasOneWidth }
+{}
