@@ -1,2 +1,3 @@
 pub mod NoNewline
 pub mod LinesAgain
+pub mod CutLines

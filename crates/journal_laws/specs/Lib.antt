@@ -1,1 +1,2 @@
 pub mod JournalAgain
+pub mod CutJournal
