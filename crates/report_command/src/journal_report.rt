@@ -25,9 +25,10 @@ fn put_illegal_entry<W: Sink>(writer: &mut W, place: u64) -> Result<EntriesEnd, 
     Ok(EntriesEnd::Illegal(place))
 }
 
-/// Reads a journal to its end, in memory that does not grow with its length, and writes the report on its entries in
-/// JSON; or where they are no legal history `illegal` and the first entry, counted from 0, whose reply may not follow
-/// those before it. Nothing is written where a line is bad, nor before another fault than one of output.
+/// Reads a journal to its end, and writes the report on its entries in JSON; or where they are no legal history `illegal`
+/// and the first entry, counted from 0, whose reply may not follow those before it. Nothing is written where a line is
+/// bad, nor before another fault than one of output. Its memory is that of the lives, of the requests that wait and of
+/// the kinds of delays, and not of the entries.
 pub fn run_journal_json<R: Source, W: Sink>(
     alloc: Global,
     reader: &mut R,
