@@ -2,7 +2,6 @@
 //! with no lock.
 #![tactic(auto)]
 
-mod calling;
 mod closing;
 mod fault;
 mod opening;

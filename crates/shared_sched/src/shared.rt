@@ -5,8 +5,6 @@ ghost use Rattle.sched_desk.specs.Calls.{IsEntered, AnswersHeld};
 ghost use Rattle.sched_desk.specs.Handing.{HandsOverHeld};
 ghost use Rattle.shared_sched.specs.Calls.{AnswersCall, HandsOver};
 
-use crate::calling::Calls;
-use call_queue::CallQueue;
 use map_snapshot::Told;
 use minislots::Checked;
 use sched_desk::Recorder;
@@ -22,7 +20,7 @@ pub type Desk = sched_desk::Desk<Recorder>;
 /// has no `Drop`, so it has to be closed.
 #[must_use]
 pub struct Shared {
-    pub(crate) queue: CallQueue<Desk, Calls>,
+    pub(crate) lock: TicketLock<Desk>,
     // What clauses name: the desk has the same configuration, and the press that told this.
     pub(crate) config: Checked,
     pub(crate) told: Told,
@@ -35,21 +33,20 @@ impl Model for Shared {
 
     ghost Value = { SharedDesk };
 
-    ghost view = { λ s. record { config = s.config; press = s.told.press; keeps = s.keeps; lock = s.queue } };
+    ghost view = { λ s. record { config = s.config; press = s.told.press; keeps = s.keeps; lock = s.lock } };
 
-    ghost invariant = { λ s. IsDeskLock s.config s.queue
-        × HasPress s.config s.told.press s.keeps s.queue };
+    ghost invariant = { λ s. IsDeskLock s.config s.lock
+        × HasPress s.config s.told.press s.keeps s.lock };
 }
 
 impl Shared {
-    /// The lock round the desk, for callers who draw and enter by themselves. From then on no seat leaves its calls to
-    /// others.
+    /// The lock round the desk, for callers who draw and enter by themselves.
     pub fn lock(&self) -> &TicketLock<Desk>
         ensures lock { result.now ≡ self.now.lock }
         ensures desk { IsDeskLock self.now.config self.now.lock }
         ensures press { HasPress self.now.config self.now.press self.now.keeps self.now.lock }
     {
-        self.queue.lock()
+        &self.lock
     }
 
     /// Its configuration.
@@ -60,9 +57,8 @@ impl Shared {
     }
 
     /// Makes a call by this seat: it draws a ticket, waits until it is served, and records the call with its reply.
-    /// Where the ticket is not served at once, whoever holds may take this turn, as any seat that holds may take the
-    /// turns of up to 64 that wait behind it. The entry waits, and so may a build, for readers. A call that is not
-    /// recorded changes nothing: one where the history is full, and one for which memory ran out.
+    /// The entry waits, and so may a build, for readers. A call that is not recorded changes nothing: one where the
+    /// history is full, and one for which memory ran out.
     pub fn call<R: Wait>(
         &self,
         rt: &R,
@@ -72,7 +68,9 @@ impl Shared {
         requires own { seat.lock ≡ self.now.lock }
         ensures answered { AnswersCall self.now.config seat call result.0 result.1 }
     {
-        self.queue.call(rt, seat, call)
+        let ticket = self.lock.draw(seat);
+        let (held, desk) = self.lock.enter(rt, ticket);
+        self.call_held(rt, held, desk, call)
     }
 
     /// Makes a call by the seat that holds the desk, and leaves. The desk is as it was entered. A build that is
@@ -89,7 +87,10 @@ impl Shared {
         requires entered { IsEntered held desk }
         ensures answered { AnswersHeld self.now.config held call result.0 result.1 }
     {
-        self.queue.call_held(rt, held, desk, call)
+        let mut desk = desk;
+        let answer = desk.call(rt, held.stamp(), call);
+        let seat = self.lock.leave(held, desk);
+        (seat, answer)
     }
 
     /// Hands over the entries that are kept, with the place of the first in the whole history, by this seat: it draws a
@@ -105,8 +106,8 @@ impl Shared {
         requires own { seat.lock ≡ self.now.lock }
         ensures given { HandsOver self.now.config self.now.keeps seat room result.0 result.1 }
     {
-        let ticket = self.queue.draw(seat);
-        let (held, desk) = self.queue.enter(rt, ticket);
+        let ticket = self.lock.draw(seat);
+        let (held, desk) = self.lock.enter(rt, ticket);
         self.hand_over_held(held, desk, room)
     }
 
@@ -124,7 +125,7 @@ impl Shared {
     {
         let mut desk = desk;
         let answer = desk.hand_over(held.stamp(), room);
-        let seat = self.queue.leave(held, desk);
+        let seat = self.lock.leave(held, desk);
         (seat, answer)
     }
 }
