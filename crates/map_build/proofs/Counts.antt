@@ -8,8 +8,11 @@ use Rattle.minislots.specs.declared.config.Config.{Config}
 use Rattle.flow_book.specs.Flows.{LiveFlow}
 use Rattle.periodic.specs.declared.placement.Spot.{Spot}
 use Rattle.map_build.specs.EachAfter.{EachAfter}
-use Rattle.map_build.specs.Plan.{Purpose, Poll, UnsolicitedGrant, DataGrant, Idle, Allocation, next_stop, grants_in}
-use Rattle.map_build.specs.Plan.{end_of, is_data_grant, most_grants, Stands, StandsByItsRule}
+use Rattle.map_build.specs.declared.purpose.Allocation.{Allocation}
+use Rattle.map_build.specs.declared.purpose.Purpose.{Purpose}
+use Rattle.map_build.specs.declared.purpose.Purpose.TheVariants.{Poll, UnsolicitedGrant, Offer, DataGrant, Idle}
+use Rattle.map_build.specs.Purpose.{is_data_grant}
+use Rattle.map_build.specs.Plan.{Demand, next_stop, grants_in, end_of, most_grants, Stands, IsOfRank}
 use Rattle.map_build.proofs.FlowsAfter.{allocation}
 use Rattle.map_build.proofs.Stops.{next_stop-again}
 
