@@ -64,7 +64,8 @@ clear-purpose c d before offset slots Idle are inside some stands =
     clear-room c d.spots (record { offset = offset; slots = slots; purpose = Idle }) inside
     (omega (arith, stands, next_stop-least c d.spots offset inside))
 
-contains-more : {X : Type 0} (xs : List X) (x y : X) → Contains xs y → Contains (xs ++ x ∷ []) y
+-- a list with one member more behind contains what it did
+pub contains-more : {X : Type 0} (xs : List X) (x y : X) → Contains xs y → Contains (xs ++ x ∷ []) y
 contains-more xs x y (k, lt, at) = (k, omega (arith, length_push xs x), get_or_append_left xs (x ∷ []) y k lt ∙ at)
 
 -- a list with one member more in front contains what it did

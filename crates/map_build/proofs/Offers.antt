@@ -1,6 +1,6 @@
 -- How many opportunities a plan has: each that waits is met at most once.
 use Rattle.std.proofs.Common.{◌≡◌, ℕ, zero, suc, ◌+◌, ◌<◌, ◌≤◌, Bool, true, false, ◌||◌, not, ◌==◌, List, [], ◌∷◌}
-use Rattle.std.proofs.Common.{◌++◌, length, Contains, Option, None, Some, if◌then◌else◌, refl, sym, ap, ◌∙◌, arith}
+use Rattle.std.proofs.Common.{◌⊎◌, inl, inr, ◌++◌, length, Contains, Option, None, Some, if◌then◌else◌, refl, sym, ap, ◌∙◌, arith}
 use Rattle.std.specs.List.{slice_get}
 use Rattle.std.proofs.lemmas.Bool.Decides.{nat_tests}
 use Rattle.map_build.specs.declared.opportunity.Opportunity.{Opportunity}
@@ -8,6 +8,7 @@ use Rattle.map_build.specs.declared.purpose.Allocation.{Allocation}
 use Rattle.map_build.specs.Purpose.{place_of}
 use Rattle.map_build.specs.Plan.{IsMetIn}
 use Rattle.map_build.proofs.Clear.{contains-later}
+use Rattle.std.proofs.lemmas.List.Elements.{Contains-push}
 
 -- whether it is this place
 abbrev is_at : ℕ → Option ℕ → Bool
@@ -118,3 +119,24 @@ pub place-below : (waiting : List Opportunity) (place : ℕ) (o : Opportunity) �
 place-below [] place o is = absurd (cc)
 place-below (w ∷ waiting) zero o is = omega arith
 place-below (w ∷ waiting) (suc place) o is = omega (arith, place-below waiting place o is)
+
+only-it : (a b : Allocation) (n : ℕ) → Contains (a ∷ []) b → place_of b.purpose ≡ Some n → place_of a.purpose ≡ Some n
+only-it a b n (zero, lt, at) is = ap (λ (x : Allocation). place_of x.purpose) at ∙ is
+only-it a b n (suc k, lt, at) is = absurd (omega arith)
+
+-- what the last allocation meets a plan meets
+pub met-here : (plan : List Allocation) (a : Allocation) (n : ℕ) → IsMetIn (a ∷ []) n → IsMetIn (plan ++ a ∷ []) n
+met-here plan a n (b, has, is) = (a, Contains-push plan a, only-it a b n has is)
+
+met-later : (x : Allocation) (plan : List Allocation) (n : ℕ) → IsMetIn plan n → IsMetIn (x ∷ plan) n
+met-later x plan n (b, has, is) = (b, contains-later plan x b has, is)
+
+-- what a plan meets the last allocation does, or those before it
+pub met-push : (plan : List Allocation) (a : Allocation) (n : ℕ) → IsMetIn (plan ++ a ∷ []) n →
+    IsMetIn plan n ⊎ IsMetIn (a ∷ []) n
+met-push [] a n is = inr is
+met-push (x ∷ plan) a n (b, (zero, lt, at), is) = inl (b, (zero, omega arith, at), is)
+met-push (x ∷ plan) a n (b, (suc k, lt, at), is) = elim (met-push plan a n (b, (k, omega arith, at), is)) [
+  | inl before ↦ inl (met-later x plan n before)
+  | inr it ↦ inr it
+]

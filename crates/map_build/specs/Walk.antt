@@ -28,7 +28,7 @@ pub record IsWellBegun (waiting : List Opportunity) (d : Draft) : Type 0 where
   pub room : (sid : ℕ) → IsLive sid d.book.flows → most_grants waiting ≤ d.grants + room_of sid d.book.rooms
   pub started : AllByRecursion (HasStartedBy (d.start + d.offset)) d.book.flows
 
--- the book and the places of a draft with an allocation more, whose element is to come
+-- the book and the places of a draft with an allocation more
 pub record Knows (a : Allocation) (old new : Draft) : Type 0 where
   pub config : new.book.config ≡ old.book.config
   pub flows : new.book.flows ≡ flows_after old.start (a ∷ []) old.book.flows
@@ -38,16 +38,19 @@ pub record Knows (a : Allocation) (old new : Draft) : Type 0 where
       → (slice_get old.met place ≡ Some true) ⊎ IsMetIn (a ∷ []) place
   pub kept : (place : ℕ) → slice_get old.met place ≡ Some true → slice_get new.met place ≡ Some true
   pub new_met : (place : ℕ) → IsMetIn (a ∷ []) place → slice_get new.met place ≡ Some true
+  pub start : new.start ≡ old.start
+
+-- a draft with the same elements
+pub record HasSame (old new : Draft) : Type 0 where
   pub elements : new.elements.items ≡ old.elements.items
   pub bytes_of : new.bytes.items ≡ old.bytes.items
-  pub start : new.start ≡ old.start
   pub offset : new.offset ≡ old.offset
 
 -- the first opportunity that waits and fits so many minislots, which the draft has more; if there is none nothing
 -- changes
 abbrev pub MeetsNext : List Opportunity → ℕ → Option Allocation → Draft → Draft → Type 0
 MeetsNext waiting room None old new = (new ≡ old) × NoneUnmet waiting old.met room
-MeetsNext waiting room (Some a) old new = Knows a old new × (a.offset ≡ old.offset)
+MeetsNext waiting room (Some a) old new = Knows a old new × HasSame old new × (a.offset ≡ old.offset)
     × (place : ℕ) × (o : Opportunity) × (slice_get waiting place ≡ Some o) × IsFirstUnmet waiting old.met room place
     × (a.purpose ≡ Offer place o.usage) × (a.slots ≡ o.slots)
 
@@ -70,7 +73,7 @@ IsNextAmount d room sid bytes = IsSomeAnd (flow_of sid d.book.flows)
 abbrev pub GrantsNext : ℕ → ℕ → Option Allocation → Draft → Draft → Type 0
 GrantsNext waiting room None old new = (new ≡ old) × ((93 ≤ old.grants + waiting)
     ⊎ NoneEligible old.book.config old.book.flows (old.start + old.offset) room)
-GrantsNext waiting room (Some a) old new = Knows a old new × (old.grants + waiting < 93)
+GrantsNext waiting room (Some a) old new = Knows a old new × HasSame old new × (old.grants + waiting < 93)
     × (sid : ℕ) × (bytes : ℕ) × IsNextAmount old room sid bytes × (a ≡ grant_here old sid bytes)
 
 -- the draft is where this plan ends, and its book has the plan's grants
@@ -80,20 +83,20 @@ pub record IsAfter (flows : List LiveFlow) (plan : List Allocation) (d : Draft) 
   pub grants : d.grants ≡ grants_in plan
   pub met : AreMet plan d.met
 
--- the allocation that stands next, of which the draft knows
+-- the allocation that stands next, of which the draft knows and whose element is to come
 pub record Chooses (spots : List Spot) (waiting : List Opportunity) (a : Allocation) (old new : Draft) : Type 0 where
   pub knows : Knows a old new
+  pub same : HasSame old new
+  pub here : a.offset ≡ old.offset
   pub stands : (flows : List LiveFlow) (plan : List Allocation) → IsAfter flows plan old →
       Stands old.book.config (demand_at flows spots waiting old.start) plan a
 
 -- a draft with an allocation more, of which its book knows
 pub record Takes (a : Allocation) (old new : Draft) : Type 0 where
-  pub mid : Draft
-  pub knows : Knows a old mid
+  pub knows : Knows a old new
   pub elements : new.elements.items ≡ old.elements.items ++ element_of old.book.config a ∷ []
   pub bytes_of : new.bytes.items ≡ old.bytes.items ++ bytes_in old.book.config a ∷ []
   pub offset : new.offset ≡ old.offset + a.slots
-  pub book : new.book ≡ mid.book
 
 -- the spots before this minislot are in the plan
 abbrev pub AreTaken : List Spot → List Allocation → ℕ → Type 0
