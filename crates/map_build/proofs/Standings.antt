@@ -47,7 +47,8 @@ missed-in p (y ∷ xs) x none (zero, lt, at) = subst (λ z. p z ≡ false) at (m
 missed-in p (y ∷ xs) x none (suc k, lt, at) =
     missed-in p xs x (missed-cond (p y) y (find p xs) none).1 (k, omega arith, at)
 
-equal : (m n : ℕ) → (m == n) ≡ true → m ≡ n
+-- numbers that are the same by the test are
+pub equal : (m n : ℕ) → (m == n) ≡ true → m ≡ n
 equal m n e = grind (arith, nat_tests)
 
 differ : (m n : ℕ) → (m == n) ≡ false → m ≡ n → ⊥

@@ -2,6 +2,7 @@
 use Rattle.std.specs.Prelude.{◌≡◌, ℕ, ◌<◌, ◌≤◌, Bool, true, false, List, length, Option, Some}
 use Rattle.std.specs.List.{AllByRecursion, slice_get}
 use Rattle.minislots.specs.declared.config.Config.{Config}
+use Rattle.map_build.specs.declared.TheConstants.{MAX_WAITING}
 use Rattle.map_build.specs.declared.opportunity.Header.{Header}
 use Rattle.map_build.specs.declared.opportunity.Opportunity.{Opportunity}
 use Rattle.map_build.specs.declared.opportunity.Usage.{Usage}
@@ -25,6 +26,11 @@ HasStationSid (Station sid) = (1 ≤ sid) × (sid ≤ 8191)
 -- each is to a modem's SID, or to all
 abbrev pub HaveStationSids : List Opportunity → Type 0
 HaveStationSids waiting = AllByRecursion (λ o. HasStationSid o.usage) waiting
+
+-- these opportunities may wait for a MAP: each has some minislots, and they are few
+pub record MayWait (waiting : List Opportunity) : Type 0 where
+  pub few : length waiting ≤ MAX_WAITING
+  pub some_slots : AllByRecursion (λ o. 0 < o.slots) waiting
 
 -- the opportunity at this place is not met, and is at most so long
 pub record IsUnmet (waiting : List Opportunity) (met : List Bool) (room place : ℕ) : Type 0 where

@@ -62,7 +62,7 @@ impl Draft {
         requires started { AllByRecursion (HasStartedBy start) book.now.flows }
         requires bounded { start ≤ 2 ^ 61 }
         ensures { IfOk result (λ d. (spots : List Spot) (waiting : List Opportunity)
-            → AreInFrame book.now.config spots → length waiting ≤ MAX_WAITING
+            → AreInFrame book.now.config spots
             → HasPlan book.now.config (demand_at book.now.flows spots waiting start) [] d) }
     {
         let mut draft = Draft {

@@ -1,13 +1,12 @@
 //! The MAP of one frame.
 
-ghost use Rattle.std.specs.Prelude.{◌≡◌, ◌≤◌, ◌*◌, ◌^◌, [], IfOk, length};
+ghost use Rattle.std.specs.Prelude.{◌≡◌, ◌≤◌, ◌*◌, ◌^◌, [], IfOk};
 ghost use Rattle.std.specs.List.{AllByRecursion};
 ghost use Rattle.map_codec.specs.WireMap.{IsWellFormed};
 ghost use Rattle.flow_book.specs.Choice.{HasStartedBy};
 ghost use Rattle.periodic.specs.Placement.{spots_in};
 ghost use Rattle.map_build.specs.declared.frame_map.FrameMap.{FrameMap};
-ghost use Rattle.map_build.specs.declared.TheConstants.{MAX_WAITING};
-ghost use Rattle.map_build.specs.Opportunities.{header_of, HaveStationSids};
+ghost use Rattle.map_build.specs.Opportunities.{header_of, MayWait, HaveStationSids};
 ghost use Rattle.map_build.specs.Plan.{Demand, demand_at};
 ghost use Rattle.map_build.specs.FrameMap.{IsLawfulMap, IsLawfulFrame};
 ghost use Rattle.map_build.specs.Spots.{AreInFrame, AreOfChannel, HaveFlowSids, ArePeriodicOf};
@@ -50,7 +49,7 @@ fn plan_around(
     ack: u64,
 ) -> Result<PlannedFrame, AllocError>
     requires placed { AreInFrame book.now.config spots.now }
-    requires few { length waiting.now ≤ MAX_WAITING }
+    requires waiting { MayWait waiting.now }
     requires started { AllByRecursion (HasStartedBy start) book.now.flows }
     requires bounded { start ≤ 2 ^ 61 }
 
@@ -118,7 +117,7 @@ pub fn plan_with_book(
     requires started { AllByRecursion (HasStartedBy (frame * book.now.config.frame))
         book.now.flows }
     requires bounded { frame * book.now.config.frame ≤ 2 ^ 61 }
-    requires few { length waiting.now ≤ MAX_WAITING }
+    requires waiting { MayWait waiting.now }
 
     ensures lawful { IfOk result (λ p. IsLawfulFrame book.now.config (demand_at book.now.flows
         (spots_in book.now.config frame table.now.placed) waiting.now (frame * book.now.config.frame))

@@ -7,6 +7,7 @@ ghost use Rattle.map_build.specs.Plan.{next_stop};
 ghost use Rattle.map_build.specs.Purpose.{allocation_of};
 ghost use Rattle.map_build.specs.Spots.{AreInFrame};
 ghost use Rattle.map_build.specs.Walk.{IsWellBegun, IsUnfilled, IsFilled, MeetsNext, GrantsNext, Chooses};
+ghost use Rattle.map_build.specs.Opportunities.{MayWait};
 ghost use Rattle.map_build.specs.Left.{left_at, AreAhead};
 
 use crate::MAX_DATA_GRANTS;
@@ -22,7 +23,7 @@ impl Draft {
     /// opportunities that wait for its MAP.
     pub(crate) fn fill(&mut self, spots: &[Spot], waiting: &[Opportunity]) -> Result<(), AllocError>
         requires placed { AreInFrame self.old.book.config spots.now }
-        requires few { length waiting.now ≤ MAX_WAITING }
+        requires waiting { MayWait waiting.now }
         requires unfilled { IsUnfilled spots.now waiting.now self.old }
         ensures { OnOk result (IsFilled spots.now waiting.now self.old self.new) }
     {
@@ -40,7 +41,7 @@ impl Draft {
     // waits and fits, else a data grant to the flow that is next, else an idle. The spots are those that are left.
     fn next(&mut self, spots: &[Spot], waiting: &[Opportunity]) -> Allocation
         requires placed { AreInFrame self.old.book.config spots.now }
-        requires few { length waiting.now ≤ MAX_WAITING }
+        requires waiting { MayWait waiting.now }
         requires ahead { AreAhead self.old.offset spots.now }
         requires ready { IsWellBegun waiting.now self.old }
         requires inside { self.old.offset < self.old.book.config.frame }
