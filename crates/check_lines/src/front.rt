@@ -47,19 +47,21 @@ impl<R: Source> Front<R> {
 
     /// The bytes that were looked at and not given.
     pub(crate) fn bytes(&self) -> &[u8] {
-        &self.bytes[self.given..]
+        match self.bytes.get(self.given..) {
+            Some(left) => left,
+            None => b"",
+        }
     }
 }
 
 impl<R: Source> Source for Front<R> {
     fn read_some(&mut self, buf: &mut [u8]) -> io::Result<usize> {
-        let left = self.bytes.len() - self.given;
-        if left == 0 {
+        let mut left = self.bytes();
+        if left.is_empty() {
             return self.reader.read_some(buf);
         }
-        let len = left.min(buf.len());
-        buf[..len].copy_from_slice(&self.bytes[self.given..self.given + len]);
-        self.given += len;
+        let len = left.read_some(buf)?;
+        self.given = self.given.saturating_add(len);
         Ok(len)
     }
 }
