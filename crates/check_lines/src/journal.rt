@@ -45,7 +45,11 @@ fn told(alloc: Global, number: u64, what: &str) -> Result<String, AllocError> {
 fn no_entry(alloc: Global, line: u64, text: &[u8]) -> Result<Judged, AllocError> {
     let number = line.saturating_add(1);
     let words = if is_blank(text) {
-        told(alloc, number, "this line is blank, and a journal has no such line")?
+        told(
+            alloc,
+            number,
+            "this line is blank, and a journal has no such line",
+        )?
     } else {
         words_on_line(alloc, number, Sort::Entry, text)?
     };
@@ -132,7 +136,10 @@ fn put_end(words: &mut String, judged: &Judged) -> Result<(), AllocError> {
         EntriesEnd::Legal(torn) => {
             writeln!(words, "good journal\nentries: {}", judged.entries)?;
             if torn > 0 {
-                writeln!(words, "behind the last newline: {torn} bytes, which count for nothing")?;
+                writeln!(
+                    words,
+                    "behind the last newline: {torn} bytes, which count for nothing"
+                )?;
             }
             Ok(())
         }

@@ -86,7 +86,11 @@ pub fn words_on_opening(
     field: Option<TextFault>,
 ) -> Result<String, AllocError> {
     let mut notes = Notes::new(alloc);
-    tell_config(&mut notes, Place::item("line", number).under("config"), line)?;
+    tell_config(
+        &mut notes,
+        Place::item("line", number).under("config"),
+        line,
+    )?;
     let mut words = notes.words_on_line()?;
     if let Some(TextFault::Config(field)) = field {
         write!(words, "line {number}, ")?;
