@@ -51,6 +51,7 @@ pub record FindsIllegalIn (before left : Option (List ℕ)) (c : Configuration) 
   pub last : length es ≡ i + 1
   pub first : IsFirstIllegal c es i
 
+-- the first entry that may not follow those before it is the one with this number
 abbrev pub FindsIllegal : Option (List ℕ) → Option (List ℕ) → ℕ → Type 0
 FindsIllegal before left i = (c : Configuration) × (es : List Entry) × FindsIllegalIn before left c es i
 
@@ -65,6 +66,7 @@ pub record FindsNoEntryIn (before left : Option (List ℕ)) (c : Configuration) 
   pub none : entry_in_line line ≡ None
   pub number : n ≡ length lines
 
+-- the first line that stands for no entry is the one with this number
 abbrev pub FindsNoEntry : Option (List ℕ) → Option (List ℕ) → ℕ → Type 0
 FindsNoEntry before left n = (c : Configuration) × (es : List Entry) × FindsNoEntryIn before left c es n
 

@@ -140,6 +140,7 @@ opening-part c text rest k is (inl below) =
 opening-part c text rest k is (inr past) =
     inr (ap (λ (t : List ℕ). text ++ t) (take_all k rest past) ∙ sym is)
 
+-- so a front of an opening is torn, or the whole opening
 pub opening-front : (c : Config) (text rest : List ℕ) (k : ℕ) → opening_line c ≡ text ++ rest
     → IsTorn (text ++ take k rest) ⊎ (text ++ take k rest ≡ opening_line c)
 opening-front c text rest k is = opening-part c text rest k is (cases_lt k (length rest))

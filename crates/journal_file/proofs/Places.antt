@@ -85,34 +85,40 @@ grown_none P entries before stands = (0, subst P (sym (append-nil before)) stand
 
 -- The same of a file whose place and bytes are told by equations.
 module _ (c : Config) (was is : Place) (old new : Option (List ℕ)) where
+  -- a journal that is begun has its opening
   pub begun_ok : (n : ℕ) (opening rest : List ℕ) → was ≡ NoLine n → is ≡ Whole → opening ≡ opening_line c
       → (HasLength old n → Lacks old opening rest) → new ≡ append_known old rest
       → Keeps (KnownMayBegin was old c) (KnownStandsFor is new c)
   begun_ok n opening rest before after text lacks more es may =
       rw (after, more) (begun c n old opening rest text lacks es (rw before at may))
 
+  -- or a part of it
   pub begun_err : (n : ℕ) (opening rest : List ℕ) → was ≡ NoLine n → is ≡ Failed → opening ≡ opening_line c
       → (HasLength old n → Lacks old opening rest) → (k : ℕ) × new ≡ append_known old (take k rest)
       → Keeps (KnownMayBegin was old c) (KnownMayBegin is new c)
   begun_err n opening rest before after text lacks more es may =
       rw (after, more.1) (begun-part c n old opening rest more.0 text lacks es (rw before at may))
 
+  -- a torn line that is cut off leaves a whole journal
   pub cut_ok : (end : ℕ) → was ≡ Torn end → is ≡ Whole → new ≡ cut_known old end
       → Keeps (KnownMayBegin was old c) (KnownStandsFor is new c)
   cut_ok end before after cuts es may = rw (after, cuts) (cut-whole c end old es (rw before at may))
 
+  -- or it is not cut off
   pub cut_err : (end : ℕ) → was ≡ Torn end → is ≡ Failed → (new ≡ cut_known old end) ⊎ (new ≡ old)
       → Keeps (KnownMayBegin was old c) (KnownMayBegin is new c)
   cut_err end before after (inl cuts) es may =
       rw (after, cuts) (whole-failed c _ es (cut-whole c end old es (rw before at may)))
   cut_err end before after (inr same) es may = rw (after, same) (cut-failed c end old es (rw before at may))
 
+  -- a whole journal has the entries that are put behind it
   pub grown_ok : (text : List ℕ) (entries : List Entry) → was ≡ Whole → is ≡ Whole
       → text ≡ flat_map entry_line entries → new ≡ append_known old text
       → Grows (KnownStandsFor was old c) (KnownStandsFor is new c) entries
   grown_ok text entries before after lines more front stands =
       rw (after, more, lines) (grown c old entries front (rw before at stands))
 
+  -- or a front of them
   pub grown_err : (text : List ℕ) (entries : List Entry) → was ≡ Whole → is ≡ Failed
       → text ≡ flat_map entry_line entries → (k : ℕ) × new ≡ append_known old (take k text)
       → GrowsInPart (KnownStandsFor was old c) (KnownStandsFor is new c) entries

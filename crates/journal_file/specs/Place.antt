@@ -29,6 +29,7 @@ abbrev pub KnownStandsFor : Place → Option (List ℕ) → Config → List Entr
 KnownStandsFor place None c es = Unit {0}
 KnownStandsFor place (Some text) c es = StandsFor c place text es
 
+-- what they stand for once the file is begun, of bytes that are known, or not
 abbrev pub KnownMayBegin : Place → Option (List ℕ) → Config → List Entry → Type 0
 KnownMayBegin place None c es = Unit {0}
 KnownMayBegin place (Some text) c es = MayBegin c place text es

@@ -9,11 +9,13 @@ use crate::store::Store;
 /// A file that grows by lines, and how far it is a journal.
 #[derive(Drop)]
 pub(crate) struct LineFile<S> {
+    /// The file.
     pub store: S,
+    /// How far it is a journal.
     pub place: Place,
-    // Whether what is put there reaches the device too.
+    /// Whether what is put there reaches the device too.
     pub is_synced: bool,
-    // Whether a call has failed. What contracts see; no code asks for it.
+    /// Whether a call has failed. What contracts see; no code asks for it.
     pub has_failed: bool,
 }
 

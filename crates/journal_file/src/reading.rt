@@ -21,7 +21,7 @@ impl<'a, S: Store> Reading<'a, S> {
     ghost use Rattle.journal_file.specs.Reading.{left_of};
     ghost use Rattle.journal_file.specs.Store.{rest_at};
 
-    // A file that is read from its start on.
+    /// A file that is read from its start on.
     pub fn new(store: &'a S) -> Reading<'a, S>
         ensures { left_of S.contents result ≡ rest_at 0 (S.contents store.now) }
     {

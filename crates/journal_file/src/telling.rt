@@ -19,6 +19,7 @@ pub(crate) struct Telling<'a, R, S> {
 }
 
 impl<'a, R: Eprint, S: Store> Telling<'a, R, S> {
+    /// This journal, which tells how it is gone on with: behind so many entries, and so many bytes of a torn line.
     pub fn new(
         rt: &'a R,
         journal: FileJournal<S>,

@@ -11,6 +11,7 @@ use std::alloc::{AllocError, Global};
 pub struct RankTold {
     /// The rank: [`POLLED`], or else a priority.
     pub rank: u8,
+    /// The numbers of all lives of that rank.
     pub numbers: RankNumbers,
 }
 
