@@ -28,5 +28,5 @@ class Again(Live):
         if entry is None:
             return super().call(call)
         if entry["call"] != call:
-            raise Fault(f"the journal has {entry['call']}, not {call}")
+            raise Fault(f"the journal is of another plant (another seed?): it has {entry['call']}, not {call}")
         return answer_in(entry["reply"])

@@ -105,7 +105,7 @@ class Live:
         self._program = subprocess.Popen(
             words, stdin=subprocess.PIPE, stdout=subprocess.PIPE, stderr=self._errors, bufsize=0
         )
-        self._poll, self._patience, self._heard = select.poll(), patience, b""
+        self._poll, self._patience, self._heard, self._answered = select.poll(), patience, b"", False
         self._poll.register(self._program.stdout, select.POLLIN)
         self._exchange(opening, 0)
 
@@ -166,8 +166,10 @@ class Live:
         return self._said
 
     def resumed(self):
-        """How many calls the journal had, as soon as there was an answer. After a crash the last call that had no
-        answer is among them or not: this number tells."""
+        """How many calls the journal had, and None before the first answer, when that is not known. After a crash the
+        calls that had no answer are among them or not: this number tells."""
+        if not self._answered:
+            return None
         found = re.search(r"^resumed (\d+)$", self.said(), re.MULTILINE)
         return int(found[1]) if found else 0
 
@@ -212,6 +214,7 @@ class Live:
                 left = self._write(left)
             if self._program.stdout.fileno() in ready:
                 lines += self._read()
+        self._answered |= count > 0
         return lines
 
     def _write(self, left):

@@ -201,7 +201,10 @@ def arguments():
     reader.add_argument("--seed", type=int, default=1, help="another plant for another number (1)")
     reader.add_argument("--journal", metavar="FILE", help="keeps a journal; where it has calls, the plant goes on")
     reader.add_argument("--json", action="store_true", help="prints all numbers in JSON, delays in minislots")
-    return reader.parse_args()
+    given = reader.parse_args()
+    if given.seconds <= 0:
+        reader.error("--seconds: a plant runs for some time")
+    return given
 
 
 def main():
