@@ -87,13 +87,14 @@ def span_of(config, first, behind):
 
 
 def rank_of(config, rank, tenths_of_scale):
-    """A row of delays: its name, how many requests were served, the places of its marks, and its numbers."""
+    """A row of delays: its name, how many requests were served, wait and were dropped, the places of its marks, and its
+    numbers."""
     name = "polled" if rank["rank"] == "polled" else f"priority {rank['rank']}"
-    delay = rank["delay"]
+    counts, delay = tuple(rank[kind] for kind in ("served", "waiting", "dropped")), rank["delay"]
     if delay is None:
-        return name, rank["served"], None, []
+        return name, counts, None, []
     places = {kind: ACROSS * (delay[kind] * config["ticks"]) // max(16 * tenths_of_scale, 1) for kind in SHOWN}
-    return name, rank["served"], places, [milliseconds(config, delay[kind]) for kind in SHOWN]
+    return name, counts, places, [milliseconds(config, delay[kind]) for kind in SHOWN]
 
 
 def shown(history):
@@ -108,7 +109,7 @@ def shown(history):
             "span": told["from"] is not None and span_of(config, told["from"], told["to"]),
             "frame": (config["frame"], milliseconds(config, config["frame"])),
             "axes": axes_of(config, len(frames), scale),
-            "parts": {name: 1000 * told["use"][name] // all_slots for name in USES},
+            "parts": {name: (2000 * told["use"][name] + all_slots) // (2 * all_slots) for name in USES},
             "areas": [(name, area_of(config, steps, name, count)) for name in reversed(STACKED)],
             "steps": [step_of(*step, count) for step in steps],
             "ranks": [rank_of(config, rank, scale) for rank in told["priorities"]]}
@@ -160,8 +161,9 @@ def frame_in(title):
 
 
 def rank_in(row):
-    name, served, *numbers = [text.text for text in row.iter(f"{SVG}text")]
-    return name, int(served), marks_in(row) if numbers else None, numbers
+    name, *counts = [text.text for text in row.iter(f"{SVG}text")]
+    served, waiting, dropped, *numbers = counts
+    return name, tuple(map(int, (served, waiting, dropped))), marks_in(row) if numbers else None, numbers
 
 
 def read_picture(text):

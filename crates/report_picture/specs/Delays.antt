@@ -3,6 +3,7 @@ use Rattle.std.specs.Prelude.{ℕ, ◌+◌, ◌*◌, ◌/◌, ◌==◌, nat_le, 
 use Rattle.std.specs.Prelude.{flat_map, length, slice_index_or, Option, None, Some}
 use Rattle.std.specs.List.{range_with_len}
 use Rattle.sched_report.specs.declared.life.TheConstants.{POLLED}
+use Rattle.sched_report.specs.declared.ranks.RankSums.{RankSums}
 use Rattle.report_writing.specs.declared.gathered.RankTold.{RankTold}
 use Rattle.report_picture.specs.declared.spread.Spread.{Spread}
 use Rattle.report_picture.specs.declared.spread.Scale.{Scale}
@@ -83,12 +84,19 @@ spread_text s (Some d) = marks_text s d ++ numbers_text s d
 abbrev pub rank_at : List RankTold → ℕ → RankTold
 rank_at ranks i = slice_index_or ranks i NO_RANK
 
--- the row of a rank: its name, how many of its requests were served, and their delays
+-- how many requests of a rank were served, and how many wait or were dropped
+unfoldable pub counts_text : RankSums → List ℕ
+counts_text sums =
+    filled (codes "<text class='end' x='724' y='20'>@</text>") (sums.served ∷ [])
+    ++ filled (codes "<text class='end' x='1194' y='20'>@</text><text class='end' x='1284' y='20'>@</text>\n")
+    (sums.waiting ∷ sums.dropped ∷ [])
+
+-- the row of a rank: its name, how many of its requests were served, wait and were dropped, and their delays
 unfoldable pub row_text : Scale → List RankTold → ℕ → List ℕ
 row_text s ranks i =
     filled (codes "<g transform='translate(0 @)'>") ((32 * i) ∷ [])
     ++ (rank_text (rank_at ranks i).rank
-    ++ (filled (codes "<text class='end' x='724' y='20'>@</text>\n") ((rank_at ranks i).numbers.sums.served ∷ [])
+    ++ (counts_text (rank_at ranks i).numbers.sums
     ++ (spread_text s (spread_of (rank_at ranks i)) ++ codes "</g>\n")))
 
 -- the rows of ranks, one below the other
@@ -111,7 +119,8 @@ columns_text =
     codes "<g transform='translate(96 560)'>\n<text class='end' x='-24' y='-10'>ms</text>"
     ++ (codes "<text class='end' x='724' y='-10'>served</text><text class='end' x='824' y='-10'>least</text>"
     ++ (codes "<text class='end' x='914' y='-10'>middle</text><text class='end' x='1014' y='-10'>99 in 100</text>"
-    ++ codes "<text class='end' x='1104' y='-10'>greatest</text>\n"))
+    ++ (codes "<text class='end' x='1104' y='-10'>greatest</text>"
+    ++ codes "<text class='end' x='1194' y='-10'>waiting</text><text class='end' x='1284' y='-10'>dropped</text>\n")))
 
 -- the delays of ranks, on channels whose minislots have so many ticks
 unfoldable pub delays_text : ℕ → List RankTold → List ℕ

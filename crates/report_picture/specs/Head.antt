@@ -1,5 +1,5 @@
 -- The head of a picture: how its parts look, its title, and what each look is for.
-use Rattle.std.specs.Prelude.{ℕ, ◌+◌, ◌-◌, ◌*◌, List, [], ◌∷◌, ◌++◌, codes, Option, None, Some}
+use Rattle.std.specs.Prelude.{ℕ, ◌+◌, ◌-◌, ◌*◌, ◌/◌, List, [], ◌∷◌, ◌++◌, codes, Option, None, Some}
 use Rattle.sched_report.specs.declared.slots.Slots.{Slots}
 use Rattle.sched_report.specs.declared.totals.Totals.{Totals}
 use Rattle.sched_report.specs.Uses.{all_slots}
@@ -14,14 +14,14 @@ depth_of ranks = 584 + 32 * ranks
 -- how large it is
 unfoldable pub size_text : ℕ → List ℕ
 size_text ranks =
-    filled (codes "<svg xmlns='http://www.w3.org/2000/svg' width='1220' height='@' viewBox='0 0 1220 @")
+    filled (codes "<svg xmlns='http://www.w3.org/2000/svg' width='1400' height='@' viewBox='0 0 1400 @")
     (depth_of ranks ∷ depth_of ranks ∷ [])
 
 -- how its parts look
 unfoldable pub style_text : List ℕ
 style_text =
     codes "' font-family='sans-serif' font-size='12' style='background:#fff'>\n<style>.head{font-size:14px}"
-    ++ (codes ".at,.end,.part{font-size:11px}.at{text-anchor:middle}.end{text-anchor:end}.key,.area{stroke:#333;"
+    ++ (codes ".at,.end,.part{font-size:11px}.at{text-anchor:middle}.end{text-anchor:end}.key{stroke:#333;"
     ++ (codes
     "stroke-width:.5px}\n.tick{stroke:#000;stroke-opacity:.2}.edge{stroke:#333;fill:none}.step{fill-opacity:0}\n"
     ++ (codes ".request{fill:url(#request)}.poll{fill:url(#poll)}.unsolicited{fill:url(#unsolicited)}\n"
@@ -62,9 +62,13 @@ title_text c t =
     (codes "<text x='96' y='47'>Frames in a step: @. The height of a step is the mean of its frames.</text>\n")
     (c.width ∷ [])))
 
+-- how many in a thousand of all a part is, rounded to the nearest
+abbrev pub thousandths : ℕ → ℕ → ℕ
+thousandths part all = (place 2000 part all + 1) / 2
+
 -- a key of the legend: a look, and how many in a thousand of all minislots have it
 abbrev pub key_text : List ℕ → ℕ → ℕ → List ℕ
-key_text template part all = filled template (place 1000 part all ∷ [])
+key_text template part all = filled template (thousandths part all ∷ [])
 
 -- the keys of minislots in which modems may ask, and of unsolicited grants
 unfoldable pub first_keys : Slots → List ℕ

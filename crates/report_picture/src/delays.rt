@@ -1,7 +1,8 @@
 //! The delays of requests by rank.
 
 ghost use Rattle.std.specs.Prelude.{◌≡◌, ◌<◌, ◌≤◌, ◌^◌, length};
-ghost use Rattle.report_picture.specs.Delays.{most_of, delay_tick, delay_ticks, rank_text, row_text, rows_text};
+ghost use Rattle.report_picture.specs.Delays.{most_of, delay_tick, delay_ticks, rank_text, counts_text, row_text};
+ghost use Rattle.report_picture.specs.Delays.{rows_text};
 ghost use Rattle.report_picture.specs.Delays.{delays_legend, columns_text, delays_text};
 ghost use Rattle.text_stream.specs.Writing.{Puts};
 
@@ -9,7 +10,7 @@ use crate::axis::{place, round_step};
 use crate::filled::put_filled;
 use crate::spread::{Scale, put_spread, scale_to, spread_with};
 use report_writing::RankTold;
-use sched_report::POLLED;
+use sched_report::{POLLED, RankSums};
 use text_stream::{Sink, TextBuffer, TextFault};
 
 // The greatest delay of some ranks.
@@ -81,7 +82,27 @@ fn put_rank<W: Sink>(lines: &mut TextBuffer, writer: &mut W, rank: u8) -> Result
     put_filled(lines, writer, template, &[u128::from(rank)])
 }
 
-// The row of a rank: its name, how many of its requests were served, and their delays.
+// How many requests of a rank were served, and how many wait or were dropped.
+#[tactic(auto, unfolding(crate::specs::Delays::counts_text))]
+fn put_counts<W: Sink>(
+    lines: &mut TextBuffer,
+    writer: &mut W,
+    sums: &RankSums,
+) -> Result<(), TextFault>
+    ensures { Puts W.contents W.has_failed writer.old writer.new lines.old lines.new
+        (counts_text sums.now) result }
+{
+    let template = b"<text class='end' x='724' y='20'>@</text>";
+    put_filled(lines, writer, template, &[sums.served])?;
+    put_filled(
+        lines,
+        writer,
+        b"<text class='end' x='1194' y='20'>@</text><text class='end' x='1284' y='20'>@</text>\n",
+        &[sums.waiting, sums.dropped],
+    )
+}
+
+// The row of a rank: its name, how many of its requests were served, wait and were dropped, and their delays.
 #[tactic(auto, unfolding(crate::specs::Delays::row_text))]
 fn put_row<W: Sink>(
     lines: &mut TextBuffer,
@@ -111,8 +132,7 @@ fn put_row<W: Sink>(
         &[32 * i as u128],
     )?;
     put_rank(lines, writer, told.rank)?;
-    let template = b"<text class='end' x='724' y='20'>@</text>\n";
-    put_filled(lines, writer, template, &[sums.served])?;
+    put_counts(lines, writer, &sums)?;
     put_spread(lines, writer, scale, spread)?;
     lines.put(writer, b"</g>\n")
 }
@@ -187,7 +207,11 @@ fn put_columns<W: Sink>(lines: &mut TextBuffer, writer: &mut W) -> Result<(), Te
     )?;
     lines.put(
         writer,
-        b"<text class='end' x='1104' y='-10'>greatest</text>\n",
+        b"<text class='end' x='1104' y='-10'>greatest</text>",
+    )?;
+    lines.put(
+        writer,
+        b"<text class='end' x='1194' y='-10'>waiting</text><text class='end' x='1284' y='-10'>dropped</text>\n",
     )
 }
 

@@ -21,7 +21,7 @@ fn put_size<W: Sink>(lines: &mut TextBuffer, writer: &mut W, ranks: usize) -> Re
 {
     let depth = 584 + 32 * ranks as u128;
     let template =
-        b"<svg xmlns='http://www.w3.org/2000/svg' width='1220' height='@' viewBox='0 0 1220 @";
+        b"<svg xmlns='http://www.w3.org/2000/svg' width='1400' height='@' viewBox='0 0 1400 @";
     put_filled(lines, writer, template, &[depth, depth])
 }
 
@@ -37,7 +37,7 @@ fn put_style<W: Sink>(lines: &mut TextBuffer, writer: &mut W) -> Result<(), Text
     )?;
     lines.put(
         writer,
-        b".at,.end,.part{font-size:11px}.at{text-anchor:middle}.end{text-anchor:end}.key,.area{stroke:#333;",
+        b".at,.end,.part{font-size:11px}.at{text-anchor:middle}.end{text-anchor:end}.key{stroke:#333;",
     )?;
     lines.put(
         writer,

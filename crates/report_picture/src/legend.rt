@@ -22,7 +22,7 @@ pub(crate) fn all_slots(slots: &Slots) -> u128
         + u128::from(slots.unsolicited)
 }
 
-// A key of the legend: a look, and how many in a thousand of all minislots have it.
+// A key of the legend: a look, and how many in a thousand of all minislots have it, rounded to the nearest.
 fn put_key<W: Sink>(
     lines: &mut TextBuffer,
     writer: &mut W,
@@ -33,8 +33,8 @@ fn put_key<W: Sink>(
     ensures { Puts W.contents W.has_failed writer.old writer.new lines.old lines.new
         (key_text template.now part all) result }
 {
-    let share = place(1000, u128::from(part), all);
-    put_filled(lines, writer, template, &[share])
+    let twice = place(2000, u128::from(part), all);
+    put_filled(lines, writer, template, &[(twice + 1) / 2])
 }
 
 // The keys of minislots in which modems may ask, and of unsolicited grants.

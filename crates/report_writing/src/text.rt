@@ -102,6 +102,14 @@ pub(crate) fn push_ms(
     }
 }
 
+// So many hundredths of a percent of a whole, rounded to the nearest.
+fn hundredths_of(part: u64, whole: u128) -> Option<u128> {
+    let scaled = u128::from(part) * 10_000;
+    let hundredths = scaled.checked_div(whole)?;
+    let rest = scaled % whole;
+    Some(hundredths.saturating_add(u128::from(rest >= whole - rest)))
+}
+
 // Puts the part of a whole in a hundred in a column.
 pub(crate) fn push_percent(
     words: &mut String,
@@ -110,7 +118,7 @@ pub(crate) fn push_percent(
     whole: u128,
     width: usize,
 ) -> Result<(), AllocError> {
-    match (u128::from(part) * 10_000).checked_div(whole) {
+    match hundredths_of(part, whole) {
         None => push_right(words, NONE, width),
         Some(hundredths) => {
             let (percent, rest) = (hundredths / 100, hundredths % 100);

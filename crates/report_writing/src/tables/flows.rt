@@ -52,13 +52,18 @@ fn push_life(
     words.push('\n')
 }
 
-// The lives that asked most, from the one that asked most of all on: of two that asked as much, the one that was
-// admitted first.
+// Whether a life comes before another: where it asked more, or as much and lives while the other has ended, or the same
+// and was admitted first.
+fn comes_before(first: &LifeNumbers, second: &LifeNumbers) -> bool {
+    let (more, less) = (first.sums.asked, second.sums.asked);
+    more > less || more == less && (!first.ended || second.ended)
+}
+
+// The lives that asked most, from the one that asked most of all on.
 fn most_asking(alloc: Global, lives: &[LifeNumbers]) -> Result<Vec<LifeNumbers>, AllocError> {
     let mut most: Vec<LifeNumbers> = Vec::new(alloc);
     for life in lives {
-        let asked = life.sums.asked;
-        let place = most.partition_point(|other| other.sums.asked >= asked);
+        let place = most.partition_point(|other| comes_before(other, life));
         if place < FEW {
             most.insert(place, *life)?;
             most.truncate(FEW);
@@ -92,7 +97,10 @@ pub(crate) fn push_flows(
         return Ok(());
     }
     words.push_str(
-        "\n SID kind   asked/s  granted  ceiling   asks wait drop  middle     p99    most\n",
+        "\nflows: bits per second asked, granted and at most; delays in milliseconds\n",
+    )?;
+    words.push_str(
+        " SID kind   asked/s  granted  ceiling   asks wait drop  middle     p99    most\n",
     )?;
     if all {
         return push_lives(words, alloc, ticks, lives);
@@ -103,7 +111,7 @@ pub(crate) fn push_flows(
         let all = lives.len();
         writeln!(
             words,
-            "{FEW} of {all} lives of flows: those that asked most"
+            "{FEW} of {all} lives of flows: those that asked for most bytes"
         )?;
     }
     Ok(())
