@@ -1,6 +1,8 @@
 -- The digits of hexadecimal, computed.
 use Rattle.std.proofs.Common.{◌≡◌, ℕ, zero, suc, ◌+◌, ◌-◌, ◌<◌, ◌≤◌, ◌==◌, ◌&&◌, Bool, true, false, slice_index, refl, arith}
 use Rattle.std.proofs.Common.{inl, inr}
+use Rattle.std.specs.Str.{IsAscii}
+use Rattle.std.proofs.lemmas.List.{get_or_past}
 use Rattle.std.proofs.lemmas.Bool.{and_parts, cases_lt, eqb-true}
 use Rattle.hex.specs.Hex.{lower_digits}
 
@@ -37,3 +39,14 @@ digit_above d ge lt =
     let f : 97 + (d - 10) ≡ d + 87 = omega arith in
     let found = are_from-at 10 97 6 (d - 10) refl (omega arith) in
     rw (e, f) at found
+
+-- all sixteen digits are ASCII
+pub IsAscii-lower_digits : IsAscii lower_digits
+IsAscii-lower_digits i =
+    elim (cases_lt i 10) [
+      | inl low ↦ omega (arith, digit_below i low)
+      | inr high ↦ elim (cases_lt i 16) [
+          | inl below ↦ omega (arith, digit_above i high below)
+          | inr past ↦ omega (arith, get_or_past lower_digits i 0 past)
+        ]
+    ]
