@@ -9,7 +9,7 @@ ghost use Rattle.frame_lines.specs.Line.{map_line, framed_line};
 use crate::frame::{frame_of, map_in};
 use map_build::FrameMap;
 use sched_history::{Reply, Unrecorded};
-use sched_lines::put_line;
+use sched_lines::{put_line, write_hex};
 use text_stream::{Sink, TextFault, put};
 use wire_frame::MAX_FRAME_BYTES;
 
@@ -24,7 +24,7 @@ fn put_map_line<W: Sink>(writer: &mut W, address: &[u8; 6], map: &FrameMap) -> R
     let len = frame_of(map, address, &mut frame);
     let mut digits = [0u8; 2 * MAX_FRAME_BYTES];
     let digits = &mut digits[..2 * len];
-    hex::encode_to_slice(&frame[..len], digits).unwrap();
+    write_hex(&frame[..len], digits);
     put(writer, b"map ")?;
     put(writer, digits)?;
     put(writer, b"\n")

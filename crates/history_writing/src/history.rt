@@ -27,9 +27,10 @@ use text_stream::{Sink, TextFault, put};
 // The keys of a stamp.
 static STAMP: [&str; 2] = ["seat", "ticket"];
 
-/// Writes an entry: its call, its reply and its stamp. Nothing is said of what a want of memory leaves of its tokens.
+/// Writes an entry: its call, its reply and its stamp. Nothing is said of which of its tokens are written where there is
+/// no memory for all.
 #[tactic(auto, unfolding(crate::specs::HistoryText::entry_data))]
-pub fn put_entry(out: &mut Writer, alloc: Global, entry: &Entry) -> Result<(), AllocError>
+pub fn put_entry(out: &mut Writer, entry: &Entry) -> Result<(), AllocError>
     requires { IsEncodable entry.now.reply }
     ensures ok { OnOk result (out.new.tokens ≡ out.old.tokens ++ tokens_of (entry_data entry.now)) }
     ensures before { out.new.before ≡ out.old.before }
@@ -38,7 +39,7 @@ pub fn put_entry(out: &mut Writer, alloc: Global, entry: &Entry) -> Result<(), A
     out.key("call")?;
     put_call(out, entry.call)?;
     out.key("reply")?;
-    put_reply(out, alloc, &entry.reply)?;
+    put_reply(out, &entry.reply)?;
     let numbers = [entry.stamp.seat as u64, entry.stamp.ticket];
     put_counts(out, &STAMP, &numbers)?;
     out.end_object()
@@ -46,7 +47,7 @@ pub fn put_entry(out: &mut Writer, alloc: Global, entry: &Entry) -> Result<(), A
 
 // Writes entries, one after the other.
 #[tactic(auto, unfolding(crate::specs::HistoryText::entries_data))]
-fn put_entries(out: &mut Writer, alloc: Global, entries: &[Entry]) -> Result<(), AllocError>
+fn put_entries(out: &mut Writer, entries: &[Entry]) -> Result<(), AllocError>
     requires { AllByRecursion (λ e. IsEncodable e.reply) entries.now }
     ensures ok { OnOk result
         (out.new.tokens ≡ out.old.tokens ++ tokens_of (entries_data entries.now)) }
@@ -54,19 +55,14 @@ fn put_entries(out: &mut Writer, alloc: Global, entries: &[Entry]) -> Result<(),
 {
     out.begin_array()?;
     for entry in entries {
-        put_entry(out, alloc, entry)?;
+        put_entry(out, entry)?;
     }
     out.end_array()
 }
 
 // Writes a history under a configuration.
 #[tactic(auto, unfolding(crate::specs::HistoryText::history_data))]
-fn put_members(
-    out: &mut Writer,
-    alloc: Global,
-    config: &Config,
-    entries: &[Entry],
-) -> Result<(), AllocError>
+fn put_members(out: &mut Writer, config: &Config, entries: &[Entry]) -> Result<(), AllocError>
     requires { AllByRecursion (λ e. IsEncodable e.reply) entries.now }
     ensures ok { OnOk result (out.new.tokens
         ≡ out.old.tokens ++ tokens_of (history_data config.now entries.now)) }
@@ -76,7 +72,7 @@ fn put_members(
     out.key("config")?;
     put_config(out, config)?;
     out.key("entries")?;
-    put_entries(out, alloc, entries)?;
+    put_entries(out, entries)?;
     out.end_object()
 }
 
@@ -87,7 +83,7 @@ fn history_text(alloc: Global, config: &Config, entries: &[Entry]) -> Result<Vec
     ensures { IfOk result (λ text. text.items ≡ history_text config.now entries.now) }
 {
     let mut out = Writer::new(Vec::new(alloc));
-    put_members(&mut out, alloc, config, entries)?;
+    put_members(&mut out, config, entries)?;
     let mut text = out.into_inner();
     text.push(b'\n')?;
     Ok(text)

@@ -51,7 +51,7 @@ fn put_object(alloc: Global, text: &mut Vec<u8>, entry: &Entry) -> Result<(), Al
     ensures part { (part : List ℕ) × (text.new.items ≡ text.old.items ++ part) }
 {
     let mut out = Writer::new(mem::replace(text, Vec::new(alloc)));
-    let written = put_entry(&mut out, alloc, entry);
+    let written = put_entry(&mut out, entry);
     *text = out.into_inner();
     written
 }

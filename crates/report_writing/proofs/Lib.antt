@@ -1,3 +1,2 @@
-mod JsonNumbers
 pub mod Gathering
 mod Refusals

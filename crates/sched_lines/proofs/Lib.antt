@@ -3,3 +3,4 @@ pub mod Answered
 pub mod Made
 pub mod Leaving
 pub mod Fitting
+pub mod Digits

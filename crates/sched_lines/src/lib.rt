@@ -3,6 +3,7 @@
 #![tactic(auto)]
 
 mod call;
+mod hexadecimal;
 mod line;
 mod lines;
 mod meaning;
@@ -10,6 +11,7 @@ mod named;
 mod unrecorded;
 
 pub use call::make_call;
+pub use hexadecimal::write_hex;
 pub use line::{put_line, put_number, refusal_number, refusal_value};
 pub use lines::LineBuffer;
 pub use named::put_named;

@@ -9,6 +9,7 @@ ghost use Rattle.sched_lines.specs.Line.{reply_text, answer_text, line_of, HasLi
 ghost use Rattle.sched_history.specs.Machine.{IsEncodable};
 ghost use Rattle.text_stream.specs.Writing.{Writes};
 
+use crate::hexadecimal::write_hex;
 use flow_book::FlowFault;
 use itoa::Buffer;
 use map_codec::{MAX_BYTES, WireMap, encode};
@@ -130,7 +131,7 @@ fn put_hex<W: Sink>(writer: &mut W, bytes: &[u8]) -> Result<(), TextFault>
 {
     let mut text = [0u8; 2 * MAX_BYTES];
     let text = &mut text[..2 * bytes.len()];
-    hex::encode_to_slice(bytes, text).unwrap();
+    write_hex(bytes, text);
     put(writer, text)
 }
 

@@ -2,11 +2,21 @@
 
 ghost use Rattle.std.specs.Prelude.{◌≡◌, ◌≤◌, ◌++◌, ◌∷◌, length, OnOk};
 ghost use Rattle.json.specs.Token.{key};
-ghost use Rattle.history_writing.specs.Json.{counts};
+ghost use Rattle.history_writing.specs.Json.{count, counts};
 ghost use Rattle.history_writing.specs.Tokens.{tokens_of, counted, titled, named};
 
+use itoa::Buffer;
 use json::Writer;
 use std::alloc::AllocError;
+
+// Writes a whole number.
+fn put_number(out: &mut Writer, number: u64) -> Result<(), AllocError>
+    ensures ok { OnOk result (out.new.tokens ≡ out.old.tokens ++ tokens_of (count number)) }
+    ensures before { out.new.before ≡ out.old.before }
+{
+    let mut buffer = Buffer::new();
+    out.number(buffer.format(number))
+}
 
 /// Writes whole numbers, each under the key at its place.
 pub fn put_counts(out: &mut Writer, keys: &[&str], numbers: &[u64]) -> Result<(), AllocError>
@@ -16,7 +26,7 @@ pub fn put_counts(out: &mut Writer, keys: &[&str], numbers: &[u64]) -> Result<()
 {
     for index in 0..numbers.len() {
         out.key(keys[index])?;
-        out.u64(numbers[index])?;
+        put_number(out, numbers[index])?;
     }
     Ok(())
 }
@@ -63,7 +73,7 @@ pub fn put_offsets(out: &mut Writer, name: &str, offsets: &[u16]) -> Result<(), 
     out.key(name)?;
     out.begin_array()?;
     for offset in offsets {
-        out.u64(u64::from(*offset))?;
+        put_number(out, u64::from(*offset))?;
     }
     out.end_array()
 }
@@ -77,7 +87,7 @@ pub fn put_bytes(out: &mut Writer, name: &str, numbers: &[u32]) -> Result<(), Al
     out.key(name)?;
     out.begin_array()?;
     for number in numbers {
-        out.u64(u64::from(*number))?;
+        put_number(out, u64::from(*number))?;
     }
     out.end_array()
 }

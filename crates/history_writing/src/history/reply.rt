@@ -1,11 +1,11 @@
 //! Replies as JSON.
 
-ghost use Rattle.std.specs.Prelude.{◌≡◌, ◌++◌, IfOk, OnOk, string_bytes};
+ghost use Rattle.std.specs.Prelude.{◌≡◌, ◌++◌, OnOk, codes};
 ghost use Rattle.hex.specs.Hex.{encode_lower};
 ghost use Rattle.map_codec.specs.WireMap.{IsWellFormed, spelling};
 ghost use Rattle.sched_history.specs.Machine.{IsEncodable};
 ghost use Rattle.history_writing.specs.Json.{placed_data, map_data, plain_data, refused_data, reply_data};
-ghost use Rattle.history_writing.specs.Tokens.{tokens_of};
+ghost use Rattle.history_writing.specs.Tokens.{tokens_of, titled};
 
 use super::count::{put_bytes, put_counts, put_name, put_named, put_offsets};
 use json::Writer;
@@ -13,8 +13,9 @@ use map_build::FrameMap;
 use map_codec::{MAX_BYTES, WireMap, encode};
 use periodic::Placement;
 use sched_history::Reply;
-use sched_lines::{refusal_number, refusal_value};
-use std::alloc::{AllocError, Global};
+use sched_lines::{refusal_number, refusal_value, write_hex};
+use std::alloc::AllocError;
+use std::str;
 
 // The keys of the numbers that a reply has beside its kind.
 static REFERENCE: [&str; 1] = ["reference"];
@@ -44,18 +45,27 @@ fn put_placed(out: &mut Writer, placement: &Placement) -> Result<(), AllocError>
     out.end_object()
 }
 
-// The payload of a MAP in lower-case hexadecimal.
-fn hex_of(alloc: Global, map: &WireMap) -> Result<String, AllocError>
+// Writes the payload of a MAP in lower-case hexadecimal.
+fn put_hex(out: &mut Writer, map: &WireMap) -> Result<(), AllocError>
     requires { IsWellFormed map.now }
-    ensures { IfOk result (λ text. string_bytes text ≡ encode_lower (spelling map.now)) }
+    ensures ok { OnOk result (out.new.tokens
+        ≡ out.old.tokens ++ titled (codes "hex") (encode_lower (spelling map.now))) }
+    ensures before { out.new.before ≡ out.old.before }
 {
     let mut payload = [0u8; MAX_BYTES];
+    let mut digits = [0u8; 2 * MAX_BYTES];
     let len = encode(map, &mut payload);
-    hex::encode(alloc, &payload[..len])
+    let digits = &mut digits[..2 * len];
+    write_hex(&payload[..len], digits);
+    match str::from_utf8(digits) {
+        Ok(text) => put_name(out, "hex", text),
+        // Digits are ASCII.
+        Err(_) => unreachable!(),
+    }
 }
 
 #[tactic(auto, unfolding(crate::specs::Json::map_data))]
-fn put_map(out: &mut Writer, alloc: Global, kind: &str, frame: &FrameMap) -> Result<(), AllocError>
+fn put_map(out: &mut Writer, kind: &str, frame: &FrameMap) -> Result<(), AllocError>
     requires { IsWellFormed frame.now.wire }
     ensures ok { OnOk result
         (out.new.tokens ≡ out.old.tokens ++ tokens_of (map_data kind.now frame.now)) }
@@ -64,8 +74,7 @@ fn put_map(out: &mut Writer, alloc: Global, kind: &str, frame: &FrameMap) -> Res
     out.begin_object()?;
     put_counts(out, &ACK, &[frame.ack])?;
     put_bytes(out, "bytes", frame.bytes.as_slice())?;
-    let hex = hex_of(alloc, &frame.wire)?;
-    put_name(out, "hex", hex.as_str())?;
+    put_hex(out, &frame.wire)?;
     put_name(out, "kind", kind)?;
     put_counts(out, &START, &[frame.start])?;
     out.end_object()
@@ -97,7 +106,7 @@ fn put_plain(out: &mut Writer, kind: &str) -> Result<(), AllocError>
 
 /// Writes a reply, by its kind.
 #[tactic(auto, unfolding(crate::specs::Json::reply_data))]
-pub fn put_reply(out: &mut Writer, alloc: Global, reply: &Reply) -> Result<(), AllocError>
+pub fn put_reply(out: &mut Writer, reply: &Reply) -> Result<(), AllocError>
     requires { IsEncodable reply.now }
     ensures ok { OnOk result (out.new.tokens ≡ out.old.tokens ++ tokens_of (reply_data reply.now)) }
     ensures before { out.new.before ≡ out.old.before }
@@ -108,7 +117,7 @@ pub fn put_reply(out: &mut Writer, alloc: Global, reply: &Reply) -> Result<(), A
         Reply::Removed => put_plain(out, "removed"),
         Reply::Taken => put_plain(out, "taken"),
         Reply::Noted => put_plain(out, "noted"),
-        Reply::Built(frame) => put_map(out, alloc, "map", frame),
+        Reply::Built(frame) => put_map(out, "map", frame),
         Reply::Skipped(next) => put_named(out, "kind", "skipped", 0, &NEXT, &[*next]),
         Reply::Flow {
             asked,

@@ -1,0 +1,15 @@
+use Rattle.std.proofs.Common.{arith}
+use Rattle.hex.specs.Hex.{lower_digits}
+use Rattle.hex.proofs.Pairs.{encode_step, encode_done}
+use Rattle.sched_lines.proofs.hexadecimal.write_hex.Goals as goal
+
+-- src/hexadecimal.rt:26:5
+pub loop-i-preserved : goal.loop-i-preserved
+loop-i-preserved c =
+    encode_step lower_digits c.args.bytes.now c.loop-i.text c.loop-i.i _ _ (omega arith) (omega arith)
+    c.digit.ensures c.digit-in-loop-i.ensures c.loop-i.invariant
+
+-- src/hexadecimal.rt:22:1
+pub returns : goal.returns
+returns c =
+    encode_done lower_digits c.args.bytes.now c.loop-i.text c.loop-i.i (omega arith) (omega arith) c.loop-i.invariant

@@ -1,0 +1,8 @@
+-- Writing two digits for each byte.
+use Rattle.std.proofs.Common.{◌≡◌, ◌*◌, ◌++◌, take, drop}
+use Rattle.hex.specs.Hex.{encode_lower}
+use Rattle.sched_lines.proofs.hexadecimal.write_hex.Given as goal
+
+-- the digits so far, with those of the bytes that are left, are those of all bytes
+abbrev pub invariant-loop-i : goal.invariant-loop-i
+invariant-loop-i l = take (2 * l.i) l.text ++ encode_lower (drop l.i l.bytes) ≡ encode_lower l.bytes
