@@ -1,6 +1,6 @@
 //! The calls at a queue. Whoever holds makes its own call, and then those that were left with the next tickets, at most
 //! 64 of them, each by the seat that left it and in the order of the tickets.
-ghost use Rattle.std.specs.Prelude.{◌≡◌, ◌+◌, Some, IfOk, IfErr, IfSome};
+ghost use Rattle.std.specs.Prelude.{◌≡◌, ◌+◌, ◌%◌, ◌^◌, Some, IfOk, IfErr, IfSome};
 ghost use Rattle.ticket_lock.specs.Calls.{Draws, Enters, MayLeave, Leaves};
 ghost use Rattle.call_queue.specs.Turns.{IsHanded, EndsTurn, TakesTurn, CallsInTurn};
 
@@ -56,16 +56,17 @@ impl<T: Journal, C: Calling<T>> CallQueue<T, C> {
         requires kept { MayLeave T.stamp T.head T.entries held value }
         ensures left { Leaves T.stamp T.head T.entries held value result }
     {
-        let next = self.take_up(held.stamp().ticket.wrapping_add(1));
+        let after = held.stamp().ticket.wrapping_add(1);
         let left = self.lock.leave(held, value);
-        if let Some(taken) = next {
-            self.give_back(taken);
+        if let Some(number) = self.signs.shown(after) {
+            self.call_up(number, after);
         }
         left
     }
 
     /// Makes a call by this seat: it draws a ticket, and takes its turn with it. Where the ticket is not served at
     /// once, the seat leaves it with the call, and waits: whoever holds makes the call, or serves the ticket.
+    #[inline(always)]
     #[tactic(auto, using(crate::proofs::Turned::turn_looked))]
     pub fn call<R: Wait>(&self, rt: &R, seat: Seat<T>, call: C::Call) -> (Seat<T>, C::Reply)
         requires own { seat.lock ≡ self.now }
@@ -79,8 +80,9 @@ impl<T: Journal, C: Calling<T>> CallQueue<T, C> {
         }
     }
 
-    /// Makes a call by the seat that holds, makes those that were left with the next tickets, and leaves. The value is
-    /// as it was entered.
+    /// Makes a call by the seat that holds, and leaves. Then it makes the calls that were left with the next tickets.
+    /// The value is as it was entered.
+    #[inline(always)]
     pub fn call_held<R: Wait>(
         &self,
         rt: &R,
@@ -92,14 +94,19 @@ impl<T: Journal, C: Calling<T>> CallQueue<T, C> {
         requires handed { IsHanded T.head T.entries held value }
         ensures ended { EndsTurn T.stamp T.head T.entries C.made call result.1 held value result.0 }
     {
-        let (mine, reply, next) = self.turn(rt, held, value, call);
-        if let Some(taken) = next {
-            self.call_for_others(rt, taken);
+        let after = held.stamp().ticket.wrapping_add(1);
+        let mut value = value;
+        let reply = C::make(rt, &held, &mut value, call);
+        let seat = self.lock.leave(held, value);
+        if let Some(number) = self.signs.shown(after) {
+            self.go_on(rt, number, after);
         }
-        (mine, reply)
+        (seat, reply)
     }
 
     // Leaves the ticket with the call, and waits until the turn was taken, or takes it.
+    #[inline(never)]
+    #[tactic(auto, using(crate::proofs::Turned::turn_looked))]
     fn leave_call<R: Wait>(
         &self,
         rt: &R,
@@ -110,13 +117,35 @@ impl<T: Journal, C: Calling<T>> CallQueue<T, C> {
         requires own { ticket.lock ≡ self.now }
         ensures turn { TakesTurn T.stamp T.head T.entries C.made call result.1 ticket result.0 }
     {
-        let residue = ticket.number();
-        let Some(tray) = self.tray(number) else {
+        let Some(tray) = self.free_tray(number) else {
             return self.take_turn(rt, ticket, call);
         };
+        if !self.signs.put_up(ticket.number(), number) {
+            return self.take_turn(rt, ticket, call);
+        }
+        match self.lock.try_enter(ticket) {
+            Ok((held, value)) => self.call_held(rt, held, value, call),
+            Err(ticket) => self.wait_at(rt, tray, ticket, call),
+        }
+    }
+
+    // Leaves the ticket with the call on this tray, and waits until the turn was taken, or takes it. Its sign was put
+    // up.
+    fn wait_at<R: Wait>(
+        &self,
+        rt: &R,
+        tray: &Tray<Turns<T, C>>,
+        ticket: Ticket<T>,
+        call: C::Call,
+    ) -> (Seat<T>, C::Reply)
+        requires own { ticket.lock ≡ self.now }
+        requires tray { tray.now.about.value ≡ self.now }
+        ensures turn { TakesTurn T.stamp T.head T.entries C.made call result.1 ticket result.0 }
+    {
+        let residue = ticket.number();
         match tray.leave((ticket, call)) {
             Ok(waiting) => {
-                if self.signs.put_up(residue, number) {
+                if self.signs.shown(residue).is_none() {
                     tray.call_up();
                 }
                 match tray.wait(rt, waiting) {
@@ -137,33 +166,37 @@ impl<T: Journal, C: Calling<T>> CallQueue<T, C> {
         self.call_held(rt, held, value, call)
     }
 
-    // Makes a call by the seat that holds, takes up what was left with the next ticket, and leaves.
-    fn turn<R: Wait>(
-        &self,
-        rt: &R,
-        held: Held<T>,
-        value: T,
-        call: C::Call,
-    ) -> (Seat<T>, C::Reply, Option<Taken<'_, T, C>>)
-        requires own { held.lock ≡ self.now }
-        requires handed { IsHanded T.head T.entries held value }
-        ensures ended { EndsTurn T.stamp T.head T.entries C.made call result.1 held value result.0 }
-        ensures taken { IfSome result.2 (λ t. (t.ticket.lock ≡ self.now)
-            × (t.serving ≡ record { tray = t.tray.now; left = Some (t.ticket, t.call) })) }
-    {
-        let mut value = value;
-        let reply = C::make(rt, &held, &mut value, call);
-        let next = self.take_up(held.stamp().ticket.wrapping_add(1));
-        let seat = self.lock.leave(held, value);
-        (seat, reply, next)
+    // Makes the call of the seat with this number, whose sign is up for this ticket, which is served, and those behind
+    // it. If the call was not left yet, its seat makes it by itself.
+    #[inline(never)]
+    fn go_on<R: Wait>(&self, rt: &R, number: u32, ticket: u64) {
+        if let Some(taken) = self.take_or_call_up(number, ticket) {
+            self.call_for_others(rt, taken);
+        }
     }
 
-    // Takes up what was left with this ticket, which is served next.
-    fn take_up(&self, ticket: u64) -> Option<Taken<'_, T, C>>
+    // Takes up what the seat with this number left, if that is this ticket, which is served, or calls that seat up.
+    fn take_or_call_up(&self, number: u32, ticket: u64) -> Option<Taken<'_, T, C>>
         ensures taken { IfSome result (λ t. (t.ticket.lock ≡ self.now)
             × (t.serving ≡ record { tray = t.tray.now; left = Some (t.ticket, t.call) })) }
+        ensures next { IfSome result (λ t. t.ticket.ticket % 2 ^ 64 ≡ ticket) }
     {
-        let number = self.signs.serve(ticket)?;
+        match self.take_up(number, ticket) {
+            Some(taken) => Some(taken),
+            None => {
+                self.call_up(number, ticket);
+                None
+            }
+        }
+    }
+
+    // Takes up what the seat with this number left, if that is this ticket, which is served. If not, that seat is to be
+    // called up: what it left with a later ticket is put back, and a holder may have looked for it meanwhile.
+    fn take_up(&self, number: u32, ticket: u64) -> Option<Taken<'_, T, C>>
+        ensures taken { IfSome result (λ t. (t.ticket.lock ≡ self.now)
+            × (t.serving ≡ record { tray = t.tray.now; left = Some (t.ticket, t.call) })) }
+        ensures next { IfSome result (λ t. t.ticket.ticket % 2 ^ 64 ≡ ticket) }
+    {
         let tray = self.tray(number)?;
         let (left, serving) = tray.take_up()?;
         if left.0.number() != ticket {
@@ -178,6 +211,15 @@ impl<T: Journal, C: Calling<T>> CallQueue<T, C> {
             call,
             serving,
         })
+    }
+
+    // Has the seat with this number, whose sign was up for this ticket, which is served, take its turn by itself.
+    fn call_up(&self, number: u32, ticket: u64) {
+        self.signs.take_down(ticket, number);
+        if let Some(tray) = self.tray(number) {
+            tray.call_up();
+            tray.wake();
+        }
     }
 
     // Puts back what was taken up, whose ticket is served: its seat goes on by itself.
@@ -197,6 +239,19 @@ impl<T: Journal, C: Calling<T>> CallQueue<T, C> {
         tray.wake();
     }
 
+    // Makes a call by the seat that holds, and leaves. `call_held` has these steps itself, so that the reply is moved
+    // once less where nobody waits.
+    fn turn<R: Wait>(&self, rt: &R, held: Held<T>, value: T, call: C::Call) -> (Seat<T>, C::Reply)
+        requires own { held.lock ≡ self.now }
+        requires handed { IsHanded T.head T.entries held value }
+        ensures ended { EndsTurn T.stamp T.head T.entries C.made call result.1 held value result.0 }
+    {
+        let mut value = value;
+        let reply = C::make(rt, &held, &mut value, call);
+        let seat = self.lock.leave(held, value);
+        (seat, reply)
+    }
+
     // Makes the call that was taken up, whose ticket is served, by its own seat, and answers it. What was left with the
     // next ticket, if it was.
     fn make_next<'a, R: Wait>(&'a self, rt: &R, taken: Taken<'a, T, C>) -> Option<Taken<'a, T, C>>
@@ -205,6 +260,8 @@ impl<T: Journal, C: Calling<T>> CallQueue<T, C> {
             ≡ record { tray = taken.tray.now; left = Some (taken.ticket, taken.call) } }
         ensures taken { IfSome result (λ t. (t.ticket.lock ≡ self.now)
             × (t.serving ≡ record { tray = t.tray.now; left = Some (t.ticket, t.call) })) }
+        ensures next { IfSome result (λ t.
+            t.ticket.ticket % 2 ^ 64 ≡ (taken.entry.ticket.ticket % 2 ^ 64 + 1) % 2 ^ 64) }
     {
         let Taken {
             tray,
@@ -213,10 +270,12 @@ impl<T: Journal, C: Calling<T>> CallQueue<T, C> {
             call,
             serving,
         } = taken;
+        let after = ticket.number().wrapping_add(1);
         let (held, value) = self.lock.enter(rt, ticket);
-        let (seat, reply, next) = self.turn(rt, held, value, call);
+        let (seat, reply) = self.turn(rt, held, value, call);
         tray.answer(serving, (seat, reply));
-        next
+        let number = self.signs.shown(after)?;
+        self.take_or_call_up(number, after)
     }
 
     // Makes the calls that were left with the next tickets, at most so many, and then wakes those who sleep.

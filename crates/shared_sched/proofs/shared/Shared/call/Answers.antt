@@ -1,10 +1,14 @@
--- The draw, the entry and the holder's call are one call.
-use Rattle.shared_sched.proofs.Called.{calls}
+-- The turn that was taken by this thread or another is one call.
+use Rattle.std.proofs.Common.{subst}
+use Rattle.sched_desk.specs.Desk.{SharedDesk, IsDeskLock}
+use Rattle.shared_sched.proofs.Called.{calls_in_turn}
 use Rattle.shared_sched.proofs.shared.Shared.call.Goals as goal
 
 pub returns : goal.returns
-returns g c = record {
-  answered = calls c.args.self.now.config c.args.seat c.draw-ticket.result c.enter-held.result.0 c.call_held.result.0
-      c.enter-held.result.1 c.draw-ticket.ensures.drawn c.enter-held.ensures.entered c.args.call c.call_held.result.1
-      c.call_held.ensures.answered;
-}
+returns g c =
+    let me = c.args.self.now in
+    record {
+      answered = calls_in_turn me.config me.lock
+          (subst (λ (m : SharedDesk). IsDeskLock m.config m.lock) c.self.view_is c.self.invariant.0)
+          c.args.call c.call.result.1 c.args.seat c.call.result.0 c.requires.own c.call.ensures.called;
+    }

@@ -1,16 +1,15 @@
--- The desk recorded the call or not, and the seat has left with what it added.
+-- The holder made its call, and its seat has left with what that added.
 use Rattle.std.proofs.Common.{subst}
 use Rattle.sched_desk.specs.Desk.{SharedDesk, IsDeskLock}
-use Rattle.sched_desk.proofs.Held.{answers_entered}
+use Rattle.shared_sched.proofs.Called.{ends_turn}
 use Rattle.shared_sched.proofs.shared.Shared.call_held.Goals as goal
 
 pub returns : goal.returns
 returns g c =
     let me = c.args.self.now in
     record {
-      answered = answers_entered me.config me.lock c.args.held c.args.desk
+      answered = ends_turn me.config me.lock
           (subst (λ (m : SharedDesk). IsDeskLock m.config m.lock) c.self.view_is c.self.invariant.0)
-          c.requires.own c.requires.entered c.leave-seat.result c.call-answer.new.self c.stamp.result
-          c.stamp.ensures.stamp c.leave-seat.ensures.left c.args.call c.call-answer.result
-          c.call-answer.ensures.called;
+          c.args.call c.call_held.result.1 c.args.held c.call_held.result.0 c.args.desk c.requires.own
+          c.requires.entered c.call_held.ensures.ended;
     }
