@@ -6,7 +6,7 @@ ghost use Rattle.sched_desk.specs.Handing.{HandsOverHeld};
 ghost use Rattle.shared_sched.specs.Calls.{AnswersCall, HandsOver};
 
 use crate::calling::Calls;
-use call_queue::CallQueue;
+use call_queue::{CallQueue, Calling};
 use map_snapshot::Told;
 use minislots::Checked;
 use sched_desk::Recorder;
@@ -72,7 +72,12 @@ impl Shared {
         requires own { seat.lock ≡ self.now.lock }
         ensures answered { AnswersCall self.now.config seat call result.0 result.1 }
     {
-        self.queue.call(rt, seat, call)
+        let number = seat.number();
+        let ticket = self.queue.draw(seat);
+        match self.queue.try_enter(ticket) {
+            Ok((held, desk)) => self.call_held(rt, held, desk, call),
+            Err(ticket) => self.queue.leave_call(rt, number, ticket, call),
+        }
     }
 
     /// Makes a call by the seat that holds the desk, and leaves. The desk is as it was entered. A build that is
@@ -89,7 +94,10 @@ impl Shared {
         requires entered { IsEntered held desk }
         ensures answered { AnswersHeld self.now.config held call result.0 result.1 }
     {
-        self.queue.call_held(rt, held, desk, call)
+        let mut desk = desk;
+        let answer = Calls::make(rt, &held, &mut desk, call);
+        let seat = self.queue.leave_and_go_on(rt, held, desk);
+        (seat, answer)
     }
 
     /// Hands over the entries that are kept, with the place of the first in the whole history, by this seat: it draws a

@@ -10,6 +10,11 @@ returns g c =
     record {
       answered = ends_turn me.config me.lock
           (subst (λ (m : SharedDesk). IsDeskLock m.config m.lock) c.self.view_is c.self.invariant.0)
-          c.args.call c.call_held.result.1 c.args.held c.call_held.result.0 c.args.desk c.requires.own
-          c.requires.entered c.call_held.ensures.ended;
+          c.args.call c.make-answer.result c.args.held c.leave_and_go_on-seat.result c.args.desk c.requires.own
+          c.requires.entered
+          (record {
+            given = c.make-answer.new.value;
+            called = c.make-answer.ensures.made;
+            left = c.leave_and_go_on-seat.ensures.left;
+          });
     }
