@@ -62,7 +62,9 @@ impl<T: Journal, C: Calling<T>> CallQueue<T, C> {
     {
         let after = held.stamp().ticket.wrapping_add(1);
         let back = self.lock.leave(held, value);
-        self.look_behind(rt, after);
+        if let Some(number) = self.signs.shown(after) {
+            self.go_on(rt, number, after);
+        }
         back
     }
 
@@ -78,7 +80,11 @@ impl<T: Journal, C: Calling<T>> CallQueue<T, C> {
         let ticket = self.lock.draw(seat);
         match self.lock.try_enter(ticket) {
             Ok((held, value)) => self.call_held(rt, held, value, call),
-            Err(ticket) => self.leave_call(rt, number, ticket, call),
+            Err(ticket) => {
+                // Taken apart, so that a call that did not wait need not put its reply into the memory of this one.
+                let (seat, reply) = self.leave_call(rt, number, (ticket, call));
+                (seat, reply)
+            }
         }
     }
 
@@ -102,21 +108,21 @@ impl<T: Journal, C: Calling<T>> CallQueue<T, C> {
         (seat, reply)
     }
 
-    /// Leaves a ticket that was not served yet with this call, and waits until the turn was taken, or takes it. It is
-    /// the ticket of the seat with this number.
+    /// Leaves a ticket that was not served yet with a call, and waits until the turn was taken, or takes it. It is the
+    /// ticket of the seat with this number. It is never put into its caller, which may go on without it.
     #[inline(never)]
     #[tactic(auto, using(crate::proofs::Turned::turn_looked))]
     pub fn leave_call<R: Wait>(
         &self,
         rt: &R,
         number: u32,
-        ticket: Ticket<T>,
-        call: C::Call,
+        left: (Ticket<T>, C::Call),
     ) -> (Seat<T>, C::Reply)
-        requires own { ticket.lock ≡ self.now }
-        requires number { number ≡ ticket.number }
-        ensures turn { TakesTurn T.stamp T.head T.entries C.made call result.1 ticket result.0 }
+        requires own { left.0.lock ≡ self.now }
+        requires number { number ≡ left.0.number }
+        ensures turn { TakesTurn T.stamp T.head T.entries C.made left.1 result.1 left.0 result.0 }
     {
+        let (ticket, call) = left;
         let Some(tray) = self.free_tray(number) else {
             return self.take_turn(rt, ticket, call);
         };

@@ -23,7 +23,8 @@ struct Taken<'a, T: Journal, C: Calling<T>> {
 }
 
 impl<T: Journal, C: Calling<T>> CallQueue<T, C> {
-    // Makes a call by the seat that holds, and leaves.
+    // Makes a call by the seat that holds, and leaves. Calls of seats that waited are made here, with a handle of another
+    // type than theirs: so the compiler has two functions, and each is put into the one place that calls it.
     #[inline(never)]
     fn turn<R: Wait>(&self, rt: &R, held: Held<T>, value: T, call: C::Call) -> (Seat<T>, C::Reply)
         requires own { held.lock ≡ self.now }
@@ -31,7 +32,7 @@ impl<T: Journal, C: Calling<T>> CallQueue<T, C> {
         ensures ended { EndsTurn T.stamp T.head T.entries C.made call result.1 held value result.0 }
     {
         let mut value = value;
-        let reply = C::make(rt, &held, &mut value, call);
+        let reply = C::make(&rt, &held, &mut value, call);
         let seat = self.lock.leave(held, value);
         (seat, reply)
     }
@@ -50,23 +51,16 @@ impl<T: Journal, C: Calling<T>> CallQueue<T, C> {
     {
         let after = held.stamp().ticket.wrapping_add(1);
         let back = self.turn(rt, held, value, call);
-        self.look_behind(rt, after);
-        back
-    }
-
-    // Makes the calls that were left with this ticket, which is served, and those behind it. Where nobody waits this is
-    // one load.
-    #[inline(always)]
-    pub(crate) fn look_behind<R: Wait>(&self, rt: &R, ticket: u64) {
-        if let Some(number) = self.signs.shown(ticket) {
-            self.go_on(rt, number, ticket);
+        if let Some(number) = self.signs.shown(after) {
+            self.go_on(rt, number, after);
         }
+        back
     }
 
     // Makes the call of the seat with this number, whose sign is up for this ticket, which is served, and those behind
     // it. If the call was not left yet, its seat makes it by itself.
     #[inline(never)]
-    fn go_on<R: Wait>(&self, rt: &R, number: u32, ticket: u64) {
+    pub(crate) fn go_on<R: Wait>(&self, rt: &R, number: u32, ticket: u64) {
         if let Some(taken) = self.take_or_call_up(number, ticket) {
             self.call_for_others(rt, taken);
         }

@@ -76,7 +76,11 @@ impl Shared {
         let ticket = self.queue.draw(seat);
         match self.queue.try_enter(ticket) {
             Ok((held, desk)) => self.call_held(rt, held, desk, call),
-            Err(ticket) => self.queue.leave_call(rt, number, ticket, call),
+            Err(ticket) => {
+                // Taken apart, so that a call that did not wait need not put its reply into the memory of this one.
+                let (seat, answer) = self.queue.leave_call(rt, number, (ticket, call));
+                (seat, answer)
+            }
         }
     }
 

@@ -21,8 +21,8 @@ pub returns-in-Err : goal.returns-in-Err
 returns-in-Err g c =
     let me = c.args.self.now in
     let t = c.draw-ticket.result in
-    let w = c.leave_call.result.0 in
-    let answer = c.leave_call.result.1 in
+    let w = c.leave_call-seat.result.0 in
+    let answer = c.leave_call-seat.result.1 in
     record {
       answered = calls_in_turn me.config me.lock
           (subst (λ (m : SharedDesk). IsDeskLock m.config m.lock) c.self.view_is c.self.invariant.0)
@@ -33,6 +33,6 @@ returns-in-Err g c =
             turn = turn_looked author_of fixed_of events_of IsMade c.args.call answer t w (t.looks + 1)
                 (subst (λ (u : Standing FixedDesk Event).
                 TakesTurn author_of fixed_of events_of IsMade c.args.call answer u w)
-                c.in-Err.ensures.given_back c.leave_call.ensures.turn);
+                c.in-Err.ensures.given_back c.leave_call-seat.ensures.turn);
           });
     }
