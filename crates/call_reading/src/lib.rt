@@ -4,7 +4,10 @@
 mod call;
 mod flow;
 mod found;
+mod quick_call;
+mod quick_script;
 mod read;
 
 pub use call::call_of;
+pub use quick_script::read_quick_script;
 pub use read::read_call;
