@@ -1,13 +1,15 @@
 -- What is read of a script of the usual spelling.
-use Rattle.std.proofs.Common.{◌≡◌, ℕ, ◌-◌, ◌<◌, ◌≤◌, true, List, [], ◌∷◌, length, codes, bytes_eq, Option, Some, None, refl, sym}
+use Rattle.std.proofs.Common.{◌≡◌, ℕ, ◌-◌, ◌<◌, List, [], ◌∷◌, length, Option, Some, None, option_and_then, refl, sym}
 use Rattle.std.proofs.Common.{ap, ◌∙◌, subst, arith}
 use Rattle.json.specs.Token.{Token}
+use Rattle.json.specs.Json as json
 use Rattle.json.specs.Json.{read_key, after_end_array, members, value}
-use Rattle.json.proofs.Grammar.{value_is, read_key-shorter}
-use Rattle.serde_json.specs.Data.{Data, object, no_members, put}
+use Rattle.json.proofs.Grammar.{value_is}
+use Rattle.serde_json.specs.Data.{Data, no_members, put}
 use Rattle.serde_json.specs.Read.{of_json, of_members, converted}
 use Rattle.sched_history.specs.declared.call.Call.{Call}
-use Rattle.json_fields.proofs.PlainValues.{member_read, members_over}
+use Rattle.json_fields.proofs.PlainValues.{member_read, members_over, read_as}
+use Rattle.json_fields.specs.Usual.{read_tokens}
 use Rattle.call_reading.specs.Calls.{call_of}
 
 -- the value stands for the call
@@ -47,3 +49,10 @@ two_members ts s t u v r a b d e key reads less key' reads' less' end =
     member_read (value 126) (length ts) no_members ts t a s d (omega arith) key reads
     ∙ member_read (value 126) (length ts - 1) (put a d no_members) t v b u e (omega arith) key' reads'
     ∙ members_over (value 126) (length ts - 1 - 1) (put b e (put a d no_members)) v r (omega arith) end
+
+-- one value and nothing behind it is what the tokens stand for
+pub alone : (ts r : List Token) (d : Data) → converted of_json (value 127 ts) ≡ Some (d, r) → r ≡ []
+    → read_tokens ts ≡ Some d
+alone ts r d reads over =
+    let j = read_as of_json (value 127 ts) d [] (reads ∙ ap (λ (l : List Token). Some (d, l)) over) in
+    ap (λ o. option_and_then of_json (option_and_then (λ p. json.if_last p.0 p.1) o)) j.1 ∙ j.2

@@ -3,6 +3,7 @@
 ghost use Rattle.std.specs.Prelude.{◌≡◌, ◌<◌, ℕ, codes, Some, None, IfOk, OnOk, length, option_map};
 ghost use Rattle.json.specs.Json.{value, members, read_key};
 ghost use Rattle.serde_json.specs.Data.{Data, Members, no_members, number, unsigned, string};
+ghost use Rattle.serde_json.specs.Find.{get};
 ghost use Rattle.serde_json.specs.Read.{of_json, of_members, converted};
 ghost use Rattle.json_fields.specs.Plain.{data_of, members_of};
 ghost use Rattle.call_reading.specs.Calls.{call_of};
@@ -134,11 +135,7 @@ fn read_member<'a>(
 }
 
 // What the members of a call say, whose brace was taken, and the brace that closes it.
-fn read_members<'a>(
-    alloc: Global,
-    reader: &mut Quick<'a>,
-    depth: usize,
-) -> Result<Found<'a>, Stop>
+fn read_members<'a>(alloc: Global, reader: &mut Quick<'a>, depth: usize) -> Result<Found<'a>, Stop>
     ensures are { IfOk result (λ found. (ms : Members)
         × (converted (λ ms. of_members ms no_members)
         (members (value depth) (length reader.old) reader.old) ≡ Some (ms, reader.new))
@@ -160,7 +157,7 @@ pub(crate) fn read_quick_call(
 ) -> Result<Call, Stop>
     ensures is { IfOk result (λ call. (d : Data)
         × (converted of_json (value depth reader.old) ≡ Some (d, reader.new))
-        × (call_of d ≡ Some call)) }
+        × (call_of d ≡ Some call) × (get (codes "config") d ≡ None)) }
     ensures shorter { OnOk result (length reader.new < length reader.old) }
 {
     if depth == 0 || !reader.open_object() {

@@ -1,8 +1,8 @@
 -- Each turn puts a value among the members before it.
-use Rattle.std.proofs.Common.{◌≡◌, ◌-◌, ◌∷◌, ◌++◌, [], length, Some, None, refl, sym, ap, ◌∙◌, arith}
+use Rattle.std.proofs.Common.{◌≡◌, ◌-◌, length, Some, None, sym, ap, ◌∙◌, arith}
 use Rattle.json.specs.Json.{read_key, members, value}
 use Rattle.json.proofs.Grammar.{read_key-shorter}
-use Rattle.serde_json.specs.Data.{put, no_members}
+use Rattle.serde_json.specs.Data.{put}
 use Rattle.serde_json.specs.Read.{of_members, converted}
 use Rattle.json_fields.specs.Plain.{data_of, members_of}
 use Rattle.json_fields.proofs.PlainValues.{members_of-push, member_read, members_over}

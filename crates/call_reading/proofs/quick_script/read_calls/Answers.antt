@@ -1,12 +1,11 @@
 -- Each turn takes a call from the items that are left.
-use Rattle.std.proofs.Common.{◌≡◌, ◌<◌, ◌≤◌, [], ◌∷◌, ◌++◌, length, Some, None, sym, ap, refl, arith, subst, add-one}
+use Rattle.std.proofs.Common.{◌≡◌, ◌<◌, [], ◌∷◌, ◌++◌, length, Some, sym, ap, refl, arith, subst, add-one}
 use Rattle.json.specs.Token.{Token}
 use Rattle.json.specs.Json.{after_end_array, value}
 use Rattle.serde_json.specs.Read.{of_json, converted}
 use Rattle.json_fields.specs.Listed.{StandEach}
 use Rattle.json_fields.proofs.Items.{ItemsLeft-none, ItemsLeft-more, items_over}
 use Rattle.json_fields.proofs.Things.{StandEach-push}
-use Rattle.call_reading.specs.Calls.{call_of}
 use Rattle.call_reading.proofs.Quick.{goes_on, StandFor}
 use Rattle.call_reading.proofs.quick_script.read_calls.Goals as goal
 

@@ -1,5 +1,5 @@
 -- The key, and the object under it.
-use Rattle.std.proofs.Common.{◌≡◌, ◌<◌, length, true, bytes_eq, codes, Some, sym, ap, ◌∙◌, arith}
+use Rattle.std.proofs.Common.{◌≡◌, true, bytes_eq, codes, Some, sym, ap, ◌∙◌, arith}
 use Rattle.std.proofs.lemmas.Slice.Eq.{bytes_eq-Decides}
 use Rattle.json.specs.Json.{read_key}
 use Rattle.json.proofs.Grammar.{read_key-shorter}

@@ -28,6 +28,11 @@ returns c =
         array_read 126 s r q (items_of are.0) (omega arith) opened are.1,
         record { items = are.0; array_is = refl; each = are.2 },
       );
-      shorter = omega (arith, read_key-shorter ts (Some k) s key, ap length opened, add-one (length q),
-          c.in_ok-calls.ensures.shorter);
+      shorter = omega (
+        arith,
+        read_key-shorter ts (Some k) s key,
+        ap length opened,
+        add-one (length q),
+        c.in_ok-calls.ensures.shorter,
+      );
     }

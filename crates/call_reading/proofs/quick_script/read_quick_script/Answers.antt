@@ -1,5 +1,5 @@
 -- What the tokens of the text stand for, the bytes stand for.
-use Rattle.std.proofs.Common.{◌≡◌, codes}
+use Rattle.std.proofs.Common.{codes}
 use Rattle.json_fields.specs.Listed.{IsDocument, IsListOf}
 use Rattle.json_fields.proofs.UsualParts.{value_of_tokens}
 use Rattle.call_reading.proofs.Quick.{StandFor}
