@@ -1,1 +1,3 @@
 pub mod RowsForms
+pub mod Seen
+pub mod Quick

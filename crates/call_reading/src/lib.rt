@@ -1,7 +1,15 @@
-//! The calls that JSON objects stand for.
+//! The calls that JSON objects stand for, in a tree or in the tokens of a text.
 #![tactic(auto)]
 
 mod call;
 mod flow;
+mod found;
+mod quick_call;
+mod quick_line;
+mod quick_script;
+mod read;
 
 pub use call::call_of;
+pub use quick_line::read_quick_line;
+pub use quick_script::read_quick_script;
+pub use read::read_call;
