@@ -1,5 +1,5 @@
 -- Why a call fails that reads and writes nothing.
-use Rattle.std.proofs.Common.{◌≡◌, Bool, true, Result, Ok, Err, sym, ◌∙◌}
+use Rattle.std.proofs.Common.{◌≡◌, Bool, Result, Ok, Err, sym, ◌∙◌}
 use Rattle.std.specs.Prelude.{IfErr}
 use Rattle.text_stream.specs.declared.fault.TextFault.{TextFault}
 use Rattle.text_stream.specs.declared.fault.TextFault.TheVariants.{Input, Memory}

@@ -1,7 +1,5 @@
 -- The first lines that are not blank.
-use Rattle.std.proofs.Common.{◌≡◌, ℕ, true, false, List, [], ◌∷◌, ◌++◌, length, refl, sym, ap, ◌∙◌, arith}
-use Rattle.std.specs.Prelude.{◌≢◌}
-use Rattle.line_stream.specs.Lines.{lines_of}
+use Rattle.std.proofs.Common.{◌≡◌, ℕ, true, false, List, ◌∷◌, refl}
 use Rattle.live_command.specs.Spoken.{is_spoken, spoken}
 
 -- a line that is not blank is the first

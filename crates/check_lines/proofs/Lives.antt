@@ -1,5 +1,5 @@
 -- What was found in the input of a conversation, and what was written of it.
-use Rattle.std.proofs.Common.{◌≡◌, ℕ, List, Option, refl, subst}
+use Rattle.std.proofs.Common.{ℕ, List, Option, refl, subst}
 use Rattle.std.specs.Io.KnownBytes.{Appends}
 use Rattle.check_lines.specs.declared.live.LiveReport.{LiveReport}
 use Rattle.check_lines.specs.declared.live.LiveReport.TheVariants as report

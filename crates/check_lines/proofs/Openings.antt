@@ -13,7 +13,7 @@ use Rattle.text_stream.specs.declared.fault.TextFault.{TextFault}
 use Rattle.text_stream.specs.declared.fault.TextFault.TheVariants.{Input, TooLong, NotJson, Shape, Config, Memory}
 use Rattle.text_stream.specs.declared.fault.TextFault.TheVariants.{Output}
 use Rattle.live_command.specs.Spoken.{is_spoken, spoken}
-use Rattle.live_command.specs.Opening.{opening_in, opening_of_line, Opens, PassesAll}
+use Rattle.live_command.specs.Opening.{opening_of_line, PassesAll}
 use Rattle.live_command.specs.Talk.{BeginsWith}
 use Rattle.live_command.proofs.Saying.{spoken-append}
 use Rattle.live_command.proofs.Talking.{TakesLines-none, TakesLines-trans, TakesLines-front}
@@ -21,7 +21,7 @@ use Rattle.live_command.proofs.OpeningFaults.{opens}
 use Rattle.check_lines.proofs.Fronts.{prepend-none}
 use Rattle.check_lines.specs.declared.opening.Opening.{Opening}
 use Rattle.check_lines.specs.declared.opening.Opening.TheVariants.{Lawful, Faulty}
-use Rattle.check_lines.specs.Opening.{HasEndlessLine, HasTooManyLines, StopsLines, TellsNumbered, FindsOpening, IsOpening, OpensAt, FailsAt}
+use Rattle.check_lines.specs.Opening.{HasTooManyLines, StopsLines, TellsNumbered, FindsOpening, IsOpening, OpensAt, FailsAt}
 
 -- the input has ended behind lines that were taken
 pub TakesLines-ended : (a b c : Option (List ℕ)) (xs : List (List ℕ)) → TakesLines a xs b → HasEnded b c

@@ -18,10 +18,13 @@ unfoldable pub torn_text : ℕ → List ℕ
 torn_text torn =
     if torn == 0 then [] else number_line (codes "bytes behind the last newline, which count for nothing:") torn
 
+-- that a journal is legal
+unfoldable pub good_text : List ℕ
+good_text = text_line (codes "good journal")
+
 -- that a journal is legal, and what it has
 unfoldable pub legal_text : ℕ → ℕ → List ℕ
-legal_text entries torn =
-    text_line (codes "good journal") ++ (number_line (codes "entries:") entries ++ torn_text torn)
+legal_text entries torn = good_text ++ (number_line (codes "entries:") entries ++ torn_text torn)
 
 -- what is said first of a journal that ends so, with so many entries where it is legal
 unfoldable pub end_text : EntriesEnd → ℕ → List ℕ

@@ -1,5 +1,5 @@
 -- The exit status by which the command for a file ends.
-use Rattle.std.specs.Prelude.{ℕ, Option, Some, None}
+use Rattle.std.specs.Prelude.{ℕ, Some, None}
 use Rattle.text_stream.specs.declared.run_fault.RunFault.TheVariants.{Text}
 use Rattle.text_stream.specs.RunFault.{exit_status_of}
 use Rattle.journal_entries.specs.End as ends

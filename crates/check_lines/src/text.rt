@@ -2,7 +2,7 @@
 
 ghost use Rattle.std.specs.Prelude.{◌≡◌, ◌++◌, Option};
 ghost use Rattle.text_stream.specs.Writing.{Writes};
-ghost use Rattle.check_lines.specs.Text.{text_line, torn_text, legal_text, end_text, place_text, opening_text};
+ghost use Rattle.check_lines.specs.Text.{text_line, torn_text, good_text, legal_text, end_text, place_text, opening_text};
 ghost use Rattle.check_lines.specs.Text.{bad_line_text, bad_text, more_text, talk_text};
 
 use crate::live::MOST;
@@ -36,13 +36,21 @@ fn put_torn<W: Sink>(writer: &mut W, torn: u64) -> Result<(), TextFault>
     )
 }
 
+// That a journal is legal.
+#[tactic(auto, unfolding(crate::specs::Text::good_text))]
+fn put_good<W: Sink>(writer: &mut W) -> Result<(), TextFault>
+    ensures { Writes W.contents W.has_failed writer.old writer.new good_text result }
+{
+    put_text_line(writer, b"good journal")
+}
+
 // That a journal is legal, and what it has.
 #[tactic(auto, unfolding(crate::specs::Text::legal_text))]
 fn put_legal<W: Sink>(writer: &mut W, entries: u64, torn: u64) -> Result<(), TextFault>
     ensures { Writes W.contents W.has_failed writer.old writer.new
         (legal_text entries torn) result }
 {
-    put_text_line(writer, b"good journal")?;
+    put_good(writer)?;
     put_named(writer, b"entries:", entries)?;
     put_torn(writer, torn)
 }

@@ -1,10 +1,9 @@
 -- An entry more, and whatever ends the reading.
-use Rattle.std.proofs.Common.{◌+◌, ◌∷◌, ◌++◌, [], length, ap, ◌∙◌, arith, length-append, inr}
+use Rattle.std.proofs.Common.{◌∷◌, ◌++◌, [], length, ap, ◌∙◌, arith, length-append, inr}
 use Rattle.sched_history.specs.Machine.{Past}
 use Rattle.journal_entries.specs.declared.end.EntriesEnd.TheVariants.{Illegal, Bad}
 use Rattle.journal_entries.specs.Next.{HasGiven}
-use Rattle.check_lines.proofs.Failing.{failed-memory}
-use Rattle.check_lines.proofs.Journals.{FindsEnd-reported, StopsJournal-memory}
+use Rattle.check_lines.proofs.Journals.{FindsEnd-reported}
 use Rattle.check_lines.proofs.journal.read_entries.Goals as goal
 
 pub returns-in-Ok-Illegal-clause-finds : goal.returns-in-Ok-Illegal-clause-finds

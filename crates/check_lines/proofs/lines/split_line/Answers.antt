@@ -1,5 +1,5 @@
 -- The line ends at the first newline.
-use Rattle.std.proofs.Common.{◌≡◌, ◌+◌, ◌-◌, length, take, drop, ap, ◌∙◌}
+use Rattle.std.proofs.Common.{◌+◌, take, drop, ap, ◌∙◌}
 use Rattle.std.proofs.lemmas.List.{take_rest}
 use Rattle.line_stream.specs.Lines.{lines_of}
 use Rattle.line_stream.proofs.Taking.{at_newline, lines_of-line, IsWithinLine-before}
