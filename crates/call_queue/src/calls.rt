@@ -52,8 +52,8 @@ impl<T: Journal, C: Calling<T>> CallQueue<T, C> {
         left
     }
 
-    /// Gives the value back and serves the next ticket, as `leave` does. Then it makes the calls that were left with
-    /// the next tickets.
+    /// Gives the value back and serves the next ticket, as `leave` does. Then it makes the calls that were left with the
+    /// next tickets.
     #[inline(always)]
     pub fn leave_and_go_on<R: Wait>(&self, rt: &R, held: Held<T>, value: T) -> Seat<T>
         requires own { held.lock ≡ self.now }
@@ -109,7 +109,7 @@ impl<T: Journal, C: Calling<T>> CallQueue<T, C> {
     }
 
     /// Leaves a ticket that was not served yet with a call, and waits until the turn was taken, or takes it. It is the
-    /// ticket of the seat with this number. None of it is put into its caller, which does without where nobody waits.
+    /// ticket of the seat with this number. It is never put into its caller, which may go on without it.
     #[inline(never)]
     #[tactic(auto, using(crate::proofs::Turned::turn_looked))]
     pub fn leave_call<R: Wait>(
