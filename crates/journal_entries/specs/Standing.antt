@@ -1,6 +1,7 @@
 -- Which lines of a journal stand for which configuration and entries.
 use Rattle.std.specs.Prelude.{◌≡◌, ℕ, nat_lt, if◌then◌else◌, List, [], ◌∷◌, ◌++◌, length, codes, map, flat_map}
-use Rattle.std.specs.Prelude.{Option, None, Some}
+use Rattle.std.specs.Prelude.{Option, None, Some, is_some, Bool, ◌||◌}
+use Rattle.serde_json.specs.Data.{Data}
 use Rattle.std.specs.Result.{result_ok}
 use Rattle.serde_json.specs.Find.{get}
 use Rattle.minislots.specs.declared.config.Config.{Config}
@@ -20,13 +21,23 @@ in_line stands line = if nat_lt MAX_LINE (length line) then None else stands lin
 abbrev pub lawful_config : Config → Option Config
 lawful_config c = result_ok (unless_wrong (first_wrong c) c)
 
--- the configuration that an opening is: an object that has it under its key
-unfoldable pub opening_in : List ℕ → Option Config
-opening_in bytes = do
-  value ← result_ok (value_of bytes)
+-- whether a value has more than a configuration: a history its entries, a script its calls, a storm its scripts
+abbrev pub is_document : Data → Bool
+is_document value = is_some (get (codes "entries") value) || is_some (get (codes "calls") value)
+    || is_some (get (codes "scripts") value)
+
+-- the lawful configuration that a value has under its key
+abbrev pub config_under : Data → Option Config
+config_under value = do
   found ← get (codes "config") value
   config ← config_of found
   lawful_config config
+
+-- the configuration that an opening is: an object that has it under its key, and is no whole document
+unfoldable pub opening_in : List ℕ → Option Config
+opening_in bytes = do
+  value ← result_ok (value_of bytes)
+  if is_document value then None else config_under value
 
 -- the configuration that the first line of a journal stands for
 abbrev pub config_in_line : List ℕ → Option Config

@@ -1,11 +1,9 @@
 //! What one line of a journal stands for, and what an auditor says of it.
 
-ghost use Rattle.std.specs.Prelude.{◌≡◌, ◌≤◌, codes, length, option_and_then, IfOk, IfErr};
-ghost use Rattle.serde_json.specs.Find.{get};
+ghost use Rattle.std.specs.Prelude.{◌≡◌, ◌≤◌, if◌then◌else◌, None, length, IfOk, IfErr};
 ghost use Rattle.serde_json.specs.View.{view};
-ghost use Rattle.json_fields.specs.Fields.{config_of};
 ghost use Rattle.line_stream.specs.declared.TheConstants.{MAX_LINE};
-ghost use Rattle.journal_entries.specs.Standing.{lawful_config, opening_in, config_in_line};
+ghost use Rattle.journal_entries.specs.Standing.{is_document, config_under, opening_in, config_in_line};
 ghost use Rattle.journal_entries.specs.Taking.{Takes, StopsTaking};
 
 use history_reading::entry_in;
@@ -17,12 +15,28 @@ use serde_json::Value;
 use std::alloc::{AllocError, Global};
 use text_stream::{TextFault, parse};
 
+// Whether a value has more than a configuration: a history, a script or a storm in one line is no opening.
+fn is_document(value: &Value) -> bool
+    ensures { result ≡ is_document (view value.now) }
+{
+    value.get("entries").is_some() || value.get("calls").is_some() || value.get("scripts").is_some()
+}
+
 // The configuration of an opening, where it is lawful.
 fn lawful_in(value: &Value) -> Option<Checked>
-    ensures { result ≡ option_and_then lawful_config
-        (option_and_then config_of (get (codes "config") (view value.now))) }
+    ensures { result ≡ config_under (view value.now) }
 {
     config_in(value)?.check().ok()
+}
+
+// The configuration of a value that is an opening.
+fn opening_of(value: &Value) -> Option<Checked>
+    ensures { result ≡ if is_document (view value.now) then None else config_under (view value.now) }
+{
+    if is_document(value) {
+        return None;
+    }
+    lawful_in(value)
 }
 
 // The configuration that a first line stands for.
@@ -31,7 +45,7 @@ pub(crate) fn opening_in(alloc: Global, line: &[u8]) -> Result<Option<Checked>, 
     ensures { IfOk result (λ config. config ≡ opening_in line.now) }
 {
     match parse(alloc, line) {
-        Ok(value) => Ok(lawful_in(&value)),
+        Ok(value) => Ok(opening_of(&value)),
         Err(TextFault::Memory) => Err(AllocError),
         Err(_) => Ok(None),
     }
