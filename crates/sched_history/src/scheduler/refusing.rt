@@ -1,17 +1,18 @@
 //! Which calls are refused: the tests in their order, of which the first that holds is answered.
 
-ghost use Rattle.std.specs.Prelude.{◌≡◌, ◌≤◌, ◌+◌, ◌∷◌, [], false, not, nat_lt, nat_le, ◌==◌, ◌||◌, ◌&&◌, option_map};
+ghost use Rattle.std.specs.Prelude.{◌≡◌, ◌≤◌, ◌+◌, ◌∷◌, [], false, not, nat_lt, nat_le, ◌==◌, ◌||◌, ◌&&◌, any, option_map};
 ghost use Rattle.flow_book.specs.FlowSpec.{is_periodic, grants_of, takes_requests};
 ghost use Rattle.periodic.specs.declared.TheConstants.{MAX_PERIODIC_GRANTS};
 ghost use Rattle.sched_history.specs.Life.{life_of};
 ghost use Rattle.sched_history.specs.Time.{next_after, progress_of};
 ghost use Rattle.sched_history.specs.Refusal.{bad_sid, is_live, is_silent, periodic_grants, refused_if};
-ghost use Rattle.sched_history.specs.Refusal.{first_of, refusal_of, most_bytes};
+ghost use Rattle.sched_history.specs.Refusal.{first_of, refusal_of, most_bytes, most_exponent};
 
 use super::present::Present;
 use crate::call::Call;
 use crate::reply::Refusal;
 use flow_book::{FlowSpec, MAX_FLOWS};
+use map_build::Usage;
 use periodic::MAX_PERIODIC_GRANTS;
 
 // The greatest SID of a flow.
@@ -20,6 +21,8 @@ const LAST_SID: u16 = 8191;
 const MOST_BYTES: u32 = 1_048_560;
 // The most minislots that are described ahead.
 const MOST_AHEAD: u64 = 4096;
+// The greatest exponent of a backoff window.
+const MOST_EXPONENT: u8 = 15;
 // The greatest clock.
 const LAST_CLOCK: u64 = 1 << 60;
 
@@ -44,6 +47,18 @@ pub(super) fn takes_requests(spec: FlowSpec) -> bool
     !matches!(spec, FlowSpec::Unsolicited { .. })
 }
 
+// The refusal of exponents of backoff windows.
+fn refuse_backoff(exponents: [u8; 4]) -> Option<Refusal>
+    ensures { result ≡ refused_if (any (λ e. nat_lt most_exponent e) exponents) Refusal.BadBackoff }
+{
+    for exponent in exponents {
+        if exponent > MOST_EXPONENT {
+            return Some(Refusal::BadBackoff);
+        }
+    }
+    None
+}
+
 impl<'a> Present<'a> {
     // The first refusal of a call.
     pub(crate) fn refusal_of(&self, call: Call) -> Option<Refusal>
@@ -64,6 +79,14 @@ impl<'a> Present<'a> {
             Call::Heard { receiver, upto } => self.refuse_progress(receiver, upto),
             Call::Build { now } => self.refuse_build(now),
             Call::Skip { now } => self.refuse_skip(now),
+            Call::Reserve { usage, slots } => self.refuse_reserve(usage, slots),
+            Call::Header {
+                ranging_start,
+                ranging_end,
+                data_start,
+                data_end,
+                ..
+            } => refuse_backoff([ranging_start, ranging_end, data_start, data_end]),
         }
     }
 
@@ -182,6 +205,24 @@ impl<'a> Present<'a> {
             Some(Refusal::Ahead(self.state.next))
         } else if upto < progress {
             Some(Refusal::Backwards(progress))
+        } else {
+            None
+        }
+    }
+
+    // The refusal of a Reserve.
+    fn refuse_reserve(&self, usage: Usage, slots: u32) -> Option<Refusal>
+        ensures { result ≡ refusal_of self.now.config self.now.history (Call.Reserve usage slots) }
+    {
+        let config = &self.state.config;
+        if let Usage::Station(sid) = usage
+            && is_bad_sid(sid)
+        {
+            Some(Refusal::BadSid)
+        } else if slots == 0 || slots > config.frame() - config.req_slots() {
+            Some(Refusal::BadLength)
+        } else if self.state.reserves.is_full() {
+            Some(Refusal::ReservesFull)
         } else {
             None
         }
