@@ -1,5 +1,6 @@
 -- What stands at the offset that a draft has reached: the first of the first rank that is not empty.
-use Rattle.std.proofs.Common.{◌≡◌, ℕ, zero, suc, ◌+◌, ◌-◌, ◌<◌, ◌≤◌, ◌⊎◌, Bool, true, false, List, [], ◌∷◌, length, Contains}
+use Rattle.std.proofs.Common.{◌≡◌, ℕ, zero, suc, ◌+◌, ◌-◌, ◌<◌, ◌≤◌, ◌⊎◌, Bool, true, false, List, [], ◌∷◌, length}
+use Rattle.std.proofs.Common.{Contains}
 use Rattle.std.proofs.Common.{◌==◌, Option, None, Some, inl, inr, refl, sym, ap, ◌∙◌, subst, arith}
 use Rattle.std.specs.Option.{IsSomeAnd}
 use Rattle.std.specs.List.{AllByRecursion, slice_get}
@@ -18,9 +19,10 @@ use Rattle.map_build.specs.Plan.{Demand, demand_at, room_at, end_of, most_grants
 use Rattle.map_build.specs.Plan.{NoneToMeet, Stands}
 use Rattle.map_build.specs.FrameMap.{AreMet}
 use Rattle.map_build.specs.Spots.{AreInFrame}
-use Rattle.map_build.specs.Walk.{IsAfter, IsNextAmount, grant_here}
+use Rattle.map_build.specs.Walk.{HasSame, IsAfter, IsNextAmount, NoneServed, grant_here, Meets, Serves, Chooses}
 use Rattle.map_build.proofs.Offers.{place-below}
 use Rattle.map_build.proofs.Standings.{spot-within, found-in, equal}
+use Rattle.map_build.proofs.Takings.{Knows-spot, Knows-idle}
 
 spot-cond : (c : Config) (d : Demand) (plan : List Allocation) (poll : Bool) (sid offset slots : ℕ) → 0 < slots →
     offset ≡ end_of c plan →
@@ -152,4 +154,71 @@ module _ (flows : List LiveFlow) (spots : List Spot) (waiting : List Opportunity
         ),
       ),
     );
+  }
+
+same-draft : (d : Draft) → HasSame d d
+same-draft d = record { elements = refl; bytes_of = refl; offset = refl }
+
+-- the spot that begins here stands next
+pub Chooses-spot : (spots : List Spot) (waiting : List Opportunity) (s : Spot) (d : Draft) →
+    AreInFrame d.book.config spots → Contains spots s → s.offset ≡ d.offset →
+    Chooses spots waiting (allocation_of s) d d
+Chooses-spot spots waiting s d are is here = record {
+  knows = Knows-spot s d;
+  same = same-draft d;
+  here = here;
+  stands = λ flows plan after.
+      spot-stands d.book.config (demand_at flows spots waiting d.start) plan s are is (here ∙ after.ends);
+}
+
+module _ (spots : List Spot) (waiting : List Opportunity) (room : ℕ) (old : Draft)
+    (room_is : room ≡ room_at old.book.config spots old.offset) (some : 0 < room) (may : MayWait waiting)
+    (long : length old.met ≡ 16) where
+  behind : 0 < room_at old.book.config spots old.offset
+  behind = omega (arith, room_is)
+
+  -- where no spot does, the first opportunity that waits and fits
+  pub Chooses-offer : (a : Allocation) (new : Draft) → Meets waiting room a old new → Chooses spots waiting a old new
+  Chooses-offer a new meets = record {
+    knows = meets.knows;
+    same = meets.same;
+    here = ap (λ (b : Allocation). b.offset) meets.is;
+    stands = λ flows plan after.
+        let first = first-to-meet waiting old.met plan room may long after.met meets.place meets.first in
+        rw meets.is
+        (offer-stands flows spots waiting plan old after behind meets.place meets.first.is.opportunity
+        (waiting-some waiting meets.place meets.first.is.opportunity may.some_slots meets.first.is.waits)
+        (subst (λ r. IsFirstToMeet waiting plan r meets.place meets.first.is.opportunity) room_is first));
+  }
+
+  none-fits : NoneUnmet waiting old.met room → (flows : List LiveFlow) (plan : List Allocation) →
+      IsAfter flows plan old → NoneToMeet waiting plan (room_at old.book.config spots old.offset)
+  none-fits none flows plan after =
+      subst (NoneToMeet waiting plan) room_is (none-to-meet waiting old.met plan room may long after.met none)
+
+  -- where there is none, a data grant of its amount to the flow that is next
+  pub Chooses-grant : (a : Allocation) (new : Draft) → NoneUnmet waiting old.met room → 0 < old.book.config.overhead →
+      Serves waiting room a old new → Chooses spots waiting a old new
+  Chooses-grant a new none overhead serves = record {
+    knows = serves.knows;
+    same = serves.same;
+    here = ap (λ (b : Allocation). b.offset) serves.is;
+    stands = λ flows plan after.
+        rw serves.is
+        (grant-stands flows spots waiting plan old after behind serves.sid serves.bytes overhead serves.few
+        (none-fits none flows plan after)
+        (subst (λ r. IsNextAmount old r serves.sid serves.bytes) room_is serves.next));
+  }
+
+  -- and where none may stand either, an idle
+  pub Chooses-idle : NoneUnmet waiting old.met room → NoneServed waiting old room →
+      Chooses spots waiting (record { offset = old.offset; slots = room; purpose = Idle }) old old
+  Chooses-idle none served = record {
+    knows = Knows-idle old.offset room old;
+    same = same-draft old;
+    here = refl;
+    stands = λ flows plan after.
+        rw room_is
+        (idle-stands flows spots waiting plan old after behind (none-fits none flows plan after)
+        (subst (NoneServed waiting old) room_is served));
   }

@@ -60,7 +60,8 @@ here-first c (s ∷ spots) offset are ahead =
 abbrev pub with_spots : List Spot → Demand → Demand
 with_spots left d = record d { spots = left }
 
-all-weaker : {X : Type 0} (P Q : X → Type 0) (xs : List X) → ((x : X) → P x → Q x) → AllByRecursion P xs →
+-- what holds of each holds where it is weaker
+pub all-weaker : {X : Type 0} (P Q : X → Type 0) (xs : List X) → ((x : X) → P x → Q x) → AllByRecursion P xs →
     AllByRecursion Q xs
 all-weaker P Q [] weaker all = tt
 all-weaker P Q (x ∷ xs) weaker all = (weaker x all.0, all-weaker P Q xs weaker all.1)

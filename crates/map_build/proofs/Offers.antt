@@ -1,6 +1,7 @@
 -- How many opportunities a plan has: each that waits is met at most once.
 use Rattle.std.proofs.Common.{◌≡◌, ℕ, zero, suc, ◌+◌, ◌<◌, ◌≤◌, Bool, true, false, ◌||◌, not, ◌==◌, List, [], ◌∷◌}
-use Rattle.std.proofs.Common.{◌⊎◌, inl, inr, ◌++◌, length, Contains, Option, None, Some, if◌then◌else◌, refl, sym, ap, ◌∙◌, arith}
+use Rattle.std.proofs.Common.{◌⊎◌, inl, inr, ◌++◌, length, Contains, Option, None, Some, if◌then◌else◌, refl, sym, ap}
+use Rattle.std.proofs.Common.{◌∙◌, arith}
 use Rattle.std.specs.List.{slice_get}
 use Rattle.std.proofs.lemmas.Bool.Decides.{nat_tests}
 use Rattle.map_build.specs.declared.opportunity.Opportunity.{Opportunity}
@@ -11,7 +12,7 @@ use Rattle.map_build.proofs.Clear.{contains-later}
 use Rattle.std.proofs.lemmas.List.Elements.{Contains-push}
 
 -- whether it is this place
-abbrev is_at : ℕ → Option ℕ → Bool
+abbrev pub is_at : ℕ → Option ℕ → Bool
 is_at n None = false
 is_at n (Some m) = n == m
 
@@ -36,6 +37,26 @@ is_met-met [] n is = absurd (cc)
 is_met-met (a ∷ plan) n is =
     met-cond (is_at n (place_of a.purpose)) n a plan refl (λ rest. is_met-met plan n rest) is
 
+met-here-cond : (b d : Bool) → b ≡ true → (if b then true else d) ≡ true
+met-here-cond true d is = refl
+met-here-cond false d is = absurd (cc)
+
+met-later-cond : (b d : Bool) → d ≡ true → (if b then true else d) ≡ true
+met-later-cond true d is = refl
+met-later-cond false d is = is
+
+at-here : (n : ℕ) → is_at n (Some n) ≡ true
+at-here n = grind (arith, nat_tests)
+
+-- where it is met the test holds
+pub met-is_met : (plan : List Allocation) (n : ℕ) → IsMetIn plan n → is_met plan n ≡ true
+met-is_met [] n (b, (k, lt, at), is) = absurd (omega arith)
+met-is_met (a ∷ plan) n (b, (zero, lt, at), is) =
+    met-here-cond (is_at n (place_of a.purpose)) (is_met plan n)
+    (ap (λ (x : Allocation). is_at n (place_of x.purpose)) at ∙ ap (is_at n) is ∙ at-here n)
+met-is_met (a ∷ plan) n (b, (suc k, lt, at), is) =
+    met-later-cond (is_at n (place_of a.purpose)) (is_met plan n) (met-is_met plan n (b, (k, omega arith, at), is))
+
 unmet-bool : (b : Bool) → (b ≡ true → ⊥) → b ≡ false
 unmet-bool true never = absurd (never refl)
 unmet-bool false never = refl
@@ -44,11 +65,13 @@ unmet-bool false never = refl
 pub unmet-test : (plan : List Allocation) (n : ℕ) → (IsMetIn plan n → ⊥) → is_met plan n ≡ false
 unmet-test plan n never = unmet-bool (is_met plan n) (λ is. never (is_met-met plan n is))
 
-push-cond : (b d e : Bool) → (if b then true else (if d then true else e)) ≡ (if (if b then true else d) then true else e)
+push-cond : (b d e : Bool) →
+    (if b then true else (if d then true else e)) ≡ (if (if b then true else d) then true else e)
 push-cond true d e = refl
 push-cond false d e = refl
 
-is_met-push : (plan : List Allocation) (a : Allocation) (n : ℕ) →
+-- with one allocation more it is met, or is that one
+pub is_met-push : (plan : List Allocation) (a : Allocation) (n : ℕ) →
     is_met (plan ++ a ∷ []) n ≡ (if is_met plan n then true else is_at n (place_of a.purpose))
 is_met-push [] a n = last (is_at n (place_of a.purpose))
   where
@@ -123,6 +146,10 @@ place-below (w ∷ waiting) (suc place) o is = omega (arith, place-below waiting
 only-it : (a b : Allocation) (n : ℕ) → Contains (a ∷ []) b → place_of b.purpose ≡ Some n → place_of a.purpose ≡ Some n
 only-it a b n (zero, lt, at) is = ap (λ (x : Allocation). place_of x.purpose) at ∙ is
 only-it a b n (suc k, lt, at) is = absurd (omega arith)
+
+-- what one allocation meets is the opportunity that it is
+pub met-only : (a : Allocation) (n : ℕ) → IsMetIn (a ∷ []) n → place_of a.purpose ≡ Some n
+met-only a n (b, has, is) = only-it a b n has is
 
 -- what the last allocation meets a plan meets
 pub met-here : (plan : List Allocation) (a : Allocation) (n : ℕ) → IsMetIn (a ∷ []) n → IsMetIn (plan ++ a ∷ []) n

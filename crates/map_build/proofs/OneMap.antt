@@ -155,8 +155,7 @@ module _ (c : Config) (d : Demand) (overhead : 0 < c.overhead) (apart : BeginApa
   one_of_rank before offset slots slots' purpose purpose' Reserved (place, o, first, long, is)
       (place', o', first', long', is') =
       let same : place ≡ place' = omega (arith, first.first place' o' first'.may, first'.first place o first.may) in
-      let one : o ≡ o' = ap (told o) (sym first.may.waits ∙ ap (slice_get d.waiting) same ∙ first'.may.waits) in
-      (
+      let one : o ≡ o' = ap (told o) (sym first.may.waits ∙ ap (slice_get d.waiting) same ∙ first'.may.waits) in (
         long ∙ ap (λ p. p.slots) one ∙ sym long',
         is ∙ ap (λ n. Offer n o.usage) same ∙ ap (λ p. Offer place' p.usage) one ∙ sym is',
       )

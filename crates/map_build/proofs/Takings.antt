@@ -1,12 +1,134 @@
--- Steps of a draft: the element of an allocation of which its book knows is an allocation more.
-use Rattle.std.proofs.Common.{◌≡◌, ◌∷◌, [], ◌++◌, refl, sym, ap, ◌∙◌, arith}
-use Rattle.flow_book.specs.Book.{BookView, room_of}
+-- Steps of a draft: it knows of an allocation, whose element is to come; then it has its element.
+use Rattle.std.proofs.Common.{◌≡◌, ◌≢◌, ℕ, zero, suc, ◌+◌, ◌<◌, ◌≤◌, Bool, true, false, ◌==◌, List, [], ◌∷◌, ◌++◌}
+use Rattle.std.proofs.Common.{length, Option, None, Some, ◌⊎◌, set, unwrap_or, inl, inr, refl, sym, ap, subst, ◌∙◌, arith}
+use Rattle.std.specs.List.{slice_get}
+use Rattle.std.proofs.lemmas.Bool.Decides.{nat_tests}
+use Rattle.flow_book.specs.Flows.{with_grant}
+use Rattle.flow_book.specs.Book.{BookView, Room, room_of, changed}
+use Rattle.periodic.specs.declared.placement.Spot.{Spot}
 use Rattle.map_build.specs.declared.draft.Draft.{Draft}
+use Rattle.map_build.specs.declared.opportunity.Opportunity.{Opportunity}
 use Rattle.map_build.specs.declared.purpose.Allocation.{Allocation}
-use Rattle.map_build.specs.Purpose.{element_of, bytes_in}
-use Rattle.map_build.specs.Plan.{flows_after, grants_in, IsMetIn}
+use Rattle.map_build.specs.declared.purpose.Purpose.TheVariants.{Poll, UnsolicitedGrant, Idle}
+use Rattle.map_build.specs.Purpose.{element_of, bytes_in, place_of, allocation_of}
+use Rattle.map_build.specs.Plan.{flows_after, grants_in, grants_to, IsMetIn}
 use Rattle.map_build.specs.Draft.{PutsAllocation}
-use Rattle.map_build.specs.Walk.{Knows, HasSame, Takes}
+use Rattle.map_build.specs.Walk.{Knows, HasSame, Takes, offer_here, grant_here}
+use Rattle.map_build.proofs.FlowsAfter.{flows_after-none, flows_after-grant}
+use Rattle.map_build.proofs.Offers.{met-only}
+
+-- of an allocation that grants nothing, and is no opportunity, there is nothing to know
+Knows-nothing : (a : Allocation) (d : Draft) → grants_in (a ∷ []) ≡ 0 →
+    ((sid : ℕ) → grants_to d.start sid (a ∷ []) ≡ []) → place_of a.purpose ≡ None → Knows a d d
+Knows-nothing a d grants none nowhere = record {
+  config = refl;
+  flows = sym (flows_after-none d.start a d.book.flows none);
+  grants = omega (arith, grants);
+  rooms = λ sid. omega arith;
+  met = λ place is. inl is;
+  kept = λ place is. is;
+  new_met = λ place is. let it = met-only a place is in absurd (cc);
+  start = refl;
+}
+
+spot-known : (poll : Bool) (sid offset slots : ℕ) (d : Draft) →
+    Knows (allocation_of (record { sid = sid; poll = poll; offset = offset; slots = slots })) d d
+spot-known true sid offset slots d =
+    Knows-nothing (record { offset = offset; slots = slots; purpose = Poll sid }) d refl (λ other. refl) refl
+spot-known false sid offset slots d =
+    Knows-nothing (record { offset = offset; slots = slots; purpose = UnsolicitedGrant sid }) d refl (λ other. refl)
+    refl
+
+-- so it is of a spot
+pub Knows-spot : (s : Spot) (d : Draft) → Knows (allocation_of s) d d
+Knows-spot s d = spot-known s.poll s.sid s.offset s.slots d
+
+-- and of an idle
+pub Knows-idle : (offset slots : ℕ) (d : Draft) →
+    Knows (record { offset = offset; slots = slots; purpose = Idle }) d d
+Knows-idle offset slots d =
+    Knows-nothing (record { offset = offset; slots = slots; purpose = Idle }) d refl (λ other. refl) refl
+
+set-here : (met : List Bool) (i : ℕ) → i < length met → slice_get (set met i true) i ≡ Some true
+set-here [] i lt = absurd (omega arith)
+set-here (b ∷ met) zero lt = refl
+set-here (b ∷ met) (suc i) lt = set-here met i (omega arith)
+
+set-kept : (met : List Bool) (i j : ℕ) → slice_get met j ≡ Some true → slice_get (set met i true) j ≡ Some true
+set-kept [] i j is = is
+set-kept (b ∷ met) zero zero is = refl
+set-kept (b ∷ met) zero (suc j) is = is
+set-kept (b ∷ met) (suc i) zero is = is
+set-kept (b ∷ met) (suc i) (suc j) is = set-kept met i j is
+
+set-old : (met : List Bool) (i j : ℕ) → slice_get (set met i true) j ≡ Some true →
+    (slice_get met j ≡ Some true) ⊎ (i ≡ j)
+set-old [] i j is = inl is
+set-old (b ∷ met) zero zero is = inr refl
+set-old (b ∷ met) zero (suc j) is = inl is
+set-old (b ∷ met) (suc i) zero is = inl is
+set-old (b ∷ met) (suc i) (suc j) is = elim (set-old met i j is) [
+  | inl before ↦ inl before
+  | inr here ↦ inr (ap suc here)
+]
+
+-- a draft with the mark of a place knows of the opportunity of that place
+pub Knows-offer : (place : ℕ) (o : Opportunity) (old new : Draft) → place < length old.met →
+    new.met ≡ set old.met place true → new.book ≡ old.book → new.grants ≡ old.grants → new.start ≡ old.start →
+    Knows (offer_here old place o) old new
+Knows-offer place o old new lt marks book grants start =
+    let a : Allocation = offer_here old place o in
+    let it : IsMetIn (a ∷ []) place = (a, (zero, omega arith, refl), refl) in
+    record {
+      config = ap (λ b. b.config) book;
+      flows = ap (λ b. b.flows) book ∙ sym (flows_after-none old.start a old.book.flows (λ other. refl));
+      grants = omega (arith, grants);
+      rooms = λ sid. omega (arith, ap (λ (b : BookView). room_of sid b.rooms) book);
+      met = λ other is. elim (set-old old.met place other (rw marks at is)) [
+        | inl before ↦ inl before
+        | inr here ↦ inr (subst (λ n. IsMetIn (a ∷ []) n) here it)
+      ];
+      kept = λ other is. rw marks (set-kept old.met place other is);
+      new_met = λ other is.
+          let here : place ≡ other = ap (λ (m : Option ℕ). unwrap_or m other) (met-only a other is) in
+          subst (λ n. slice_get new.met n ≡ Some true) here (rw marks (set-here old.met place lt));
+      start = start;
+    }
+
+room-cond : (old new : List Room) (sid other : ℕ) (b : Bool) → (other == sid) ≡ b →
+    room_of sid new + 1 ≡ room_of sid old → (other ≢ sid → room_of other new ≡ room_of other old) →
+    room_of other old ≤ room_of other new + 1
+room-cond old new sid other true test here there =
+    let same : sid ≡ other = grind (arith, nat_tests) in
+    omega (arith, subst (λ n. room_of n new + 1 ≡ room_of n old) same here)
+room-cond old new sid other false test here there =
+    let apart : other ≢ sid = λ e. grind (arith, nat_tests) in omega (arith, there apart)
+
+-- a draft whose book has a data grant more knows of it
+pub Knows-grant : (sid bytes : ℕ) (old new : Draft) → new.book.config ≡ old.book.config →
+    new.book.flows ≡ changed sid (with_grant (record { start = old.start + old.offset; bytes = bytes })) old.book.flows
+    → room_of sid new.book.rooms + 1 ≡ room_of sid old.book.rooms →
+    ((other : ℕ) → other ≢ sid → room_of other new.book.rooms ≡ room_of other old.book.rooms) →
+    new.grants ≡ old.grants + 1 → new.met ≡ old.met → new.start ≡ old.start →
+    Knows (grant_here old sid bytes) old new
+Knows-grant sid bytes old new config flows room other_room grants marks start =
+    let a : Allocation = grant_here old sid bytes in
+    let one : grants_in (a ∷ []) ≡ 1 = refl in
+    record {
+      config = config;
+      flows = flows ∙ sym (flows_after-grant old.start sid old.offset a.slots bytes old.book.flows);
+      grants = omega (arith, grants, one);
+      rooms = λ other.
+          omega (
+            arith,
+            room-cond old.book.rooms new.book.rooms sid other (other == sid) refl room (other_room other),
+            one,
+          );
+      met = λ place is. inl (rw marks at is);
+      kept = λ place is. rw marks is;
+      new_met = λ place is. let it = met-only a place is in absurd (cc);
+      start = start;
+    }
 
 -- a draft that knows of an allocation, and then has its element
 pub Takes-put : (a : Allocation) (old mid new : Draft) → Knows a old mid → HasSame old mid → a.offset ≡ old.offset →

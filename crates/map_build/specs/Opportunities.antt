@@ -1,7 +1,9 @@
 -- The opportunities that wait for a MAP, and the header of a MAP.
-use Rattle.std.specs.Prelude.{◌≡◌, ℕ, ◌<◌, ◌≤◌, Bool, true, false, List, length, Option, Some}
+use Rattle.std.specs.Prelude.{◌≡◌, ℕ, ◌+◌, ◌<◌, ◌≤◌, Bool, true, false, List, length, Option, Some}
 use Rattle.std.specs.List.{AllByRecursion, slice_get}
 use Rattle.minislots.specs.declared.config.Config.{Config}
+use Rattle.periodic.specs.declared.placement.Spot.{Spot}
+use Rattle.periodic.specs.Placement.{AreFree}
 use Rattle.map_build.specs.declared.TheConstants.{MAX_WAITING}
 use Rattle.map_build.specs.declared.opportunity.Header.{Header}
 use Rattle.map_build.specs.declared.opportunity.Opportunity.{Opportunity}
@@ -47,3 +49,16 @@ pub record IsFirstUnmet (waiting : List Opportunity) (met : List Bool) (room pla
 -- there is none such
 abbrev pub NoneUnmet : List Opportunity → List Bool → ℕ → Type 0
 NoneUnmet waiting met room = (place : ℕ) → IsUnmet waiting met room place → ⊥
+
+-- somewhere behind the request region of a frame so many minislots stand together of which no spot has one
+pub record HasGap (c : Config) (spots : List Spot) (slots : ℕ) : Type 0 where
+  pub from : ℕ
+  pub behind : c.req_slots ≤ from
+  pub within : from + slots ≤ c.frame
+  pub free : AreFree spots from slots
+
+-- Of the opportunities that wait a MAP with these marks has the first one exactly where its frame has such a gap for
+-- it. So only polls and unsolicited grants can make it wait, and never data.
+pub record MeetsFirst (c : Config) (spots : List Spot) (waiting : List Opportunity) (met : List Bool) : Type 0 where
+  pub meets : (o : Opportunity) → slice_get waiting 0 ≡ Some o → HasGap c spots o.slots → slice_get met 0 ≡ Some true
+  pub only : (o : Opportunity) → slice_get waiting 0 ≡ Some o → slice_get met 0 ≡ Some true → HasGap c spots o.slots

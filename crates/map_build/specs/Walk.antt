@@ -46,13 +46,22 @@ pub record HasSame (old new : Draft) : Type 0 where
   pub bytes_of : new.bytes.items ≡ old.bytes.items
   pub offset : new.offset ≡ old.offset
 
--- the first opportunity that waits and fits so many minislots, which the draft has more; if there is none nothing
--- changes
+-- the opportunity of a place here
+abbrev pub offer_here : Draft → ℕ → Opportunity → Allocation
+offer_here d place o = record { offset = d.offset; slots = o.slots; purpose = Offer place o.usage }
+
+-- the draft knows of the first opportunity that waits and is at most as long as the room; its element is to come
+pub record Meets (waiting : List Opportunity) (room : ℕ) (a : Allocation) (old new : Draft) : Type 0 where
+  pub knows : Knows a old new
+  pub same : HasSame old new
+  pub place : ℕ
+  pub first : IsFirstUnmet waiting old.met room place
+  pub is : a ≡ offer_here old place first.is.opportunity
+
+-- the draft knows of that opportunity; if there is none nothing changes
 abbrev pub MeetsNext : List Opportunity → ℕ → Option Allocation → Draft → Draft → Type 0
 MeetsNext waiting room None old new = (new ≡ old) × NoneUnmet waiting old.met room
-MeetsNext waiting room (Some a) old new = Knows a old new × HasSame old new × (a.offset ≡ old.offset)
-    × (place : ℕ) × (o : Opportunity) × (slice_get waiting place ≡ Some o) × IsFirstUnmet waiting old.met room place
-    × (a.purpose ≡ Offer place o.usage) × (a.slots ≡ o.slots)
+MeetsNext waiting room (Some a) old new = Meets waiting room a old new
 
 -- a data grant here
 abbrev pub grant_here : Draft → ℕ → ℕ → Allocation
@@ -68,13 +77,25 @@ IsNextAmount d room sid bytes = IsSomeAnd (flow_of sid d.book.flows)
     (λ f. IsNext d.book.config d.book.flows (d.start + d.offset) room f
     × IsAmount d.book.config f (d.start + d.offset) room bytes)
 
--- the data grant of its amount to the flow that is next, which the book of the draft has more; if none may stand here
--- nothing changes
-abbrev pub GrantsNext : ℕ → ℕ → Option Allocation → Draft → Draft → Type 0
-GrantsNext waiting room None old new = (new ≡ old) × ((93 ≤ old.grants + waiting)
-    ⊎ NoneEligible old.book.config old.book.flows (old.start + old.offset) room)
-GrantsNext waiting room (Some a) old new = Knows a old new × HasSame old new × (old.grants + waiting < 93)
-    × (sid : ℕ) × (bytes : ℕ) × IsNextAmount old room sid bytes × (a ≡ grant_here old sid bytes)
+-- no more data grant stands here, in so many minislots: there are as many as may be, or no flow is eligible
+abbrev pub NoneServed : List Opportunity → Draft → ℕ → Type 0
+NoneServed waiting d room = (most_grants waiting ≤ d.grants)
+    ⊎ NoneEligible d.book.config d.book.flows (d.start + d.offset) room
+
+-- the draft knows of a data grant, of its amount, to the flow that is next; its element is to come
+pub record Serves (waiting : List Opportunity) (room : ℕ) (a : Allocation) (old new : Draft) : Type 0 where
+  pub knows : Knows a old new
+  pub same : HasSame old new
+  pub few : old.grants < most_grants waiting
+  pub sid : ℕ
+  pub bytes : ℕ
+  pub next : IsNextAmount old room sid bytes
+  pub is : a ≡ grant_here old sid bytes
+
+-- the draft knows of that data grant; if none may stand here nothing changes
+abbrev pub ServesNext : List Opportunity → ℕ → Option Allocation → Draft → Draft → Type 0
+ServesNext waiting room None old new = (new ≡ old) × NoneServed waiting old room
+ServesNext waiting room (Some a) old new = Serves waiting room a old new
 
 -- the draft is where this plan ends, and its book has the plan's grants
 pub record IsAfter (flows : List LiveFlow) (plan : List Allocation) (d : Draft) : Type 0 where

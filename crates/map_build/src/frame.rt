@@ -6,7 +6,7 @@ ghost use Rattle.map_codec.specs.WireMap.{IsWellFormed};
 ghost use Rattle.flow_book.specs.Choice.{HasStartedBy};
 ghost use Rattle.periodic.specs.Placement.{spots_in};
 ghost use Rattle.map_build.specs.declared.frame_map.FrameMap.{FrameMap};
-ghost use Rattle.map_build.specs.Opportunities.{header_of, MayWait, HaveStationSids};
+ghost use Rattle.map_build.specs.Opportunities.{header_of, MayWait, HaveStationSids, MeetsFirst};
 ghost use Rattle.map_build.specs.Plan.{Demand, demand_at};
 ghost use Rattle.map_build.specs.FrameMap.{IsLawfulMap, IsLawfulFrame};
 ghost use Rattle.map_build.specs.Spots.{AreInFrame, AreOfChannel, HaveFlowSids, ArePeriodicOf};
@@ -57,6 +57,7 @@ fn plan_around(
         (demand_at book.now.flows spots.now waiting.now start) header ack p) }
     ensures only { IfOk result (λ p. (n : FrameMap) → IsLawfulMap book.now.config
         (demand_at book.now.flows spots.now waiting.now start) header ack n → n ≡ p.map) }
+    ensures first { IfOk result (λ p. MeetsFirst book.now.config spots.now waiting.now p.met) }
     ensures encodable { AreOfChannel book.now.flows → HaveFlowSids spots.now → HaveStationSids waiting.now →
         IfOk result (λ p. IsWellFormed p.map.wire) }
     ensures config { IfOk result (λ p. p.book.config ≡ book.now.config) }
@@ -125,6 +126,8 @@ pub fn plan_with_book(
     ensures only { IfOk result (λ p. (n : FrameMap) → IsLawfulMap book.now.config (demand_at book.now.flows
         (spots_in book.now.config frame table.now.placed) waiting.now (frame * book.now.config.frame))
         header ack n → n ≡ p.map) }
+    ensures first { IfOk result (λ p. MeetsFirst book.now.config
+        (spots_in book.now.config frame table.now.placed) waiting.now p.met) }
     ensures encodable { AreOfChannel book.now.flows → HaveStationSids waiting.now
         → IfOk result (λ p. IsWellFormed p.map.wire) }
     ensures config { IfOk result (λ p. p.book.config ≡ book.now.config) }

@@ -6,7 +6,7 @@ ghost use Rattle.map_build.specs.declared.TheConstants.{MAX_WAITING};
 ghost use Rattle.map_build.specs.Plan.{next_stop};
 ghost use Rattle.map_build.specs.Purpose.{allocation_of};
 ghost use Rattle.map_build.specs.Spots.{AreInFrame};
-ghost use Rattle.map_build.specs.Walk.{IsWellBegun, IsUnfilled, IsFilled, MeetsNext, GrantsNext, Chooses};
+ghost use Rattle.map_build.specs.Walk.{IsWellBegun, IsUnfilled, IsFilled, MeetsNext, ServesNext, Chooses};
 ghost use Rattle.map_build.specs.Opportunities.{MayWait};
 ghost use Rattle.map_build.specs.Left.{left_at, AreAhead};
 
@@ -54,7 +54,7 @@ impl Draft {
         if let Some(offer) = self.meet(waiting, room) {
             return offer;
         }
-        if let Some(grant) = self.serve(waiting.len(), room) {
+        if let Some(grant) = self.serve(waiting, room) {
             return grant;
         }
         Allocation {
@@ -86,13 +86,13 @@ impl Draft {
         self.start + u64::from(self.offset)
     }
 
-    // The data grant of the book to the flow that is next, where one more may stand beside so many opportunities.
-    fn serve(&mut self, waiting: usize, room: u16) -> Option<Allocation>
-        requires few { waiting ≤ MAX_WAITING }
-        requires ready { self.old.start ≤ 2 ^ 61 }
-        ensures { GrantsNext waiting room result self.old self.new }
+    // The data grant of the book to the flow that is next, where one more may stand beside the opportunities that wait.
+    fn serve(&mut self, waiting: &[Opportunity], room: u16) -> Option<Allocation>
+        requires few { length waiting.now ≤ MAX_WAITING }
+        requires ready { IsWellBegun waiting.now self.old }
+        ensures { ServesNext waiting.now room result self.old self.new }
     {
-        if self.grants >= MAX_DATA_GRANTS - waiting {
+        if self.grants >= MAX_DATA_GRANTS - waiting.len() {
             return None;
         }
         let start = self.minislot();
