@@ -1,5 +1,5 @@
 -- A draft with the request region alone has the plan of nothing.
-use Rattle.std.proofs.Common.{◌≡◌, ℕ, ◌+◌, ◌≤◌, ◌^◌, true, Some, List, [], ◌∷◌, refl, sym, ap, ◌∙◌, arith}
+use Rattle.std.proofs.Common.{◌≡◌, ℕ, zero, suc, ◌+◌, ◌≤◌, ◌^◌, Bool, true, false, Some, length, replicate, List, [], ◌∷◌, refl, sym, ap, ◌∙◌, arith}
 use Rattle.std.specs.List.{AllByRecursion, slice_get}
 use Rattle.minislots.specs.declared.config.Config.{Config}
 use Rattle.minislots.specs.Config.{IsLawful, HasBounds}
@@ -10,7 +10,7 @@ use Rattle.flow_book.specs.Book.{IsLive, room_of}
 use Rattle.flow_book.specs.Choice.{HasStartedBy}
 use Rattle.periodic.specs.declared.placement.Spot.{Spot}
 use Rattle.map_build.specs.declared.draft.Draft.{Draft}
-use Rattle.map_build.specs.declared.TheConstants.{MAX_DATA_GRANTS}
+use Rattle.map_build.specs.declared.TheConstants.{MAX_DATA_GRANTS, MAX_WAITING}
 use Rattle.map_build.specs.Plan.{Demand}
 use Rattle.map_build.specs.Spots.{IsInFrame, AreInFrame}
 use Rattle.map_build.specs.Draft.{Puts}
@@ -37,8 +37,15 @@ pub record IsBegun (c : Config) (flows : List LiveFlow) (start : ℕ) (d : Draft
   pub elements : d.elements.items ≡ []
   pub bytes_of : d.bytes.items ≡ []
   pub room : (sid : ℕ) → IsLive sid d.book.flows → MAX_DATA_GRANTS ≤ room_of sid d.book.rooms
+  pub marks : length d.met ≡ MAX_WAITING
   pub unmarked : (place : ℕ) → slice_get d.met place ≡ Some true → ⊥
   pub started : AllByRecursion (HasStartedBy start) flows
+
+-- of places that are all unmarked none is marked
+pub none-marked : (n place : ℕ) → slice_get (replicate n false) place ≡ Some true → ⊥
+none-marked zero place is = absurd (cc)
+none-marked (suc n) zero is = absurd (cc)
+none-marked (suc n) (suc place) is = none-marked n place is
 
 started-flows : (early late : ℕ) (flows : List LiveFlow) → early ≤ late → AllByRecursion (HasStartedBy early) flows →
     AllByRecursion (HasStartedBy late) flows
@@ -63,6 +70,7 @@ HasPlan-begun c d old new begun puts are =
         lawful = rw same begun.lawful;
         near = omega (arith, puts.start, begun.starts, begun.bounded);
         inside = omega (arith, at, bounds.requests_fit, ap (λ k. k.frame) same);
+        marks = ap (λ (met : List Bool). length met) puts.met ∙ begun.marks;
         few = omega (arith, puts.grants, begun.grants);
         room = λ sid live. rw puts.book (omega (arith, begun.room sid (rw puts.book at live)));
         started = rw (flows_are, at, puts.start, begun.starts) (started-flows d.start (d.start + c.req_slots) d.flows

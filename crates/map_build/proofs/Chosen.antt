@@ -1,21 +1,20 @@
 -- What stands at the offset that a draft has reached: the first of the first rank that is not empty.
-use Rattle.std.proofs.Common.{◌≡◌, ℕ, zero, suc, ◌+◌, ◌-◌, ◌<◌, ◌≤◌, ◌⊎◌, Bool, true, false, List, [], ◌∷◌, length}
+use Rattle.std.proofs.Common.{◌≡◌, ℕ, zero, suc, ◌+◌, ◌<◌, ◌≤◌, ◌⊎◌, Bool, true, false, List, [], ◌∷◌, length}
 use Rattle.std.proofs.Common.{Contains}
-use Rattle.std.proofs.Common.{◌==◌, Option, None, Some, inl, inr, refl, sym, ap, ◌∙◌, subst, arith}
+use Rattle.std.proofs.Common.{◌==◌, Option, None, Some, inl, inr, refl, ap, ◌∙◌, subst, arith}
 use Rattle.std.specs.Option.{IsSomeAnd}
 use Rattle.std.specs.List.{AllByRecursion, slice_get}
 use Rattle.minislots.specs.declared.config.Config.{Config}
-use Rattle.minislots.specs.Units.{slots_for}
 use Rattle.flow_book.specs.Flows.{LiveFlow, flow_of}
 use Rattle.flow_book.specs.Choice.{IsNext, IsAmount, NoneEligible}
 use Rattle.periodic.specs.declared.placement.Spot.{Spot}
 use Rattle.map_build.specs.declared.draft.Draft.{Draft}
 use Rattle.map_build.specs.declared.opportunity.Opportunity.{Opportunity}
 use Rattle.map_build.specs.declared.purpose.Allocation.{Allocation}
-use Rattle.map_build.specs.declared.purpose.Purpose.TheVariants.{Offer, DataGrant, Idle}
+use Rattle.map_build.specs.declared.purpose.Purpose.TheVariants.{Offer, Idle}
 use Rattle.map_build.specs.Purpose.{allocation_of}
 use Rattle.map_build.specs.Opportunities.{MayWait, IsUnmet, IsFirstUnmet, NoneUnmet}
-use Rattle.map_build.specs.Plan.{Demand, demand_at, room_at, end_of, most_grants, IsMetIn, MayMeet, IsFirstToMeet}
+use Rattle.map_build.specs.Plan.{Demand, demand_at, room_at, end_of, most_grants, MayMeet, IsFirstToMeet}
 use Rattle.map_build.specs.Plan.{NoneToMeet, Stands}
 use Rattle.map_build.specs.FrameMap.{AreMet}
 use Rattle.map_build.specs.Spots.{AreInFrame}

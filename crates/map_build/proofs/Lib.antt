@@ -28,4 +28,6 @@ pub mod SameSpots
 pub mod Standings
 pub mod Stops
 pub mod Takings
+pub mod Unmet
+pub mod Walks
 pub mod WellFormed

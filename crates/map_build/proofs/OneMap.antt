@@ -1,5 +1,5 @@
 -- The lawful MAP for what a frame has to serve is one: by rank, and in each rank there is one.
-use Rattle.std.proofs.Common.{◌≡◌, ℕ, zero, suc, ◌+◌, ◌<◌, ◌≤◌, Bool, true, false, ◌&&◌, ◌||◌, List, [], ◌∷◌, ◌++◌}
+use Rattle.std.proofs.Common.{◌≡◌, ℕ, zero, suc, ◌+◌, ◌<◌, ◌≤◌, true, false, ◌&&◌, ◌||◌, List, [], ◌∷◌, ◌++◌}
 use Rattle.std.proofs.Common.{length, Option, None, Some, refl, sym, ap, subst, ◌∙◌, inl, inr, append_assoc, arith}
 use Rattle.std.specs.Prelude.{nat_lt, nat_le, ◌==◌, min, slice_index_or, Contains}
 use Rattle.std.specs.List.{AllByRecursion, slice_get}

@@ -1,14 +1,13 @@
 -- A draft with a plan and one allocation more that may stand there.
-use Rattle.std.proofs.Common.{◌≡◌, ℕ, suc, ◌+◌, ◌⊎◌, true, List, [], ◌∷◌, ◌++◌, Contains, Some, if◌then◌else◌, inl, inr}
+use Rattle.std.proofs.Common.{◌≡◌, ◌+◌, List, [], ◌∷◌, ◌++◌, if◌then◌else◌, inl, inr}
 use Rattle.std.proofs.Common.{refl, sym, ap, ◌∙◌, arith}
-use Rattle.std.specs.List.{slice_get}
 use Rattle.std.proofs.lemmas.List.{map-append}
 use Rattle.std.proofs.lemmas.List.Sums.{sum_by_push}
 use Rattle.minislots.specs.declared.config.Config.{Config}
 use Rattle.map_build.specs.declared.draft.Draft.{Draft}
 use Rattle.map_build.specs.declared.purpose.Allocation.{Allocation}
-use Rattle.map_build.specs.Purpose.{is_data_grant, place_of}
-use Rattle.map_build.specs.Plan.{Demand, end_of, flows_after, IsMetIn, Stands}
+use Rattle.map_build.specs.Purpose.{is_data_grant}
+use Rattle.map_build.specs.Plan.{Demand, end_of, flows_after, Stands}
 use Rattle.map_build.specs.FrameMap.{AreMet}
 use Rattle.map_build.specs.Spots.{AreInFrame}
 use Rattle.map_build.specs.Walk.{IsWellBegun, IsAfter, Takes, HasPlan}
@@ -77,6 +76,7 @@ module _ (c : Config) (d : Demand) (plan : List Allocation) (old new : Draft) (a
       ap (λ k. k.frame) takes.knows.config,
       ap (λ k. k.frame) has.config,
     );
+    marks = takes.knows.marks ∙ has.ready.marks;
     few = omega (
       arith,
       takes.knows.grants,

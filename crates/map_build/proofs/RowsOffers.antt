@@ -1,5 +1,5 @@
 -- Worked examples of MAPs with opportunities to range.
-use Rattle.std.proofs.Common.{◌≡◌, ℕ, zero, suc, List, [], ◌∷◌, map, length, Some, slice_get, refl, ap, sym, subst}
+use Rattle.std.proofs.Common.{◌≡◌, ℕ, zero, suc, List, [], ◌∷◌, map, Some, slice_get, refl, ap, sym, subst}
 use Rattle.std.proofs.Common.{inl, inr}
 use Rattle.std.proofs.Common.{lit<, lit≤, ◌≤◌, ◌<◌, arith}
 use Rattle.map_codec.specs.Element.{word_of, element_at}
@@ -95,6 +95,10 @@ the_words_of_a_frame_with_an_opportunity_for_all = refl
 abbrev pub long_and_short : List Opportunity
 long_and_short = initial 36 ∷ station 9 4 ∷ []
 
+-- the poll and the second of them
+abbrev poll_and_second : List Allocation
+poll_and_second = allocation 4 2 (Poll 9) ∷ allocation 6 4 (Offer 1 (Station 9)) ∷ []
+
 -- the frame with the poll and the second
 abbrev second_alone : List Allocation
 second_alone = allocation 4 2 (Poll 9) ∷ allocation 6 4 (Offer 1 (Station 9)) ∷ allocation 10 30 Idle ∷ []
@@ -151,7 +155,7 @@ an_opportunity_that_does_not_fit_holds_up_nothing = (
             first = (
               lit< tt,
               (
-                λ place p may. long-waits 30 place _ (lit< tt)
+                λ place p may. long-waits 30 place poll_and_second (lit< tt)
                     (allocation 6 4 (Offer 1 (Station 9)), (1, lit< tt, refl), refl) p may.waits may.fits may.unmet,
                 (inr ((λ e. absurd (omega (arith, e.waits))), tt), tt),
               ),

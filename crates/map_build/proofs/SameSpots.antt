@@ -1,5 +1,5 @@
 -- A lawful MAP is lawful for the same spots in any order.
-use Rattle.std.proofs.Common.{◌≡◌, ℕ, zero, suc, ◌+◌, ◌*◌, Result, ◌<◌, ◌≤◌, ◌⊎◌, List, [], ◌∷◌, ◌++◌, length, Contains}
+use Rattle.std.proofs.Common.{◌≡◌, ℕ, zero, suc, ◌+◌, ◌*◌, Result, ◌<◌, ◌≤◌, List, [], ◌∷◌, ◌++◌, length, Contains}
 use Rattle.std.proofs.Common.{inl, inr, refl, subst, ◌∙◌, arith}
 use Rattle.std.specs.List.{AllByRecursion}
 use Rattle.std.specs.List.Sorted.{IsPermutation}
@@ -21,7 +21,6 @@ use Rattle.map_build.specs.declared.purpose.Purpose.{Purpose}
 use Rattle.map_build.specs.declared.purpose.Purpose.TheVariants.{Poll, UnsolicitedGrant, Offer, DataGrant, Idle}
 use Rattle.map_build.specs.EachAfter.{EachAfter}
 use Rattle.map_build.specs.Purpose.{Rank, Placed, Reserved, Requested, Left, rank_of, ranks_before, allocation_of}
-use Rattle.map_build.specs.Opportunities.{HasGap, MeetsFirst}
 use Rattle.map_build.specs.Plan.{Demand, demand_at, next_stop, room_at, flows_after, IsFirstToMeet, NoneToMeet}
 use Rattle.map_build.specs.Plan.{NoneOf, IsOfRank, Stands, IsPlan}
 use Rattle.map_build.specs.FrameMap.{IsLawfulMap, IsLawfulFrame}
@@ -176,28 +175,3 @@ only-told c d flows waiting header k n ack placed spots r same moved slots only 
     (lawful-in_order c (demand_at flows (spots_in c k placed) waiting (k * c.frame)) spots header ack other
     (subst (λ e. IsPermutation (spots_in e k placed) spots) same moved) lawful))
     (rw slots at only)
-
-gap-among : (c : Config) (spots others : List Spot) (slots : ℕ) → AreAmong others spots → HasGap c spots slots →
-    HasGap c others slots
-gap-among c spots others slots back gap = record {
-  from = gap.from;
-  behind = gap.behind;
-  within = gap.within;
-  free = all-members (λ (s : Spot). (gap.from + slots ≤ s.offset) ⊎ (s.offset + s.slots ≤ gap.from)) others
-      (λ s has. member-at (λ (t : Spot). (gap.from + slots ≤ t.offset) ⊎ (t.offset + t.slots ≤ gap.from)) spots s
-      gap.free (back s has));
-}
-
--- the first that waits is met by gaps between the spots that a table tells as by those between its placements
-pub first-told : {E : Type 0} (c d : Config) (waiting : List Opportunity) (k : ℕ) (placed : List PlacedFlow)
-    (spots : List Spot) (r : Result PlannedFrame E) → d ≡ c → IsPermutation (spots_in d k placed) spots →
-    IfOk r (λ p. MeetsFirst c spots waiting p.met) → IfOk r (λ p. MeetsFirst c (spots_in c k placed) waiting p.met)
-first-told c d waiting k placed spots r same moved first =
-    let due : List Spot = spots_in c k placed in
-    let is : IsPermutation due spots = subst (λ e. IsPermutation (spots_in e k placed) spots) same moved in
-    IfOk-weaker r _ _ (λ p meets. record {
-      meets = λ o waits gap. meets.meets o waits (gap-among c due spots o.slots
-          (λ s has. Contains-permutation spots due s (IsPermutation-sym due spots is) has) gap);
-      only = λ o waits marked. gap-among c spots due o.slots (λ s has. Contains-permutation due spots s is has)
-          (meets.only o waits marked);
-    }) first

@@ -1,19 +1,21 @@
 -- Steps of a draft: it knows of an allocation, whose element is to come; then it has its element.
-use Rattle.std.proofs.Common.{◌≡◌, ◌≢◌, ℕ, zero, suc, ◌+◌, ◌<◌, ◌≤◌, Bool, true, false, ◌==◌, List, [], ◌∷◌, ◌++◌}
+use Rattle.std.proofs.Common.{◌≡◌, ◌≢◌, ℕ, zero, suc, ◌+◌, ◌<◌, ◌≤◌, Bool, true, false, ◌==◌, List, [], ◌∷◌}
 use Rattle.std.proofs.Common.{length, Option, None, Some, ◌⊎◌, set, unwrap_or, inl, inr, refl, sym, ap, subst, ◌∙◌, arith}
 use Rattle.std.specs.List.{slice_get}
 use Rattle.std.proofs.lemmas.Bool.Decides.{nat_tests}
+use Rattle.std.proofs.lemmas.List.{length-set}
+use Rattle.minislots.specs.Units.{slots_for}
 use Rattle.flow_book.specs.Flows.{with_grant}
 use Rattle.flow_book.specs.Book.{BookView, Room, room_of, changed}
 use Rattle.periodic.specs.declared.placement.Spot.{Spot}
 use Rattle.map_build.specs.declared.draft.Draft.{Draft}
 use Rattle.map_build.specs.declared.opportunity.Opportunity.{Opportunity}
 use Rattle.map_build.specs.declared.purpose.Allocation.{Allocation}
-use Rattle.map_build.specs.declared.purpose.Purpose.TheVariants.{Poll, UnsolicitedGrant, Idle}
-use Rattle.map_build.specs.Purpose.{element_of, bytes_in, place_of, allocation_of}
-use Rattle.map_build.specs.Plan.{flows_after, grants_in, grants_to, IsMetIn}
+use Rattle.map_build.specs.declared.purpose.Purpose.TheVariants.{Poll, UnsolicitedGrant, DataGrant, Idle}
+use Rattle.map_build.specs.Purpose.{place_of, allocation_of}
+use Rattle.map_build.specs.Plan.{most_grants, grants_in, grants_to, IsMetIn}
 use Rattle.map_build.specs.Draft.{PutsAllocation}
-use Rattle.map_build.specs.Walk.{Knows, HasSame, Takes, offer_here, grant_here}
+use Rattle.map_build.specs.Walk.{Knows, HasSame, Takes, offer_here, grant_here, IsNextAmount, Serves}
 use Rattle.map_build.proofs.FlowsAfter.{flows_after-none, flows_after-grant}
 use Rattle.map_build.proofs.Offers.{met-only}
 
@@ -25,6 +27,7 @@ Knows-nothing a d grants none nowhere = record {
   flows = sym (flows_after-none d.start a d.book.flows none);
   grants = omega (arith, grants);
   rooms = λ sid. omega arith;
+  marks = refl;
   met = λ place is. inl is;
   kept = λ place is. is;
   new_met = λ place is. let it = met-only a place is in absurd (cc);
@@ -84,6 +87,7 @@ Knows-offer place o old new lt marks book grants start =
       flows = ap (λ b. b.flows) book ∙ sym (flows_after-none old.start a old.book.flows (λ other. refl));
       grants = omega (arith, grants);
       rooms = λ sid. omega (arith, ap (λ (b : BookView). room_of sid b.rooms) book);
+      marks = ap (λ (met : List Bool). length met) marks ∙ length-set old.met place true;
       met = λ other is. elim (set-old old.met place other (rw marks at is)) [
         | inl before ↦ inl before
         | inr here ↦ inr (subst (λ n. IsMetIn (a ∷ []) n) here it)
@@ -124,11 +128,27 @@ Knows-grant sid bytes old new config flows room other_room grants marks start =
             room-cond old.book.rooms new.book.rooms sid other (other == sid) refl room (other_room other),
             one,
           );
+      marks = ap (λ (met : List Bool). length met) marks;
       met = λ place is. inl (rw marks at is);
       kept = λ place is. rw marks is;
       new_met = λ place is. let it = met-only a place is in absurd (cc);
       start = start;
     }
+
+-- so it has that of the flow that is next
+pub Serves-known : (waiting : List Opportunity) (room sid bytes slots : ℕ) (old new : Draft) →
+    old.grants < most_grants waiting → IsNextAmount old room sid bytes → slots ≡ slots_for old.book.config bytes →
+    Knows (grant_here old sid bytes) old new → HasSame old new →
+    Serves waiting room (record { offset = old.offset; slots = slots; purpose = DataGrant sid bytes }) old new
+Serves-known waiting room sid bytes slots old new few next long knows same = record {
+  knows = rw long knows;
+  same = same;
+  few = few;
+  sid = sid;
+  bytes = bytes;
+  next = next;
+  is = rw long refl;
+}
 
 -- a draft that knows of an allocation, and then has its element
 pub Takes-put : (a : Allocation) (old mid new : Draft) → Knows a old mid → HasSame old mid → a.offset ≡ old.offset →
@@ -139,6 +159,7 @@ Takes-put a old mid new knows same here puts = record {
     flows = ap (λ b. b.flows) puts.book ∙ knows.flows;
     grants = puts.grants ∙ knows.grants;
     rooms = λ sid. omega (arith, knows.rooms sid, ap (λ (b : BookView). room_of sid b.rooms) puts.book);
+    marks = ap (λ (met : List Bool). length met) puts.met ∙ knows.marks;
     met = λ place is. knows.met place (rw puts.met at is);
     kept = λ place is. rw puts.met (knows.kept place is);
     new_met = λ place is. rw puts.met (knows.new_met place is);

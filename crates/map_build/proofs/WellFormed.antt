@@ -21,7 +21,7 @@ use Rattle.map_build.specs.declared.opportunity.Usage.TheVariants.{Initial, Stat
 use Rattle.map_build.specs.declared.purpose.Allocation.{Allocation}
 use Rattle.map_build.specs.declared.purpose.Purpose.{Purpose}
 use Rattle.map_build.specs.declared.purpose.Purpose.TheVariants.{Poll, UnsolicitedGrant, Offer, DataGrant, Idle}
-use Rattle.map_build.specs.Purpose.{kind_of, element_of, sid_for, iuc_for}
+use Rattle.map_build.specs.Purpose.{kind_of, element_of, sid_for}
 use Rattle.map_build.specs.Opportunities.{HasStationSid, HaveStationSids}
 use Rattle.map_build.specs.Plan.{Demand, end_of, flows_after, Stands, IsOfRank}
 use Rattle.map_build.specs.UsageCodes.{short_iuc, long_iuc, data_iuc}

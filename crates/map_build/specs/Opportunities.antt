@@ -1,5 +1,5 @@
 -- The opportunities that wait for a MAP, and the header of a MAP.
-use Rattle.std.specs.Prelude.{◌≡◌, ℕ, ◌+◌, ◌<◌, ◌≤◌, Bool, true, false, List, length, Option, Some}
+use Rattle.std.specs.Prelude.{◌≡◌, ℕ, ◌+◌, ◌<◌, ◌≤◌, Bool, true, false, List, length, Some}
 use Rattle.std.specs.List.{AllByRecursion, slice_get}
 use Rattle.minislots.specs.declared.config.Config.{Config}
 use Rattle.periodic.specs.declared.placement.Spot.{Spot}

@@ -1,29 +1,31 @@
 -- The walk along a frame: the draft has a plan up to where it is, and what stands next is one more of it.
-use Rattle.std.specs.Prelude.{◌≡◌, ℕ, ◌+◌, ◌-◌, ◌<◌, ◌≤◌, ◌^◌, ◌⊎◌, Bool, true, List, [], ◌∷◌, ◌++◌, map, Contains}
-use Rattle.std.specs.Prelude.{Option, None, Some, IsSomeAnd}
+use Rattle.std.specs.Prelude.{◌≡◌, ℕ, ◌+◌, ◌<◌, ◌≤◌, ◌^◌, ◌⊎◌, true, List, [], ◌∷◌, ◌++◌, map, length}
+use Rattle.std.specs.Prelude.{Contains, Option, None, Some, IsSomeAnd}
 use Rattle.std.specs.List.{AllByRecursion, slice_get}
 use Rattle.minislots.specs.declared.config.Config.{Config}
 use Rattle.minislots.specs.Config.{IsLawful}
 use Rattle.minislots.specs.Units.{slots_for}
-use Rattle.flow_book.specs.Flows.{LiveFlow, flow_of, with_grant}
-use Rattle.flow_book.specs.Book.{IsLive, changed, room_of}
+use Rattle.flow_book.specs.Flows.{LiveFlow, flow_of}
+use Rattle.flow_book.specs.Book.{IsLive, room_of}
 use Rattle.flow_book.specs.Choice.{IsNext, IsAmount, NoneEligible, HasStartedBy}
 use Rattle.periodic.specs.declared.placement.Spot.{Spot}
+use Rattle.map_build.specs.declared.TheConstants.{MAX_WAITING}
 use Rattle.map_build.specs.declared.draft.Draft.{Draft}
 use Rattle.map_build.specs.declared.opportunity.Opportunity.{Opportunity}
 use Rattle.map_build.specs.declared.purpose.Allocation.{Allocation}
-use Rattle.map_build.specs.declared.purpose.Purpose.TheVariants.{Offer, DataGrant, Idle}
+use Rattle.map_build.specs.declared.purpose.Purpose.TheVariants.{Offer, DataGrant}
 use Rattle.map_build.specs.EachAfter.{EachAfter}
 use Rattle.map_build.specs.Purpose.{element_of, bytes_in, allocation_of}
 use Rattle.map_build.specs.Opportunities.{IsFirstUnmet, NoneUnmet}
 use Rattle.map_build.specs.Plan.{Demand, demand_at, most_grants, grants_in, end_of, flows_after, IsMetIn, Stands}
 use Rattle.map_build.specs.FrameMap.{request_region, AreMet}
 
--- the draft has room for all grants of its MAP, and none starts later than where it is
+-- the draft has a mark for each place and room for all grants of its MAP, and none starts later than where it is
 pub record IsWellBegun (waiting : List Opportunity) (d : Draft) : Type 0 where
   pub lawful : IsLawful d.book.config
   pub near : d.start ≤ 2 ^ 61
   pub inside : d.offset ≤ d.book.config.frame
+  pub marks : length d.met ≡ MAX_WAITING
   pub few : d.grants ≤ most_grants waiting
   pub room : (sid : ℕ) → IsLive sid d.book.flows → most_grants waiting ≤ d.grants + room_of sid d.book.rooms
   pub started : AllByRecursion (HasStartedBy (d.start + d.offset)) d.book.flows
@@ -34,6 +36,7 @@ pub record Knows (a : Allocation) (old new : Draft) : Type 0 where
   pub flows : new.book.flows ≡ flows_after old.start (a ∷ []) old.book.flows
   pub grants : new.grants ≡ old.grants + grants_in (a ∷ [])
   pub rooms : (sid : ℕ) → room_of sid old.book.rooms ≤ room_of sid new.book.rooms + grants_in (a ∷ [])
+  pub marks : length new.met ≡ length old.met
   pub met : (place : ℕ) → slice_get new.met place ≡ Some true
       → (slice_get old.met place ≡ Some true) ⊎ IsMetIn (a ∷ []) place
   pub kept : (place : ℕ) → slice_get old.met place ≡ Some true → slice_get new.met place ≡ Some true

@@ -57,7 +57,6 @@ fn plan_around(
         (demand_at book.now.flows spots.now waiting.now start) header ack p) }
     ensures only { IfOk result (λ p. (n : FrameMap) → IsLawfulMap book.now.config
         (demand_at book.now.flows spots.now waiting.now start) header ack n → n ≡ p.map) }
-    ensures first { IfOk result (λ p. MeetsFirst book.now.config spots.now waiting.now p.met) }
     ensures encodable { AreOfChannel book.now.flows → HaveFlowSids spots.now → HaveStationSids waiting.now →
         IfOk result (λ p. IsWellFormed p.map.wire) }
     ensures config { IfOk result (λ p. p.book.config ≡ book.now.config) }

@@ -10,12 +10,10 @@ use Rattle.flow_book.specs.declared.flow.Grant.{Grant}
 use Rattle.flow_book.specs.Flows.{LiveFlow, with_grant}
 use Rattle.flow_book.specs.Choice.{IsAmount}
 use Rattle.flow_book.specs.Entry.{IsSoundFlow}
-use Rattle.map_build.specs.declared.purpose.Allocation.{Allocation}
-use Rattle.map_build.specs.declared.purpose.Purpose.{Purpose}
-use Rattle.map_build.specs.declared.purpose.Purpose.TheVariants.{Poll, UnsolicitedGrant, Offer, DataGrant, Idle}
+use Rattle.periodic.specs.declared.placement.Spot.{Spot}
 use Rattle.map_build.specs.EachAfter.{EachAfter}
-use Rattle.map_build.specs.Purpose.{grant_to}
-use Rattle.map_build.specs.Plan.{Demand, flow_after, flows_after, room_at, Stands, IsOfRank}
+use Rattle.map_build.specs.Plan.{Purpose, Poll, UnsolicitedGrant, DataGrant, Idle, Allocation, grant_to}
+use Rattle.map_build.specs.Plan.{flow_after, flows_after, room_at, Stands, StandsByItsRule}
 use Rattle.sched_history.proofs.lists.Members.{IsImage, Contains-map}
 
 -- a flow is sound with a grant more of the amount
@@ -52,53 +50,51 @@ after_grant start before a f g some =
       append_assoc,
     ) refl
 
-module _ (c : Config) (d : Demand) (f : LiveFlow)
-    (alone : (g : LiveFlow) → Contains d.flows g → g.sid ≡ f.sid → g ≡ f) where
+module _ (c : Config) (flows : List LiveFlow) (spots : List Spot) (start : ℕ) (f : LiveFlow)
+    (alone : (g : LiveFlow) → Contains flows g → g.sid ≡ f.sid → g ≡ f) where
   -- the flow after these is the only one of its SID
-  only_after : (before : List Allocation) (g : LiveFlow) → Contains (flows_after d.start before d.flows) g → g.sid ≡ f.sid
-      → flow_after d.start before f ≡ g
+  only_after : (before : List Allocation) (g : LiveFlow) → Contains (flows_after start before flows) g → g.sid ≡ f.sid
+      → flow_after start before f ≡ g
   only_after before g live same =
-      let image : IsImage (flow_after d.start before) d.flows g = Contains-map (flow_after d.start before) d.flows g live in
-      ap (flow_after d.start before)
+      let image : IsImage (flow_after start before) flows g = Contains-map (flow_after start before) flows g live in
+      ap (flow_after start before)
       (sym (alone image.origin image.member (ap (λ (g : LiveFlow). g.sid) image.same ∙ same))) ∙ image.same
 
   sound_grant : (before : List Allocation) (a : Allocation) (other bytes : ℕ) (same : Bool) → other == f.sid ≡ same
       → a.purpose ≡ DataGrant other bytes
-      → IsOfRank c d before a.offset a.slots (DataGrant other bytes)
-      → IsSoundFlow c (flow_after d.start before f)
-      → IsSoundFlow c (flow_after d.start (before ++ a ∷ []) f)
+      → StandsByItsRule c flows spots start before a.offset a.slots (DataGrant other bytes)
+      → IsSoundFlow c (flow_after start before f)
+      → IsSoundFlow c (flow_after start (before ++ a ∷ []) f)
   sound_grant before a other bytes false test is stands sound =
-      let none : grant_to d.start f.sid (DataGrant other bytes) a.offset ≡ None = rw test refl in
-      rw (after_other d.start before a f (ap (λ p. grant_to d.start f.sid p a.offset) is ∙ none)) sound
+      let none : grant_to start f.sid (DataGrant other bytes) a.offset ≡ None = rw test refl in
+      rw (after_other start before a f (ap (λ p. grant_to start f.sid p a.offset) is ∙ none)) sound
   sound_grant before a other bytes true test is stands sound =
       let g : LiveFlow = stands.1 in
-      let some : grant_to d.start f.sid (DataGrant other bytes) a.offset
-      ≡ Some (record { start = d.start + a.offset; bytes = bytes }) =
+      let some : grant_to start f.sid (DataGrant other bytes) a.offset
+      ≡ Some (record { start = start + a.offset; bytes = bytes }) =
       rw test refl in
-      let them : flow_after d.start before f ≡ g =
+      let them : flow_after start before f ≡ g =
       only_after before g stands.3.live (stands.2 ∙ eqb-true other f.sid test) in
-      rw (after_grant d.start before a f (record { start = d.start + a.offset; bytes = bytes })
-      (ap (λ p. grant_to d.start f.sid p a.offset) is ∙ some))
-      (sound_with c (flow_after d.start before f) (d.start + a.offset) (room_at c d.spots a.offset) bytes sound
-      (subst (λ g. IsAmount c g (d.start + a.offset) (room_at c d.spots a.offset) bytes) (sym them) stands.4))
+      rw (after_grant start before a f (record { start = start + a.offset; bytes = bytes })
+      (ap (λ p. grant_to start f.sid p a.offset) is ∙ some))
+      (sound_with c (flow_after start before f) (start + a.offset) (room_at c spots a.offset) bytes sound
+      (subst (λ g. IsAmount c g (start + a.offset) (room_at c spots a.offset) bytes) (sym them) stands.4))
 
   sound_more : (before : List Allocation) (a : Allocation) (purpose : Purpose) → a.purpose ≡ purpose
-      → IsOfRank c d before a.offset a.slots purpose → IsSoundFlow c (flow_after d.start before f)
-      → IsSoundFlow c (flow_after d.start (before ++ a ∷ []) f)
+      → StandsByItsRule c flows spots start before a.offset a.slots purpose → IsSoundFlow c (flow_after start before f)
+      → IsSoundFlow c (flow_after start (before ++ a ∷ []) f)
   sound_more before a (Poll sid) is stands sound =
-      rw (after_other d.start before a f (ap (λ p. grant_to d.start f.sid p a.offset) is)) sound
+      rw (after_other start before a f (ap (λ p. grant_to start f.sid p a.offset) is)) sound
   sound_more before a (UnsolicitedGrant sid) is stands sound =
-      rw (after_other d.start before a f (ap (λ p. grant_to d.start f.sid p a.offset) is)) sound
-  sound_more before a (Offer place usage) is stands sound =
-      rw (after_other d.start before a f (ap (λ p. grant_to d.start f.sid p a.offset) is)) sound
+      rw (after_other start before a f (ap (λ p. grant_to start f.sid p a.offset) is)) sound
   sound_more before a (DataGrant sid bytes) is stands sound =
       sound_grant before a sid bytes (sid == f.sid) refl is stands sound
   sound_more before a Idle is stands sound =
-      rw (after_other d.start before a f (ap (λ p. grant_to d.start f.sid p a.offset) is)) sound
+      rw (after_other start before a f (ap (λ p. grant_to start f.sid p a.offset) is)) sound
 
   -- a flow that is sound before some allocations is sound after them
-  pub sound_plan : (before plan : List Allocation) → EachAfter (Stands c d) before plan
-      → IsSoundFlow c (flow_after d.start before f) → IsSoundFlow c (flow_after d.start (before ++ plan) f)
+  pub sound_plan : (before plan : List Allocation) → EachAfter (Stands c flows spots start) before plan
+      → IsSoundFlow c (flow_after start before f) → IsSoundFlow c (flow_after start (before ++ plan) f)
   sound_plan before [] each sound = rw append-nil sound
   sound_plan before (a ∷ plan) each sound = rw append_assoc at
       (sound_plan (before ++ a ∷ []) plan each.1 (sound_more before a a.purpose refl each.0.purpose sound))

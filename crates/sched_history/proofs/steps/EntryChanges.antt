@@ -13,8 +13,6 @@ use Rattle.flow_book.specs.Flows.{LiveFlow, granted, outstanding}
 use Rattle.flow_book.specs.Book.{with_flow, without, changed, new_flow, with_asked}
 use Rattle.periodic.specs.declared.placement.Placement.{Placement}
 use Rattle.map_build.specs.declared.frame_map.FrameMap.{FrameMap}
-use Rattle.map_build.specs.declared.opportunity.Header.{Header}
-use Rattle.map_build.specs.declared.opportunity.Usage.{Usage}
 use Rattle.map_build.specs.Plan.{flows_after}
 use Rattle.sched_history.specs.declared.call.Call.{Call}
 use Rattle.sched_history.specs.declared.call.Call.TheVariants as calls
@@ -25,7 +23,6 @@ use Rattle.sched_history.specs.declared.reply.Reply.TheVariants as replies
 use Rattle.sched_history.specs.declared.reply.Entry.{Entry}
 use Rattle.sched_history.specs.Life.{Life, life_of, flow_in_life, flows_of}
 use Rattle.sched_history.specs.Time.{skip_by, is_built, next_after, IsFirstStart}
-use Rattle.sched_history.specs.Reserves.{header_call}
 use Rattle.sched_history.specs.Refusal.{most_bytes, most_ahead, last_clock, refusal_of}
 use Rattle.sched_history.specs.History.{PlacesOrRefuses, AnswersAdmit, flow_status, IsNextMap}
 use Rattle.sched_history.specs.History.{Answers, IsStep}
@@ -121,18 +118,6 @@ module _ (c : Config) (lawful : IsLawful c) (stamp : Stamp) (h : List Entry) whe
       by_reply (calls.Status sid) reply (flow_status f) answers
       (tells_sums sid (takes_requests f.spec) f.asked (granted f) (outstanding f))
 
-  reserved : (usage : Usage) (slots : ℕ) → EntryChange c h (after (calls.Reserve usage slots) replies.Reserved)
-  reserved usage slots =
-      let e : Entry = entry (calls.Reserve usage slots) replies.Reserved in
-      Nothing (flows_of-quiet h e (λ sid. refl) (λ sid. refl) (λ sid. refl))
-      (same_next (calls.Reserve usage slots) replies.Reserved refl refl)
-
-  noted : (header : Header) → EntryChange c h (after (header_call header) replies.Noted)
-  noted header =
-      let e : Entry = entry (header_call header) replies.Noted in
-      Nothing (flows_of-quiet h e (λ sid. refl) (λ sid. refl) (λ sid. refl))
-      (same_next (header_call header) replies.Noted refl refl)
-
   heard : (receiver upto : ℕ) → EntryChange c h (after (calls.Heard receiver upto) replies.Noted)
   heard receiver upto =
       let e : Entry = entry (calls.Heard receiver upto) replies.Noted in
@@ -177,17 +162,6 @@ module _ (c : Config) (lawful : IsLawful c) (stamp : Stamp) (h : List Entry) whe
       by_reply (calls.Build now) reply (replies.Built answers.0) answers.2 (builds now answers.0 answers.1 none)
   answered (calls.Skip now) reply none answers =
       by_reply (calls.Skip now) reply (replies.Skipped answers.0) answers.2 (skips now answers.0 answers.1 none)
-  answered (calls.Reserve usage slots) reply none answers =
-      by_reply (calls.Reserve usage slots) reply replies.Reserved answers (reserved usage slots)
-  answered (calls.Header ucd_count ranging_start ranging_end data_start data_end) reply none answers =
-      by_reply (calls.Header ucd_count ranging_start ranging_end data_start data_end) reply replies.Noted answers
-      (noted (record {
-        ucd_count = ucd_count;
-        ranging_start = ranging_start;
-        ranging_end = ranging_end;
-        data_start = data_start;
-        data_end = data_end;
-      }))
   answered (calls.Status sid) reply none answers = tells sid (life_of sid h) reply answers
 
   stepped : (call : Call) (reply : Reply) (o : Option Refusal) → refusal_of c h call ≡ o

@@ -2,7 +2,6 @@
 use Rattle.std.proofs.Common.{refl}
 use Rattle.minislots.proofs.Bounds.{bounds_of}
 use Rattle.map_build.specs.Plan.{demand_at}
-use Rattle.map_build.proofs.FirstMet.{meets-first}
 use Rattle.map_build.proofs.OneMap.{one_map}
 use Rattle.map_build.proofs.Planned.{begun-here, filled-full, planned, apart-in-frame, lawful-encodable}
 use Rattle.map_build.proofs.Planned.{lawful-from_frame}
@@ -29,7 +28,7 @@ returns-clause-lawful c =
     (demand_at c.args.book.now.flows c.args.spots.now c.args.waiting.now c.args.start) c.args.header c.args.ack
     c.in_ok-draft.draft c.fill.new.self c.put_end.new.self _ c.requires.placed
     (c.in_ok-draft.ensures c.args.spots.now c.args.waiting.now c.requires.placed)
-    c.in_ok-fill.ensures c.in_ok-put_end.ensures c.into_map.ensures.made c.into_map.ensures.book refl
+    c.in_ok-fill.ensures c.in_ok-put_end.ensures c.into_map-map.ensures.made c.into_map-map.ensures.book refl
 
 pub returns-clause-only : goal.returns-clause-only
 returns-clause-only c = λ n lawful.
@@ -37,24 +36,15 @@ returns-clause-only c = λ n lawful.
     let demand = demand_at c.args.book.now.flows c.args.spots.now c.args.waiting.now c.args.start in
     let has = c.in_ok-draft.ensures c.args.spots.now c.args.waiting.now c.requires.placed in
     one_map config demand (bounds_of config (rw has.config at has.ready.lawful)).overhead_positive
-    (apart-in-frame config c.args.spots.now c.requires.placed) c.args.header c.args.ack n c.into_map.result.0 lawful
+    (apart-in-frame config c.args.spots.now c.requires.placed) c.args.header c.args.ack n c.into_map-map.result.0 lawful
     (lawful-from_frame config demand c.args.header c.args.ack _ (returns-clause-lawful c))
-
-pub returns-clause-first : goal.returns-clause-first
-returns-clause-first c =
-    let config = c.args.book.now.config in
-    let demand = demand_at c.args.book.now.flows c.args.spots.now c.args.waiting.now c.args.start in
-    let has = c.in_ok-draft.ensures c.args.spots.now c.args.waiting.now c.requires.placed in
-    let is = returns-clause-lawful c in
-    meets-first config demand is.plan _ c.requires.placed c.requires.waiting
-    (bounds_of config (rw has.config at has.ready.lawful)).requests_fit is.is_plan is.met
 
 pub returns-clause-encodable : goal.returns-clause-encodable
 returns-clause-encodable c = λ channel places stations.
     let config = c.args.book.now.config in
     let demand = demand_at c.args.book.now.flows c.args.spots.now c.args.waiting.now c.args.start in
     let has = c.in_ok-draft.ensures c.args.spots.now c.args.waiting.now c.requires.placed in
-    lawful-encodable config demand c.args.header c.args.ack c.into_map.result.0
+    lawful-encodable config demand c.args.header c.args.ack c.into_map-map.result.0
     (rw has.config at has.ready.lawful) c.requires.placed c.requires.waiting.few
-    (lawful-from_frame config demand c.args.header c.args.ack _ (returns-clause-lawful c)) c.into_map.ensures.fits
+    (lawful-from_frame config demand c.args.header c.args.ack _ (returns-clause-lawful c)) c.into_map-map.ensures.fits
     channel places stations

@@ -1,8 +1,11 @@
 -- The spots that the table writes are those of the frame, in another order.
-use Rattle.std.proofs.Common.{◌≤◌, ◌∙◌, List, ap, length, take, arith}
+use Rattle.std.proofs.Common.{◌*◌, ◌≤◌, ◌∙◌, List, ap, length, take, arith}
 use Rattle.std.proofs.lemmas.List.{length-take}
 use Rattle.periodic.specs.declared.placement.Spot.{Spot}
-use Rattle.map_build.proofs.SameSpots.{frame-told, only-told, first-told, written-in_frame, written-sids}
+use Rattle.periodic.specs.Placement.{spots_in}
+use Rattle.map_build.specs.Plan.{demand_at}
+use Rattle.map_build.proofs.FirstMet.{meets-first-ok}
+use Rattle.map_build.proofs.SameSpots.{frame-told, only-told, written-in_frame, written-sids}
 use Rattle.map_build.proofs.frame.plan_with_book.Goals as goal
 
 pub plan_around-requires-clause-placed : goal.plan_around-requires-clause-placed
@@ -31,9 +34,11 @@ returns-clause-only c =
 
 pub returns-clause-first : goal.returns-clause-first
 returns-clause-first c =
-    first-told c.args.book.now.config c.args.table.now.config c.args.waiting.now c.args.frame c.args.table.now.placed
-    (take c.in_frame-count.result c.in_frame-count.new.spots) c.plan_around.result c.requires.config
-    c.in_frame-count.ensures.spots c.plan_around.ensures.first
+    let config = c.args.book.now.config in
+    meets-first-ok config
+    (demand_at c.args.book.now.flows (spots_in config c.args.frame c.args.table.now.placed) c.args.waiting.now
+    (c.args.frame * config.frame)) c.args.header c.args.ack c.plan_around.result c.requires.waiting
+    (returns-clause-lawful c)
 
 pub returns-clause-encodable : goal.returns-clause-encodable
 returns-clause-encodable c = λ channel stations.
