@@ -1,4 +1,4 @@
-//! The kinds of allocations. What each is on the wire stands here and nowhere else.
+//! The kinds of allocations, of which contracts of a MAP speak. What each is on the wire stands here and nowhere else.
 
 ghost use Rattle.std.specs.Prelude.{◌≡◌, ◌<◌, ◌^◌};
 ghost use Rattle.map_build.specs.Purpose.{kind_of};
@@ -15,8 +15,8 @@ pub(crate) const BROADCAST: u16 = 0x3fff;
 pub(crate) const NOBODY: u16 = 0;
 
 /// What an allocation is for.
-#[derive(Clone, Copy)]
-pub(crate) enum Purpose {
+#[derive(Clone, Copy, Debug)]
+pub enum Purpose {
     /// A poll: the polled flow of this SID may request.
     Poll(u16),
     /// A grant of the unsolicited flow of this SID, at its place in the cycle.
@@ -30,21 +30,25 @@ pub(crate) enum Purpose {
 }
 
 /// Minislots of a frame that stand side by side, and what they are for.
-#[derive(Clone, Copy)]
-pub(crate) struct Allocation {
+#[derive(Clone, Copy, Debug)]
+pub struct Allocation {
     /// The first of them, from the frame's start.
-    pub(crate) offset: u16,
+    pub offset: u16,
     /// How many they are.
-    pub(crate) slots: u16,
-    pub(crate) purpose: Purpose,
+    pub slots: u16,
+    /// What they are for.
+    pub purpose: Purpose,
 }
 
 /// What the element of an allocation says beside its offset, and the bytes that are told beside the element.
-#[derive(Clone, Copy)]
-pub(crate) struct Kind {
-    pub(crate) sid: u16,
-    pub(crate) iuc: u8,
-    pub(crate) bytes: u32,
+#[derive(Clone, Copy, Debug)]
+pub struct Kind {
+    /// Whom it is for.
+    pub sid: u16,
+    /// The usage code.
+    pub iuc: u8,
+    /// The bytes of a data grant, else 0.
+    pub bytes: u32,
 }
 
 impl Purpose {
