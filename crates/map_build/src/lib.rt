@@ -12,6 +12,7 @@ mod walk;
 pub use frame::{PlannedFrame, plan_frame, plan_with_book};
 pub use frame_map::{ByteCounts, FrameMap};
 pub use opportunity::{Header, Opportunity, Usage};
+pub use purpose::{Allocation, Kind, Purpose};
 
 /// The most data grants of one MAP, where no opportunity waits for it. Each that waits takes the place of one.
 pub const MAX_DATA_GRANTS: usize = 93;

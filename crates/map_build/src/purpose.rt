@@ -16,7 +16,7 @@ pub(crate) const NOBODY: u16 = 0;
 
 /// What an allocation is for.
 #[derive(Clone, Copy)]
-pub(crate) enum Purpose {
+pub enum Purpose {
     /// A poll: the polled flow of this SID may request.
     Poll(u16),
     /// A grant of the unsolicited flow of this SID, at its place in the cycle.
@@ -31,20 +31,20 @@ pub(crate) enum Purpose {
 
 /// Minislots of a frame that stand side by side, and what they are for.
 #[derive(Clone, Copy)]
-pub(crate) struct Allocation {
+pub struct Allocation {
     /// The first of them, from the frame's start.
-    pub(crate) offset: u16,
+    pub offset: u16,
     /// How many they are.
-    pub(crate) slots: u16,
-    pub(crate) purpose: Purpose,
+    pub slots: u16,
+    pub purpose: Purpose,
 }
 
 /// What the element of an allocation says beside its offset, and the bytes that are told beside the element.
 #[derive(Clone, Copy)]
-pub(crate) struct Kind {
-    pub(crate) sid: u16,
-    pub(crate) iuc: u8,
-    pub(crate) bytes: u32,
+pub struct Kind {
+    pub sid: u16,
+    pub iuc: u8,
+    pub bytes: u32,
 }
 
 impl Purpose {
