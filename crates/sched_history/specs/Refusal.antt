@@ -1,6 +1,6 @@
 -- The refusals of each call, in the order of their tests.
 use Rattle.std.specs.Prelude.{ℕ, ◌+◌, ◌-◌, ◌^◌, Bool, false, not, ◌||◌, ◌&&◌, nat_lt, nat_le, ◌==◌, List, [], ◌∷◌}
-use Rattle.std.specs.Prelude.{length, any, sum_by, Option, None, Some, is_some, option_map, if◌then◌else◌}
+use Rattle.std.specs.Prelude.{length, sum_by, Option, None, Some, is_some, option_map, if◌then◌else◌}
 use Rattle.std.specs.Option.{option_or, option_map_or}
 use Rattle.minislots.specs.declared.config.Config.{Config}
 use Rattle.flow_book.specs.declared.TheConstants.{MAX_FLOWS}
@@ -69,6 +69,10 @@ abbrev pub is_to_bad_sid : Usage → Bool
 is_to_bad_sid Initial = false
 is_to_bad_sid (Station sid) = bad_sid sid
 
+-- whether no window of contention may be as wide
+abbrev pub is_wide : ℕ → Bool
+is_wide exponent = nat_lt most_exponent exponent
+
 -- the first refusal of a call after a history; that there is no place for a flow is not among these
 abbrev pub refusal_of : Config → List Entry → Call → Option Refusal
 refusal_of c h (Admit sid spec) = first_of (
@@ -102,5 +106,5 @@ refusal_of c h (Reserve usage slots) = first_of (
     refused_if (slots == 0 || nat_lt (c.frame - c.req_slots) slots) BadLength ∷
     refused_if (nat_le MAX_RESERVES (length (reserves_of h))) ReservesFull ∷ [])
 refusal_of c h (Header count ranging_start ranging_end data_start data_end) = refused_if
-    (any (λ e. nat_lt most_exponent e) (ranging_start ∷ ranging_end ∷ data_start ∷ data_end ∷ [])) BadBackoff
+    (is_wide ranging_start || is_wide ranging_end || is_wide data_start || is_wide data_end) BadBackoff
 refusal_of c h (Status sid) = first_of (refused_if (bad_sid sid) BadSid ∷ refused_if (not (is_live sid h)) NoFlow ∷ [])

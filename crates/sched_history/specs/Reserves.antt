@@ -82,9 +82,13 @@ abbrev pub unmet_by : List Opportunity → List Reserve → List Reserve
 unmet_by [] rs = rs
 unmet_by (o ∷ os) rs = unmet_by os (without_first o rs)
 
+-- a Reserve that one MAP more has not met
+abbrev pub older : Reserve → Reserve
+older r = record r { maps = r.maps + 1 }
+
 -- Reserves that one MAP more has not met, without those that have lapsed
 abbrev pub aged : List Reserve → List Reserve
-aged rs = filter (λ r. nat_lt r.maps last_map) (map (λ r. record r { maps = r.maps + 1 }) rs)
+aged rs = filter (λ r. nat_lt r.maps last_map) (map older rs)
 
 -- the Reserves after a reply: a MAP meets some, and the others are older
 abbrev pub reserves_by : Reply → List Reserve → List Reserve
@@ -96,10 +100,14 @@ abbrev pub reserves_with : Option Opportunity → List Reserve → List Reserve
 reserves_with None rs = rs
 reserves_with (Some o) rs = rs ++ new_reserve o ∷ []
 
+-- the Reserves after an entry
+abbrev pub reserves_then : Entry → List Reserve → List Reserve
+reserves_then e rs = reserves_with (reserve_by e.call e.reply) (reserves_by e.reply rs)
+
 -- the Reserves after these entries, where there were some before
 abbrev pub reserves_after : List Reserve → List Entry → List Reserve
 reserves_after rs [] = rs
-reserves_after rs (e ∷ es) = reserves_after (reserves_with (reserve_by e.call e.reply) (reserves_by e.reply rs)) es
+reserves_after rs (e ∷ es) = reserves_after (reserves_then e rs) es
 
 -- the Reserves of a history that are neither met nor lapsed, in their order
 abbrev pub reserves_of : List Entry → List Reserve
@@ -108,6 +116,10 @@ reserves_of h = reserves_after [] h
 -- the opportunities of the first Reserves, which wait for the next MAP
 abbrev pub waiting_in : List Reserve → List Opportunity
 waiting_in rs = map (λ r. r.opportunity) (take MAX_WAITING rs)
+
+-- what is left of a Reserve that was met, or was not
+abbrev pub left_of : Bool → Reserve → List Reserve
+left_of is_met r = if is_met then [] else r ∷ []
 
 -- the Reserves at whose places no mark stands
 abbrev pub unmarked : List Bool → List Reserve → List Reserve

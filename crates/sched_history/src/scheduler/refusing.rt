@@ -1,12 +1,12 @@
 //! Which calls are refused: the tests in their order, of which the first that holds is answered.
 
-ghost use Rattle.std.specs.Prelude.{◌≡◌, ◌≤◌, ◌+◌, ◌∷◌, [], false, not, nat_lt, nat_le, ◌==◌, ◌||◌, ◌&&◌, any, option_map};
+ghost use Rattle.std.specs.Prelude.{◌≡◌, ◌≤◌, ◌+◌, ◌∷◌, [], false, not, nat_lt, nat_le, ◌==◌, ◌||◌, ◌&&◌, option_map};
 ghost use Rattle.flow_book.specs.FlowSpec.{is_periodic, grants_of, takes_requests};
 ghost use Rattle.periodic.specs.declared.TheConstants.{MAX_PERIODIC_GRANTS};
 ghost use Rattle.sched_history.specs.Life.{life_of};
 ghost use Rattle.sched_history.specs.Time.{next_after, progress_of};
 ghost use Rattle.sched_history.specs.Refusal.{bad_sid, is_live, is_silent, periodic_grants, refused_if};
-ghost use Rattle.sched_history.specs.Refusal.{first_of, refusal_of, most_bytes, most_exponent};
+ghost use Rattle.sched_history.specs.Refusal.{first_of, refusal_of, most_bytes, is_wide};
 
 use super::present::Present;
 use crate::call::Call;
@@ -48,15 +48,24 @@ pub(super) fn takes_requests(spec: FlowSpec) -> bool
 }
 
 // The refusal of exponents of backoff windows.
-fn refuse_backoff(exponents: [u8; 4]) -> Option<Refusal>
-    ensures { result ≡ refused_if (any (λ e. nat_lt most_exponent e) exponents) Refusal.BadBackoff }
+fn refuse_backoff(
+    ranging_start: u8,
+    ranging_end: u8,
+    data_start: u8,
+    data_end: u8,
+) -> Option<Refusal>
+    ensures { result ≡ refused_if (is_wide ranging_start || is_wide ranging_end || is_wide data_start
+        || is_wide data_end) Refusal.BadBackoff }
 {
-    for exponent in exponents {
-        if exponent > MOST_EXPONENT {
-            return Some(Refusal::BadBackoff);
-        }
+    if ranging_start > MOST_EXPONENT
+        || ranging_end > MOST_EXPONENT
+        || data_start > MOST_EXPONENT
+        || data_end > MOST_EXPONENT
+    {
+        Some(Refusal::BadBackoff)
+    } else {
+        None
     }
-    None
 }
 
 impl<'a> Present<'a> {
@@ -86,7 +95,7 @@ impl<'a> Present<'a> {
                 data_start,
                 data_end,
                 ..
-            } => refuse_backoff([ranging_start, ranging_end, data_start, data_end]),
+            } => refuse_backoff(ranging_start, ranging_end, data_start, data_end),
         }
     }
 

@@ -1,9 +1,9 @@
 //! The Reserves that are neither met nor lapsed, in a fixed room.
 
-ghost use Rattle.std.specs.Prelude.{◌≡◌, ◌<◌, ◌≤◌, ◌++◌, ◌∷◌, [], map, take, length, nat_le};
+ghost use Rattle.std.specs.Prelude.{◌≡◌, ◌<◌, ◌≤◌, ◌+◌, ◌++◌, ◌∷◌, [], false, map, take, drop, length, nat_le, get_or};
 ghost use Rattle.sched_history.specs.declared.call.TheConstants.{MAX_RESERVES};
 ghost use Rattle.map_build.specs.declared.TheConstants.{MAX_WAITING};
-ghost use Rattle.sched_history.specs.Reserves.{new_reserve, aged, unmarked};
+ghost use Rattle.sched_history.specs.Reserves.{new_reserve, aged, left_of, unmarked};
 
 use crate::MAX_RESERVES;
 use map_build::{MAX_WAITING, Opportunity, Usage};
@@ -28,6 +28,32 @@ pub(crate) struct Reserve {
     maps: u8,
 }
 
+// Whether a mark stands at this place.
+fn is_marked(met: &[bool; MAX_WAITING], place: usize) -> bool
+    ensures { result ≡ get_or met.now place false }
+{
+    place < MAX_WAITING && met[place]
+}
+
+// Puts a Reserve that one MAP more came after behind the first ones, which are kept, unless the MAP met it or it has
+// lapsed. Answers how many are kept then.
+fn keep(items: &mut [Reserve; MAX_RESERVES], kept: usize, reserve: Reserve, is_met: bool) -> usize
+    requires { kept < MAX_RESERVES }
+    ensures kept { take result items.new ≡ take kept items.old ++ aged (left_of is_met reserve) }
+    ensures behind { drop (kept + 1) items.new ≡ drop (kept + 1) items.old }
+    ensures few { result ≤ kept + 1 }
+    ensures long { length items.new ≡ length items.old }
+{
+    if is_met || reserve.maps >= LAST_MAP - 1 {
+        return kept;
+    }
+    items[kept] = Reserve {
+        opportunity: reserve.opportunity,
+        maps: reserve.maps + 1,
+    };
+    kept + 1
+}
+
 // Reserves in the order in which they were accepted. Takes no memory.
 #[derive(Drop)]
 pub(crate) struct Reserves {
@@ -36,7 +62,7 @@ pub(crate) struct Reserves {
 }
 
 impl Model for Reserves {
-    ghost use Rattle.std.specs.Prelude.{◌≤◌, List, take};
+    ghost use Rattle.std.specs.Prelude.{◌≡◌, ◌≤◌, List, take, length};
     ghost use Rattle.sched_history.specs.declared.scheduler.reserves.Reserve.{Reserve};
     ghost use Rattle.sched_history.specs.declared.call.TheConstants.{MAX_RESERVES};
 
@@ -44,7 +70,7 @@ impl Model for Reserves {
 
     ghost view = { λ r. take r.count r.items };
 
-    ghost invariant = { λ r. r.count ≤ MAX_RESERVES };
+    ghost invariant = { λ r. (length r.items ≡ MAX_RESERVES) × (r.count ≤ MAX_RESERVES) };
 }
 
 impl Reserves {
@@ -108,15 +134,8 @@ impl Reserves {
     {
         let mut kept = 0;
         for place in 0..self.count {
-            let Reserve { opportunity, maps } = self.items[place];
-            let is_met = place < MAX_WAITING && met[place];
-            if !is_met && maps + 1 < LAST_MAP {
-                self.items[kept] = Reserve {
-                    opportunity,
-                    maps: maps + 1,
-                };
-                kept += 1;
-            }
+            let reserve = self.items[place];
+            kept = keep(&mut self.items, kept, reserve, is_marked(met, place));
         }
         self.count = kept;
     }

@@ -12,7 +12,7 @@ ghost use Rattle.periodic.specs.declared.TheConstants.{MAX_PERIODIC_GRANTS};
 ghost use Rattle.periodic.specs.Placement.{IsPlacement, NoPlacement};
 ghost use Rattle.periodic.specs.Table.{placed_grants, IsPlaced, with_placed, without as without_placed};
 ghost use Rattle.map_build.specs.declared.frame_map.FrameMap.{FrameMap};
-ghost use Rattle.map_build.specs.Opportunities.{HaveStationSids};
+ghost use Rattle.map_build.specs.Opportunities.{MayWait, HaveStationSids};
 ghost use Rattle.map_build.specs.FrameMap.{IsLawfulMap, IsLawfulFrame};
 ghost use Rattle.map_build.specs.Spots.{AreOfChannel, ArePeriodicOf};
 ghost use Rattle.sched_history.specs.declared.reply.Reply.TheVariants.{Flow};
@@ -215,6 +215,7 @@ impl State {
         requires started { AllByRecursion (HasStartedBy self.now.next) self.now.book.flows }
         requires periodic { ArePeriodicOf self.now.book.flows self.now.table.placed }
         requires channel { AreOfChannel self.now.book.flows }
+        requires waiting { MayWait (waiting_in self.now.reserves) }
         requires stations { HaveStationSids (waiting_in self.now.reserves) }
         ensures lawful { IfOk result (λ p. IsLawfulFrame self.now.config (next_demand self.now)
             self.now.header (least (take self.now.config.receivers self.now.progress)) p) }
@@ -247,7 +248,8 @@ impl State {
         ensures only { IfOk result (λ planned. (h : List Entry) → IsOpenTo self.now
             (Call.Build now) h → (n : FrameMap) → IsNextMap self.now.config h n → n ≡ planned.map) }
     {
-        let PlannedFrame { map, book, met } = self.plan_next(alloc)?;
+        let frame = self.plan_next(alloc)?;
+        let PlannedFrame { map, book, met } = frame;
         Ok(Planned {
             clock: now,
             kept: map.copy(alloc)?,
