@@ -2,9 +2,11 @@
 flow and goes through every window of them, tries every minislot for a placement, and asks every flow at each offset. It
 is slow, and says what the program has to say."""
 
-ALL_MODEMS, BROADCAST_IUC, NULL = 0x3FFF, 1, 7
+ALL_MODEMS, BROADCAST_IUC, INITIAL, STATION, NULL = 0x3FFF, 1, 3, 4, 7
 MOST_FLOWS, MOST_PERIODIC, MOST_GRANTS = 64, 40, 93
 MOST_BYTES, LAST_CLOCK, AHEAD = 1048560, 2**60, 4096
+MOST_RESERVES, MOST_WAITING, LAST_MAP = 64, 16, 64
+HEADING = ["ucd_count", "ranging_start", "ranging_end", "data_start", "data_end"]
 MICROS_OF_TICK = 25, 4
 
 
@@ -35,6 +37,13 @@ class Flow:
         return self.spec.get("grants", 1) if self.kind == "unsolicited" else 1
 
 
+class Wanted:
+    """An opportunity that was reserved: SID, usage and minislots, and how many MAPs came since without it."""
+
+    def __init__(self, sid, usage, slots):
+        self.element, self.slots, self.maps = (sid, usage), slots, 0
+
+
 class Refused(Exception):
     """That a call is refused, with the number of the refusal and what it tells."""
 
@@ -50,7 +59,8 @@ class Scheduler:
         self.config = {"phy": 0, **config}
         self.frame, self.next = config["frame"], config["start"]
         self.progress = [config["start"]] * config["receivers"]
-        self.flows, self.entries = {}, []
+        self.flows, self.entries, self.reserves = {}, [], []
+        self.heading = {key: config[key] for key in HEADING}
 
     def slots_for(self, count):
         return self.config["overhead"] + ceiling_of(count, self.config["bytes_per_slot"])
@@ -169,6 +179,24 @@ class Scheduler:
         self.next = ceiling_of(now + self.config["lead"], self.frame) * self.frame
         return {"kind": "skipped", "next": self.next}
 
+    def reserve(self, call):
+        station = call["usage"] == "station"
+        if station and not 1 <= call["sid"] <= 8191:
+            refuse(1)
+        if not 1 <= call["slots"] <= self.frame - self.config["req_slots"]:
+            refuse(18)
+        if len(self.reserves) >= MOST_RESERVES:
+            refuse(19)
+        element = (call["sid"], STATION) if station else (ALL_MODEMS, INITIAL)
+        self.reserves.append(Wanted(*element, call["slots"]))
+        return {"kind": "reserved"}
+
+    def header(self, call):
+        if any(call[key] > 15 for key in HEADING[1:]):
+            refuse(20)
+        self.heading = {key: call[key] for key in HEADING}
+        return {"kind": "noted"}
+
     def status(self, call):
         flow = self.live(call["sid"])
         return {"kind": "flow", "asked": flow.asked, "granted": flow.granted(), "outstanding": flow.outstanding()}
@@ -272,14 +300,18 @@ class Scheduler:
     def fill(self, start, periodic):
         """The elements of a frame up to the Null, each as (SID, usage, offset), and their bytes."""
         elements, counts = [(ALL_MODEMS, BROADCAST_IUC, 0)], [0]
-        at, served = self.config["req_slots"], 0
+        at, served, waiting, met = self.config["req_slots"], 0, self.reserves[:MOST_WAITING], []
         while at < self.frame:
             stop = periodic[0][0] if periodic else self.frame
             if at == stop:
                 at, sid, usage, slots = periodic.pop(0)
                 element, count = (sid, usage, at), 0
+            elif fitting := [it for it in waiting if it not in met and it.slots <= stop - at]:
+                met.append(fitting[0])
+                element, count, slots = (*fitting[0].element, at), 0, fitting[0].slots
             else:
-                sid = self.next_flow(start + at, stop - at) if served < MOST_GRANTS else None
+                may = served < MOST_GRANTS - len(waiting)
+                sid = self.next_flow(start + at, stop - at) if may else None
                 count = self.most(self.flows[sid], start + at, stop - at) if sid else 0
                 slots = self.slots_for(count) if sid else stop - at
                 element = (sid, self.usage(slots), at) if sid else (0, self.long_usage(), at)
@@ -289,7 +321,14 @@ class Scheduler:
             elements.append(element)
             counts.append(count)
             at += slots
+        self.age([it for it in self.reserves if it not in met])
         return elements, counts
+
+    def age(self, unmet):
+        """A MAP more has come, which did not meet these: those with so many that they have lapsed are forgotten."""
+        for wanted in unmet:
+            wanted.maps += 1
+        self.reserves = [it for it in unmet if it.maps < LAST_MAP]
 
     def map_of(self, start):
         elements, counts = self.fill(start, self.periodic_in(start))
@@ -302,9 +341,9 @@ class Scheduler:
 
     def payload(self, start, ack, elements):
         config = self.config
-        head = bytes([config["channel"], config["ucd_count"], len(elements), 0])
+        head = bytes([config["channel"], self.heading["ucd_count"], len(elements), 0])
         times = (start % 2**32).to_bytes(4, "big") + (ack % 2**32).to_bytes(4, "big")
-        windows = bytes(config[it] for it in ("ranging_start", "ranging_end", "data_start", "data_end"))
+        windows = bytes(self.heading[it] for it in HEADING[1:])
         words = [(sid << 18 | usage << 14 | offset).to_bytes(4, "big") for sid, usage, offset in elements]
         return (head + times + windows + b"".join(words)).hex()
 

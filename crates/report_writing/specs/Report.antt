@@ -83,9 +83,10 @@ refused_members [] counts = no_members
 refused_members (place ∷ places) counts =
     with_refusals place (slice_index counts place) (refused_members places counts)
 
--- the places of the numbers from 1 to 17, in the ascending order of their texts
+-- the places of the numbers from 1 to 20, in the ascending order of their texts
 abbrev pub by_text : List ℕ
-by_text = 0 ∷ 9 ∷ 10 ∷ 11 ∷ 12 ∷ 13 ∷ 14 ∷ 15 ∷ 16 ∷ 1 ∷ 2 ∷ 3 ∷ 4 ∷ 5 ∷ 6 ∷ 7 ∷ 8 ∷ []
+by_text =
+    0 ∷ 9 ∷ 10 ∷ 11 ∷ 12 ∷ 13 ∷ 14 ∷ 15 ∷ 16 ∷ 17 ∷ 18 ∷ 1 ∷ 19 ∷ 2 ∷ 3 ∷ 4 ∷ 5 ∷ 6 ∷ 7 ∷ 8 ∷ []
 
 -- the refusals with each number of which there is one
 abbrev pub refused_data : List ℕ → Data

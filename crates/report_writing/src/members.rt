@@ -63,7 +63,9 @@ static USES: [&str; 6] = [
 ];
 
 // The places of the refusals' numbers, which are counted from 1, in the ascending order of their texts.
-const BY_TEXT: [u8; 17] = [0, 9, 10, 11, 12, 13, 14, 15, 16, 1, 2, 3, 4, 5, 6, 7, 8];
+const BY_TEXT: [u8; 20] = [
+    0, 9, 10, 11, 12, 13, 14, 15, 16, 17, 18, 1, 19, 2, 3, 4, 5, 6, 7, 8,
+];
 
 // The name of a kind of flow.
 fn kind_name(spec: FlowSpec) -> &'static str

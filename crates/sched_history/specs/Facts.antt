@@ -19,6 +19,7 @@ use Rattle.sched_history.specs.declared.reply.Reply.{Reply}
 use Rattle.sched_history.specs.declared.reply.Reply.TheVariants.{Taken, Built}
 use Rattle.sched_history.specs.declared.reply.Entry.{Entry}
 use Rattle.sched_history.specs.Life.{flows_of, table_of}
+use Rattle.sched_history.specs.Reserves.{is_opportunity}
 use Rattle.sched_history.specs.Refusal.{bad_sid}
 use Rattle.sched_history.specs.History.{map_by}
 
@@ -59,11 +60,13 @@ abbrev pub StartsAscend : Config → List FrameMap → Type 0
 StartsAscend c maps =
     EachAfter (λ before m. AllByRecursion (λ earlier. earlier.start + c.frame ≤ m.start) before) [] maps
 
--- the element is a poll or an unsolicited grant: in the frame, to a flow, and without bytes that were asked
+-- the element is a poll or an unsolicited grant: in the frame, to a flow, without bytes that were asked, and no
+-- opportunity
 pub record IsPeriodic (c : Config) (e : Element) (bytes : ℕ) : Type 0 where
   pub in_frame : e.offset < c.frame
   pub to_flow : bad_sid e.sid ≡ false
   pub unasked : bytes ≡ 0
+  pub unreserved : is_opportunity e ≡ false
 
 -- the nominal time of a placed flow in the frame that starts there
 abbrev pub nominal_time : Config → ℕ → Placed → ℕ

@@ -9,6 +9,7 @@ pub use Rattle.map_build.specs.FrameMap
 pub mod Latest
 pub mod Life
 pub mod Time
+pub mod Reserves
 pub mod Refusal
 pub mod History
 pub mod Reply

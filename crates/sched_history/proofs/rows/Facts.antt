@@ -110,7 +110,7 @@ a_late_unsolicited_grant_is_refused holds =
     table_of-one (voiced ∷ []) 5 voiced_life first_placed (lit≤ tt) (lit≤ tt) refl refl
     (λ sid other. rw (ne_eqb 5 sid (λ e. other (sym e)))) in
     let says : (flow : Placed) × IsOnTime base (table_of (voiced ∷ [])) 800 (element 5 6 37) flow =
-    holds.on_time.1.0.1.1.0 (record { in_frame = lit< tt; to_flow = refl; unasked = refl }) in
+    holds.on_time.1.0.1.1.0 (record { in_frame = lit< tt; to_flow = refl; unasked = refl; unreserved = refl }) in
     let live : Contains (first_placed ∷ []) says.0 = rw table at says.1.live in
     let timed : IsOnTime base (table_of (voiced ∷ [])) 800 (element 5 6 37) first_placed =
     subst (IsOnTime base (table_of (voiced ∷ [])) 800 (element 5 6 37))
