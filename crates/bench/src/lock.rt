@@ -13,12 +13,12 @@ use std::time::{Clock, CpuClock};
 use ticket_lock::{Journal, Seat, TicketLock};
 
 // How many turns are taken in one run, by all threads together.
-const TURNS: usize = 400_000;
+pub(crate) const TURNS: usize = 400_000;
 
 // A count of turns, of which the lock sees nothing. It has 8 bytes, as the scheduler's desk.
 #[derive(Drop)]
-struct Count {
-    turns: usize,
+pub(crate) struct Count {
+    pub(crate) turns: usize,
 }
 
 impl Journal for Count {
@@ -84,7 +84,7 @@ fn take_all<R: Threads + Wait + Sync>(
 }
 
 // What turns at a ticket lock take, by so many seats.
-fn time_lock<R: Threads + Wait + Sync + Clock + CpuClock>(
+pub(crate) fn time_lock<R: Threads + Wait + Sync + Clock + CpuClock>(
     rt: &R,
     alloc: Global,
     threads: usize,

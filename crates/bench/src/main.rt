@@ -5,6 +5,7 @@
 mod alone;
 mod handing;
 mod lock;
+mod queue;
 mod readers;
 mod run;
 mod storms;
@@ -30,10 +31,11 @@ fn main(rt: HostRuntime) -> ExitCode {
     let printed = match word.as_str() {
         "handing" => handing::print(&rt, rt.alloc()),
         "lock" => lock::print(&rt, rt.alloc()),
+        "queue" => queue::print(&rt, rt.alloc()),
         "readers" => readers::print(&rt, rt.alloc()),
         "storm" => storms::print(&rt, rt.alloc()),
         _ => {
-            let _ = rt.eprintln("usage: bench [handing|lock|readers|storm]");
+            let _ = rt.eprintln("usage: bench [handing|lock|queue|readers|storm]");
             return ExitCode::from(2);
         }
     };

@@ -37,6 +37,12 @@ pub(crate) const WIDE: Config = Config {
     phy: 0,
 };
 
+// Where sixteen workers make theirs.
+const WIDEST: Config = Config {
+    calls: 640_000,
+    ..WIDE
+};
+
 // How many calls each worker makes.
 pub(crate) const CALLS: usize = 40_000;
 
@@ -132,14 +138,14 @@ struct Span {
     calls: u64,
 }
 
-// Times a storm of so many workers, 1 to 8: from the opening of its scheduler to its close and the audit of its
+// Times a storm of so many workers, 1 to 16: from the opening of its scheduler to its close and the audit of its
 // history, and from the first call of a worker to the last answer.
 fn time_storm<R: Threads + Wait + Sync + Clock + CpuClock>(
     rt: &R,
     alloc: Global,
     workers: usize,
 ) -> Option<Span> {
-    let checked = WIDE.check().ok()?;
+    let checked = WIDEST.check().ok()?;
     let mut scripts = Vec::with_capacity(alloc, workers).ok()?;
     for worker in 0..workers {
         scripts.push(script_of(alloc, worker).ok()?).ok()?;
@@ -196,7 +202,7 @@ pub fn print<R: Threads + Wait + Sync + Clock + CpuClock + Print>(
     alloc: Global,
 ) -> Option<()> {
     print_span(rt, 0, time_bare(rt, alloc)?)?;
-    for workers in [1, 2, 4, 8] {
+    for workers in [1, 2, 4, 8, 16] {
         print_span(rt, workers, time_storm(rt, alloc, workers)?)?;
     }
     Some(())

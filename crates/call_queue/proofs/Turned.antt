@@ -1,9 +1,9 @@
--- A turn at the lock, by a ticket that was looked at before.
-use Rattle.std.proofs.Common.{ℕ, List}
+-- A turn at the lock, by a ticket that was looked at before, and the seat after a call.
+use Rattle.std.proofs.Common.{◌≡◌, ℕ, List, ap, ◌∙◌}
 use Rattle.minislots.specs.declared.stamp.Stamp.{Stamp}
 use Rattle.ticket_lock.specs.Standing.{Standing}
 use Rattle.ticket_lock.proofs.Entered.{Enters-looks}
-use Rattle.call_queue.specs.Turns.{TakesTurn}
+use Rattle.call_queue.specs.Turns.{TakesTurn, CallsInTurn}
 
 module _ {T H E C R : Type 0} (stamp : E → Stamp) (head : T → H) (entries : T → List E)
     (made : Standing H E → T → C → T → R → Type 0) (call : C) (reply : R) where
@@ -17,3 +17,10 @@ module _ {T H E C R : Type 0} (stamp : E → Stamp) (head : T → H) (entries : 
     entered = Enters-looks head entries stamp ticket turn.holder looks turn.handed turn.entered;
     ended = turn.ended;
   }
+
+  -- a call leaves a seat at its lock
+  pub called_lock : (s w : Standing H E) → CallsInTurn stamp head entries made call reply s w → w.lock ≡ s.lock
+  called_lock s w turn =
+      ap (λ (u : Standing H E). u.lock) turn.turn.ended.left.left
+      ∙ ap (λ (u : Standing H E). u.lock) turn.turn.entered.entered
+      ∙ ap (λ (u : Standing H E). u.lock) turn.drawn.drawn

@@ -1,27 +1,15 @@
-//! The calls at a queue. Whoever holds makes its own call, and then those that were left with the next tickets, at most
-//! 64 of them, each by the seat that left it and in the order of the tickets.
-ghost use Rattle.std.specs.Prelude.{◌≡◌, ◌+◌, Some, IfOk, IfErr, IfSome};
+//! The calls at a queue. Whoever holds makes its own call, leaves, and goes on with those that were left with the next
+//! tickets.
+ghost use Rattle.std.specs.Prelude.{◌≡◌, ◌+◌, IfOk, IfErr};
 ghost use Rattle.ticket_lock.specs.Calls.{Draws, Enters, MayLeave, Leaves};
 ghost use Rattle.call_queue.specs.Turns.{IsHanded, EndsTurn, TakesTurn, CallsInTurn};
 
 use crate::calling::Calling;
 use crate::queue::CallQueue;
-use crate::tray::{Serving, Tray};
+use crate::tray::Tray;
 use crate::turns::Turns;
 use std::sync::Wait;
 use ticket_lock::{Held, Journal, Seat, Ticket};
-
-// How many calls of others a holder makes.
-const MOST_CALLS: u32 = 64;
-
-// A ticket and a call that were taken up from the tray of a seat, which is to be answered.
-struct Taken<'a, T: Journal, C: Calling<T>> {
-    tray: &'a Tray<Turns<T, C>>,
-    number: u32,
-    ticket: Ticket<T>,
-    call: C::Call,
-    serving: Serving<Turns<T, C>>,
-}
 
 impl<T: Journal, C: Calling<T>> CallQueue<T, C> {
     /// Draws the next ticket. It takes no memory and waits for nobody.
@@ -56,16 +44,33 @@ impl<T: Journal, C: Calling<T>> CallQueue<T, C> {
         requires kept { MayLeave T.stamp T.head T.entries held value }
         ensures left { Leaves T.stamp T.head T.entries held value result }
     {
-        let next = self.take_up(held.stamp().ticket.wrapping_add(1));
+        let after = held.stamp().ticket.wrapping_add(1);
         let left = self.lock.leave(held, value);
-        if let Some(taken) = next {
-            self.give_back(taken);
+        if let Some(number) = self.signs.shown(after) {
+            self.call_up(number, after);
         }
         left
     }
 
+    /// Gives the value back and serves the next ticket, as `leave` does. Then it makes the calls that were left with the
+    /// next tickets.
+    #[inline(always)]
+    pub fn leave_and_go_on<R: Wait>(&self, rt: &R, held: Held<T>, value: T) -> Seat<T>
+        requires own { held.lock ≡ self.now }
+        requires kept { MayLeave T.stamp T.head T.entries held value }
+        ensures left { Leaves T.stamp T.head T.entries held value result }
+    {
+        let after = held.stamp().ticket.wrapping_add(1);
+        let back = self.lock.leave(held, value);
+        if let Some(number) = self.signs.shown(after) {
+            self.go_on(rt, number, after);
+        }
+        back
+    }
+
     /// Makes a call by this seat: it draws a ticket, and takes its turn with it. Where the ticket is not served at
     /// once, the seat leaves it with the call, and waits: whoever holds makes the call, or serves the ticket.
+    #[inline(always)]
     #[tactic(auto, using(crate::proofs::Turned::turn_looked))]
     pub fn call<R: Wait>(&self, rt: &R, seat: Seat<T>, call: C::Call) -> (Seat<T>, C::Reply)
         requires own { seat.lock ≡ self.now }
@@ -75,12 +80,17 @@ impl<T: Journal, C: Calling<T>> CallQueue<T, C> {
         let ticket = self.lock.draw(seat);
         match self.lock.try_enter(ticket) {
             Ok((held, value)) => self.call_held(rt, held, value, call),
-            Err(ticket) => self.leave_call(rt, number, ticket, call),
+            Err(ticket) => {
+                // Taken apart, so that a call that did not wait need not put its reply into the memory of this one.
+                let (seat, reply) = self.leave_call(rt, number, (ticket, call));
+                (seat, reply)
+            }
         }
     }
 
-    /// Makes a call by the seat that holds, makes those that were left with the next tickets, and leaves. The value is
-    /// as it was entered.
+    /// Makes a call by the seat that holds, and leaves. Then it makes the calls that were left with the next tickets.
+    /// The value is as it was entered.
+    #[inline(always)]
     pub fn call_held<R: Wait>(
         &self,
         rt: &R,
@@ -92,31 +102,56 @@ impl<T: Journal, C: Calling<T>> CallQueue<T, C> {
         requires handed { IsHanded T.head T.entries held value }
         ensures ended { EndsTurn T.stamp T.head T.entries C.made call result.1 held value result.0 }
     {
-        let (mine, reply, next) = self.turn(rt, held, value, call);
-        if let Some(taken) = next {
-            self.call_for_others(rt, taken);
-        }
-        (mine, reply)
+        let mut value = value;
+        let reply = C::make(rt, &held, &mut value, call);
+        let seat = self.leave_and_go_on(rt, held, value);
+        (seat, reply)
     }
 
-    // Leaves the ticket with the call, and waits until the turn was taken, or takes it.
-    fn leave_call<R: Wait>(
+    /// Leaves a ticket that was not served yet with a call, and waits until the turn was taken, or takes it. It is the
+    /// ticket of the seat with this number. It is never put into its caller, which may go on without it.
+    #[inline(never)]
+    #[tactic(auto, using(crate::proofs::Turned::turn_looked))]
+    pub fn leave_call<R: Wait>(
         &self,
         rt: &R,
         number: u32,
+        left: (Ticket<T>, C::Call),
+    ) -> (Seat<T>, C::Reply)
+        requires own { left.0.lock ≡ self.now }
+        requires number { number ≡ left.0.number }
+        ensures turn { TakesTurn T.stamp T.head T.entries C.made left.1 result.1 left.0 result.0 }
+    {
+        let (ticket, call) = left;
+        let Some(tray) = self.free_tray(number) else {
+            return self.take_turn(rt, ticket, call);
+        };
+        if !self.signs.put_up(ticket.number(), number) {
+            return self.take_turn(rt, ticket, call);
+        }
+        match self.lock.try_enter(ticket) {
+            Ok((held, value)) => self.turn_and_go_on(rt, held, value, call),
+            Err(ticket) => self.wait_at(rt, tray, ticket, call),
+        }
+    }
+
+    // Leaves the ticket with the call on this tray, and waits until the turn was taken, or takes it. Its sign was put
+    // up.
+    fn wait_at<R: Wait>(
+        &self,
+        rt: &R,
+        tray: &Tray<Turns<T, C>>,
         ticket: Ticket<T>,
         call: C::Call,
     ) -> (Seat<T>, C::Reply)
         requires own { ticket.lock ≡ self.now }
+        requires tray { tray.now.about.value ≡ self.now }
         ensures turn { TakesTurn T.stamp T.head T.entries C.made call result.1 ticket result.0 }
     {
         let residue = ticket.number();
-        let Some(tray) = self.tray(number) else {
-            return self.take_turn(rt, ticket, call);
-        };
         match tray.leave((ticket, call)) {
             Ok(waiting) => {
-                if self.signs.put_up(residue, number) {
+                if self.signs.shown(residue).is_none() {
                     tray.call_up();
                 }
                 match tray.wait(rt, waiting) {
@@ -134,121 +169,6 @@ impl<T: Journal, C: Calling<T>> CallQueue<T, C> {
         ensures turn { TakesTurn T.stamp T.head T.entries C.made call result.1 ticket result.0 }
     {
         let (held, value) = self.lock.enter(rt, ticket);
-        self.call_held(rt, held, value, call)
-    }
-
-    // Makes a call by the seat that holds, takes up what was left with the next ticket, and leaves.
-    fn turn<R: Wait>(
-        &self,
-        rt: &R,
-        held: Held<T>,
-        value: T,
-        call: C::Call,
-    ) -> (Seat<T>, C::Reply, Option<Taken<'_, T, C>>)
-        requires own { held.lock ≡ self.now }
-        requires handed { IsHanded T.head T.entries held value }
-        ensures ended { EndsTurn T.stamp T.head T.entries C.made call result.1 held value result.0 }
-        ensures taken { IfSome result.2 (λ t. (t.ticket.lock ≡ self.now)
-            × (t.serving ≡ record { tray = t.tray.now; left = Some (t.ticket, t.call) })) }
-    {
-        let mut value = value;
-        let reply = C::make(rt, &held, &mut value, call);
-        let next = self.take_up(held.stamp().ticket.wrapping_add(1));
-        let seat = self.lock.leave(held, value);
-        (seat, reply, next)
-    }
-
-    // Takes up what was left with this ticket, which is served next.
-    fn take_up(&self, ticket: u64) -> Option<Taken<'_, T, C>>
-        ensures taken { IfSome result (λ t. (t.ticket.lock ≡ self.now)
-            × (t.serving ≡ record { tray = t.tray.now; left = Some (t.ticket, t.call) })) }
-    {
-        let number = self.signs.serve(ticket)?;
-        let tray = self.tray(number)?;
-        let (left, serving) = tray.take_up()?;
-        if left.0.number() != ticket {
-            tray.put_back(serving, left);
-            return None;
-        }
-        let (ticket, call) = left;
-        Some(Taken {
-            tray,
-            number,
-            ticket,
-            call,
-            serving,
-        })
-    }
-
-    // Puts back what was taken up, whose ticket is served: its seat goes on by itself.
-    fn give_back(&self, taken: Taken<'_, T, C>)
-        requires taken { taken.serving
-            ≡ record { tray = taken.tray.now; left = Some (taken.ticket, taken.call) } }
-    {
-        let Taken {
-            tray,
-            number: _,
-            ticket,
-            call,
-            serving,
-        } = taken;
-        tray.put_back(serving, (ticket, call));
-        tray.call_up();
-        tray.wake();
-    }
-
-    // Makes the call that was taken up, whose ticket is served, by its own seat, and answers it. What was left with the
-    // next ticket, if it was.
-    fn make_next<'a, R: Wait>(&'a self, rt: &R, taken: Taken<'a, T, C>) -> Option<Taken<'a, T, C>>
-        requires own { taken.ticket.lock ≡ self.now }
-        requires taken { taken.serving
-            ≡ record { tray = taken.tray.now; left = Some (taken.ticket, taken.call) } }
-        ensures taken { IfSome result (λ t. (t.ticket.lock ≡ self.now)
-            × (t.serving ≡ record { tray = t.tray.now; left = Some (t.ticket, t.call) })) }
-    {
-        let Taken {
-            tray,
-            number: _,
-            ticket,
-            call,
-            serving,
-        } = taken;
-        let (held, value) = self.lock.enter(rt, ticket);
-        let (seat, reply, next) = self.turn(rt, held, value, call);
-        tray.answer(serving, (seat, reply));
-        next
-    }
-
-    // Makes the calls that were left with the next tickets, at most so many, and then wakes those who sleep.
-    fn call_for_others<'a, R: Wait>(&'a self, rt: &R, first: Taken<'a, T, C>)
-        requires own { first.ticket.lock ≡ self.now }
-        requires taken { first.serving
-            ≡ record { tray = first.tray.now; left = Some (first.ticket, first.call) } }
-    {
-        let mut taken = first;
-        let mut answered = 0;
-        for _ in 0..MOST_CALLS {
-            answered |= 1 << (taken.number % 64);
-            match self.make_next(rt, taken) {
-                Some(next) => taken = next,
-                None => {
-                    self.wake(answered);
-                    return;
-                }
-            }
-        }
-        self.give_back(taken);
-        self.wake(answered);
-    }
-
-    // Wakes those of these seats who sleep. Bit i is that of seat i.
-    fn wake(&self, seats: u64) {
-        let mut seats = seats;
-        for _ in 0..seats.count_ones() {
-            if let Some(tray) = self.tray(seats.trailing_zeros()) {
-                tray.wake();
-            }
-            seats &= seats.wrapping_sub(1);
-        }
+        self.turn_and_go_on(rt, held, value, call)
     }
 }

@@ -5,6 +5,7 @@ mod board;
 mod calling;
 mod calls;
 mod deal;
+mod others;
 mod plays;
 mod queue;
 mod signs;

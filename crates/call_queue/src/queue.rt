@@ -9,6 +9,8 @@ use crate::turns::Turns;
 use std::alloc::Global;
 use std::marker::Model;
 use std::snapshot::Snapshot;
+use std::sync::atomic::AtomicBool;
+use std::sync::atomic::Ordering::SeqCst;
 use ticket_lock::{Journal, TicketLock};
 
 /// A ticket lock at which a seat that waits leaves its ticket with its call, and whoever holds makes it in its turn.
@@ -17,6 +19,8 @@ pub struct CallQueue<T: Journal, C: Calling<T>> {
     // By the seats' numbers, as far as there was memory.
     pub(crate) trays: Vec<Tray<Turns<T, C>>>,
     pub(crate) signs: Signs,
+    // Whether the lock was given to somebody, who may take turns at it by hand.
+    by_hand: AtomicBool,
 }
 
 // Clauses see the lock in it.
@@ -62,7 +66,21 @@ impl<T: Journal, C: Calling<T>> CallQueue<T, C> {
     {
         let trays = lay(alloc, &lock, seats);
         let signs = Signs::none(alloc);
-        CallQueue { lock, trays, signs }
+        CallQueue {
+            lock,
+            trays,
+            signs,
+            by_hand: AtomicBool::new(false),
+        }
+    }
+
+    /// The lock, for turns by hand. Who leaves by hand knows nothing of what was left here: from now on each seat waits
+    /// as at the lock alone.
+    pub fn lock(&self) -> &TicketLock<T>
+        ensures { result.now ≡ self.now }
+    {
+        self.by_hand.store(true, SeqCst);
+        &self.lock
     }
 
     /// The lock itself, which nobody shares any more.
@@ -73,8 +91,20 @@ impl<T: Journal, C: Calling<T>> CallQueue<T, C> {
             lock,
             trays: _,
             signs: _,
+            by_hand: _,
         } = self;
         lock
+    }
+
+    // The tray on which the seat with this number may leave a ticket that it has drawn. If an earlier ticket was drawn
+    // by hand, the lock was given before that, so none is left behind it.
+    pub(crate) fn free_tray(&self, number: u32) -> Option<&Tray<Turns<T, C>>>
+        ensures own { IfSome result (λ t. t.now.about.value ≡ self.now) }
+    {
+        if self.by_hand.load(SeqCst) {
+            return None;
+        }
+        self.tray(number)
     }
 
     // The tray of the seat with this number, if it has one.

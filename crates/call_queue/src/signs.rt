@@ -1,9 +1,11 @@
 //! Where a holder sees who left the ticket that it serves next. No clause tells of it: a sign says only where to look.
 //!
-//! A ticket that was left is made or called up. Whoever leaves it puts up its sign, and whoever serves it puts up that
-//! it is served, each by one exchange of the word of that ticket. Whoever comes second sees the other's: the holder
-//! then takes up what was left, or the seat takes its ticket back. At most 64 tickets are in flight, so no two of them
-//! have one word.
+//! A ticket that was left is made or called up. Its seat puts up a sign, looks once more at the lock, leaves the
+//! ticket, and asks whether the sign is still up; if not, it calls itself up. Whoever serves the ticket leaves the lock,
+//! and then looks for the sign: it takes up what was left, or, if that is not there yet, takes the sign down and calls
+//! up. So either the seat sees that its ticket is served, or the holder sees its sign. At most 64 tickets are in flight,
+//! but a holder may look late, when the word has the sign of a later ticket: so it takes down just the sign that it
+//! found. `checks/leaving` takes these steps in every order.
 use std::alloc::Global;
 use std::sync::atomic::AtomicU64;
 use std::sync::atomic::Ordering::SeqCst;
@@ -40,23 +42,32 @@ impl Signs {
         self.row.get((ticket % MAX_SEATS as u64) as usize)
     }
 
-    /// The seat with this number has left this ticket. Whether that is served, or none will look for it.
+    /// The seat with this number is about to leave this ticket. Whether a holder can see that.
     pub(crate) fn put_up(&self, ticket: u64, number: u32) -> bool {
         let Some(word) = self.word(ticket) else {
-            return true;
+            return false;
         };
-        let found = word.swap(sign_of(ticket, number as u64), SeqCst);
-        found == sign_of(ticket, SERVED)
+        word.store(sign_of(ticket, number as u64), SeqCst);
+        true
     }
 
-    /// This ticket is served now. The number of the seat that left it, if it was left.
-    pub(crate) fn serve(&self, ticket: u64) -> Option<u32> {
-        let found = self.word(ticket)?.swap(sign_of(ticket, SERVED), SeqCst);
+    /// The number of the seat whose sign is up for this ticket, if one is.
+    pub(crate) fn shown(&self, ticket: u64) -> Option<u32> {
+        let found = self.word(ticket)?.load(SeqCst);
         let number = found.wrapping_sub(sign_of(ticket, 0));
         if number < MAX_SEATS as u64 {
             Some(number as u32)
         } else {
             None
+        }
+    }
+
+    /// Takes down the sign of the seat with this number for this ticket, and no other: by now the word may have that of
+    /// a later ticket.
+    pub(crate) fn take_down(&self, ticket: u64, number: u32) {
+        if let Some(word) = self.word(ticket) {
+            let up = sign_of(ticket, number as u64);
+            let _found = word.compare_exchange(up, sign_of(ticket, SERVED), SeqCst, SeqCst);
         }
     }
 }

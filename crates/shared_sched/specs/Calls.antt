@@ -9,12 +9,16 @@ use Rattle.sched_history.specs.declared.reply.Unrecorded.{Unrecorded}
 use Rattle.sched_history.specs.declared.scheduler.handing_over.HandedOver.{HandedOver}
 use Rattle.ticket_lock.specs.declared.board.Logged.{Logged}
 use Rattle.ticket_lock.specs.Rule.{entry_of, IsOfOthers}
-use Rattle.ticket_lock.specs.Standing.{Standing}
+use Rattle.ticket_lock.specs.Standing.{Standing, stamp_of}
 use Rattle.sched_desk.specs.declared.event.Event.{Event}
 use Rattle.sched_desk.specs.Events.{author_of, history_in}
-use Rattle.sched_desk.specs.Calls.{entry_by, AnswersHeld}
+use Rattle.sched_desk.specs.Calls.{HasCalled, entry_by, AnswersHeld}
 use Rattle.sched_desk.specs.Handing.{is_given, portion_by, HandsOverHeld}
-use Rattle.sched_desk.specs.Desk.{FixedDesk, history_seen, own_entries, own_portions}
+use Rattle.sched_desk.specs.Desk.{DeskState, FixedDesk, history_seen, own_entries, own_portions}
+
+-- a call was made on the desk by this holder: with its number and its ticket, whatever thread made it
+abbrev pub IsMade : Standing FixedDesk Event → DeskState → Call → DeskState → Result Reply Unrecorded → Type 0
+IsMade s d call x answer = HasCalled d (stamp_of s) call x answer
 
 -- a seat has drawn a ticket and entered, and is this holder: it has seen what others alone had added
 pub record HasEntered (s holder : Standing FixedDesk Event) : Type 0 where

@@ -41,12 +41,12 @@ impl Shared {
         ensures none_waits { result.press.waiting ≡ [] }
     {
         let Shared {
-            lock,
+            queue,
             config,
             told: _,
             keeps: _,
         } = self;
-        let (recorder, counts) = close(config, lock, seats);
+        let (recorder, counts) = close(config, queue.into_lock(), seats);
         let (scheduler, press) = Box::into_inner(recorder).into_parts();
         let first = scheduler.handed_over();
         let history = scheduler.into_history();

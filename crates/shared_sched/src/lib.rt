@@ -2,6 +2,7 @@
 //! with no lock.
 #![tactic(auto)]
 
+mod calling;
 mod closing;
 mod fault;
 mod opening;

@@ -8,6 +8,7 @@ ghost use Rattle.sched_desk.specs.Desk.{fixed_of, events_of, empty_desk, desk_of
 
 use crate::fault::OpenFault;
 use crate::shared::{Desk, Shared};
+use call_queue::CallQueue;
 use map_snapshot::{MAX_READERS, Press, Reader, Whole, open_press};
 use minislots::Checked;
 use sched_desk::Recorder;
@@ -67,7 +68,7 @@ fn share<R: Wait>(
     match lay(alloc, recorder, seats, keeps) {
         Ok((lock, row)) => {
             let shared = Shared {
-                lock,
+                queue: CallQueue::of(alloc, lock, seats),
                 config: checked,
                 told,
                 keeps,

@@ -5,6 +5,8 @@ ghost use Rattle.sched_desk.specs.Calls.{IsEntered, AnswersHeld};
 ghost use Rattle.sched_desk.specs.Handing.{HandsOverHeld};
 ghost use Rattle.shared_sched.specs.Calls.{AnswersCall, HandsOver};
 
+use crate::calling::Calls;
+use call_queue::{CallQueue, Calling};
 use map_snapshot::Told;
 use minislots::Checked;
 use sched_desk::Recorder;
@@ -20,7 +22,7 @@ pub type Desk = sched_desk::Desk<Recorder>;
 /// has no `Drop`, so it has to be closed.
 #[must_use]
 pub struct Shared {
-    pub(crate) lock: TicketLock<Desk>,
+    pub(crate) queue: CallQueue<Desk, Calls>,
     // What clauses name: the desk has the same configuration, and the press that told this.
     pub(crate) config: Checked,
     pub(crate) told: Told,
@@ -33,20 +35,21 @@ impl Model for Shared {
 
     ghost Value = { SharedDesk };
 
-    ghost view = { λ s. record { config = s.config; press = s.told.press; keeps = s.keeps; lock = s.lock } };
+    ghost view = { λ s. record { config = s.config; press = s.told.press; keeps = s.keeps; lock = s.queue } };
 
-    ghost invariant = { λ s. IsDeskLock s.config s.lock
-        × HasPress s.config s.told.press s.keeps s.lock };
+    ghost invariant = { λ s. IsDeskLock s.config s.queue
+        × HasPress s.config s.told.press s.keeps s.queue };
 }
 
 impl Shared {
-    /// The lock round the desk, for callers who draw and enter by themselves.
+    /// The lock round the desk, for callers who draw and enter by themselves. From then on no seat leaves its calls to
+    /// others.
     pub fn lock(&self) -> &TicketLock<Desk>
         ensures lock { result.now ≡ self.now.lock }
         ensures desk { IsDeskLock self.now.config self.now.lock }
         ensures press { HasPress self.now.config self.now.press self.now.keeps self.now.lock }
     {
-        &self.lock
+        self.queue.lock()
     }
 
     /// Its configuration.
@@ -57,8 +60,9 @@ impl Shared {
     }
 
     /// Makes a call by this seat: it draws a ticket, waits until it is served, and records the call with its reply.
-    /// The entry waits, and so may a build, for readers. A call that is not recorded changes nothing: one where the
-    /// history is full, and one for which memory ran out.
+    /// Where the ticket is not served at once, whoever holds may take this turn, as any seat that holds may take the
+    /// turns of up to 64 that wait behind it. The entry waits, and so may a build, for readers. A call that is not
+    /// recorded changes nothing: one where the history is full, and one for which memory ran out.
     pub fn call<R: Wait>(
         &self,
         rt: &R,
@@ -68,9 +72,16 @@ impl Shared {
         requires own { seat.lock ≡ self.now.lock }
         ensures answered { AnswersCall self.now.config seat call result.0 result.1 }
     {
-        let ticket = self.lock.draw(seat);
-        let (held, desk) = self.lock.enter(rt, ticket);
-        self.call_held(rt, held, desk, call)
+        let number = seat.number();
+        let ticket = self.queue.draw(seat);
+        match self.queue.try_enter(ticket) {
+            Ok((held, desk)) => self.call_held(rt, held, desk, call),
+            Err(ticket) => {
+                // Taken apart, so that a call that did not wait need not put its reply into the memory of this one.
+                let (seat, answer) = self.queue.leave_call(rt, number, (ticket, call));
+                (seat, answer)
+            }
+        }
     }
 
     /// Makes a call by the seat that holds the desk, and leaves. The desk is as it was entered. A build that is
@@ -88,8 +99,8 @@ impl Shared {
         ensures answered { AnswersHeld self.now.config held call result.0 result.1 }
     {
         let mut desk = desk;
-        let answer = desk.call(rt, held.stamp(), call);
-        let seat = self.lock.leave(held, desk);
+        let answer = Calls::make(rt, &held, &mut desk, call);
+        let seat = self.queue.leave_and_go_on(rt, held, desk);
         (seat, answer)
     }
 
@@ -106,8 +117,8 @@ impl Shared {
         requires own { seat.lock ≡ self.now.lock }
         ensures given { HandsOver self.now.config self.now.keeps seat room result.0 result.1 }
     {
-        let ticket = self.lock.draw(seat);
-        let (held, desk) = self.lock.enter(rt, ticket);
+        let ticket = self.queue.draw(seat);
+        let (held, desk) = self.queue.enter(rt, ticket);
         self.hand_over_held(held, desk, room)
     }
 
@@ -125,7 +136,7 @@ impl Shared {
     {
         let mut desk = desk;
         let answer = desk.hand_over(held.stamp(), room);
-        let seat = self.lock.leave(held, desk);
+        let seat = self.queue.leave(held, desk);
         (seat, answer)
     }
 }

@@ -15,10 +15,10 @@ use ticket_lock::{Seat, TicketLock};
 
 // Threads that take turns at once, how many each takes, and the first ticket.
 #[derive(Clone, Copy)]
-struct Race {
-    threads: usize,
-    turns: usize,
-    first: u64,
+pub(super) struct Race {
+    pub(super) threads: usize,
+    pub(super) turns: usize,
+    pub(super) first: u64,
 }
 
 // Takes so many turns, each with an entry.
@@ -75,15 +75,20 @@ fn list_of_all<R: Threads + Wait + Sync + Abort>(rt: &R, alloc: Global, run: Rac
     list
 }
 
+// All entries of a race at the lock stand once, in the order of the tickets.
+fn is_run_in_order<R: Threads + Wait + Sync + Abort>(rt: &R, alloc: Global, run: Race) {
+    let list = list_of_all(rt, alloc, run);
+    is_in_order(rt, run, list.as_slice());
+}
+
 // The list of a race has as many entries of each seat as it took turns, and the tickets of all begin with the first,
 // and each is one more than the one before.
-fn is_run_in_order<R: Threads + Wait + Sync + Abort>(rt: &R, alloc: Global, run: Race) {
+pub(super) fn is_in_order(rt: &impl Abort, run: Race, list: &[Stamp]) {
     let Race {
         threads,
         turns,
         first,
     } = run;
-    let list = list_of_all(rt, alloc, run);
     assert!(rt;
         list.len() == threads.saturating_mul(turns),
         "{threads} threads, first {first}"

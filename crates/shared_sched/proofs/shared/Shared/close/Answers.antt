@@ -17,13 +17,16 @@ returns c =
     let machine = ap (λ (r : Recording). r.machine) parts in
     let closed = subst (λ (y : SharedDesk × Machine).
     ClosesTo y.0.config y.0.lock c.args.seats.items y.1.history y.1.handed counts)
-    (λ i. (c.self.view_is i, sym machine i)) c.close-recorder.ensures.closed in
+    (λ i. (c.self.view_is i, sym machine i))
+    (subst (λ l. ClosesTo c.self.inside.config l c.args.seats.items c.close-recorder.result.0.value.machine.history
+    c.close-recorder.result.0.value.machine.handed counts) c.into_lock.ensures c.close-recorder.ensures.closed) in
     let has = subst (λ (d : SharedDesk). HasPress d.config d.press d.keeps d.lock) c.self.view_is c.self.invariant.1 in
     let head = c.close-recorder.ensures.head in
     let fixed = same_Some
     (record { config = c.self.inside.config; press = c.close-recorder.result.0.value.press; keeps = head.0 })
     (record { config = c.self.inside.config; press = c.self.inside.told.press; keeps = c.self.inside.keeps })
-    (sym head.1 ∙ c.self.invariant.1) in
+    (sym (subst (HasPress c.self.inside.config c.close-recorder.result.0.value.press head.0) c.into_lock.ensures head.1)
+    ∙ c.self.invariant.1) in
     let first = c.handed_over-first.ensures in
     record {
       closed = (
