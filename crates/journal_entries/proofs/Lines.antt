@@ -113,7 +113,7 @@ CameAll-torn before mid remaining hand lines n came torn =
     }
 
 -- a line that stands for one entry more
-StandFor-push : (lines : List (List ℕ)) (c : Config) (es : List Entry) (line : List ℕ) (e : Entry)
+pub StandFor-push : (lines : List (List ℕ)) (c : Config) (es : List Entry) (line : List ℕ) (e : Entry)
     → StandFor lines c es → entry_in_line line ≡ Some e → StandFor (lines ++ line ∷ []) c (es ++ e ∷ [])
 StandFor-push lines c es line e stand is = record {
   opening = stand.opening;
@@ -143,7 +143,7 @@ pub in_line-short : {A : Type 0} (stands : List ℕ → Option A) (line : List �
     → in_line stands line ≡ stands line
 in_line-short stands line short = rw (le-ltb MAX_LINE (length line) short) refl
 
-slice_get-last : (es : List Entry) (e : Entry) → slice_get (es ++ e ∷ []) (length es) ≡ Some e
+pub slice_get-last : (es : List Entry) (e : Entry) → slice_get (es ++ e ∷ []) (length es) ≡ Some e
 slice_get-last [] e = refl
 slice_get-last (x ∷ es) e = slice_get-last es e
 
@@ -162,10 +162,10 @@ module _ (before mid remaining : Option (List ℕ)) (hand : List ℕ) (c : Confi
 
   module _ (line : List ℕ) (within : IsWithinLine line)
       (taken : Consumes mid (prepend_known hand remaining) (line ++ NEWLINE ∷ [])) where
-    came_line : Came before (prepend_known hand remaining) (so_far.lines ++ line ∷ []) []
+    pub came_line : Came before (prepend_known hand remaining) (so_far.lines ++ line ∷ []) []
     came_line = Came-push before mid (prepend_known hand remaining) so_far.lines so_far.came line within taken
 
-    came_hand : Came before remaining (so_far.lines ++ line ∷ []) hand
+    pub came_hand : Came before remaining (so_far.lines ++ line ∷ []) hand
     came_hand = Came-hand before remaining hand (so_far.lines ++ line ∷ []) came_line
 
     -- a line that stands for one entry more

@@ -3,3 +3,4 @@ pub mod Taking
 pub mod Journal
 pub mod Next
 pub mod End
+pub mod Unjudged

@@ -42,7 +42,7 @@ pub struct JournalEntries {
 }
 
 // Reads the first line: the configuration, where it is one.
-fn read_opening<R: Source>(
+pub(crate) fn read_opening<R: Source>(
     alloc: Global,
     lines: &mut Lines,
     reader: &mut R,

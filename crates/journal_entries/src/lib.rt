@@ -5,6 +5,8 @@
 mod end;
 mod entries;
 mod line;
+mod unjudged;
 
 pub use end::EntriesEnd;
 pub use entries::{JournalEntries, Next};
+pub use unjudged::{Read, UnjudgedEntries};

@@ -1,18 +1,16 @@
 //! The entries of a journal, taken one by one and kept nowhere.
 
-ghost use Rattle.std.specs.Prelude.{◌≡◌, ◌<◌, ◌∷◌, ◌++◌, [], List, ℕ, Option, length, IfOk, IfErr, OnOk};
-ghost use Rattle.sched_history.specs.declared.reply.TheConstants.{MAX_WHOLE_HISTORY};
-ghost use Rattle.sched_history.specs.History.{IsLegal};
+ghost use Rattle.std.specs.Prelude.{◌≡◌, [], List, ℕ, Option, IfOk, IfErr, OnOk};
 ghost use Rattle.text_stream.specs.Watched.{FailsBy};
 ghost use Rattle.journal_entries.specs.Journal.{StopsJournal};
-ghost use Rattle.journal_entries.specs.Next.{HasGiven};
+ghost use Rattle.journal_entries.specs.Unjudged.{HasRead};
 ghost use Rattle.journal_entries.specs.End.{EndsBehind};
 ghost use Rattle.report_command.specs.Journal.{IsShown};
 
-use journal_entries::{EntriesEnd, JournalEntries, Next};
+use journal_entries::{EntriesEnd, Read, UnjudgedEntries};
 use minislots::Checked;
 use report_picture::TimedReporter;
-use sched_history::{Entry, JudgeFault, MAX_WHOLE_HISTORY};
+use sched_history::{JudgeFault, MAX_WHOLE_HISTORY};
 use std::alloc::Global;
 use text_stream::{Source, TextFault};
 
@@ -28,76 +26,52 @@ pub(crate) enum Shown {
     Bad(u64),
 }
 
-// Shows an entry to a reporter that may follow those that it has taken.
-fn take_legal(reporter: &mut TimedReporter, entry: &Entry) -> Result<(), TextFault>
-    requires legal { IsLegal reporter.old.config (reporter.old.history ++ entry.now ∷ []) }
-    requires few { length reporter.old.history < MAX_WHOLE_HISTORY }
-    ensures taken { OnOk result
-        (reporter.new ≡ record reporter.old { history = reporter.old.history ++ entry.now ∷ [] }) }
-    ensures err { IfErr result (λ e. e ≡ TextFault.Memory) }
-{
-    match reporter.take(entry) {
-        Ok(()) => Ok(()),
-        Err(JudgeFault::Memory) => Err(TextFault::Memory),
-        Err(JudgeFault::Illegal) => unreachable!(),
-        Err(JudgeFault::Full) => unreachable!(),
-    }
-}
-
-// Shows the entries of a journal to a reporter, up to what ends it.
+// Shows the entries of a journal to a reporter, which judges each, up to what ends it.
 fn take_entries<R: Source>(
-    entries: &mut JournalEntries,
+    entries: &mut UnjudgedEntries,
     reporter: &mut TimedReporter,
     reader: &mut R,
 ) -> Result<EntriesEnd, TextFault>
-    requires same { reporter.old ≡ entries.old.auditor }
-    requires none { entries.old.auditor.history ≡ [] }
+    requires none { reporter.old.history ≡ [] }
 
     ensures takes { IfOk result (λ end. (before : Option (List ℕ)) →
-        HasGiven before (R.remaining reader.old) entries.old →
+        HasRead before (R.remaining reader.old) entries.old reporter.old.config [] →
         EndsBehind before (R.remaining reader.new) reporter.new.config reporter.new.history end) }
     ensures config { OnOk result (reporter.new.config ≡ reporter.old.config) }
     ensures stops { IfErr result (λ fault. (before : Option (List ℕ)) →
-        HasGiven before (R.remaining reader.old) entries.old →
+        HasRead before (R.remaining reader.old) entries.old reporter.old.config [] →
         StopsJournal before (R.remaining reader.new) fault) }
     ensures failed { FailsBy TextFault.Input result (R.has_failed reader.old) (R.has_failed reader.new) }
 {
-    for _ in 0..=MAX_WHOLE_HISTORY {
+    for place in 0..=MAX_WHOLE_HISTORY {
         match entries.next(reader) {
-            Ok(Next::Entry(entry)) => {
-                // It was judged, and there are fewer than a reporter takes.
-                let _taken = entries.auditor.taken();
-                match take_legal(reporter, &entry) {
-                    Ok(()) => {}
-                    Err(_) => return Err(TextFault::Memory),
-                }
-            }
-            Ok(Next::Illegal(place)) => return Ok(EntriesEnd::Illegal(place)),
-            Ok(Next::Bad(line)) => return Ok(EntriesEnd::Bad(line)),
-            Ok(Next::End(torn)) => return Ok(EntriesEnd::Legal(torn)),
+            Ok(Read::Entry(entry)) => match reporter.take(&entry) {
+                Ok(()) => {}
+                Err(JudgeFault::Illegal) => return Ok(EntriesEnd::Illegal(place)),
+                Err(JudgeFault::Full) => return Err(TextFault::TooLong),
+                Err(JudgeFault::Memory) => return Err(TextFault::Memory),
+            },
+            Ok(Read::NoEntry) => return Ok(EntriesEnd::Bad(place + 1)),
+            Ok(Read::End(torn)) => return Ok(EntriesEnd::Legal(torn)),
             Err(fault) => return Err(fault),
         }
     }
-    // Fewer entries are given than there were turns.
-    let _most = entries.auditor.taken();
-    Err(TextFault::TooLong)
+    // Fewer entries are taken than there were turns.
+    unreachable!()
 }
 
 // Shows the entries that come to a reporter, which tells of them where all are legal.
 fn show_entries<R: Source>(
     alloc: Global,
-    mut entries: JournalEntries,
+    mut entries: UnjudgedEntries,
     config: Checked,
     reader: &mut R,
 ) -> Result<Shown, TextFault>
-    requires none { entries.auditor.history ≡ [] }
-    requires same { entries.auditor.config ≡ config }
-
     ensures shown { IfOk result (λ shown. (before : Option (List ℕ)) →
-        HasGiven before (R.remaining reader.old) entries →
+        HasRead before (R.remaining reader.old) entries config [] →
         IsShown before (R.remaining reader.new) shown) }
     ensures stops { IfErr result (λ fault. (before : Option (List ℕ)) →
-        HasGiven before (R.remaining reader.old) entries →
+        HasRead before (R.remaining reader.old) entries config [] →
         StopsJournal before (R.remaining reader.new) fault) }
     ensures failed { FailsBy TextFault.Input result (R.has_failed reader.old) (R.has_failed reader.new) }
 {
@@ -112,13 +86,13 @@ fn show_entries<R: Source>(
     }
 }
 
-// Reads a journal, of any length, in the memory of one line, of an auditor and of a reporter.
+// Reads a journal, of any length, in the memory of one line and of a reporter, which judges each entry once.
 pub(crate) fn show_journal<R: Source>(alloc: Global, reader: &mut R) -> Result<Shown, TextFault>
     ensures shown { IfOk result (IsShown (R.remaining reader.old) (R.remaining reader.new)) }
     ensures stops { IfErr result (StopsJournal (R.remaining reader.old) (R.remaining reader.new)) }
     ensures failed { FailsBy TextFault.Input result (R.has_failed reader.old) (R.has_failed reader.new) }
 {
-    match JournalEntries::open(alloc, reader) {
+    match UnjudgedEntries::open(alloc, reader) {
         Ok(Some((config, entries))) => show_entries(alloc, entries, config, reader),
         Ok(None) => Ok(Shown::Bad(0)),
         Err(fault) => Err(fault),

@@ -16,6 +16,7 @@ pub mod LifeNotes
 pub mod LifeTold
 pub mod LivesEach
 pub mod LivesGoing
+pub mod Naming
 pub mod LiveNow
 pub mod RowsPercentiles
 pub mod RowsSaid

@@ -51,7 +51,7 @@ request_unsolicited spec sid other (calls.Ask receiver to bytes heard) replies.T
 request_unsolicited spec sid other call reply r is = absurd (cc)
 
 -- nor has an entry without a MAP
-ungranted : (sid : ℕ) (reply : Reply) → ((m : FrameMap) → reply ≡ replies.Built m → ⊥) → grants_by sid reply ≡ []
+pub ungranted : (sid : ℕ) (reply : Reply) → ((m : FrameMap) → reply ≡ replies.Built m → ⊥) → grants_by sid reply ≡ []
 ungranted sid (replies.Built m) unbuilt = absurd (unbuilt m refl)
 ungranted sid (replies.Skipped n) unbuilt = refl
 ungranted sid (replies.Admitted placement) unbuilt = refl
@@ -61,7 +61,7 @@ ungranted sid replies.Noted unbuilt = refl
 ungranted sid (replies.Flow asked granted outstanding) unbuilt = refl
 ungranted sid (replies.Refused refusal) unbuilt = refl
 
-ungranted_unsolicited : (spec : FlowSpec) (sid : ℕ) (reply : Reply)
+pub ungranted_unsolicited : (spec : FlowSpec) (sid : ℕ) (reply : Reply)
     → ((m : FrameMap) → reply ≡ replies.Built m → ⊥) → unsolicited_by spec sid reply ≡ 0
 ungranted_unsolicited spec sid (replies.Built m) unbuilt = absurd (unbuilt m refl)
 ungranted_unsolicited spec sid (replies.Skipped n) unbuilt = refl
@@ -205,17 +205,21 @@ module _ (c : Config) (t : LifeTally) (life : PastLife) (slot : ℕ) (e : Entry)
       (subst (λ r. IsServiceOf c new.service (requests_in life.sid life.since)
       (grants_since life.sid life.since ++ grants_by life.sid r)) (sym built) service))
 
-  -- and with neither
-  pub goes_on-silent : request_by life.sid e.call e.reply ≡ None
-      → ((m : FrameMap) → e.reply ≡ replies.Built m → ⊥) → IsLifeOf c t (with_entry e life)
-  goes_on-silent silent unbuilt =
-      let none : unsolicited_by life.spec life.sid e.reply ≡ 0 =
-      ungranted_unsolicited life.spec life.sid e.reply unbuilt in
+  -- and where it has none of either, as it was
+  pub goes_on-untouched : request_by life.sid e.call e.reply ≡ None → grants_by life.sid e.reply ≡ []
+      → unsolicited_by life.spec life.sid e.reply ≡ 0 → IsLifeOf c t (with_entry e life)
+  goes_on-untouched silent no_grants none =
       goes_on t refl refl refl refl (omega (arith, none)) (omega (arith, none))
       (subst (λ gs. IsServiceOf c t.service
       (requests_in life.sid life.since ++ cons_option (request_by life.sid e.call e.reply) []) gs)
-      (sym (ap (λ (gs : List Grant). grants_since life.sid life.since ++ gs) (ungranted life.sid e.reply unbuilt)
+      (sym (ap (λ (gs : List Grant). grants_since life.sid life.since ++ gs) no_grants
       ∙ append-nil (grants_since life.sid life.since)))
       (subst (λ rs. IsServiceOf c t.service rs (grants_since life.sid life.since))
       (sym (ap (λ (o : Option Request). requests_in life.sid life.since ++ cons_option o []) silent
       ∙ append-nil (requests_in life.sid life.since))) is.service))
+
+  pub goes_on-silent : request_by life.sid e.call e.reply ≡ None
+      → ((m : FrameMap) → e.reply ≡ replies.Built m → ⊥) → IsLifeOf c t (with_entry e life)
+  goes_on-silent silent unbuilt =
+      goes_on-untouched silent (ungranted life.sid e.reply unbuilt)
+      (ungranted_unsolicited life.spec life.sid e.reply unbuilt)

@@ -11,5 +11,6 @@ pub mod Lives
 pub mod Said
 pub mod Ranks
 pub mod Told
+pub mod Named
 pub mod Live
 pub mod ToldLives

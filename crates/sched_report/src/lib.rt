@@ -4,6 +4,7 @@
 mod calls;
 mod life;
 mod lives;
+mod named;
 mod percentiles;
 mod ranks;
 mod reporter;

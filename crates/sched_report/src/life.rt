@@ -15,11 +15,13 @@ ghost use Rattle.sched_report.specs.Delays.{AreSums};
 ghost use Rattle.sched_report.specs.Lives.{PastLife, is_turn, request_by, requests_in, with_entry};
 ghost use Rattle.sched_report.specs.Ranks.{is_of_rank, is_chosen};
 ghost use Rattle.sched_report.specs.Said.{delays_in, priority_of, granted_in, waiting_in, dropped_in};
+ghost use Rattle.sched_report.specs.Named.{TellsNamed};
 ghost use Rattle.sched_report.specs.Steps.{CountsUpto};
 ghost use Rattle.sched_report.specs.Said.{is_grant_to, unsolicited_of_map};
 ghost use Rattle.sched_report.specs.Told.{IsLifeOf, MayNote, MayGrantAll, HasRoomFor};
 ghost use Rattle.sched_report.specs.ToldLives.{AreLifeNumbers};
 
+use crate::named::{Marks, is_marked};
 use crate::percentiles::percentile;
 use crate::service::{Request, Service, Sums};
 use crate::slots::Use;
@@ -196,8 +198,25 @@ impl LifeTally {
         self.to.is_some()
     }
 
-    // Takes memory for the request that an entry is, where it is one of this SID. What is told stays.
-    pub(crate) fn reserve_for(&mut self, entry: &Entry) -> Result<(), AllocError>
+    // Takes memory for the request that an entry is, where it is one of this SID, which is among those that it names.
+    // What is told stays.
+    pub(crate) fn reserve_named(&mut self, entry: &Entry, marks: &Marks) -> Result<(), AllocError>
+        requires { TellsNamed marks.now entry.now }
+        ensures ok { OnOk result
+            ((r : Asked) → request_by self.new.sid entry.now.call entry.now.reply ≡ Some r
+            → HasRoomFor self.new) }
+        ensures same { (c : Config) (life : PastLife) → IsLifeOf c self.old life
+            → IsLifeOf c self.new life }
+        ensures unmoved { self.new ≡ record self.old { service = self.new.service } }
+    {
+        if !is_marked(marks, self.sid) {
+            return Ok(());
+        }
+        self.reserve_for(entry)
+    }
+
+    // The same, whatever SIDs it names.
+    fn reserve_for(&mut self, entry: &Entry) -> Result<(), AllocError>
         ensures ok { OnOk result
             ((r : Asked) → request_by self.new.sid entry.now.call entry.now.reply ≡ Some r
             → HasRoomFor self.new) }
@@ -211,8 +230,28 @@ impl LifeTally {
         self.service.reserve()
     }
 
-    // Goes on with one entry more, before which the next frame starts there.
-    pub(crate) fn note(&mut self, config: &Checked, next: u64, entry: &Entry)
+    // Goes on with one entry more, before which the next frame starts there. One that does not name this SID changes
+    // nothing.
+    pub(crate) fn note_named(&mut self, config: &Checked, next: u64, entry: &Entry, marks: &Marks)
+        requires may { (life : PastLife) × IsLifeOf config.now self.old life
+            × MayNote config.now life next entry.now }
+        requires room { self.old.to ≡ None → (r : Asked)
+            → request_by self.old.sid entry.now.call entry.now.reply ≡ Some r
+            → HasRoomFor self.old }
+        requires marks { TellsNamed marks.now entry.now }
+        ensures life { (life : PastLife) → IsLifeOf config.now self.old life
+            → MayNote config.now life next entry.now
+            → IsLifeOf config.now self.new (with_entry entry.now life) }
+        ensures alive { self.new.to ≡ None → self.old.to ≡ None }
+    {
+        if !is_marked(marks, self.sid) {
+            return;
+        }
+        self.note(config, next, entry);
+    }
+
+    // The same, whatever SIDs it names.
+    fn note(&mut self, config: &Checked, next: u64, entry: &Entry)
         requires may { (life : PastLife) × IsLifeOf config.now self.old life
             × MayNote config.now life next entry.now }
         requires room { self.old.to ≡ None → (r : Asked)

@@ -12,6 +12,7 @@ ghost use Rattle.sched_report.specs.Lives.{IsRequest, IsOpening};
 ghost use Rattle.sched_report.specs.ToldLives.{AreLives, MayNoteEach, AddsToReport, MayFollow};
 
 use crate::life::LifeTally;
+use crate::named::marks_of;
 use flow_book::FlowSpec;
 use minislots::Checked;
 use sched_history::{Call, Entry, Reply};
@@ -36,8 +37,9 @@ pub(crate) fn reserve_each(
         → AreLives c lives.new ls }
     ensures live { AreLive live.now lives.new }
 {
+    let marks = marks_of(entry);
     for place in live {
-        lives[*place].reserve_for(entry)?;
+        lives[*place].reserve_named(entry, &marks)?;
     }
     Ok(())
 }
@@ -60,8 +62,9 @@ pub(crate) fn note_each(
         → AreLives config.now lives.new (map (with_entry entry.now) ls) }
     ensures live { AreLive live.now lives.new }
 {
+    let marks = marks_of(entry);
     for place in live {
-        lives[*place].note(config, next, entry);
+        lives[*place].note_named(config, next, entry, &marks);
     }
 }
 

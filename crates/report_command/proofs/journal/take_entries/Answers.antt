@@ -1,18 +1,52 @@
--- An entry more, and whatever ends the journal.
+-- Whatever ends the journal: an entry that may not follow, or one too many, a line that is none, or the end.
+use Rattle.std.proofs.Common.{◌+◌, ◌++◌, ◌∷◌, [], refl, sym, subst, inl}
+use Rattle.sched_history.specs.Machine.{Past}
+use Rattle.journal_entries.specs.Journal.{FindsIllegalIn, FindsNoEntryIn}
+use Rattle.journal_entries.specs.End.{EndsIllegal}
+use Rattle.journal_entries.proofs.Reading.{FindsIllegal-with, HasTooMany-with}
 use Rattle.report_command.proofs.journal.take_entries.Goals as goal
 
-pub returns-in-Ok-Illegal-clause-takes : goal.returns-in-Ok-Illegal-clause-takes
-returns-in-Ok-Illegal-clause-takes g c = λ before given.
-    let at = c.loop.invariant in
-    let meets = (rw c.in-Ok-Illegal.field-0-is at c.in-Ok-Illegal.ensures).gives before (at.so_far before given) in
-    rw at.same (record { entry = meets.entry; found = meets.found; behind = meets.behind })
+pub returns-in-Err-Illegal-clause-takes : goal.returns-in-Err-Illegal-clause-takes
+returns-in-Err-Illegal-clause-takes g c = λ before read.
+    let at = c.loop-place.invariant in
+    let k = c.loop-place.reporter.config in
+    let es = c.loop-place.reporter.history in
+    let e = c.in-Ok-Entry.entry in
+    let left = g.R.Source.remaining c.next.new.reader in
+    let so_far = at.so_far before read in
+    let stands = (rw c.in-Ok-Entry.field-0-is at c.in-Ok-Entry.ensures).reads before k es so_far in
+    let fault = rw c.in-Err-Illegal.field-0-is at c.in-Err-Illegal.ensures in
+    let here : EndsIllegal before left k es c.loop-place.place = record {
+      entry = e;
+      found = subst (FindsIllegalIn before left k (es ++ e ∷ [])) (sym at.count)
+          (FindsIllegal-with before _ left k es e stands so_far.legal (fault.illegal refl));
+      behind = at.count;
+    } in
+    subst (λ (p : Past). EndsIllegal before left p.config p.history c.loop-place.place) (sym fault.err) here
 
-pub returns-in-Ok-Bad-clause-takes : goal.returns-in-Ok-Bad-clause-takes
-returns-in-Ok-Bad-clause-takes g c = λ before given.
-    let at = c.loop.invariant in
-    rw at.same ((rw c.in-Ok-Bad.field-0-is at c.in-Ok-Bad.ensures).gives before (at.so_far before given))
+pub returns-in-Err-Full-clause-stops : goal.returns-in-Err-Full-clause-stops
+returns-in-Err-Full-clause-stops g c = λ before read.
+    let k = c.loop-place.reporter.config in
+    let es = c.loop-place.reporter.history in
+    let so_far = c.loop-place.invariant.so_far before read in
+    let stands = (rw c.in-Ok-Entry.field-0-is at c.in-Ok-Entry.ensures).reads before k es so_far in
+    let fault = rw c.in-Err-Full.field-0-is at c.in-Err-Full.ensures in
+    inl (HasTooMany-with before _ _ k es c.in-Ok-Entry.entry stands (fault.full.0 refl))
+
+pub returns-in-Ok-NoEntry-clause-takes : goal.returns-in-Ok-NoEntry-clause-takes
+returns-in-Ok-NoEntry-clause-takes g c = λ before read.
+    let at = c.loop-place.invariant in
+    let k = c.loop-place.reporter.config in
+    let es = c.loop-place.reporter.history in
+    subst (λ n. FindsNoEntryIn before (g.R.Source.remaining c.next.new.reader) k es (n + 1)) (sym at.count)
+    ((rw c.in-Ok-NoEntry.field-0-is at c.in-Ok-NoEntry.ensures).reads before k es (at.so_far before read))
 
 pub returns-in-Ok-End-clause-takes : goal.returns-in-Ok-End-clause-takes
-returns-in-Ok-End-clause-takes g c = λ before given.
-    let at = c.loop.invariant in
-    rw at.same ((rw c.in-Ok-End.field-0-is at c.in-Ok-End.ensures).gives before (at.so_far before given))
+returns-in-Ok-End-clause-takes g c = λ before read.
+    (rw c.in-Ok-End.field-0-is at c.in-Ok-End.ensures).reads before c.loop-place.reporter.config
+    c.loop-place.reporter.history (c.loop-place.invariant.so_far before read)
+
+pub returns-in-Err-clause-stops : goal.returns-in-Err-clause-stops
+returns-in-Err-clause-stops g c = λ before read.
+    c.in-Err.ensures.stops before c.loop-place.reporter.config c.loop-place.reporter.history
+    (c.loop-place.invariant.so_far before read)

@@ -11,8 +11,8 @@ use Rattle.sched_report.proofs.LivesEach.{no_life, is_request}
 use Rattle.sched_report.proofs.LivesGoing.{found_or_not, ended_by, with_entry-ended, AreLive-set}
 use Rattle.sched_report.proofs.lives.note_each.Goals as goal
 
-pub note-requires-clause-may : goal.note-requires-clause-may
-note-requires-clause-may c =
+pub note_named-requires-clause-may : goal.note_named-requires-clause-may
+note_named-requires-clause-may c =
     let i = c.loop-place.place-index in
     let p = get_or c.args.live.now i 0 in
     let item = c.index-lives-place.result in
@@ -26,8 +26,8 @@ note-requires-clause-may c =
       c.requires.may.2 p no_life (omega (arith, within, c.requires.may.1.long)),
     )
 
-pub note-requires-clause-room : goal.note-requires-clause-room
-note-requires-clause-room c = λ alive r asks.
+pub note_named-requires-clause-room : goal.note_named-requires-clause-room
+note_named-requires-clause-room c = λ alive r asks.
     let i = c.loop-place.place-index in
     let p = get_or c.args.live.now i 0 in
     let item = c.index-lives-place.result in
@@ -48,7 +48,7 @@ loop-place-preserved c =
     let i = c.loop-place.place-index in
     let p = get_or live i 0 in
     let item = c.index-lives-place.result in
-    let new = c.note.new.self in
+    let new = c.note_named.new.self in
     let inside : p < length ts = c.loop-place.invariant.live.inside i c.loop-place-test.true in
     let within : p < length c.args.lives.now = c.requires.live.inside i c.loop-place-test.true in
     let whole : get_or c.loop-place.lives p item ≡ get_or c.args.lives.now p item =
@@ -56,14 +56,14 @@ loop-place-preserved c =
     omega (arith, same, c.requires.live.ascends j i before c.loop-place-test.true)) in
     record {
       live = AreLive-set live ts c.loop-place.invariant.live p item new inside
-          (λ alive. c.note.ensures.alive alive);
+          (λ alive. c.note_named.ensures.alive alive);
       done = λ ls are may j t life below. elim (cases_eq j i) [
         | inl same ↦
             let is : IsLifeOf c.args.config.now (get_or ts p item) (get_or ls p life) =
             subst (λ (t : LifeTally). IsLifeOf c.args.config.now t (get_or ls p life)) (sym whole)
             (are.each p item life within) in
             let noted : IsLifeOf c.args.config.now new (with_entry c.args.entry.now (get_or ls p life)) =
-            c.note.ensures.life (get_or ls p life) is (may p life (omega (arith, within, are.long))) in
+            c.note_named.ensures.life (get_or ls p life) is (may p life (omega (arith, within, are.long))) in
             subst (λ j. IsLifeOf c.args.config.now (get_or (set ts p new) (get_or live j 0) t)
             (with_entry c.args.entry.now (get_or ls (get_or live j 0) life))) (sym same)
             (subst (λ (u : LifeTally). IsLifeOf c.args.config.now u

@@ -17,19 +17,19 @@ loop-place-preserved c =
     let i = c.loop-place.place-index in
     let p = get_or live i 0 in
     let item = c.index-lives-place.result in
-    let new = c.reserve_for.new.self in
+    let new = c.reserve_named.new.self in
     let inside : p < length ts = c.loop-place.invariant.live.inside i c.loop-place-test.true in
-    let was : (get_or ts p item).to ≡ new.to = sym (ap (λ (t : LifeTally). t.to) c.reserve_for.ensures.unmoved) in
+    let was : (get_or ts p item).to ≡ new.to = sym (ap (λ (t : LifeTally). t.to) c.reserve_named.ensures.unmoved) in
     record {
       live = AreLive-set live ts c.loop-place.invariant.live p item new inside (λ alive. was ∙ alive);
       same = λ k ls are. AreLives-set k ts ls (c.loop-place.invariant.same k ls are) p item new inside
-          (λ life is. c.reserve_for.ensures.same k life is);
+          (λ life is. c.reserve_named.ensures.same k life is);
       room = λ j t r below. elim (cases_eq j i) [
         | inl same ↦
             subst (λ j. request_by (get_or (set ts p new) (get_or live j 0) t).sid e.call e.reply ≡ Some r
             → HasRoomFor (get_or (set ts p new) (get_or live j 0) t)) (sym same)
             (subst (λ (u : LifeTally). request_by u.sid e.call e.reply ≡ Some r → HasRoomFor u)
-            (sym (get_or-set_same ts p new t inside)) (c.in_ok-reserve_for.ensures.ok r))
+            (sym (get_or-set_same ts p new t inside)) (c.in_ok-reserve_named.ensures.ok r))
         | inr apart ↦
             let early : j < i = omega (arith, below, apart) in
             let other : get_or live j 0 ≡ p → ⊥ = λ same.
@@ -40,25 +40,25 @@ loop-place-preserved c =
       ];
     }
 
-pub returns-in_err-reserve_for-clause-same : goal.returns-in_err-reserve_for-clause-same
-returns-in_err-reserve_for-clause-same c = λ k ls are.
+pub returns-in_err-reserve_named-clause-same : goal.returns-in_err-reserve_named-clause-same
+returns-in_err-reserve_named-clause-same c = λ k ls are.
     let ts = c.loop-place.lives in
     let p = get_or c.args.live.now c.loop-place.place-index 0 in
     let inside : p < length ts =
     c.loop-place.invariant.live.inside c.loop-place.place-index c.loop-place-test.true in
-    AreLives-set k ts ls (c.loop-place.invariant.same k ls are) p c.index-lives-place.result c.reserve_for.new.self
-    inside (λ life is. c.reserve_for.ensures.same k life is)
+    AreLives-set k ts ls (c.loop-place.invariant.same k ls are) p c.index-lives-place.result c.reserve_named.new.self
+    inside (λ life is. c.reserve_named.ensures.same k life is)
 
-pub returns-in_err-reserve_for-clause-live : goal.returns-in_err-reserve_for-clause-live
-returns-in_err-reserve_for-clause-live c =
+pub returns-in_err-reserve_named-clause-live : goal.returns-in_err-reserve_named-clause-live
+returns-in_err-reserve_named-clause-live c =
     let ts = c.loop-place.lives in
     let live = c.args.live.now in
     let item = c.index-lives-place.result in
     let p = get_or live c.loop-place.place-index 0 in
     let inside : p < length ts =
     c.loop-place.invariant.live.inside c.loop-place.place-index c.loop-place-test.true in
-    AreLive-set live ts c.loop-place.invariant.live p item c.reserve_for.new.self inside
-    (λ alive. sym (ap (λ (t : LifeTally). t.to) c.reserve_for.ensures.unmoved) ∙ alive)
+    AreLive-set live ts c.loop-place.invariant.live p item c.reserve_named.new.self inside
+    (λ alive. sym (ap (λ (t : LifeTally). t.to) c.reserve_named.ensures.unmoved) ∙ alive)
 
 pub returns-clause-ok : goal.returns-clause-ok
 returns-clause-ok c = λ k t r below alive asks.
