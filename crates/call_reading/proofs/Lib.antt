@@ -1,1 +1,2 @@
 pub mod RowsForms
+pub mod Seen

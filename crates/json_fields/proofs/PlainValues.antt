@@ -138,18 +138,25 @@ module _ (depth : ℕ) (ts r : List Token) where
       ∙ converted-option_map of_items array inside
       ∙ ap (parse_map array) reads
 
+  -- a text is read
+  pub string_read : (s : List ℕ) → ts ≡ Token.string s ∷ r → converted of_json (value depth ts) ≡ Some (string s, r)
+  string_read s is = ap (converted of_json) (ap (value depth) is ∙ value_is depth (Token.string s ∷ r))
+
   -- a text is read as the data of that text
   pub text_read : (s : Bor (List ℕ)) → ts ≡ Token.string s.now ∷ r
       → converted of_json (value depth ts) ≡ Some (data_of (Text s), r)
-  text_read s is = ap (converted of_json) (ap (value depth) is ∙ value_is depth (Token.string s.now ∷ r))
-      ∙ ap (λ d. Some (d, r)) (sym (data_of-Text s))
+  text_read s is = string_read s.now is ∙ ap (λ d. Some (d, r)) (sym (data_of-Text s))
+
+  -- a whole number is read
+  pub unsigned_read : (s : List ℕ) (n : ℕ) → ts ≡ Token.number s ∷ r → number_of s ≡ Some (unsigned n)
+      → converted of_json (value depth ts) ≡ Some (number (unsigned n), r)
+  unsigned_read s n is reads = ap (converted of_json) (ap (value depth) is ∙ value_is depth (Token.number s ∷ r))
+      ∙ ap (λ o. option_map (λ d. (d, r)) (option_map number o)) reads
 
   -- a number is read as the data of that number
   pub number_read : (s : List ℕ) (n : ℕ) → ts ≡ Token.number s ∷ r → number_of s ≡ Some (unsigned n)
       → converted of_json (value depth ts) ≡ Some (data_of (Number n), r)
-  number_read s n is reads = ap (converted of_json) (ap (value depth) is ∙ value_is depth (Token.number s ∷ r))
-      ∙ ap (λ o. option_map (λ d. (d, r)) (option_map number o)) reads
-      ∙ ap (λ d. Some (d, r)) (sym (data_of-Number n))
+  number_read s n is reads = unsigned_read s n is reads ∙ ap (λ d. Some (d, r)) (sym (data_of-Number n))
 
   -- an object of members
   pub object_read : (s : List Token) (ms : Members) → 0 < depth → ts ≡ Token.begin_object ∷ s

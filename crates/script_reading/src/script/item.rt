@@ -3,9 +3,9 @@
 ghost use Rattle.std.specs.Prelude.{◌≡◌, Some};
 ghost use Rattle.call_reading.specs.Calls.{call_of};
 
-use call_reading::call_of;
+use call_reading::read_call;
 use json::Reader;
-use json_fields::{FromTokens, Stop, read_plain};
+use json_fields::{FromTokens, Stop};
 use sched_history::Call;
 use std::alloc::Global;
 
@@ -16,7 +16,6 @@ impl FromTokens<InScript> for Call {
     ghost stands_for = { λ d call. call_of d ≡ Some call };
 
     fn read(alloc: Global, reader: &mut Reader<'_>, depth: usize) -> Result<Call, Stop> {
-        let value = read_plain(alloc, reader, depth)?;
-        call_of(&value).ok_or(Stop::Unusual)
+        read_call(alloc, reader, depth)
     }
 }

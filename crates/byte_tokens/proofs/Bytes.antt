@@ -1,0 +1,89 @@
+-- Bytes of a text that are read one by one.
+use Rattle.std.proofs.Common.{◌≡◌, ◌+◌, ◌*◌, ◌-◌, ◌/◌, ◌%◌, ◌^◌, ◌<◌, ◌≤◌, ℕ, List, [], ◌∷◌, ◌++◌, length, take, drop, get_or}
+use Rattle.std.proofs.Common.{decimal, sym, ap, ◌∙◌, subst, arith, drop-cons, add-one, append_assoc}
+use Rattle.std.proofs.Common.{inl, inr}
+use Rattle.std.proofs.lemmas.List.{take_more, get_or-drop, drop-drop, take-append-drop, length-drop}
+use Rattle.std.proofs.lemmas.Fmt.{decimal_step, decimal_digit}
+use Rattle.std.specs.Prelude.{◌⊎◌}
+use Rattle.std.proofs.lemmas.Grind.{flat_map-append}
+use Rattle.json.specs.Print.{escape, escape_byte}
+use Rattle.json.proofs.Printed.Strings.{escape_byte_plain}
+
+-- the byte that was read stands first in what is left
+pub first : (bytes text : List ℕ) (at x c : ℕ) → bytes ≡ text → x ≡ c
+    → (0 < x → drop at bytes ≡ x ∷ drop (at + 1) bytes) → 0 < c → drop at text ≡ c ∷ drop (at + 1) text
+first bytes text at x c same is here some =
+    let found : drop at bytes ≡ x ∷ drop (at + 1) bytes = here (subst (λ y. 0 < y) (sym is) some) in
+    subst (λ t. drop at t ≡ c ∷ drop (at + 1) t) same (subst (λ y. drop at bytes ≡ y ∷ drop (at + 1) bytes) is found)
+
+pub next_byte : (text : List ℕ) (at : ℕ) → at < length text → drop at text ≡ get_or text at 0 ∷ drop (at + 1) text
+next_byte text at within = rw add-one (drop-cons text at 0 within)
+
+-- one byte more that stands for itself
+pub plain_more : (text : List ℕ) (from at : ℕ) → from ≤ at → at < length text
+    → (32 ≤ get_or text at 0) × ((get_or text at 0 ≡ 34 → ⊥) × (get_or text at 0 ≡ 92 → ⊥))
+    → escape (take (at - from) (drop from text)) ≡ take (at - from) (drop from text)
+    → escape (take (at + 1 - from) (drop from text)) ≡ take (at + 1 - from) (drop from text)
+plain_more text from at le within plain before =
+    let n = at - from in
+    let xs = drop from text in
+    let x = get_or text at 0 in
+    let count : at + 1 - from ≡ n + 1 = omega arith in
+    let inside : n < length xs = rw length-drop (omega arith) in
+    let place : from + n ≡ at = omega arith in
+    let here : get_or xs n 0 ≡ x = get_or-drop from text n 0 ∙ ap (λ i. get_or text i 0) place in
+    let more : take (at + 1 - from) xs ≡ take n xs ++ x ∷ [] =
+    ap (λ k. take k xs) count ∙ take_more xs n 0 inside ∙ ap (λ y. take n xs ++ y ∷ []) here in
+    let one : escape (x ∷ []) ≡ x ∷ [] =
+    ap (λ l. l ++ []) (escape_byte_plain x plain.1.0 plain.1.1 plain.0) in
+    ap escape more ∙ flat_map-append escape_byte (take n xs) (x ∷ [])
+    ∙ (λ i. before i ++ one i) ∙ sym more
+
+-- one digit more
+pub decimal_more : (n d : ℕ) → 0 < n → d < 10 → n * 10 + d < 2 ^ 64 → decimal (n * 10 + d) ≡ decimal n ++ (48 + d) ∷ []
+decimal_more n d some digit fits =
+    let front : (n * 10 + d) / 10 ≡ n = omega arith in
+    let last : (n * 10 + d) % 10 ≡ d = omega arith in
+    decimal_step (n * 10 + d) (omega arith) fits ∙ (λ i. decimal (front i) ++ (48 + last i) ∷ [])
+
+pub digit_more : (text : List ℕ) (from at n : ℕ) → at < length text → 0 < n → 48 ≤ get_or text at 0
+    → get_or text at 0 ≤ 57 → n * 10 + (get_or text at 0 - 48) < 2 ^ 64
+    → drop from text ≡ decimal n ++ drop at text
+    → drop from text ≡ decimal (n * 10 + (get_or text at 0 - 48)) ++ drop (at + 1) text
+digit_more text from at n within some low high fits before =
+    let d = get_or text at 0 - 48 in
+    let c : 48 + d ≡ get_or text at 0 = omega arith in
+    let here : drop at text ≡ (48 + d) ∷ drop (at + 1) text =
+    next_byte text at within ∙ ap (λ x. x ∷ drop (at + 1) text) (sym c) in
+    let more = decimal_more n d some (omega arith) fits in
+    before ∙ ap (λ l. decimal n ++ l) here ∙ sym (append_assoc (decimal n) ((48 + d) ∷ []) (drop (at + 1) text))
+    ∙ ap (λ l. l ++ drop (at + 1) text) (sym more)
+
+-- a first digit
+pub digit_first : (t r : List ℕ) (x : ℕ) → 48 ≤ x → x ≤ 57 → t ≡ x ∷ r → t ≡ decimal (x - 48) ++ r
+digit_first t r x low high is =
+    let c : x ≡ 48 + (x - 48) = omega arith in
+    is ∙ ap (λ y. y ∷ r) c ∙ ap (λ l. l ++ r) (sym (decimal_digit (x - 48) (omega arith)))
+
+-- a byte that stands first in what is left is there
+pub byte_there : (text : List ℕ) (at c : ℕ) {r : List ℕ} → drop at text ≡ c ∷ r
+    → (at < length text) × (get_or text at 0 ≡ c)
+byte_there text at c {r} is =
+    let many : length (drop at text) ≡ length r + 1 = ap length is ∙ sym (add-one (length r)) in
+    let within : at < length text = omega (arith, length-drop at text, many) in
+    let here : drop at text ≡ get_or text at 0 ∷ drop (at + 1) text = next_byte text at within in
+    (within, ap (λ l. get_or l 0 0) (sym here ∙ is))
+
+-- what stands up to a place, and what from there on
+pub at_stop : (text : List ℕ) (from stop : ℕ) (r : List ℕ) → from ≤ stop → drop stop text ≡ 34 ∷ r
+    → drop from text ≡ take (stop - from) (drop from text) ++ 34 ∷ r
+at_stop text from stop r le is =
+    let n = stop - from in
+    let place : from + n ≡ stop = omega arith in
+    let rest : drop n (drop from text) ≡ 34 ∷ r = drop-drop n from text ∙ ap (λ i. drop i text) place ∙ is in
+    sym (take-append-drop n (drop from text)) ∙ ap (λ l. take n (drop from text) ++ l) rest
+
+pub some_byte : (c : ℕ) → (c ≡ 44) ⊎ ((c ≡ 125) ⊎ (c ≡ 93)) → 0 < c
+some_byte c (inl e) = omega (arith, e)
+some_byte c (inr (inl e)) = omega (arith, e)
+some_byte c (inr (inr e)) = omega (arith, e)

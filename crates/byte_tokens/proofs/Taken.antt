@@ -1,0 +1,127 @@
+-- The tokens that a text begins with.
+use Rattle.std.proofs.Common.{◌≡◌, ◌^◌, ◌<◌, ℕ, true, false, true≢false, List, [], ◌∷◌, ◌++◌, decimal, refl, sym, ap}
+use Rattle.std.proofs.Common.{◌∙◌, inl, inr, length, drop}
+use Rattle.std.proofs.Math.Seq.{drop-length}
+use Rattle.std.specs.Prelude.{◌⊎◌}
+use Rattle.json.specs.Token.{begin_object, end_object, begin_array, end_array, key, string, number}
+use Rattle.json.specs.Word.{ends_word}
+use Rattle.json.specs.Print.{escape}
+use Rattle.json.specs.Text.{content, plain}
+use Rattle.json.specs.Lex.{Lexeme, token, colon, string_token, lex, between, in_string, begins_colon, punctuate}
+use Rattle.json.specs.Lex.{after_value, fresh}
+use Rattle.json.proofs.Printed.Strings.{content-escape, lex-escape}
+use Rattle.json.proofs.Printed.Numbers.{lex-number}
+use Rattle.json.proofs.Printed.Decimals.{IsNumber-decimal}
+use Rattle.byte_tokens.specs.declared.quick.Before.{Before}
+use Rattle.byte_tokens.specs.declared.quick.Before.TheVariants.{Opening, Value, Comma}
+use Rattle.byte_tokens.specs.Left.{tokens_from, begins_at, closes_at}
+
+impossible : {P : Type 0} → false ≡ true → P
+impossible e = absurd (true≢false (sym e))
+
+over : (b : Before) → closes_at b ≡ true → tokens_from b [] ≡ []
+unfolding lex punctuate
+over Opening may = refl
+over Value may = refl
+over Comma may = impossible may
+
+module _ (t r : List ℕ) where
+  pub object_opens : (b : Before) → begins_at b ≡ true → t ≡ 123 ∷ r
+      → tokens_from b t ≡ begin_object ∷ tokens_from Opening r
+  unfolding lex punctuate
+  object_opens Opening may is = rw is refl
+  object_opens Value may is = impossible may
+  object_opens Comma may is = rw is refl
+
+  pub array_opens : (b : Before) → begins_at b ≡ true → t ≡ 91 ∷ r
+      → tokens_from b t ≡ begin_array ∷ tokens_from Opening r
+  unfolding lex punctuate
+  array_opens Opening may is = rw is refl
+  array_opens Value may is = impossible may
+  array_opens Comma may is = rw is refl
+
+  pub object_closes : (b : Before) → closes_at b ≡ true → t ≡ 125 ∷ r
+      → tokens_from b t ≡ end_object ∷ tokens_from Value r
+  unfolding lex punctuate
+  object_closes Opening may is = rw is refl
+  object_closes Value may is = rw is refl
+  object_closes Comma may is = impossible may
+
+  pub array_closes : (b : Before) → closes_at b ≡ true → t ≡ 93 ∷ r
+      → tokens_from b t ≡ end_array ∷ tokens_from Value r
+  unfolding lex punctuate
+  array_closes Opening may is = rw is refl
+  array_closes Value may is = rw is refl
+  array_closes Comma may is = impossible may
+
+  pub comma_passed : t ≡ 44 ∷ r → tokens_from Comma r ≡ tokens_from Value t
+  unfolding lex punctuate
+  comma_passed is = rw is refl
+
+-- what stands in quotes, where no byte of it has an escape
+lex_quoted : (s r : List ℕ) → escape s ≡ s → lex between (34 ∷ (s ++ 34 ∷ r)) ≡ token (string s) ∷ lex between r
+unfolding lex
+lex_quoted s r same =
+    let whole : s ++ 34 ∷ r ≡ escape s ++ 34 ∷ r = ap (λ l. l ++ 34 ∷ r) (sym same) in
+    (λ i. token (string_token (content plain (whole i))) ∷ lex in_string (whole i))
+    ∙ (λ i. token (string_token (content-escape s r i)) ∷ lex-escape s r i)
+
+-- behind a value stands no colon
+ends_text : (c : ℕ) (q : List ℕ) → (c ≡ 44) ⊎ ((c ≡ 125) ⊎ (c ≡ 93)) → begins_colon (lex between (c ∷ q)) ≡ false
+unfolding lex
+ends_text c q (inl e) = rw e refl
+ends_text c q (inr (inl e)) = rw e refl
+ends_text c q (inr (inr e)) = rw e refl
+
+ends_number : (c : ℕ) (q : List ℕ) → (c ≡ 44) ⊎ ((c ≡ 125) ⊎ (c ≡ 93)) → ends_word (c ∷ q) ≡ true
+ends_number c q (inl e) = rw e refl
+ends_number c q (inr (inl e)) = rw e refl
+ends_number c q (inr (inr e)) = rw e refl
+
+string_first : (b : Before) (s : List ℕ) (ls : List Lexeme) → begins_at b ≡ true → begins_colon ls ≡ false
+    → (t : List ℕ) → lex between t ≡ token (string s) ∷ ls → tokens_from b t ≡ string s ∷ punctuate after_value ls
+unfolding punctuate
+string_first Opening s ls may none t is = rw is (rw none refl)
+string_first Value s ls may none t is = impossible may
+string_first Comma s ls may none t is = rw is (rw none refl)
+
+key_first : (b : Before) (s : List ℕ) (ls : List Lexeme) → begins_at b ≡ true
+    → (t : List ℕ) → lex between t ≡ token (string s) ∷ colon ∷ ls → tokens_from b t ≡ key s ∷ punctuate fresh ls
+unfolding punctuate
+key_first Opening s ls may t is = rw is refl
+key_first Value s ls may t is = impossible may
+key_first Comma s ls may t is = rw is refl
+
+number_first : (b : Before) (s : List ℕ) (ls : List Lexeme) → begins_at b ≡ true
+    → (t : List ℕ) → lex between t ≡ token (number s) ∷ ls → tokens_from b t ≡ number s ∷ punctuate after_value ls
+unfolding punctuate
+number_first Opening s ls may t is = rw is refl
+number_first Value s ls may t is = impossible may
+number_first Comma s ls may t is = rw is refl
+
+module _ (b : Before) (may : begins_at b ≡ true) (t : List ℕ) (c : ℕ) (q : List ℕ) where
+  -- a text, and behind it what ends a value
+  pub text_taken : (s : List ℕ) → escape s ≡ s → t ≡ 34 ∷ (s ++ 34 ∷ (c ∷ q)) → (c ≡ 44) ⊎ ((c ≡ 125) ⊎ (c ≡ 93))
+      → tokens_from b t ≡ string s ∷ tokens_from Value (c ∷ q)
+  text_taken s same is ended =
+      string_first b s (lex between (c ∷ q)) may (ends_text c q ended) t (ap (lex between) is ∙ lex_quoted s (c ∷ q) same)
+
+  -- a key with its colon
+  pub key_taken : (s : List ℕ) → escape s ≡ s → t ≡ 34 ∷ (s ++ 34 ∷ (58 ∷ q))
+      → tokens_from b t ≡ key s ∷ tokens_from Opening q
+  unfolding lex
+  key_taken s same is = key_first b s (lex between q) may t (ap (lex between) is ∙ lex_quoted s (58 ∷ q) same)
+
+  -- a whole number, and behind it what ends a value
+  pub number_taken : (n : ℕ) → n < 2 ^ 64 → t ≡ decimal n ++ c ∷ q → (c ≡ 44) ⊎ ((c ≡ 125) ⊎ (c ≡ 93))
+      → tokens_from b t ≡ number (decimal n) ∷ tokens_from Value (c ∷ q)
+  number_taken n fits is ended =
+      number_first b (decimal n) (lex between (c ∷ q)) may t
+      (ap (lex between) is ∙ lex-number (decimal n) (c ∷ q) (IsNumber-decimal n fits) (ends_number c q ended))
+
+-- at the end of a text no token is left
+pub none_left : (b : Before) → closes_at b ≡ true → (text : List ℕ) (at : ℕ) → at ≡ length text
+    → tokens_from b (drop at text) ≡ []
+none_left b may text at end = ap (λ i. tokens_from b (drop i text)) end ∙ ap (tokens_from b) (drop-length text)
+    ∙ over b may
+

@@ -1,0 +1,10 @@
+-- At the end no token is left.
+use Rattle.std.proofs.Common.{sym, ◌∙◌}
+use Rattle.std.proofs.lemmas.Bool.{eqb-true}
+use Rattle.byte_tokens.proofs.Taken.{none_left}
+use Rattle.byte_tokens.proofs.quick.Quick.is_over.Goals as goal
+
+pub returns-then-may_close : goal.returns-then-may_close
+returns-then-may_close c end =
+    let a = c.self.inside in
+    sym c.self.view_is ∙ none_left a.before (sym c.may_close.ensures ∙ c.if-may_close.true) a.text.now a.at (eqb-true _ _ end)

@@ -1,0 +1,18 @@
+-- The text in quotes stands first, and behind it the colon.
+use Rattle.std.proofs.Common.{◌+◌, ◌∷◌, ◌++◌, drop, sym, ap, ◌∙◌, arith}
+use Rattle.byte_tokens.proofs.Bytes.{first}
+use Rattle.byte_tokens.proofs.Taken.{key_taken}
+use Rattle.byte_tokens.proofs.quick.Quick.take_key.Goals as goal
+
+pub returns : goal.returns
+returns c =
+    let a = c.self.inside in
+    let text = a.text.now in
+    let s = c.in_ok-found.found.now in
+    let at = c.in_ok-found.at in
+    let found = c.in_ok-found.ensures in
+    let rest = first c.as_bytes.result.now text at c.byte_at.result 58 c.as_bytes.ensures.value c.if-byte_at-ne58.false
+    c.byte_at.ensures.here (omega arith) in
+    sym c.self.view_is
+    ∙ key_taken a.before (sym c.may_begin.ensures ∙ c.if-not-may_begin.false) (drop a.at text) 58 (drop (at + 1) text) s
+    found.0 (found.2 ∙ ap (λ l. 34 ∷ (s ++ 34 ∷ l)) rest)

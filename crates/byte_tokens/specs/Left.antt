@@ -1,0 +1,24 @@
+-- The tokens from a place of a text on, by what stands before it.
+use Rattle.std.specs.Prelude.{ℕ, List, Bool, true, false}
+use Rattle.json.specs.Token.{Token}
+use Rattle.json.specs.Lex.{between, lex, fresh, after_value, after_comma, punctuate}
+use Rattle.byte_tokens.specs.declared.quick.Before.{Before}
+use Rattle.byte_tokens.specs.declared.quick.Before.TheVariants.{Opening, Value, Comma}
+
+-- the tokens that are left
+abbrev pub tokens_from : Before → List ℕ → List Token
+tokens_from Opening text = punctuate fresh (lex between text)
+tokens_from Value text = punctuate after_value (lex between text)
+tokens_from Comma text = punctuate after_comma (lex between text)
+
+-- whether a value or a key may begin
+abbrev pub begins_at : Before → Bool
+begins_at Opening = true
+begins_at Value = false
+begins_at Comma = true
+
+-- whether a bracket may close
+abbrev pub closes_at : Before → Bool
+closes_at Opening = true
+closes_at Value = true
+closes_at Comma = false

@@ -1,0 +1,223 @@
+//! A reader of tokens.
+
+ghost use Rattle.std.specs.Prelude.{◌≡◌, ◌^◌, ◌<◌, ◌≤◌, ◌∷◌, [], Some, IsTrue, IfSome, option_map, decimal, length, drop};
+ghost use Rattle.std.specs.Bool.{MatchBool};
+ghost use Rattle.json.specs.Token.{begin_object, end_object, begin_array, end_array, key, string, number};
+ghost use Rattle.json.specs.Lex.{tokens, between, lex, after_value, punctuate};
+ghost use Rattle.json.specs.Json.{read_key};
+ghost use Rattle.byte_tokens.specs.Left.{tokens_from, begins_at, closes_at};
+
+use super::spelled::{byte_at, ends_value, number_at, quoted};
+use std::marker::Model;
+
+// What stands before the place of a reader.
+#[derive(Clone, Copy)]
+enum Before {
+    // An opening bracket, a key, or nothing.
+    Opening,
+    // A value.
+    Value,
+    // A comma.
+    Comma,
+}
+
+impl Before {
+    fn may_begin(self) -> bool
+        ensures { result ≡ begins_at self }
+    {
+        match self {
+            Before::Opening => true,
+            Before::Value => false,
+            Before::Comma => true,
+        }
+    }
+
+    fn may_close(self) -> bool
+        ensures { result ≡ closes_at self }
+    {
+        match self {
+            Before::Opening => true,
+            Before::Value => true,
+            Before::Comma => false,
+        }
+    }
+}
+
+/// A reader of the tokens of a text. Where it takes no token, there may be one in another spelling, or none. A clause
+/// sees the tokens that are left.
+#[derive(Drop)]
+pub struct Quick<'a> {
+    text: &'a str,
+    at: usize,
+    before: Before,
+}
+
+impl<'a> Model for Quick<'a> {
+    ghost use Rattle.std.specs.Prelude.{◌≤◌, List, length, drop};
+    ghost use Rattle.json.specs.Token.{Token, tokens_code};
+    ghost use Rattle.byte_tokens.specs.Left.{tokens_from};
+
+    ghost Value = { List Token };
+
+    ghost coded = { tokens_code };
+
+    ghost view = { λ a. tokens_from a.before (drop a.at a.text.now) };
+
+    ghost invariant = { λ a. a.at ≤ length a.text.now };
+}
+
+// The place behind a value, and behind the comma that may follow it.
+fn behind_value(text: &[u8], at: usize) -> (usize, Before)
+    requires { at ≤ length text.now }
+    ensures same { tokens_from result.1 (drop result.0 text.now)
+        ≡ punctuate after_value (lex between (drop at text.now)) }
+    ensures within { result.0 ≤ length text.now }
+{
+    if byte_at(text, at) == b',' {
+        (at + 1, Before::Comma)
+    } else {
+        (at, Before::Value)
+    }
+}
+
+impl<'a> Quick<'a> {
+    /// A reader of the tokens of this text.
+    pub fn new(text: &'a str) -> Quick<'a>
+        ensures { result ≡ tokens text.now }
+    {
+        Quick {
+            text,
+            at: 0,
+            before: Before::Opening,
+        }
+    }
+
+    /// Takes the brace that opens an object.
+    pub fn open_object(&mut self) -> bool
+        ensures { IsTrue result → self.old ≡ begin_object ∷ self.new }
+    {
+        if !self.before.may_begin() || byte_at(self.text.as_bytes(), self.at) != b'{' {
+            return false;
+        }
+        self.at += 1;
+        self.before = Before::Opening;
+        true
+    }
+
+    /// Takes the bracket that opens an array.
+    pub fn open_array(&mut self) -> bool
+        ensures { IsTrue result → self.old ≡ begin_array ∷ self.new }
+    {
+        if !self.before.may_begin() || byte_at(self.text.as_bytes(), self.at) != b'[' {
+            return false;
+        }
+        self.at += 1;
+        self.before = Before::Opening;
+        true
+    }
+
+    /// Takes the bracket that closes an array, if it is next.
+    pub fn take_end_array(&mut self) -> bool
+        ensures { MatchBool result (self.old ≡ end_array ∷ self.new) (self.new ≡ self.old) }
+    {
+        let text = self.text.as_bytes();
+        if !self.before.may_close() || byte_at(text, self.at) != b']' {
+            return false;
+        }
+        let (at, before) = behind_value(text, self.at + 1);
+        self.at = at;
+        self.before = before;
+        true
+    }
+
+    // Takes the brace that closes an object, if it is next.
+    fn take_end_object(&mut self) -> bool
+        ensures { MatchBool result (self.old ≡ end_object ∷ self.new) (self.new ≡ self.old) }
+    {
+        let text = self.text.as_bytes();
+        if !self.before.may_close() || byte_at(text, self.at) != b'}' {
+            return false;
+        }
+        let (at, before) = behind_value(text, self.at + 1);
+        self.at = at;
+        self.before = before;
+        true
+    }
+
+    // Takes a key.
+    fn take_key(&mut self) -> Option<&'a str>
+        ensures { IfSome result (λ s. self.old ≡ key s.now ∷ self.new) }
+    {
+        if !self.before.may_begin() {
+            return None;
+        }
+        let (found, at) = quoted(self.text, self.at)?;
+        if byte_at(self.text.as_bytes(), at) != b':' {
+            return None;
+        }
+        self.at = at + 1;
+        self.before = Before::Opening;
+        Some(found)
+    }
+
+    /// Takes a key, or the brace that closes an object.
+    pub fn next_key(&mut self) -> Option<Option<&'a str>>
+        ensures { IfSome result
+            (λ k. read_key self.old ≡ Some (option_map (λ s. s.now) k, self.new)) }
+    {
+        if self.take_end_object() {
+            return Some(None);
+        }
+        let key = self.take_key()?;
+        Some(Some(key))
+    }
+
+    /// Takes a text.
+    pub fn take_text(&mut self) -> Option<&'a str>
+        ensures { IfSome result (λ s. self.old ≡ string s.now ∷ self.new) }
+    {
+        if !self.before.may_begin() {
+            return None;
+        }
+        let (found, at) = quoted(self.text, self.at)?;
+        let text = self.text.as_bytes();
+        if !ends_value(byte_at(text, at)) {
+            return None;
+        }
+        let (at, before) = behind_value(text, at);
+        self.at = at;
+        self.before = before;
+        Some(found)
+    }
+
+    /// Takes a whole number from 0 to 2^64 - 1.
+    pub fn take_number(&mut self) -> Option<u64>
+        ensures { IfSome result (λ n. (n < 2 ^ 64)
+            × (self.old ≡ number (decimal n) ∷ self.new)) }
+    {
+        if !self.before.may_begin() {
+            return None;
+        }
+        let text = self.text.as_bytes();
+        let (found, at) = number_at(text, self.at)?;
+        if !ends_value(byte_at(text, at)) {
+            return None;
+        }
+        let (at, before) = behind_value(text, at);
+        self.at = at;
+        self.before = before;
+        Some(found)
+    }
+
+    /// Whether a quote stands next. No clause says so: what is taken after it is right whatever it answers.
+    pub fn is_quoted(&self) -> bool {
+        byte_at(self.text.as_bytes(), self.at) == b'"'
+    }
+
+    /// Whether no token is left.
+    pub fn is_over(&self) -> bool
+        ensures { IsTrue result → self.now ≡ [] }
+    {
+        self.before.may_close() && self.at == self.text.len()
+    }
+}

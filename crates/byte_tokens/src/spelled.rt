@@ -1,0 +1,83 @@
+//! What is spelled at a place of a text.
+
+ghost use Rattle.std.specs.Prelude.{◌≡◌, ◌+◌, ◌-◌, ◌^◌, ◌<◌, ◌≤◌, ◌⊎◌, ◌∷◌, ◌++◌, length, take, drop, decimal, IsTrue, IfSome};
+ghost use Rattle.json.specs.Print.{escape};
+
+/// The byte at a place, or 0 at the end.
+pub(crate) fn byte_at(text: &[u8], at: usize) -> u8
+    ensures within { 0 < result → at < length text.now }
+    ensures here { 0 < result → drop at text.now ≡ result ∷ drop (at + 1) text.now }
+{
+    if at < text.len() { text[at] } else { 0 }
+}
+
+/// Whether a byte stands behind a value: a comma, or a closing bracket.
+pub(crate) fn ends_value(c: u8) -> bool
+    ensures { IsTrue result → (c ≡ 44) ⊎ ((c ≡ 125) ⊎ (c ≡ 93)) }
+{
+    c == b',' || c == b'}' || c == b']'
+}
+
+// Whether a byte of a text stands for itself in quotes.
+fn is_plain(c: u8) -> bool
+    ensures { IsTrue result → (32 ≤ c) × ((c ≡ 34 → ⊥) × (c ≡ 92 → ⊥)) }
+{
+    c >= 32 && c != b'"' && c != b'\\'
+}
+
+/// Where the bytes from a place on that stand for themselves in quotes end.
+pub(crate) fn plain_end(text: &[u8], from: usize) -> usize
+    requires { from ≤ length text.now }
+    ensures within { (from ≤ result) × (result ≤ length text.now) }
+    ensures plain { escape (take (result - from) (drop from text.now))
+        ≡ take (result - from) (drop from text.now) }
+{
+    let mut at = from;
+    'bytes: while at < text.len() && is_plain(text[at]) {
+        at += 1;
+    }
+    at
+}
+
+/// The text in quotes that begins at a place, where no byte of it has an escape, and the place behind it.
+pub(crate) fn quoted<'a>(text: &'a str, at: usize) -> Option<(&'a str, usize)>
+    ensures { IfSome result (λ r. (escape r.0.now ≡ r.0.now) × (r.1 ≤ length text.now)
+        × (drop at text.now ≡ 34 ∷ (r.0.now ++ 34 ∷ drop r.1 text.now))) }
+{
+    let bytes = text.as_bytes();
+    if byte_at(bytes, at) != b'"' {
+        return None;
+    }
+    let stop = plain_end(bytes, at + 1);
+    if byte_at(bytes, stop) != b'"' {
+        return None;
+    }
+    Some((&text[at + 1..stop], stop + 1))
+}
+
+// The greatest number to which a digit can be put.
+const MOST: u64 = 1_844_674_407_370_955_160;
+
+/// The whole number that is spelled at a place, and where its digits end.
+pub(crate) fn number_at(text: &[u8], from: usize) -> Option<(u64, usize)>
+    ensures { IfSome result (λ r. (r.1 ≤ length text.now) × (from < r.1) × (r.0 < 2 ^ 64)
+        × (drop from text.now ≡ decimal r.0 ++ drop r.1 text.now)) }
+{
+    let first = byte_at(text, from);
+    if first < b'0' || first > b'9' {
+        return None;
+    }
+    if first == b'0' {
+        return Some((0, from + 1));
+    }
+    let mut number = (first - b'0') as u64;
+    let mut at = from + 1;
+    'digits: while at < text.len() && text[at] >= b'0' && text[at] <= b'9' {
+        if number > MOST {
+            return None;
+        }
+        number = number * 10 + (text[at] - b'0') as u64;
+        at += 1;
+    }
+    Some((number, at))
+}

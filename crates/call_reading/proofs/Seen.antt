@@ -1,0 +1,136 @@
+-- What the members of an object say as they are read one by one, and the call that they make.
+use Rattle.std.proofs.Common.{◌≡◌, ℕ, ◌^◌, ◌||◌, Bool, true, false, cond, List, bytes_eq, Option, Some, None}
+use Rattle.std.proofs.Common.{option_and_then, refl, sym, ap, ◌∙◌, is_some, true≢false}
+use Rattle.std.proofs.lemmas.Slice.Eq.{bytes_eq-Decides}
+use Rattle.std.specs.Borrow.{Bor}
+use Rattle.std.specs.Prelude.{codes, if◌then◌else◌}
+use Rattle.serde_json.specs.Data.{Data, number, unsigned, string, object, Members, put}
+use Rattle.serde_json.specs.Find.{get_member, as_str, as_number, as_u64}
+use Rattle.flow_book.specs.declared.spec.FlowSpec.{FlowSpec}
+use Rattle.sched_history.specs.declared.call.Call.{Call}
+use Rattle.sched_history.specs.declared.call.Call.TheVariants.{Admit}
+use Rattle.json_fields.specs.Fields.{◌>>=◌, below, u8_at, u16_at, u32_at, u64_at, number_at, text_at}
+use Rattle.json_fields.proofs.PlainValues.{found_at}
+use Rattle.call_reading.specs.declared.found.Found.{Found}
+use Rattle.call_reading.specs.Calls.{flow_of, admit_call, remove_call, ask_call, heard_call, build_call, skip_call}
+use Rattle.call_reading.specs.Calls.{status_call, call_of}
+use Rattle.call_reading.specs.Seen.{Seen, whole_in, seen_in, seen_with, seen_of, seen_admit, seen_remove, seen_ask}
+use Rattle.call_reading.specs.Seen.{seen_heard, seen_build, seen_skip, seen_status, seen_call}
+
+then_made : {B : Type 0} (b : Bool) (x : Data) (o : Option Data) (f : Data → Option B)
+    → (cond b (Some x) o >>= f) ≡ (if b then f x else (o >>= f))
+then_made true x o f = refl
+then_made false x o f = refl
+
+is_there : (b : Bool) (x : Data) (o : Option Data) → is_some (cond b (Some x) o) ≡ (b || is_some o)
+is_there true x o = refl
+is_there false x o = refl
+
+module _ (k : List ℕ) (d : Data) (ms : Members) where
+  under : {B : Type 0} (name : List ℕ) (f : Data → Option B)
+      → (get_member name (put k d ms) >>= f) ≡ (if bytes_eq k name then f d else (get_member name ms >>= f))
+  under name f = ap (λ o. o >>= f) (found_at (bytes_eq k name) k name d ms refl)
+      ∙ then_made (bytes_eq k name) d (get_member name ms) f
+
+  opens : is_some (get_member (codes "config") (put k d ms))
+      ≡ (bytes_eq k (codes "config") || is_some (get_member (codes "config") ms))
+  opens = ap (λ o. is_some o) (found_at (bytes_eq k (codes "config")) k (codes "config") d ms refl)
+      ∙ is_there (bytes_eq k (codes "config")) d (get_member (codes "config") ms)
+
+  -- one member more
+  pub seen_in-put : seen_in (put k d ms) ≡ seen_with k d (seen_in ms)
+  seen_in-put = λ i. record {
+    name = under (codes "call") as_str i;
+    sid = under (codes "sid") whole_in i;
+    receiver = under (codes "receiver") whole_in i;
+    bytes = under (codes "bytes") whole_in i;
+    heard = under (codes "heard") whole_in i;
+    upto = under (codes "upto") whole_in i;
+    time = under (codes "now") whole_in i;
+    flow = under (codes "flow") flow_of i;
+    opening = opens i;
+  }
+
+-- ---- a value under each key
+
+module _ (k : List ℕ) (f : Found) where
+  is_key : (name : List ℕ) → bytes_eq k name ≡ true → k ≡ name
+  is_key name e = (bytes_eq-Decides k name).0 e
+
+  pub name_with : (s : Bor (List ℕ)) → bytes_eq k (codes "call") ≡ true
+      → seen_of (record f { name = Some s }) ≡ seen_with k (string s.now) (seen_of f)
+  name_with s e = let is : k ≡ codes "call" = is_key (codes "call") e in rw is refl
+
+  pub flow_with : (d : Data) (flow : Option FlowSpec) → flow ≡ flow_of d → bytes_eq k (codes "flow") ≡ true
+      → seen_of (record f { flow = flow }) ≡ seen_with k d (seen_of f)
+  flow_with d flow made e = let is : k ≡ codes "flow" = is_key (codes "flow") e in rw is (rw made refl)
+
+  pub sid_with : (n : ℕ) → bytes_eq k (codes "sid") ≡ true
+      → seen_of (record f { sid = Some n }) ≡ seen_with k (number (unsigned n)) (seen_of f)
+  sid_with n e = let is : k ≡ codes "sid" = is_key (codes "sid") e in rw is refl
+
+  pub receiver_with : (n : ℕ) → bytes_eq k (codes "receiver") ≡ true
+      → seen_of (record f { receiver = Some n }) ≡ seen_with k (number (unsigned n)) (seen_of f)
+  receiver_with n e = let is : k ≡ codes "receiver" = is_key (codes "receiver") e in rw is refl
+
+  pub bytes_with : (n : ℕ) → bytes_eq k (codes "bytes") ≡ true
+      → seen_of (record f { bytes = Some n }) ≡ seen_with k (number (unsigned n)) (seen_of f)
+  bytes_with n e = let is : k ≡ codes "bytes" = is_key (codes "bytes") e in rw is refl
+
+  pub heard_with : (n : ℕ) → bytes_eq k (codes "heard") ≡ true
+      → seen_of (record f { heard = Some n }) ≡ seen_with k (number (unsigned n)) (seen_of f)
+  heard_with n e = let is : k ≡ codes "heard" = is_key (codes "heard") e in rw is refl
+
+  pub upto_with : (n : ℕ) → bytes_eq k (codes "upto") ≡ true
+      → seen_of (record f { upto = Some n }) ≡ seen_with k (number (unsigned n)) (seen_of f)
+  upto_with n e = let is : k ≡ codes "upto" = is_key (codes "upto") e in rw is refl
+
+  pub time_with : (n : ℕ) → bytes_eq k (codes "now") ≡ true
+      → seen_of (record f { time = Some n }) ≡ seen_with k (number (unsigned n)) (seen_of f)
+  time_with n e = let is : k ≡ codes "now" = is_key (codes "now") e in rw is refl
+
+  -- a value under any other key
+  pub other_with : (d : Data) → bytes_eq k (codes "call") ≡ false → bytes_eq k (codes "sid") ≡ false
+      → bytes_eq k (codes "receiver") ≡ false → bytes_eq k (codes "bytes") ≡ false
+      → bytes_eq k (codes "heard") ≡ false → bytes_eq k (codes "upto") ≡ false → bytes_eq k (codes "now") ≡ false
+      → bytes_eq k (codes "flow") ≡ false → bytes_eq k (codes "config") ≡ false
+      → seen_of f ≡ seen_with k d (seen_of f)
+  other_with d call sid receiver bytes heard upto time flow config =
+      rw (call, sid, receiver, bytes, heard, upto, time, flow, config) refl
+
+-- ---- the call
+
+after : {B C : Type 0} (o : Option Data) (f : Data → Option B) (g : B → Option C)
+    → ((o >>= f) >>= g) ≡ (o >>= (λ d. f d >>= g))
+after None f g = refl
+after (Some d) f g = refl
+
+module _ (ms : Members) where
+  admits : seen_admit (seen_in ms) ≡ admit_call (object ms)
+  unfolding seen_admit admit_call u16_at number_at
+  admits = λ i. option_and_then
+      (λ sid. after (get_member (codes "flow") ms) flow_of (λ flow. Some (Admit sid flow)) i)
+      (u16_at (codes "sid") (object ms))
+
+  -- the call that the members make is the one that the object stands for
+  pub seen_call_is : seen_call (seen_in ms) ≡ call_of (object ms)
+  unfolding seen_call seen_remove seen_ask seen_heard seen_build seen_skip seen_status call_of remove_call ask_call
+      heard_call build_call skip_call status_call u8_at u16_at u32_at u64_at number_at text_at
+  seen_call_is = λ i. option_and_then
+      (λ name. if bytes_eq name (codes "admit") then admits i
+      else (if bytes_eq name (codes "remove") then remove_call (object ms)
+      else (if bytes_eq name (codes "ask") then ask_call (object ms)
+      else (if bytes_eq name (codes "heard") then heard_call (object ms)
+      else (if bytes_eq name (codes "build") then build_call (object ms)
+      else (if bytes_eq name (codes "skip") then skip_call (object ms)
+      else (if bytes_eq name (codes "status") then status_call (object ms)
+      else None)))))))
+      (text_at (codes "call") (object ms))
+
+  none_of : (o : Option Data) → false ≡ is_some o → o ≡ None
+  none_of None e = refl
+  none_of (Some d) e = absurd (true≢false (sym e))
+
+  -- where none opens, there is no configuration
+  pub no_configuration : (f : Found) → seen_of f ≡ seen_in ms → get_member (codes "config") ms ≡ None
+  no_configuration f e = none_of (get_member (codes "config") ms) (ap (λ s. s.opening) e)

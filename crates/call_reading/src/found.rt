@@ -1,0 +1,152 @@
+//! What the members of an object say of a call, and the call that they make.
+
+ghost use Rattle.std.specs.Prelude.{◌≡◌, ◌^◌, option_and_then};
+ghost use Rattle.json_fields.specs.Fields.{below};
+ghost use Rattle.call_reading.specs.Seen.{nothing, seen_of, seen_admit, seen_remove, seen_ask, seen_heard, seen_build};
+ghost use Rattle.call_reading.specs.Seen.{seen_skip, seen_status, seen_call};
+
+use flow_book::FlowSpec;
+use sched_history::Call;
+
+/// What was found under each key that a call may have: the last of equal keys.
+#[derive(Clone, Copy)]
+pub(crate) struct Found<'a> {
+    pub(crate) name: Option<&'a str>,
+    pub(crate) sid: Option<u64>,
+    pub(crate) receiver: Option<u64>,
+    pub(crate) bytes: Option<u64>,
+    pub(crate) heard: Option<u64>,
+    pub(crate) upto: Option<u64>,
+    pub(crate) time: Option<u64>,
+    pub(crate) flow: Option<FlowSpec>,
+}
+
+impl<'a> Found<'a> {
+    pub(crate) fn nothing() -> Found<'a>
+        ensures { seen_of result ≡ nothing }
+    {
+        Found {
+            name: None,
+            sid: None,
+            receiver: None,
+            bytes: None,
+            heard: None,
+            upto: None,
+            time: None,
+            flow: None,
+        }
+    }
+}
+
+// The number, where it fits.
+fn to_u8(number: Option<u64>) -> Option<u8>
+    ensures { result ≡ option_and_then (below (2 ^ 8)) number }
+{
+    u8::try_from(number?).ok()
+}
+
+// The number, where it fits.
+fn to_u16(number: Option<u64>) -> Option<u16>
+    ensures { result ≡ option_and_then (below (2 ^ 16)) number }
+{
+    u16::try_from(number?).ok()
+}
+
+// The number, where it fits.
+fn to_u32(number: Option<u64>) -> Option<u32>
+    ensures { result ≡ option_and_then (below (2 ^ 32)) number }
+{
+    u32::try_from(number?).ok()
+}
+
+// The number, which fits.
+fn to_u64(number: Option<u64>) -> Option<u64>
+    ensures { result ≡ option_and_then (below (2 ^ 64)) number }
+{
+    Some(number?)
+}
+
+#[tactic(auto, unfolding(crate::specs::Seen::seen_admit))]
+fn admit(found: &Found<'_>) -> Option<Call>
+    ensures { result ≡ seen_admit (seen_of found.now) }
+{
+    let (Some(sid), Some(flow)) = (to_u16(found.sid), found.flow) else {
+        return None;
+    };
+    Some(Call::Admit(sid, flow))
+}
+
+#[tactic(auto, unfolding(crate::specs::Seen::seen_remove))]
+fn remove(found: &Found<'_>) -> Option<Call>
+    ensures { result ≡ seen_remove (seen_of found.now) }
+{
+    Some(Call::Remove(to_u16(found.sid)?))
+}
+
+#[tactic(auto, unfolding(crate::specs::Seen::seen_ask))]
+fn ask(found: &Found<'_>) -> Option<Call>
+    ensures { result ≡ seen_ask (seen_of found.now) }
+{
+    let (Some(receiver), Some(sid), Some(bytes), Some(heard)) = (
+        to_u8(found.receiver),
+        to_u16(found.sid),
+        to_u32(found.bytes),
+        to_u64(found.heard),
+    ) else {
+        return None;
+    };
+    Some(Call::Ask {
+        receiver,
+        sid,
+        bytes,
+        heard,
+    })
+}
+
+#[tactic(auto, unfolding(crate::specs::Seen::seen_heard))]
+fn heard(found: &Found<'_>) -> Option<Call>
+    ensures { result ≡ seen_heard (seen_of found.now) }
+{
+    let (Some(receiver), Some(upto)) = (to_u8(found.receiver), to_u64(found.upto)) else {
+        return None;
+    };
+    Some(Call::Heard { receiver, upto })
+}
+
+#[tactic(auto, unfolding(crate::specs::Seen::seen_build))]
+fn build(found: &Found<'_>) -> Option<Call>
+    ensures { result ≡ seen_build (seen_of found.now) }
+{
+    Some(Call::Build { now: to_u64(found.time)? })
+}
+
+#[tactic(auto, unfolding(crate::specs::Seen::seen_skip))]
+fn skip(found: &Found<'_>) -> Option<Call>
+    ensures { result ≡ seen_skip (seen_of found.now) }
+{
+    Some(Call::Skip { now: to_u64(found.time)? })
+}
+
+#[tactic(auto, unfolding(crate::specs::Seen::seen_status))]
+fn status(found: &Found<'_>) -> Option<Call>
+    ensures { result ≡ seen_status (seen_of found.now) }
+{
+    Some(Call::Status(to_u16(found.sid)?))
+}
+
+/// The call that the members make, by its name.
+#[tactic(auto, unfolding(crate::specs::Seen::seen_call))]
+pub(crate) fn made(found: &Found<'_>) -> Option<Call>
+    ensures { result ≡ seen_call (seen_of found.now) }
+{
+    match found.name? {
+        "admit" => admit(found),
+        "remove" => remove(found),
+        "ask" => ask(found),
+        "heard" => heard(found),
+        "build" => build(found),
+        "skip" => skip(found),
+        "status" => status(found),
+        _ => None,
+    }
+}
