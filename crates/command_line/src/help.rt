@@ -171,7 +171,8 @@ Example:
 /// The command that tells what is wrong in a file.
 pub const CHECK: &str =
     r#"Reads from standard input a script, the script of a storm or a history: by its
-member `calls`, `scripts` or `entries`.
+member `calls`, `scripts` or `entries`; or a journal or the lines for `live`, of
+any length: by the line behind the configuration.
 
 Prints one line, `good script`, `good script of a storm` or `good history`, or
 the fault by which `run`, `storm` or `audit` would end; then where the fault is
@@ -179,7 +180,12 @@ and what is expected there, or what the file has; and the keys that nobody reads
 Whether calls are refused, `run --explain` tells, and whether a history is legal,
 `audit`.
 
-Exit statuses: 0 good, 2 for the command line, 3 for the input, 4 for the machine.
+For a journal it prints `good journal`, or what `audit --journal` tells, and which
+line is wrong; for the lines of `live`, `good live input` or how many of them would
+be answered `bad line`, and which these are. Lines are counted from 1.
+
+Exit statuses: 0 good, or lines for `live` behind a good configuration, 1 for an
+illegal journal, 2 for the command line, 3 for the input, 4 for the machine.
 
 Example:
   ./mapsched check < examples/two_maps.json"#;

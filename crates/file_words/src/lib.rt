@@ -8,6 +8,7 @@ mod lines;
 mod nearest;
 mod notes;
 mod objects;
+mod one_line;
 mod place;
 mod sort;
 mod tell;
@@ -15,4 +16,5 @@ mod walk;
 mod words;
 mod written;
 
+pub use one_line::{words_on_line, words_on_opening};
 pub use words::{words_on, words_on_text};

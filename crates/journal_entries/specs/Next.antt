@@ -1,10 +1,12 @@
 -- What a reader of a journal's entries has given, and what comes next.
-use Rattle.std.specs.Prelude.{◌≡◌, ℕ, ◌≤◌, List, [], ◌∷◌, ◌++◌, length, Option}
+use Rattle.std.specs.Prelude.{◌≡◌, ℕ, ◌≤◌, if◌then◌else◌, List, [], ◌∷◌, ◌++◌, length, Option}
 use Rattle.minislots.specs.declared.config.Config.{Config}
 use Rattle.sched_history.specs.declared.reply.Entry.{Entry}
 use Rattle.sched_history.specs.declared.reply.TheConstants.{MAX_WHOLE_HISTORY}
 use Rattle.sched_history.specs.Machine.{Past, IsEncodable}
-use Rattle.line_stream.specs.Told.{untold}
+use Rattle.line_stream.specs.declared.Told.{Told}
+use Rattle.line_stream.specs.declared.Told.TheVariants.{Line, Long}
+use Rattle.line_stream.specs.Told.{untold, TellsWhole}
 use Rattle.journal_entries.specs.declared.entries.JournalEntries.{JournalEntries}
 use Rattle.journal_entries.specs.declared.entries.Next.{Next}
 use Rattle.journal_entries.specs.declared.entries.Next.TheVariants as next
@@ -43,3 +45,14 @@ pub record HasOpened (before remaining : Option (List ℕ)) (c : Config) (new : 
   pub config_is : new.auditor.config ≡ c
   pub none : new.auditor.history ≡ []
   pub stand : HasGiven before remaining new
+
+-- what is told of the line that was read last
+abbrev pub told_last : JournalEntries → Told
+told_last entries = if entries.is_long then Long else Line
+
+-- the line that stands for no entry is the one that was read last, and is shown where it is not long
+abbrev pub ShowsBad : Option (List ℕ) → Option (List ℕ) → JournalEntries → Next → Type 0
+ShowsBad unread left new (next.Entry entry) = Unit {0}
+ShowsBad unread left new (next.Illegal place) = Unit {0}
+ShowsBad unread left new (next.Bad line) = TellsWhole unread left new.lines (told_last new)
+ShowsBad unread left new (next.End torn) = Unit {0}

@@ -1,10 +1,12 @@
 //! A reader of a journal's entries.
 
-ghost use Rattle.std.specs.Prelude.{[], List, ℕ, Option, IfOk, IfErr, MatchOption};
+ghost use Rattle.std.specs.Prelude.{◌≡◌, [], List, ℕ, Option, IfOk, IfErr, MatchOption};
+ghost use Rattle.line_stream.specs.declared.Told.TheVariants.{Line, Long};
 ghost use Rattle.line_stream.specs.Told.{untold};
 ghost use Rattle.text_stream.specs.Watched.{FailsBy};
 ghost use Rattle.journal_entries.specs.Journal.{StandSoFar, HasNoOpening, StopsJournal};
 ghost use Rattle.journal_entries.specs.Next.{HasGiven, HasOpened, IsNext, TakesNext};
+ghost use Rattle.journal_entries.specs.Next.{told_last, ShowsBad};
 
 use crate::line::{Taken, opening_in, take_line};
 use json::Scratch;
@@ -35,6 +37,8 @@ pub enum Next {
 pub struct JournalEntries {
     alloc: Global,
     scratch: Scratch,
+    // Whether the line that was read last is long.
+    is_long: bool,
     /// The lines behind the last entry.
     pub lines: Lines,
     /// The auditor that has taken the entries.
@@ -89,6 +93,7 @@ impl JournalEntries {
                         JournalEntries {
                             alloc,
                             scratch,
+                            is_long: false,
                             lines,
                             auditor,
                         },
@@ -118,10 +123,18 @@ impl JournalEntries {
             HasGiven before (R.remaining reader.old) self.old →
             StopsJournal before (R.remaining reader.new) fault) }
         ensures failed { FailsBy TextFault.Input result (R.has_failed reader.old) (R.has_failed reader.new) }
+
+        // A line that is told as bad is the one that was read, and is shown where it is not long.
+        ensures shows { IfOk result (ShowsBad (untold self.old.lines (R.remaining reader.old))
+            (untold self.new.lines (R.remaining reader.new)) self.new) }
     {
+        self.is_long = false;
         match self.lines.next_whole(reader) {
             Ok(Whole::Line) => {}
-            Ok(Whole::Long) => return Ok(Next::Bad(self.auditor.taken() + 1)),
+            Ok(Whole::Long) => {
+                self.is_long = true;
+                return Ok(Next::Bad(self.auditor.taken() + 1));
+            }
             Ok(Whole::Torn(bytes)) => return Ok(Next::End(bytes)),
             Err(fault) => return Err(fault),
         }
@@ -137,5 +150,16 @@ impl JournalEntries {
             Err(fault) => return Err(fault),
         }
         Ok(Next::Bad(self.auditor.taken() + 1))
+    }
+
+    /// The line that was read last, where it is not long.
+    pub fn line(&self) -> Option<&[u8]>
+        ensures { MatchOption result (told_last self.now ≡ Long)
+            (λ line. (told_last self.now ≡ Line) × (line.now ≡ self.now.lines.line)) }
+    {
+        if self.is_long {
+            return None;
+        }
+        Some(self.lines.line())
     }
 }

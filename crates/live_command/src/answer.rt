@@ -118,7 +118,7 @@ fn hear_text(
 }
 
 /// What is heard of the line that was told last.
-pub(crate) fn hear(
+pub fn hear(
     alloc: Global,
     scratch: &mut Scratch,
     lines: &Lines,

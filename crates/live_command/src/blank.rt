@@ -26,14 +26,14 @@ fn is_blank(line: &[u8]) -> bool
 }
 
 /// Whether a line is answered: it is long, or it is not blank.
-pub(crate) fn is_spoken(line: &[u8]) -> bool
+pub fn is_spoken(line: &[u8]) -> bool
     ensures { result ≡ is_spoken line.now }
 {
     line.len() > MAX_LINE || !is_blank(line)
 }
 
 /// Whether the line that was told is answered.
-pub(crate) fn is_told_spoken(told: Told, shown: &[u8]) -> bool
+pub fn is_told_spoken(told: Told, shown: &[u8]) -> bool
     ensures { (line : List ℕ) → IsTold line told shown.now → result ≡ is_spoken line }
 {
     match told {

@@ -16,10 +16,13 @@ mod talk;
 mod turn;
 mod wording;
 
+pub use answer::hear;
+pub use blank::{is_spoken, is_told_spoken};
 pub use fault::{LineFault, LiveFault};
 pub use going::go_on;
 pub use input::live_input;
 pub use journal::{BeginFault, Journal, NoJournal, RecordFault};
 pub use live::hold;
+pub use opening::opening_in;
 pub use talk::converse;
 pub use wording::Wording;

@@ -3,6 +3,7 @@
 #![tactic(auto)]
 
 use audit_command::{JournalEnd, audit_input, audit_journal_input};
+use check_lines::check_any_input;
 use clap::error::ErrorKind;
 use clap::{ArgMatches, Error};
 use command_line::commands;
@@ -14,7 +15,6 @@ use live_command::{Wording, live_input};
 use pcap_command::{ADDRESS, address_of, frames_input, pcap_input, pcap_journal_input};
 use report_command::{Form, report_input, report_journal_input};
 use run_command::{RunOutput, Words, run_input};
-use sched_check::check_input;
 use std::alloc::Global;
 use std::fs::File;
 use std::process::ExitCode;
@@ -163,9 +163,8 @@ fn form_of(report: &ArgMatches) -> Form {
 
 // The command `check`: ends as the command for such a file would, by what is found.
 fn check(rt: &(impl Input + Print + Eprint + AllocGlobal)) -> ExitCode {
-    match check_input(rt) {
-        Ok(None) => ExitCode::SUCCESS,
-        Ok(Some(fault)) => ExitCode::from(fault.status()),
+    match check_any_input(rt) {
+        Ok(status) => ExitCode::from(status),
         Err(fault) => fail(rt, fault),
     }
 }

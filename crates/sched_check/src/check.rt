@@ -34,8 +34,8 @@ fn put_numbered<W: Sink>(writer: &mut W, words: &[u8], number: u64) -> Result<()
     put_number(writer, number)
 }
 
-// The text of a fault, as the program ends by it.
-fn put_fault<W: Sink>(writer: &mut W, fault: TextFault) -> Result<(), TextFault>
+/// Writes the text of a fault, as the program ends by it.
+pub fn put_fault<W: Sink>(writer: &mut W, fault: TextFault) -> Result<(), TextFault>
     ensures { Writes W.contents W.has_failed writer.old writer.new (fault_text fault) result }
 {
     match fault {

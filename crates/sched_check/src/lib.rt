@@ -8,5 +8,5 @@ mod input;
 mod kind;
 mod report;
 
-pub use check::run_check;
+pub use check::{put_fault, run_check};
 pub use input::check_input;

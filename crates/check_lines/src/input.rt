@@ -1,0 +1,16 @@
+//! The command over what the program has: standard input and standard output, which is written with no buffer, so that
+//! nothing is left to flush.
+
+use crate::check::run_check_any;
+use crate::front::Front;
+use std::io;
+use text_stream::{RunFault, Watched};
+
+/// The command `check`: the exit status by which the command for such a file would end.
+pub fn check_any_input(rt: &(impl Input + Print + AllocGlobal)) -> Result<u8, RunFault> {
+    run_check_any(
+        rt.alloc(),
+        &mut Front::new(rt.alloc(), Watched::new(rt.reader())),
+        &mut Watched::new(io::writer(rt)),
+    )
+}
