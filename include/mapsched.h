@@ -96,10 +96,14 @@ enum mapsched_call_kind {
   MAPSCHED_HEARD = 3,
   MAPSCHED_BUILD = 4,
   MAPSCHED_SKIP = 5,
-  MAPSCHED_STATUS = 6
+  MAPSCHED_STATUS = 6,
+  MAPSCHED_RESERVE = 7, /* an opportunity to range: usage, slots, and of a station its sid */
+  MAPSCHED_HEADER = 8   /* for every MAP after it: ucd_count and the four exponents */
 };
 
 enum mapsched_flow_kind { MAPSCHED_UNSOLICITED = 0, MAPSCHED_POLLED = 1, MAPSCHED_BEST_EFFORT = 2 };
+
+enum mapsched_usage { MAPSCHED_INITIAL = 0, MAPSCHED_STATION = 1 };
 
 /* A call by its kind. A kind reads only its own numbers; in a history the others are 0. */
 struct mapsched_call {
@@ -108,9 +112,13 @@ struct mapsched_call {
   uint32_t size, interval_us, jitter_us, rate, burst; /* of an admission: bytes, microseconds, bits per second */
   uint32_t bytes;                                     /* of a request */
   uint64_t minislot;                                  /* when it was heard, up to when all was, or now */
+  uint32_t usage;                                     /* of an opportunity: enum mapsched_usage */
+  uint32_t slots;                                     /* of an opportunity: minislots */
   uint16_t sid;
   uint8_t receiver, priority;
   uint8_t grants;                                     /* of an unsolicited flow: in an interval, from 1 to 8 */
+  uint8_t ucd_count;                                  /* of a header, as the rest: exponents of backoff windows */
+  uint8_t ranging_start, ranging_end, data_start, data_end;
 };
 
 /* Who made a call: a seat and its ticket, which are recorded as they are handed in. */
@@ -128,7 +136,8 @@ enum mapsched_reply_kind {
   MAPSCHED_BUILT = 5,    /* value is the start of the frame, payload the MAP */
   MAPSCHED_SKIPPED = 6,  /* value is the start of the next frame */
   MAPSCHED_BYTES = 7,    /* asked, granted, outstanding */
-  MAPSCHED_REFUSED = 8   /* refusal is its number in README's table, value its value or 0 */
+  MAPSCHED_REFUSED = 8,  /* refusal is its number in README's table, value its value or 0 */
+  MAPSCHED_RESERVED = 9  /* the opportunity waits for a MAP */
 };
 
 /* A reply by its kind. Numbers that the kind has not are 0; starts and payload keep what stood behind their end. */

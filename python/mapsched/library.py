@@ -29,8 +29,10 @@ class CallNumbers(Structure):
     _fields_ = [
         *((name, c_uint32) for name in ("kind", "flow", "size", "interval_us", "jitter_us", "rate", "burst", "bytes")),
         ("minislot", c_uint64),
+        *((name, c_uint32) for name in ("usage", "slots")),
         ("sid", c_uint16),
-        *((name, c_uint8) for name in ("receiver", "priority", "grants")),
+        *((name, c_uint8) for name in ("receiver", "priority", "grants", "ucd_count")),
+        *((name, c_uint8) for name in ("ranging_start", "ranging_end", "data_start", "data_end")),
     ]
 
 

@@ -2,11 +2,16 @@
 use Rattle.std.specs.Prelude.{◌==◌, Option, None, Some, option_map, if◌then◌else◌}
 use Rattle.flow_book.specs.declared.spec.FlowSpec.{FlowSpec}
 use Rattle.flow_book.specs.declared.spec.FlowSpec.TheVariants.{Unsolicited, Polled, BestEffort}
+use Rattle.map_build.specs.declared.opportunity.Usage.{Usage}
+use Rattle.map_build.specs.declared.opportunity.Usage.TheVariants.{Initial, Station}
 use Rattle.sched_history.specs.declared.call.Call.{Call}
 use Rattle.sched_history.specs.declared.call.Call.TheVariants.{Admit, Remove, Ask, Heard, Build, Skip, Status}
+use Rattle.sched_history.specs.declared.call.Call.TheVariants.{Reserve, Header}
 use Rattle.mapsched_c.specs.declared.call.PlainCall.{PlainCall}
 use Rattle.mapsched_c.specs.declared.call.kind.TheConstants.{ADMIT, REMOVE, ASK, HEARD, BUILD, SKIP, STATUS}
+use Rattle.mapsched_c.specs.declared.call.kind.TheConstants.{RESERVE, HEADER}
 use Rattle.mapsched_c.specs.declared.call.flow.TheConstants.{UNSOLICITED, POLLED, BEST_EFFORT}
+use Rattle.mapsched_c.specs.declared.call.usage.TheConstants.{INITIAL, STATION}
 
 -- the flow of these numbers, where there is such a kind
 abbrev pub flow_of : PlainCall → Option FlowSpec
@@ -14,6 +19,10 @@ flow_of c = if c.flow == UNSOLICITED then Some (Unsolicited c.size c.interval_us
     else if c.flow == POLLED then Some (Polled c.interval_us c.jitter_us c.rate c.burst)
     else if c.flow == BEST_EFFORT then Some (BestEffort c.priority c.rate c.burst)
     else None
+
+-- whom the opportunity of these numbers is for, where there is such a kind
+abbrev pub usage_of : PlainCall → Option Usage
+usage_of c = if c.usage == INITIAL then Some Initial else if c.usage == STATION then Some (Station c.sid) else None
 
 -- the call of these numbers, where there is such a kind
 abbrev pub call_of : PlainCall → Option Call
@@ -24,6 +33,8 @@ call_of c = if c.kind == ADMIT then option_map (Admit c.sid) (flow_of c)
     else if c.kind == BUILD then Some (Build c.minislot)
     else if c.kind == SKIP then Some (Skip c.minislot)
     else if c.kind == STATUS then Some (Status c.sid)
+    else if c.kind == RESERVE then option_map (λ usage. Reserve usage c.slots) (usage_of c)
+    else if c.kind == HEADER then Some (Header c.ucd_count c.ranging_start c.ranging_end c.data_start c.data_end)
     else None
 
 -- all numbers 0
@@ -38,10 +49,17 @@ nothing_called = record {
   burst = 0;
   bytes = 0;
   minislot = 0;
+  usage = 0;
+  slots = 0;
   sid = 0;
   receiver = 0;
   priority = 0;
   grants = 0;
+  ucd_count = 0;
+  ranging_start = 0;
+  ranging_end = 0;
+  data_start = 0;
+  data_end = 0;
 }
 
 -- the numbers of a flow
@@ -82,3 +100,14 @@ plain_call (Heard receiver upto) = record nothing_called { kind = HEARD; receive
 plain_call (Build now) = record nothing_called { kind = BUILD; minislot = now }
 plain_call (Skip now) = record nothing_called { kind = SKIP; minislot = now }
 plain_call (Status sid) = record nothing_called { kind = STATUS; sid = sid }
+plain_call (Reserve Initial slots) = record nothing_called { kind = RESERVE; usage = INITIAL; slots = slots }
+plain_call (Reserve (Station sid) slots) =
+    record nothing_called { kind = RESERVE; usage = STATION; slots = slots; sid = sid }
+plain_call (Header count ranging_start ranging_end data_start data_end) = record nothing_called {
+  kind = HEADER;
+  ucd_count = count;
+  ranging_start = ranging_start;
+  ranging_end = ranging_end;
+  data_start = data_start;
+  data_end = data_end;
+}

@@ -1,9 +1,10 @@
 //! A call in plain numbers.
 
 ghost use Rattle.std.specs.Prelude.{◌≡◌, Some};
-ghost use Rattle.mapsched_c.specs.Call.{call_of, flow_of, plain_call};
+ghost use Rattle.mapsched_c.specs.Call.{call_of, flow_of, usage_of, plain_call};
 
 use flow_book::FlowSpec;
+use map_build::Usage;
 use sched_history::Call;
 
 /// The kinds of calls.
@@ -28,6 +29,21 @@ pub mod kind {
 
     /// Asks for a flow's bytes.
     pub const STATUS: u32 = 6;
+
+    /// Asks for an opportunity to range.
+    pub const RESERVE: u32 = 7;
+
+    /// Sets the UCD count and the backoff windows of the next MAPs.
+    pub const HEADER: u32 = 8;
+}
+
+/// Whom an opportunity is for.
+pub mod usage {
+    /// Initial Maintenance: all modems that join the channel.
+    pub const INITIAL: u32 = 0;
+
+    /// Station Maintenance: the modem of the service identifier.
+    pub const STATION: u32 = 1;
 }
 
 /// The kinds of flows.
@@ -64,6 +80,10 @@ pub struct PlainCall {
     pub bytes: u32,
     /// The minislot at which it is made or was heard, or up to which all was heard.
     pub minislot: u64,
+    /// Whom an opportunity is for: one of [`usage`].
+    pub usage: u32,
+    /// How many minislots an opportunity has.
+    pub slots: u32,
     /// The service identifier of the flow.
     pub sid: u16,
     /// The receiver that heard a request, or has handed in all.
@@ -72,6 +92,16 @@ pub struct PlainCall {
     pub priority: u8,
     /// An unsolicited flow's grants in an interval.
     pub grants: u8,
+    /// A header's UCD count.
+    pub ucd_count: u8,
+    /// A header's exponent of the first window of ranging.
+    pub ranging_start: u8,
+    /// Of the last.
+    pub ranging_end: u8,
+    /// A header's exponent of the first window of requests.
+    pub data_start: u8,
+    /// Of the last.
+    pub data_end: u8,
 }
 
 // A call of which every number is 0.
@@ -85,10 +115,17 @@ const NOTHING: PlainCall = PlainCall {
     burst: 0,
     bytes: 0,
     minislot: 0,
+    usage: 0,
+    slots: 0,
     sid: 0,
     receiver: 0,
     priority: 0,
     grants: 0,
+    ucd_count: 0,
+    ranging_start: 0,
+    ranging_end: 0,
+    data_start: 0,
+    data_end: 0,
 };
 
 impl PlainCall {
@@ -118,6 +155,17 @@ impl PlainCall {
         }
     }
 
+    // Whom the opportunity is for, where there is such a kind.
+    fn usage(&self) -> Option<Usage>
+        ensures { result ≡ usage_of self.now }
+    {
+        match self.usage {
+            usage::INITIAL => Some(Usage::Initial),
+            usage::STATION => Some(Usage::Station(self.sid)),
+            _ => None,
+        }
+    }
+
     // The call of these numbers, where there is such a kind.
     pub(crate) fn call(&self) -> Option<Call>
         ensures { result ≡ call_of self.now }
@@ -138,6 +186,17 @@ impl PlainCall {
             kind::BUILD => Call::Build { now: self.minislot },
             kind::SKIP => Call::Skip { now: self.minislot },
             kind::STATUS => Call::Status(self.sid),
+            kind::RESERVE => Call::Reserve {
+                usage: self.usage()?,
+                slots: self.slots,
+            },
+            kind::HEADER => Call::Header {
+                ucd_count: self.ucd_count,
+                ranging_start: self.ranging_start,
+                ranging_end: self.ranging_end,
+                data_start: self.data_start,
+                data_end: self.data_end,
+            },
             _ => return None,
         })
     }
@@ -190,6 +249,27 @@ impl PlainCall {
         }
     }
 
+    // The numbers of a Reserve.
+    fn of_reserve(usage: Usage, slots: u32) -> PlainCall
+        ensures { result ≡ plain_call (Call.Reserve usage slots) }
+    {
+        match usage {
+            Usage::Initial => PlainCall {
+                kind: kind::RESERVE,
+                usage: usage::INITIAL,
+                slots,
+                ..NOTHING
+            },
+            Usage::Station(sid) => PlainCall {
+                kind: kind::RESERVE,
+                usage: usage::STATION,
+                slots,
+                sid,
+                ..NOTHING
+            },
+        }
+    }
+
     // The numbers of a call: those that its kind has not are 0.
     pub(crate) fn of(call: Call) -> PlainCall
         ensures value { result ≡ plain_call call }
@@ -234,6 +314,22 @@ impl PlainCall {
             Call::Status(sid) => PlainCall {
                 kind: kind::STATUS,
                 sid,
+                ..NOTHING
+            },
+            Call::Reserve { usage, slots } => PlainCall::of_reserve(usage, slots),
+            Call::Header {
+                ucd_count,
+                ranging_start,
+                ranging_end,
+                data_start,
+                data_end,
+            } => PlainCall {
+                kind: kind::HEADER,
+                ucd_count,
+                ranging_start,
+                ranging_end,
+                data_start,
+                data_end,
                 ..NOTHING
             },
         }
