@@ -7,3 +7,7 @@ pub mod Places
 pub mod Offers
 pub mod MetPlaces
 pub mod Rooms
+pub mod Counting
+pub mod Waited
+pub mod MetOnce
+pub mod Losing

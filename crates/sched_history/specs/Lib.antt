@@ -16,5 +16,6 @@ pub mod Reply
 pub mod Machine
 pub mod Planned
 pub mod State
+pub mod Ranging
 pub mod Facts
 pub mod Audit

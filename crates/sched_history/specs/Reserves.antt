@@ -113,9 +113,13 @@ reserves_after rs (e ∷ es) = reserves_after (reserves_then e rs) es
 abbrev pub reserves_of : List Entry → List Reserve
 reserves_of h = reserves_after [] h
 
--- the opportunities of the first Reserves, which wait for the next MAP
+-- the opportunities that Reserves ask for
+abbrev pub asked_for : List Reserve → List Opportunity
+asked_for rs = map (λ r. r.opportunity) rs
+
+-- those of the first Reserves, which wait for the next MAP
 abbrev pub waiting_in : List Reserve → List Opportunity
-waiting_in rs = map (λ r. r.opportunity) (take MAX_WAITING rs)
+waiting_in rs = asked_for (take MAX_WAITING rs)
 
 -- what is left of a Reserve that was met, or was not
 abbrev pub left_of : Bool → Reserve → List Reserve

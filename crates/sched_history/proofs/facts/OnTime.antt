@@ -39,6 +39,7 @@ use Rattle.map_build.proofs.SameSpots.{all-members}
 use Rattle.sched_history.proofs.lists.Members.{all-flat_map}
 use Rattle.sched_history.proofs.placements.NominalTimes.{reference_past, interval_divides, place_rest, nominal-start}
 use Rattle.sched_history.proofs.placements.PlacedLives.{WasPlaced, table_placed}
+use Rattle.sched_history.proofs.reserves.Offers.{element_for}
 
 -- a spot of a placed flow, in a frame that starts there, is on time
 module _ (c : Config) (conf : IsLawful c) (table : List Placed) (start : ℕ) (aligned : start % c.frame ≡ 0)
@@ -99,14 +100,6 @@ timely-pending c table start [] bs = tt
 timely-pending c table start (f ∷ flows) [] = tt
 timely-pending c table start (f ∷ flows) (b ∷ bs) =
     ((λ periodic. absurd (omega (arith, periodic.in_frame))), timely-pending c table start flows bs)
-
--- the element of an allocation
-abbrev element_for : Config → ℕ → ℕ → Purpose → Element
-element_for c offset slots purpose = record {
-  sid = (kind_of c slots purpose).sid;
-  iuc = (kind_of c slots purpose).iuc;
-  offset = offset;
-}
 
 offer-is : (c : Config) (offset slots place : ℕ) (usage : Usage)
     → is_opportunity (element_for c offset slots (Offer place usage)) ≡ true

@@ -34,7 +34,7 @@ use Rattle.sched_history.proofs.lists.Numbered.{filter_map-below}
 use Rattle.sched_history.proofs.lives.Finding.{sids-range, flow_at, flow_at-sid, placed_at, placed_at-sid}
 use Rattle.map_build.proofs.SameSpots.{all-members}
 use Rattle.sched_history.proofs.lists.Members.{all-flat_map}
-use Rattle.sched_history.proofs.plans.Fronts.{HasFront-plan, length-bytes_of_plan}
+use Rattle.sched_history.proofs.plans.Fronts.{HasFront-plan, IsUnasked-plan, length-bytes_of_plan}
 use Rattle.sched_history.proofs.reserves.GoodReserves.{MayWait-legal, HaveStationSids-legal}
 use Rattle.sched_history.proofs.placements.SpotsFew.{spots-few}
 use Rattle.sched_history.proofs.steps.LegalBounds.{flows_of-few}
@@ -95,6 +95,7 @@ module _ (c : Config) (conf : IsLawful c) where
         within = length-elements c d next.0 bounds.overhead_positive next.1 (flows_of-few c conf h legal)
             (spots-few c conf (next_after c h / c.frame) h legal) (MayWait-legal c h legal).few;
         counted = length-bytes_of_plan c d next.0;
+        unasked = IsUnasked-plan c d next.0;
         front = HasFront-plan c d next.0
             (omega (arith, bounds.frame_most)) bounds.requests_positive
             (flows_of-in_range h)

@@ -15,6 +15,7 @@ use Rattle.map_build.specs.Purpose.{kind_of, grant_to, element_of, bytes_in}
 use Rattle.map_build.specs.Plan.{Demand, grants_to, flows_after, IsOfRank, Stands, IsPlan}
 use Rattle.map_build.specs.FrameMap.{request_region, null_element, pending, map_of}
 use Rattle.sched_history.specs.Life.{grant_by, grants_of_map}
+use Rattle.sched_history.proofs.reserves.Offers.{element_for}
 
 -- a data grant has some bytes
 abbrev pub HasBytes : Purpose → Type 0
@@ -50,14 +51,6 @@ module _ (sid start : ℕ) where
       → (if b && nat_lt 0 bytes then Some g else None) ≡ (if b then Some g else None)
   some_bytes true bytes g some = grind (arith, nat_tests)
   some_bytes false bytes g some = refl
-
-  -- the element of an allocation
-  abbrev element_for : Config → ℕ → ℕ → Purpose → Element
-  element_for c offset slots purpose = record {
-    sid = (kind_of c slots purpose).sid;
-    iuc = (kind_of c slots purpose).iuc;
-    offset = offset;
-  }
 
   -- the data grant that an allocation's element is read as
   grant_by-allocation : (c : Config) (offset slots : ℕ) (purpose : Purpose) → HasBytes purpose

@@ -16,19 +16,19 @@ use Rattle.map_build.specs.Plan.{Demand, room_at, IsMetIn, IsFirstToMeet, IsOfRa
 use Rattle.map_build.specs.FrameMap.{AreMet, elements_of}
 use Rattle.map_build.proofs.Offers.{is_met, is_met-met, met-is_met, unmet-test, met-only}
 use Rattle.sched_history.specs.declared.scheduler.reserves.Reserve.{Reserve}
-use Rattle.sched_history.specs.Reserves.{is_same, offers_of, without_first, unmet_by, waiting_in, unmarked}
-use Rattle.sched_history.proofs.reserves.Places.{left_by, left_by-same, left_by-none, left_by-unmarked, asked_for}
+use Rattle.sched_history.specs.Reserves.{is_same, offers_of, without_first, unmet_by, asked_for, waiting_in, unmarked}
+use Rattle.sched_history.proofs.reserves.Places.{left_by, left_by-same, left_by-none, left_by-unmarked}
 use Rattle.sched_history.proofs.reserves.Places.{MeetsOne, without_first-left, is_same-slots, front-asks, asks-front}
 use Rattle.sched_history.proofs.reserves.Places.{asked_for-take}
 use Rattle.sched_history.proofs.reserves.Offers.{offer_by, plan_offers, offers_of-plan}
 
 -- a place that the last allocation is not met at is met as before
-is_met-before : (plan : List Allocation) (a : Allocation) (k : ℕ) → is_met (a ∷ []) k ≡ false
+pub is_met-before : (plan : List Allocation) (a : Allocation) (k : ℕ) → is_met (a ∷ []) k ≡ false
     → is_met (plan ++ a ∷ []) k ≡ is_met plan k
 is_met-before [] a k isnt = isnt
 is_met-before (x ∷ plan) a k isnt = rw (is_met-before plan a k isnt) refl
 
-is_met-none : (a : Allocation) (k : ℕ) → place_of a.purpose ≡ None → is_met (a ∷ []) k ≡ false
+pub is_met-none : (a : Allocation) (k : ℕ) → place_of a.purpose ≡ None → is_met (a ∷ []) k ≡ false
 is_met-none a k none = unmet-test (a ∷ []) k (λ met. let is = met-only a k met in cc)
 
 same-places : (k place : ℕ) → Some k ≡ Some place → k ≡ place
@@ -67,7 +67,7 @@ module _ (c : Config) (d : Demand) (rs : List Reserve) (waits : d.waiting ≡ wa
       ap (λ os. slice_get os k) waits ∙ ap (λ os. slice_get os k) (asked_for-take MAX_WAITING rs)
       ∙ asks-front MAX_WAITING k (asked_for rs) o below is
 
-  meets-one : (before : List Allocation) (a : Allocation) (room place : ℕ) (o : Opportunity)
+  pub meets-one : (before : List Allocation) (a : Allocation) (room place : ℕ) (o : Opportunity)
       → place_of a.purpose ≡ Some place → IsFirstToMeet d.waiting before room place o
       → MeetsOne (is_met before) (is_met (before ++ a ∷ [])) rs place o
   meets-one before a room place o is first =

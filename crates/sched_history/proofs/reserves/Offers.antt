@@ -69,12 +69,17 @@ offers_of-pending c (f ∷ flows) =
     offers_of-other (pending_of c f) (map (pending_of c) flows) (pending-other c f) ∙ offers_of-pending c flows
 
 -- the element of an allocation
-abbrev element_for : Config → ℕ → ℕ → Purpose → Element
+abbrev pub element_for : Config → ℕ → ℕ → Purpose → Element
 element_for c offset slots purpose = record {
   sid = (kind_of c slots purpose).sid;
   iuc = (kind_of c slots purpose).iuc;
   offset = offset;
 }
+
+-- a data grant is no opportunity
+pub data-no_offer : (c : Config) (offset slots sid bytes : ℕ)
+    → is_opportunity (element_for c offset slots (DataGrant sid bytes)) ≡ false
+data-no_offer c offset slots sid bytes = data-other c slots
 
 -- an allocation's element up to the next is read as the opportunity that it is
 element-offers : (c : Config) (offset slots : ℕ) (purpose : Purpose) (next : Element) (es : List Element)

@@ -7,16 +7,12 @@ use Rattle.map_build.specs.declared.opportunity.Usage.{Usage}
 use Rattle.map_build.specs.declared.opportunity.Usage.TheVariants.{Initial, Station}
 use Rattle.map_build.specs.Purpose.{sid_for, iuc_for}
 use Rattle.sched_history.specs.declared.scheduler.reserves.Reserve.{Reserve}
-use Rattle.sched_history.specs.Reserves.{is_same, without_first, unmarked}
+use Rattle.sched_history.specs.Reserves.{is_same, without_first, asked_for, unmarked}
 
 -- the Reserves but those at places at which the test holds
 abbrev pub left_by : (ℕ → Bool) → List Reserve → List Reserve
 left_by test [] = []
 left_by test (r ∷ rs) = if test 0 then left_by (λ k. test (suc k)) rs else r ∷ left_by (λ k. test (suc k)) rs
-
--- the opportunities that Reserves ask for
-abbrev pub asked_for : List Reserve → List Opportunity
-asked_for rs = map (λ r. r.opportunity) rs
 
 -- where the tests agree the same are left
 pub left_by-same : (test other : ℕ → Bool) (rs : List Reserve) → ((k : ℕ) → test k ≡ other k)
@@ -37,7 +33,7 @@ left_by-none test (r ∷ rs) none =
 pub is_same-itself : (o : Opportunity) → is_same o o ≡ true
 is_same-itself o = grind (arith, nat_tests)
 
-all-three : (a b d : Bool) → (a && b && d) ≡ true → (a ≡ true) × (b ≡ true) × (d ≡ true)
+pub all-three : (a b d : Bool) → (a && b && d) ≡ true → (a ≡ true) × (b ≡ true) × (d ≡ true)
 all-three true true true is = (refl, refl, refl)
 all-three true true false is = absurd cc
 all-three true false d is = absurd cc
@@ -75,7 +71,7 @@ pub record MeetsOne (test other : ℕ → Bool) (rs : List Reserve) (place : ℕ
   pub first : (k : ℕ) (p : Opportunity) → k < place → slice_get (asked_for rs) k ≡ Some p → is_same o p ≡ true
       → test k ≡ true
 
-later-one : (test other : ℕ → Bool) (r : Reserve) (rs : List Reserve) (place : ℕ) (o : Opportunity)
+pub later-one : (test other : ℕ → Bool) (r : Reserve) (rs : List Reserve) (place : ℕ) (o : Opportunity)
     → MeetsOne test other (r ∷ rs) (suc place) o
     → MeetsOne (λ k. test (suc k)) (λ k. other (suc k)) rs place o
 later-one test other r rs place o one = record {

@@ -4,9 +4,8 @@ use Rattle.std.proofs.Common.{get_or, refl, sym, ap, ◌∙◌, subst, arith}
 use Rattle.std.proofs.lemmas.List.{take_more, drop-drop, get_or-drop, length-take}
 use Rattle.map_build.specs.declared.opportunity.Opportunity.{Opportunity}
 use Rattle.sched_history.specs.declared.scheduler.reserves.Reserve.{Reserve}
-use Rattle.sched_history.specs.Reserves.{aged, left_of, unmarked}
+use Rattle.sched_history.specs.Reserves.{aged, asked_for, left_of, unmarked}
 use Rattle.sched_history.proofs.reserves.Aging.{aged-push}
-use Rattle.sched_history.proofs.reserves.Places.{asked_for}
 
 -- of what the first n ask for, that of the first n of some is the front
 pub front-waiting : (n count : ℕ) (items : List Reserve)

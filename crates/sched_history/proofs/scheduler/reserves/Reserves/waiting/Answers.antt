@@ -1,7 +1,7 @@
 -- Of the first places those where Reserves stand are told.
 use Rattle.std.proofs.Common.{◌≡◌, ◌∙◌, take, sym, subst, arith}
 use Rattle.std.proofs.lemmas.List.{take_all}
-use Rattle.sched_history.proofs.reserves.Places.{asked_for}
+use Rattle.sched_history.specs.Reserves.{asked_for}
 use Rattle.sched_history.proofs.reserves.Rooms.{front-waiting}
 use Rattle.sched_history.proofs.scheduler.reserves.Reserves.waiting.Goals as goal
 

@@ -1,6 +1,6 @@
 -- The opportunities before this place are told.
 use Rattle.std.proofs.Common.{◌≡◌, take, length}
-use Rattle.sched_history.proofs.reserves.Places.{asked_for}
+use Rattle.sched_history.specs.Reserves.{asked_for}
 use Rattle.sched_history.proofs.scheduler.reserves.Reserves.waiting.Given as goal
 
 abbrev pub invariant-loop-place : goal.invariant-loop-place
