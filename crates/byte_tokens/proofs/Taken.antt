@@ -124,4 +124,3 @@ pub none_left : (b : Before) → closes_at b ≡ true → (text : List ℕ) (at 
     → tokens_from b (drop at text) ≡ []
 none_left b may text at end = ap (λ i. tokens_from b (drop i text)) end ∙ ap (tokens_from b) (drop-length text)
     ∙ over b may
-

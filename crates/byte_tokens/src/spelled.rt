@@ -18,11 +18,12 @@ pub(crate) fn ends_value(c: u8) -> bool
     c == b',' || c == b'}' || c == b']'
 }
 
-// Whether a byte of a text stands for itself in quotes.
+// Whether a byte stands for itself in quotes, and is none that keys and names have seldom: a space or an exclamation
+// mark.
 fn is_plain(c: u8) -> bool
     ensures { IsTrue result → (32 ≤ c) × ((c ≡ 34 → ⊥) × (c ≡ 92 → ⊥)) }
 {
-    c >= 32 && c != b'"' && c != b'\\'
+    c > b'"' && c != b'\\'
 }
 
 /// Where the bytes from a place on that stand for themselves in quotes end.

@@ -1,2 +1,3 @@
 pub mod RowsForms
 pub mod Seen
+pub mod Quick

@@ -1,20 +1,19 @@
 -- What the members of an object say as they are read one by one, and the call that they make.
-use Rattle.std.proofs.Common.{◌≡◌, ℕ, ◌^◌, ◌||◌, Bool, true, false, cond, List, bytes_eq, Option, Some, None}
+use Rattle.std.proofs.Common.{◌≡◌, ℕ, ◌||◌, Bool, true, false, cond, List, bytes_eq, Option, Some, None}
 use Rattle.std.proofs.Common.{option_and_then, refl, sym, ap, ◌∙◌, is_some, true≢false}
 use Rattle.std.proofs.lemmas.Slice.Eq.{bytes_eq-Decides}
 use Rattle.std.specs.Borrow.{Bor}
 use Rattle.std.specs.Prelude.{codes, if◌then◌else◌}
 use Rattle.serde_json.specs.Data.{Data, number, unsigned, string, object, Members, put}
-use Rattle.serde_json.specs.Find.{get_member, as_str, as_number, as_u64}
+use Rattle.serde_json.specs.Find.{get_member, as_str}
 use Rattle.flow_book.specs.declared.spec.FlowSpec.{FlowSpec}
-use Rattle.sched_history.specs.declared.call.Call.{Call}
 use Rattle.sched_history.specs.declared.call.Call.TheVariants.{Admit}
-use Rattle.json_fields.specs.Fields.{◌>>=◌, below, u8_at, u16_at, u32_at, u64_at, number_at, text_at}
+use Rattle.json_fields.specs.Fields.{◌>>=◌, u8_at, u16_at, u32_at, u64_at, number_at, text_at}
 use Rattle.json_fields.proofs.PlainValues.{found_at}
 use Rattle.call_reading.specs.declared.found.Found.{Found}
 use Rattle.call_reading.specs.Calls.{flow_of, admit_call, remove_call, ask_call, heard_call, build_call, skip_call}
 use Rattle.call_reading.specs.Calls.{status_call, call_of}
-use Rattle.call_reading.specs.Seen.{Seen, whole_in, seen_in, seen_with, seen_of, seen_admit, seen_remove, seen_ask}
+use Rattle.call_reading.specs.Seen.{whole_in, seen_in, seen_with, seen_of, seen_admit, seen_remove, seen_ask}
 use Rattle.call_reading.specs.Seen.{seen_heard, seen_build, seen_skip, seen_status, seen_call}
 
 then_made : {B : Type 0} (b : Bool) (x : Data) (o : Option Data) (f : Data → Option B)

@@ -1,5 +1,5 @@
 -- The flow and the call that a JSON object stands for.
-use Rattle.std.specs.Prelude.{if◌then◌else◌, codes, bytes_eq, Option, Some, None}
+use Rattle.std.specs.Prelude.{◌≡◌, if◌then◌else◌, codes, bytes_eq, Option, Some, None}
 use Rattle.serde_json.specs.Data.{Data}
 use Rattle.serde_json.specs.Find.{get}
 use Rattle.flow_book.specs.declared.spec.FlowSpec.{FlowSpec}
@@ -133,3 +133,7 @@ call_of d = do
       else (if bytes_eq name (codes "reserve") then reserve_call d
       else (if bytes_eq name (codes "header") then header_call d
       else None))))))))
+
+-- the value stands for the call, and no configuration stands beside its members
+abbrev pub StandsAlone : Data → Call → Type 0
+StandsAlone d call = (call_of d ≡ Some call) × (get (codes "config") d ≡ None)

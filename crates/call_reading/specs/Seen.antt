@@ -1,6 +1,6 @@
 -- What the members of an object say of a call, member by member. Only private clauses cite it.
 use Rattle.std.specs.Prelude.{ℕ, ◌^◌, ◌||◌, Bool, false, List, if◌then◌else◌, codes, bytes_eq, Option, Some, None}
-use Rattle.std.specs.Prelude.{option_map, option_and_then, is_some}
+use Rattle.std.specs.Prelude.{option_map, is_some}
 use Rattle.serde_json.specs.Data.{Data, Members}
 use Rattle.serde_json.specs.Find.{get_member, as_str, as_number, as_u64}
 use Rattle.flow_book.specs.declared.spec.FlowSpec.{FlowSpec}

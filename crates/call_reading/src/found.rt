@@ -117,14 +117,18 @@ fn heard(found: &Found<'_>) -> Option<Call>
 fn build(found: &Found<'_>) -> Option<Call>
     ensures { result ≡ seen_build (seen_of found.now) }
 {
-    Some(Call::Build { now: to_u64(found.time)? })
+    Some(Call::Build {
+        now: to_u64(found.time)?,
+    })
 }
 
 #[tactic(auto, unfolding(crate::specs::Seen::seen_skip))]
 fn skip(found: &Found<'_>) -> Option<Call>
     ensures { result ≡ seen_skip (seen_of found.now) }
 {
-    Some(Call::Skip { now: to_u64(found.time)? })
+    Some(Call::Skip {
+        now: to_u64(found.time)?,
+    })
 }
 
 #[tactic(auto, unfolding(crate::specs::Seen::seen_status))]

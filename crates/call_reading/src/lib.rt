@@ -4,7 +4,12 @@
 mod call;
 mod flow;
 mod found;
+mod quick_call;
+mod quick_line;
+mod quick_script;
 mod read;
 
 pub use call::call_of;
+pub use quick_line::read_quick_line;
+pub use quick_script::read_quick_script;
 pub use read::read_call;

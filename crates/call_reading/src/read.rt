@@ -47,11 +47,7 @@ fn read_member<'a>(
 }
 
 // What the members of an object say of a call, whose brace was taken, and the brace that closes it.
-fn read_members<'a>(
-    alloc: Global,
-    reader: &mut Reader<'a>,
-    depth: usize,
-) -> Result<Found<'a>, Stop>
+fn read_members<'a>(alloc: Global, reader: &mut Reader<'a>, depth: usize) -> Result<Found<'a>, Stop>
     ensures are { IfOk result (λ found. (ms : Members)
         × (converted (λ ms. of_members ms no_members)
         (members (value depth) (length reader.old) reader.old) ≡ Some (ms, reader.new))

@@ -15,7 +15,6 @@ use Rattle.json_fields.specs.Usual.{read_tokens}
 use Rattle.text_stream.specs.declared.fault.TextFault.{TextFault}
 use Rattle.text_stream.specs.Input.{value_of}
 use Rattle.text_stream.proofs.Bytes.{value_of-Ok}
-use Rattle.live_command.specs.declared.said.Said.{Said}
 use Rattle.live_command.specs.declared.said.Said.TheVariants as said
 use Rattle.live_command.specs.Said.{said_by, said_in}
 

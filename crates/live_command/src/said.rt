@@ -4,7 +4,7 @@ ghost use Rattle.std.specs.Prelude.{◌≡◌, Ok, IfOk};
 ghost use Rattle.text_stream.specs.Input.{Gives};
 ghost use Rattle.live_command.specs.Said.{said_by, said_in};
 
-use call_reading::{call_of, read_call};
+use call_reading::{call_of, read_quick_line};
 use json::{Reader, Scratch};
 use json_fields::{Stop, Tree, config_of, member, read_plain};
 use minislots::Config;
@@ -35,18 +35,11 @@ fn said_by<T: Tree>(value: &T) -> Said
     }
 }
 
-// What a text says that is a call, read straight from its tokens.
-fn read_called(alloc: Global, scratch: &mut Scratch, bytes: &[u8]) -> Result<Said, Stop>
+// What a text says that is a call in its usual spelling.
+fn read_called(alloc: Global, bytes: &[u8]) -> Result<Said, Stop>
     ensures { IfOk result (λ said. said_in bytes.now ≡ Ok said) }
 {
-    let Ok(text) = std::str::from_utf8(bytes) else {
-        return Err(Stop::Unusual);
-    };
-    let mut reader = Reader::new(text, scratch)?;
-    let call = read_call(alloc, &mut reader, MAX_DEPTH)?;
-    if reader.next().is_some() {
-        return Err(Stop::Unusual);
-    }
+    let call = read_quick_line(alloc, bytes)?;
     Ok(Said::Call(Some(call)))
 }
 
@@ -87,8 +80,8 @@ fn read_value(alloc: Global, scratch: &mut Scratch, bytes: &[u8]) -> Result<Said
     }
 }
 
-/// What the text of a line says. A call is read at once, and anything else as a value. What memory the scratch has is
-/// used again from text to text.
+/// What the text of a line says. A call in its usual spelling is read at once, and anything else as a value. What
+/// memory the scratch has is used again from text to text.
 pub(crate) fn read_said(
     alloc: Global,
     scratch: &mut Scratch,
@@ -96,9 +89,8 @@ pub(crate) fn read_said(
 ) -> Result<Said, TextFault>
     ensures { Gives (λ said. said) result (said_in bytes.now) }
 {
-    match read_called(alloc, scratch, bytes) {
+    match read_called(alloc, bytes) {
         Ok(said) => Ok(said),
-        Err(Stop::Memory) => Err(TextFault::Memory),
-        Err(Stop::Unusual) => read_value(alloc, scratch, bytes),
+        Err(_stop) => read_value(alloc, scratch, bytes),
     }
 }

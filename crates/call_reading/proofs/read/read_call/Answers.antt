@@ -1,5 +1,5 @@
 -- The members of the object make the call.
-use Rattle.std.proofs.Common.{◌≡◌, ◌∷◌, Some, sym, ap, ◌∙◌, arith}
+use Rattle.std.proofs.Common.{◌≡◌, ◌∷◌, sym, ap, ◌∙◌, arith}
 use Rattle.json.specs.Token.{Token}
 use Rattle.serde_json.specs.Data.{object}
 use Rattle.json_fields.proofs.PlainValues.{object_read}

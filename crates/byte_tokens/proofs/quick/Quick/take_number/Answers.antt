@@ -23,12 +23,11 @@ returns c =
     let rest = first c.as_bytes-text.result.now text at x x same refl c.byte_at.ensures.here (some_byte x ended) in
     let left : tokens_from r.1 (drop r.0 text) ≡ punctuate after_value (lex between (drop at text)) =
     subst (λ t. tokens_from r.1 (drop r.0 t) ≡ punctuate after_value (lex between (drop at t))) same
-    c.behind_value-at.ensures.same in
-    (
+    c.behind_value-at.ensures.same in (
       found.2,
-    sym c.self.view_is
-    ∙ number_taken a.before (sym c.may_begin.ensures ∙ c.if-not-may_begin.false) (drop a.at text) x (drop (at + 1) text)
-    n found.2 (spelled ∙ ap (λ l. decimal n ++ l) rest) ended
-    ∙ ap (λ ts. number (decimal n) ∷ punctuate after_value (lex between ts)) (sym rest)
-    ∙ ap (λ ts. number (decimal n) ∷ ts) (sym left),
+      sym c.self.view_is
+          ∙ number_taken a.before (sym c.may_begin.ensures ∙ c.if-not-may_begin.false) (drop a.at text) x (drop (at + 1) text)
+          n found.2 (spelled ∙ ap (λ l. decimal n ++ l) rest) ended
+          ∙ ap (λ ts. number (decimal n) ∷ punctuate after_value (lex between ts)) (sym rest)
+          ∙ ap (λ ts. number (decimal n) ∷ ts) (sym left),
     )

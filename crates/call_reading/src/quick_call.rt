@@ -1,0 +1,171 @@
+//! A call of the usual spelling, read from its bytes: without spaces and escapes, and with no member that no call has.
+
+ghost use Rattle.std.specs.Prelude.{◌≡◌, ◌<◌, ℕ, codes, Some, None, IfOk, OnOk, length, option_map};
+ghost use Rattle.json.specs.Json.{value, members, read_key};
+ghost use Rattle.serde_json.specs.Data.{Data, Members, no_members, number, unsigned, string};
+ghost use Rattle.serde_json.specs.Find.{get};
+ghost use Rattle.serde_json.specs.Read.{of_json, of_members, converted};
+ghost use Rattle.json_fields.specs.Plain.{data_of, members_of};
+ghost use Rattle.call_reading.specs.Calls.{call_of};
+ghost use Rattle.call_reading.specs.Seen.{seen_of, seen_in, seen_with};
+
+use super::flow::flow_of;
+use super::found::{Found, made};
+use byte_tokens::Quick;
+use json_fields::{Plain, Stop};
+use sched_history::Call;
+use std::alloc::Global;
+
+// The most members of an object in which no other stands.
+const MOST_MEMBERS: usize = 21;
+
+// A key, or none at the brace that closes an object.
+pub(crate) fn next_key<'a>(reader: &mut Quick<'a>) -> Result<Option<&'a str>, Stop>
+    ensures { IfOk result
+        (λ k. read_key reader.old ≡ Some (option_map (λ s. s.now) k, reader.new)) }
+{
+    let Some(key) = reader.next_key() else {
+        return Err(Stop::Unusual);
+    };
+    Ok(key)
+}
+
+// A whole number.
+fn read_number(reader: &mut Quick<'_>) -> Result<u64, Stop>
+    ensures is { IfOk result (λ n. (depth : ℕ) → converted of_json (value depth reader.old)
+        ≡ Some (number (unsigned n), reader.new)) }
+    ensures shorter { OnOk result (length reader.new < length reader.old) }
+{
+    let Some(number) = reader.take_number() else {
+        return Err(Stop::Unusual);
+    };
+    Ok(number)
+}
+
+// A text.
+fn read_text<'a>(reader: &mut Quick<'a>) -> Result<&'a str, Stop>
+    ensures is { IfOk result (λ text. (depth : ℕ) → converted of_json (value depth reader.old)
+        ≡ Some (string text.now, reader.new)) }
+    ensures shorter { OnOk result (length reader.new < length reader.old) }
+{
+    let Some(text) = reader.take_text() else {
+        return Err(Stop::Unusual);
+    };
+    Ok(text)
+}
+
+// A whole number or a text.
+fn read_flat_value<'a>(reader: &mut Quick<'a>) -> Result<Plain<'a>, Stop>
+    ensures is { IfOk result (λ v. (depth : ℕ) → converted of_json (value depth reader.old)
+        ≡ Some (data_of v, reader.new)) }
+    ensures shorter { OnOk result (length reader.new < length reader.old) }
+{
+    if reader.is_quoted() {
+        let text = read_text(reader)?;
+        return Ok(Plain::Text(text));
+    }
+    let number = read_number(reader)?;
+    Ok(Plain::Number(number))
+}
+
+// The members of an object of whole numbers and texts, whose brace was taken, and the brace that closes it.
+fn read_flat_members<'a>(
+    alloc: Global,
+    reader: &mut Quick<'a>,
+    depth: usize,
+) -> Result<Vec<(&'a str, Plain<'a>)>, Stop>
+    ensures are { IfOk result (λ v. converted (λ ms. of_members ms no_members)
+        (members (value depth) (length reader.old) reader.old)
+        ≡ Some (members_of v.items, reader.new)) }
+    ensures shorter { OnOk result (length reader.new < length reader.old) }
+{
+    let mut found = Vec::with_capacity(alloc, MOST_MEMBERS)?;
+    'members: while let Some(key) = next_key(reader)? {
+        let member = read_flat_value(reader)?;
+        found.push((key, member))?;
+    }
+    Ok(found)
+}
+
+/// An object of whole numbers and texts.
+pub(crate) fn read_flat<'a>(
+    alloc: Global,
+    reader: &mut Quick<'a>,
+    depth: usize,
+) -> Result<Plain<'a>, Stop>
+    ensures is { IfOk result
+        (λ v. converted of_json (value depth reader.old) ≡ Some (data_of v, reader.new)) }
+    ensures shorter { OnOk result (length reader.new < length reader.old) }
+{
+    if depth == 0 || !reader.open_object() {
+        return Err(Stop::Unusual);
+    }
+    let members = read_flat_members(alloc, reader, depth - 1)?;
+    Ok(Plain::Object(members))
+}
+
+// Reads the value under a key that a call has, and notes it.
+fn read_member<'a>(
+    alloc: Global,
+    reader: &mut Quick<'a>,
+    depth: usize,
+    key: &str,
+    found: &mut Found<'a>,
+) -> Result<(), Stop>
+    ensures is { OnOk result ((d : Data)
+        × (converted of_json (value depth reader.old) ≡ Some (d, reader.new))
+        × (seen_of found.new ≡ seen_with key.now d (seen_of found.old))) }
+    ensures shorter { OnOk result (length reader.new < length reader.old) }
+{
+    match key {
+        "call" => found.name = Some(read_text(reader)?),
+        "sid" => found.sid = Some(read_number(reader)?),
+        "receiver" => found.receiver = Some(read_number(reader)?),
+        "bytes" => found.bytes = Some(read_number(reader)?),
+        "heard" => found.heard = Some(read_number(reader)?),
+        "now" => found.time = Some(read_number(reader)?),
+        "upto" => found.upto = Some(read_number(reader)?),
+        "flow" => {
+            let value = read_flat(alloc, reader, depth)?;
+            found.flow = flow_of(&value);
+        }
+        _ => return Err(Stop::Unusual),
+    }
+    Ok(())
+}
+
+// What the members of a call say, whose brace was taken, and the brace that closes it.
+fn read_members<'a>(alloc: Global, reader: &mut Quick<'a>, depth: usize) -> Result<Found<'a>, Stop>
+    ensures are { IfOk result (λ found. (ms : Members)
+        × (converted (λ ms. of_members ms no_members)
+        (members (value depth) (length reader.old) reader.old) ≡ Some (ms, reader.new))
+        × (seen_of found ≡ seen_in ms)) }
+    ensures shorter { OnOk result (length reader.new < length reader.old) }
+{
+    let mut found = Found::nothing();
+    'members: while let Some(key) = next_key(reader)? {
+        read_member(alloc, reader, depth, key, &mut found)?;
+    }
+    Ok(found)
+}
+
+/// The call that comes next, nested no deeper than this.
+pub(crate) fn read_quick_call(
+    alloc: Global,
+    reader: &mut Quick<'_>,
+    depth: usize,
+) -> Result<Call, Stop>
+    ensures is { IfOk result (λ call. (d : Data)
+        × (converted of_json (value depth reader.old) ≡ Some (d, reader.new))
+        × (call_of d ≡ Some call) × (get (codes "config") d ≡ None)) }
+    ensures shorter { OnOk result (length reader.new < length reader.old) }
+{
+    if depth == 0 || !reader.open_object() {
+        return Err(Stop::Unusual);
+    }
+    let found = read_members(alloc, reader, depth - 1)?;
+    let Some(call) = made(&found) else {
+        return Err(Stop::Unusual);
+    };
+    Ok(call)
+}
