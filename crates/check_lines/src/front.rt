@@ -1,5 +1,10 @@
 //! A reader whose first bytes can be looked at before they are read.
 
+ghost use Rattle.std.specs.Prelude.{◌≡◌, ◌⊎◌, ◌≤◌, IfErr, OnOk, take, vec_len};
+ghost use Rattle.std.specs.Io.KnownBytes.{Keeps};
+ghost use Rattle.text_stream.specs.Watched.{FailsBy};
+ghost use Rattle.check_lines.specs.declared.front.TheConstants.{FRONT};
+
 use std::alloc::Global;
 use std::io;
 use text_stream::{Source, TextFault};
@@ -17,11 +22,17 @@ pub struct Front<R> {
     bytes: Vec<u8>,
     // How many of them were given.
     given: usize,
+    ghost given_within: { given ≤ vec_len bytes },
 }
 
 impl<R: Source> Front<R> {
+    ghost use Rattle.check_lines.specs.Front.{unread_of, failed_of, at_hand, IsLookedAt};
+
     /// A reader of which nothing was looked at.
-    pub fn new(alloc: Global, reader: R) -> Front<R> {
+    pub fn new(alloc: Global, reader: R) -> Front<R>
+        ensures unread { unread_of R.remaining result ≡ R.remaining reader }
+        ensures failed { failed_of R.has_failed result ≡ R.has_failed reader }
+    {
         Front {
             reader,
             bytes: Vec::new(alloc),
@@ -29,12 +40,18 @@ impl<R: Source> Front<R> {
         }
     }
 
-    /// Reads the first 196608 bytes, or all where there are fewer, which are given again.
-    pub(crate) fn look(&mut self) -> Result<(), TextFault> {
+    /// Reads on until 196608 bytes are at hand, or all where there are fewer; they are given again.
+    pub(crate) fn look(&mut self) -> Result<(), TextFault>
+        ensures same { OnOk result
+            (Keeps (unread_of R.remaining self.old) (unread_of R.remaining self.new)) }
+        ensures looked { OnOk result (IsLookedAt R.remaining self.new) }
+        ensures err { IfErr result (λ e. (e ≡ TextFault.Input) ⊎ (e ≡ TextFault.Memory)) }
+        ensures failed { FailsBy TextFault.Input result
+            (failed_of R.has_failed self.old) (failed_of R.has_failed self.new) }
+    {
         let mut piece = [0; PIECE];
-        while self.bytes.len() < FRONT {
-            let most = PIECE.min(FRONT - self.bytes.len());
-            let Ok(len) = self.reader.read_some(&mut piece[..most]) else {
+        while self.bytes.len() - self.given < FRONT {
+            let Ok(len) = self.reader.read_some(&mut piece) else {
                 return Err(TextFault::Input);
             };
             if len == 0 {
@@ -45,23 +62,38 @@ impl<R: Source> Front<R> {
         Ok(())
     }
 
-    /// The bytes that were looked at and not given.
-    pub(crate) fn bytes(&self) -> &[u8] {
-        match self.bytes.get(self.given..) {
-            Some(left) => left,
-            None => b"",
-        }
+    /// The first of the bytes at hand: as many as are looked at.
+    pub(crate) fn first(&self) -> &[u8]
+        ensures { result.now ≡ take FRONT (at_hand self.now) }
+    {
+        let left = &self.bytes[self.given..];
+        &left[..left.len().min(FRONT)]
+    }
+
+    /// The bytes that were looked at, given or not.
+    pub(crate) fn looked_at(&self) -> &[u8] {
+        &self.bytes
     }
 }
 
 impl<R: Source> Source for Front<R> {
+    ghost use Rattle.check_lines.specs.Front.{unread_of, failed_of};
+
+    ghost remaining = { λ f. unread_of R.remaining f };
+
+    ghost has_failed = { λ f. failed_of R.has_failed f };
+
     fn read_some(&mut self, buf: &mut [u8]) -> io::Result<usize> {
-        let mut left = self.bytes();
-        if left.is_empty() {
+        if self.given == self.bytes.len() {
             return self.reader.read_some(buf);
         }
-        let len = left.read_some(buf)?;
-        self.given = self.given.saturating_add(len);
-        Ok(len)
+        let mut left = &self.bytes[self.given..];
+        match left.read_some(buf) {
+            Ok(len) => {
+                self.given += len;
+                Ok(len)
+            }
+            Err(fault) => Err(fault),
+        }
     }
 }

@@ -3,11 +3,12 @@
 
 use crate::check::run_check_any;
 use crate::front::Front;
+use crate::verdict::Verdict;
 use std::io;
 use text_stream::{RunFault, Watched};
 
-/// The command `check`: the exit status by which the command for such a file would end.
-pub fn check_any_input(rt: &(impl Input + Print + AllocGlobal)) -> Result<u8, RunFault> {
+/// The command `check`: the verdict on the file.
+pub fn check_any_input(rt: &(impl Input + Print + AllocGlobal)) -> Result<Verdict, RunFault> {
     run_check_any(
         rt.alloc(),
         &mut Front::new(rt.alloc(), Watched::new(rt.reader())),

@@ -1,164 +1,113 @@
-//! What is found in a journal.
+//! What is found in a journal, read line by line.
 
-use crate::blank::is_blank;
-use crate::opening::opening_in;
-use crate::report::Report;
-use file_words::words_on_line;
-use history_reading::entry_in;
-use journal_entries::EntriesEnd;
-use json::Scratch;
-use json_fields::forms::Sort;
-use line_stream::{Lines, Whole};
-use sched_history::{Auditor, JudgeFault, MAX_WHOLE_HISTORY};
-use std::alloc::{AllocError, Global};
-use std::fmt::Write;
+ghost use Rattle.std.specs.Prelude.{◌≡◌, [], List, ℕ, Option, IfOk, IfErr};
+ghost use Rattle.text_stream.specs.Watched.{FailsBy};
+ghost use Rattle.journal_entries.specs.Journal.{StopsJournal};
+ghost use Rattle.journal_entries.specs.Next.{HasGiven};
+ghost use Rattle.check_lines.specs.Journal.{FindsEnd};
+
+use crate::words::{words_on_illegal, words_on_no_entry};
+use journal_entries::{EntriesEnd, JournalEntries, Next};
+use sched_history::MAX_WHOLE_HISTORY;
+use std::alloc::Global;
 use text_stream::{Source, TextFault};
 
-/// What is said of a long line.
-pub(crate) const LONG: &str = "this line has more than 65536 bytes";
-
-/// How a journal ends, how many of its entries are legal, and words on the line that is wrong.
+/// What is found in a journal.
 #[derive(Drop)]
-pub(crate) struct Judged {
-    end: EntriesEnd,
-    entries: u64,
-    words: String,
+pub(crate) struct JournalReport {
+    /// How `audit --journal` ends on it.
+    pub end: EntriesEnd,
+    /// How many entries a legal one has.
+    pub entries: u64,
+    /// Words on the line that is wrong.
+    pub words: String,
 }
 
-// A journal whose line of this number, counted from 0, is bad, which these words tell.
-fn bad(line: u64, words: String) -> Judged {
-    Judged {
+// A journal of so many entries that is legal.
+fn legal(alloc: Global, entries: u64, torn: u64) -> JournalReport
+    ensures end { result.end ≡ EntriesEnd.Legal torn }
+    ensures entries { result.entries ≡ entries }
+{
+    JournalReport {
+        end: EntriesEnd::Legal(torn),
+        entries,
+        words: String::new(alloc),
+    }
+}
+
+// A journal in which this entry may not follow those before it.
+fn illegal(alloc: Global, place: u64) -> Result<JournalReport, TextFault>
+    ensures end { IfOk result (λ report. report.end ≡ EntriesEnd.Illegal place) }
+    ensures err { IfErr result (λ e. e ≡ TextFault.Memory) }
+{
+    Ok(JournalReport {
+        end: EntriesEnd::Illegal(place),
+        entries: 0,
+        words: words_on_illegal(alloc, place)?,
+    })
+}
+
+// A journal in which this line stands for no entry.
+fn bad(alloc: Global, line: u64, shown: Option<&[u8]>) -> Result<JournalReport, TextFault>
+    ensures end { IfOk result (λ report. report.end ≡ EntriesEnd.Bad line) }
+    ensures err { IfErr result (λ e. e ≡ TextFault.Memory) }
+{
+    Ok(JournalReport {
         end: EntriesEnd::Bad(line),
         entries: 0,
-        words,
-    }
+        words: words_on_no_entry(alloc, line, shown)?,
+    })
 }
 
-// The words on a line of this number, counted from 1.
-fn told(alloc: Global, number: u64, what: &str) -> Result<String, AllocError> {
-    let mut words = String::new(alloc);
-    writeln!(words, "line {number}: {what}")?;
-    Ok(words)
-}
-
-// A journal whose line of this number, counted from 0, is no entry.
-fn no_entry(alloc: Global, line: u64, text: &[u8]) -> Result<Judged, AllocError> {
-    let number = line.saturating_add(1);
-    let words = if is_blank(text) {
-        told(
-            alloc,
-            number,
-            "this line is blank, and a journal has no such line",
-        )?
-    } else {
-        words_on_line(alloc, number, Sort::Entry, text)?
-    };
-    Ok(bad(line, words))
-}
-
-// Judges the entry that a line of this number stands for. None where it may follow those before it.
-fn judge_line(
+// Reads the entries behind the first line.
+fn read_entries<R: Source>(
     alloc: Global,
-    scratch: &mut Scratch,
-    auditor: &mut Auditor,
-    number: u64,
-    text: &[u8],
-) -> Result<Option<Judged>, TextFault> {
-    let Some(entry) = entry_in(alloc, scratch, text)? else {
-        return Ok(Some(no_entry(alloc, number, text)?));
-    };
-    match auditor.judge(&entry) {
-        Ok(()) => Ok(None),
-        Err(JudgeFault::Illegal) => Ok(Some(Judged {
-            end: EntriesEnd::Illegal(auditor.taken()),
-            entries: auditor.taken(),
-            words: told(
-                alloc,
-                number.saturating_add(1),
-                "the scheduler may not give this reply to this call after the lines before it",
-            )?,
-        })),
-        Err(JudgeFault::Full) => Err(TextFault::TooLong),
-        Err(JudgeFault::Memory) => Err(TextFault::Memory),
-    }
-}
-
-// Judges the entries behind the first line.
-fn judge_entries<R: Source>(
-    alloc: Global,
-    lines: &mut Lines,
-    auditor: &mut Auditor,
+    mut entries: JournalEntries,
     reader: &mut R,
-) -> Result<Judged, TextFault> {
-    let mut scratch = Scratch::new(alloc);
-    for number in 1..=MAX_WHOLE_HISTORY + 1 {
-        match lines.next_whole(reader)? {
-            Whole::Line => {}
-            Whole::Long => return Ok(bad(number, told(alloc, number.saturating_add(1), LONG)?)),
-            Whole::Torn(torn) => {
-                return Ok(Judged {
-                    end: EntriesEnd::Legal(torn),
-                    entries: auditor.taken(),
-                    words: String::new(alloc),
-                });
-            }
-        }
-        if let Some(judged) = judge_line(alloc, &mut scratch, auditor, number, lines.line())? {
-            return Ok(judged);
+) -> Result<JournalReport, TextFault>
+    requires none { entries.auditor.history ≡ [] }
+    ensures finds { IfOk result (λ report. (before : Option (List ℕ)) →
+        HasGiven before (R.remaining reader.old) entries →
+        FindsEnd before (R.remaining reader.new) report.entries report.end) }
+    ensures stops { IfErr result (λ fault. (before : Option (List ℕ)) →
+        HasGiven before (R.remaining reader.old) entries →
+        StopsJournal before (R.remaining reader.new) fault) }
+    ensures failed { FailsBy TextFault.Input result
+        (R.has_failed reader.old) (R.has_failed reader.new) }
+{
+    for _ in 0..=MAX_WHOLE_HISTORY {
+        match entries.next(reader) {
+            Ok(Next::Entry(_)) => {}
+            Ok(Next::Illegal(place)) => return illegal(alloc, place),
+            Ok(Next::Bad(line)) => return bad(alloc, line, entries.line()),
+            Ok(Next::End(torn)) => return Ok(legal(alloc, entries.auditor.taken(), torn)),
+            Err(fault) => return Err(fault),
         }
     }
+    // Fewer entries are given than there were turns.
+    let _most = entries.auditor.taken();
     Err(TextFault::TooLong)
 }
 
-// Judges a journal.
-fn judge<R: Source>(alloc: Global, reader: &mut R) -> Result<Judged, TextFault> {
-    let mut lines = Lines::new();
-    match lines.next_whole(reader)? {
-        Whole::Line => {}
-        Whole::Long => return Ok(bad(0, told(alloc, 1, LONG)?)),
-        Whole::Torn(_) => return Ok(bad(0, told(alloc, 1, "no newline ends this line")?)),
-    }
-    if is_blank(lines.line()) {
-        return Ok(no_entry(alloc, 0, lines.line())?);
-    }
-    match opening_in(alloc, 1, lines.line())? {
-        Ok(config) => {
-            let mut auditor = Auditor::open(alloc, config)?;
-            judge_entries(alloc, &mut lines, &mut auditor, reader)
-        }
-        Err((_, words)) => Ok(bad(0, words)),
-    }
-}
-
-// The first line on a journal, and what it has.
-fn put_end(words: &mut String, judged: &Judged) -> Result<(), AllocError> {
-    match judged.end {
-        EntriesEnd::Legal(torn) => {
-            writeln!(words, "good journal\nentries: {}", judged.entries)?;
-            if torn > 0 {
-                writeln!(
-                    words,
-                    "behind the last newline: {torn} bytes, which count for nothing"
-                )?;
-            }
-            Ok(())
-        }
-        EntriesEnd::Illegal(entry) => writeln!(words, "illegal {entry}"),
-        EntriesEnd::Bad(line) => writeln!(words, "bad journal at {line}"),
-    }
-}
-
-/// The report on a journal, with the exit status that `audit --journal` has on it.
-pub(crate) fn report_on_journal<R: Source>(
+/// Reads a journal to its end, or to the first line that is wrong, as `audit --journal` does. There are no words on a
+/// first line that is no configuration.
+pub(crate) fn read_journal<R: Source>(
     alloc: Global,
     reader: &mut R,
-) -> Result<Report, TextFault> {
-    let judged = judge(alloc, reader)?;
-    let mut words = String::new(alloc);
-    put_end(&mut words, &judged)?;
-    words.push_str(&judged.words)?;
-    Ok(Report {
-        status: judged.end.status(),
-        words,
-    })
+) -> Result<JournalReport, TextFault>
+    ensures finds { IfOk result (λ report. FindsEnd (R.remaining reader.old) (R.remaining reader.new)
+        report.entries report.end) }
+    ensures stops { IfErr result (StopsJournal (R.remaining reader.old) (R.remaining reader.new)) }
+    ensures failed { FailsBy TextFault.Input result
+        (R.has_failed reader.old) (R.has_failed reader.new) }
+{
+    match JournalEntries::open(alloc, reader) {
+        Ok(Some((_, entries))) => read_entries(alloc, entries, reader),
+        Ok(None) => Ok(JournalReport {
+            end: EntriesEnd::Bad(0),
+            entries: 0,
+            words: String::new(alloc),
+        }),
+        Err(fault) => Err(fault),
+    }
 }

@@ -1,7 +1,12 @@
-//! The kind of file that its first lines seem to begin.
+//! The kind of file that its first lines begin.
 
-use crate::blank::is_blank;
-use line_stream::{Lines, Told};
+ghost use Rattle.std.specs.Prelude.{◌≡◌, option_map, IfOk, IfErr};
+ghost use Rattle.serde_json.specs.View.{view};
+ghost use Rattle.history_reading.specs.Replies.{has};
+ghost use Rattle.check_lines.specs.Kind.{value_in_line, has_config, has_object, kind_behind, kind_of_two, kind_of_front};
+
+use crate::lines::next_spoken;
+use line_stream::MAX_LINE;
 use serde_json::Value;
 use std::alloc::Global;
 use text_stream::{TextFault, parse};
@@ -17,61 +22,91 @@ pub(crate) enum FileKind {
     Live,
 }
 
-// The value of the next line that is not blank. None for a long line, for one that is no JSON, and at the end.
-fn next_value(
-    alloc: Global,
-    lines: &mut Lines,
-    front: &mut &[u8],
-) -> Result<Option<Value>, TextFault> {
-    while let Some(told) = lines.next(front)? {
-        if told == Told::Long {
-            return Ok(None);
-        }
-        if !is_blank(lines.line()) {
-            return match parse(alloc, lines.line()) {
-                Ok(value) => Ok(Some(value)),
-                Err(TextFault::Memory) => Err(TextFault::Memory),
-                Err(_) => Ok(None),
-            };
-        }
+// The value that a line is the text of. None for a long line, and for one that is no JSON.
+#[tactic(auto, unfolding(crate::specs::Kind::value_in_line))]
+fn value_in_line(alloc: Global, line: &[u8]) -> Result<Option<Value>, TextFault>
+    ensures ok { IfOk result (λ value. option_map (λ v. view v) value ≡ value_in_line line.now) }
+    ensures err { IfErr result (λ e. e ≡ TextFault.Memory) }
+{
+    if line.len() > MAX_LINE {
+        return Ok(None);
     }
-    Ok(None)
+    match parse(alloc, line) {
+        Ok(value) => Ok(Some(value)),
+        Err(TextFault::Memory) => Err(TextFault::Memory),
+        Err(_) => Ok(None),
+    }
 }
 
-// Whether a value is an object with the one member `config`.
-fn is_opening(value: &Value) -> bool {
-    match value.as_object() {
-        Some(members) => members.len() == 1 && value.get("config").is_some(),
+// Whether something stands under this key.
+fn has(value: &Value, key: &str) -> bool
+    ensures { result ≡ has key.now (view value.now) }
+{
+    value.get(key).is_some()
+}
+
+// Whether a line is an object with the member `config`.
+fn has_config(value: &Option<Value>) -> bool
+    ensures { result ≡ has_config (option_map (λ v. view v) value.now) }
+{
+    match value {
+        Some(value) => has(value, "config"),
         None => false,
     }
 }
 
-// What the line behind an opening seems to be.
-fn kind_behind(value: &Value) -> FileKind {
-    let is_entry = value.get("reply").is_some()
-        || value.get("seat").is_some()
-        || value.get("ticket").is_some();
+// Whether an object stands under the key `call`.
+fn has_object(value: &Value) -> bool
+    ensures { result ≡ has_object (view value.now) }
+{
     match value.get("call") {
-        _ if is_entry => FileKind::Journal,
-        Some(call) if call.is_object() => FileKind::Journal,
-        Some(_) => FileKind::Live,
-        None => FileKind::Document,
+        Some(call) => call.is_object(),
+        None => false,
+    }
+}
+
+// What the line behind a configuration begins.
+#[tactic(auto, unfolding(crate::specs::Kind::kind_behind))]
+fn kind_behind(value: &Value) -> FileKind
+    ensures { result ≡ kind_behind (view value.now) }
+{
+    if has(value, "reply") || has(value, "seat") || has(value, "ticket") || has_object(value) {
+        FileKind::Journal
+    } else if has(value, "call") {
+        FileKind::Live
+    } else {
+        FileKind::Document
+    }
+}
+
+// The kind of file of which these are the first two lines that are not blank.
+#[tactic(auto, unfolding(crate::specs::Kind::kind_of_two))]
+fn kind_of_two(alloc: Global, first: &[u8], second: &[u8]) -> Result<FileKind, TextFault>
+    ensures ok { IfOk result (λ kind. kind ≡ kind_of_two first.now second.now) }
+    ensures err { IfErr result (λ e. e ≡ TextFault.Memory) }
+{
+    let opening = value_in_line(alloc, first)?;
+    if !has_config(&opening) {
+        return Ok(FileKind::Document);
+    }
+    match value_in_line(alloc, second)? {
+        Some(value) => Ok(kind_behind(&value)),
+        None => Ok(FileKind::Document),
     }
 }
 
 /// The kind of file that its first bytes begin. It is read by lines where the first line that is not blank is an object
-/// with the member `config` alone, and the next is an object: a journal where that has `reply`, `seat` or `ticket`, or
-/// an object under `call`; the input of a conversation where it has anything else under `call`. Any other is a document.
-pub(crate) fn kind_of_front(alloc: Global, bytes: &[u8]) -> Result<FileKind, TextFault> {
-    let (mut lines, mut front) = (Lines::new(), bytes);
-    let Some(opening) = next_value(alloc, &mut lines, &mut front)? else {
-        return Ok(FileKind::Document);
-    };
-    if !is_opening(&opening) {
-        return Ok(FileKind::Document);
-    }
-    match next_value(alloc, &mut lines, &mut front)? {
-        Some(value) => Ok(kind_behind(&value)),
+/// with the member `config`, and the next is an object: a journal where that has `reply`, `seat` or `ticket`, or an
+/// object under `call`; the input of a conversation where it has anything else under `call`. Any other is a document.
+pub(crate) fn kind_of_front(alloc: Global, bytes: &[u8]) -> Result<FileKind, TextFault>
+    ensures ok { IfOk result (λ kind. kind ≡ kind_of_front bytes.now) }
+    ensures err { IfErr result (λ e. e ≡ TextFault.Memory) }
+{
+    match next_spoken(bytes) {
+        Some((first, behind)) => match next_spoken(behind) {
+            Some((second, _)) => kind_of_two(alloc, first, second),
+            None => Ok(FileKind::Document),
+        },
         None => Ok(FileKind::Document),
     }
 }

@@ -2,16 +2,19 @@
 //! journal or in the lines of a conversation, which are read one by one, with the number of each line that is wrong.
 #![tactic(auto)]
 
-mod blank;
 mod check;
 mod front;
 mod input;
 mod journal;
 mod kind;
+mod lines;
 mod live;
 mod opening;
-mod report;
+mod text;
+mod verdict;
+mod words;
 
 pub use check::run_check_any;
 pub use front::Front;
 pub use input::check_any_input;
+pub use verdict::Verdict;

@@ -1,141 +1,170 @@
-//! What is found in the input of a conversation.
+//! What is found in the input of a conversation, read line by line.
 
-use crate::blank::is_blank;
-use crate::journal::LONG;
-use crate::opening::opening_in;
-use crate::report::{Report, faulty_opening};
-use call_reading::call_of;
-use file_words::words_on_line;
-use json_fields::forms::Sort;
+ghost use Rattle.std.specs.Prelude.{◌≡◌, ◌+◌, ◌-◌, ◌^◌, ◌<◌, ◌++◌, List, ℕ, IfOk, IfErr, OnOk};
+ghost use Rattle.line_stream.specs.Told.{IsTold, untold};
+ghost use Rattle.text_stream.specs.Watched.{FailsBy};
+ghost use Rattle.live_command.specs.Spoken.{heard_of};
+ghost use Rattle.check_lines.specs.Live.{HearsBad, Hears, HearsAll, FindsLive, verdict_of};
+ghost use Rattle.check_lines.specs.Opening.{StopsLines};
+ghost use Rattle.check_lines.specs.Text.{bad_line_text};
+
+use crate::opening::{Opening, read_opening};
+use crate::text::put_bad_line;
+use crate::verdict::Verdict;
+use crate::words::words_on_bad_line;
+use json::Scratch;
 use line_stream::{Lines, Told};
-use std::alloc::{AllocError, Global};
-use std::fmt::Write;
-use text_stream::{Source, TextFault, parse};
+use live_command::{LineFault, hear};
+use std::alloc::Global;
+use text_stream::{Source, TextFault};
 
 /// How many bad lines are told.
-const MOST: u64 = 20;
+pub(crate) const MOST: u64 = 20;
 
-// The lines of a conversation, as far as they were read.
+/// The lines behind an opening, as far as they were heard.
 #[derive(Drop)]
-struct Conversation {
+pub(crate) struct Conversation {
+    /// How many of them are calls.
+    pub calls: u64,
+    /// How many of them are answered `bad line`.
+    pub bad: u64,
+    /// The first of the bad ones: what is said of each.
+    pub told: Vec<u8>,
+}
+
+/// What is found in the input of a conversation.
+#[derive(Drop)]
+pub(crate) enum LiveReport {
+    /// The opening is lawful, and these are the lines behind it.
+    Talk(Conversation),
+    /// The opening has this fault, in this line, where there is one; and words on it.
+    Faulty(TextFault, Option<u64>, String),
+}
+
+impl LiveReport {
+    /// The verdict.
+    pub fn verdict(&self) -> Verdict
+        ensures { result ≡ verdict_of self.now }
+    {
+        match self {
+            LiveReport::Talk(talk) => Verdict::Live(talk.bad),
+            LiveReport::Faulty(fault, _, _) => Verdict::Opening(*fault),
+        }
+    }
+}
+
+// Tells of a bad line.
+fn tell(
     alloc: Global,
-    // How many lines were read, blank ones among them.
+    told: &mut Vec<u8>,
     number: u64,
-    calls: u64,
-    bad: u64,
-    // Words on the bad ones.
-    words: String,
+    fault: LineFault,
+    shown: &[u8],
+) -> Result<(), TextFault>
+    ensures ok { OnOk result ((words : List ℕ) × (told.new.items ≡ told.old.items
+        ++ (bad_line_text (record { number = number; fault = fault }) ++ words))) }
+    ensures err { IfErr result (λ e. e ≡ TextFault.Memory) }
+{
+    let words = words_on_bad_line(alloc, number, fault, shown)?;
+    if put_bad_line(told, number, fault).is_err() {
+        return Err(TextFault::Memory);
+    }
+    told.extend_from_slice(words.as_bytes())?;
+    Ok(())
 }
 
-impl Conversation {
-    // A line that is answered so.
-    fn tell(&mut self, fault: &str) -> Result<bool, AllocError> {
-        self.bad = self.bad.saturating_add(1);
-        if self.bad > MOST {
-            return Ok(false);
-        }
-        writeln!(self.words, "line {}: bad line {fault}", self.number)?;
-        Ok(true)
+// Takes a bad line.
+fn take_bad(
+    alloc: Global,
+    talk: &mut Conversation,
+    number: u64,
+    fault: LineFault,
+    shown: &[u8],
+) -> Result<(), TextFault>
+    requires fits { talk.old.bad < 2 ^ 64 - 1 }
+    ensures ok { OnOk result (HearsBad number fault talk.old talk.new) }
+    ensures err { IfErr result (λ e. e ≡ TextFault.Memory) }
+{
+    let is_told = talk.bad < MOST;
+    talk.bad += 1;
+    if is_told {
+        return tell(alloc, &mut talk.told, number, fault, shown);
     }
+    Ok(())
+}
 
-    // A line that is no JSON, or no call.
-    fn tell_bad(&mut self, fault: &str, line: &[u8]) -> Result<(), AllocError> {
-        if self.tell(fault)? {
-            let words = words_on_line(self.alloc, self.number, Sort::Call, line)?;
-            self.words.push_str(&words)?;
+// Takes the line of this number that was told last.
+fn take_line(
+    alloc: Global,
+    scratch: &mut Scratch,
+    talk: &mut Conversation,
+    number: u64,
+    lines: &Lines,
+    told: Told,
+) -> Result<(), TextFault>
+    requires calls_fit { talk.old.calls < 2 ^ 64 - 1 }
+    requires bad_fits { talk.old.bad < 2 ^ 64 - 1 }
+    ensures ok { OnOk result ((line : List ℕ) → IsTold line told lines.now.line →
+        Hears number (heard_of line) talk.old talk.new) }
+    ensures err { IfErr result (λ e. e ≡ TextFault.Memory) }
+{
+    match hear(alloc, scratch, lines, told) {
+        Ok(None) => Ok(()),
+        Ok(Some(Ok(_))) => {
+            talk.calls += 1;
+            Ok(())
         }
-        Ok(())
-    }
-
-    // Takes a line that is not long.
-    fn take(&mut self, line: &[u8]) -> Result<(), TextFault> {
-        if is_blank(line) {
-            return Ok(());
-        }
-        match parse(self.alloc, line) {
-            Ok(value) if value.get("config").is_none() && call_of(&value).is_some() => {
-                self.calls = self.calls.saturating_add(1);
-                Ok(())
-            }
-            Ok(_) => Ok(self.tell_bad("shape", line)?),
-            Err(TextFault::Memory) => Err(TextFault::Memory),
-            Err(_) => Ok(self.tell_bad("json", line)?),
-        }
-    }
-
-    // Takes a long line.
-    fn take_long(&mut self) -> Result<(), AllocError> {
-        if self.tell("long")? {
-            writeln!(self.words, "line {}: {LONG}", self.number)?;
-        }
-        Ok(())
-    }
-
-    // What was found. Conversing ends well, whatever lines there are.
-    fn report(&self) -> Result<Report, AllocError> {
-        let mut words = String::new(self.alloc);
-        match self.bad {
-            0 => words.push_str("good live input\n")?,
-            bad => writeln!(words, "live input with bad lines: {bad}")?,
-        }
-        write!(words, "calls: {}\n{}", self.calls, self.words)?;
-        let more = self.bad.saturating_sub(MOST);
-        if more > 0 {
-            writeln!(words, "and {more} more bad lines")?;
-        }
-        Ok(Report { status: 0, words })
+        Ok(Some(Err(fault))) => take_bad(alloc, talk, number, fault, lines.line()),
+        Err(fault) => Err(fault),
     }
 }
 
-// The lines behind the opening.
-fn take_lines<R: Source>(
-    mut conversation: Conversation,
+// Hears all lines that are left, behind so many others.
+fn hear_lines<R: Source>(
+    alloc: Global,
+    scratch: &mut Scratch,
+    passed: u64,
     lines: &mut Lines,
     reader: &mut R,
-) -> Result<Report, TextFault> {
-    while let Some(told) = lines.next(reader)? {
-        conversation.number = conversation.number.saturating_add(1);
-        match told {
-            Told::Line => conversation.take(lines.line())?,
-            Told::Long => conversation.take_long()?,
-        }
-    }
-    Ok(conversation.report()?)
-}
-
-// Reads the first line that is not blank, and tells how many lines were read with it.
-fn next_spoken<R: Source>(lines: &mut Lines, reader: &mut R) -> Result<Option<u64>, TextFault> {
-    let mut number = 0u64;
-    while let Some(told) = lines.next(reader)? {
-        number = number.saturating_add(1);
-        if told == Told::Long {
-            return Err(TextFault::TooLong);
-        }
-        if !is_blank(lines.line()) {
-            return Ok(Some(number));
-        }
-    }
-    Ok(None)
-}
-
-/// The report on the input of a conversation, with the exit status that `live` has on it.
-pub(crate) fn report_on_live<R: Source>(
-    alloc: Global,
-    reader: &mut R,
-) -> Result<Report, TextFault> {
-    let mut lines = Lines::new();
-    let Some(number) = next_spoken(&mut lines, reader)? else {
-        return Err(TextFault::NotJson);
-    };
-    if let Err((fault, words)) = opening_in(alloc, number, lines.line())? {
-        return Ok(faulty_opening(alloc, fault, &words)?);
-    }
-    let conversation = Conversation {
-        alloc,
-        number,
+) -> Result<Conversation, TextFault>
+    ensures hears { IfOk result (HearsAll passed (untold lines.old (R.remaining reader.old))
+        (untold lines.new (R.remaining reader.new))) }
+    ensures stops { IfErr result
+        (StopsLines passed (untold lines.old (R.remaining reader.old)) (R.remaining reader.new)) }
+    ensures failed { FailsBy TextFault.Input result
+        (R.has_failed reader.old) (R.has_failed reader.new) }
+{
+    let mut talk = Conversation {
         calls: 0,
         bad: 0,
-        words: String::new(alloc),
+        told: Vec::new(alloc),
     };
-    take_lines(conversation, &mut lines, reader)
+    for before in passed..u64::MAX {
+        match lines.next(reader) {
+            Ok(Some(told)) => take_line(alloc, scratch, &mut talk, before + 1, lines, told)?,
+            Ok(None) => return Ok(talk),
+            Err(fault) => return Err(fault),
+        }
+    }
+    Err(TextFault::TooLong)
+}
+
+/// Reads the input of a conversation to its end, as `live` does.
+pub(crate) fn read_live<R: Source>(alloc: Global, reader: &mut R) -> Result<LiveReport, TextFault>
+    ensures finds { IfOk result (FindsLive (R.remaining reader.old) (R.remaining reader.new)) }
+    ensures stops { IfErr result
+        (StopsLines 0 (R.remaining reader.old) (R.remaining reader.new)) }
+    ensures failed { FailsBy TextFault.Input result
+        (R.has_failed reader.old) (R.has_failed reader.new) }
+{
+    let mut lines = Lines::new();
+    let mut scratch = Scratch::new(alloc);
+    match read_opening(alloc, &mut scratch, &mut lines, reader) {
+        Ok(Opening::Lawful(number)) => {
+            let talk = hear_lines(alloc, &mut scratch, number, &mut lines, reader)?;
+            Ok(LiveReport::Talk(talk))
+        }
+        Ok(Opening::Faulty(fault, place, words)) => Ok(LiveReport::Faulty(fault, place, words)),
+        Err(fault) => Err(fault),
+    }
 }

@@ -164,7 +164,7 @@ fn form_of(report: &ArgMatches) -> Form {
 // The command `check`: ends as the command for such a file would, by what is found.
 fn check(rt: &(impl Input + Print + Eprint + AllocGlobal)) -> ExitCode {
     match check_any_input(rt) {
-        Ok(status) => ExitCode::from(status),
+        Ok(verdict) => ExitCode::from(verdict.status()),
         Err(fault) => fail(rt, fault),
     }
 }

@@ -1,0 +1,8 @@
+mod Failing
+mod Fronts
+mod FirstLines
+mod Journals
+mod Openings
+mod Talks
+mod Lives
+mod Files

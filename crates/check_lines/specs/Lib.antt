@@ -1,0 +1,9 @@
+pub mod Front
+pub mod Kind
+pub mod Bad
+pub mod Text
+pub mod Journal
+pub mod Opening
+pub mod Live
+pub mod Verdict
+pub mod Check
