@@ -63,7 +63,7 @@ fn read_text(
         Err(fault) => Ok(Opening::Faulty(
             fault,
             Some(number),
-            words_on_config(alloc, number, line, fault)?,
+            words_on_config(alloc, number, line)?,
         )),
     }
 }

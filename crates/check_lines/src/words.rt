@@ -1,9 +1,11 @@
 //! Words on a line that is wrong. They have no contract: which line is wrong, and how, is found before them.
 
 use file_words::{words_on_line, words_on_opening};
+use json_fields::config_in;
 use json_fields::forms::{Kind, Sort};
 use line_stream::{Lines, Whole};
 use live_command::{LineFault, is_spoken};
+use serde_json::Value;
 use std::alloc::{AllocError, Global};
 use std::fmt::Write;
 use text_stream::{TextFault, parse};
@@ -31,15 +33,22 @@ pub(crate) fn words_on_bad_line(
     }
 }
 
+// The field of an opening's configuration that has no lawful value.
+fn wrong_field(opening: &Value) -> Option<TextFault> {
+    match config_in(opening)?.check() {
+        Ok(_) => None,
+        Err(field) => Some(TextFault::Config(field)),
+    }
+}
+
 /// The words on a line of this number, counted from 1, that is no lawful configuration.
 pub(crate) fn words_on_config(
     alloc: Global,
     number: u64,
     line: &[u8],
-    fault: TextFault,
 ) -> Result<String, AllocError> {
     match parse(alloc, line) {
-        Ok(value) => words_on_opening(alloc, number, line, &value, Some(fault)),
+        Ok(value) => words_on_opening(alloc, number, line, &value, wrong_field(&value)),
         Err(TextFault::Memory) => Err(AllocError),
         Err(_) => words_on_line(alloc, number, Sort::Document(Kind::Script), line),
     }
@@ -83,7 +92,7 @@ pub(crate) fn words_on_front(alloc: Global, front: &[u8]) -> Result<String, Allo
     let (mut lines, mut reader) = (Lines::new(), front);
     match lines.next_whole(&mut reader) {
         Ok(Whole::Line) if !is_spoken(lines.line()) => words_on_no_entry(alloc, 0, Some(b"")),
-        Ok(Whole::Line) => words_on_config(alloc, 1, lines.line(), TextFault::Shape(0)),
+        Ok(Whole::Line) => words_on_config(alloc, 1, lines.line()),
         Ok(Whole::Long) => told(alloc, 1, LONG),
         _ => told(alloc, 1, "no newline ends this line"),
     }

@@ -15,7 +15,8 @@ HasRead before remaining entries c es = StandSoFar before (untold entries.lines 
 
 -- The first lines came, the last of which stands for this entry behind the others. Of the bytes behind them some are
 -- at hand
-pub record StandWith (before untaken remaining : Option (List ℕ)) (c : Config) (es : List Entry) (e : Entry) : Type 0 where
+pub record StandWith (before untaken remaining : Option (List ℕ)) (c : Config) (es : List Entry) (e : Entry)
+    : Type 0 where
   pub lines : List (List ℕ)
   pub behind : List ℕ
   pub came : Came before untaken lines []

@@ -27,11 +27,7 @@ fn config_said(said: Said) -> Result<Config, TextFault>
 
 /// The configuration that the text of an opening says, where it is lawful.
 #[tactic(auto, unfolding(crate::specs::Opening::opening_in))]
-pub fn opening_in(
-    alloc: Global,
-    scratch: &mut Scratch,
-    line: &[u8],
-) -> Result<Checked, TextFault>
+pub fn opening_in(alloc: Global, scratch: &mut Scratch, line: &[u8]) -> Result<Checked, TextFault>
     ensures { Gives (λ config. config) result (opening_in line.now) }
 {
     let said = read_said(alloc, scratch, line)?;

@@ -46,7 +46,7 @@ IsAscii-lower_digits i =
     elim (cases_lt i 10) [
       | inl low ↦ omega (arith, digit_below i low)
       | inr high ↦ elim (cases_lt i 16) [
-          | inl below ↦ omega (arith, digit_above i high below)
-          | inr past ↦ omega (arith, get_or_past lower_digits i 0 past)
-        ]
+        | inl below ↦ omega (arith, digit_above i high below)
+        | inr past ↦ omega (arith, get_or_past lower_digits i 0 past)
+      ]
     ]

@@ -52,7 +52,10 @@ fn make_calls<R: Wait + Abort>(
     for _ in 0..calls {
         let (back, before) = queue.call(rt, seat, ());
         seat = back;
-        assert!(rt; before >= least, "a reply of {before}, where {least} is the least");
+        assert!(rt;
+            before >= least,
+            "a reply of {before}, where {least} is the least"
+        );
         least = before.saturating_add(1);
     }
     seat

@@ -1,7 +1,6 @@
 -- What ended the entries.
-use Rattle.std.proofs.Common.{◌++◌, ◌∷◌, [], sym, ap, ◌∙◌, inr, subst}
+use Rattle.std.proofs.Common.{◌++◌, ◌∷◌, [], sym, ap, ◌∙◌, inr}
 use Rattle.sched_history.specs.Machine.{Past}
-use Rattle.journal_entries.specs.Unjudged.{HasRead}
 use Rattle.report_command.proofs.journal.show_entries.Goals as goal
 
 pub returns-in-Ok-Legal-clause-shown : goal.returns-in-Ok-Legal-clause-shown
