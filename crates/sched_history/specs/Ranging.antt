@@ -1,5 +1,5 @@
 -- What follows for the opportunities and the headers of every legal history.
-use Rattle.std.specs.Prelude.{◌≡◌, ℕ, ◌+◌, ◌/◌, ◌<◌, ◌≤◌, ◌↔◌, List, [], map, filter_map, flat_map, count_by, drop}
+use Rattle.std.specs.Prelude.{◌≡◌, ℕ, ◌+◌, ◌/◌, ◌<◌, ◌≤◌, ◌↔◌, List, [], filter_map, flat_map, count_by, drop}
 use Rattle.std.specs.Prelude.{length, Some, Contains}
 use Rattle.std.specs.List.{AllByRecursion, slice_get}
 use Rattle.minislots.specs.declared.config.Config.{Config}

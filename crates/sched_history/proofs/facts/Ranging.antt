@@ -1,7 +1,6 @@
 -- What follows for the opportunities and the headers of every legal history.
-use Rattle.std.proofs.Common.{◌≡◌, ℕ, ◌+◌, ◌<◌, ◌≤◌, List, [], ◌∷◌, ◌++◌, Option, None, Some, refl, sym, ap, ◌∙◌}
-use Rattle.std.proofs.Common.{subst, slice_get, arith}
-use Rattle.std.specs.List.{AllByRecursion}
+use Rattle.std.proofs.Common.{◌≡◌, ◌+◌, ◌<◌, ◌≤◌, List, [], ◌∷◌, ◌++◌, Some, refl, ap, ◌∙◌}
+use Rattle.std.proofs.Common.{arith}
 use Rattle.std.proofs.lemmas.List.{append-nil, map-append}
 use Rattle.std.proofs.lemmas.List.Elements.{filter_map-append}
 use Rattle.std.proofs.lemmas.Grind.{flat_map-append}
@@ -17,7 +16,7 @@ use Rattle.sched_history.specs.declared.call.Call.TheVariants as calls
 use Rattle.sched_history.specs.declared.reply.Reply.{Reply}
 use Rattle.sched_history.specs.declared.reply.Reply.TheVariants as replies
 use Rattle.sched_history.specs.declared.reply.Entry.{Entry}
-use Rattle.sched_history.specs.Reserves.{last_map, reserve_by, header_after, offers_of, unmet_by, aged, reserves_by}
+use Rattle.sched_history.specs.Reserves.{last_map, reserve_by, offers_of, unmet_by, aged, reserves_by}
 use Rattle.sched_history.specs.Reserves.{new_reserve, reserves_with, asked_for, reserves_of}
 use Rattle.sched_history.specs.History.{demand_after, IsNextMap, IsStep, IsLegal}
 use Rattle.sched_history.specs.Ranging.{reserved_in, offers_by, offers_in, count_alike, MeetsOnce, MeetsWaiting}
@@ -26,7 +25,7 @@ use Rattle.sched_history.proofs.steps.LegalHistories.{IsNextMap-from_step, legal
 use Rattle.sched_history.proofs.reserves.ReservesAfter.{reserves_of-push}
 use Rattle.sched_history.proofs.reserves.GoodReserves.{IsReserve, reserves_of-good, reserves_of-few, MayWait-legal}
 use Rattle.sched_history.proofs.reserves.Offers.{plan_offers, offers_of-plan}
-use Rattle.sched_history.proofs.reserves.Counting.{one, count_alike-append, count_alike-cons, alike-aged}
+use Rattle.sched_history.proofs.reserves.Counting.{count_alike-append, count_alike-cons, alike-aged}
 use Rattle.sched_history.proofs.reserves.Waited.{plan_offers-waited, plan_offers-first}
 use Rattle.sched_history.proofs.reserves.MetOnce.{count_offer, count_offer-cons, count-plan}
 use Rattle.sched_history.proofs.reserves.Losing.{LosesNone-any, LapsesInTime-young}

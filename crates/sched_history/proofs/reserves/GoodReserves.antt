@@ -1,6 +1,6 @@
 -- The Reserves of a legal history: each was accepted, and they are at most 64.
-use Rattle.std.proofs.Common.{◌≡◌, ℕ, zero, suc, ◌+◌, ◌-◌, ◌<◌, ◌≤◌, Bool, true, false, nat_lt, if◌then◌else◌, List, [], ◌∷◌}
-use Rattle.std.proofs.Common.{◌++◌, map, filter, take, length, refl, sym, ap, ◌∙◌, arith}
+use Rattle.std.proofs.Common.{◌≡◌, ℕ, zero, suc, ◌+◌, ◌-◌, ◌<◌, ◌≤◌, true, false, nat_lt, List, [], ◌∷◌}
+use Rattle.std.proofs.Common.{map, take, length, refl, ap, arith}
 use Rattle.std.specs.List.{AllByRecursion}
 use Rattle.std.proofs.lemmas.Bool.{cond_both}
 use Rattle.std.proofs.lemmas.Bool.Decides.{nat_tests}
@@ -19,7 +19,7 @@ use Rattle.sched_history.specs.declared.call.Call.TheVariants as calls
 use Rattle.sched_history.specs.declared.reply.Reply.{Reply}
 use Rattle.sched_history.specs.declared.reply.Reply.TheVariants as replies
 use Rattle.sched_history.specs.declared.reply.Entry.{Entry}
-use Rattle.sched_history.specs.Refusal.{bad_sid, is_to_bad_sid, refusal_of}
+use Rattle.sched_history.specs.Refusal.{is_to_bad_sid}
 use Rattle.sched_history.specs.Reserves.{last_map, is_same, without_first, unmet_by, aged, new_reserve, offers_of}
 use Rattle.sched_history.specs.Reserves.{reserve_by, reserves_by, reserves_with, reserves_of, waiting_in}
 use Rattle.sched_history.specs.History.{IsStep, IsLegal}

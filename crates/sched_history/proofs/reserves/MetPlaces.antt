@@ -1,7 +1,7 @@
 -- What a MAP meets: the Reserves that its opportunities take are those at the places that its plan meets.
-use Rattle.std.proofs.Common.{◌≡◌, ◌≢◌, ℕ, suc, ◌<◌, ◌≤◌, Bool, true, false, if◌then◌else◌, List, [], ◌∷◌, ◌++◌}
-use Rattle.std.proofs.Common.{take, Option, None, Some, slice_get, refl, sym, ap, ◌∙◌, subst, append_assoc, lit<, arith}
-use Rattle.std.specs.List.{filter_map, cons_option}
+use Rattle.std.proofs.Common.{◌≡◌, ◌≢◌, ℕ, ◌<◌, ◌≤◌, Bool, true, false, List, [], ◌∷◌, ◌++◌}
+use Rattle.std.proofs.Common.{Option, None, Some, slice_get, refl, sym, ap, ◌∙◌, append_assoc, arith}
+use Rattle.std.specs.List.{cons_option}
 use Rattle.std.proofs.lemmas.List.{append-nil}
 use Rattle.std.proofs.lemmas.List.Elements.{Contains-push}
 use Rattle.minislots.specs.declared.config.Config.{Config}
@@ -9,14 +9,14 @@ use Rattle.map_build.specs.declared.TheConstants.{MAX_WAITING}
 use Rattle.map_build.specs.declared.opportunity.Opportunity.{Opportunity}
 use Rattle.map_build.specs.declared.purpose.Allocation.{Allocation}
 use Rattle.map_build.specs.declared.purpose.Purpose.{Purpose}
-use Rattle.map_build.specs.declared.purpose.Purpose.TheVariants.{Poll, UnsolicitedGrant, Offer, DataGrant, Idle}
+use Rattle.map_build.specs.declared.purpose.Purpose.TheVariants.{Offer}
 use Rattle.map_build.specs.EachAfter.{EachAfter}
 use Rattle.map_build.specs.Purpose.{place_of}
-use Rattle.map_build.specs.Plan.{Demand, room_at, IsMetIn, IsFirstToMeet, IsOfRank, Stands, IsPlan}
+use Rattle.map_build.specs.Plan.{Demand, room_at, IsFirstToMeet, IsOfRank, Stands, IsPlan}
 use Rattle.map_build.specs.FrameMap.{AreMet, elements_of}
 use Rattle.map_build.proofs.Offers.{is_met, is_met-met, met-is_met, unmet-test, met-only}
 use Rattle.sched_history.specs.declared.scheduler.reserves.Reserve.{Reserve}
-use Rattle.sched_history.specs.Reserves.{is_same, offers_of, without_first, unmet_by, asked_for, waiting_in, unmarked}
+use Rattle.sched_history.specs.Reserves.{offers_of, without_first, unmet_by, asked_for, waiting_in, unmarked}
 use Rattle.sched_history.proofs.reserves.Places.{left_by, left_by-same, left_by-none, left_by-unmarked}
 use Rattle.sched_history.proofs.reserves.Places.{MeetsOne, without_first-left, is_same-slots, front-asks, asks-front}
 use Rattle.sched_history.proofs.reserves.Places.{asked_for-take}

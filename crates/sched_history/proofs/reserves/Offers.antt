@@ -1,8 +1,7 @@
 -- The opportunities that are read in the MAP of a plan are those of the plan.
 use Rattle.std.proofs.Common.{◌≡◌, ℕ, ◌+◌, ◌-◌, Bool, true, false, ◌||◌, ◌==◌, nat_le, if◌then◌else◌, List, [], ◌∷◌}
-use Rattle.std.proofs.Common.{◌++◌, map, Option, None, Some, refl, ap, ◌∙◌, append_assoc, arith}
+use Rattle.std.proofs.Common.{◌++◌, map, Option, None, Some, refl, ◌∙◌, append_assoc, arith}
 use Rattle.std.specs.List.{filter_map, cons_option}
-use Rattle.std.proofs.lemmas.List.{append-nil}
 use Rattle.minislots.specs.declared.config.Config.{Config}
 use Rattle.map_codec.specs.declared.element.Element.{Element}
 use Rattle.map_codec.specs.declared.element.iuc.TheConstants.{INITIAL_MAINTENANCE, STATION_MAINTENANCE}

@@ -1,5 +1,5 @@
 -- The Reserves after one more entry.
-use Rattle.std.proofs.Common.{◌≡◌, Bool, true, false, List, [], ◌∷◌, ◌++◌, None, refl, ap, ◌∙◌}
+use Rattle.std.proofs.Common.{◌≡◌, false, List, [], ◌∷◌, ◌++◌, None, refl, ap, ◌∙◌}
 use Rattle.map_build.specs.declared.frame_map.FrameMap.{FrameMap}
 use Rattle.sched_history.specs.declared.scheduler.reserves.Reserve.{Reserve}
 use Rattle.sched_history.specs.declared.call.Call.{Call}

@@ -1,8 +1,7 @@
 -- The Reserves in their room: the first of it, of which some go and the others move forward.
 use Rattle.std.proofs.Common.{◌≡◌, ℕ, zero, suc, ◌+◌, ◌-◌, ◌<◌, ◌≤◌, Bool, false, List, [], ◌∷◌, ◌++◌, take, drop, length}
-use Rattle.std.proofs.Common.{get_or, refl, sym, ap, ◌∙◌, subst, arith}
+use Rattle.std.proofs.Common.{get_or, refl, sym, ap, ◌∙◌, arith}
 use Rattle.std.proofs.lemmas.List.{take_more, drop-drop, get_or-drop, length-take}
-use Rattle.map_build.specs.declared.opportunity.Opportunity.{Opportunity}
 use Rattle.sched_history.specs.declared.scheduler.reserves.Reserve.{Reserve}
 use Rattle.sched_history.specs.Reserves.{aged, asked_for, left_of, unmarked}
 use Rattle.sched_history.proofs.reserves.Aging.{aged-push}

@@ -1,6 +1,6 @@
 -- The opportunities of a plan waited for its MAP, and the first that waits is met where there is a gap for it.
 use Rattle.std.proofs.Common.{◌≡◌, ℕ, zero, suc, ◌<◌, List, [], ◌∷◌, ◌++◌, Option, None, Some, slice_get, unwrap_or}
-use Rattle.std.proofs.Common.{length, get_or, Contains, ◌↔◌, refl, sym, ap, ◌∙◌, subst, arith}
+use Rattle.std.proofs.Common.{Contains, ◌↔◌, refl, sym, ap, ◌∙◌, arith}
 use Rattle.std.specs.List.{AllByRecursion, filter_map, cons_option}
 use Rattle.std.proofs.lemmas.List.Elements.{All-contains, All-from_recursion}
 use Rattle.minislots.specs.declared.config.Config.{Config}
@@ -14,7 +14,7 @@ use Rattle.map_build.specs.Opportunities.{HasGap}
 use Rattle.map_build.specs.Plan.{Demand, IsMetIn, IsOfRank, Stands, IsPlan}
 use Rattle.map_build.proofs.FirstMet.{first-met, met-gap}
 use Rattle.map_build.proofs.SameSpots.{all-members}
-use Rattle.sched_history.proofs.lists.Members.{IsImage, Contains-first, Contains-later, Contains-filter_map}
+use Rattle.sched_history.proofs.lists.Members.{IsImage, Contains-later, Contains-filter_map}
 use Rattle.sched_history.proofs.reserves.Offers.{offer_by, plan_offers}
 
 -- what stands at a place of a list is a member of it

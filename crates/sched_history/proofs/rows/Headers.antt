@@ -1,5 +1,5 @@
 -- Worked histories of headers: one is set for every MAP after it.
-use Rattle.std.proofs.Common.{◌≡◌, [], ◌∷◌, ◌++◌, refl, lit<}
+use Rattle.std.proofs.Common.{◌≡◌, [], ◌∷◌, refl, lit<}
 use Rattle.flow_book.proofs.Base.{base}
 use Rattle.map_build.specs.declared.frame_map.FrameMap.{FrameMap}
 use Rattle.map_build.specs.declared.opportunity.Header.{Header}
@@ -9,7 +9,7 @@ use Rattle.sched_history.specs.declared.reply.Refusal.TheVariants.{BadBackoff}
 use Rattle.sched_history.specs.declared.reply.Reply.TheVariants.{Noted, Built, Refused}
 use Rattle.sched_history.specs.declared.reply.Entry.{Entry}
 use Rattle.sched_history.specs.Reserves.{header_after}
-use Rattle.sched_history.specs.History.{IsStep, IsLegal}
+use Rattle.sched_history.specs.History.{IsStep}
 use Rattle.sched_history.proofs.lives.LiveFlows.{flows_of-none, table_of-none}
 use Rattle.sched_history.proofs.rows.NextMap.{IsNextMap-from_lawful}
 use Rattle.sched_history.proofs.rows.TwoMaps.{entry, built}

@@ -1,26 +1,21 @@
 -- Worked histories of Reserves: what a MAP meets, what waits, and what has lapsed.
 use Rattle.std.proofs.Common.{◌≡◌, ℕ, List, [], ◌∷◌, ◌++◌, map, replicate, refl, ap, lit<}
-use Rattle.std.proofs.lemmas.Bool.{ne_eqb}
 use Rattle.minislots.specs.Units.{wire_of}
 use Rattle.map_codec.specs.Element.{word_of}
-use Rattle.flow_book.specs.declared.spec.FlowSpec.TheVariants.{BestEffort}
-use Rattle.flow_book.specs.FlowSpec.{first_fault}
 use Rattle.flow_book.proofs.Base.{base}
 use Rattle.map_build.specs.declared.frame_map.FrameMap.{FrameMap}
 use Rattle.map_build.specs.declared.opportunity.Usage.TheVariants.{Initial, Station}
-use Rattle.map_build.proofs.RowsMaps.{element, base_map, first_map}
+use Rattle.map_build.proofs.RowsMaps.{first_map}
 use Rattle.map_build.proofs.RowsOffers.{initial, station, initial_map, a_frame_with_an_opportunity_for_all}
-use Rattle.sched_history.specs.declared.call.Call.TheVariants.{Admit, Ask, Build, Reserve}
+use Rattle.sched_history.specs.declared.call.Call.TheVariants.{Build, Reserve}
 use Rattle.sched_history.specs.declared.reply.Refusal.TheVariants.{BadSid, BadLength, ReservesFull}
-use Rattle.sched_history.specs.declared.reply.Reply.TheVariants.{Admitted, Taken, Built, Reserved, Refused}
+use Rattle.sched_history.specs.declared.reply.Reply.TheVariants.{Built, Reserved, Refused}
 use Rattle.sched_history.specs.declared.reply.Entry.{Entry}
-use Rattle.sched_history.specs.declared.scheduler.reserves.Reserve.{Reserve as Waiting}
-use Rattle.sched_history.specs.Life.{Life, life_of}
-use Rattle.sched_history.specs.Reserves.{new_reserve, reserves_after, reserves_of, waiting_in}
+use Rattle.sched_history.specs.Reserves.{reserves_of, waiting_in}
 use Rattle.sched_history.specs.History.{IsStep, IsLegal}
 use Rattle.sched_history.proofs.lives.LiveFlows.{flows_of-none, table_of-none}
 use Rattle.sched_history.proofs.rows.NextMap.{idle_map, IsNextMap-from_lawful, IsNextMap-idle}
-use Rattle.sched_history.proofs.rows.TwoMaps.{entry, built}
+use Rattle.sched_history.proofs.rows.TwoMaps.{entry}
 
 -- an opportunity of 8 minislots for all modems is asked for
 abbrev asked : Entry

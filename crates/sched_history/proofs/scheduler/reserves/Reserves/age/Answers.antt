@@ -1,6 +1,5 @@
 -- The Reserves that are left move to the head of the room.
-use Rattle.std.proofs.Common.{◌≡◌, ◌∙◌, take, ap, sym, arith}
-use Rattle.sched_history.specs.declared.scheduler.reserves.Reserve.{Reserve}
+use Rattle.std.proofs.Common.{◌≡◌, ◌∙◌, take, ap, arith}
 use Rattle.sched_history.specs.Reserves.{aged, unmarked}
 use Rattle.sched_history.proofs.reserves.Rooms.{IsAged-none, IsAged-next}
 use Rattle.sched_history.proofs.scheduler.reserves.Reserves.age.Goals as goal

@@ -1,5 +1,5 @@
 -- As many wait as there are Reserves, and 16 at most.
-use Rattle.std.proofs.Common.{◌≡◌, take, length, arith}
+use Rattle.std.proofs.Common.{take, arith}
 use Rattle.std.proofs.lemmas.List.{length-take}
 use Rattle.sched_history.proofs.scheduler.reserves.Reserves.waiting_count.Goals as goal
 
