@@ -3,16 +3,16 @@ use Rattle.std.proofs.Common.{◌≡◌, ℕ, zero, suc, ◌+◌, ◌-◌, ◌<�
 use Rattle.std.proofs.Common.{get_or, refl, sym, ap, ◌∙◌, arith}
 use Rattle.std.proofs.lemmas.List.{take_more, drop-drop, get_or-drop, length-take}
 use Rattle.sched_history.specs.declared.scheduler.reserves.Reserve.{Reserve}
-use Rattle.sched_history.specs.Reserves.{aged, asked_for, left_of, unmarked}
+use Rattle.sched_history.specs.Reserves.{aged, left_of, unmarked}
 use Rattle.sched_history.proofs.reserves.Aging.{aged-push}
 
--- of what the first n ask for, that of the first n of some is the front
-pub front-waiting : (n count : ℕ) (items : List Reserve)
-    → take (length (take n (take count items))) (asked_for (take n items)) ≡ asked_for (take n (take count items))
-front-waiting zero count items = refl
-front-waiting (suc n) zero items = refl
-front-waiting (suc n) (suc count) [] = refl
-front-waiting (suc n) (suc count) (r ∷ items) = ap (λ os. r.opportunity ∷ os) (front-waiting n count items)
+-- the first n of a front are as many of the whole
+pub front-of : (n count : ℕ) (items : List Reserve)
+    → take (length (take n (take count items))) items ≡ take n (take count items)
+front-of zero count items = refl
+front-of (suc n) zero items = refl
+front-of (suc n) (suc count) [] = refl
+front-of (suc n) (suc count) (r ∷ items) = ap (λ rs. r ∷ rs) (front-of n count items)
 
 -- how a room stands after the Reserves before this place: those that are left at its head, and the rest as it was
 pub record IsAged (met : List Bool) (old items : List Reserve) (place kept : ℕ) : Type 0 where

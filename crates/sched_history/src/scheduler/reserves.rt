@@ -105,7 +105,8 @@ impl Reserves {
 
     // How many wait for the next MAP.
     pub(crate) fn waiting_count(&self) -> usize
-        ensures { result ≡ length (take MAX_WAITING self.now) }
+        ensures value { result ≡ length (take MAX_WAITING self.now) }
+        ensures most { result ≤ MAX_WAITING }
     {
         if self.count < MAX_WAITING {
             self.count
@@ -121,7 +122,7 @@ impl Reserves {
             ≡ map (λ r. r.opportunity) (take MAX_WAITING self.now) }
     {
         let mut waiting = [NO_RESERVE.opportunity; MAX_WAITING];
-        for place in 0..MAX_WAITING {
+        for place in 0..self.waiting_count() {
             waiting[place] = self.items[place].opportunity;
         }
         waiting

@@ -1,16 +1,16 @@
--- Of the first places those where Reserves stand are told.
-use Rattle.std.proofs.Common.{◌≡◌, ◌∙◌, take, sym, subst, arith}
-use Rattle.std.proofs.lemmas.List.{take_all}
+-- As many are told as wait.
+use Rattle.std.proofs.Common.{◌≡◌, ◌∙◌, ℕ, take, length, ap, subst, arith}
 use Rattle.sched_history.specs.Reserves.{asked_for}
-use Rattle.sched_history.proofs.reserves.Rooms.{front-waiting}
+use Rattle.sched_history.proofs.reserves.Rooms.{front-of}
 use Rattle.sched_history.proofs.scheduler.reserves.Reserves.waiting.Goals as goal
 
 pub returns : goal.returns
 returns c =
+    let count = c.self.inside.count in
     let items = c.self.inside.items in
     let waiting = c.loop-place.waiting in
-    let end : c.loop-place.place ≡ 16 = omega (arith, c.loop-place.auto.place-end, c.loop-place-test.false) in
-    let whole : waiting ≡ asked_for (take 16 items) =
-    sym (take_all 16 waiting (omega (arith, c.loop-place.invariant.long)))
-    ∙ subst (λ n. take n waiting ≡ asked_for (take n items)) end c.loop-place.invariant.told in
-    rw (← c.self.view_is, whole) (front-waiting 16 c.self.inside.count items)
+    let n : ℕ = length (take 16 (take count items)) in
+    let all : c.waiting_count-place-end.result ≡ n = rw (← c.self.view_is) at c.waiting_count-place-end.ensures.value in
+    let end : c.loop-place.place ≡ n = omega (arith, c.loop-place.auto.place-end, c.loop-place-test.false, all) in
+    let told = subst (λ k. take k waiting ≡ asked_for (take k items)) end c.loop-place.invariant.told in
+    rw (← c.self.view_is) (told ∙ ap asked_for (front-of 16 count items))

@@ -10,7 +10,7 @@ returns-clause-lawful c =
     let whole : next / frame * frame ≡ next =
     omega (arith, mod-eq-sub-div-mul next frame, div-mul-le_self next frame, c.requires.aligned) in
     rw (
-      c.waiting_count.ensures,
+      c.waiting_count.ensures.value,
       c.waiting-waiting.ensures,
       c.from.ensures,
       c.frame.ensures.value,
@@ -26,7 +26,7 @@ returns-clause-only c =
     let whole : next / frame * frame ≡ next =
     omega (arith, mod-eq-sub-div-mul next frame, div-mul-le_self next frame, c.requires.aligned) in
     rw (
-      c.waiting_count.ensures,
+      c.waiting_count.ensures.value,
       c.waiting-waiting.ensures,
       c.from.ensures,
       c.frame.ensures.value,
