@@ -50,6 +50,7 @@ no_map (replies.Admitted placement) unbuilt = refl
 no_map replies.Removed unbuilt = refl
 no_map replies.Taken unbuilt = refl
 no_map replies.Noted unbuilt = refl
+no_map replies.Reserved unbuilt = refl
 no_map (replies.Flow asked granted outstanding) unbuilt = refl
 no_map (replies.Refused refusal) unbuilt = refl
 
