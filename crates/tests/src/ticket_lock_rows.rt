@@ -10,7 +10,6 @@ use std::process::Abort;
 use ticket_lock::{Held, Journal, Seat, TicketLock};
 
 mod letting_go;
-mod queue;
 mod threads;
 
 // The journal of the tests: its entries are stamps, and its head says nothing.
