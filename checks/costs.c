@@ -1,9 +1,9 @@
 /*
  * What calls of the library cost; checks/cost_from_c reads what it prints. `calls`: a hundred thousand drawn calls,
  * each where those before it are answered: the nanoseconds of a call by processor time, the middle of five runs, how
- * many were refused, and how many bytes the MAPs have. `no place` and `full build`: the microseconds of the costliest
- * admission and of the costliest build. `longest`: of a million drawn calls the eight that took longest by the clock,
- * and the eight by processor time.
+ * many were refused, and how many bytes the MAPs have. `no place`, `full build` and `build beside reserves`: the
+ * microseconds of the costliest admission and of the costliest builds, without opportunities and with the most.
+ * `longest`: of a million drawn calls the eight that took longest by the clock, and the eight by processor time.
  */
 #include "drawn_calls.h"
 
@@ -93,39 +93,57 @@ static double time_admission(void) {
   return took;
 }
 
-/* How many data grants stand before the Null of a MAP. */
-static int data_grants(const struct mapsched_reply *reply) {
+/* What stands before the Null of a MAP. */
+struct counts {
+  int data, opportunities;
+};
+
+static struct counts counts_of(const struct mapsched_reply *reply) {
   struct mapsched_map map;
   uintptr_t place = 0;
-  int grants = 0;
+  struct counts counts = {0};
   if (mapsched_decode(reply->payload, reply->length, &map, &place) != MAPSCHED_OK) fail("no MAP");
-  for (uint32_t i = 0; i < map.count && map.elements[i].iuc != 7; i++)
-    grants += map.elements[i].sid != 0 && (map.elements[i].iuc == 5 || map.elements[i].iuc == 6);
-  return grants;
+  for (const struct mapsched_element *at = map.elements; at->iuc != 7; at++) {
+    counts.data += at->sid != 0 && (at->iuc == 5 || at->iuc == 6);
+    counts.opportunities += at->iuc == 3 || at->iuc == 4;
+  }
+  return counts;
 }
 
-/* A build with 93 data grants, 40 polls and 64 pending grants: 64 flows have asked for more than a frame carries. */
-static double time_build(void) {
-  struct mapsched_config of = wide();
-  struct mapsched_scheduler scheduler;
+/* Has 64 flows admitted, 40 of them polled, and lets each ask for more than a frame carries. */
+static void fill(struct mapsched_scheduler *scheduler) {
   struct mapsched_reply reply;
   struct mapsched_call build = {.kind = MAPSCHED_BUILD, .minislot = 102400};
-  open(&scheduler, &of);
   for (uint16_t sid = 1; sid < 65; sid++) {
     struct mapsched_call call = {.kind = MAPSCHED_ADMIT, .sid = sid, .rate = 4000000, .burst = 100000};
     call.flow = sid <= 40 ? MAPSCHED_POLLED : MAPSCHED_BEST_EFFORT;
     if (sid <= 40) call.interval_us = 25600;
     if (sid > 40) call.priority = 3;
-    make(&scheduler, 0, &call, &reply);
+    make(scheduler, 0, &call, &reply);
   }
-  make(&scheduler, 0, &build, &reply);
+  make(scheduler, 0, &build, &reply);
   for (uint16_t sid = 1; sid < 65; sid++) {
     struct mapsched_call ask = {.kind = MAPSCHED_ASK, .sid = sid, .bytes = 64000, .minislot = 102400};
-    make(&scheduler, 0, &ask, &reply);
+    make(scheduler, 0, &ask, &reply);
   }
-  build.minislot = 103424;
+}
+
+/* A build with 93 allocations that are opportunities, so many, and data grants, 40 polls and 64 pending grants. */
+static double time_build(int opportunities) {
+  struct mapsched_config of = wide();
+  struct mapsched_scheduler scheduler;
+  struct mapsched_reply reply;
+  struct mapsched_call build = {.kind = MAPSCHED_BUILD, .minislot = 103424};
+  open(&scheduler, &of);
+  fill(&scheduler);
+  for (int i = 0; i < opportunities; i++) {
+    struct mapsched_call call = {.kind = MAPSCHED_RESERVE, .usage = MAPSCHED_STATION, .slots = 1, .sid = 100};
+    call.sid += (uint16_t)i;
+    make(&scheduler, 0, &call, &reply);
+  }
   double took = time_call(&scheduler, &build, &reply);
-  if (reply.kind != MAPSCHED_BUILT || data_grants(&reply) != 93) fail("the MAP is not full");
+  struct counts counts = counts_of(&reply);
+  if (counts.opportunities != opportunities || counts.data != 93 - opportunities) fail("the MAP is not full");
   mapsched_close(&scheduler);
   return took;
 }
@@ -156,7 +174,8 @@ static void keep(struct longest *longest, size_t number, const struct mapsched_c
 }
 
 static void print_longest(const struct longest *longest) {
-  static const char *const names[] = {"admission", "removal", "request", "progress", "build", "skip", "status"};
+  static const char *const names[] = {"admission", "removal", "request", "progress", "build", "skip", "status",
+    "opportunity", "header"};
   for (int i = 0; i < TOLD; i++)
     printf("longest by %s: call %zu, %s %s, %.0f ns by the clock, %.0f by processor time\n",
            longest->by ? "processor time" : "the clock", longest->calls[i].number, names[longest->calls[i].call.kind],
@@ -186,17 +205,19 @@ static void time_each(void) {
 }
 
 int main(void) {
-  double script[RUNS], admissions[RUNS], builds[RUNS];
+  double script[RUNS], admissions[RUNS], builds[RUNS], beside[RUNS];
   unsigned long refused, bytes;
   draw();
   for (int run = 0; run < RUNS; run++) {
     script[run] = time_calls(&refused, &bytes);
     admissions[run] = time_admission();
-    builds[run] = time_build();
+    builds[run] = time_build(0);
+    beside[run] = time_build(16);
   }
   printf("calls: %.0f nanoseconds each, %lu refused, %lu bytes\n", middle(script) / CALLS, refused, bytes);
   printf("no place: %.1f microseconds\n", middle(admissions) / 1000);
   printf("full build: %.1f microseconds\n", middle(builds) / 1000);
+  printf("build beside reserves: %.1f microseconds\n", middle(beside) / 1000);
   time_each();
   return 0;
 }

@@ -43,7 +43,19 @@ struct work {
   uint64_t next;
 };
 
-/* The call of a thread with this number: its flow is admitted, asks and is asked for, and MAPs are built. */
+/* An opportunity for the modem of a thread, some longer than a frame has, or a header, some with a wrong exponent. */
+static struct mapsched_call ranging_at(const struct work *mine, int number) {
+  if (number % 16 == 1)
+    return (struct mapsched_call){.kind = MAPSCHED_RESERVE, .usage = MAPSCHED_STATION, .slots = (uint32_t)number % 40,
+      .sid = mine->sid};
+  return (struct mapsched_call){.kind = MAPSCHED_HEADER, .ucd_count = (uint8_t)mine->sid,
+    .ranging_start = (uint8_t)(number % 17), .ranging_end = 10, .data_start = 4, .data_end = (uint8_t)(number % 19)};
+}
+
+/*
+ * The call of a thread with this number: its flow is admitted, asks and is asked for, MAPs are built, and its modem
+ * gets opportunities to range.
+ */
 static struct mapsched_call call_at(const struct work *mine, int number) {
   if (number == 0 && mine->sid % 4 == 0)
     return (struct mapsched_call){.kind = MAPSCHED_ADMIT, .flow = MAPSCHED_UNSOLICITED, .sid = mine->sid, .size = 32,
@@ -51,6 +63,7 @@ static struct mapsched_call call_at(const struct work *mine, int number) {
   if (number == 0)
     return (struct mapsched_call){.kind = MAPSCHED_ADMIT, .flow = MAPSCHED_BEST_EFFORT, .sid = mine->sid, .priority = 3,
       .rate = 640000, .burst = 1600};
+  if (number % 16 == 1 || number % 16 == 9) return ranging_at(mine, number);
   if (number % 4 == 0) return (struct mapsched_call){.kind = MAPSCHED_BUILD, .minislot = mine->next - 40};
   if (number % 4 == 1) return (struct mapsched_call){.kind = MAPSCHED_STATUS, .sid = mine->sid};
   if (number % 4 == 2) return (struct mapsched_call){.kind = MAPSCHED_HEARD, .minislot = mine->next - 40};
@@ -88,11 +101,12 @@ static void storm(struct mapsched_worker *first, struct work *works) {
   for (int i = 0; i < THREADS; i++) pthread_join(threads[i], NULL);
 }
 
-/* Whether two calls are the same, of which the kinds that are made here read these members. */
+/* Whether two calls are the same: the members of an opportunity and a header share places with others, or are here. */
 static int is_call(const struct mapsched_call *a, const struct mapsched_call *b) {
   return a->kind == b->kind && a->flow == b->flow && a->size == b->size && a->interval_us == b->interval_us &&
          a->jitter_us == b->jitter_us && a->rate == b->rate && a->burst == b->burst && a->bytes == b->bytes &&
-         a->minislot == b->minislot && a->sid == b->sid && a->priority == b->priority && a->grants == b->grants;
+         a->minislot == b->minislot && a->sid == b->sid && a->receiver == b->receiver && a->priority == b->priority &&
+         a->grants == b->grants && a->data_start == b->data_start && a->data_end == b->data_end;
 }
 
 /* Whether two replies are the same. */

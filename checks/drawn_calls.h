@@ -44,6 +44,17 @@ static struct mapsched_call admission(uint16_t sid) {
   return call;
 }
 
+/* An opportunity to range, one in sixteen of a length that no frame has; or a header, some with an exponent of 16. */
+static struct mapsched_call ranging(void) {
+  struct mapsched_call call = {.kind = MAPSCHED_RESERVE, .usage = (uint32_t)below(2)};
+  if (below(8) == 0)
+    return (struct mapsched_call){.kind = MAPSCHED_HEADER, .ucd_count = (uint8_t)below(256),
+      .ranging_start = (uint8_t)below(17), .ranging_end = 10, .data_start = 4, .data_end = (uint8_t)below(17)};
+  if (call.usage == MAPSCHED_STATION) call.sid = (uint16_t)below(70);
+  call.slots = below(16) ? 1 + (uint32_t)below(60) : 1021 * (uint32_t)below(2);
+  return call;
+}
+
 /* The next call, where the frame of the next MAP starts at this minislot. */
 static struct mapsched_call drawn(uint64_t next) {
   uint16_t sid = (uint16_t)(below(70) + 1);
@@ -58,7 +69,8 @@ static struct mapsched_call drawn(uint64_t next) {
     return (struct mapsched_call){
       .kind = MAPSCHED_HEARD, .receiver = receiver, .minislot = next > back ? next - back : 0};
   }
-  if (kind <= 37) return (struct mapsched_call){.kind = MAPSCHED_STATUS, .sid = sid};
+  if (kind <= 35) return (struct mapsched_call){.kind = MAPSCHED_STATUS, .sid = sid};
+  if (kind <= 37) return ranging();
   return (struct mapsched_call){.kind = MAPSCHED_ASK, .receiver = receiver, .sid = sid,
     .bytes = 1 + (uint32_t)below(6000), .minislot = next - 1};
 }

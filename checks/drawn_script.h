@@ -30,7 +30,7 @@ static struct {
   size_t sids;
   uint16_t sid[MOST_SIDS];
   uint8_t is_live[MOST_SIDS];
-  uint64_t admissions, kinds;
+  uint64_t admissions, ranging, kinds;
   int has_small_grants;
   uint64_t next, progress[MOST_RECEIVERS];
 } drawing;
@@ -67,12 +67,14 @@ static struct mapsched_config drawn_config(void) {
 /* Begins a drawing. */
 static void begin_drawing(uint64_t seed) {
   static const size_t sids[] = {3, 12, 12, MOST_SIDS}, admissions[] = {4, 4, 60}, kinds[] = {3, 3, 9, 2};
+  static const size_t ranging[] = {0, 4, 25};
   state = seed;
   memset(&drawing, 0, sizeof drawing);
   drawing.config = drawn_config();
   drawing.sids = ONE_OF(sids);
   for (size_t i = 0; i < drawing.sids; i++) drawing.sid[i] = (uint16_t)(1 + below(MAPSCHED_MAX_SID));
   drawing.admissions = ONE_OF(admissions);
+  drawing.ranging = ONE_OF(ranging);
   drawing.kinds = ONE_OF(kinds);
   drawing.has_small_grants = is_one_in(2);
   drawing.next = drawing.config.start;
@@ -157,11 +159,29 @@ static struct mapsched_call drawn_ask(void) {
   return call;
 }
 
+/* An opportunity, mostly short and of a length that a frame has, and seldom of no usage. */
+static struct mapsched_call drawn_reserve(void) {
+  uint32_t room = drawing.config.frame - drawing.config.req_slots;
+  uint32_t slots[] = {1, 1, 2, 4, 4, 8, room / 3, room - 1, room, room, room + 1, 0, UINT32_MAX};
+  struct mapsched_call call = {.kind = MAPSCHED_RESERVE, .usage = (uint32_t)below(2), .slots = ONE_OF(slots)};
+  if (call.usage == MAPSCHED_STATION) call.sid = drawn_sid(is_one_in(2));
+  if (is_one_in(100)) call.usage = 2 + (uint32_t)below(UINT32_MAX - 1);
+  return call;
+}
+
+/* A header, and seldom one with an exponent that is none. */
+static struct mapsched_call drawn_header(void) {
+  struct mapsched_call call = {.kind = MAPSCHED_HEADER, .ucd_count = (uint8_t)below(256)};
+  uint8_t *const exponents[] = {&call.ranging_start, &call.ranging_end, &call.data_start, &call.data_end};
+  for (size_t i = 0; i < COUNT(exponents); i++) *exponents[i] = (uint8_t)(is_one_in(20) ? 16 + below(240) : below(16));
+  return call;
+}
+
 /* The next call. */
 static struct mapsched_call drawn_call(void) {
-  uint64_t kind = below(22 + drawing.admissions);
+  uint64_t kind = below(22 + drawing.admissions + drawing.ranging);
   struct mapsched_call call = {.kind = MAPSCHED_STATUS, .sid = drawn_sid(1)};
-  if (is_one_in(100)) return (struct mapsched_call){.kind = 7 + (uint32_t)below(UINT32_MAX - 6), .sid = call.sid};
+  if (is_one_in(100)) return (struct mapsched_call){.kind = 9 + (uint32_t)below(UINT32_MAX - 8), .sid = call.sid};
   if (kind < 9) return drawn_ask();
   if (kind < 15) return (struct mapsched_call){.kind = MAPSCHED_BUILD, .minislot = drawn_clock()};
   if (kind == 15) return (struct mapsched_call){.kind = MAPSCHED_SKIP, .minislot = drawn_clock()};
@@ -170,14 +190,16 @@ static struct mapsched_call drawn_call(void) {
     uint8_t receiver = drawn_receiver();
     return (struct mapsched_call){.kind = MAPSCHED_HEARD, .receiver = receiver, .minislot = drawn_near(receiver)};
   }
-  return kind < 22 ? call : drawn_admission();
+  if (kind < 22) return call;
+  if (kind < 22 + drawing.admissions) return drawn_admission();
+  return kind == 22 + drawing.admissions ? drawn_header() : drawn_reserve();
 }
 
 /* Where the drawing stands after a call and its reply. */
 static void follow(const struct mapsched_call *call, const struct mapsched_reply *reply) {
   if (reply->kind == MAPSCHED_BUILT) drawing.next = reply->value + drawing.config.frame;
   if (reply->kind == MAPSCHED_SKIPPED) drawing.next = reply->value;
-  if (reply->kind == MAPSCHED_NOTED && call->receiver < MOST_RECEIVERS)
+  if (reply->kind == MAPSCHED_NOTED && call->kind == MAPSCHED_HEARD && call->receiver < MOST_RECEIVERS)
     drawing.progress[call->receiver] = call->minislot;
   for (size_t i = 0; i < drawing.sids; i++) {
     if (drawing.sid[i] != call->sid) continue;

@@ -1,11 +1,31 @@
 /*
  * Makes every call of the header that may run out of memory. Where one does, nothing that the caller sees may have
- * changed, and the call is made once more. Prints `whole` at the end, or `out of memory` where it ran out again.
+ * changed, and the call is made once more. Prints `whole` at the end, or `out of memory` where it ran out again. The
+ * calls for opportunities and headers never do.
  */
 #include <mapsched.h>
+#include <stddef.h>
 #include <stdio.h>
 #include <stdlib.h>
 #include <string.h>
+
+/* A program that was built with an older header has a call of this size, with these members in these places. */
+#define STANDS_AT(place, member) \
+  _Static_assert(offsetof(struct mapsched_call, member) == (place), #member " is at another place")
+_Static_assert(sizeof(struct mapsched_call) == 48, "a call has another size");
+STANDS_AT(0, kind);
+STANDS_AT(4, flow);
+STANDS_AT(8, size);
+STANDS_AT(12, interval_us);
+STANDS_AT(16, jitter_us);
+STANDS_AT(20, rate);
+STANDS_AT(24, burst);
+STANDS_AT(28, bytes);
+STANDS_AT(32, minislot);
+STANDS_AT(40, sid);
+STANDS_AT(42, receiver);
+STANDS_AT(43, priority);
+STANDS_AT(44, grants);
 
 /* All that the caller has, and what it can read of a scheduler. */
 static struct {
@@ -44,6 +64,9 @@ static const struct mapsched_call voice = {.kind = MAPSCHED_ADMIT,
                                            .grants = 2};
 static const struct mapsched_call data = {.kind = MAPSCHED_ADMIT, .flow = MAPSCHED_BEST_EFFORT, .sid = 6};
 static const struct mapsched_call build = {.kind = MAPSCHED_BUILD, .minislot = 760};
+static const struct mapsched_call station = {
+  .kind = MAPSCHED_RESERVE, .usage = MAPSCHED_STATION, .slots = 4, .sid = 9};
+static const struct mapsched_call header = {.kind = MAPSCHED_HEADER, .ucd_count = 2, .ranging_end = 5, .data_end = 8};
 
 static void end(const char *said, int status) {
   puts(said);
@@ -68,6 +91,12 @@ static void make(uint32_t (*call)(void)) {
     if (memcmp(&before, &now, sizeof now) != 0) end("something has changed", 2);
   }
   end("out of memory", 4);
+}
+
+/* Makes a call that takes no memory, so that it succeeds whatever is refused. */
+static void make_without(const struct mapsched_call *call, uint32_t reply) {
+  if (mapsched_call(&now.scheduler, &stamp, call, &now.reply) != MAPSCHED_OK) end("it takes memory", 2);
+  if (now.reply.kind != reply) end("another reply", 3);
 }
 
 static uint32_t opens(void) { return mapsched_open(&now.scheduler, &config); }
@@ -105,6 +134,8 @@ static void alone(void) {
   make(opens);
   make(admits_voice);
   make(admits_data);
+  make_without(&station, MAPSCHED_RESERVED);
+  make_without(&header, MAPSCHED_NOTED);
   make(builds);
   make(decodes);
   make(encodes);
@@ -113,7 +144,7 @@ static void alone(void) {
   make(writes_lines);
   make(writes);
   make(audits);
-  if (now.place != 3 || mapsched_close(&now.scheduler) != MAPSCHED_OK) end("not three entries", 3);
+  if (now.place != 5 || mapsched_close(&now.scheduler) != MAPSCHED_OK) end("not five entries", 3);
 }
 
 /* Two workers. */

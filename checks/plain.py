@@ -2,9 +2,13 @@
 flow and goes through every window of them, tries every minislot for a placement, and asks every flow at each offset. It
 is slow, and says what the program has to say."""
 
-ALL_MODEMS, BROADCAST_IUC, NULL = 0x3FFF, 1, 7
+import itertools
+
+ALL_MODEMS, BROADCAST_IUC, INITIAL, STATION, NULL = 0x3FFF, 1, 3, 4, 7
 MOST_FLOWS, MOST_PERIODIC, MOST_GRANTS = 64, 40, 93
 MOST_BYTES, LAST_CLOCK, AHEAD = 1048560, 2**60, 4096
+MOST_RESERVES, MOST_WAITING, LAST_MAP = 64, 16, 64
+HEADING = ["ucd_count", "ranging_start", "ranging_end", "data_start", "data_end"]
 MICROS_OF_TICK = 25, 4
 
 
@@ -24,6 +28,10 @@ class Flow:
     def granted(self):
         return sum(count for _, count in self.grants)
 
+    def grants_since(self, start):
+        """Its data grants from this minislot on, the last one first."""
+        return list(itertools.takewhile(lambda it: it[0] >= start, reversed(self.grants)))
+
     def outstanding(self):
         return self.asked - self.granted()
 
@@ -33,6 +41,13 @@ class Flow:
     def each(self):
         """How many grants or polls it has in an interval."""
         return self.spec.get("grants", 1) if self.kind == "unsolicited" else 1
+
+
+class Wanted:
+    """An opportunity that was reserved: SID, usage and minislots; how many MAPs came before, and which one has it."""
+
+    def __init__(self, sid, usage, slots, maps):
+        self.sid, self.usage, self.slots, self.maps, self.met = sid, usage, slots, maps, None
 
 
 class Refused(Exception):
@@ -50,7 +65,8 @@ class Scheduler:
         self.config = {"phy": 0, **config}
         self.frame, self.next = config["frame"], config["start"]
         self.progress = [config["start"]] * config["receivers"]
-        self.flows, self.entries = {}, []
+        self.flows, self.entries, self.reserves, self.maps = {}, [], [], 0
+        self.heading = {key: config[key] for key in HEADING}
 
     def slots_for(self, count):
         return self.config["overhead"] + ceiling_of(count, self.config["bytes_per_slot"])
@@ -169,6 +185,28 @@ class Scheduler:
         self.next = ceiling_of(now + self.config["lead"], self.frame) * self.frame
         return {"kind": "skipped", "next": self.next}
 
+    def reserve(self, call):
+        station = call["usage"] == "station"
+        if station and not 1 <= call["sid"] <= 8191:
+            refuse(1)
+        if not 1 <= call["slots"] <= self.frame - self.config["req_slots"]:
+            refuse(18)
+        if len(self.due()) >= MOST_RESERVES:
+            refuse(19)
+        sid, usage = (call["sid"], STATION) if station else (ALL_MODEMS, INITIAL)
+        self.reserves.append(Wanted(sid, usage, call["slots"], self.maps))
+        return {"kind": "reserved"}
+
+    def due(self):
+        """The Reserves that no MAP has met and that have not lapsed, of all that were ever asked for, in order."""
+        return [it for it in self.reserves if it.met is None and self.maps - it.maps < LAST_MAP]
+
+    def header(self, call):
+        if any(call[key] > 15 for key in HEADING[1:]):
+            refuse(20)
+        self.heading = {key: call[key] for key in HEADING}
+        return {"kind": "noted"}
+
     def status(self, call):
         flow = self.live(call["sid"])
         return {"kind": "flow", "asked": flow.asked, "granted": flow.granted(), "outstanding": flow.outstanding()}
@@ -269,26 +307,52 @@ class Scheduler:
             least, most = (middle, most) if self.may_have(flow, start, middle, room) else (least, middle - 1)
         return least
 
+    # What stands at a minislot that nothing periodic has, with so much room: SID, usage, bytes and minislots.
+
+    def opportunity_at(self, room, waiting):
+        """The first opportunity that waits, is not met and fits, or none."""
+        for wanted in waiting:
+            if wanted.met is None and wanted.slots <= room:
+                wanted.met = self.maps
+                return wanted.sid, wanted.usage, 0, wanted.slots
+        return None
+
+    def grant_at(self, start, room, waiting):
+        """The data grant to the flow that is served, or none."""
+        granted = sum(len(flow.grants_since(self.next)) for flow in self.flows.values())
+        sid = self.next_flow(start, room) if granted < MOST_GRANTS - len(waiting) else None
+        if sid is None:
+            return None
+        count = self.most(self.flows[sid], start, room)
+        self.flows[sid].grants.append((start, count))
+        return sid, self.usage(self.slots_for(count)), count, self.slots_for(count)
+
+    def idle_at(self, room):
+        return 0, self.long_usage(), 0, room
+
+    def chosen_at(self, start, room, waiting):
+        return self.opportunity_at(room, waiting) or self.grant_at(start, room, waiting) or self.idle_at(room)
+
+    def waiting(self):
+        """The Reserves that wait for the next MAP."""
+        return self.due()[:MOST_WAITING]
+
     def fill(self, start, periodic):
         """The elements of a frame up to the Null, each as (SID, usage, offset), and their bytes."""
         elements, counts = [(ALL_MODEMS, BROADCAST_IUC, 0)], [0]
-        at, served = self.config["req_slots"], 0
-        while at < self.frame:
-            stop = periodic[0][0] if periodic else self.frame
-            if at == stop:
-                at, sid, usage, slots = periodic.pop(0)
-                element, count = (sid, usage, at), 0
-            else:
-                sid = self.next_flow(start + at, stop - at) if served < MOST_GRANTS else None
-                count = self.most(self.flows[sid], start + at, stop - at) if sid else 0
-                slots = self.slots_for(count) if sid else stop - at
-                element = (sid, self.usage(slots), at) if sid else (0, self.long_usage(), at)
-                if sid:
-                    self.flows[sid].grants.append((start + at, count))
-                    served += 1
-            elements.append(element)
-            counts.append(count)
-            at += slots
+        waiting, at = self.waiting(), self.config["req_slots"]
+        for stop, *placed in [*periodic, (self.frame,)]:
+            while at < stop:
+                sid, usage, count, slots = self.chosen_at(start + at, stop - at, waiting)
+                elements.append((sid, usage, at))
+                counts.append(count)
+                at += slots
+            if placed:
+                sid, usage, slots = placed
+                elements.append((sid, usage, stop))
+                counts.append(0)
+                at = stop + slots
+        self.maps += 1
         return elements, counts
 
     def map_of(self, start):
@@ -302,9 +366,9 @@ class Scheduler:
 
     def payload(self, start, ack, elements):
         config = self.config
-        head = bytes([config["channel"], config["ucd_count"], len(elements), 0])
+        head = bytes([config["channel"], self.heading["ucd_count"], len(elements), 0])
         times = (start % 2**32).to_bytes(4, "big") + (ack % 2**32).to_bytes(4, "big")
-        windows = bytes(config[it] for it in ("ranging_start", "ranging_end", "data_start", "data_end"))
+        windows = bytes(self.heading[it] for it in HEADING[1:])
         words = [(sid << 18 | usage << 14 | offset).to_bytes(4, "big") for sid, usage, offset in elements]
         return (head + times + windows + b"".join(words)).hex()
 

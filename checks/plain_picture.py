@@ -1,6 +1,7 @@
 """A plain reading of the picture of a report, and what it has to show: the heights of the stacked areas, what each step
 says of itself, the parts in the legend, the ticks of the three axes, and the marks and numbers of the delays of each
-rank. All of it is taken from the numbers of the plain report and from the MAPs themselves, frame by frame."""
+rank, and what an empty chart says. All of it is taken from the numbers of the plain report and from the MAPs
+themselves, frame by frame."""
 
 import re
 import xml.etree.ElementTree as tree
@@ -13,6 +14,7 @@ MOST_STEPS, RIGHT, UP, ACROSS = 800, 10240, 3200, 6400
 STACKED = ("request", "poll", "unsolicited", "opportunity", "data", "idle")
 SHOWN = ("least", "middle", "p99", "greatest")
 NUMBER = r"(\d+(?:\.\d)?)"
+NO_FRAME, NO_DELAY = "No MAP was built, so there is no frame.", "No request was accepted, so there is no delay."
 
 
 def tenths(text):
@@ -28,13 +30,13 @@ def milliseconds(config, minislots):
 
 
 def frame_uses(entries):
-    """The minislots of each frame by what they are for."""
+    """Where each frame starts, and its minislots by what they are for."""
     found, admitted = [], []
     for entry in entries:
         if accepted(entry, "admit", "admitted") or accepted(entry, "remove", "removed"):
             admitted.append(entry)
         elif entry["reply"]["kind"] == "map":
-            found.append(uses([*admitted, entry]))
+            found.append((entry["reply"]["start"], uses([*admitted, entry])))
     return found
 
 
@@ -46,26 +48,40 @@ def width_of(frames):
     return width
 
 
-def steps_of(frames):
-    """The uses of the frames of each step, summed, with the step's first frame and the one behind its last."""
+class Step:
+    """As many frames: the first one and the one behind the last, from when to when they reach, in minislots from the
+    start of the first frame of all, and what their minislots are for."""
+
+    def __init__(self, config, frames, first, behind):
+        self.config, self.first, self.behind = config, first, behind
+        self.begin, self.end = (frames[at][0] - frames[0][0] for at in (first, behind - 1))
+        self.end += config["frame"]
+        self.whole = frames[-1][0] + config["frame"] - frames[0][0]
+        self.use = {name: sum(use[name] for _, use in frames[first:behind]) for name in USES}
+
+    def places(self):
+        """Where it begins and ends, in tenths of a unit: the chart reaches from the start of the first frame of all to
+        the end of the last one."""
+        return RIGHT * self.begin // self.whole, RIGHT * self.end // self.whole
+
+    def edge(self, upto):
+        """Where a use and all below it stand in it: from where, how high, up to where."""
+        below = STACKED[:STACKED.index(upto) + 1]
+        begin, end = self.places()
+        return begin, UP * sum(self.use[name] for name in below) // (self.end - self.begin), end
+
+    def told(self):
+        use, times = self.use, [milliseconds(self.config, slots) for slots in (self.begin, self.end)]
+        words = (f"frames {self.first} to {self.behind - 1}, {times[0]} to {times[1]} ms, minislots: "
+                 f"request region {use['request']}, polls {use['poll']}, unsolicited {use['unsolicited']}, "
+                 f"opportunities {use['opportunity']}, data grants {use['data']}, idle {use['idle']}")
+        return (*self.places(), words)
+
+
+def steps_of(config, frames):
+    """The steps of so many frames."""
     width = width_of(len(frames))
-    cuts = [(at, min(at + width, len(frames))) for at in range(0, len(frames), width)]
-    return [(first, behind, {name: sum(one[name] for one in frames[first:behind]) for name in USES})
-            for first, behind in cuts]
-
-
-def area_of(config, steps, upto, frames):
-    """The outline of a use: the height of each step, and where the step ends, in tenths of a unit."""
-    below = STACKED[:STACKED.index(upto) + 1]
-    return [(UP * sum(use[name] for name in below) // ((behind - first) * config["frame"]), RIGHT * behind // frames)
-            for first, behind, use in steps]
-
-
-def step_of(first, behind, use, frames):
-    words = (f"frames {first} to {behind - 1}, minislots: request region {use['request']}, polls {use['poll']}, "
-             f"unsolicited {use['unsolicited']}, opportunities {use['opportunity']}, data grants {use['data']}, "
-             f"idle {use['idle']}")
-    return RIGHT * first // frames, RIGHT * behind // frames, words
+    return [Step(config, frames, at, min(at + width, len(frames))) for at in range(0, len(frames), width)]
 
 
 def ticks_to(full):
@@ -74,11 +90,19 @@ def ticks_to(full):
     return [step * place for place in range(11) if step * place <= full]
 
 
-def axes_of(config, frames, scale):
-    """The ticks of minislots, of frames with their milliseconds, and of tenths of a millisecond, each at its place."""
+def time_axis(config, whole):
+    """What the axis of time is in, milliseconds or from 10 seconds on seconds, and its ticks, each at its place. So
+    many minislots are on it, and microseconds are counted in quarters, since a tick has 25."""
+    quarters = 25 * config["ticks"] * whole
+    unit, name = (4000, "seconds") if quarters >= 4 * 10 ** 7 else (4, "milliseconds")
+    return name, [(RIGHT * number * unit // max(quarters, 1), f"{number // 1000}.{number % 1000:03}")
+                  for number in ticks_to(quarters // unit)]
+
+
+def axes_of(config, whole, scale):
+    """The ticks of minislots, of time, and of tenths of a millisecond, each at its place."""
     return ([(UP * number // config["frame"], str(number)) for number in ticks_to(config["frame"])],
-            [(RIGHT * number // max(frames, 1), str(number), milliseconds(config, number * config["frame"]))
-             for number in ticks_to(frames)],
+            time_axis(config, whole),
             [(ACROSS * number // max(scale, 1), f"{number // 10}.{number % 10}") for number in ticks_to(scale)])
 
 
@@ -101,25 +125,27 @@ def shown(history):
     """What the picture of the report on a history has to show."""
     config, told = history["config"], report(history)
     frames = frame_uses(history["entries"])
-    steps, count = steps_of(frames), max(len(frames), 1)
+    steps, whole = steps_of(config, frames), (told["to"] or 0) - (told["from"] or 0)
     all_slots = max(sum(told["use"].values()), 1)
     most = max([rank["delay"]["greatest"] for rank in told["priorities"] if rank["delay"]], default=0)
     scale = (most * config["ticks"] + 15) // 16
     return {"width": width_of(len(frames)), "frames": told["frames"], "skips": told["skips"],
             "span": told["from"] is not None and span_of(config, told["from"], told["to"]),
             "frame": (config["frame"], milliseconds(config, config["frame"])),
-            "axes": axes_of(config, len(frames), scale),
+            "axes": axes_of(config, whole, scale),
             "parts": {name: (2000 * told["use"][name] + all_slots) // (2 * all_slots) for name in USES},
-            "areas": [(name, area_of(config, steps, name, count)) for name in reversed(STACKED)],
-            "steps": [step_of(*step, count) for step in steps],
-            "ranks": [rank_of(config, rank, scale) for rank in told["priorities"]]}
+            "areas": [(name, [step.edge(name) for step in steps]) for name in reversed(STACKED)],
+            "steps": [step.told() for step in steps],
+            "ranks": [rank_of(config, rank, scale) for rank in told["priorities"]],
+            "empty": [*([] if frames else [NO_FRAME]), *([] if told["priorities"] else [NO_DELAY])]}
 
 
 def area_in(path):
     """The use and the outline of an area that was drawn."""
     (name,) = set(path.get("class").split()) - {"area"}
-    outline = re.fullmatch(rf"M0 0((?:V-{NUMBER}H{NUMBER})*)V0z", path.get("d"))
-    return name, [(tenths(up), tenths(right)) for up, right in re.findall(rf"V-{NUMBER}H{NUMBER}", outline[1])]
+    edge = rf"H{NUMBER}V-{NUMBER}H{NUMBER}V0"
+    outline = re.fullmatch(rf"M0 0((?:{edge})*)z", path.get("d"))
+    return name, [tuple(map(tenths, places)) for places in re.findall(edge, outline[1])]
 
 
 def step_in(path):
@@ -130,15 +156,14 @@ def step_in(path):
 def axes_in(text):
     """The ticks of the three axes, from the text itself: each has its number behind it."""
     up = re.findall(rf"class='tick' d='M0-{NUMBER}h1024'/><text class='end' x='-8' y='-{NUMBER}' dy='4'>(\d+)<", text)
-    right = re.findall(rf"class='tick' d='M{NUMBER} 6V-320'/><text class='at' x='{NUMBER}' y='20'>(\d+)</text>"
-                       rf"<text class='at' x='{NUMBER}' y='34'>([\d.]+)<", text)
+    right = re.findall(rf"class='tick' d='M{NUMBER} 6V-320'/><text class='at' x='{NUMBER}' y='20'>([\d.]+)<", text)
+    (name,) = re.findall(r"y='38'>time from the start of the first frame, in (\w+)<", text)
     delays = re.findall(rf"class='tick' d='M{NUMBER}-4V(\d+)'/><text class='at' x='{NUMBER}' y='-10'>([\d.]+)<", text)
-    places = [[line, at] for line, at, _ in up] + [[line, at, below] for line, at, _, below, _ in right]
-    places += [[line, at] for line, _, at, _ in delays]
+    places = [[line, at] for line, at, _ in [*up, *right]] + [[line, at] for line, _, at, _ in delays]
     if any(len(set(place)) > 1 for place in places):
         raise ValueError("the line of a tick is not where its number is")
     return ([(tenths(at), number) for _, at, number in up],
-            [(tenths(at), number, time) for _, at, number, _, time in right],
+            (name, [(tenths(at), number) for _, at, number in right]),
             [(tenths(at), number) for _, _, at, number in delays])
 
 
@@ -173,7 +198,11 @@ def read_picture(text):
     texts = [found.text for found in picture.iter(f"{SVG}text")]
     (title,) = [found for found in texts if found.startswith("Use of minislots over time.")]
     span = re.search(r"Minislots (\d+) to (\d+), ([\d.]+) ms", title)
-    words = dict(zip(("request region", "polls", "unsolicited", "opportunities", "data grants", "idle"), STACKED))
+    names = ("request region", "polls", "unsolicited", "opportunity to range", "data grants", "idle")
+    words = dict(zip(names, STACKED))
+    ground = picture.find(f"{SVG}rect")
+    if ground is None or [ground.get(name) for name in ("width", "height", "fill")] != ["100%", "100%", "#fff"]:
+        raise ValueError("the picture is on no white ground")
     keys = [re.fullmatch(rf"({'|'.join(words)}) {NUMBER} %", found) for found in texts]
     rows = [group for group in picture.iter(f"{SVG}g") if group.get("transform", "").startswith("translate(0 ")]
     return {"width": int(next(re.match(r"Frames in a step: (\d+)\.", found)[1] for found in texts
@@ -184,4 +213,5 @@ def read_picture(text):
             "parts": {words[key[1]]: tenths(key[2]) for key in keys if key},
             "areas": [area_in(path) for path in paths if "area" in path.get("class", "").split()],
             "steps": [step_in(path) for path in paths if path.get("class") == "step"],
-            "ranks": [rank_in(row) for row in rows]}
+            "ranks": [rank_in(row) for row in rows],
+            "empty": [found for found in texts if found in (NO_FRAME, NO_DELAY)]}

@@ -6,7 +6,7 @@ from itertools import accumulate
 
 REQUEST, INITIAL, STATION, NULL = 1, 3, 4, 7
 ALL_MODEMS = 0x3FFF
-CALLS = ("admit", "ask", "build", "heard", "remove", "skip", "status")
+CALLS = ("admit", "ask", "build", "header", "heard", "remove", "reserve", "skip", "status")
 USES = ("data", "idle", "opportunity", "poll", "request", "unsolicited")
 
 
@@ -102,7 +102,7 @@ class Life:
 
     def granted(self):
         if self.flow["kind"] == "unsolicited":
-            return self.flow["size"] * sum(1 for _, _, iuc in self.allocations if iuc != REQUEST)
+            return self.flow["size"] * sum(1 for _, _, iuc in self.allocations if iuc not in (REQUEST, STATION))
         return sum(count for _, count in self.grants)
 
     def delays(self):

@@ -27,7 +27,8 @@ def table(name):
 CONFIG, FORMS = table("base_configuration"), table("forms_of_calls")
 PLAIN, SEVERAL = table("runs"), table("runs_with_several_grants")
 CROWDS = [table("runs_of_many_flows"), table("a_run_of_many_grants"), table("a_run_of_forty_grants")]
-RUNS = [PLAIN, SEVERAL, *CROWDS]
+RANGING = table("runs_with_opportunities")
+RUNS = [PLAIN, SEVERAL, RANGING, *CROWDS]
 REPLIES, BUILD = table("a_history_with_each_reply"), table("a_history_of_one_build")
 CALLS = read("checks/rows/calls_of_each_name")
 

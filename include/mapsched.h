@@ -57,7 +57,7 @@ enum mapsched_status {
   MAPSCHED_OK = 0,
   MAPSCHED_EMPTY = 1,         /* the handle has no scheduler */
   MAPSCHED_FULL = 2,          /* the handle has a scheduler already */
-  MAPSCHED_BAD_CALL = 3,      /* no such kind of call, or of flow */
+  MAPSCHED_BAD_CALL = 3,      /* no such kind of call, of flow or of opportunity */
   MAPSCHED_HISTORY_FULL = 4,  /* as many entries are kept as the configuration allows, or 2^44 calls were recorded */
   MAPSCHED_OUT_OF_MEMORY = 5,
   MAPSCHED_NO_ENTRY = 6,      /* the history has no entry of this number */
@@ -96,21 +96,47 @@ enum mapsched_call_kind {
   MAPSCHED_HEARD = 3,
   MAPSCHED_BUILD = 4,
   MAPSCHED_SKIP = 5,
-  MAPSCHED_STATUS = 6
+  MAPSCHED_STATUS = 6,
+  MAPSCHED_RESERVE = 7, /* an opportunity to range: usage, slots, and of a station its sid */
+  MAPSCHED_HEADER = 8   /* of every MAP after it: ucd_count and the four exponents */
 };
 
 enum mapsched_flow_kind { MAPSCHED_UNSOLICITED = 0, MAPSCHED_POLLED = 1, MAPSCHED_BEST_EFFORT = 2 };
 
-/* A call by its kind. A kind reads only its own numbers; in a history the others are 0. */
+/* Whom an opportunity to range is for: all modems that join the channel, or one that is known by its SID. */
+enum mapsched_usage { MAPSCHED_INITIAL = 0, MAPSCHED_STATION = 1 };
+
+/*
+ * A call by its kind. A kind reads only its own numbers; in a history the others are 0. Where two names share a place,
+ * the second is that of an opportunity or a header.
+ */
 struct mapsched_call {
-  uint32_t kind;                                      /* enum mapsched_call_kind */
-  uint32_t flow;                                      /* of an admission: enum mapsched_flow_kind */
-  uint32_t size, interval_us, jitter_us, rate, burst; /* of an admission: bytes, microseconds, bits per second */
-  uint32_t bytes;                                     /* of a request */
-  uint64_t minislot;                                  /* when it was heard, up to when all was, or now */
+  uint32_t kind; /* enum mapsched_call_kind */
+  union {
+    uint32_t flow;  /* of an admission: enum mapsched_flow_kind */
+    uint32_t usage; /* of an opportunity: enum mapsched_usage */
+  };
+  union {
+    uint32_t size;  /* of an unsolicited flow: the bytes of a grant */
+    uint32_t slots; /* of an opportunity: minislots */
+  };
+  uint32_t interval_us, jitter_us, rate, burst; /* of an admission: microseconds, bits per second, bytes */
+  uint32_t bytes;                               /* of a request */
+  uint64_t minislot;                            /* when it was heard, up to when all was, or now */
   uint16_t sid;
-  uint8_t receiver, priority;
-  uint8_t grants;                                     /* of an unsolicited flow: in an interval, from 1 to 8 */
+  union {
+    uint8_t receiver;
+    uint8_t ucd_count; /* of a header, like ranging_start to data_end: the exponents of its backoff windows */
+  };
+  union {
+    uint8_t priority;
+    uint8_t ranging_start;
+  };
+  union {
+    uint8_t grants; /* of an unsolicited flow: in an interval, from 1 to 8 */
+    uint8_t ranging_end;
+  };
+  uint8_t data_start, data_end;
 };
 
 /* Who made a call: a seat and its ticket, which are recorded as they are handed in. */
@@ -128,7 +154,8 @@ enum mapsched_reply_kind {
   MAPSCHED_BUILT = 5,    /* value is the start of the frame, payload the MAP */
   MAPSCHED_SKIPPED = 6,  /* value is the start of the next frame */
   MAPSCHED_BYTES = 7,    /* asked, granted, outstanding */
-  MAPSCHED_REFUSED = 8   /* refusal is its number in README's table, value its value or 0 */
+  MAPSCHED_REFUSED = 8,  /* refusal is its number in README's table, value its value or 0 */
+  MAPSCHED_RESERVED = 9  /* the opportunity waits for a MAP */
 };
 
 /* A reply by its kind. Numbers that the kind has not are 0; starts and payload keep what stood behind their end. */

@@ -25,7 +25,7 @@ static struct mapsched_config lawful(void) {
 }
 
 /* The bytes of a call up to its last number: what is behind it in the struct is nobody's. */
-enum { NUMBERS = offsetof(struct mapsched_call, grants) + 1 };
+enum { NUMBERS = offsetof(struct mapsched_call, data_end) + 1 };
 
 static int failures = 0;
 
@@ -41,7 +41,7 @@ static void workers(void) {
   struct mapsched_config config = lawful(), wrong = lawful();
   struct mapsched_worker first = {0}, second = {0}, third = {0};
   struct mapsched_scheduler scheduler = {0}, other = {0};
-  struct mapsched_call build = {.kind = MAPSCHED_BUILD, .minislot = 760}, unknown = {.kind = 7};
+  struct mapsched_call build = {.kind = MAPSCHED_BUILD, .minislot = 760}, unknown = {.kind = 9};
   struct mapsched_reply reply = {0};
   struct mapsched_entry entry;
   size_t count = 0;
@@ -281,6 +281,71 @@ static void journals(void) {
   WANT(mapsched_close(&scheduler) == MAPSCHED_OK);
 }
 
+/* An exponent of each window that is none is refused; the others stand in the next MAP. */
+static void headers(struct mapsched_scheduler *scheduler) {
+  const struct mapsched_call build = {.kind = MAPSCHED_BUILD, .minislot = 760};
+  const struct mapsched_call header = {.kind = MAPSCHED_HEADER,
+                                       .ucd_count = 255,
+                                       .ranging_start = 15,
+                                       .ranging_end = 0,
+                                       .data_start = 3,
+                                       .data_end = 8};
+  struct mapsched_call wrong[] = {header, header, header, header};
+  struct mapsched_stamp stamp = {0};
+  struct mapsched_reply reply;
+  struct mapsched_map map;
+  size_t place = 0;
+
+  wrong[0].ranging_start = 16;
+  wrong[1].ranging_end = 16;
+  wrong[2].data_start = 255;
+  wrong[3].data_end = 16;
+  for (int i = 0; i < 4; i++) {
+    WANT(mapsched_call(scheduler, &stamp, &wrong[i], &reply) == MAPSCHED_OK && reply.kind == MAPSCHED_REFUSED);
+    WANT(reply.refusal == 20 && reply.value == 0);
+  }
+  WANT(mapsched_call(scheduler, &stamp, &header, &reply) == MAPSCHED_OK && reply.kind == MAPSCHED_NOTED);
+  WANT(mapsched_call(scheduler, &stamp, &build, &reply) == MAPSCHED_OK && reply.kind == MAPSCHED_BUILT);
+  WANT(mapsched_decode(reply.payload, reply.length, &map, &place) == MAPSCHED_OK && map.ucd_count == 255);
+  WANT(map.ranging_start == 15 && map.ranging_end == 0 && map.data_start == 3 && map.data_end == 8);
+}
+
+/* Opportunities to range: who and what they may be for, how many wait, and how a history has them. */
+static void opportunities(void) {
+  struct mapsched_config config = lawful();
+  struct mapsched_scheduler scheduler = {0};
+  struct mapsched_stamp stamp = {0};
+  struct mapsched_call call = {.kind = MAPSCHED_RESERVE, .usage = 2, .slots = 36, .sid = 9};
+  struct mapsched_reply reply;
+  struct mapsched_entry entry;
+  config.calls = 100;
+
+  WANT(mapsched_open(&scheduler, &config) == MAPSCHED_OK);
+  WANT(mapsched_call(&scheduler, &stamp, &call, &reply) == MAPSCHED_BAD_CALL);
+  call.usage = MAPSCHED_STATION;
+  WANT(mapsched_call(&scheduler, &stamp, &call, &reply) == MAPSCHED_OK && reply.kind == MAPSCHED_RESERVED);
+  WANT(reply.refusal == 0 && reply.value == 0 && reply.length == 0 && reply.starts_count == 0);
+  WANT(mapsched_entry(&scheduler, 0, &entry) == MAPSCHED_OK && memcmp(&entry.call, &call, NUMBERS) == 0);
+  call.slots = 37;
+  WANT(mapsched_call(&scheduler, &stamp, &call, &reply) == MAPSCHED_OK && reply.refusal == 18);
+  call.slots = 0;
+  WANT(mapsched_call(&scheduler, &stamp, &call, &reply) == MAPSCHED_OK && reply.refusal == 18);
+  call.sid = 0;
+  WANT(mapsched_call(&scheduler, &stamp, &call, &reply) == MAPSCHED_OK && reply.refusal == 1);
+
+  /* One for all reads no SID, and a history has none of it. */
+  call.usage = MAPSCHED_INITIAL;
+  call.slots = 1;
+  call.sid = UINT16_MAX;
+  for (int i = 1; i < 64; i++)
+    WANT(mapsched_call(&scheduler, &stamp, &call, &reply) == MAPSCHED_OK && reply.kind == MAPSCHED_RESERVED);
+  WANT(mapsched_entry(&scheduler, 4, &entry) == MAPSCHED_OK && entry.call.sid == 0 && entry.call.slots == 1);
+  WANT(mapsched_call(&scheduler, &stamp, &call, &reply) == MAPSCHED_OK && reply.kind == MAPSCHED_REFUSED);
+  WANT(reply.refusal == 19 && reply.value == 0);
+  headers(&scheduler);
+  WANT(mapsched_close(&scheduler) == MAPSCHED_OK);
+}
+
 int main(void) {
   struct mapsched_config config = lawful(), wrong = lawful();
   struct mapsched_scheduler scheduler = {0};
@@ -292,7 +357,7 @@ int main(void) {
                                 .interval_us = 20000,
                                 .jitter_us = 1000,
                                 .grants = 1};
-  struct mapsched_call unknown = {.kind = 7}, strange = {.kind = MAPSCHED_ADMIT, .flow = 3};
+  struct mapsched_call unknown = {.kind = 9}, strange = {.kind = MAPSCHED_ADMIT, .flow = 3};
   struct mapsched_call bytes = {.kind = MAPSCHED_STATUS, .sid = 9};
   struct mapsched_call build = {.kind = MAPSCHED_BUILD, .minislot = 760};
   struct mapsched_reply reply, before;
@@ -413,5 +478,6 @@ int main(void) {
   journals();
   turns();
   frames();
+  opportunities();
   return failures != 0;
 }

@@ -20,13 +20,18 @@ class Again(Live):
     """The class `Live` with a journal, for a program that makes the same calls each time."""
 
     def __init__(self, config, program, journal, **other):
-        self._entries = iter(entries_of(journal))
+        self._entries, self._made = entries_of(journal), 0
         super().__init__(config, program, journal, **other)
 
+    def made_again(self):
+        """How many calls were answered by the journal, and how many more it had."""
+        return self._made, len(self._entries) - self._made
+
     def call(self, call):
-        entry = next(self._entries, None)
-        if entry is None:
+        if self._made == len(self._entries):
             return super().call(call)
+        entry = self._entries[self._made]
+        self._made += 1
         if entry["call"] != call:
             raise Fault(f"the journal is of another plant (another seed?): it has {entry['call']}, not {call}")
         return answer_in(entry["reply"])

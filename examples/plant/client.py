@@ -60,10 +60,14 @@ class Ended(Fault):
         self.status, self.said = status, said
 
 
+# The answers that tell nothing more than that the call was accepted.
+NOTHING_TOLD = ("removed", "taken", "noted", "reserved")
+
+
 def answer_of(line):
     """The value of a line that answers a call."""
     kind, *words = line.split(" ")
-    if kind in ("removed", "taken", "noted"):
+    if kind in NOTHING_TOLD:
         return None
     if kind == "map":
         return bytes.fromhex(words[0])
@@ -80,7 +84,7 @@ def answer_of(line):
 def answer_in(reply):
     """The same value, where a journal has the reply."""
     kind = reply["kind"]
-    if kind in ("removed", "taken", "noted"):
+    if kind in NOTHING_TOLD:
         return None
     if kind == "map":
         return bytes.fromhex(reply["hex"])
@@ -147,6 +151,18 @@ class Live:
     def status(self, sid):
         """`Sums`, or `Refused`."""
         return self.call({"call": "status", "sid": sid})
+
+    def reserve(self, usage, slots, sid=None):
+        """None, or `Refused`: a later MAP is to have an opportunity to range of so many minislots, `initial` for all
+        modems, or `station` for the one of a SID."""
+        station = {} if sid is None else {"sid": sid}
+        return self.call({"call": "reserve", "usage": usage, "slots": slots, **station})
+
+    def header(self, ucd_count, ranging_start, ranging_end, data_start, data_end):
+        """None, or `Refused`: the UCD count and the exponents of the backoff windows in the MAPs after it."""
+        windows = {"ranging_start": ranging_start, "ranging_end": ranging_end}
+        windows |= {"data_start": data_start, "data_end": data_end}
+        return self.call({"call": "header", "ucd_count": ucd_count, **windows})
 
     def call(self, call):
         """The answer to a call that is a dict, as a script has it."""

@@ -2,7 +2,7 @@
 
 from collections import Counter, deque
 
-CALLS = ("admit", "ask", "build", "heard", "remove", "skip", "status")
+CALLS = ("admit", "ask", "build", "header", "heard", "remove", "reserve", "skip", "status")
 USES = ("request", "poll", "unsolicited", "opportunity", "data", "idle")
 PART = 1280000  # So many parts of a byte: a ceiling of 1 bit per second gives one in each tick.
 

@@ -20,17 +20,17 @@ def use_lines(use):
 
 
 def request_lines(plant, refused):
-    """The request region's opportunities, and what became of requests."""
+    """How often modems could ask in the request region, and what became of requests."""
     count = plant.counts.requests
     given_up = sum(modem.given_up for modem in plant.modems.values())
     chances, alone, collisions = (count[name] for name in ("opportunities", "alone", "collisions"))
     told = ", ".join(f"{many} with {number}" for number, many in refused.items()) or "none"
     return [
-        f"  {chances} opportunities in the request region: in {alone} one request,",
+        f"  {chances} chances to ask in the request region: in {alone} one request,",
         f"  in {collisions} a collision, in {chances - alone - collisions} nothing",
-        f"  {count['collided']} collided, {count['noise']} were lost to noise, {given_up} packets were given up",
+        f"  {count['collided']} requests collided, {count['noise']} were lost to noise, {given_up} packets were given up",
         f"  {count['poll']} requests in polls, {count['with data']} with data",
-        f"  calls refused by the scheduler: {told}",
+        f"  refusals by the scheduler: {told}",
     ]
 
 
@@ -51,7 +51,7 @@ def flow_lines(counts):
     asked = sum(life.asked for life in counts.lives)
     granted = sum(life.granted for life in counts.lives) - sum(life.granted for life in voice)
     return [
-        f"  {len(voice)} calls, {counts.blocked} blocked, {counts.grants} voice grants, {late} of them late",
+        f"  {len(voice)} voice calls, {counts.blocked} blocked; {counts.grants} voice grants, {late} of them late",
         f"  {asked} bytes of data asked for, {granted} granted",
         f"  {counts.sent} bytes sent in data grants that had room for {counts.room}",
     ]

@@ -22,6 +22,8 @@ from modems import SECOND  # noqa: E402
 from page import page  # noqa: E402
 
 SCRIPT = os.path.realpath(f"{__file__}/../../../mapsched")
+NO_PROGRAM = "there is no mapsched on the path: install its package, or name the program with --program"
+BUILDING = "there is no mapsched on the path: the repository's script builds it first, which can take half an hour"
 
 
 class Wrong(Exception):
@@ -190,8 +192,26 @@ def program():
     """The one on the path, or else the script of the repository, which first proves and builds what is out of date."""
     if shutil.which("mapsched"):
         return "mapsched"
+    if not os.access(SCRIPT, os.X_OK):
+        raise Fault(NO_PROGRAM)
+    print(f"plant.py: {BUILDING}", file=sys.stderr)
     subprocess.run([SCRIPT, "--version"], stdout=subprocess.DEVNULL, check=True)
     return SCRIPT
+
+
+def name_checked(name):
+    """A program that was named, where there is one."""
+    if not shutil.which(name):
+        raise Fault(f"there is no program {name} that can be run: --program names mapsched")
+    return name
+
+
+def tell_what_is_left(live, journal):
+    """A journal may go on behind the calls that this plant has made, where an earlier one ran for longer."""
+    made, left = live.made_again()
+    if left:
+        print(f"plant.py: {journal} is of a longer run: it had these {made} calls and has {left} more, and it stays as "
+              "it was", file=sys.stderr)
 
 
 def arguments():
@@ -210,9 +230,12 @@ def arguments():
 def main():
     given = arguments()
     try:
-        with (Again if given.journal else Live)(CONFIG, given.program or program(), given.journal) as live:
+        chosen = name_checked(given.program) if given.program else program()
+        with (Again if given.journal else Live)(CONFIG, chosen, given.journal) as live:
             plant = Plant(live, CONFIG, given.seed)
             plant.run(given.seconds)
+            if given.journal:
+                tell_what_is_left(live, given.journal)
     except (Fault, Wrong, OSError, subprocess.SubprocessError) as fault:
         sys.exit(f"plant.py: {fault}")
     except KeyboardInterrupt:

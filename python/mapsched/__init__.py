@@ -11,19 +11,20 @@ and gives replies, which are values too, refusals among them; what is not record
 docs/PYTHON.md has a whole example. Units: minislots, bytes, microseconds, bits per second.
 """
 
-from .calls import Admit, Ask, BestEffort, Build, Call, Config, Flow, Heard, Polled, Remove, Skip, Status, Unsolicited
-from .calls import call_of
+from .calls import Admit, Ask, BestEffort, Build, Call, Config, Flow, Header, Heard, Polled, Remove, Reserve, Skip
+from .calls import Status, Unsolicited, call_of
 from .faults import BadConfig, BadMap, BadPayload, Closed, Fault, HandedOver, HistoryFull, NoHistory, OutOfMemory
 from .maps import Element, Map, decode, encode
-from .replies import Admitted, Built, FlowBytes, Noted, Placed, Refusal, Refused, Removed, Reply, Skipped, Taken
+from .replies import Admitted, Built, FlowBytes, Noted, Placed, Refusal, Refused, Removed, Reply, Reserved, Skipped
+from .replies import Taken
 from .scheduler import Entry, Illegal, Legal, Scheduler, audit, check
 
 __version__ = "0.2.0"
 
 __all__ = [
     "Admit", "Admitted", "Ask", "BadConfig", "BadMap", "BadPayload", "BestEffort", "Build", "Built", "Call", "Closed",
-    "Config", "Element", "Entry", "Fault", "Flow", "FlowBytes", "HandedOver", "Heard", "HistoryFull", "Illegal",
-    "Legal", "Map", "NoHistory", "Noted", "OutOfMemory", "Placed", "Polled", "Refusal", "Refused", "Remove", "Removed",
-    "Reply", "Scheduler", "Skip", "Skipped", "Status", "Taken", "Unsolicited", "audit", "call_of", "check", "decode",
-    "encode",
+    "Config", "Element", "Entry", "Fault", "Flow", "FlowBytes", "HandedOver", "Header", "Heard", "HistoryFull",
+    "Illegal", "Legal", "Map", "NoHistory", "Noted", "OutOfMemory", "Placed", "Polled", "Refusal", "Refused", "Remove",
+    "Removed", "Reply", "Reserve", "Reserved", "Scheduler", "Skip", "Skipped", "Status", "Taken", "Unsolicited",
+    "audit", "call_of", "check", "decode", "encode",
 ]

@@ -125,10 +125,33 @@ class Status:
     sid: int
 
 
-Call = Union[Admit, Remove, Ask, Heard, Build, Skip, Status]
+@dataclass(frozen=True)
+class Reserve:
+    """Asks for an opportunity to range of so many minislots: `initial`, which has no SID and passes one over, or
+    `station` for the modem of an SID. The reply is `Reserved`."""
+
+    usage: str
+    slots: int
+    sid: int = 0
+
+
+@dataclass(frozen=True)
+class Header:
+    """Sets the UCD count and the exponents of the backoff windows for every MAP after it. The reply is `Noted`."""
+
+    ucd_count: int
+    ranging_start: int
+    ranging_end: int
+    data_start: int
+    data_end: int
+
+
+Call = Union[Admit, Remove, Ask, Heard, Build, Skip, Status, Reserve, Header]
 
 # By the numbers of the header, and by the names in a script.
 _CALLS = {"admit": Admit, "remove": Remove, "ask": Ask, "heard": Heard, "build": Build, "skip": Skip, "status": Status}
+_CALLS |= {"reserve": Reserve, "header": Header}
+_USAGES = ["initial", "station"]
 _FLOWS = {"unsolicited": Unsolicited, "polled": Polled, "best_effort": BestEffort}
 _CALL_TYPES, _FLOW_TYPES = list(_CALLS.values()), list(_FLOWS.values())
 # The members that the struct has as `minislot`.
@@ -158,6 +181,10 @@ def numbers_of(call: Call) -> CallNumbers:
         if type(flow) not in _FLOW_TYPES:
             raise TypeError(f"{flow!r} is no flow")
         values |= {"flow": _FLOW_TYPES.index(type(flow)), **_values(flow)}
+    if isinstance(call, Reserve):
+        if call.usage not in _USAGES:
+            raise ValueError(f"{call.usage!r} is no usage")
+        values |= {"usage": _USAGES.index(call.usage), "sid": call.sid if call.usage == "station" else 0}
     values = {"minislot" if name in _MINISLOTS else name: value for name, value in values.items()}
     return fill(CallNumbers(), kind=_CALL_TYPES.index(type(call)), **values)
 
@@ -168,5 +195,7 @@ def from_numbers(numbers: CallNumbers) -> Call:
     if kind is Admit:
         flow = _FLOW_TYPES[numbers.flow]
         return Admit(numbers.sid, flow(*(getattr(numbers, it.name) for it in fields(flow))))
+    if kind is Reserve:
+        return Reserve(_USAGES[numbers.usage], numbers.slots, numbers.sid)
     names = ("minislot" if it.name in _MINISLOTS else it.name for it in fields(kind))
     return kind(*(getattr(numbers, name) for name in names))

@@ -4,7 +4,7 @@ from __future__ import annotations
 
 import ctypes
 import os
-from ctypes import POINTER, Structure, c_size_t, c_uint8, c_uint16, c_uint32, c_uint64, c_void_p
+from ctypes import POINTER, Structure, Union, c_size_t, c_uint8, c_uint16, c_uint32, c_uint64, c_void_p
 
 MAX_STARTS, MAX_BYTES, MAX_ELEMENTS = 512, 976, 240
 # The library's name has the version up to which its interface stays the same (docs/VERSIONS.md).
@@ -23,14 +23,37 @@ class ConfigNumbers(Structure):
     ]
 
 
-class CallNumbers(Structure):
-    """struct mapsched_call"""
+class _FlowOrUsage(Union):
+    _fields_ = [("flow", c_uint32), ("usage", c_uint32)]
 
+
+class _SizeOrSlots(Union):
+    _fields_ = [("size", c_uint32), ("slots", c_uint32)]
+
+
+class _ReceiverOrCount(Union):
+    _fields_ = [("receiver", c_uint8), ("ucd_count", c_uint8)]
+
+
+class _PriorityOrStart(Union):
+    _fields_ = [("priority", c_uint8), ("ranging_start", c_uint8)]
+
+
+class _GrantsOrEnd(Union):
+    _fields_ = [("grants", c_uint8), ("ranging_end", c_uint8)]
+
+
+class CallNumbers(Structure):
+    """struct mapsched_call, in which the numbers of an opportunity and of a header share the places of others"""
+
+    _anonymous_ = ["_flow", "_size", "_receiver", "_priority", "_grants"]
     _fields_ = [
-        *((name, c_uint32) for name in ("kind", "flow", "size", "interval_us", "jitter_us", "rate", "burst", "bytes")),
+        ("kind", c_uint32), ("_flow", _FlowOrUsage), ("_size", _SizeOrSlots),
+        *((name, c_uint32) for name in ("interval_us", "jitter_us", "rate", "burst", "bytes")),
         ("minislot", c_uint64),
         ("sid", c_uint16),
-        *((name, c_uint8) for name in ("receiver", "priority", "grants")),
+        ("_receiver", _ReceiverOrCount), ("_priority", _PriorityOrStart), ("_grants", _GrantsOrEnd),
+        *((name, c_uint8) for name in ("data_start", "data_end")),
     ]
 
 
@@ -121,9 +144,17 @@ def run(name: str, *arguments: object) -> int:
     return getattr(_library, f"mapsched_{name}")(*arguments)
 
 
+def members_of(struct: type) -> dict[str, type]:
+    """The members of a struct with their types, those in its unions too."""
+    members: dict[str, type] = {}
+    for name, kind in struct._fields_:  # type: ignore[attr-defined]
+        members |= members_of(kind) if issubclass(kind, Union) else {name: kind}
+    return members
+
+
 def fill(numbers: Structure, **values: int) -> Structure:
     """Writes values into a struct. One that does not fit raises ValueError, where C would cut it off."""
-    types = dict(numbers._fields_)
+    types = members_of(type(numbers))
     for name, value in values.items():
         most = (1 << 8 * ctypes.sizeof(types[name])) - 1
         if not isinstance(value, int) or not 0 <= value <= most:

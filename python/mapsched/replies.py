@@ -29,6 +29,9 @@ class Refusal(IntEnum):
     TOO_EARLY = 15
     TOO_LATE = 16
     NOTHING_TO_SKIP = 17
+    BAD_LENGTH = 18
+    TOO_MANY_RESERVES = 19
+    BAD_BACKOFF = 20
 
 
 _WITH_VALUE = {3, 11, 12, 13, 15, 16, 17}
@@ -69,7 +72,7 @@ class Taken:
 
 @dataclass(frozen=True)
 class Noted:
-    """A receiver's progress is noted."""
+    """A receiver's progress or a header is noted."""
 
     line = "noted"
 
@@ -122,7 +125,14 @@ class Refused:
         return f"refused {self.refusal:d}" + ("" if self.value is None else f" {self.value}")
 
 
-Reply = Union[Admitted, Placed, Removed, Taken, Noted, Built, Skipped, FlowBytes, Refused]
+@dataclass(frozen=True)
+class Reserved:
+    """An opportunity waits for a MAP."""
+
+    line = "reserved"
+
+
+Reply = Union[Admitted, Placed, Removed, Taken, Noted, Built, Skipped, FlowBytes, Refused, Reserved]
 
 
 def _refused(numbers: ReplyNumbers) -> Refused:
@@ -140,6 +150,7 @@ _KINDS = [
     lambda numbers: Skipped(numbers.value),
     lambda numbers: FlowBytes(numbers.asked, numbers.granted, numbers.outstanding),
     _refused,
+    lambda numbers: Reserved(),
 ]
 
 

@@ -10,8 +10,8 @@ import unittest
 from shutil import which
 
 import mapsched
-from mapsched import Ask, BadMap, Build, Built, Closed, Config, Element, HandedOver, HistoryFull, NoHistory, Scheduler
-from mapsched import Status
+from mapsched import Ask, BadMap, Build, Built, Closed, Config, Element, HandedOver, Header, HistoryFull, NoHistory
+from mapsched import Noted, Refused, Reserve, Reserved, Scheduler, Status
 from mapsched import library
 
 from . import tables
@@ -58,6 +58,21 @@ class BesideTheProgram(unittest.TestCase):
                 self.assertEqual((ran.returncode, ran.stdout, ran.stderr), (0, wanted, ""), f"script {number}")
 
 
+class BesideAPlainScheduler(unittest.TestCase):
+    def test_drawn_opportunities_and_headers_have_the_same_lines(self):
+        met = set()
+        for number in range(2000, 2060):
+            drawing = tables.drawing_of(number)
+            drawing.ranging = ["reserve"] * 24 + ["header"]
+            calls, lines = drawing.play()
+            with Scheduler(Config(**drawing.config)) as scheduler:
+                self.assertEqual([*tables.lines_of(scheduler, calls)], lines, f"script {number}")
+                made = [mapsched.call_of(call) for call in calls[: len(scheduler)]]
+                self.assertEqual([it.call for it in scheduler], made, f"script {number}")
+                met |= {it.reply.line for it in scheduler if isinstance(it.call, (Reserve, Header))}
+        self.assertLessEqual({"reserved", "noted", "refused 1", "refused 18", "refused 19", "refused 20"}, met)
+
+
 class Module(unittest.TestCase):
     def test_a_closed_scheduler_takes_no_call(self):
         scheduler = Scheduler(CONFIG)
@@ -70,12 +85,49 @@ class Module(unittest.TestCase):
 
     def test_a_value_that_does_not_fit_is_not_cut_off(self):
         with Scheduler(CONFIG) as scheduler:
-            for call in (Status(65536), Status(-1), Build(2**64), Ask(256, 1, 1, 1), Status("5"), Status(1.0)):
+            for call in (Status(65536), Status(-1), Build(2**64), Ask(256, 1, 1, 1), Status("5"), Status(1.0),
+                         Reserve("initial", 2**32), Reserve("station", 4, 65536), Reserve("all", 4), Reserve(0, 4),
+                         Header(256, 0, 0, 0, 0), Header(1, 0, 0, 0, -1)):
                 self.assertRaises(ValueError, scheduler.call, call)
             self.assertRaises(ValueError, scheduler.call, Build(760), seat=2**32)
             self.assertRaises(TypeError, scheduler.call, {"call": "build", "now": 760})
             self.assertEqual(len(scheduler), 0)
         self.assertRaises(ValueError, Scheduler, mapsched.Config(**{**vars(CONFIG), "channel": 256}))
+
+    def test_an_opportunity_stands_in_the_next_map(self):
+        wants = [Reserve("initial", 8), Reserve("station", 4, sid=9)]
+        with Scheduler(CONFIG) as scheduler:
+            self.assertEqual([scheduler.call(it) for it in wants], [Reserved(), Reserved()])
+            found = mapsched.decode(scheduler.call(Build(760)).payload)
+            self.assertEqual([it.call for it in scheduler][:2], wants)
+            self.assertEqual(scheduler.call(Reserve("initial", 8, sid=9)), Reserved())
+            self.assertEqual(scheduler[-1].call, Reserve("initial", 8))
+        rows = [("request", 0x3FFF, 0), ("initial", 0x3FFF, 4), ("station", 9, 12), ("long", 0, 16), ("null", 0, 40)]
+        self.assertEqual([(it.usage, it.sid, it.offset) for it in found.elements], rows)
+
+    def test_a_wrong_opportunity_or_header_is_refused_by_its_number(self):
+        with Scheduler(CONFIG) as scheduler:
+            for call, number in [
+                (Reserve("station", 4), 1), (Reserve("station", 0, 8192), 1), (Reserve("station", 0, 9), 18),
+                (Reserve("initial", 37), 18), (Header(1, 16, 0, 0, 0), 20), (Header(1, 0, 16, 0, 0), 20),
+                (Header(1, 0, 0, 255, 0), 20), (Header(1, 0, 0, 0, 16), 20),
+            ]:
+                self.assertEqual(scheduler.call(call), Refused(mapsched.Refusal(number)), call)
+            for _ in range(64):
+                self.assertEqual(scheduler.call(Reserve("initial", 36)), Reserved())
+            self.assertEqual(scheduler.call(Reserve("initial", 36)).line, "refused 19")
+
+    def test_a_header_stands_in_every_map_after_it(self):
+        def heading(now):
+            found = mapsched.decode(scheduler.call(Build(now)).payload)
+            return Header(found.ucd_count, found.ranging_start, found.ranging_end, found.data_start, found.data_end)
+
+        with Scheduler(CONFIG) as scheduler:
+            first, second = Header(1, 0, 0, 0, 0), Header(255, 3, 15, 4, 8)
+            self.assertEqual(heading(760), first)
+            self.assertEqual(scheduler.call(second), Noted())
+            self.assertEqual(scheduler.call(Header(7, 1, 2, 3, 16)).line, "refused 20")
+            self.assertEqual((heading(800), heading(840), scheduler[1].call), (second, second, second))
 
     def test_a_full_history_is_a_fault_and_changes_nothing(self):
         with Scheduler(Config(**{**vars(CONFIG), "calls": 1})) as scheduler:
@@ -158,7 +210,7 @@ class Module(unittest.TestCase):
         for name, struct in STRUCTS.items():
             lines.append(f'printf("%zu\\n", sizeof(struct mapsched_{name}));')
             wanted.append(ctypes.sizeof(struct))
-            for field, _ in struct._fields_:
+            for field in library.members_of(struct):
                 lines.append(f'printf("%zu\\n", offsetof(struct mapsched_{name}, {field}));')
                 wanted.append(getattr(struct, field).offset)
         for name in ("MAX_STARTS", "MAX_BYTES", "MAX_ELEMENTS"):

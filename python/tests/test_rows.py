@@ -52,7 +52,7 @@ class Readme(unittest.TestCase):
             kind = getattr(mapsched, name.strip("`").title())
             members[kind] = [it.name for it in dataclasses.fields(kind)]
             self.assertEqual(re.findall(r"`(\w+)`", cell)[: len(members[kind])], members[kind])
-        self.assertEqual(len(members), 7)
+        self.assertEqual(len(members), 9)
 
     def test_each_refusal_is_met(self):
         table = texts.read("README.md").partition("| No | Refusal")[2].partition("\n\n")[0]

@@ -1,13 +1,15 @@
 -- The readers of a flow and of a call take the objects of their forms and no others.
-use Rattle.std.proofs.Common.{◌≡◌, true, is_some, codes, refl}
-use Rattle.serde_json.specs.Data.{Data, null, object, number, unsigned, string, put, no_members}
+use Rattle.std.proofs.Common.{◌≡◌, ℕ, ◌-◌, ◌^◌, true, is_some, codes, List, take, drop, Some, None, refl}
+use Rattle.serde_json.specs.Data.{Data, null, object, number, unsigned, string, Members, put, no_members}
+use Rattle.map_build.specs.declared.opportunity.Usage.TheVariants.{Initial, Station}
+use Rattle.sched_history.specs.declared.call.Call.TheVariants.{Reserve}
 use Rattle.json_fields.specs.declared.forms.Sort.{Sort}
 use Rattle.json_fields.specs.declared.forms.TheConstants.{CALLS, FLOWS}
 use Rattle.json_fields.specs.Fields.{u8_or, u8_at, u16_at, u32_at, u64_at, number_at, text_at}
 use Rattle.json_fields.proofs.FormRows.{takes_forms}
 use Rattle.call_reading.specs.Calls.{unsolicited_of, polled_of, best_effort_of, flow_of}
 use Rattle.call_reading.specs.Calls.{admit_call, remove_call, ask_call, heard_call, build_call, skip_call, status_call}
-use Rattle.call_reading.specs.Calls.{call_of}
+use Rattle.call_reading.specs.Calls.{usage_of, reserve_call, header_call, call_of}
 
 flows : takes_forms (λ d. is_some (flow_of d)) (λ sort. null) FLOWS ≡ true
 unfolding flow_of unsolicited_of polled_of best_effort_of u8_or u8_at u32_at number_at text_at
@@ -19,7 +21,51 @@ flow sort =
     object (put (codes "kind") (string (codes "best_effort")) (put (codes "priority") (number (unsigned 7))
     (put (codes "rate") (number (unsigned 0)) (put (codes "burst") (number (unsigned 0)) no_members))))
 
-calls : takes_forms (λ d. is_some (call_of d)) flow CALLS ≡ true
+-- each call but a Reserve, whose SID stands beside its usage where that is of one modem
+calls : takes_forms (λ d. is_some (call_of d)) flow (take 7 CALLS) ≡ true
 unfolding call_of admit_call remove_call ask_call heard_call build_call skip_call status_call flow_of unsolicited_of
     polled_of best_effort_of u8_or u8_at u16_at u32_at u64_at number_at text_at
 calls = refl
+
+headers : takes_forms (λ d. is_some (call_of d)) flow (drop 8 CALLS) ≡ true
+unfolding call_of header_call u8_at number_at text_at
+headers = refl
+
+-- a Reserve with this usage and length, and these members behind
+abbrev reserve : List ℕ → ℕ → Members → Data
+reserve usage slots more = object (put (codes "call") (string (codes "reserve"))
+    (put (codes "usage") (string usage) (put (codes "slots") (number (unsigned slots)) more)))
+
+-- an SID
+abbrev sid : ℕ → Members
+sid n = put (codes "sid") (number (unsigned n)) no_members
+
+a_reserve_for_all : call_of (reserve (codes "initial") (2 ^ 32 - 1) no_members) ≡ Some (Reserve Initial (2 ^ 32 - 1))
+unfolding call_of reserve_call usage_of u16_at u32_at number_at text_at
+a_reserve_for_all = refl
+
+-- an SID beside it is a key that is not named
+a_reserve_for_all_beside_an_sid : call_of (reserve (codes "initial") 8 (sid (2 ^ 16))) ≡ Some (Reserve Initial 8)
+unfolding call_of reserve_call usage_of u16_at u32_at number_at text_at
+a_reserve_for_all_beside_an_sid = refl
+
+a_reserve_for_one : call_of (reserve (codes "station") 8 (sid (2 ^ 16 - 1)))
+    ≡ Some (Reserve (Station (2 ^ 16 - 1)) 8)
+unfolding call_of reserve_call usage_of u16_at u32_at number_at text_at
+a_reserve_for_one = refl
+
+a_reserve_for_one_without_an_sid : call_of (reserve (codes "station") 8 no_members) ≡ None
+unfolding call_of reserve_call usage_of u16_at u32_at number_at text_at
+a_reserve_for_one_without_an_sid = refl
+
+a_reserve_for_one_with_another_sid : call_of (reserve (codes "station") 8 (sid (2 ^ 16))) ≡ None
+unfolding call_of reserve_call usage_of u16_at u32_at number_at text_at
+a_reserve_for_one_with_another_sid = refl
+
+a_reserve_of_another_usage : call_of (reserve (codes "Initial") 8 no_members) ≡ None
+unfolding call_of reserve_call usage_of u16_at u32_at number_at text_at
+a_reserve_of_another_usage = refl
+
+a_reserve_of_another_length : call_of (reserve (codes "initial") (2 ^ 32) no_members) ≡ None
+unfolding call_of reserve_call usage_of u16_at u32_at number_at text_at
+a_reserve_of_another_length = refl

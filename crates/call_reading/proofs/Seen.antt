@@ -7,6 +7,7 @@ use Rattle.std.specs.Prelude.{codes, if◌then◌else◌}
 use Rattle.serde_json.specs.Data.{Data, number, unsigned, string, object, Members, put}
 use Rattle.serde_json.specs.Find.{get_member, as_str}
 use Rattle.flow_book.specs.declared.spec.FlowSpec.{FlowSpec}
+use Rattle.sched_history.specs.declared.call.Call.{Call}
 use Rattle.sched_history.specs.declared.call.Call.TheVariants.{Admit}
 use Rattle.json_fields.specs.Fields.{◌>>=◌, u8_at, u16_at, u32_at, u64_at, number_at, text_at}
 use Rattle.json_fields.proofs.PlainValues.{found_at}
@@ -99,6 +100,23 @@ module _ (k : List ℕ) (f : Found) where
 
 -- ---- the call
 
+-- a call that the first is, the second is too
+abbrev Gives : Option Call → Option Call → Type 0
+Gives x y = (call : Call) → x ≡ Some call → y ≡ Some call
+
+as_it_is : (x : Option Call) → Gives x x
+as_it_is x call e = e
+
+where_else : (b : Bool) {x xx y yy : Option Call} → Gives x xx → Gives y yy
+    → Gives (if b then x else y) (if b then xx else yy)
+where_else true f g call e = f call e
+where_else false f g call e = g call e
+
+named : (o : Option (List ℕ)) {f g : List ℕ → Option Call} → ((name : List ℕ) → Gives (f name) (g name))
+    → Gives (o >>= f) (o >>= g)
+named None h call e = absurd (true≢false (sym (ap (λ o. is_some o) e)))
+named (Some name) h call e = h name call e
+
 after : {B C : Type 0} (o : Option Data) (f : Data → Option B) (g : B → Option C)
     → ((o >>= f) >>= g) ≡ (o >>= (λ d. f d >>= g))
 after None f g = refl
@@ -112,19 +130,18 @@ module _ (ms : Members) where
       (u16_at (codes "sid") (object ms))
 
   -- the call that the members make is the one that the object stands for
-  pub seen_call_is : seen_call (seen_in ms) ≡ call_of (object ms)
+  pub seen_call_is : Gives (seen_call (seen_in ms)) (call_of (object ms))
   unfolding seen_call seen_remove seen_ask seen_heard seen_build seen_skip seen_status call_of remove_call ask_call
       heard_call build_call skip_call status_call u8_at u16_at u32_at u64_at number_at text_at
-  seen_call_is = λ i. option_and_then
-      (λ name. if bytes_eq name (codes "admit") then admits i
-      else (if bytes_eq name (codes "remove") then remove_call (object ms)
-      else (if bytes_eq name (codes "ask") then ask_call (object ms)
-      else (if bytes_eq name (codes "heard") then heard_call (object ms)
-      else (if bytes_eq name (codes "build") then build_call (object ms)
-      else (if bytes_eq name (codes "skip") then skip_call (object ms)
-      else (if bytes_eq name (codes "status") then status_call (object ms)
-      else None)))))))
-      (text_at (codes "call") (object ms))
+  seen_call_is = named (text_at (codes "call") (object ms))
+      (λ name. where_else (bytes_eq name (codes "admit")) (λ call e. sym admits ∙ e)
+      (where_else (bytes_eq name (codes "remove")) (as_it_is (remove_call (object ms)))
+      (where_else (bytes_eq name (codes "ask")) (as_it_is (ask_call (object ms)))
+      (where_else (bytes_eq name (codes "heard")) (as_it_is (heard_call (object ms)))
+      (where_else (bytes_eq name (codes "build")) (as_it_is (build_call (object ms)))
+      (where_else (bytes_eq name (codes "skip")) (as_it_is (skip_call (object ms)))
+      (where_else (bytes_eq name (codes "status")) (as_it_is (status_call (object ms)))
+      (λ call e. absurd (true≢false (sym (ap (λ o. is_some o) e)))))))))))
 
   none_of : (o : Option Data) → false ≡ is_some o → o ≡ None
   none_of None e = refl

@@ -4,8 +4,11 @@ use Rattle.serde_json.specs.Data.{Data}
 use Rattle.serde_json.specs.Find.{get}
 use Rattle.flow_book.specs.declared.spec.FlowSpec.{FlowSpec}
 use Rattle.flow_book.specs.declared.spec.FlowSpec.TheVariants.{Unsolicited, Polled, BestEffort}
+use Rattle.map_build.specs.declared.opportunity.Usage.{Usage}
+use Rattle.map_build.specs.declared.opportunity.Usage.TheVariants.{Initial, Station}
 use Rattle.sched_history.specs.declared.call.Call.{Call}
 use Rattle.sched_history.specs.declared.call.Call.TheVariants.{Admit, Remove, Ask, Heard, Build, Skip, Status}
+use Rattle.sched_history.specs.declared.call.Call.TheVariants.{Reserve, Header}
 use Rattle.json_fields.specs.Fields.{◌>>=◌, u8_at, u16_at, u32_at, u64_at, u8_or, text_at}
 
 -- a flow of unsolicited grants: one in an interval where their number is missing
@@ -91,6 +94,31 @@ status_call d = do
   sid ← u16_at (codes "sid") d
   Some (Status sid)
 
+-- whom an opportunity is for: a SID stands beside it where it is for one modem
+unfoldable pub usage_of : Data → Option Usage
+usage_of d = do
+  usage ← text_at (codes "usage") d
+  if bytes_eq usage (codes "initial") then Some Initial
+      else (if bytes_eq usage (codes "station") then (u16_at (codes "sid") d >>= (λ sid. Some (Station sid)))
+      else None)
+
+-- a Reserve
+unfoldable pub reserve_call : Data → Option Call
+reserve_call d = do
+  usage ← usage_of d
+  slots ← u32_at (codes "slots") d
+  Some (Reserve usage slots)
+
+-- a header
+unfoldable pub header_call : Data → Option Call
+header_call d = do
+  count ← u8_at (codes "ucd_count") d
+  ranging_start ← u8_at (codes "ranging_start") d
+  ranging_end ← u8_at (codes "ranging_end") d
+  data_start ← u8_at (codes "data_start") d
+  data_end ← u8_at (codes "data_end") d
+  Some (Header count ranging_start ranging_end data_start data_end)
+
 -- the call that an object stands for, by its name
 unfoldable pub call_of : Data → Option Call
 call_of d = do
@@ -102,7 +130,9 @@ call_of d = do
       else (if bytes_eq name (codes "build") then build_call d
       else (if bytes_eq name (codes "skip") then skip_call d
       else (if bytes_eq name (codes "status") then status_call d
-      else None))))))
+      else (if bytes_eq name (codes "reserve") then reserve_call d
+      else (if bytes_eq name (codes "header") then header_call d
+      else None))))))))
 
 -- the value stands for the call, and no configuration stands beside its members
 abbrev pub StandsAlone : Data → Call → Type 0

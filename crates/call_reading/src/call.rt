@@ -2,10 +2,11 @@
 
 ghost use Rattle.std.specs.Prelude.{◌≡◌};
 ghost use Rattle.call_reading.specs.Calls.{admit_call, remove_call, ask_call, heard_call, build_call, skip_call};
-ghost use Rattle.call_reading.specs.Calls.{status_call, call_of};
+ghost use Rattle.call_reading.specs.Calls.{status_call, usage_of, reserve_call, header_call, call_of};
 
 use super::flow::flow_of;
 use json_fields::{Tree, member, number_u8, number_u16, number_u32, number_u64, text};
+use map_build::Usage;
 use sched_history::Call;
 
 #[tactic(auto, unfolding(crate::specs::Calls::admit_call))]
@@ -84,6 +85,56 @@ fn status_call<T: Tree>(value: &T) -> Option<Call>
     Some(Call::Status(number_u16(value, "sid")?))
 }
 
+// Whom an opportunity is for: a SID stands beside it where it is for one modem.
+#[tactic(auto, unfolding(crate::specs::Calls::usage_of))]
+fn usage_of<T: Tree>(value: &T) -> Option<Usage>
+    ensures { result ≡ usage_of (T.shown value.now) }
+{
+    match text(value, "usage")? {
+        "initial" => Some(Usage::Initial),
+        "station" => Some(Usage::Station(number_u16(value, "sid")?)),
+        _ => None,
+    }
+}
+
+#[tactic(auto, unfolding(crate::specs::Calls::reserve_call))]
+fn reserve_call<T: Tree>(value: &T) -> Option<Call>
+    ensures { result ≡ reserve_call (T.shown value.now) }
+{
+    let (Some(usage), Some(slots)) = (usage_of(value), number_u32(value, "slots")) else {
+        return None;
+    };
+    Some(Call::Reserve { usage, slots })
+}
+
+#[tactic(auto, unfolding(crate::specs::Calls::header_call))]
+fn header_call<T: Tree>(value: &T) -> Option<Call>
+    ensures { result ≡ header_call (T.shown value.now) }
+{
+    let (
+        Some(ucd_count),
+        Some(ranging_start),
+        Some(ranging_end),
+        Some(data_start),
+        Some(data_end),
+    ) = (
+        number_u8(value, "ucd_count"),
+        number_u8(value, "ranging_start"),
+        number_u8(value, "ranging_end"),
+        number_u8(value, "data_start"),
+        number_u8(value, "data_end"),
+    ) else {
+        return None;
+    };
+    Some(Call::Header {
+        ucd_count,
+        ranging_start,
+        ranging_end,
+        data_start,
+        data_end,
+    })
+}
+
 /// The call that an object stands for, by its name.
 #[tactic(auto, unfolding(crate::specs::Calls::call_of))]
 pub fn call_of<T: Tree>(value: &T) -> Option<Call>
@@ -97,6 +148,8 @@ pub fn call_of<T: Tree>(value: &T) -> Option<Call>
         "build" => build_call(value),
         "skip" => skip_call(value),
         "status" => status_call(value),
+        "reserve" => reserve_call(value),
+        "header" => header_call(value),
         _ => None,
     }
 }

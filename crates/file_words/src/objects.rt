@@ -3,7 +3,7 @@
 use super::nearest::nearest;
 use super::notes::Notes;
 use super::place::Place;
-use super::sort::{forms_of, name_key, named};
+use super::sort::{FOR_ALL_MODEMS, forms_of, name_key, named};
 use super::tell::tell_near;
 use super::written::{Part, find, shown, text_of};
 use json_fields::forms::{Form, Holds, Member, Missing, Sort};
@@ -66,6 +66,23 @@ impl Notes {
         Ok(form)
     }
 
+    // The members that are read of an object of a form: what a Reserve has goes by its usage.
+    fn members_of(
+        &self,
+        sort: Sort,
+        form: &'static Form,
+        parts: &[Part],
+    ) -> Result<&'static [Member], AllocError> {
+        let (Sort::Call, "reserve") = (sort, form.0) else {
+            return Ok(form.1);
+        };
+        let usage = find(self.alloc, parts, "usage")?.0.unwrap_or(b"");
+        match text_of(self.alloc, usage)? {
+            Some(usage) if usage.as_str() == "initial" => Ok(&FOR_ALL_MODEMS),
+            _ => Ok(form.1),
+        }
+    }
+
     /// What is wrong with an object of a sort and with the objects in it, so many deep.
     pub fn tell_object(
         &mut self,
@@ -74,12 +91,13 @@ impl Notes {
         parts: &[Part],
         depth: usize,
     ) -> Result<(), AllocError> {
-        let Some((name, members)) = self.form_of(place, sort, parts)? else {
+        let Some(form) = self.form_of(place, sort, parts)? else {
             return Ok(());
         };
+        let members = self.members_of(sort, form, parts)?;
         self.tell_members(place, members, parts)?;
         self.tell_keys(place, members, parts, true)?;
-        for member in *members {
+        for member in members {
             let Some((key, inner)) = object_in(*member) else {
                 continue;
             };
@@ -89,7 +107,7 @@ impl Notes {
                 self.tell_object(place.under(key), inner, &parts, depth - 1)?;
             }
         }
-        self.tell_pair(place, sort, name, parts)
+        self.tell_pair(place, sort, form.0, parts)
     }
 }
 

@@ -1,9 +1,16 @@
 //! The forms of each sort of object.
 
 use json_fields::forms::{
-    CALLS, CONFIGS, ENTRIES, FLOWS, Form, HISTORIES, Kind, LIST_OF_CALLS, LIST_OF_ENTRIES,
-    LIST_OF_SCRIPTS, Member, REPLIES, SCRIPTS, STORMS, Sort,
+    CALLS, CONFIGS, ENTRIES, FLOWS, Form, HISTORIES, Holds, Kind, LIST_OF_CALLS, LIST_OF_ENTRIES,
+    LIST_OF_SCRIPTS, Member, Missing, REPLIES, SCRIPTS, STORMS, Sort,
 };
+
+/// The members of a Reserve for all modems. An SID beside them is a key that nobody reads.
+pub static FOR_ALL_MODEMS: [Member; 3] = [
+    ("call", Holds::Name, Missing::Fault),
+    ("usage", Holds::Name, Missing::Fault),
+    ("slots", Holds::Number(u32::MAX as u64), Missing::Fault),
+];
 
 /// The forms that an object of this sort may have.
 pub fn forms_of(sort: Sort) -> &'static [Form] {

@@ -3,7 +3,7 @@
 use super::notes::Notes;
 use super::place::Place;
 use super::sort::list_of;
-use super::written::{Part, begins, find, parts, shown, whole};
+use super::written::{Part, begins, find, parts, shown, text_of, whole};
 use json_fields::forms::{Holds, Kind, Member, Sort};
 use std::alloc::AllocError;
 use std::fmt::Write;
@@ -16,7 +16,7 @@ fn is_refusal(number: u64, value: Option<u64>) -> bool {
     match (number, value) {
         (3, Some(reason)) => 1 <= reason && reason <= 7,
         (11 | 12 | 13 | 15 | 16 | 17, value) => value.is_some(),
-        (1..=17, None) => number != 3,
+        (1..=20, None) => number != 3,
         _ => false,
     }
 }
@@ -51,6 +51,24 @@ impl Notes {
         )
     }
 
+    // What is wrong with the usage of a Reserve, or with one of a station that has no SID beside it.
+    fn tell_usage(&mut self, place: Place, parts: &[Part]) -> Result<(), AllocError> {
+        let written = find(self.alloc, parts, "usage")?.0.unwrap_or(b"");
+        let Some(usage) = text_of(self.alloc, written)? else {
+            return Ok(());
+        };
+        let has_sid = find(self.alloc, parts, "sid")?.0.is_some();
+        match usage.as_str() {
+            "initial" => Ok(()),
+            "station" if has_sid => Ok(()),
+            "station" => writeln!(self.here, "{place}: \"sid\" is missing, beside \"station\""),
+            _ => writeln!(
+                self.here,
+                "{place}: \"usage\" is neither \"initial\" nor \"station\""
+            ),
+        }
+    }
+
     /// What is wrong with members of an object of this form that do not fit each other.
     pub fn tell_pair(
         &mut self,
@@ -62,6 +80,7 @@ impl Notes {
         match (sort, name) {
             (Sort::Reply, "refused") => self.tell_refusal(place, parts),
             (Sort::Reply, "admitted") => self.tell_placement(place, parts),
+            (Sort::Call, "reserve") => self.tell_usage(place, parts),
             _ => Ok(()),
         }
     }

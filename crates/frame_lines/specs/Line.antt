@@ -4,7 +4,7 @@ use Rattle.hex.specs.Hex.{encode_lower}
 use Rattle.map_codec.specs.WireMap.{spelling}
 use Rattle.map_build.specs.declared.frame_map.FrameMap.{FrameMap}
 use Rattle.sched_history.specs.declared.reply.Reply.TheVariants.{Admitted, Removed, Taken, Noted, Built, Skipped, Flow}
-use Rattle.sched_history.specs.declared.reply.Reply.TheVariants.{Refused}
+use Rattle.sched_history.specs.declared.reply.Reply.TheVariants.{Refused, Reserved}
 use Rattle.wire_frame.specs.MapFrame.{frame_of_map}
 use Rattle.sched_lines.specs.Line.{Answer, line_of}
 
@@ -15,6 +15,7 @@ map_in (Ok (Admitted p)) = None
 map_in (Ok Removed) = None
 map_in (Ok Taken) = None
 map_in (Ok Noted) = None
+map_in (Ok Reserved) = None
 map_in (Ok (Skipped next)) = None
 map_in (Ok (Flow asked granted outstanding)) = None
 map_in (Ok (Refused refusal)) = None

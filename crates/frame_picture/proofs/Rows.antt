@@ -174,6 +174,7 @@ module _ (scale : Scale) (span : Span) (h : List Entry) (fs : List Frame) (flows
   next_rows replies.Removed whole = still replies.Removed refl
   next_rows replies.Taken whole = still replies.Taken refl
   next_rows replies.Noted whole = still replies.Noted refl
+  next_rows replies.Reserved whole = still replies.Reserved refl
   next_rows (replies.Skipped next) whole = still (replies.Skipped next) refl
   next_rows (replies.Flow asked granted outstanding) whole = still (replies.Flow asked granted outstanding) refl
   next_rows (replies.Refused refusal) whole = still (replies.Refused refusal) refl

@@ -52,6 +52,7 @@ turned_admit sid other spec (replies.Admitted placement) before =
 turned_admit sid other spec replies.Removed before = refl
 turned_admit sid other spec replies.Taken before = refl
 turned_admit sid other spec replies.Noted before = refl
+turned_admit sid other spec replies.Reserved before = refl
 turned_admit sid other spec (replies.Built m) before = refl
 turned_admit sid other spec (replies.Skipped next) before = refl
 turned_admit sid other spec (replies.Flow asked granted outstanding) before = refl
@@ -64,6 +65,7 @@ turned_remove sid other (replies.Admitted placement) before = refl
 turned_remove sid other replies.Removed before = turned_if (other == sid) Ends before
 turned_remove sid other replies.Taken before = refl
 turned_remove sid other replies.Noted before = refl
+turned_remove sid other replies.Reserved before = refl
 turned_remove sid other (replies.Built m) before = refl
 turned_remove sid other (replies.Skipped next) before = refl
 turned_remove sid other (replies.Flow asked granted outstanding) before = refl
@@ -79,6 +81,8 @@ turned sid (calls.Heard receiver upto) reply before = refl
 turned sid (calls.Build now) reply before = refl
 turned sid (calls.Skip now) reply before = refl
 turned sid (calls.Status other) reply before = refl
+turned sid (calls.Reserve usage slots) reply before = refl
+turned sid (calls.Header count ranging_start ranging_end data_start data_end) reply before = refl
 
 -- what is known of a SID after an entry
 pub known_after : (sid : ℕ) (h : List Entry) (e : Entry)

@@ -10,7 +10,9 @@ use Rattle.minislots.specs.declared.config.Config.{Config}
 use Rattle.flow_book.specs.declared.spec.FlowSpec.{FlowSpec}
 use Rattle.flow_book.specs.declared.spec.FlowSpec.TheVariants.{Unsolicited, Polled, BestEffort}
 use Rattle.sched_history.specs.declared.call.Call.{Call}
+use Rattle.map_build.specs.declared.opportunity.Usage.TheVariants.{Initial, Station}
 use Rattle.sched_history.specs.declared.call.Call.TheVariants.{Admit, Remove, Ask, Heard, Build, Skip, Status}
+use Rattle.sched_history.specs.declared.call.Call.TheVariants.{Reserve, Header}
 use Rattle.history_writing.specs.Json.{count, flow_data, call_data}
 use Rattle.history_writing.specs.HistoryText.{config_data}
 use Rattle.history_writing.specs.Fits.{FlowFits, CallFits, ConfigFits}
@@ -122,6 +124,46 @@ call_readable (Heard receiver upto) fits =
 call_readable (Build now) fits = (refl, (refl, name (codes "build") refl, (refl, fits, tt)))
 call_readable (Skip now) fits = (refl, (refl, name (codes "skip") refl, (refl, fits, tt)))
 call_readable (Status sid) fits = (refl, (refl, name (codes "status") refl, (refl, of_half sid fits, tt)))
+call_readable (Reserve Initial slots) fits = (
+  refl,
+  (
+    refl,
+    name (codes "reserve") refl,
+    (refl, of_word slots fits, (refl, name (codes "initial") refl, tt)),
+  ),
+)
+call_readable (Reserve (Station sid) slots) fits = (
+  refl,
+  (
+    refl,
+    name (codes "reserve") refl,
+    (
+      refl,
+      of_half sid fits.0,
+      (refl, of_word slots fits.1, (refl, name (codes "station") refl, tt)),
+    ),
+  ),
+)
+call_readable (Header count ranging_start ranging_end data_start data_end) fits = (
+  refl,
+  (
+    refl,
+    name (codes "header") refl,
+    (
+      refl,
+      of_byte data_end fits.4,
+      (
+        refl,
+        of_byte data_start fits.3,
+        (
+          refl,
+          of_byte ranging_end fits.2,
+          (refl, of_byte ranging_start fits.1, (refl, of_byte count fits.0, tt)),
+        ),
+      ),
+    ),
+  ),
+)
 
 -- a configuration is read again in its text
 pub config_readable : (c : Config) → ConfigFits c → IsReadable (config_data c)

@@ -10,7 +10,7 @@ use Rattle.map_build.specs.declared.frame_map.FrameMap.{FrameMap}
 use Rattle.minislots.specs.declared.config.Config.{Config}
 use Rattle.sched_history.specs.declared.reply.Reply.{Reply}
 use Rattle.sched_history.specs.declared.reply.Reply.TheVariants.{Admitted, Removed, Taken, Noted, Built, Skipped, Flow}
-use Rattle.sched_history.specs.declared.reply.Reply.TheVariants.{Refused}
+use Rattle.sched_history.specs.declared.reply.Reply.TheVariants.{Refused, Reserved}
 use Rattle.sched_history.specs.declared.reply.Refusal.{Refusal}
 use Rattle.sched_history.specs.declared.reply.Entry.{Entry}
 use Rattle.json_fields.specs.Fields.{u32_at, u64_at, number_at, text_at}
@@ -70,6 +70,7 @@ reply_of-data (Admitted (Some p)) fits =
 reply_of-data Removed fits = refl
 reply_of-data Taken fits = refl
 reply_of-data Noted fits = refl
+reply_of-data Reserved fits = refl
 reply_of-data (Built m) fits = map_reply-data m fits
 reply_of-data (Skipped next) fits = rw (below-fits (2 ^ 64) next fits) refl
 reply_of-data (Flow asked granted outstanding) fits =

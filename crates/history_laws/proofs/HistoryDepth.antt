@@ -6,10 +6,12 @@ use Rattle.minislots.specs.declared.config.Config.{Config}
 use Rattle.flow_book.specs.declared.spec.FlowSpec.{FlowSpec}
 use Rattle.flow_book.specs.declared.spec.FlowSpec.TheVariants.{Unsolicited, Polled, BestEffort}
 use Rattle.sched_history.specs.declared.call.Call.{Call}
+use Rattle.map_build.specs.declared.opportunity.Usage.TheVariants.{Initial, Station}
 use Rattle.sched_history.specs.declared.call.Call.TheVariants.{Admit, Remove, Ask, Heard, Build, Skip, Status}
+use Rattle.sched_history.specs.declared.call.Call.TheVariants.{Reserve, Header}
 use Rattle.sched_history.specs.declared.reply.Reply.{Reply}
 use Rattle.sched_history.specs.declared.reply.Reply.TheVariants.{Admitted, Removed, Taken, Noted, Built, Skipped, Flow}
-use Rattle.sched_history.specs.declared.reply.Reply.TheVariants.{Refused}
+use Rattle.sched_history.specs.declared.reply.Reply.TheVariants.{Refused, Reserved}
 use Rattle.sched_history.specs.declared.reply.Entry.{Entry}
 use Rattle.history_writing.specs.Json.{count, counts, flow_data, call_data, plain_data, placed_data, map_data}
 use Rattle.history_writing.specs.Json.{refused_data}
@@ -40,6 +42,9 @@ depth-call (Heard receiver upto) = omega arith
 depth-call (Build now) = omega arith
 depth-call (Skip now) = omega arith
 depth-call (Status sid) = omega arith
+depth-call (Reserve Initial slots) = omega arith
+depth-call (Reserve (Station sid) slots) = omega arith
+depth-call (Header count ranging_start ranging_end data_start data_end) = omega arith
 
 depth-refused : (n : ℕ) (value : Option ℕ) → depth (refused_data n value) ≤ 2
 unfolding refused_data
@@ -53,6 +58,7 @@ depth-reply (Admitted (Some p)) = let e = depth-counts p.starts in omega (arith,
 depth-reply Removed = omega arith
 depth-reply Taken = omega arith
 depth-reply Noted = omega arith
+depth-reply Reserved = omega arith
 depth-reply (Built m) = let e = depth-counts m.bytes in omega (arith, e)
 depth-reply (Skipped next) = omega arith
 depth-reply (Flow asked granted outstanding) = omega arith

@@ -17,7 +17,7 @@ use Rattle.map_build.specs.declared.frame_map.FrameMap.{FrameMap}
 use Rattle.minislots.specs.declared.config.Config.{Config}
 use Rattle.sched_history.specs.declared.reply.Reply.{Reply}
 use Rattle.sched_history.specs.declared.reply.Reply.TheVariants.{Admitted, Removed, Taken, Noted, Built, Skipped, Flow}
-use Rattle.sched_history.specs.declared.reply.Reply.TheVariants.{Refused}
+use Rattle.sched_history.specs.declared.reply.Reply.TheVariants.{Refused, Reserved}
 use Rattle.sched_history.specs.declared.reply.Entry.{Entry}
 use Rattle.history_writing.specs.Json.{counts, plain_data, placed_data, map_data, refused_data}
 use Rattle.history_writing.specs.Json.{reply_data}
@@ -83,6 +83,7 @@ reply_readable (Admitted (Some p)) fits = (
 reply_readable Removed fits = (refl, (refl, name (codes "removed") refl, tt))
 reply_readable Taken fits = (refl, (refl, name (codes "taken") refl, tt))
 reply_readable Noted fits = (refl, (refl, name (codes "noted") refl, tt))
+reply_readable Reserved fits = (refl, (refl, name (codes "reserved") refl, tt))
 reply_readable (Built m) fits = map_readable m fits
 reply_readable (Skipped next) fits = (refl, (refl, name (codes "skipped") refl, (refl, fits, tt)))
 reply_readable (Flow asked granted outstanding) fits =

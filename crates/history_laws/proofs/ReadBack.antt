@@ -10,11 +10,14 @@ use Rattle.minislots.specs.declared.config.Config.{Config}
 use Rattle.flow_book.specs.declared.spec.FlowSpec.{FlowSpec}
 use Rattle.flow_book.specs.declared.spec.FlowSpec.TheVariants.{Unsolicited, Polled, BestEffort}
 use Rattle.sched_history.specs.declared.call.Call.{Call}
+use Rattle.map_build.specs.declared.opportunity.Usage.TheVariants.{Initial, Station}
 use Rattle.sched_history.specs.declared.call.Call.TheVariants.{Admit, Remove, Ask, Heard, Build, Skip, Status}
+use Rattle.sched_history.specs.declared.call.Call.TheVariants.{Reserve, Header}
 use Rattle.json_fields.specs.Fields.{below, number_at, u8_at, u16_at, u32_at, u64_at, text_at, slots_of, sizes_of}
 use Rattle.json_fields.specs.Fields.{counts_of, windows_of, u8_or, config_of}
 use Rattle.call_reading.specs.Calls.{unsolicited_of, polled_of, best_effort_of, flow_of, admit_call, remove_call}
-use Rattle.call_reading.specs.Calls.{ask_call, heard_call, build_call, skip_call, status_call, call_of}
+use Rattle.call_reading.specs.Calls.{ask_call, heard_call, build_call, skip_call, status_call, usage_of, reserve_call}
+use Rattle.call_reading.specs.Calls.{header_call, call_of}
 use Rattle.script_reading.specs.Script.{calls_of, script_of}
 use Rattle.history_writing.specs.Json.{flow_data, call_data}
 use Rattle.history_writing.specs.HistoryText.{config_data}
@@ -41,8 +44,8 @@ flow_of-data (BestEffort priority rate burst) fits =
 
 -- a call is read back
 pub call_of-data : (call : Call) → CallFits call → call_of (call_data call) ≡ Some call
-unfolding call_of admit_call remove_call ask_call heard_call build_call skip_call status_call u8_at u16_at u32_at u64_at
-    number_at text_at call_data
+unfolding call_of admit_call remove_call ask_call heard_call build_call skip_call status_call usage_of reserve_call
+    header_call u8_at u16_at u32_at u64_at number_at text_at call_data
 call_of-data (Admit sid spec) fits = rw (below-fits (2 ^ 16) sid fits.0) (
     rw (flow_of-data spec fits.1) refl)
 call_of-data (Remove sid) fits = rw (below-fits (2 ^ 16) sid fits) refl
@@ -55,6 +58,13 @@ call_of-data (Heard receiver upto) fits = rw (below-fits (2 ^ 8) receiver fits.0
 call_of-data (Build now) fits = rw (below-fits (2 ^ 64) now fits) refl
 call_of-data (Skip now) fits = rw (below-fits (2 ^ 64) now fits) refl
 call_of-data (Status sid) fits = rw (below-fits (2 ^ 16) sid fits) refl
+call_of-data (Reserve Initial slots) fits = rw (below-fits (2 ^ 32) slots fits) refl
+call_of-data (Reserve (Station sid) slots) fits =
+    rw (below-fits (2 ^ 16) sid fits.0) (rw (below-fits (2 ^ 32) slots fits.1) refl)
+call_of-data (Header count ranging_start ranging_end data_start data_end) fits =
+    rw (below-fits (2 ^ 8) count fits.0) (
+    rw (below-fits (2 ^ 8) ranging_start fits.1) (rw (below-fits (2 ^ 8) ranging_end fits.2)
+    (rw (below-fits (2 ^ 8) data_start fits.3) (rw (below-fits (2 ^ 8) data_end fits.4) refl))))
 
 -- a configuration is read back
 pub config_of-data : (c : Config) → ConfigFits c → config_of (config_data c) ≡ Some c

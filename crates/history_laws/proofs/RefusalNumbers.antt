@@ -8,7 +8,7 @@ use Rattle.sched_history.specs.declared.reply.Refusal.{Refusal}
 use Rattle.sched_history.specs.declared.reply.Refusal.TheVariants.{BadSid, SidLive, BadFlow, FlowsFull, PeriodicFull}
 use Rattle.sched_history.specs.declared.reply.Refusal.TheVariants.{NoPlace, NoFlow, NotAsking, BadReceiver, BadBytes}
 use Rattle.sched_history.specs.declared.reply.Refusal.TheVariants.{Acked, Ahead, Backwards, BadClock, TooEarly, Late}
-use Rattle.sched_history.specs.declared.reply.Refusal.TheVariants.{NotLate}
+use Rattle.sched_history.specs.declared.reply.Refusal.TheVariants.{NotLate, BadLength, ReservesFull, BadBackoff}
 use Rattle.sched_lines.specs.Line.{refusal_number, refusal_value}
 use Rattle.history_reading.specs.Refusals.{fault_with, slot_refusals, flow_refusals, refusal_with}
 
@@ -46,6 +46,9 @@ refusal_with-number BadClock = refl
 refusal_with-number (TooEarly slot) = past_flow (fault_with slot) 15 (slot_refusals slot) refl
 refusal_with-number (Late slot) = past_flow (fault_with slot) 16 (slot_refusals slot) refl
 refusal_with-number (NotLate slot) = past_flow (fault_with slot) 17 (slot_refusals slot) refl
+refusal_with-number BadLength = refl
+refusal_with-number ReservesFull = refl
+refusal_with-number BadBackoff = refl
 
 -- the number of a refusal is small
 pub number_fits : (refusal : Refusal) → refusal_number refusal < 2 ^ 64
@@ -66,3 +69,6 @@ number_fits BadClock = lit< tt
 number_fits (TooEarly slot) = lit< tt
 number_fits (Late slot) = lit< tt
 number_fits (NotLate slot) = lit< tt
+number_fits BadLength = lit< tt
+number_fits ReservesFull = lit< tt
+number_fits BadBackoff = lit< tt

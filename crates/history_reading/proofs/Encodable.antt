@@ -16,7 +16,7 @@ use Rattle.minislots.specs.declared.config.ConfigFault.{ConfigFault}
 use Rattle.minislots.specs.Config.{first_wrong}
 use Rattle.sched_history.specs.Machine.{IsEncodable}
 use Rattle.sched_history.specs.declared.reply.Reply.{Reply}
-use Rattle.sched_history.specs.declared.reply.Reply.TheVariants.{Admitted, Removed, Taken, Noted}
+use Rattle.sched_history.specs.declared.reply.Reply.TheVariants.{Admitted, Removed, Taken, Noted, Reserved}
 use Rattle.sched_history.specs.declared.reply.Entry.{Entry}
 use Rattle.text_stream.specs.declared.fault.TextFault.{TextFault}
 use Rattle.text_stream.specs.declared.fault.TextFault.TheVariants.{Shape}
@@ -114,7 +114,8 @@ reply_of-encodable d =
     (either (bytes_eq kind (codes "map")) (map_reply d) _ (map_reply-encodable d)
     (either (bytes_eq kind (codes "skipped")) (skipped_reply d) _ (skipped_reply-encodable d)
     (either (bytes_eq kind (codes "flow")) (flow_reply d) _ (flow_reply-encodable d)
-    (either (bytes_eq kind (codes "refused")) (refused_reply d) None (refused_reply-encodable d) tt))))))))
+    (either (bytes_eq kind (codes "refused")) (refused_reply d) _ (refused_reply-encodable d)
+    (either (bytes_eq kind (codes "reserved")) (Some Reserved) None tt tt)))))))))
 
 -- the MAP of an entry is well formed
 abbrev HasBytes : Entry → Type 0

@@ -51,6 +51,11 @@ refusal_parts d = do
   n ← u64_at (codes "number") d
   u64_if (codes "value") d
 
-refusals : takes_forms (λ d. is_some (refusal_parts d)) inner (drop 7 REPLIES) ≡ true
+refusals : takes_forms (λ d. is_some (refusal_parts d)) inner (take 1 (drop 7 REPLIES)) ≡ true
 unfolding u64_if u64_at number_at text_at
 refusals = refl
+
+-- Reserves
+reserves : takes_forms (λ d. is_some (reply_of d)) inner (drop 8 REPLIES) ≡ true
+unfolding reply_of text_at
+reserves = refl

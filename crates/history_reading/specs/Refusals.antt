@@ -7,7 +7,7 @@ use Rattle.sched_history.specs.declared.reply.Refusal.{Refusal}
 use Rattle.sched_history.specs.declared.reply.Refusal.TheVariants.{BadSid, SidLive, BadFlow, FlowsFull, PeriodicFull}
 use Rattle.sched_history.specs.declared.reply.Refusal.TheVariants.{NoPlace, NoFlow, NotAsking, BadReceiver, BadBytes}
 use Rattle.sched_history.specs.declared.reply.Refusal.TheVariants.{Acked, Ahead, Backwards, BadClock, TooEarly, Late}
-use Rattle.sched_history.specs.declared.reply.Refusal.TheVariants.{NotLate}
+use Rattle.sched_history.specs.declared.reply.Refusal.TheVariants.{NotLate, BadLength, ReservesFull, BadBackoff}
 use Rattle.sched_lines.specs.Line.{fault_number, refusal_number, refusal_value}
 
 -- the faults in a flow's parameters
@@ -21,7 +21,8 @@ fault_with n = find (λ fault. fault_number fault == n) flow_faults
 -- the refusals that have no value
 abbrev pub plain_refusals : List Refusal
 plain_refusals =
-    BadSid ∷ SidLive ∷ FlowsFull ∷ PeriodicFull ∷ NoPlace ∷ NoFlow ∷ NotAsking ∷ BadReceiver ∷ BadBytes ∷ BadClock ∷ []
+    BadSid ∷ SidLive ∷ FlowsFull ∷ PeriodicFull ∷ NoPlace ∷ NoFlow ∷ NotAsking ∷ BadReceiver ∷ BadBytes ∷ BadClock ∷ BadLength
+    ∷ ReservesFull ∷ BadBackoff ∷ []
 
 -- the refusals whose value is this minislot
 abbrev pub slot_refusals : ℕ → List Refusal

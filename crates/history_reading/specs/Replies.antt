@@ -11,7 +11,7 @@ use Rattle.map_codec.specs.WireMap.{map_in, spelling, IsWellFormed}
 use Rattle.map_codec.specs.DecodeFault.{fault_of}
 use Rattle.sched_history.specs.declared.reply.Reply.{Reply}
 use Rattle.sched_history.specs.declared.reply.Reply.TheVariants.{Admitted, Removed, Taken, Noted, Built, Skipped, Flow}
-use Rattle.sched_history.specs.declared.reply.Reply.TheVariants.{Refused}
+use Rattle.sched_history.specs.declared.reply.Reply.TheVariants.{Reserved, Refused}
 use Rattle.sched_history.specs.declared.reply.Entry.{Entry}
 use Rattle.json_fields.specs.Fields.{◌>>=◌, below, u32_at, u64_at, text_at}
 use Rattle.call_reading.specs.Calls.{call_of}
@@ -118,7 +118,8 @@ reply_of d = do
       else (if bytes_eq kind (codes "skipped") then skipped_reply d
       else (if bytes_eq kind (codes "flow") then flow_reply d
       else (if bytes_eq kind (codes "refused") then refused_reply d
-      else None)))))))
+      else (if bytes_eq kind (codes "reserved") then Some Reserved
+      else None))))))))
 
 -- the entry that an object stands for: a stamp, a call and a reply
 unfoldable pub entry_of : Data → Option Entry

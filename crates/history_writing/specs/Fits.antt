@@ -7,11 +7,13 @@ use Rattle.flow_book.specs.declared.spec.FlowSpec.{FlowSpec}
 use Rattle.flow_book.specs.declared.spec.FlowSpec.TheVariants.{Unsolicited, Polled, BestEffort}
 use Rattle.periodic.specs.declared.placement.Placement.{Placement}
 use Rattle.map_build.specs.declared.frame_map.FrameMap.{FrameMap}
+use Rattle.map_build.specs.declared.opportunity.Usage.TheVariants.{Initial, Station}
 use Rattle.sched_history.specs.declared.call.Call.{Call}
 use Rattle.sched_history.specs.declared.call.Call.TheVariants.{Admit, Remove, Ask, Heard, Build, Skip, Status}
+use Rattle.sched_history.specs.declared.call.Call.TheVariants.{Reserve, Header}
 use Rattle.sched_history.specs.declared.reply.Reply.{Reply}
 use Rattle.sched_history.specs.declared.reply.Reply.TheVariants.{Admitted, Removed, Taken, Noted, Built, Skipped, Flow}
-use Rattle.sched_history.specs.declared.reply.Reply.TheVariants.{Refused}
+use Rattle.sched_history.specs.declared.reply.Reply.TheVariants.{Reserved, Refused}
 use Rattle.sched_history.specs.declared.reply.Entry.{Entry}
 use Rattle.sched_lines.specs.Line.{refusal_value}
 
@@ -32,6 +34,10 @@ CallFits (Heard receiver upto) = (receiver < 2 ^ 8) × (upto < 2 ^ 64)
 CallFits (Build now) = now < 2 ^ 64
 CallFits (Skip now) = now < 2 ^ 64
 CallFits (Status sid) = sid < 2 ^ 16
+CallFits (Reserve Initial slots) = slots < 2 ^ 32
+CallFits (Reserve (Station sid) slots) = (sid < 2 ^ 16) × (slots < 2 ^ 32)
+CallFits (Header count ranging_start ranging_end data_start data_end) = (count < 2 ^ 8) × (ranging_start < 2 ^ 8)
+    × (ranging_end < 2 ^ 8) × (data_start < 2 ^ 8) × (data_end < 2 ^ 8)
 
 -- the numbers of a configuration fit their types
 pub record ConfigFits (c : Config) : Type 0 where
@@ -80,6 +86,7 @@ ReplyFits (Admitted placement) = PlacementFits placement
 ReplyFits Removed = Unit {0}
 ReplyFits Taken = Unit {0}
 ReplyFits Noted = Unit {0}
+ReplyFits Reserved = Unit {0}
 ReplyFits (Built m) = MapFits m
 ReplyFits (Skipped next) = next < 2 ^ 64
 ReplyFits (Flow asked granted outstanding) = (asked < 2 ^ 64) × (granted < 2 ^ 64) × (outstanding < 2 ^ 64)

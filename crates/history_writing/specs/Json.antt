@@ -9,11 +9,13 @@ use Rattle.flow_book.specs.declared.spec.FlowSpec.{FlowSpec}
 use Rattle.flow_book.specs.declared.spec.FlowSpec.TheVariants.{Unsolicited, Polled, BestEffort}
 use Rattle.periodic.specs.declared.placement.Placement.{Placement}
 use Rattle.map_build.specs.declared.frame_map.FrameMap.{FrameMap}
+use Rattle.map_build.specs.declared.opportunity.Usage.TheVariants.{Initial, Station}
 use Rattle.sched_history.specs.declared.call.Call.{Call}
 use Rattle.sched_history.specs.declared.call.Call.TheVariants.{Admit, Remove, Ask, Heard, Build, Skip, Status}
+use Rattle.sched_history.specs.declared.call.Call.TheVariants.{Reserve, Header}
 use Rattle.sched_history.specs.declared.reply.Reply.{Reply}
 use Rattle.sched_history.specs.declared.reply.Reply.TheVariants.{Admitted, Removed, Taken, Noted, Built, Skipped, Flow}
-use Rattle.sched_history.specs.declared.reply.Reply.TheVariants.{Refused}
+use Rattle.sched_history.specs.declared.reply.Reply.TheVariants.{Reserved, Refused}
 use Rattle.sched_lines.specs.Line.{refusal_number, refusal_value}
 
 -- a whole number
@@ -58,6 +60,17 @@ call_data (Skip now) = object (member (codes "call") (string (codes "skip"))
     (member (codes "now") (count now) no_members))
 call_data (Status sid) = object (member (codes "call") (string (codes "status"))
     (member (codes "sid") (count sid) no_members))
+call_data (Reserve Initial slots) = object (
+    member (codes "call") (string (codes "reserve")) (member (codes "slots") (count slots) (
+    member (codes "usage") (string (codes "initial")) no_members)))
+call_data (Reserve (Station sid) slots) = object (
+    member (codes "call") (string (codes "reserve")) (member (codes "sid") (count sid) (
+    member (codes "slots") (count slots) (member (codes "usage") (string (codes "station")) no_members))))
+call_data (Header count_of_ucd ranging_start ranging_end data_start data_end) = object (
+    member (codes "call") (string (codes "header")) (member (codes "data_end") (count data_end) (
+    member (codes "data_start") (count data_start) (member (codes "ranging_end") (count ranging_end) (
+    member (codes "ranging_start") (count ranging_start) (
+    member (codes "ucd_count") (count count_of_ucd) no_members))))))
 
 -- a reply of this kind that says nothing more
 unfoldable pub plain_data : List ℕ → Data
@@ -91,6 +104,7 @@ reply_data (Admitted (Some p)) = placed_data p
 reply_data Removed = plain_data (codes "removed")
 reply_data Taken = plain_data (codes "taken")
 reply_data Noted = plain_data (codes "noted")
+reply_data Reserved = plain_data (codes "reserved")
 reply_data (Built m) = map_data (codes "map") m
 reply_data (Skipped next) = object (
     member (codes "kind") (string (codes "skipped")) (member (codes "next") (count next) no_members))

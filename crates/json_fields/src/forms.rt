@@ -143,8 +143,21 @@ const UPTO: Member = ("upto", U64, MUST);
 
 const NOW: Member = ("now", Holds::Lawful(u64::MAX, 0, 1 << 60), MUST);
 
+const USAGE: Member = ("usage", Holds::Name, MUST);
+
+// For one modem alone.
+const SID_OF_STATION: Member = (
+    "sid",
+    Holds::Lawful(u16::MAX as u64, 1, 8191),
+    Missing::Nothing,
+);
+
+const SLOTS: Member = ("slots", U32, MUST);
+
+const EXPONENT: Holds = Holds::Lawful(u8::MAX as u64, 0, 15);
+
 /// The forms of a call.
-pub static CALLS: [Form; 7] = [
+pub static CALLS: [Form; 9] = [
     ("admit", &[CALL, SID, FLOW]),
     ("remove", &[CALL, SID]),
     ("ask", &[CALL, RECEIVER, SID, BYTES, HEARD]),
@@ -152,6 +165,18 @@ pub static CALLS: [Form; 7] = [
     ("build", &[CALL, NOW]),
     ("skip", &[CALL, NOW]),
     ("status", &[CALL, SID]),
+    ("reserve", &[CALL, USAGE, SID_OF_STATION, SLOTS]),
+    (
+        "header",
+        &[
+            CALL,
+            ("ucd_count", U8, MUST),
+            ("ranging_start", EXPONENT, MUST),
+            ("ranging_end", EXPONENT, MUST),
+            ("data_start", EXPONENT, MUST),
+            ("data_end", EXPONENT, MUST),
+        ],
+    ),
 ];
 
 const KIND: Member = ("kind", Holds::Name, MUST);
@@ -217,7 +242,7 @@ const NUMBER: Member = ("number", U64, MUST);
 const VALUE: Member = ("value", U64, Missing::Nothing);
 
 /// The most forms that a sort has.
-pub const MOST_FORMS: usize = 8;
+pub const MOST_FORMS: usize = 9;
 
 /// The forms of a reply.
 pub static REPLIES: [Form; MOST_FORMS] = [
@@ -229,4 +254,5 @@ pub static REPLIES: [Form; MOST_FORMS] = [
     ("skipped", &[KIND, NEXT]),
     ("flow", &[KIND, ASKED, GRANTED, OUTSTANDING]),
     ("refused", &[KIND, NUMBER, VALUE]),
+    ("reserved", &[KIND]),
 ];

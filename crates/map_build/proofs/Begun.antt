@@ -1,6 +1,6 @@
 -- A draft with the request region alone has the plan of nothing.
-use Rattle.std.proofs.Common.{◌≡◌, ℕ, ◌+◌, ◌≤◌, ◌^◌, List, [], ◌∷◌, refl, sym, ap, ◌∙◌, arith}
-use Rattle.std.specs.List.{AllByRecursion}
+use Rattle.std.proofs.Common.{◌≡◌, ℕ, zero, suc, ◌+◌, ◌≤◌, ◌^◌, Bool, true, false, Some, length, replicate, List, [], ◌∷◌, refl, sym, ap, ◌∙◌, arith}
+use Rattle.std.specs.List.{AllByRecursion, slice_get}
 use Rattle.minislots.specs.declared.config.Config.{Config}
 use Rattle.minislots.specs.Config.{IsLawful, HasBounds}
 use Rattle.minislots.proofs.Bounds.{bounds_of}
@@ -10,7 +10,8 @@ use Rattle.flow_book.specs.Book.{IsLive, room_of}
 use Rattle.flow_book.specs.Choice.{HasStartedBy}
 use Rattle.periodic.specs.declared.placement.Spot.{Spot}
 use Rattle.map_build.specs.declared.draft.Draft.{Draft}
-use Rattle.map_build.specs.Plan.{most_grants}
+use Rattle.map_build.specs.declared.TheConstants.{MAX_DATA_GRANTS, MAX_WAITING}
+use Rattle.map_build.specs.Plan.{Demand}
 use Rattle.map_build.specs.Spots.{IsInFrame, AreInFrame}
 use Rattle.map_build.specs.Draft.{Puts}
 use Rattle.map_build.specs.Walk.{AreTaken, HasPlan}
@@ -35,8 +36,16 @@ pub record IsBegun (c : Config) (flows : List LiveFlow) (start : ℕ) (d : Draft
   pub grants : d.grants ≡ 0
   pub elements : d.elements.items ≡ []
   pub bytes_of : d.bytes.items ≡ []
-  pub room : (sid : ℕ) → IsLive sid d.book.flows → most_grants ≤ room_of sid d.book.rooms
+  pub room : (sid : ℕ) → IsLive sid d.book.flows → MAX_DATA_GRANTS ≤ room_of sid d.book.rooms
+  pub marks : length d.met ≡ MAX_WAITING
+  pub unmarked : (place : ℕ) → slice_get d.met place ≡ Some true → ⊥
   pub started : AllByRecursion (HasStartedBy start) flows
+
+-- of places that are all unmarked none is marked
+pub none-marked : (n place : ℕ) → slice_get (replicate n false) place ≡ Some true → ⊥
+none-marked zero place is = absurd (cc)
+none-marked (suc n) zero is = absurd (cc)
+none-marked (suc n) (suc place) is = none-marked n place is
 
 started-flows : (early late : ℕ) (flows : List LiveFlow) → early ≤ late → AllByRecursion (HasStartedBy early) flows →
     AllByRecursion (HasStartedBy late) flows
@@ -47,14 +56,13 @@ started-flows early late (f ∷ flows) le all = (
 )
 
 -- with the request region it has the plan of nothing
-pub HasPlan-begun : (c : Config) (flows : List LiveFlow) (spots : List Spot) (start : ℕ) (old new : Draft) →
-    IsBegun c flows start old →
-    Puts 16383 REQUEST c.req_slots 0 old new → AreInFrame c spots → HasPlan c flows spots start [] new
-HasPlan-begun c flows spots start old new begun puts are =
+pub HasPlan-begun : (c : Config) (d : Demand) (old new : Draft) → IsBegun c d.flows d.start old →
+    Puts 16383 REQUEST c.req_slots 0 old new → AreInFrame c d.spots → HasPlan c d [] new
+HasPlan-begun c d old new begun puts are =
     let bounds : HasBounds c = bounds_of c begun.lawful in
     let same : new.book.config ≡ c = ap (λ b. b.config) puts.book ∙ begun.config in
     let at : new.offset ≡ c.req_slots = omega (arith, puts.offset, begun.offset) in
-    let flows_are : new.book.flows ≡ flows = ap (λ b. b.flows) puts.book ∙ begun.flows_are in
+    let flows_are : new.book.flows ≡ d.flows = ap (λ b. b.flows) puts.book ∙ begun.flows_are in
     record {
       config = same;
       starts = puts.start ∙ begun.starts;
@@ -62,18 +70,23 @@ HasPlan-begun c flows spots start old new begun puts are =
         lawful = rw same begun.lawful;
         near = omega (arith, puts.start, begun.starts, begun.bounded);
         inside = omega (arith, at, bounds.requests_fit, ap (λ k. k.frame) same);
+        marks = ap (λ (met : List Bool). length met) puts.met ∙ begun.marks;
         few = omega (arith, puts.grants, begun.grants);
         room = λ sid live. rw puts.book (omega (arith, begun.room sid (rw puts.book at live)));
-        started = rw (flows_are, at, puts.start, begun.starts) (started-flows start (start + c.req_slots) flows
+        started = rw (flows_are, at, puts.start, begun.starts) (started-flows d.start (d.start + c.req_slots) d.flows
             (omega arith) begun.started);
       };
       after = record {
-        flows_now = flows_are ∙ sym (flows_after-nil new.start flows);
+        flows_now = flows_are ∙ sym (flows_after-nil new.start d.flows);
         ends = omega (arith, at, ap (λ k. k.req_slots) same);
         grants = omega (arith, puts.grants, begun.grants);
+        met = record {
+          each = λ place is. absurd (begun.unmarked place (rw puts.met at is));
+          all = λ place is. absurd (omega (arith, is.1.1));
+        };
       };
       elements = puts.elements ∙ rw (begun.elements, begun.offset) refl;
       bytes_of = puts.bytes_of ∙ rw begun.bytes_of refl;
       each = tt;
-      taken = begun-taken c spots new.offset (omega (arith, at)) are.each;
+      taken = begun-taken c d.spots new.offset (omega (arith, at)) are.each;
     }

@@ -5,10 +5,12 @@ use Rattle.std.proofs.lemmas.Bool.{cases_lt}
 use Rattle.std.proofs.lemmas.List.{length_push, get_or_append_left}
 use Rattle.std.proofs.lemmas.List.Elements.{Contains-push}
 use Rattle.minislots.specs.declared.config.Config.{Config}
-use Rattle.flow_book.specs.Flows.{LiveFlow}
 use Rattle.periodic.specs.declared.placement.Spot.{Spot}
-use Rattle.map_build.specs.Plan.{Purpose, Poll, UnsolicitedGrant, DataGrant, Idle, Allocation, next_stop, grants_in}
-use Rattle.map_build.specs.Plan.{most_grants, StandsByItsRule, allocation_of}
+use Rattle.map_build.specs.declared.purpose.Allocation.{Allocation}
+use Rattle.map_build.specs.declared.purpose.Purpose.{Purpose}
+use Rattle.map_build.specs.declared.purpose.Purpose.TheVariants.{Poll, UnsolicitedGrant, Offer, DataGrant, Idle}
+use Rattle.map_build.specs.Purpose.{allocation_of}
+use Rattle.map_build.specs.Plan.{Demand, next_stop, grants_in, most_grants, IsOfRank}
 use Rattle.map_build.specs.Spots.{AreInFrame}
 use Rattle.map_build.specs.Walk.{AreTaken}
 use Rattle.map_build.proofs.FlowsAfter.{allocation}
@@ -16,14 +18,14 @@ use Rattle.map_build.proofs.Stops.{next_stop-most, next_stop-least, next_stop-sp
 use Rattle.map_build.proofs.Standings.{spot-within, spots-apart}
 
 -- one data grant more is at most the most
-pub grants-within : (c : Config) (flows : List LiveFlow) (spots : List Spot) (start : ℕ) (before : List Allocation)
-    (offset slots : ℕ) (purpose : Purpose) →
-    StandsByItsRule c flows spots start before offset slots purpose → grants_in before ≤ most_grants →
-    grants_in before + grants_in (allocation offset slots purpose ∷ []) ≤ most_grants
-grants-within c flows spots start before offset slots (Poll sid) stands few = omega arith
-grants-within c flows spots start before offset slots (UnsolicitedGrant sid) stands few = omega arith
-grants-within c flows spots start before offset slots (DataGrant sid bytes) stands few = omega (arith, stands.0)
-grants-within c flows spots start before offset slots Idle stands few = omega arith
+pub grants-within : (c : Config) (d : Demand) (before : List Allocation) (offset slots : ℕ) (purpose : Purpose) →
+    IsOfRank c d before offset slots purpose → grants_in before ≤ most_grants d.waiting →
+    grants_in before + grants_in (allocation offset slots purpose ∷ []) ≤ most_grants d.waiting
+grants-within c d before offset slots (Poll sid) stands few = omega arith
+grants-within c d before offset slots (UnsolicitedGrant sid) stands few = omega arith
+grants-within c d before offset slots (Offer place usage) stands few = omega arith
+grants-within c d before offset slots (DataGrant sid bytes) stands few = omega (arith, stands.0)
+grants-within c d before offset slots Idle stands few = omega arith
 
 -- from the offset to the end of what stands there no spot begins but it
 abbrev pub IsClear : Config → List Spot → Allocation → Type 0
@@ -45,23 +47,25 @@ clear-room c spots a inside fits = (
 )
 
 -- what stands there is clear of other spots
-pub clear-purpose : (c : Config) (flows : List LiveFlow) (spots : List Spot) (start : ℕ) (before : List Allocation)
-    (offset slots : ℕ) (purpose : Purpose) →
-    AreInFrame c spots → offset ≤ c.frame → 0 < slots →
-    StandsByItsRule c flows spots start before offset slots purpose →
-    IsClear c spots (allocation offset slots purpose)
-clear-purpose c flows spots start before offset slots (Poll sid) are inside some stands =
-    clear-spot c spots (record { sid = sid; poll = true; offset = offset; slots = slots }) are stands
-clear-purpose c flows spots start before offset slots (UnsolicitedGrant sid) are inside some stands =
-    clear-spot c spots (record { sid = sid; poll = false; offset = offset; slots = slots }) are stands
-clear-purpose c flows spots start before offset slots (DataGrant sid bytes) are inside some stands =
-    clear-room c spots (record { offset = offset; slots = slots; purpose = DataGrant sid bytes }) inside
-    (omega (arith, stands.4.allowed.taken.fits, stands.5, next_stop-least c spots offset inside))
-clear-purpose c flows spots start before offset slots Idle are inside some stands =
-    clear-room c spots (record { offset = offset; slots = slots; purpose = Idle }) inside
-    (omega (arith, stands.0, next_stop-least c spots offset inside))
+pub clear-purpose : (c : Config) (d : Demand) (before : List Allocation) (offset slots : ℕ) (purpose : Purpose) →
+    AreInFrame c d.spots → offset ≤ c.frame → 0 < slots → IsOfRank c d before offset slots purpose →
+    IsClear c d.spots (allocation offset slots purpose)
+clear-purpose c d before offset slots (Poll sid) are inside some stands =
+    clear-spot c d.spots (record { sid = sid; poll = true; offset = offset; slots = slots }) are stands
+clear-purpose c d before offset slots (UnsolicitedGrant sid) are inside some stands =
+    clear-spot c d.spots (record { sid = sid; poll = false; offset = offset; slots = slots }) are stands
+clear-purpose c d before offset slots (Offer place usage) are inside some stands =
+    clear-room c d.spots (record { offset = offset; slots = slots; purpose = Offer place usage }) inside
+    (omega (arith, stands.may.fits, next_stop-least c d.spots offset inside))
+clear-purpose c d before offset slots (DataGrant sid bytes) are inside some stands =
+    clear-room c d.spots (record { offset = offset; slots = slots; purpose = DataGrant sid bytes }) inside
+    (omega (arith, stands.4.allowed.taken.fits, stands.5, next_stop-least c d.spots offset inside))
+clear-purpose c d before offset slots Idle are inside some stands =
+    clear-room c d.spots (record { offset = offset; slots = slots; purpose = Idle }) inside
+    (omega (arith, stands, next_stop-least c d.spots offset inside))
 
-contains-more : {X : Type 0} (xs : List X) (x y : X) → Contains xs y → Contains (xs ++ x ∷ []) y
+-- a list with one member more behind contains what it did
+pub contains-more : {X : Type 0} (xs : List X) (x y : X) → Contains xs y → Contains (xs ++ x ∷ []) y
 contains-more xs x y (k, lt, at) = (k, omega (arith, length_push xs x), get_or_append_left xs (x ∷ []) y k lt ∙ at)
 
 -- a list with one member more in front contains what it did

@@ -1,16 +1,20 @@
--- How many allocations a lawful plan has: at most 93 data grants, the spots, and an idle before each spot and
--- at the end.
+-- How many allocations a lawful plan has: at most 93 data grants and opportunities, the spots, and an idle before each
+-- spot and at the end.
 use Rattle.std.proofs.Common.{◌≡◌, ℕ, zero, suc, ◌+◌, ◌*◌, ◌<◌, ◌≤◌, ◌⊎◌, inl, inr, Bool, true, false, nat_le, List}
 use Rattle.std.proofs.Common.{[], ◌∷◌, ◌++◌, length, Contains, if◌then◌else◌, refl, ap, ◌∙◌, arith}
 use Rattle.std.proofs.lemmas.Bool.Decides.{nat_tests}
 use Rattle.std.proofs.lemmas.List.Sums.{sum_by_push}
 use Rattle.minislots.specs.declared.config.Config.{Config}
-use Rattle.flow_book.specs.Flows.{LiveFlow}
 use Rattle.periodic.specs.declared.placement.Spot.{Spot}
 use Rattle.map_build.specs.EachAfter.{EachAfter}
-use Rattle.map_build.specs.Plan.{Purpose, Poll, UnsolicitedGrant, DataGrant, Idle, Allocation, next_stop, grants_in}
-use Rattle.map_build.specs.Plan.{end_of, is_data_grant, most_grants, Stands, StandsByItsRule}
+use Rattle.map_build.specs.declared.TheConstants.{MAX_DATA_GRANTS, MAX_WAITING}
+use Rattle.map_build.specs.declared.purpose.Allocation.{Allocation}
+use Rattle.map_build.specs.declared.purpose.Purpose.{Purpose}
+use Rattle.map_build.specs.declared.purpose.Purpose.TheVariants.{Poll, UnsolicitedGrant, Offer, DataGrant, Idle}
+use Rattle.map_build.specs.Purpose.{is_data_grant}
+use Rattle.map_build.specs.Plan.{Demand, next_stop, grants_in, end_of, most_grants, Stands, IsOfRank}
 use Rattle.map_build.proofs.FlowsAfter.{allocation}
+use Rattle.map_build.proofs.Offers.{unmet, unmet-most, unmet-push, unmet-fewer, unmet-test, place-below}
 use Rattle.map_build.proofs.Stops.{next_stop-again}
 
 -- a frame's end with one allocation more
@@ -51,78 +55,100 @@ spots_from-fewer m n (t ∷ spots) s (zero, lt, at) here less =
 spots_from-fewer m n (t ∷ spots) s (suc k, lt, at) here less =
     omega (arith, one_later m n t.offset (omega arith), spots_from-fewer m n spots s (k, omega arith, at) here less)
 
-module _ (c : Config) (flows : List LiveFlow) (spots : List Spot) (start : ℕ) (overhead : 0 < c.overhead) where
+module _ (c : Config) (d : Demand) (overhead : 0 < c.overhead) where
   -- an idle may stand next, or there is no room for one
   abbrev IsVacant : ℕ → ℕ → Type 0
-  IsVacant idles end = (1 ≤ idles) ⊎ (next_stop c spots end ≤ end)
+  IsVacant idles end = (1 ≤ idles) ⊎ (next_stop c d.spots end ≤ end)
+
+  -- the opportunities that wait and are not met
+  abbrev left_over : List Allocation → ℕ
+  left_over before = unmet before (length d.waiting)
 
   -- how many more allocations there may be
-  abbrev IsFew : ℕ → ℕ → ℕ → ℕ → Type 0
-  IsFew idles end grants more = more + grants ≤ most_grants + 2 * spots_from end spots + idles
+  abbrev IsFew : ℕ → ℕ → ℕ → ℕ → ℕ → Type 0
+  IsFew idles end grants waits more =
+      more + grants ≤ most_grants d.waiting + 2 * spots_from end d.spots + idles + waits
 
   few-step : (idles : ℕ) (before : List Allocation) (offset slots : ℕ) (purpose : Purpose) (more : ℕ) → 0 < slots →
-      grants_in before ≤ most_grants →
-      IsVacant idles offset → StandsByItsRule c flows spots start before offset slots purpose →
-      ((idles' : ℕ) → grants_in before + grants_in (allocation offset slots purpose ∷ []) ≤ most_grants →
+      grants_in before ≤ most_grants d.waiting →
+      IsVacant idles offset → IsOfRank c d before offset slots purpose →
+      ((idles' : ℕ) → grants_in before + grants_in (allocation offset slots purpose ∷ []) ≤ most_grants d.waiting →
       IsVacant idles' (offset + slots) →
-      IsFew idles' (offset + slots) (grants_in before + grants_in (allocation offset slots purpose ∷ [])) more) →
-      IsFew idles offset (grants_in before) (1 + more)
+      IsFew idles' (offset + slots) (grants_in before + grants_in (allocation offset slots purpose ∷ []))
+      (left_over (before ++ allocation offset slots purpose ∷ [])) more) →
+      IsFew idles offset (grants_in before) (left_over before) (1 + more)
   few-step idles before offset slots (Poll sid) more some few vacant stands rest =
       omega (
         arith,
         rest 1 (omega arith) (inl (omega arith)),
-        spots_from-fewer offset (offset + slots) spots _ stands
-            refl (omega arith),
+        spots_from-fewer offset (offset + slots) d.spots _ stands refl (omega arith),
+        unmet-push before (allocation offset slots (Poll sid)) (length d.waiting),
       )
   few-step idles before offset slots (UnsolicitedGrant sid) more some few vacant stands rest =
       omega (
         arith,
         rest 1 (omega arith) (inl (omega arith)),
-        spots_from-fewer offset (offset + slots) spots _ stands
-            refl (omega arith),
+        spots_from-fewer offset (offset + slots) d.spots _ stands refl (omega arith),
+        unmet-push before (allocation offset slots (UnsolicitedGrant sid)) (length d.waiting),
       )
+  few-step idles before offset slots (Offer place usage) more some few vacant stands rest = elim vacant [
+    | inl one ↦ omega (
+      arith,
+      rest idles (omega arith) (inl one),
+      spots_from-later offset (offset + slots) d.spots (omega arith),
+      unmet-fewer before (allocation offset slots (Offer place usage)) place (length d.waiting) refl
+          (unmet-test before place stands.may.unmet) (place-below d.waiting place _ stands.may.waits),
+    )
+    | inr full ↦ absurd (omega (arith, stands.may.fits))
+  ]
   few-step idles before offset slots (DataGrant sid bytes) more some few vacant stands rest = elim vacant [
     | inl one ↦ omega (
       arith,
       rest idles (omega (arith, stands.0)) (inl one),
-      spots_from-later offset (offset + slots)
-          spots (omega arith),
+      spots_from-later offset (offset + slots) d.spots (omega arith),
+      unmet-push before (allocation offset slots (DataGrant sid bytes)) (length d.waiting),
     )
     | inr full ↦ absurd (omega (arith, stands.4.allowed.taken.fits))
   ]
   few-step idles before offset slots Idle more some few vacant stands rest = elim vacant [
     | inl one ↦ (
-        let stop : offset + slots ≡ next_stop c spots offset = omega (arith, stands.0) in
-        let full : next_stop c spots (offset + slots) ≤ offset + slots = rw stop (next_stop-again c spots offset) in
-        omega (arith, rest 0 (omega arith) (inr full), spots_from-later offset (offset + slots) spots (omega arith)))
-    | inr full ↦ absurd (omega (arith, stands.0))
+        let stop : offset + slots ≡ next_stop c d.spots offset = omega (arith, stands) in
+        let full : next_stop c d.spots (offset + slots) ≤ offset + slots = rw stop (next_stop-again c d.spots offset) in
+        omega (
+          arith,
+          rest 0 (omega arith) (inr full),
+          spots_from-later offset (offset + slots) d.spots (omega arith),
+          unmet-push before (allocation offset slots Idle) (length d.waiting),
+        ))
+    | inr full ↦ absurd (omega (arith, stands))
   ]
 
-  few-allocations : (idles : ℕ) (before plan : List Allocation) → grants_in before ≤ most_grants →
-      IsVacant idles (end_of c before) →
-      EachAfter (Stands c flows spots start) before plan →
-      IsFew idles (end_of c before) (grants_in before) (length plan)
+  few-allocations : (idles : ℕ) (before plan : List Allocation) → grants_in before ≤ most_grants d.waiting →
+      IsVacant idles (end_of c before) → EachAfter (Stands c d) before plan →
+      IsFew idles (end_of c before) (grants_in before) (left_over before) (length plan)
   few-allocations idles before [] few vacant each = omega arith
   few-allocations idles before (a ∷ plan) few vacant each =
       let end : end_of c (before ++ a ∷ []) ≡ a.offset + a.slots =
       omega (arith, each.0.follows, end_of-push c before a) in
       let grants : grants_in (before ++ a ∷ []) ≡ grants_in before + grants_in (a ∷ []) =
       omega (arith, sum_by_push (λ (b : Allocation). if is_data_grant b.purpose then 1 else 0) before a) in
-      let rest : (idles' : ℕ) → grants_in before + grants_in (a ∷ []) ≤ most_grants
+      let rest : (idles' : ℕ) → grants_in before + grants_in (a ∷ []) ≤ most_grants d.waiting
       → IsVacant idles' (a.offset + a.slots) →
-      IsFew idles' (a.offset + a.slots) (grants_in before + grants_in (a ∷ [])) (length plan) =
+      IsFew idles' (a.offset + a.slots) (grants_in before + grants_in (a ∷ [])) (left_over (before ++ a ∷ []))
+      (length plan) =
       λ idles' few' vacant'. rw (← end, ← grants) (few-allocations idles' (before ++ a ∷ []) plan (rw grants few')
       (rw end vacant') each.1) in
-      let step : IsFew idles a.offset (grants_in before) (1 + length plan) =
+      let step : IsFew idles a.offset (grants_in before) (left_over before) (1 + length plan) =
       few-step idles before a.offset a.slots a.purpose (length plan) each.0.some_slots few (rw each.0.follows vacant)
       each.0.purpose rest in
       rw (← each.0.follows) (omega (arith, step))
 
-  -- a lawful plan has at most 93 data grants, the spots, and one idle more than spots
-  pub length-plan : (plan : List Allocation) → EachAfter (Stands c flows spots start) [] plan →
-      length plan ≤ most_grants + 2 * length spots + 1
-  length-plan plan each = omega (
+  -- a lawful plan has at most 93 data grants and opportunities, the spots, and one idle more than spots
+  pub length-plan : (plan : List Allocation) → length d.waiting ≤ MAX_WAITING → EachAfter (Stands c d) [] plan →
+      length plan ≤ MAX_DATA_GRANTS + 2 * length d.spots + 1
+  length-plan plan few each = omega (
     arith,
     few-allocations 1 [] plan (omega arith) (inl (omega arith)) each,
-    spots_from-most (end_of c []) spots,
+    spots_from-most (end_of c []) d.spots,
+    unmet-most [] (length d.waiting),
   )

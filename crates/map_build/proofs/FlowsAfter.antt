@@ -12,8 +12,11 @@ use Rattle.flow_book.specs.Choice.{HasStartedBy}
 use Rattle.flow_book.specs.Book.{IsLive, changed}
 use Rattle.flow_book.proofs.Places.{find-map}
 use Rattle.periodic.proofs.Joined.{all-append}
-use Rattle.map_build.specs.Plan.{Purpose, Poll, UnsolicitedGrant, DataGrant, Idle, Allocation, grant_to, grants_to}
-use Rattle.map_build.specs.Plan.{flow_after, flows_after}
+use Rattle.map_build.specs.declared.purpose.Allocation.{Allocation}
+use Rattle.map_build.specs.declared.purpose.Purpose.{Purpose}
+use Rattle.map_build.specs.declared.purpose.Purpose.TheVariants.{Poll, UnsolicitedGrant, Offer, DataGrant, Idle}
+use Rattle.map_build.specs.Purpose.{grant_to}
+use Rattle.map_build.specs.Plan.{grants_to, flow_after, flows_after}
 
 -- so many minislots from an offset on, for this purpose
 abbrev pub allocation : ℕ → ℕ → Purpose → Allocation
@@ -111,6 +114,7 @@ started-purpose : (start later sid offset slots : ℕ) (purpose : Purpose) → s
     AllByRecursion (λ g. g.start ≤ later) (grants_to start sid (allocation offset slots purpose ∷ []))
 started-purpose start later sid offset slots (Poll other) le = tt
 started-purpose start later sid offset slots (UnsolicitedGrant other) le = tt
+started-purpose start later sid offset slots (Offer place usage) le = tt
 started-purpose start later sid offset slots (DataGrant other bytes) le =
     rw (grants_to-one start other sid offset slots bytes)
     (started-if (other == sid) (record { start = start + offset; bytes = bytes }) later le)

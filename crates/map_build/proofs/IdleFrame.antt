@@ -1,8 +1,12 @@
--- The lawful MAP of a frame in which no flow is live.
-use Rattle.std.proofs.Common.{ℕ, ◌-◌, ◌<◌, List, [], ◌∷◌, refl, inr, arith}
+-- The lawful MAP of a frame in which no flow is live, and for which no opportunity waits.
+use Rattle.std.proofs.Common.{◌≡◌, ℕ, ◌-◌, ◌<◌, List, [], ◌∷◌, Some, slice_get, refl, inr, arith}
 use Rattle.minislots.specs.declared.config.Config.{Config}
 use Rattle.map_build.specs.declared.frame_map.FrameMap.{FrameMap}
-use Rattle.map_build.specs.Plan.{Allocation, Idle}
+use Rattle.map_build.specs.declared.opportunity.Header.{Header}
+use Rattle.map_build.specs.declared.opportunity.Opportunity.{Opportunity}
+use Rattle.map_build.specs.declared.purpose.Allocation.{Allocation}
+use Rattle.map_build.specs.declared.purpose.Purpose.TheVariants.{Idle}
+use Rattle.map_build.specs.Plan.{demand_at}
 use Rattle.map_build.specs.FrameMap.{map_of, IsLawfulMap}
 
 -- the frame is idle behind its request region
@@ -10,16 +14,27 @@ abbrev pub idle_plan : Config → List Allocation
 idle_plan c = record { offset = c.req_slots; slots = c.frame - c.req_slots; purpose = Idle } ∷ []
 
 -- the MAP of the request region, an idle and the Null
-abbrev pub idle_map : Config → ℕ → ℕ → FrameMap
-idle_map c start ack = map_of c [] start ack (idle_plan c)
+abbrev pub idle_map : Config → Header → ℕ → ℕ → FrameMap
+idle_map c header start ack = map_of c (demand_at [] [] [] start) header ack (idle_plan c)
+
+nothing-waits : (place : ℕ) (o : Opportunity) → slice_get [] place ≡ Some o → ⊥
+nothing-waits place o is = absurd (cc)
 
 -- it is lawful where no flow is live
-pub IsLawfulMap-idle : (c : Config) (start ack : ℕ) → c.req_slots < c.frame →
-    IsLawfulMap c [] [] start ack (idle_map c start ack)
-IsLawfulMap-idle c start ack room = (
+pub IsLawfulMap-idle : (c : Config) (header : Header) (start ack : ℕ) → c.req_slots < c.frame →
+    IsLawfulMap c (demand_at [] [] [] start) header ack (idle_map c header start ack)
+IsLawfulMap-idle c header start ack room = (
   idle_plan c,
   record {
-    each = (record { some_slots = omega arith; follows = omega arith; purpose = (refl, inr tt) }, tt);
+    each = (
+      record {
+        some_slots = omega arith;
+        follows = omega arith;
+        purpose = refl;
+        first = (omega arith, ((λ place o may. nothing-waits place o may.waits), (inr tt, tt)));
+      },
+      tt,
+    );
     whole = omega arith;
     due = tt;
   },

@@ -6,10 +6,12 @@ use Rattle.std.specs.List.{AllByRecursion}
 use Rattle.std.proofs.lemmas.Bool.{le-leb, cond_both}
 use Rattle.std.proofs.lemmas.Bool.Decides.{nat_tests}
 use Rattle.minislots.specs.declared.config.Config.{Config}
-use Rattle.flow_book.specs.Flows.{LiveFlow}
 use Rattle.periodic.specs.declared.placement.Spot.{Spot}
-use Rattle.map_build.specs.Plan.{Purpose, Poll, UnsolicitedGrant, DataGrant, Idle, Allocation, next_stop, Stands}
-use Rattle.map_build.specs.Plan.{StandsByItsRule, allocation_of}
+use Rattle.map_build.specs.declared.purpose.Allocation.{Allocation}
+use Rattle.map_build.specs.declared.purpose.Purpose.{Purpose}
+use Rattle.map_build.specs.declared.purpose.Purpose.TheVariants.{Poll, UnsolicitedGrant, Offer, DataGrant, Idle}
+use Rattle.map_build.specs.Purpose.{Rank, Placed, Reserved, Requested, Left, rank_of, ranks_before, allocation_of}
+use Rattle.map_build.specs.Plan.{Demand, next_stop, NoneOf, IsOfRank, Stands}
 use Rattle.map_build.specs.Spots.{IsInFrame, AreInFrame}
 use Rattle.map_build.specs.Left.{left_at, AreAhead, AreLeft}
 use Rattle.map_build.proofs.Clear.{IsClear, clear-purpose, contains-later}
@@ -54,30 +56,48 @@ here-first c (s ∷ spots) offset are ahead =
     none-behind spots offset (s.offset + s.slots) (omega arith) are.in_turn.0 in
     rw rest refl
 
-module _ (c : Config) (flows : List LiveFlow) (spots left : List Spot) (start : ℕ) (before : List Allocation)
-    (offset slots : ℕ) (are : AreLeft c spots left offset) where
-  purpose-whole : (purpose : Purpose) → StandsByItsRule c flows left start before offset slots purpose
-      → StandsByItsRule c flows spots start before offset slots purpose
-  purpose-whole (Poll sid) stands = are.some _ stands
-  purpose-whole (UnsolicitedGrant sid) stands = are.some _ stands
-  purpose-whole (DataGrant sid bytes) stands = rw (are.stops offset (omega arith)) stands
-  purpose-whole Idle stands = rw (are.stops offset (omega arith)) stands
+-- the demand of a frame of which these spots are left
+abbrev pub with_spots : List Spot → Demand → Demand
+with_spots left d = record d { spots = left }
+
+-- what holds of each holds where it is weaker
+pub all-weaker : {X : Type 0} (P Q : X → Type 0) (xs : List X) → ((x : X) → P x → Q x) → AllByRecursion P xs →
+    AllByRecursion Q xs
+all-weaker P Q [] weaker all = tt
+all-weaker P Q (x ∷ xs) weaker all = (weaker x all.0, all-weaker P Q xs weaker all.1)
+
+module _ (c : Config) (d : Demand) (left : List Spot) (before : List Allocation) (offset : ℕ)
+    (are : AreLeft c d.spots left offset) where
+  purpose-whole : (slots : ℕ) (purpose : Purpose) → IsOfRank c (with_spots left d) before offset slots purpose
+      → IsOfRank c d before offset slots purpose
+  purpose-whole slots (Poll sid) stands = are.some _ stands
+  purpose-whole slots (UnsolicitedGrant sid) stands = are.some _ stands
+  purpose-whole slots (Offer place usage) stands = rw (are.stops offset (omega arith)) stands
+  purpose-whole slots (DataGrant sid bytes) stands = rw (are.stops offset (omega arith)) stands
+  purpose-whole slots Idle stands = rw (are.stops offset (omega arith)) stands
+
+  none-whole : (r : Rank) → NoneOf c (with_spots left d) before offset r → NoneOf c d before offset r
+  none-whole Placed none = rw (are.stops offset (omega arith)) none
+  none-whole Reserved none = rw (are.stops offset (omega arith)) none
+  none-whole Requested none = rw (are.stops offset (omega arith)) none
+  none-whole Left none = none
 
 -- what may stand among the spots that are left may stand among all
-pub stands-whole : (c : Config) (flows : List LiveFlow) (spots left : List Spot) (start : ℕ) (before : List Allocation)
-    (a : Allocation) → AreLeft c spots left a.offset → Stands c flows left start before a
-    → Stands c flows spots start before a
-stands-whole c flows spots left start before a are stands = record {
+pub stands-whole : (c : Config) (d : Demand) (left : List Spot) (before : List Allocation) (a : Allocation)
+    → AreLeft c d.spots left a.offset → Stands c (with_spots left d) before a → Stands c d before a
+stands-whole c d left before a are stands = record {
   some_slots = stands.some_slots;
   follows = stands.follows;
-  purpose = purpose-whole c flows spots left start before a.offset a.slots are a.purpose stands.purpose;
+  purpose = purpose-whole c d left before a.offset are a.slots a.purpose stands.purpose;
+  first = all-weaker (NoneOf c (with_spots left d) before a.offset) (NoneOf c d before a.offset)
+      (ranks_before (rank_of a.purpose)) (none-whole c d left before a.offset are) stands.first;
 }
 
 -- what stands there is clear of the spots that are left
-pub left-clear : (c : Config) (flows : List LiveFlow) (left : List Spot) (start : ℕ) (before : List Allocation)
-    (a : Allocation) → AreInFrame c left → a.offset ≤ c.frame → Stands c flows left start before a → IsClear c left a
-left-clear c flows left start before a are inside stands =
-    clear-purpose c flows left start before a.offset a.slots a.purpose are inside stands.some_slots stands.purpose
+pub left-clear : (c : Config) (d : Demand) (before : List Allocation) (a : Allocation) → AreInFrame c d.spots
+    → a.offset ≤ c.frame → Stands c d before a → IsClear c d.spots a
+left-clear c d before a are inside stands =
+    clear-purpose c d before a.offset a.slots a.purpose are inside stands.some_slots stands.purpose
 
 -- at the first offset all are left
 pub left-all : (c : Config) (spots : List Spot) (offset : ℕ) → AreInFrame c spots → offset ≡ c.req_slots

@@ -1,12 +1,15 @@
 pub mod Apart
 pub mod Begun
+pub mod Chosen
 pub mod Clear
 pub mod Counts
 pub mod EachAfterLaws
+pub mod FirstMet
 pub mod FlowsAfter
 pub mod IdleFrame
 pub mod NextGrants
 pub mod Left
+pub mod Offers
 pub mod OneMap
 pub mod Pendings
 pub mod Planned
@@ -16,6 +19,7 @@ pub mod RowsCeiling
 pub mod RowsContention
 pub mod RowsFirstGrant
 pub mod RowsMaps
+pub mod RowsOffers
 pub mod RowsPoll
 pub mod RowsTurns
 pub mod RowsUnlawful
@@ -24,4 +28,6 @@ pub mod SameSpots
 pub mod Standings
 pub mod Stops
 pub mod Takings
+pub mod Unmet
+pub mod Walks
 pub mod WellFormed

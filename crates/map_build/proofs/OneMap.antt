@@ -1,22 +1,29 @@
--- The lawful MAP for given flows, spots and start is one.
-use Rattle.std.proofs.Common.{◌≡◌, ℕ, zero, suc, ◌+◌, ◌<◌, ◌≤◌, Bool, true, false, ◌&&◌, ◌||◌, List, [], ◌∷◌, ◌++◌}
-use Rattle.std.proofs.Common.{length, Option, None, Some, refl, sym, ap, ◌∙◌, inl, inr, append_assoc, arith}
+-- The lawful MAP for what a frame has to serve is one: by rank, and in each rank there is one.
+use Rattle.std.proofs.Common.{◌≡◌, ℕ, zero, suc, ◌+◌, ◌<◌, ◌≤◌, true, false, ◌&&◌, ◌||◌, List, [], ◌∷◌, ◌++◌}
+use Rattle.std.proofs.Common.{length, Option, None, Some, refl, sym, ap, subst, ◌∙◌, inl, inr, append_assoc, arith}
 use Rattle.std.specs.Prelude.{nat_lt, nat_le, ◌==◌, min, slice_index_or, Contains}
-use Rattle.std.proofs.lemmas.Bool.{le-leb, cond_both, true≢false}
+use Rattle.std.specs.List.{AllByRecursion, slice_get}
+use Rattle.std.proofs.lemmas.Bool.{le-leb, cond_both}
 use Rattle.std.proofs.lemmas.Bool.Decides.{nat_tests}
 use Rattle.std.proofs.lemmas.List.Sums.{sum_by-append, sum_by-cons}
 use Rattle.minislots.specs.declared.config.Config.{Config}
 use Rattle.minislots.specs.Units.{slots_for}
-use Rattle.flow_book.specs.FlowSpec.{rank_of}
+use Rattle.flow_book.specs.FlowSpec.{rank_of as flow_rank}
 use Rattle.flow_book.specs.Flows.{LiveFlow}
 use Rattle.flow_book.specs.Choice.{IsAmount, IsNext, NoneEligible, last_start, is_earlier, is_as_early}
 use Rattle.flow_book.proofs.Order.{all-contains}
 use Rattle.periodic.specs.declared.placement.Spot.{Spot}
-use Rattle.map_build.specs.EachAfter.{EachAfter}
 use Rattle.map_build.specs.declared.frame_map.FrameMap.{FrameMap}
+use Rattle.map_build.specs.declared.opportunity.Header.{Header}
+use Rattle.map_build.specs.declared.opportunity.Opportunity.{Opportunity}
+use Rattle.map_build.specs.declared.purpose.Allocation.{Allocation}
+use Rattle.map_build.specs.declared.purpose.Purpose.{Purpose}
+use Rattle.map_build.specs.declared.purpose.Purpose.TheVariants.{Poll, UnsolicitedGrant, Offer, DataGrant, Idle}
+use Rattle.map_build.specs.EachAfter.{EachAfter}
+use Rattle.map_build.specs.Purpose.{Rank, Placed, Reserved, Requested, Left, rank_of, ranks_before, allocation_of}
 use Rattle.map_build.specs.FrameMap.{map_of, IsLawfulMap}
-use Rattle.map_build.specs.Plan.{Purpose, Poll, UnsolicitedGrant, DataGrant, Idle, Allocation, flows_after, next_stop}
-use Rattle.map_build.specs.Plan.{room_at, IsSpot, end_of, Stands, StandsByItsRule, IsPlan}
+use Rattle.map_build.specs.Plan.{Demand, flows_after, next_stop, room_at, IsFirstToMeet, NoneOf, IsOfRank, end_of}
+use Rattle.map_build.specs.Plan.{Stands, IsPlan}
 
 -- of two flows at most one is before the other, by ranks, last starts and SIDs
 one_way : (rf rg : ℕ) (lf lg : Option ℕ) (sf sg : ℕ) →
@@ -34,7 +41,7 @@ one_next c flows start room f g nf ng = elim (all-contains _ flows g nf.first ng
   | inl e ↦ sym e
   | inr before ↦ elim (all-contains _ flows f ng.first nf.live nf.eligible) [
     | inl e ↦ e
-    | inr after ↦ absurd (one_way (rank_of f.spec) (rank_of g.spec) (last_start f.grants)
+    | inr after ↦ absurd (one_way (flow_rank f.spec) (flow_rank g.spec) (last_start f.grants)
         (last_start g.grants) f.sid g.sid before after)
   ]
 ]
@@ -67,98 +74,120 @@ BeginApart spots = (s t : Spot) → Contains spots s → Contains spots t → s.
 same_allocation : (a b : Allocation) → a.offset ≡ b.offset → a.slots ≡ b.slots → a.purpose ≡ b.purpose → a ≡ b
 same_allocation a b offset slots purpose = λ i. record { offset = offset i; slots = slots i; purpose = purpose i }
 
-module _ (c : Config) (flows : List LiveFlow) (spots : List Spot) (start : ℕ) (overhead : 0 < c.overhead)
-    (apart : BeginApart spots) where
+-- the opportunity of an option, or another
+abbrev told : Opportunity → Option Opportunity → Opportunity
+told o None = o
+told o (Some p) = p
+
+-- what may stand at an offset is of one rank, where of each the ranks before are empty
+one_rank : (N A : Rank → Type 0) → ((r : Rank) → A r → N r → ⊥) → (r s : Rank) → A r → A s →
+    AllByRecursion N (ranks_before r) → AllByRecursion N (ranks_before s) → r ≡ s
+one_rank N A apart Placed Placed a b before before' = refl
+one_rank N A apart Placed Reserved a b before before' = absurd (apart Placed a before'.0)
+one_rank N A apart Placed Requested a b before before' = absurd (apart Placed a before'.0)
+one_rank N A apart Placed Left a b before before' = absurd (apart Placed a before'.0)
+one_rank N A apart Reserved Placed a b before before' = absurd (apart Placed b before.0)
+one_rank N A apart Reserved Reserved a b before before' = refl
+one_rank N A apart Reserved Requested a b before before' = absurd (apart Reserved a before'.1.0)
+one_rank N A apart Reserved Left a b before before' = absurd (apart Reserved a before'.1.0)
+one_rank N A apart Requested Placed a b before before' = absurd (apart Placed b before.0)
+one_rank N A apart Requested Reserved a b before before' = absurd (apart Reserved b before.1.0)
+one_rank N A apart Requested Requested a b before before' = refl
+one_rank N A apart Requested Left a b before before' = absurd (apart Requested a before'.1.1.0)
+one_rank N A apart Left Placed a b before before' = absurd (apart Placed b before.0)
+one_rank N A apart Left Reserved a b before before' = absurd (apart Reserved b before.1.0)
+one_rank N A apart Left Requested a b before before' = absurd (apart Requested b before.1.1.0)
+one_rank N A apart Left Left a b before before' = refl
+
+module _ (c : Config) (d : Demand) (overhead : 0 < c.overhead) (apart : BeginApart d.spots) where
   -- a spot leaves no room
-  spot_has_no_room : (sid : ℕ) (poll : Bool) (offset slots : ℕ) → IsSpot spots sid poll offset slots →
-      room_at c spots offset ≡ 0
-  spot_has_no_room sid poll offset slots spot =
-      let none = no_room c spots spot.0 offset (record { sid = sid; poll = poll; offset = offset; slots = slots })
-      spot.1 (ap (λ s. s.offset) spot.2) in omega arith
+  spot_has_no_room : (s : Spot) (offset : ℕ) → Contains d.spots s → s.offset ≡ offset → room_at c d.spots offset ≡ 0
+  spot_has_no_room s offset has here =
+      let none = no_room c d.spots has.0 offset s has.1 (ap (λ t. t.offset) has.2 ∙ here) in omega arith
 
-  -- two spots that begin together
-  same_spot : (sid sid' : ℕ) (poll poll' : Bool) (offset slots slots' : ℕ) → IsSpot spots sid poll offset slots →
-      IsSpot spots sid' poll' offset slots' →
-      (sid ≡ sid') × (poll ≡ poll') × (slots ≡ slots')
-  same_spot sid sid' poll poll' offset slots slots' spot spot' =
-      let e = apart (record { sid = sid; poll = poll; offset = offset; slots = slots })
-      (record { sid = sid'; poll = poll'; offset = offset; slots = slots' }) spot spot' refl in
-      (ap (λ s. s.sid) e, ap (λ s. s.poll) e, ap (λ s. s.slots) e)
+  -- the data grant of these bytes to this flow
+  abbrev IsGrant : List Allocation → ℕ → ℕ → ℕ → ℕ → Type 0
+  IsGrant before offset slots sid bytes = IsOfRank c d before offset slots (DataGrant sid bytes)
 
-  -- a spot and a data grant, or an idle, do not begin together
-  not_a_grant : (sid : ℕ) (poll : Bool) (before : List Allocation) (offset slots slots' other bytes : ℕ) →
-      IsSpot spots sid poll offset slots →
-      StandsByItsRule c flows spots start before offset slots' (DataGrant other bytes) → ⊥
-  not_a_grant sid poll before offset slots slots' other bytes spot grant =
-      omega (arith, spot_has_no_room sid poll offset slots spot, grant.4.allowed.taken.fits)
+  -- what may stand of a rank
+  abbrev OfRank : List Allocation → ℕ → ℕ → Purpose → Rank → Type 0
+  OfRank before offset slots purpose Placed = (s : Spot) × Contains d.spots s × (s.offset ≡ offset) × (slots ≡ s.slots)
+      × (purpose ≡ (allocation_of s).purpose)
+  OfRank before offset slots purpose Reserved = (place : ℕ) × (o : Opportunity)
+      × IsFirstToMeet d.waiting before (room_at c d.spots offset) place o × (slots ≡ o.slots)
+      × (purpose ≡ Offer place o.usage)
+  OfRank before offset slots purpose Requested = (sid : ℕ) × (bytes : ℕ) × IsGrant before offset slots sid bytes
+      × (purpose ≡ DataGrant sid bytes)
+  OfRank before offset slots purpose Left = (slots ≡ room_at c d.spots offset) × (purpose ≡ Idle)
 
-  not_an_idle : (sid : ℕ) (poll : Bool) (before : List Allocation) (offset slots slots' : ℕ) →
-      IsSpot spots sid poll offset slots → 0 < slots' →
-      StandsByItsRule c flows spots start before offset slots' Idle → ⊥
-  not_an_idle sid poll before offset slots slots' spot some idle =
-      omega (arith, spot_has_no_room sid poll offset slots spot, idle.0)
+  -- each kind is of its rank
+  of_rank : (before : List Allocation) (offset slots : ℕ) (purpose : Purpose) →
+      IsOfRank c d before offset slots purpose → OfRank before offset slots purpose (rank_of purpose)
+  of_rank before offset slots (Poll sid) is =
+      (record { sid = sid; poll = true; offset = offset; slots = slots }, is, refl, refl, refl)
+  of_rank before offset slots (UnsolicitedGrant sid) is =
+      (record { sid = sid; poll = false; offset = offset; slots = slots }, is, refl, refl, refl)
+  of_rank before offset slots (Offer place usage) is = (place, record { usage = usage; slots = slots }, is, refl, refl)
+  of_rank before offset slots (DataGrant sid bytes) is = (sid, bytes, is, refl)
+  of_rank before offset slots Idle is = (is, refl)
 
-  -- where a data grant stands an idle does not
-  grant_or_idle : (before : List Allocation) (offset slots slots' sid bytes : ℕ) →
-      StandsByItsRule c flows spots start before offset slots (DataGrant sid bytes) →
-      StandsByItsRule c flows spots start before offset slots' Idle → ⊥
-  grant_or_idle before offset slots slots' sid bytes grant idle = elim idle.1 [
-    | inl full ↦ omega (arith, grant.0)
-    | inr none ↦ next_is_eligible c (flows_after start before flows) (start + offset) (room_at c spots offset) grant.1
-        grant.3 none
+  -- where one may stand its rank is not empty
+  not_none : (before : List Allocation) (offset slots : ℕ) (purpose : Purpose) (r : Rank) →
+      OfRank before offset slots purpose r → NoneOf c d before offset r → ⊥
+  not_none before offset slots purpose Placed (s, has, here, long, is) none =
+      omega (arith, spot_has_no_room s offset has here, none)
+  not_none before offset slots purpose Reserved (place, o, first, long, is) none = none place o first.may
+  not_none before offset slots purpose Requested (sid, bytes, grant, is) none = elim none [
+    | inl full ↦ omega (arith, full, grant.0)
+    | inr nobody ↦ next_is_eligible c (flows_after d.start before d.flows) (d.start + offset)
+        (room_at c d.spots offset) grant.1 grant.3 nobody
   ]
+  not_none before offset slots purpose Left is none = none
 
-  -- two data grants after the same allocations
-  same_grant : (before : List Allocation) (offset slots slots' sid sid' bytes bytes' : ℕ) →
-      StandsByItsRule c flows spots start before offset slots (DataGrant sid bytes) →
-      StandsByItsRule c flows spots start before offset slots' (DataGrant sid' bytes') →
-      (slots ≡ slots') × (DataGrant sid bytes ≡ DataGrant sid' bytes')
-  same_grant before offset slots slots' sid sid' bytes bytes' g h =
-      let one = one_next c (flows_after start before flows) (start + offset) (room_at c spots offset) g.1 h.1 g.3 h.3 in
-      let amount = one_amount c h.1 (start + offset) (room_at c spots offset) bytes bytes' (rw one at g.4) h.4 in
+  -- two of a rank are one
+  one_of_rank : (before : List Allocation) (offset slots slots' : ℕ) (purpose purpose' : Purpose) (r : Rank) →
+      OfRank before offset slots purpose r → OfRank before offset slots' purpose' r →
+      (slots ≡ slots') × (purpose ≡ purpose')
+  one_of_rank before offset slots slots' purpose purpose' Placed (s, has, here, long, is)
+      (t, has', here', long', is') =
+      let one : s ≡ t = apart s t has has' (here ∙ sym here') in
+      (long ∙ ap (λ u. u.slots) one ∙ sym long', is ∙ ap (λ u. (allocation_of u).purpose) one ∙ sym is')
+  one_of_rank before offset slots slots' purpose purpose' Reserved (place, o, first, long, is)
+      (place', o', first', long', is') =
+      let same : place ≡ place' = omega (arith, first.first place' o' first'.may, first'.first place o first.may) in
+      let one : o ≡ o' = ap (told o) (sym first.may.waits ∙ ap (slice_get d.waiting) same ∙ first'.may.waits) in (
+        long ∙ ap (λ p. p.slots) one ∙ sym long',
+        is ∙ ap (λ n. Offer n o.usage) same ∙ ap (λ p. Offer place' p.usage) one ∙ sym is',
+      )
+  one_of_rank before offset slots slots' purpose purpose' Requested (sid, bytes, g, is) (sid', bytes', h, is') =
+      let one = one_next c (flows_after d.start before d.flows) (d.start + offset) (room_at c d.spots offset) g.1 h.1
+      g.3 h.3 in
+      let amount = one_amount c h.1 (d.start + offset) (room_at c d.spots offset) bytes bytes' (rw one at g.4) h.4 in
       let same : sid ≡ sid' = sym g.2 ∙ ap (λ f. f.sid) one ∙ h.2 in
-      (g.5 ∙ ap (slots_for c) amount ∙ sym h.5, rw (same, amount))
+      (g.5 ∙ ap (slots_for c) amount ∙ sym h.5, is ∙ rw (same, amount) (sym is'))
+  one_of_rank before offset slots slots' purpose purpose' Left (long, is) (long', is') =
+      (long ∙ sym long', is ∙ sym is')
+
+  -- something of a rank may stand
+  abbrev SomeOf : List Allocation → ℕ → Rank → Type 0
+  SomeOf before offset r = (slots : ℕ) × (purpose : Purpose) × OfRank before offset slots purpose r
 
   -- after the same allocations the same one stands
-  same_purpose : (before : List Allocation) (offset slots slots' : ℕ) (purpose purpose' : Purpose) → 0 < slots →
-      0 < slots' →
-      StandsByItsRule c flows spots start before offset slots purpose →
-      StandsByItsRule c flows spots start before offset slots' purpose' → (slots ≡ slots') × (purpose ≡ purpose')
-  same_purpose before offset slots slots' (Poll s) (Poll t) some some' p q = let e =
-      same_spot s t true true offset slots slots' p q in (e.2, ap Poll e.0)
-  same_purpose before offset slots slots' (Poll s) (UnsolicitedGrant t) some some' p q = let e =
-      same_spot s t true false offset slots slots' p q in absurd (true≢false e.1)
-  same_purpose before offset slots slots' (Poll s) (DataGrant t bytes) some some' p q =
-      absurd (not_a_grant s true before offset slots slots' t bytes p q)
-  same_purpose before offset slots slots' (Poll s) Idle some some' p q =
-      absurd (not_an_idle s true before offset slots slots' p some' q)
-  same_purpose before offset slots slots' (UnsolicitedGrant s) (Poll t) some some' p q = let e =
-      same_spot s t false true offset slots slots' p q in absurd (true≢false (sym e.1))
-  same_purpose before offset slots slots' (UnsolicitedGrant s) (UnsolicitedGrant t) some some' p q = let e =
-      same_spot s t false false offset slots slots' p q in (e.2, ap UnsolicitedGrant e.0)
-  same_purpose before offset slots slots' (UnsolicitedGrant s) (DataGrant t bytes) some some' p q =
-      absurd (not_a_grant s false before offset slots slots' t bytes p q)
-  same_purpose before offset slots slots' (UnsolicitedGrant s) Idle some some' p q =
-      absurd (not_an_idle s false before offset slots slots' p some' q)
-  same_purpose before offset slots slots' (DataGrant t bytes) (Poll s) some some' p q =
-      absurd (not_a_grant s true before offset slots' slots t bytes q p)
-  same_purpose before offset slots slots' (DataGrant t bytes) (UnsolicitedGrant s) some some' p q =
-      absurd (not_a_grant s false before offset slots' slots t bytes q p)
-  same_purpose before offset slots slots' (DataGrant s bytes) (DataGrant t bytes') some some' p q =
-      same_grant before offset slots slots' s t bytes bytes' p q
-  same_purpose before offset slots slots' (DataGrant s bytes) Idle some some' p q =
-      absurd (grant_or_idle before offset slots slots' s bytes p q)
-  same_purpose before offset slots slots' Idle (Poll s) some some' p q =
-      absurd (not_an_idle s true before offset slots' slots q some p)
-  same_purpose before offset slots slots' Idle (UnsolicitedGrant s) some some' p q =
-      absurd (not_an_idle s false before offset slots' slots q some p)
-  same_purpose before offset slots slots' Idle (DataGrant s bytes) some some' p q =
-      absurd (grant_or_idle before offset slots' slots s bytes q p)
-  same_purpose before offset slots slots' Idle Idle some some' p q = (p.0 ∙ sym q.0, refl)
+  same_next : (before : List Allocation) (a b : Allocation) → Stands c d before a → Stands c d before b → b ≡ a
+  same_next before a b sa sb =
+      let begins : b.offset ≡ a.offset = sb.follows ∙ sym sa.follows in
+      let is = of_rank before a.offset a.slots a.purpose sa.purpose in
+      let is' = of_rank before a.offset b.slots b.purpose (rw begins at sb.purpose) in
+      let rank : rank_of b.purpose ≡ rank_of a.purpose = one_rank (NoneOf c d before a.offset) (SomeOf before a.offset)
+      (λ r some none. not_none before a.offset some.0 some.1 r some.2 none) (rank_of b.purpose) (rank_of a.purpose)
+      (b.slots, b.purpose, is') (a.slots, a.purpose, is) (rw begins at sb.first) sa.first in
+      let same = one_of_rank before a.offset b.slots a.slots b.purpose a.purpose (rank_of a.purpose)
+      (subst (OfRank before a.offset b.slots b.purpose) rank is') is in
+      same_allocation b a begins same.0 same.1
 
   -- after the same allocations the same ones fill the frame
-  same_rest : (before plan plan' : List Allocation) → EachAfter (Stands c flows spots start) before plan →
-      EachAfter (Stands c flows spots start) before plan' →
+  same_rest : (before plan plan' : List Allocation) → EachAfter (Stands c d) before plan →
+      EachAfter (Stands c d) before plan' →
       end_of c (before ++ plan) ≡ c.frame → end_of c (before ++ plan') ≡ c.frame → plan ≡ plan'
   same_rest before [] [] p q e e' = refl
   same_rest before [] (a ∷ plan) p q e e' =
@@ -180,20 +209,16 @@ module _ (c : Config) (flows : List LiveFlow) (spots : List Spot) (start : ℕ) 
         sum_by-cons (λ (a : Allocation). a.slots) a plan,
       ))
   same_rest before (a ∷ plan) (b ∷ plan') p q e e' =
-      let begins : b.offset ≡ a.offset = q.0.follows ∙ sym p.0.follows in
-      let same = same_purpose before a.offset a.slots b.slots a.purpose b.purpose p.0.some_slots q.0.some_slots
-      p.0.purpose (rw begins at q.0.purpose) in
-      let one : b ≡ a = same_allocation b a begins (sym same.0) (sym same.1) in
+      let one : b ≡ a = same_next before a b p.0 q.0 in
       let rest = same_rest (before ++ a ∷ []) plan plan' p.1 (rw one at q.1) (rw append_assoc e)
       (rw append_assoc (rw one at e')) in
       cc
 
   -- the plan of a frame is one
-  pub one_plan : (plan plan' : List Allocation) → IsPlan c flows spots start plan → IsPlan c flows spots start plan' →
-      plan ≡ plan'
+  pub one_plan : (plan plan' : List Allocation) → IsPlan c d plan → IsPlan c d plan' → plan ≡ plan'
   one_plan plan plan' p q = same_rest [] plan plan' p.each q.each p.whole q.whole
 
   -- the lawful MAP is one
-  pub one_map : (ack : ℕ) (m n : FrameMap) → IsLawfulMap c flows spots start ack m →
-      IsLawfulMap c flows spots start ack n → m ≡ n
-  one_map ack m n lm ln = lm.2 ∙ ap (map_of c flows start ack) (one_plan lm.0 ln.0 lm.1 ln.1) ∙ sym ln.2
+  pub one_map : (header : Header) (ack : ℕ) (m n : FrameMap) → IsLawfulMap c d header ack m →
+      IsLawfulMap c d header ack n → m ≡ n
+  one_map header ack m n lm ln = lm.2 ∙ ap (map_of c d header ack) (one_plan lm.0 ln.0 lm.1 ln.1) ∙ sym ln.2

@@ -39,6 +39,7 @@ PutsPending-some sid left old new end waits puts (Some f) named is =
       book = puts.book;
       start = puts.start;
       grants = puts.grants;
+      met = puts.met;
     }
 
 -- what is outstanding of a flow that is found
@@ -64,6 +65,7 @@ PutsPending-both flows f old mid new first last = record {
   book = last.book ∙ first.book;
   start = last.start ∙ first.start;
   grants = last.grants ∙ first.grants;
+  met = last.met ∙ first.met;
 }
 
 -- what a place past the end is read as

@@ -11,11 +11,16 @@ use Rattle.map_codec.specs.WireMap.{IsWellFormed, FitsHeader}
 use Rattle.flow_book.specs.Flows.{LiveFlow, outstanding}
 use Rattle.periodic.specs.declared.placement.Spot.{Spot}
 use Rattle.map_build.specs.declared.draft.Draft.{Draft}
+use Rattle.map_build.specs.declared.frame.PlannedFrame.{PlannedFrame}
 use Rattle.map_build.specs.declared.frame_map.FrameMap.{FrameMap}
-use Rattle.map_build.specs.Plan.{Allocation, end_of, flow_after, flows_after, allocation_of, IsPlan}
-use Rattle.map_build.specs.FrameMap.{element_of, null_element, pending_of, pending, elements_of, bytes_of_plan}
-use Rattle.map_build.specs.FrameMap.{IsLawfulMap}
-use Rattle.map_build.specs.FrameMap.{map_with, IsLawfulFrame}
+use Rattle.map_build.specs.declared.opportunity.Header.{Header}
+use Rattle.map_build.specs.declared.opportunity.Opportunity.{Opportunity}
+use Rattle.map_build.specs.declared.purpose.Allocation.{Allocation}
+use Rattle.map_build.specs.Purpose.{element_of, allocation_of}
+use Rattle.map_build.specs.Opportunities.{HaveStationSids}
+use Rattle.map_build.specs.Plan.{Demand, demand_at, end_of, flow_after, flows_after, IsPlan}
+use Rattle.map_build.specs.FrameMap.{null_element, pending_of, pending, elements_of, bytes_of_plan, map_with}
+use Rattle.map_build.specs.FrameMap.{AreMet, IsLawfulMap, IsLawfulFrame}
 use Rattle.map_build.specs.Spots.{IsInFrame, AreInFrame, IsFlowSid, HaveFlowSids, AreOfChannel}
 use Rattle.map_build.specs.Draft.{Ends}
 use Rattle.map_build.specs.Walk.{IsFilled, HasPlan, AreTaken}
@@ -33,72 +38,68 @@ all-taken c [] plan offset end each taken = tt
 all-taken c (s ∷ spots) plan offset end each taken =
     (taken.0 (omega (arith, each.0.some_slots, each.0.within)), all-taken c spots plan offset end each.1 taken.1)
 
-module _ (c : Config) (flows : List LiveFlow) (spots : List Spot) (start : ℕ) (plan : List Allocation)
-    (filled ended : Draft)
-    (are : AreInFrame c spots) (has : HasPlan c flows spots start plan filled) (full : filled.offset ≡ c.frame)
-    (ends : Ends filled ended) where
-  plan-is : IsPlan c flows spots start plan
+module _ (c : Config) (d : Demand) (plan : List Allocation) (filled ended : Draft) (are : AreInFrame c d.spots)
+    (has : HasPlan c d plan filled) (full : filled.offset ≡ c.frame) (ends : Ends filled ended) where
+  plan-is : IsPlan c d plan
   plan-is = record {
     each = has.each;
     whole = omega (arith, full, has.after.ends, ap (λ k. end_of k plan) has.config);
-    due = all-taken c spots plan filled.offset full are.each has.taken;
+    due = all-taken c d.spots plan filled.offset full are.each has.taken;
   }
 
-  flows-are : filled.book.flows ≡ flows_after start plan flows
-  flows-are = has.after.flows_now ∙ ap (λ s. flows_after s plan flows) has.starts
+  flows-are : filled.book.flows ≡ flows_after d.start plan d.flows
+  flows-are = has.after.flows_now ∙ ap (λ s. flows_after s plan d.flows) has.starts
 
-  elements-are : ended.elements.items ≡ elements_of c flows start plan
+  elements-are : ended.elements.items ≡ elements_of c d.flows d.start plan
   elements-are = ends.elements ∙ rw (has.config, flows-are, has.elements) refl
 
-  bytes-are : ended.bytes.items ≡ bytes_of_plan c flows start plan
+  bytes-are : ended.bytes.items ≡ bytes_of_plan c d.flows d.start plan
   bytes-are = ends.bytes_of ∙ rw (has.config, flows-are, has.bytes_of) refl
 
-  -- the MAP of the draft is the lawful one, and its book has the data grants
-  lawful-frame : (ack : ℕ) (m : FrameMap) → m ≡ map_with ended.book.config ended.start ack ended.elements.items
-      ended.bytes.items →
-      IsLawfulFrame c flows spots start ack m ended.book.flows
-  lawful-frame ack m made = (
-    plan,
-    plan-is,
-    made ∙ rw (elements-are, bytes-are, ends.book, ends.start, has.config, has.starts) refl,
-    ap (λ b. b.flows) ends.book ∙ flows-are,
-  )
+  -- the MAP of the draft is the lawful one, its book has the data grants, and its marks are those of the plan
+  lawful-frame : (header : Header) (ack : ℕ) (p : PlannedFrame) →
+      p.map ≡ map_with ended.book.config header ended.start ack ended.elements.items ended.bytes.items →
+      p.book ≡ ended.book → p.met ≡ ended.met → IsLawfulFrame c d header ack p
+  lawful-frame header ack p made book marks = record {
+    plan = plan;
+    is_plan = plan-is;
+    map = made ∙ rw (elements-are, bytes-are, ends.book, ends.start, has.config, has.starts) refl;
+    flows = ap (λ b. b.flows) book ∙ ap (λ b. b.flows) ends.book ∙ flows-are;
+    met = subst (AreMet plan) (sym (marks ∙ ends.met)) has.after.met;
+  }
 
 -- a draft with the plan of nothing has the flows
-begun-flows : (c : Config) (flows : List LiveFlow) (spots : List Spot) (start : ℕ) (d : Draft) →
-    HasPlan c flows spots start [] d → d.book.flows ≡ flows
-begun-flows c flows spots start d has = has.after.flows_now ∙ flows_after-nil d.start flows
+begun-flows : (c : Config) (d : Demand) (draft : Draft) → HasPlan c d [] draft → draft.book.flows ≡ d.flows
+begun-flows c d draft has = has.after.flows_now ∙ flows_after-nil draft.start d.flows
 
 -- so it has the plan of nothing for its own
-pub begun-here : (c : Config) (flows : List LiveFlow) (spots : List Spot) (start : ℕ) (d : Draft) →
-    HasPlan c flows spots start [] d →
-    HasPlan d.book.config d.book.flows spots d.start [] d
-begun-here c flows spots start d has =
-    subst (λ s. HasPlan d.book.config d.book.flows spots s [] d) (sym has.starts)
-    (subst (λ fs. HasPlan d.book.config fs spots start [] d) (sym (begun-flows c flows spots start d has))
-    (subst (λ k. HasPlan k flows spots start [] d) (sym has.config) has))
+pub begun-here : (c : Config) (d : Demand) (draft : Draft) → HasPlan c d [] draft →
+    HasPlan draft.book.config (demand_at draft.book.flows d.spots d.waiting draft.start) [] draft
+begun-here c d draft has =
+    subst (λ s. HasPlan draft.book.config (demand_at draft.book.flows d.spots d.waiting s) [] draft) (sym has.starts)
+    (subst (λ fs. HasPlan draft.book.config (demand_at fs d.spots d.waiting d.start) [] draft)
+    (sym (begun-flows c d draft has))
+    (subst (λ k. HasPlan k d [] draft) (sym has.config) has))
 
 -- a frame that is filled ends where the frame does
-pub filled-full : (spots : List Spot) (begun filled : Draft) → IsFilled spots begun filled →
-    filled.offset ≡ filled.book.config.frame
-filled-full spots begun filled is = is.2 ∙ ap (λ k. k.frame) (sym is.1.config)
+pub filled-full : (spots : List Spot) (waiting : List Opportunity) (begun filled : Draft) →
+    IsFilled spots waiting begun filled → filled.offset ≡ filled.book.config.frame
+filled-full spots waiting begun filled is = is.2 ∙ ap (λ k. k.frame) (sym is.1.config)
 
--- a draft that is begun, filled and ended has the lawful MAP, and its data grants
-pub planned : (c : Config) (flows : List LiveFlow) (spots : List Spot) (start ack : ℕ) (begun filled ended : Draft)
-    (m : FrameMap) → AreInFrame c spots →
-    HasPlan c flows spots start [] begun → IsFilled spots begun filled → Ends filled ended →
-    m ≡ map_with ended.book.config ended.start ack ended.elements.items ended.bytes.items →
-    IsLawfulFrame c flows spots start ack m ended.book.flows
-planned c flows spots start ack begun filled ended m are has (plan, filling, full) ends made =
-    lawful-frame c flows spots start plan filled ended are
-    (rw (has.config, begun-flows c flows spots start begun has, has.starts) at filling) (full
-    ∙ ap (λ k. k.frame) has.config) ends ack m made
+-- a draft that is begun, filled and ended has the lawful MAP, its data grants and its marks
+pub planned : (c : Config) (d : Demand) (header : Header) (ack : ℕ) (begun filled ended : Draft) (p : PlannedFrame) →
+    AreInFrame c d.spots → HasPlan c d [] begun → IsFilled d.spots d.waiting begun filled → Ends filled ended →
+    p.map ≡ map_with ended.book.config header ended.start ack ended.elements.items ended.bytes.items →
+    p.book ≡ ended.book → p.met ≡ ended.met → IsLawfulFrame c d header ack p
+planned c d header ack begun filled ended p are has (plan, filling, full) ends made book marks =
+    lawful-frame c d plan filled ended are
+    (rw (has.config, begun-flows c d begun has, has.starts) at filling) (full ∙ ap (λ k. k.frame) has.config) ends
+    header ack p made book marks
 
 -- the MAP of a lawful frame is lawful
-pub lawful-from_frame : (c : Config) (flows : List LiveFlow) (spots : List Spot) (start ack : ℕ) (m : FrameMap)
-    (granted : List LiveFlow) → IsLawfulFrame c flows spots start ack m granted →
-    IsLawfulMap c flows spots start ack m
-lawful-from_frame c flows spots start ack m granted (plan, is, made, after) = (plan, is, made)
+pub lawful-from_frame : (c : Config) (d : Demand) (header : Header) (ack : ℕ) (p : PlannedFrame) →
+    IsLawfulFrame c d header ack p → IsLawfulMap c d header ack p.map
+lawful-from_frame c d header ack p is = (is.plan, is.is_plan, is.map)
 
 -- spots that do not overlap are apart
 pub apart-in-frame : (c : Config) (spots : List Spot) → AreInFrame c spots → BeginApart spots
@@ -125,32 +126,30 @@ few-pending c flows =
     )
 
 -- the elements of a lawful plan are few
-few-elements : (c : Config) (flows : List LiveFlow) (spots : List Spot) (start : ℕ) (plan : List Allocation) →
-    0 < c.overhead → length spots ≤ 40 → length flows ≤ 64 →
-    IsPlan c flows spots start plan → length (elements_of c flows start plan) ≤ 240
-few-elements c flows spots start plan overhead places live is = omega (
+pub few-elements : (c : Config) (d : Demand) (plan : List Allocation) → 0 < c.overhead → length d.spots ≤ 40 →
+    length d.flows ≤ 64 → length d.waiting ≤ 16 → IsPlan c d plan → length (elements_of c d.flows d.start plan) ≤ 240
+few-elements c d plan overhead places live few is = omega (
   arith,
-  length-plan c flows spots start overhead plan is.each,
-  length-append (map (element_of c) plan) (null_element c ∷ pending c (flows_after start plan flows)),
+  length-plan c d overhead plan few is.each,
+  length-append (map (element_of c) plan) (null_element c ∷ pending c (flows_after d.start plan d.flows)),
   length-map plan (element_of c),
-  few-pending c (flows_after start plan flows),
-  length-map flows (flow_after start plan),
+  few-pending c (flows_after d.start plan d.flows),
+  length-map d.flows (flow_after d.start plan),
 )
 
 -- a lawful MAP of flows of a channel is well formed
-pub lawful-encodable : (c : Config) (flows : List LiveFlow) (spots : List Spot) (start ack : ℕ) (m : FrameMap) →
-    IsLawful c → AreInFrame c spots →
-    IsLawfulMap c flows spots start ack m → FitsHeader m.wire → AreOfChannel flows → HaveFlowSids spots →
-    IsWellFormed m.wire
-lawful-encodable c flows spots start ack m lawful are (plan, is, made) fits channel places =
+pub lawful-encodable : (c : Config) (d : Demand) (header : Header) (ack : ℕ) (m : FrameMap) → IsLawful c →
+    AreInFrame c d.spots → length d.waiting ≤ 16 → IsLawfulMap c d header ack m → FitsHeader m.wire →
+    AreOfChannel d.flows → HaveFlowSids d.spots → HaveStationSids d.waiting → IsWellFormed m.wire
+lawful-encodable c d header ack m lawful are few (plan, is, made) fits channel places stations =
     let bounds : HasBounds c = bounds_of c lawful in
-    let elements : m.wire.elements ≡ elements_of c flows start plan = ap (λ (n : FrameMap). n.wire.elements) made in
+    let elements : m.wire.elements ≡ elements_of c d.flows d.start plan = ap (λ (n : FrameMap). n.wire.elements) made in
     let good : AreEncodable m.wire.elements = rw elements
-    (elements_of-encodable c flows spots start plan (omega (arith, bounds.frame_most)) (sids-short flows channel.sids)
-    (spot-sids-short spots places) is.each is.whole) in
+    (elements_of-encodable c d plan (omega (arith, bounds.frame_most)) (sids-short d.flows channel.sids)
+    (spot-sids-short d.spots places) stations is.each is.whole) in
     record {
       fits = fits;
-      count = rw elements (few-elements c flows spots start plan bounds.overhead_positive are.few channel.few is);
+      count = rw elements (few-elements c d plan bounds.overhead_positive are.few channel.few few is);
       in_range = good.in_range;
       one_null = good.one_null;
       ascends = good.ascends;

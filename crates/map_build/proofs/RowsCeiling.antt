@@ -2,7 +2,10 @@
 use Rattle.std.proofs.Common.{◌≡◌, List, [], ◌∷◌, map, refl, inr, lit<, arith}
 use Rattle.map_codec.specs.Element.{word_of}
 use Rattle.map_build.specs.declared.frame_map.FrameMap.{FrameMap}
-use Rattle.map_build.specs.Plan.{Allocation, DataGrant, Idle}
+use Rattle.map_build.specs.declared.purpose.Allocation.{Allocation}
+use Rattle.map_build.specs.declared.purpose.Purpose.TheVariants.{DataGrant, Idle}
+use Rattle.map_build.specs.Opportunities.{header_of}
+use Rattle.map_build.specs.Plan.{demand_at}
 use Rattle.map_build.specs.FrameMap.{IsLawfulMap}
 use Rattle.flow_book.proofs.Base.{base}
 use Rattle.flow_book.proofs.RowsCeiling.{under_ceiling, grant, the_second_grant_fills_the_room}
@@ -11,7 +14,7 @@ use Rattle.flow_book.proofs.RowsCeiling.{the_third_grant_is_at_the_ceiling_to_th
 use Rattle.flow_book.proofs.RowsCeiling.{a_flow_below_its_ceiling_is_next, a_flow_at_its_ceiling_is_not_eligible}
 use Rattle.map_build.proofs.RowsContention.{filled_by}
 use Rattle.map_build.proofs.FlowsAfter.{allocation}
-use Rattle.map_build.proofs.RowsMaps.{element, base_map, all_idle}
+use Rattle.map_build.proofs.RowsMaps.{element, base_map, all_idle, none_waits}
 
 -- the MAP of the second grant, which fills the room
 abbrev pub second_grant : FrameMap
@@ -19,7 +22,9 @@ second_grant = base_map 880 800 (element 0x3fff 1 0 ∷ element 17 6 4 ∷ eleme
     (0 ∷ 544 ∷ 0 ∷ 0 ∷ [])
 
 -- it is lawful
-pub a_second_grant_fills_the_room : IsLawfulMap base (under_ceiling (grant 844 544 ∷ []) ∷ []) [] 880 800 second_grant
+pub a_second_grant_fills_the_room : IsLawfulMap base
+    (demand_at (under_ceiling (grant 844 544 ∷ []) ∷ []) [] [] 880) (header_of base)
+    800 second_grant
 a_second_grant_fills_the_room = (
   filled_by 17,
   record {
@@ -35,6 +40,7 @@ a_second_grant_fills_the_room = (
           the_second_grant_fills_the_room,
           refl,
         );
+        first = (lit< tt, (none_waits _ _, tt));
       },
       tt,
     );
@@ -55,7 +61,9 @@ ceiling_map =
     (0 ∷ 528 ∷ 0 ∷ 0 ∷ 0 ∷ [])
 
 -- it is lawful
-pub a_frame_with_a_grant_at_the_ceiling : IsLawfulMap base (limited ∷ []) [] 920 800 ceiling_map
+pub a_frame_with_a_grant_at_the_ceiling : IsLawfulMap base
+    (demand_at (limited ∷ []) [] [] 920) (header_of base)
+    800 ceiling_map
 a_frame_with_a_grant_at_the_ceiling = (
   third_grant,
   record {
@@ -71,12 +79,14 @@ a_frame_with_a_grant_at_the_ceiling = (
           the_third_grant_is_at_the_ceiling_to_the_byte,
           refl,
         );
+        first = (lit< tt, (none_waits _ _, tt));
       },
       (
         record {
           some_slots = lit< tt;
           follows = refl;
-          purpose = (refl, inr ((λ e. absurd (omega (arith, e.takes.fits))), tt));
+          purpose = refl;
+          first = (lit< tt, (none_waits _ _, (inr ((λ e. absurd (omega (arith, e.takes.fits))), tt), tt)));
         },
         tt,
       ),
@@ -98,7 +108,9 @@ waiting_map = base_map 960 800 (element 0x3fff 1 0 ∷ element 0 6 4 ∷ element
     (0 ∷ 0 ∷ 0 ∷ 0 ∷ [])
 
 -- it is lawful
-pub a_frame_that_idles_at_the_ceiling : IsLawfulMap base (exhausted ∷ []) [] 960 800 waiting_map
+pub a_frame_that_idles_at_the_ceiling : IsLawfulMap base
+    (demand_at (exhausted ∷ []) [] [] 960) (header_of base)
+    800 waiting_map
 a_frame_that_idles_at_the_ceiling = (
   all_idle,
   record {
@@ -106,7 +118,8 @@ a_frame_that_idles_at_the_ceiling = (
       record {
         some_slots = lit< tt;
         follows = refl;
-        purpose = (refl, inr (a_flow_at_its_ceiling_is_not_eligible, tt));
+        purpose = refl;
+        first = (lit< tt, (none_waits _ _, (inr (a_flow_at_its_ceiling_is_not_eligible, tt), tt)));
       },
       tt,
     );

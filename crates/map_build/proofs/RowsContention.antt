@@ -3,14 +3,17 @@ use Rattle.std.proofs.Common.{◌≡◌, ℕ, List, [], ◌∷◌, map, refl, li
 use Rattle.map_codec.specs.Element.{word_of}
 use Rattle.flow_book.specs.Choice.{IsAmount}
 use Rattle.map_build.specs.declared.frame_map.FrameMap.{FrameMap}
-use Rattle.map_build.specs.Plan.{Allocation, DataGrant}
+use Rattle.map_build.specs.declared.purpose.Allocation.{Allocation}
+use Rattle.map_build.specs.declared.purpose.Purpose.TheVariants.{DataGrant}
+use Rattle.map_build.specs.Opportunities.{header_of}
+use Rattle.map_build.specs.Plan.{demand_at}
 use Rattle.map_build.specs.FrameMap.{IsLawfulMap}
 use Rattle.flow_book.proofs.Base.{base}
 use Rattle.flow_book.proofs.Unlimited.{MayGrant-unlimited}
 use Rattle.flow_book.proofs.RowsChoice.{low, high, lower_sid, higher_sid, the_higher_priority_is_next}
 use Rattle.flow_book.proofs.RowsChoice.{the_lower_sid_is_next}
 use Rattle.map_build.proofs.FlowsAfter.{allocation}
-use Rattle.map_build.proofs.RowsMaps.{element, base_map}
+use Rattle.map_build.proofs.RowsMaps.{element, base_map, none_waits}
 
 -- the frame behind the request region as one grant to this flow
 abbrev pub filled_by : ℕ → List Allocation
@@ -29,7 +32,9 @@ amount_of_high = record {
 }
 
 -- it is lawful
-pub the_higher_priority_is_served_first : IsLawfulMap base (low ∷ high ∷ []) [] 840 800 high_first
+pub the_higher_priority_is_served_first : IsLawfulMap base
+    (demand_at (low ∷ high ∷ []) [] [] 840) (header_of base)
+    800 high_first
 the_higher_priority_is_served_first = (
   filled_by 21,
   record {
@@ -38,6 +43,7 @@ the_higher_priority_is_served_first = (
         some_slots = lit< tt;
         follows = refl;
         purpose = (lit< tt, high, refl, the_higher_priority_is_next, amount_of_high, refl);
+        first = (lit< tt, (none_waits _ _, tt));
       },
       tt,
     );
@@ -66,7 +72,9 @@ amount_of_lower_sid = record {
 }
 
 -- it is lawful
-pub two_flows_take_turns : IsLawfulMap base (lower_sid ∷ higher_sid ∷ []) [] 840 800 both_pending
+pub two_flows_take_turns : IsLawfulMap base
+    (demand_at (lower_sid ∷ higher_sid ∷ []) [] [] 840) (header_of base)
+    800 both_pending
 two_flows_take_turns = (
   filled_by 20,
   record {
@@ -75,6 +83,7 @@ two_flows_take_turns = (
         some_slots = lit< tt;
         follows = refl;
         purpose = (lit< tt, lower_sid, refl, the_lower_sid_is_next, amount_of_lower_sid, refl);
+        first = (lit< tt, (none_waits _ _, tt));
       },
       tt,
     );

@@ -5,10 +5,12 @@ use Rattle.flow_book.specs.declared.spec.FlowSpec.TheVariants.{BestEffort}
 use Rattle.flow_book.specs.Flows.{LiveFlow}
 use Rattle.flow_book.specs.Choice.{MayTake, IsNext, IsAmount}
 use Rattle.map_build.specs.declared.frame_map.FrameMap.{FrameMap}
+use Rattle.map_build.specs.Opportunities.{header_of}
+use Rattle.map_build.specs.Plan.{demand_at}
 use Rattle.map_build.specs.FrameMap.{IsLawfulMap}
 use Rattle.flow_book.proofs.Base.{base}
 use Rattle.flow_book.proofs.FirstGrant.{KeepsCeiling-first}
-use Rattle.map_build.proofs.RowsMaps.{element, base_map}
+use Rattle.map_build.proofs.RowsMaps.{element, base_map, none_waits}
 use Rattle.map_build.proofs.RowsContention.{filled_by}
 
 -- a flow of 64000 bits in a second and bursts of so many bytes that asked so many
@@ -50,7 +52,8 @@ first_grant = base_map 840 800 (element 0x3fff 1 0 ∷ element 17 6 4 ∷ elemen
 
 -- it is lawful, whatever the burst above 544
 pub a_first_grant_fills_the_room : (burst : ℕ) → 544 ≤ burst →
-    IsLawfulMap base (fresh burst 3000 ∷ []) [] 840 800 first_grant
+    IsLawfulMap base (demand_at (fresh burst 3000 ∷ []) [] [] 840) (header_of base)
+    800 first_grant
 a_first_grant_fills_the_room burst enough = (
   filled_by 17,
   record {
@@ -67,6 +70,7 @@ a_first_grant_fills_the_room burst enough = (
               (lit≤ tt),
           refl,
         );
+        first = (lit< tt, (none_waits _ _, tt));
       },
       tt,
     );
@@ -86,7 +90,9 @@ abbrev pub whole_grant : FrameMap
 whole_grant = base_map 880 800 (element 0x3fff 1 0 ∷ element 17 6 4 ∷ element 0 7 40 ∷ []) (0 ∷ 544 ∷ 0 ∷ [])
 
 -- it is lawful
-pub a_first_grant_of_all_that_was_asked : IsLawfulMap base (fresh 600 544 ∷ []) [] 880 800 whole_grant
+pub a_first_grant_of_all_that_was_asked : IsLawfulMap base
+    (demand_at (fresh 600 544 ∷ []) [] [] 880) (header_of base)
+    800 whole_grant
 a_first_grant_of_all_that_was_asked = (
   filled_by 17,
   record {
@@ -103,6 +109,7 @@ a_first_grant_of_all_that_was_asked = (
               (lit≤ tt),
           refl,
         );
+        first = (lit< tt, (none_waits _ _, tt));
       },
       tt,
     );

@@ -1,12 +1,16 @@
 -- Worked examples of lawful MAPs.
-use Rattle.std.proofs.Common.{◌≡◌, ℕ, List, [], ◌∷◌, map, refl, inl, inr, lit<, lit≤, arith}
+use Rattle.std.proofs.Common.{◌≡◌, ℕ, List, [], ◌∷◌, map, Some, slice_get, refl, inl, inr, lit<, lit≤, arith}
 use Rattle.map_codec.specs.declared.element.Element.{Element}
 use Rattle.map_codec.specs.Element.{word_of}
 use Rattle.map_codec.specs.WireMap.{header, spelling}
 use Rattle.flow_book.specs.declared.spec.FlowSpec.TheVariants.{BestEffort}
 use Rattle.flow_book.specs.Flows.{LiveFlow}
 use Rattle.map_build.specs.declared.frame_map.FrameMap.{FrameMap}
-use Rattle.map_build.specs.Plan.{Allocation, DataGrant, Idle}
+use Rattle.map_build.specs.declared.opportunity.Opportunity.{Opportunity}
+use Rattle.map_build.specs.declared.purpose.Allocation.{Allocation}
+use Rattle.map_build.specs.declared.purpose.Purpose.TheVariants.{DataGrant, Idle}
+use Rattle.map_build.specs.Opportunities.{header_of}
+use Rattle.map_build.specs.Plan.{demand_at, NoneToMeet}
 use Rattle.map_build.specs.FrameMap.{IsLawfulMap}
 use Rattle.flow_book.proofs.Base.{base}
 use Rattle.map_build.proofs.FlowsAfter.{allocation}
@@ -35,6 +39,13 @@ base_map start ack elements bytes = record {
   bytes = bytes;
 }
 
+nothing-waits : (place : ℕ) (o : Opportunity) → slice_get [] place ≡ Some o → ⊥
+nothing-waits place o is = absurd (cc)
+
+-- where no opportunity waits there is none to meet
+pub none_waits : (before : List Allocation) (room : ℕ) → NoneToMeet [] before room
+none_waits before room = λ place o may. nothing-waits place o may.waits
+
 -- a frame that is idle behind its request region
 abbrev pub all_idle : List Allocation
 all_idle = allocation 4 36 Idle ∷ []
@@ -44,11 +55,21 @@ abbrev pub first_map : FrameMap
 first_map = base_map 800 800 (element 0x3fff 1 0 ∷ element 0 6 4 ∷ element 0 7 40 ∷ []) (0 ∷ 0 ∷ 0 ∷ [])
 
 -- it is lawful
-pub a_frame_without_flows : IsLawfulMap base [] [] 800 800 first_map
+pub a_frame_without_flows : IsLawfulMap base
+    (demand_at [] [] [] 800) (header_of base)
+    800 first_map
 a_frame_without_flows = (
   all_idle,
   (record {
-    each = (record { some_slots = lit< tt; follows = refl; purpose = (refl, inr tt) }, tt);
+    each = (
+      record {
+        some_slots = lit< tt;
+        follows = refl;
+        purpose = refl;
+        first = (lit< tt, (none_waits _ _, (inr tt, tt)));
+      },
+      tt,
+    );
     whole = refl;
     due = tt;
   }),
@@ -80,7 +101,9 @@ second_map = base_map 840 800 (element 0x3fff 1 0 ∷ element 17 6 4 ∷ element
     (0 ∷ 100 ∷ 0 ∷ 0 ∷ [])
 
 -- it is lawful
-pub a_frame_with_one_grant : IsLawfulMap base (small ∷ []) [] 840 800 second_map
+pub a_frame_with_one_grant : IsLawfulMap base
+    (demand_at (small ∷ []) [] [] 840) (header_of base)
+    800 second_map
 a_frame_with_one_grant = (
   one_grant,
   (record {
@@ -112,12 +135,14 @@ a_frame_with_one_grant = (
           },
           refl,
         );
+        first = (lit< tt, (none_waits _ _, tt));
       },
       (
         record {
           some_slots = lit< tt;
           follows = refl;
-          purpose = (refl, inr ((λ e. absurd (omega (arith, e.waits))), tt));
+          purpose = refl;
+          first = (lit< tt, (none_waits _ _, (inr ((λ e. absurd (omega (arith, e.waits))), tt), tt)));
         },
         tt,
       ),

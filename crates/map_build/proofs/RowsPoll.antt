@@ -5,11 +5,14 @@ use Rattle.flow_book.specs.declared.spec.FlowSpec.TheVariants.{Polled}
 use Rattle.flow_book.specs.Flows.{LiveFlow}
 use Rattle.periodic.specs.declared.placement.Spot.{Spot}
 use Rattle.map_build.specs.declared.frame_map.FrameMap.{FrameMap}
-use Rattle.map_build.specs.Plan.{Allocation, Poll, Idle}
+use Rattle.map_build.specs.declared.purpose.Allocation.{Allocation}
+use Rattle.map_build.specs.declared.purpose.Purpose.TheVariants.{Poll, Idle}
+use Rattle.map_build.specs.Opportunities.{header_of}
+use Rattle.map_build.specs.Plan.{demand_at}
 use Rattle.map_build.specs.FrameMap.{IsLawfulMap}
 use Rattle.flow_book.proofs.Base.{base}
 use Rattle.map_build.proofs.FlowsAfter.{allocation}
-use Rattle.map_build.proofs.RowsMaps.{element, base_map}
+use Rattle.map_build.proofs.RowsMaps.{element, base_map, none_waits}
 
 -- a polled flow of 5000 microseconds that asked nothing yet
 abbrev pub polled : LiveFlow
@@ -29,17 +32,20 @@ poll_map = base_map 800 800 (element 0x3fff 1 0 ∷ element 9 1 4 ∷ element 0 
     (0 ∷ 0 ∷ 0 ∷ 0 ∷ [])
 
 -- it is lawful
-pub a_frame_with_a_poll : IsLawfulMap base (polled ∷ []) (its_poll ∷ []) 800 800 poll_map
+pub a_frame_with_a_poll : IsLawfulMap base
+    (demand_at (polled ∷ []) (its_poll ∷ []) [] 800) (header_of base)
+    800 poll_map
 a_frame_with_a_poll = (
   poll_and_idle,
   record {
     each = (
-      record { some_slots = lit< tt; follows = refl; purpose = (0, lit< tt, refl) },
+      record { some_slots = lit< tt; follows = refl; purpose = (0, lit< tt, refl); first = tt },
       (
         record {
           some_slots = lit< tt;
           follows = refl;
-          purpose = (refl, inr ((λ e. absurd (omega (arith, e.waits))), tt));
+          purpose = refl;
+          first = (lit< tt, (none_waits _ _, (inr ((λ e. absurd (omega (arith, e.waits))), tt), tt)));
         },
         tt,
       ),

@@ -6,12 +6,15 @@ use Rattle.flow_book.specs.declared.flow.Grant.{Grant}
 use Rattle.flow_book.specs.Flows.{LiveFlow}
 use Rattle.flow_book.specs.Choice.{IsNext, IsAmount}
 use Rattle.map_build.specs.declared.frame_map.FrameMap.{FrameMap}
-use Rattle.map_build.specs.Plan.{Allocation, DataGrant, Idle}
+use Rattle.map_build.specs.declared.purpose.Allocation.{Allocation}
+use Rattle.map_build.specs.declared.purpose.Purpose.TheVariants.{DataGrant, Idle}
+use Rattle.map_build.specs.Opportunities.{header_of}
+use Rattle.map_build.specs.Plan.{demand_at}
 use Rattle.map_build.specs.FrameMap.{IsLawfulMap}
 use Rattle.flow_book.proofs.Base.{base}
 use Rattle.flow_book.proofs.Unlimited.{MayGrant-unlimited, IsEligible-unlimited}
 use Rattle.map_build.proofs.FlowsAfter.{allocation}
-use Rattle.map_build.proofs.RowsMaps.{element, base_map}
+use Rattle.map_build.proofs.RowsMaps.{element, base_map, none_waits}
 use Rattle.map_build.proofs.RowsContention.{filled_by}
 
 -- flows 20 and 21 of one priority, each with 1000 bytes asked and these grants
@@ -48,7 +51,9 @@ second_turn =
     (0 ∷ 544 ∷ 0 ∷ 0 ∷ 0 ∷ [])
 
 -- it is lawful
-pub the_flow_without_a_grant_is_served : IsLawfulMap base (lower (grant_at 844) ∷ higher [] ∷ []) [] 880 800 second_turn
+pub the_flow_without_a_grant_is_served : IsLawfulMap base
+    (demand_at (lower (grant_at 844) ∷ higher [] ∷ []) [] [] 880) (header_of base)
+    800 second_turn
 the_flow_without_a_grant_is_served = (
   filled_by 21,
   record {
@@ -57,6 +62,7 @@ the_flow_without_a_grant_is_served = (
         some_slots = lit< tt;
         follows = refl;
         purpose = (lit< tt, higher [], refl, the_other_is_next, amount_of_the_other, refl);
+        first = (lit< tt, (none_waits _ _, tt));
       },
       tt,
     );
@@ -97,8 +103,9 @@ third_turn =
     (0 ∷ 456 ∷ 0 ∷ 0 ∷ 0 ∷ [])
 
 -- it is lawful: one flow has all it asked, and the quantum of the other does not fit
-pub the_flow_with_the_earlier_grant_is_served : IsLawfulMap base (lower (grant_at 844) ∷ higher (grant_at 884) ∷ [])
-    [] 920 800 third_turn
+pub the_flow_with_the_earlier_grant_is_served : IsLawfulMap base
+    (demand_at (lower (grant_at 844) ∷ higher (grant_at 884) ∷ []) [] [] 920) (header_of base)
+    800 third_turn
 the_flow_with_the_earlier_grant_is_served = (
   rest_granted,
   record {
@@ -107,14 +114,19 @@ the_flow_with_the_earlier_grant_is_served = (
         some_slots = lit< tt;
         follows = refl;
         purpose = (lit< tt, lower (grant_at 844), refl, the_earlier_is_next, amount_of_the_earlier, refl);
+        first = (lit< tt, (none_waits _ _, tt));
       },
       (
         record {
           some_slots = lit< tt;
           follows = refl;
-          purpose = (
-            refl,
-            inr ((λ e. absurd (omega (arith, e.waits))), ((λ e. absurd (omega (arith, e.takes.fits))), tt)),
+          purpose = refl;
+          first = (
+            lit< tt,
+            (
+              none_waits _ _,
+              (inr ((λ e. absurd (omega (arith, e.waits))), ((λ e. absurd (omega (arith, e.takes.fits))), tt)), tt),
+            ),
           );
         },
         tt,

@@ -4,6 +4,8 @@ use Rattle.map_codec.specs.Element.{element_at}
 use Rattle.flow_book.proofs.Base.{base}
 use Rattle.flow_book.proofs.RowsChoice.{low, high, lower_sid, higher_sid}
 use Rattle.map_build.specs.declared.frame_map.FrameMap.{FrameMap}
+use Rattle.map_build.specs.Opportunities.{header_of}
+use Rattle.map_build.specs.Plan.{demand_at}
 use Rattle.map_build.specs.FrameMap.{IsLawfulMap}
 use Rattle.map_build.proofs.OneMap.{one_map}
 use Rattle.map_build.proofs.Apart.{BeginApart-nil, BeginApart-one}
@@ -18,10 +20,12 @@ one_pending = base_map 840 800 (element 0x3fff 1 0 ∷ element 20 6 4 ∷ elemen
     (0 ∷ 544 ∷ 0 ∷ 0 ∷ [])
 
 -- a MAP that leaves out a pending grant is not lawful
-pub a_map_without_a_pending_grant_is_not_lawful : IsLawfulMap base (lower_sid ∷ higher_sid ∷ [])
-    [] 840 800 one_pending → ⊥
+pub a_map_without_a_pending_grant_is_not_lawful : IsLawfulMap base
+    (demand_at (lower_sid ∷ higher_sid ∷ []) [] [] 840) (header_of base)
+    800 one_pending → ⊥
 a_map_without_a_pending_grant_is_not_lawful lawful =
-    let e = one_map base (lower_sid ∷ higher_sid ∷ []) [] 840 (lit< tt) BeginApart-nil 800 one_pending both_pending
+    let e = one_map base (demand_at (lower_sid ∷ higher_sid ∷ []) [] [] 840) (lit< tt) BeginApart-nil
+    (header_of base) 800 one_pending both_pending
     lawful two_flows_take_turns in
     omega (arith, ap (λ m. length m.wire.elements) e)
 
@@ -31,10 +35,13 @@ low_first = base_map 840 800 (element 0x3fff 1 0 ∷ element 20 6 4 ∷ element 
     (0 ∷ 544 ∷ 0 ∷ 0 ∷ [])
 
 -- a MAP that serves a lower priority first is not lawful
-pub a_map_that_serves_the_lower_priority_first_is_not_lawful : IsLawfulMap base (low ∷ high ∷ []) [] 840 800 low_first →
+pub a_map_that_serves_the_lower_priority_first_is_not_lawful : IsLawfulMap base
+    (demand_at (low ∷ high ∷ []) [] [] 840) (header_of base)
+    800 low_first →
     ⊥
 a_map_that_serves_the_lower_priority_first_is_not_lawful lawful =
-    let e = one_map base (low ∷ high ∷ []) [] 840 (lit< tt) BeginApart-nil 800 low_first high_first lawful
+    let e = one_map base (demand_at (low ∷ high ∷ []) [] [] 840) (lit< tt) BeginApart-nil
+    (header_of base) 800 low_first high_first lawful
     the_higher_priority_is_served_first in
     omega (arith, ap (λ m. (element_at m.wire.elements 1).sid) e)
 
@@ -44,9 +51,12 @@ idle_first = base_map 840 800 (element 0x3fff 1 0 ∷ element 0 6 4 ∷ element 
     (0 ∷ 0 ∷ 0 ∷ 0 ∷ [])
 
 -- a MAP whose minislots are idle while a flow is eligible is not lawful
-pub a_map_that_idles_while_a_flow_is_eligible_is_not_lawful : IsLawfulMap base (small ∷ []) [] 840 800 idle_first → ⊥
+pub a_map_that_idles_while_a_flow_is_eligible_is_not_lawful : IsLawfulMap base
+    (demand_at (small ∷ []) [] [] 840) (header_of base)
+    800 idle_first → ⊥
 a_map_that_idles_while_a_flow_is_eligible_is_not_lawful lawful =
-    let e = one_map base (small ∷ []) [] 840 (lit< tt) BeginApart-nil 800 idle_first second_map lawful
+    let e = one_map base (demand_at (small ∷ []) [] [] 840) (lit< tt) BeginApart-nil
+    (header_of base) 800 idle_first second_map lawful
     a_frame_with_one_grant in
     omega (arith, ap (λ m. (element_at m.wire.elements 1).sid) e)
 
@@ -55,8 +65,11 @@ abbrev without_poll : FrameMap
 without_poll = base_map 800 800 (element 0x3fff 1 0 ∷ element 0 6 4 ∷ element 0 7 40 ∷ []) (0 ∷ 0 ∷ 0 ∷ [])
 
 -- a MAP that misses a poll is not lawful
-pub a_map_without_a_poll_is_not_lawful : IsLawfulMap base (polled ∷ []) (its_poll ∷ []) 800 800 without_poll → ⊥
+pub a_map_without_a_poll_is_not_lawful : IsLawfulMap base
+    (demand_at (polled ∷ []) (its_poll ∷ []) [] 800) (header_of base)
+    800 without_poll → ⊥
 a_map_without_a_poll_is_not_lawful lawful =
-    let e = one_map base (polled ∷ []) (its_poll ∷ []) 800 (lit< tt) (BeginApart-one its_poll) 800 without_poll
+    let e = one_map base (demand_at (polled ∷ []) (its_poll ∷ []) [] 800) (lit< tt) (BeginApart-one its_poll)
+    (header_of base) 800 without_poll
     poll_map lawful a_frame_with_a_poll in
     omega (arith, ap (λ m. length m.wire.elements) e)

@@ -4,13 +4,16 @@ use Rattle.map_codec.specs.Element.{word_of}
 use Rattle.flow_book.specs.Flows.{LiveFlow}
 use Rattle.periodic.specs.declared.placement.Spot.{Spot}
 use Rattle.map_build.specs.declared.frame_map.FrameMap.{FrameMap}
-use Rattle.map_build.specs.Plan.{Allocation, UnsolicitedGrant, Idle}
+use Rattle.map_build.specs.declared.purpose.Allocation.{Allocation}
+use Rattle.map_build.specs.declared.purpose.Purpose.TheVariants.{UnsolicitedGrant, Idle}
+use Rattle.map_build.specs.Opportunities.{header_of}
+use Rattle.map_build.specs.Plan.{demand_at}
 use Rattle.map_build.specs.FrameMap.{IsLawfulMap}
 use Rattle.flow_book.proofs.Base.{base}
 use Rattle.periodic.proofs.RowsPlacement.{voice, voice_at}
 use Rattle.periodic.proofs.RowsGrants.{double_voice}
 use Rattle.map_build.proofs.FlowsAfter.{allocation}
-use Rattle.map_build.proofs.RowsMaps.{element, base_map}
+use Rattle.map_build.proofs.RowsMaps.{element, base_map, none_waits}
 
 -- an unsolicited flow
 abbrev voice_flow : ℕ → LiveFlow
@@ -35,21 +38,27 @@ unsolicited_map =
     (0 ∷ 0 ∷ 0 ∷ 0 ∷ 0 ∷ [])
 
 -- it is lawful
-pub a_frame_with_unsolicited_grants : IsLawfulMap base voices their_spots 800 800 unsolicited_map
+pub a_frame_with_unsolicited_grants : IsLawfulMap base
+    (demand_at voices their_spots [] 800) (header_of base)
+    800 unsolicited_map
 a_frame_with_unsolicited_grants = (
   two_grants,
   record {
     each = (
-      record { some_slots = lit< tt; follows = refl; purpose = (0, lit< tt, refl) },
+      record { some_slots = lit< tt; follows = refl; purpose = (0, lit< tt, refl); first = tt },
       (
-        record { some_slots = lit< tt; follows = refl; purpose = (1, lit< tt, refl) },
+        record { some_slots = lit< tt; follows = refl; purpose = (1, lit< tt, refl); first = tt },
         (
           record {
             some_slots = lit< tt;
             follows = refl;
-            purpose = (
-              refl,
-              inr ((λ e. absurd (omega (arith, e.waits))), ((λ e. absurd (omega (arith, e.waits))), tt)),
+            purpose = refl;
+            first = (
+              lit< tt,
+              (
+                none_waits _ _,
+                (inr ((λ e. absurd (omega (arith, e.waits))), ((λ e. absurd (omega (arith, e.waits))), tt)), tt),
+              ),
             );
           },
           tt,
@@ -78,20 +87,22 @@ double_map =
     (0 ∷ 0 ∷ 0 ∷ 0 ∷ 0 ∷ [])
 
 -- it is lawful
-pub a_frame_with_two_grants_of_a_flow : IsLawfulMap base double_voices (voice_at 5 4 ∷ voice_at 5 19 ∷ []) 800 800
-    double_map
+pub a_frame_with_two_grants_of_a_flow : IsLawfulMap base
+    (demand_at double_voices (voice_at 5 4 ∷ voice_at 5 19 ∷ []) [] 800) (header_of base)
+    800 double_map
 a_frame_with_two_grants_of_a_flow = (
   allocation 4 15 (UnsolicitedGrant 5) ∷ allocation 19 15 (UnsolicitedGrant 5) ∷ allocation 34 6 Idle ∷ [],
   record {
     each = (
-      record { some_slots = lit< tt; follows = refl; purpose = (0, lit< tt, refl) },
+      record { some_slots = lit< tt; follows = refl; purpose = (0, lit< tt, refl); first = tt },
       (
-        record { some_slots = lit< tt; follows = refl; purpose = (1, lit< tt, refl) },
+        record { some_slots = lit< tt; follows = refl; purpose = (1, lit< tt, refl); first = tt },
         (
           record {
             some_slots = lit< tt;
             follows = refl;
-            purpose = (refl, inr ((λ e. absurd (omega (arith, e.waits))), tt));
+            purpose = refl;
+            first = (lit< tt, (none_waits _ _, (inr ((λ e. absurd (omega (arith, e.waits))), tt), tt)));
           },
           tt,
         ),

@@ -1,6 +1,6 @@
 -- A lawful MAP is lawful for the same spots in any order.
-use Rattle.std.proofs.Common.{◌≡◌, ℕ, zero, suc, ◌+◌, ◌*◌, Result, ◌≤◌, List, [], ◌∷◌, ◌++◌, length, Contains, inl}
-use Rattle.std.proofs.Common.{inr, refl, subst, ◌∙◌, arith}
+use Rattle.std.proofs.Common.{◌≡◌, ℕ, zero, suc, ◌+◌, ◌*◌, Result, ◌<◌, ◌≤◌, List, [], ◌∷◌, ◌++◌, length, Contains}
+use Rattle.std.proofs.Common.{inl, inr, refl, subst, ◌∙◌, arith}
 use Rattle.std.specs.List.{AllByRecursion}
 use Rattle.std.specs.List.Sorted.{IsPermutation}
 use Rattle.std.specs.Result.{IfOk}
@@ -8,17 +8,24 @@ use Rattle.std.proofs.lemmas.Result.{IfOk-weaker}
 use Rattle.std.proofs.lemmas.List.Sorted.{Contains-permutation, IsPermutation-sym}
 use Rattle.minislots.specs.declared.config.Config.{Config}
 use Rattle.flow_book.specs.Flows.{LiveFlow}
-use Rattle.flow_book.specs.Book.{BookView}
 use Rattle.flow_book.specs.Choice.{IsNext, IsAmount, NoneEligible}
 use Rattle.periodic.specs.declared.placement.Spot.{Spot}
-use Rattle.periodic.specs.Placement.{Placed, spots_in}
+use Rattle.periodic.specs.Placement.{Placed as PlacedFlow, spots_in}
 use Rattle.periodic.specs.Table.{FollowInTurn, IsWithinFrame}
+use Rattle.map_build.specs.declared.frame.PlannedFrame.{PlannedFrame}
 use Rattle.map_build.specs.declared.frame_map.FrameMap.{FrameMap}
+use Rattle.map_build.specs.declared.opportunity.Header.{Header}
+use Rattle.map_build.specs.declared.opportunity.Opportunity.{Opportunity}
+use Rattle.map_build.specs.declared.purpose.Allocation.{Allocation}
+use Rattle.map_build.specs.declared.purpose.Purpose.{Purpose}
+use Rattle.map_build.specs.declared.purpose.Purpose.TheVariants.{Poll, UnsolicitedGrant, Offer, DataGrant, Idle}
 use Rattle.map_build.specs.EachAfter.{EachAfter}
-use Rattle.map_build.specs.Plan.{Purpose, Poll, UnsolicitedGrant, DataGrant, Idle, Allocation, next_stop, room_at}
-use Rattle.map_build.specs.Plan.{flows_after, Stands, StandsByItsRule, allocation_of, IsPlan}
+use Rattle.map_build.specs.Purpose.{Rank, Placed, Reserved, Requested, Left, rank_of, ranks_before, allocation_of}
+use Rattle.map_build.specs.Plan.{Demand, demand_at, next_stop, room_at, flows_after, IsFirstToMeet, NoneToMeet}
+use Rattle.map_build.specs.Plan.{NoneOf, IsOfRank, Stands, IsPlan}
 use Rattle.map_build.specs.FrameMap.{IsLawfulMap, IsLawfulFrame}
 use Rattle.map_build.specs.Spots.{IsInFrame, AreInFrame, HaveFlowSids}
+use Rattle.map_build.proofs.Left.{with_spots, all-weaker}
 use Rattle.map_build.proofs.Standings.{member-at}
 use Rattle.map_build.proofs.Stops.{next_stop-most, next_stop-is, next_stop-spot}
 
@@ -42,78 +49,86 @@ next_stop-among c spots others offset among = elim (next_stop-is c spots offset)
   | inr is ↦ omega (arith, is.3, next_stop-spot c others offset is.0 (among is.0 is.1) is.2)
 ]
 
-module _ (c : Config) (flows : List LiveFlow) (start : ℕ) (spots others : List Spot) (there : AreAmong spots others)
-    (back : AreAmong others spots) where
-  same-room : (offset : ℕ) → room_at c spots offset ≡ room_at c others offset
+module _ (c : Config) (d : Demand) (others : List Spot) (there : AreAmong d.spots others)
+    (back : AreAmong others d.spots) where
+  same-room : (offset : ℕ) → room_at c d.spots offset ≡ room_at c others offset
   same-room offset =
-      omega (arith, next_stop-among c spots others offset there, next_stop-among c others spots offset back)
+      omega (arith, next_stop-among c d.spots others offset there, next_stop-among c others d.spots offset back)
 
   same-purpose : (before : List Allocation) (offset slots : ℕ) (purpose : Purpose) →
-      StandsByItsRule c flows spots start before offset slots purpose →
-      StandsByItsRule c flows others start before offset slots purpose
-  same-purpose before offset slots (Poll sid) stands = there _ stands
-  same-purpose before offset slots (UnsolicitedGrant sid) stands = there _ stands
-  same-purpose before offset slots (DataGrant sid bytes) stands = (
-    stands.0,
-    stands.1,
-    stands.2,
-    subst (λ r. IsNext c (flows_after start before flows) (start + offset) r stands.1) (same-room offset) stands.3,
-    subst (λ r. IsAmount c stands.1 (start + offset) r bytes) (same-room offset) stands.4,
-    stands.5,
+      IsOfRank c d before offset slots purpose → IsOfRank c (with_spots others d) before offset slots purpose
+  same-purpose before offset slots (Poll sid) is = there _ is
+  same-purpose before offset slots (UnsolicitedGrant sid) is = there _ is
+  same-purpose before offset slots (Offer place usage) is =
+      subst (λ r. IsFirstToMeet d.waiting before r place (record { usage = usage; slots = slots }))
+      (same-room offset) is
+  same-purpose before offset slots (DataGrant sid bytes) is = (
+    is.0,
+    is.1,
+    is.2,
+    subst (λ r. IsNext c (flows_after d.start before d.flows) (d.start + offset) r is.1) (same-room offset) is.3,
+    subst (λ r. IsAmount c is.1 (d.start + offset) r bytes) (same-room offset) is.4,
+    is.5,
   )
-  same-purpose before offset slots Idle stands = (
-    stands.0 ∙ same-room offset,
-    elim stands.1 [
-      | inl full ↦ inl full
-      | inr none ↦ inr (subst (λ r. NoneEligible c (flows_after start before flows) (start + offset) r)
-          (same-room offset) none)
-    ],
-  )
+  same-purpose before offset slots Idle is = is ∙ same-room offset
 
-  same-each : (before plan : List Allocation) → EachAfter (Stands c flows spots start) before plan →
-      EachAfter (Stands c flows others start) before plan
+  same-none : (before : List Allocation) (offset : ℕ) (r : Rank) → NoneOf c d before offset r →
+      NoneOf c (with_spots others d) before offset r
+  same-none before offset Placed none = subst (λ r. 0 < r) (same-room offset) none
+  same-none before offset Reserved none = subst (λ r. NoneToMeet d.waiting before r) (same-room offset) none
+  same-none before offset Requested none = elim none [
+    | inl full ↦ inl full
+    | inr nobody ↦ inr (subst (λ r. NoneEligible c (flows_after d.start before d.flows) (d.start + offset) r)
+        (same-room offset) nobody)
+  ]
+  same-none before offset Left none = none
+
+  same-each : (before plan : List Allocation) → EachAfter (Stands c d) before plan →
+      EachAfter (Stands c (with_spots others d)) before plan
   same-each before [] each = tt
   same-each before (a ∷ plan) each = (
     record {
       some_slots = each.0.some_slots;
       follows = each.0.follows;
       purpose = same-purpose before a.offset a.slots a.purpose each.0.purpose;
+      first = all-weaker (NoneOf c d before a.offset) (NoneOf c (with_spots others d) before a.offset)
+          (ranks_before (rank_of a.purpose)) (same-none before a.offset) each.0.first;
     },
     same-each (before ++ a ∷ []) plan each.1,
   )
 
   -- a plan round the ones is one round the others
-  plan-among : (plan : List Allocation) → IsPlan c flows spots start plan → IsPlan c flows others start plan
+  plan-among : (plan : List Allocation) → IsPlan c d plan → IsPlan c (with_spots others d) plan
   plan-among plan is = record {
     each = same-each [] plan is.each;
     whole = is.whole;
     due = all-members (λ (t : Spot). Contains plan (allocation_of t)) others
-        (λ s has. member-at (λ (t : Spot). Contains plan (allocation_of t)) spots s is.due (back s has));
+        (λ s has. member-at (λ (t : Spot). Contains plan (allocation_of t)) d.spots s is.due (back s has));
   }
 
+-- a plan round spots in one order is one in another
+plan-reordered : (c : Config) (d : Demand) (others : List Spot) (plan : List Allocation) →
+    IsPermutation d.spots others → IsPlan c d plan → IsPlan c (with_spots others d) plan
+plan-reordered c d others plan moved is =
+    plan-among c d others (λ s has. Contains-permutation d.spots others s moved has)
+    (λ s has. Contains-permutation others d.spots s (IsPermutation-sym d.spots others moved) has) plan is
+
 -- a frame that is lawful for spots in one order is so in another
-frame-reordered : (c : Config) (flows : List LiveFlow) (spots others : List Spot) (start ack : ℕ)
-    (m : FrameMap) (granted : List LiveFlow) → IsPermutation spots others →
-    IsLawfulFrame c flows others start ack m granted → IsLawfulFrame c flows spots start ack m granted
-frame-reordered c flows spots others start ack m granted moved (plan, is, made, after) = (
-  plan,
-  plan-among c flows start others spots (λ s has. Contains-permutation others spots s
-      (IsPermutation-sym spots others moved) has)
-      (λ s has. Contains-permutation spots others s moved has) plan is,
-  made,
-  after,
-)
+frame-reordered : (c : Config) (d : Demand) (others : List Spot) (header : Header) (ack : ℕ) (p : PlannedFrame) →
+    IsPermutation d.spots others → IsLawfulFrame c (with_spots others d) header ack p →
+    IsLawfulFrame c d header ack p
+frame-reordered c d others header ack p moved is = record {
+  plan = is.plan;
+  is_plan = plan-reordered c (with_spots others d) d.spots is.plan (IsPermutation-sym d.spots others moved) is.is_plan;
+  map = is.map;
+  flows = is.flows;
+  met = is.met;
+}
 
 -- and a MAP the other way round
-lawful-in_order : (c : Config) (flows : List LiveFlow) (spots others : List Spot) (start ack : ℕ) (m : FrameMap) →
-    IsPermutation spots others →
-    IsLawfulMap c flows spots start ack m → IsLawfulMap c flows others start ack m
-lawful-in_order c flows spots others start ack m moved (plan, is, made) = (
-  plan,
-  plan-among c flows start spots others (λ s has. Contains-permutation spots others s moved has)
-      (λ s has. Contains-permutation others spots s (IsPermutation-sym spots others moved) has) plan is,
-  made,
-)
+lawful-in_order : (c : Config) (d : Demand) (others : List Spot) (header : Header) (ack : ℕ) (m : FrameMap) →
+    IsPermutation d.spots others → IsLawfulMap c d header ack m → IsLawfulMap c (with_spots others d) header ack m
+lawful-in_order c d others header ack m moved (plan, is, made) = (plan, plan-reordered c d others plan moved is, made)
 
 each-in_frame : (c : Config) (spots : List Spot) → AllByRecursion (IsWithinFrame c) spots →
     AllByRecursion (IsInFrame c) spots
@@ -135,27 +150,28 @@ written-sids c (s ∷ spots) within =
     ((omega (arith, within.0.sid_positive), within.0.sid_most), written-sids c spots within.1)
 
 -- what is lawful for the spots that a table tells of frame k is lawful for those of its placements
-pub frame-told : {E : Type 0} (c d : Config) (flows : List LiveFlow) (k n ack : ℕ) (placed : List Placed)
-    (spots : List Spot) (r : Result (FrameMap × BookView) E) →
+pub frame-told : {E : Type 0} (c d : Config) (flows : List LiveFlow) (waiting : List Opportunity) (header : Header)
+    (k n ack : ℕ) (placed : List PlacedFlow) (spots : List Spot) (r : Result PlannedFrame E) →
     d ≡ c → IsPermutation (spots_in d k placed) spots → n ≡ c.frame →
-    IfOk r (λ both. IsLawfulFrame c flows spots (k * n) ack both.0 both.1.flows) →
-    IfOk r (λ both. IsLawfulFrame c flows (spots_in c k placed) (k * c.frame) ack both.0 both.1.flows)
-frame-told c d flows k n ack placed spots r same moved slots lawful =
+    IfOk r (λ p. IsLawfulFrame c (demand_at flows spots waiting (k * n)) header ack p) →
+    IfOk r (λ p. IsLawfulFrame c (demand_at flows (spots_in c k placed) waiting (k * c.frame)) header ack p)
+frame-told c d flows waiting header k n ack placed spots r same moved slots lawful =
     IfOk-weaker r _ _
-    (λ both is. frame-reordered c flows (spots_in c k placed) spots (k * c.frame) ack both.0 both.1.flows
+    (λ p is. frame-reordered c (demand_at flows (spots_in c k placed) waiting (k * c.frame)) spots header ack p
     (subst (λ e. IsPermutation (spots_in e k placed) spots) same moved) is)
     (rw slots at lawful)
 
 -- and there is no other
-pub only-told : {E : Type 0} (c d : Config) (flows : List LiveFlow) (k n ack : ℕ) (placed : List Placed)
-    (spots : List Spot) (r : Result (FrameMap × BookView) E) →
+pub only-told : {E : Type 0} (c d : Config) (flows : List LiveFlow) (waiting : List Opportunity) (header : Header)
+    (k n ack : ℕ) (placed : List PlacedFlow) (spots : List Spot) (r : Result PlannedFrame E) →
     d ≡ c → IsPermutation (spots_in d k placed) spots → n ≡ c.frame →
-    IfOk r (λ both. (other : FrameMap) → IsLawfulMap c flows spots (k * n) ack other → other ≡ both.0) →
-    IfOk r (λ both. (other : FrameMap) → IsLawfulMap c flows (spots_in c k placed) (k * c.frame) ack other
-    → other ≡ both.0)
-only-told c d flows k n ack placed spots r same moved slots only =
+    IfOk r (λ p. (other : FrameMap) → IsLawfulMap c (demand_at flows spots waiting (k * n)) header ack other →
+    other ≡ p.map) →
+    IfOk r (λ p. (other : FrameMap) →
+    IsLawfulMap c (demand_at flows (spots_in c k placed) waiting (k * c.frame)) header ack other → other ≡ p.map)
+only-told c d flows waiting header k n ack placed spots r same moved slots only =
     IfOk-weaker r _ _
-    (λ both is other lawful. is other
-    (lawful-in_order c flows (spots_in c k placed) spots (k * c.frame) ack other
+    (λ p is other lawful. is other
+    (lawful-in_order c (demand_at flows (spots_in c k placed) waiting (k * c.frame)) spots header ack other
     (subst (λ e. IsPermutation (spots_in e k placed) spots) same moved) lawful))
     (rw slots at only)

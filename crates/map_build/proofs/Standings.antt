@@ -1,22 +1,15 @@
 -- What may stand at the offset that a draft has reached.
 use Rattle.std.proofs.Common.{◌≡◌, ℕ, zero, suc, ◌+◌, ◌<◌, ◌≤◌, Bool, true, false, ◌==◌, List, [], ◌∷◌, find}
 use Rattle.std.proofs.Common.{Contains, Option, None, Some, cond, inl, inr, refl, sym, ap, ◌∙◌, subst, arith}
-use Rattle.std.specs.Option.{IsSomeAnd}
 use Rattle.std.specs.List.{AllByRecursion}
 use Rattle.std.proofs.lemmas.Bool.{cases_lt}
 use Rattle.std.proofs.lemmas.Bool.Decides.{nat_tests}
 use Rattle.std.proofs.lemmas.List.Elements.{All-contains, All-from_recursion}
 use Rattle.minislots.specs.declared.config.Config.{Config}
-use Rattle.minislots.specs.Units.{slots_for}
-use Rattle.flow_book.specs.Flows.{LiveFlow, flow_of}
-use Rattle.flow_book.specs.Choice.{IsNext, IsAmount, NoneEligible}
 use Rattle.periodic.specs.declared.placement.Spot.{Spot}
-use Rattle.map_build.specs.declared.draft.Draft.{Draft}
-use Rattle.map_build.specs.Plan.{Allocation, DataGrant, next_stop, room_at, end_of, most_grants, Stands}
-use Rattle.map_build.specs.Plan.{StandsByItsRule, allocation_of}
+use Rattle.map_build.specs.Plan.{next_stop}
 use Rattle.periodic.specs.Table.{FollowInTurn}
 use Rattle.map_build.specs.Spots.{IsInFrame, AreInFrame}
-use Rattle.map_build.specs.Walk.{IsAfter, IsNextAmount, NoneServed, idle_to, grant_here}
 use Rattle.map_build.proofs.Stops.{next_stop-is}
 
 found-cond : {X : Type 0} (p : X → Bool) (b : Bool) (y x : X) (xs : List X) → p y ≡ b → cond b (Some y) (find p xs)
@@ -45,7 +38,8 @@ missed-in p (y ∷ xs) x none (zero, lt, at) = subst (λ z. p z ≡ false) at (m
 missed-in p (y ∷ xs) x none (suc k, lt, at) =
     missed-in p xs x (missed-cond (p y) y (find p xs) none).1 (k, omega arith, at)
 
-equal : (m n : ℕ) → (m == n) ≡ true → m ≡ n
+-- numbers that are the same by the test are
+pub equal : (m n : ℕ) → (m == n) ≡ true → m ≡ n
 equal m n e = grind (arith, nat_tests)
 
 differ : (m n : ℕ) → (m == n) ≡ false → m ≡ n → ⊥
@@ -98,68 +92,3 @@ stop-behind c spots offset inside none = elim (cases_lt offset (next_stop c spot
         (omega (arith, is.2, is.3)))
   ]
 ]
-
-purpose-spot : (c : Config) (flows : List LiveFlow) (spots : List Spot) (start : ℕ) (before : List Allocation)
-    (poll : Bool) (sid offset slots : ℕ) →
-    Contains spots (record { sid = sid; poll = poll; offset = offset; slots = slots }) →
-    StandsByItsRule c flows spots start before offset slots
-    (allocation_of (record { sid = sid; poll = poll; offset = offset; slots = slots })).purpose
-purpose-spot c flows spots start before true sid offset slots is = is
-purpose-spot c flows spots start before false sid offset slots is = is
-
--- a spot stands where it begins
-pub spot-stands : (c : Config) (flows : List LiveFlow) (spots : List Spot) (start : ℕ) (plan : List Allocation)
-    (s : Spot) → AreInFrame c spots →
-    Contains spots s → s.offset ≡ end_of c plan → Stands c flows spots start plan (allocation_of s)
-spot-stands c flows spots start plan s are is here = record {
-  some_slots = (spot-within c spots s are is).some_slots;
-  follows = here;
-  purpose = purpose-spot c flows spots start plan s.poll s.sid s.offset s.slots is;
-}
-
-module _ (flows : List LiveFlow) (spots : List Spot) (plan : List Allocation) (d : Draft)
-    (after : IsAfter flows plan d) where
-  grant-purpose : (sid bytes : ℕ) (o : Option LiveFlow) → d.grants < most_grants →
-      ((f : LiveFlow) → o ≡ Some f → f.sid ≡ sid) →
-      IsSomeAnd o (λ f. IsNext d.book.config d.book.flows (d.start + d.offset) (room_at d.book.config spots d.offset) f
-      × IsAmount d.book.config f (d.start + d.offset) (room_at d.book.config spots d.offset) bytes) →
-      StandsByItsRule d.book.config flows spots d.start plan d.offset (slots_for d.book.config bytes)
-      (DataGrant sid bytes)
-  grant-purpose sid bytes None few named is = absurd is
-  grant-purpose sid bytes (Some f) few named is = (
-    omega (arith, few, after.grants),
-    f,
-    named f refl,
-    subst (λ fs. IsNext d.book.config fs (d.start + d.offset) (room_at d.book.config spots d.offset) f)
-        after.flows_now is.0,
-    is.1,
-    refl,
-  )
-
-  -- a data grant of its amount to the flow that is next
-  pub grant-stands : (sid bytes : ℕ) → 0 < d.book.config.overhead → d.grants < most_grants →
-      IsNextAmount d (room_at d.book.config spots d.offset) sid bytes →
-      Stands d.book.config flows spots d.start plan (grant_here d sid bytes)
-  grant-stands sid bytes overhead few is = record {
-    some_slots = omega arith;
-    follows = after.ends;
-    purpose = grant-purpose sid bytes (flow_of sid d.book.flows) few
-        (λ f found. equal f.sid sid (found-in (λ (g : LiveFlow). g.sid == sid) d.book.flows f found).1) is;
-  }
-
-  -- an idle up to the next stop, where no flow gets a grant
-  pub idle-stands : (stop : ℕ) → stop ≡ next_stop d.book.config spots d.offset → d.offset < stop →
-      NoneServed d (room_at d.book.config spots d.offset) →
-      Stands d.book.config flows spots d.start plan (idle_to d stop)
-  idle-stands stop is behind served = record {
-    some_slots = omega arith;
-    follows = after.ends;
-    purpose = (
-      omega (arith, is),
-      elim served [
-        | inl full ↦ inl (omega (arith, full, after.grants))
-        | inr none ↦ inr (subst (λ fs. NoneEligible d.book.config fs (d.start + d.offset)
-            (room_at d.book.config spots d.offset)) after.flows_now none)
-      ],
-    );
-  }

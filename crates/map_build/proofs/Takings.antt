@@ -1,73 +1,171 @@
--- Steps of a draft: an element more of it is an allocation more.
-use Rattle.std.proofs.Common.{◌≡◌, ℕ, ◌-◌, Bool, true, false, [], ◌∷◌, ◌++◌, if◌then◌else◌, refl, sym, ap, ◌∙◌, arith}
-use Rattle.map_codec.specs.declared.element.iuc.TheConstants.{REQUEST}
+-- Steps of a draft: it knows of an allocation, whose element is to come; then it has its element.
+use Rattle.std.proofs.Common.{◌≡◌, ◌≢◌, ℕ, zero, suc, ◌+◌, ◌<◌, ◌≤◌, Bool, true, false, ◌==◌, List, [], ◌∷◌}
+use Rattle.std.proofs.Common.{length, Option, None, Some, ◌⊎◌, set, unwrap_or, inl, inr, refl, sym, ap, subst, ◌∙◌, arith}
+use Rattle.std.specs.List.{slice_get}
+use Rattle.std.proofs.lemmas.Bool.Decides.{nat_tests}
+use Rattle.std.proofs.lemmas.List.{length-set}
 use Rattle.minislots.specs.Units.{slots_for}
-use Rattle.flow_book.specs.declared.flow.Served.{Served}
-use Rattle.flow_book.specs.Book.{BookView, room_of}
+use Rattle.flow_book.specs.Flows.{with_grant}
+use Rattle.flow_book.specs.Book.{BookView, Room, room_of, changed}
 use Rattle.periodic.specs.declared.placement.Spot.{Spot}
 use Rattle.map_build.specs.declared.draft.Draft.{Draft}
-use Rattle.map_build.specs.Plan.{Allocation, Poll, UnsolicitedGrant, grants_in, grants_to, allocation_of}
-use Rattle.map_build.specs.UsageCodes.{long_iuc, unsolicited_iuc}
-use Rattle.map_build.specs.FrameMap.{element_of, bytes_for}
-use Rattle.map_build.specs.Draft.{Puts}
-use Rattle.map_build.specs.Walk.{Takes, Serves, PutsGrant, grant_here, idle_to}
+use Rattle.map_build.specs.declared.opportunity.Opportunity.{Opportunity}
+use Rattle.map_build.specs.declared.purpose.Allocation.{Allocation}
+use Rattle.map_build.specs.declared.purpose.Purpose.TheVariants.{Poll, UnsolicitedGrant, DataGrant, Idle}
+use Rattle.map_build.specs.Purpose.{place_of, allocation_of}
+use Rattle.map_build.specs.Plan.{most_grants, grants_in, grants_to, IsMetIn}
+use Rattle.map_build.specs.Draft.{PutsAllocation}
+use Rattle.map_build.specs.Walk.{Knows, HasSame, Takes, offer_here, grant_here, IsNextAmount, Serves}
 use Rattle.map_build.proofs.FlowsAfter.{flows_after-none, flows_after-grant}
+use Rattle.map_build.proofs.Offers.{met-only}
 
-module _ (sid iuc slots : ℕ) (old new : Draft) (puts : Puts sid iuc slots 0 old new) where
-  -- an allocation that grants no bytes
-  Takes-other : (a : Allocation) →
-      element_of old.book.config a ≡ record { sid = sid; iuc = iuc; offset = old.offset } → a.slots ≡ slots →
-      bytes_for a.purpose ≡ 0 → grants_in (a ∷ []) ≡ 0 → ((other : ℕ) → grants_to old.start other (a ∷ []) ≡ []) →
-      Takes a old new
-  Takes-other a element long bytes grants none = record {
-    elements = puts.elements ∙ ap (λ e. old.elements.items ++ e ∷ []) (sym element);
-    bytes_of = puts.bytes_of ∙ ap (λ n. old.bytes.items ++ n ∷ []) (sym bytes);
-    offset = omega (arith, puts.offset, long);
-    start = puts.start;
-    config = ap (λ b. b.config) puts.book;
-    flows = ap (λ b. b.flows) puts.book ∙ sym (flows_after-none old.start a old.book.flows none);
-    grants = omega (arith, puts.grants, grants);
-    rooms = λ other. omega (arith, ap (λ (b : BookView). room_of other b.rooms) puts.book);
-  }
+-- of an allocation that grants nothing, and is no opportunity, there is nothing to know
+Knows-nothing : (a : Allocation) (d : Draft) → grants_in (a ∷ []) ≡ 0 →
+    ((sid : ℕ) → grants_to d.start sid (a ∷ []) ≡ []) → place_of a.purpose ≡ None → Knows a d d
+Knows-nothing a d grants none nowhere = record {
+  config = refl;
+  flows = sym (flows_after-none d.start a d.book.flows none);
+  grants = omega (arith, grants);
+  rooms = λ sid. omega arith;
+  marks = refl;
+  met = λ place is. inl is;
+  kept = λ place is. is;
+  new_met = λ place is. let it = met-only a place is in absurd (cc);
+  start = refl;
+}
 
--- the idle up to a minislot
-pub Takes-idle : (stop : ℕ) (old new : Draft) → Puts 0 (long_iuc old.book.config) (stop - old.offset) 0 old new →
-    Takes (idle_to old stop) old new
-Takes-idle stop old new puts =
-    Takes-other 0 (long_iuc old.book.config) (stop - old.offset) old new puts (idle_to old stop) refl refl refl refl
-    (λ other. refl)
+spot-known : (poll : Bool) (sid offset slots : ℕ) (d : Draft) →
+    Knows (allocation_of (record { sid = sid; poll = poll; offset = offset; slots = slots })) d d
+spot-known true sid offset slots d =
+    Knows-nothing (record { offset = offset; slots = slots; purpose = Poll sid }) d refl (λ other. refl) refl
+spot-known false sid offset slots d =
+    Knows-nothing (record { offset = offset; slots = slots; purpose = UnsolicitedGrant sid }) d refl (λ other. refl)
+    refl
 
-spot-takes : (poll : Bool) (sid iuc offset slots : ℕ) (old new : Draft) →
-    iuc ≡ (if poll then REQUEST else unsolicited_iuc old.book.config slots) → offset ≡ old.offset →
-    Puts sid iuc slots 0 old new →
-    Takes (allocation_of (record { sid = sid; poll = poll; offset = offset; slots = slots })) old new
-spot-takes true sid iuc offset slots old new code here puts =
-    Takes-other sid iuc slots old new puts (record { offset = offset; slots = slots; purpose = Poll sid })
-    (rw (code, here) refl) refl refl refl (λ other. refl)
-spot-takes false sid iuc offset slots old new code here puts =
-    Takes-other sid iuc slots old new puts (record { offset = offset; slots = slots; purpose = UnsolicitedGrant sid })
-    (rw (code, here) refl) refl refl refl (λ other. refl)
+-- so it is of a spot
+pub Knows-spot : (s : Spot) (d : Draft) → Knows (allocation_of s) d d
+Knows-spot s d = spot-known s.poll s.sid s.offset s.slots d
 
--- the poll or unsolicited grant of a spot
-pub Takes-spot : (s : Spot) (iuc : ℕ) (old new : Draft) →
-    iuc ≡ (if s.poll then REQUEST else unsolicited_iuc old.book.config s.slots) → s.offset ≡ old.offset →
-    Puts s.sid iuc s.slots 0 old new → Takes (allocation_of s) old new
-Takes-spot s iuc old new code here puts = spot-takes s.poll s.sid iuc s.offset s.slots old new code here puts
+-- and of an idle
+pub Knows-idle : (offset slots : ℕ) (d : Draft) →
+    Knows (record { offset = offset; slots = slots; purpose = Idle }) d d
+Knows-idle offset slots d =
+    Knows-nothing (record { offset = offset; slots = slots; purpose = Idle }) d refl (λ other. refl) refl
 
--- a data grant, whose element comes behind it
-pub Takes-grant : (room : ℕ) (s : Served) (old mid new : Draft) → Serves room s old mid → PutsGrant s mid new →
-    Takes (grant_here old s.sid s.bytes) old new
-Takes-grant room s old mid new serves puts =
-    let slots = slots_for old.book.config s.bytes in
-    let one : grants_in (grant_here old s.sid s.bytes ∷ []) ≡ 1 = refl in
+set-here : (met : List Bool) (i : ℕ) → i < length met → slice_get (set met i true) i ≡ Some true
+set-here [] i lt = absurd (omega arith)
+set-here (b ∷ met) zero lt = refl
+set-here (b ∷ met) (suc i) lt = set-here met i (omega arith)
+
+set-kept : (met : List Bool) (i j : ℕ) → slice_get met j ≡ Some true → slice_get (set met i true) j ≡ Some true
+set-kept [] i j is = is
+set-kept (b ∷ met) zero zero is = refl
+set-kept (b ∷ met) zero (suc j) is = is
+set-kept (b ∷ met) (suc i) zero is = is
+set-kept (b ∷ met) (suc i) (suc j) is = set-kept met i j is
+
+set-old : (met : List Bool) (i j : ℕ) → slice_get (set met i true) j ≡ Some true →
+    (slice_get met j ≡ Some true) ⊎ (i ≡ j)
+set-old [] i j is = inl is
+set-old (b ∷ met) zero zero is = inr refl
+set-old (b ∷ met) zero (suc j) is = inl is
+set-old (b ∷ met) (suc i) zero is = inl is
+set-old (b ∷ met) (suc i) (suc j) is = elim (set-old met i j is) [
+  | inl before ↦ inl before
+  | inr here ↦ inr (ap suc here)
+]
+
+-- a draft with the mark of a place knows of the opportunity of that place
+pub Knows-offer : (place : ℕ) (o : Opportunity) (old new : Draft) → place < length old.met →
+    new.met ≡ set old.met place true → new.book ≡ old.book → new.grants ≡ old.grants → new.start ≡ old.start →
+    Knows (offer_here old place o) old new
+Knows-offer place o old new lt marks book grants start =
+    let a : Allocation = offer_here old place o in
+    let it : IsMetIn (a ∷ []) place = (a, (zero, omega arith, refl), refl) in
     record {
-      elements = puts.elements ∙ rw (serves.elements, serves.config, serves.offset) refl;
-      bytes_of = puts.bytes_of ∙ ap (λ ns. ns ++ s.bytes ∷ []) serves.bytes_of;
-      offset = omega (arith, puts.offset, serves.offset, ap (λ c. slots_for c s.bytes) serves.config);
-      start = puts.start ∙ serves.start;
-      config = ap (λ b. b.config) puts.book ∙ serves.config;
-      flows = ap (λ b. b.flows) puts.book ∙ serves.flows
-          ∙ sym (flows_after-grant old.start s.sid old.offset slots s.bytes old.book.flows);
-      grants = omega (arith, puts.grants, serves.grants, one);
-      rooms = λ other. omega (arith, serves.rooms other, ap (λ (b : BookView). room_of other b.rooms) puts.book, one);
+      config = ap (λ b. b.config) book;
+      flows = ap (λ b. b.flows) book ∙ sym (flows_after-none old.start a old.book.flows (λ other. refl));
+      grants = omega (arith, grants);
+      rooms = λ sid. omega (arith, ap (λ (b : BookView). room_of sid b.rooms) book);
+      marks = ap (λ (met : List Bool). length met) marks ∙ length-set old.met place true;
+      met = λ other is. elim (set-old old.met place other (rw marks at is)) [
+        | inl before ↦ inl before
+        | inr here ↦ inr (subst (λ n. IsMetIn (a ∷ []) n) here it)
+      ];
+      kept = λ other is. rw marks (set-kept old.met place other is);
+      new_met = λ other is.
+          let here : place ≡ other = ap (λ (m : Option ℕ). unwrap_or m other) (met-only a other is) in
+          subst (λ n. slice_get new.met n ≡ Some true) here (rw marks (set-here old.met place lt));
+      start = start;
     }
+
+room-cond : (old new : List Room) (sid other : ℕ) (b : Bool) → (other == sid) ≡ b →
+    room_of sid new + 1 ≡ room_of sid old → (other ≢ sid → room_of other new ≡ room_of other old) →
+    room_of other old ≤ room_of other new + 1
+room-cond old new sid other true test here there =
+    let same : sid ≡ other = grind (arith, nat_tests) in
+    omega (arith, subst (λ n. room_of n new + 1 ≡ room_of n old) same here)
+room-cond old new sid other false test here there =
+    let apart : other ≢ sid = λ e. grind (arith, nat_tests) in omega (arith, there apart)
+
+-- a draft whose book has a data grant more knows of it
+pub Knows-grant : (sid bytes : ℕ) (old new : Draft) → new.book.config ≡ old.book.config →
+    new.book.flows ≡ changed sid (with_grant (record { start = old.start + old.offset; bytes = bytes })) old.book.flows
+    → room_of sid new.book.rooms + 1 ≡ room_of sid old.book.rooms →
+    ((other : ℕ) → other ≢ sid → room_of other new.book.rooms ≡ room_of other old.book.rooms) →
+    new.grants ≡ old.grants + 1 → new.met ≡ old.met → new.start ≡ old.start →
+    Knows (grant_here old sid bytes) old new
+Knows-grant sid bytes old new config flows room other_room grants marks start =
+    let a : Allocation = grant_here old sid bytes in
+    let one : grants_in (a ∷ []) ≡ 1 = refl in
+    record {
+      config = config;
+      flows = flows ∙ sym (flows_after-grant old.start sid old.offset a.slots bytes old.book.flows);
+      grants = omega (arith, grants, one);
+      rooms = λ other.
+          omega (
+            arith,
+            room-cond old.book.rooms new.book.rooms sid other (other == sid) refl room (other_room other),
+            one,
+          );
+      marks = ap (λ (met : List Bool). length met) marks;
+      met = λ place is. inl (rw marks at is);
+      kept = λ place is. rw marks is;
+      new_met = λ place is. let it = met-only a place is in absurd (cc);
+      start = start;
+    }
+
+-- so it has that of the flow that is next
+pub Serves-known : (waiting : List Opportunity) (room sid bytes slots : ℕ) (old new : Draft) →
+    old.grants < most_grants waiting → IsNextAmount old room sid bytes → slots ≡ slots_for old.book.config bytes →
+    Knows (grant_here old sid bytes) old new → HasSame old new →
+    Serves waiting room (record { offset = old.offset; slots = slots; purpose = DataGrant sid bytes }) old new
+Serves-known waiting room sid bytes slots old new few next long knows same = record {
+  knows = rw long knows;
+  same = same;
+  few = few;
+  sid = sid;
+  bytes = bytes;
+  next = next;
+  is = rw long refl;
+}
+
+-- a draft that knows of an allocation, and then has its element
+pub Takes-put : (a : Allocation) (old mid new : Draft) → Knows a old mid → HasSame old mid → a.offset ≡ old.offset →
+    PutsAllocation a mid new → Takes a old new
+Takes-put a old mid new knows same here puts = record {
+  knows = record {
+    config = ap (λ b. b.config) puts.book ∙ knows.config;
+    flows = ap (λ b. b.flows) puts.book ∙ knows.flows;
+    grants = puts.grants ∙ knows.grants;
+    rooms = λ sid. omega (arith, knows.rooms sid, ap (λ (b : BookView). room_of sid b.rooms) puts.book);
+    marks = ap (λ (met : List Bool). length met) puts.met ∙ knows.marks;
+    met = λ place is. knows.met place (rw puts.met at is);
+    kept = λ place is. rw puts.met (knows.kept place is);
+    new_met = λ place is. rw puts.met (knows.new_met place is);
+    start = puts.start ∙ knows.start;
+  };
+  elements = puts.elements ∙ rw (same.elements, knows.config, same.offset, here) refl;
+  bytes_of = puts.bytes_of ∙ rw (same.bytes_of, knows.config) refl;
+  offset = omega (arith, puts.offset, same.offset);
+}

@@ -1,10 +1,10 @@
 -- The MAP of a plan is well formed: its elements are in range, ascend, and have one Null.
 use Rattle.std.proofs.Common.{◌≡◌, ℕ, zero, suc, ◌^◌, ◌<◌, ◌≤◌, Bool, true, false, nat_lt, List, [], ◌∷◌, ◌++◌, map}
-use Rattle.std.proofs.Common.{filter, length, nat_le, if◌then◌else◌, ◌==◌, refl, ◌∙◌, arith, append_assoc}
+use Rattle.std.proofs.Common.{filter, length, nat_le, if◌then◌else◌, ◌==◌, Some, refl, subst, ◌∙◌, arith, append_assoc}
 use Rattle.map_codec.specs.declared.element.iuc.TheConstants.{SHORT_DATA_GRANT, LONG_DATA_GRANT}
 use Rattle.map_codec.specs.declared.element.iuc.TheConstants.{ADVANCED_SHORT_DATA_GRANT, ADVANCED_LONG_DATA_GRANT}
 use Rattle.map_codec.specs.declared.element.iuc.TheConstants.{ADVANCED_UNSOLICITED_GRANT}
-use Rattle.std.specs.List.{AllByRecursion, Contains}
+use Rattle.std.specs.List.{AllByRecursion, Contains, slice_get}
 use Rattle.std.proofs.lemmas.List.{append-nil}
 use Rattle.std.proofs.lemmas.List.Sums.{sum_by-cons, sum_by_push, sum_by-append}
 use Rattle.std.proofs.lemmas.List.Elements.{All-contains, All-from_recursion}
@@ -15,10 +15,17 @@ use Rattle.flow_book.specs.Flows.{LiveFlow, outstanding}
 use Rattle.flow_book.proofs.Removal.{all-filter}
 use Rattle.periodic.specs.declared.placement.Spot.{Spot}
 use Rattle.map_build.specs.EachAfter.{EachAfter}
-use Rattle.map_build.specs.Plan.{Purpose, Poll, UnsolicitedGrant, DataGrant, Idle, Allocation, end_of, flows_after}
-use Rattle.map_build.specs.Plan.{Stands, StandsByItsRule}
+use Rattle.map_build.specs.declared.opportunity.Opportunity.{Opportunity}
+use Rattle.map_build.specs.declared.opportunity.Usage.{Usage}
+use Rattle.map_build.specs.declared.opportunity.Usage.TheVariants.{Initial, Station}
+use Rattle.map_build.specs.declared.purpose.Allocation.{Allocation}
+use Rattle.map_build.specs.declared.purpose.Purpose.{Purpose}
+use Rattle.map_build.specs.declared.purpose.Purpose.TheVariants.{Poll, UnsolicitedGrant, Offer, DataGrant, Idle}
+use Rattle.map_build.specs.Purpose.{kind_of, element_of, sid_for}
+use Rattle.map_build.specs.Opportunities.{HasStationSid, HaveStationSids}
+use Rattle.map_build.specs.Plan.{Demand, end_of, flows_after, Stands, IsOfRank}
 use Rattle.map_build.specs.UsageCodes.{short_iuc, long_iuc, data_iuc}
-use Rattle.map_build.specs.FrameMap.{element_for, element_of, pending_of, request_region, null_element, elements_of}
+use Rattle.map_build.specs.FrameMap.{pending_of, request_region, null_element, elements_of}
 
 -- the offsets do not descend, from this one on
 abbrev pub Climbs : ℕ → List Element → Type 0
@@ -32,14 +39,6 @@ Climbs-at low [] climbs i within = absurd (omega arith)
 Climbs-at low (e ∷ []) climbs i within = absurd (omega arith)
 Climbs-at low (e ∷ next ∷ es) climbs zero within = climbs.1.0
 Climbs-at low (e ∷ next ∷ es) climbs (suc i) within = Climbs-at e.offset (next ∷ es) climbs.1 i (omega arith)
-
--- an allocation's element begins where the allocation does
-pub element_for-offset : (c : Config) (offset slots : ℕ) (purpose : Purpose)
-    → (element_for c offset slots purpose).offset ≡ offset
-element_for-offset c offset slots (Poll sid) = refl
-element_for-offset c offset slots (UnsolicitedGrant sid) = refl
-element_for-offset c offset slots (DataGrant sid bytes) = refl
-element_for-offset c offset slots Idle = refl
 
 -- a usage code in range that is not a Null's
 abbrev Allocates : ℕ → Type 0
@@ -66,13 +65,14 @@ data_iuc-allocates c slots =
     either (nat_le slots c.short_max) (short_iuc c) (long_iuc c) (short_iuc-allocates c) (long_iuc-allocates c)
 
 -- as those of all allocations are
-element_for-iuc : (c : Config) (offset slots : ℕ) (purpose : Purpose) →
-    Allocates (element_for c offset slots purpose).iuc
-element_for-iuc c offset slots (Poll sid) = (omega arith, refl)
-element_for-iuc c offset slots (UnsolicitedGrant sid) =
+kind_of-iuc : (c : Config) (slots : ℕ) (purpose : Purpose) → Allocates (kind_of c slots purpose).iuc
+kind_of-iuc c slots (Poll sid) = (omega arith, refl)
+kind_of-iuc c slots (Offer place Initial) = (omega arith, refl)
+kind_of-iuc c slots (Offer place (Station sid)) = (omega arith, refl)
+kind_of-iuc c slots (UnsolicitedGrant sid) =
     either (c.phy == 1) ADVANCED_UNSOLICITED_GRANT (data_iuc c slots) (omega arith, refl) (data_iuc-allocates c slots)
-element_for-iuc c offset slots (DataGrant sid bytes) = data_iuc-allocates c slots
-element_for-iuc c offset slots Idle = long_iuc-allocates c
+kind_of-iuc c slots (DataGrant sid bytes) = data_iuc-allocates c slots
+kind_of-iuc c slots Idle = long_iuc-allocates c
 
 -- no allocation's element is a Null
 nulls-plan : (c : Config) (plan : List Allocation) (rest : List Element) → nulls (map (element_of c) plan ++ rest)
@@ -80,20 +80,19 @@ nulls-plan : (c : Config) (plan : List Allocation) (rest : List Element) → nul
 nulls-plan c [] rest = refl
 nulls-plan c (a ∷ plan) rest =
     sum_by-cons _ (element_of c a) (map (element_of c) plan ++ rest)
-    ∙ (rw (element_for-iuc c a.offset a.slots a.purpose).1
+    ∙ (rw (kind_of-iuc c a.slots a.purpose).1
     (omega (arith, nulls-plan c plan rest)))
 
 -- where the offsets of what comes behind the plan do not descend, those of the whole do not
-climbs-plan : (c : Config) (flows : List LiveFlow) (spots : List Spot) (start : ℕ) (before plan : List Allocation)
-    (rest : List Element) (low : ℕ) → EachAfter (Stands c flows spots start) before plan → low ≤ end_of c before →
+climbs-plan : (c : Config) (d : Demand) (before plan : List Allocation) (rest : List Element) (low : ℕ) →
+    EachAfter (Stands c d) before plan → low ≤ end_of c before →
     ((n : ℕ) → n ≤ end_of c (before ++ plan) → Climbs n rest) →
     Climbs low (map (element_of c) plan ++ rest)
-climbs-plan c flows spots start before [] rest low each below climbs = climbs low (rw append-nil below)
-climbs-plan c flows spots start before (a ∷ plan) rest low each below climbs =
-    let at : (element_of c a).offset ≡ end_of c before = element_for-offset c a.offset a.slots a.purpose
-    ∙ each.0.follows in (
+climbs-plan c d before [] rest low each below climbs = climbs low (rw append-nil below)
+climbs-plan c d before (a ∷ plan) rest low each below climbs =
+    let at : (element_of c a).offset ≡ end_of c before = each.0.follows in (
       omega (arith, at),
-      climbs-plan c flows spots start (before ++ a ∷ []) plan rest (element_of c a).offset each.1
+      climbs-plan c d (before ++ a ∷ []) plan rest (element_of c a).offset each.1
           (omega (arith, at, sum_by_push (λ (a : Allocation). a.slots) before a)) (rw append_assoc climbs),
     )
 
@@ -116,33 +115,45 @@ sids_after : (start : ℕ) (plan : List Allocation) (flows : List LiveFlow) → 
 sids_after start plan [] sids = tt
 sids_after start plan (f ∷ flows) sids = (sids.0, sids_after start plan flows sids.1)
 
-module _ (c : Config) (flows : List LiveFlow) (spots : List Spot) (start : ℕ)
-    (sids : HaveSids flows) (places : HaveSpotSids spots) where
+-- the SID of an opportunity is in range
+sid_for-short : (usage : Usage) → HasStationSid usage → sid_for usage < 2 ^ 14
+sid_for-short Initial is = omega arith
+sid_for-short (Station sid) is = omega (arith, is.1)
+
+waiting-sid : (waiting : List Opportunity) (place : ℕ) (o : Opportunity) → HaveStationSids waiting →
+    slice_get waiting place ≡ Some o → HasStationSid o.usage
+waiting-sid [] place o all is = absurd (cc)
+waiting-sid (w ∷ waiting) zero o all is = let same : w ≡ o = cc in subst (λ p. HasStationSid p.usage) same all.0
+waiting-sid (w ∷ waiting) (suc place) o all is = waiting-sid waiting place o all.1 is
+
+module _ (c : Config) (d : Demand) (sids : HaveSids d.flows) (places : HaveSpotSids d.spots)
+    (stations : HaveStationSids d.waiting) where
   -- the SID of an allocation's element is in range
-  element_for-sid : (before : List Allocation) (offset slots : ℕ) (purpose : Purpose) →
-      StandsByItsRule c flows spots start before offset slots purpose →
-      (element_for c offset slots purpose).sid < 2 ^ 14
-  element_for-sid before offset slots (Poll sid) stands =
-      All-contains (λ (s : Spot). s.sid < 2 ^ 14) spots _ (All-from_recursion _ spots places) stands
-  element_for-sid before offset slots (UnsolicitedGrant sid) stands =
-      All-contains (λ (s : Spot). s.sid < 2 ^ 14) spots _ (All-from_recursion _ spots places) stands
-  element_for-sid before offset slots (DataGrant sid bytes) stands =
+  kind_of-sid : (before : List Allocation) (offset slots : ℕ) (purpose : Purpose) →
+      IsOfRank c d before offset slots purpose → (kind_of c slots purpose).sid < 2 ^ 14
+  kind_of-sid before offset slots (Offer place usage) stands =
+      sid_for-short usage (waiting-sid d.waiting place _ stations stands.may.waits)
+  kind_of-sid before offset slots (Poll sid) stands =
+      All-contains (λ (s : Spot). s.sid < 2 ^ 14) d.spots _ (All-from_recursion _ d.spots places) stands
+  kind_of-sid before offset slots (UnsolicitedGrant sid) stands =
+      All-contains (λ (s : Spot). s.sid < 2 ^ 14) d.spots _ (All-from_recursion _ d.spots places) stands
+  kind_of-sid before offset slots (DataGrant sid bytes) stands =
       rw (← stands.2)
-      (sid_of_live (flows_after start before flows) stands.1 (sids_after start before flows sids) stands.3.live)
-  element_for-sid before offset slots Idle stands = omega arith
+      (sid_of_live (flows_after d.start before d.flows) stands.1 (sids_after d.start before d.flows sids)
+      stands.3.live)
+  kind_of-sid before offset slots Idle stands = omega arith
 
   -- the elements of a plan within the frame are in range
   in_range-plan : (before plan : List Allocation) (rest : List Element) →
-      EachAfter (Stands c flows spots start) before plan → end_of c (before ++ plan) < 2 ^ 14 →
+      EachAfter (Stands c d) before plan → end_of c (before ++ plan) < 2 ^ 14 →
       AllByRecursion IsInRange rest → AllByRecursion IsInRange (map (element_of c) plan ++ rest)
   in_range-plan before [] rest each within ranges = ranges
   in_range-plan before (a ∷ plan) rest each within ranges = (
     record {
-      sid = element_for-sid before a.offset a.slots a.purpose each.0.purpose;
-      iuc = (element_for-iuc c a.offset a.slots a.purpose).0;
+      sid = kind_of-sid before a.offset a.slots a.purpose each.0.purpose;
+      iuc = (kind_of-iuc c a.slots a.purpose).0;
       offset = omega (
         arith,
-        element_for-offset c a.offset a.slots a.purpose,
         each.0.follows,
         sum_by-append (λ (a : Allocation). a.slots) before (a ∷ plan),
       );
@@ -176,26 +187,26 @@ pub record AreEncodable (es : List Element) : Type 0 where
   pub ascends : Ascends es
 
 -- the elements of the MAP with a plan are
-pub elements_of-encodable : (c : Config) (flows : List LiveFlow) (spots : List Spot) (start : ℕ)
-    (plan : List Allocation) → c.frame < 2 ^ 14 → HaveSids flows → HaveSpotSids spots →
-    EachAfter (Stands c flows spots start) [] plan → end_of c plan ≡ c.frame →
-    AreEncodable (elements_of c flows start plan)
-elements_of-encodable c flows spots start plan below sids places each whole =
-    let waiting : List LiveFlow = filter (λ (f : LiveFlow). nat_lt 0 (outstanding f)) (flows_after start plan flows) in
+pub elements_of-encodable : (c : Config) (d : Demand) (plan : List Allocation) → c.frame < 2 ^ 14 →
+    HaveSids d.flows → HaveSpotSids d.spots → HaveStationSids d.waiting →
+    EachAfter (Stands c d) [] plan → end_of c plan ≡ c.frame → AreEncodable (elements_of c d.flows d.start plan)
+elements_of-encodable c d plan below sids places stations each whole =
+    let waiting : List LiveFlow = filter (λ (f : LiveFlow). nat_lt 0 (outstanding f))
+    (flows_after d.start plan d.flows) in
     let sids_waiting : HaveSids waiting =
     all-filter (λ (g : LiveFlow). g.sid < 2 ^ 14) (λ (f : LiveFlow). nat_lt 0 (outstanding f))
-    (flows_after start plan flows) (sids_after start plan flows sids) in
+    (flows_after d.start plan d.flows) (sids_after d.start plan d.flows sids) in
     let tail : List Element = null_element c ∷ map (pending_of c) waiting in
     let null_in_range : IsInRange (null_element c) = record { sid = omega arith; iuc = omega arith; offset = below } in
     let region_in_range : IsInRange request_region =
     record { sid = omega arith; iuc = omega arith; offset = omega arith } in
     let climbs : Climbs 0 (map (element_of c) plan ++ tail) =
-    climbs-plan c flows spots start [] plan tail 0 each (omega arith)
+    climbs-plan c d [] plan tail 0 each (omega arith)
     (λ n low. (omega (arith, low, whole), climbs-pending c waiting c.frame (omega arith))) in
     record {
       in_range = (
         region_in_range,
-        in_range-plan c flows spots start sids places [] plan tail each (omega (arith, below, whole))
+        in_range-plan c d sids places stations [] plan tail each (omega (arith, below, whole))
             (null_in_range, in_range-pending c waiting below sids_waiting),
       );
       one_null = sum_by-cons _ request_region (map (element_of c) plan ++ tail)

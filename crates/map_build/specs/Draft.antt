@@ -2,6 +2,8 @@
 use Rattle.std.specs.Prelude.{◌≡◌, ℕ, ◌+◌, List, [], ◌∷◌, ◌++◌, map}
 use Rattle.flow_book.specs.Flows.{LiveFlow}
 use Rattle.map_build.specs.declared.draft.Draft.{Draft}
+use Rattle.map_build.specs.declared.purpose.Allocation.{Allocation}
+use Rattle.map_build.specs.Purpose.{kind_of}
 use Rattle.map_build.specs.FrameMap.{null_element, pending}
 
 -- a draft with an element more at its offset, of so many minislots and bytes
@@ -12,6 +14,12 @@ pub record Puts (sid iuc slots bytes : ℕ) (old new : Draft) : Type 0 where
   pub book : new.book ≡ old.book
   pub start : new.start ≡ old.start
   pub grants : new.grants ≡ old.grants
+  pub met : new.met ≡ old.met
+
+-- a draft with the element and the bytes of an allocation more, at its offset
+abbrev pub PutsAllocation : Allocation → Draft → Draft → Type 0
+PutsAllocation a old new = Puts (kind_of old.book.config a.slots a.purpose).sid
+    (kind_of old.book.config a.slots a.purpose).iuc a.slots (kind_of old.book.config a.slots a.purpose).bytes old new
 
 -- a draft with a pending grant more for each of these flows that has bytes outstanding
 pub record PutsPending (flows : List LiveFlow) (old new : Draft) : Type 0 where
@@ -21,6 +29,7 @@ pub record PutsPending (flows : List LiveFlow) (old new : Draft) : Type 0 where
   pub book : new.book ≡ old.book
   pub start : new.start ≡ old.start
   pub grants : new.grants ≡ old.grants
+  pub met : new.met ≡ old.met
 
 -- a draft with the Null and the pending grants
 pub record Ends (old new : Draft) : Type 0 where
@@ -31,3 +40,4 @@ pub record Ends (old new : Draft) : Type 0 where
   pub book : new.book ≡ old.book
   pub start : new.start ≡ old.start
   pub grants : new.grants ≡ old.grants
+  pub met : new.met ≡ old.met

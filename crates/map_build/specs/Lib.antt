@@ -7,6 +7,8 @@ pub use Rattle.flow_book.specs.Choice
 pub use Rattle.periodic.specs.Placement
 pub use Rattle.periodic.specs.Table
 pub mod EachAfter
+pub mod Purpose
+pub mod Opportunities
 pub mod Plan
 pub mod FrameMap
 pub mod Spots

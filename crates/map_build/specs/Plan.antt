@@ -1,8 +1,8 @@
--- How a frame is filled behind its request region: polls and unsolicited grants at their places, and in between data
--- grants to the flow that is next, or an idle.
-use Rattle.std.specs.Prelude.{◌≡◌, ℕ, ◌+◌, ◌-◌, ◌<◌, ◌≤◌, min, Bool, true, false, nat_le, ◌==◌, ◌⊎◌, List, [], ◌∷◌}
-use Rattle.std.specs.Prelude.{◌++◌, map, sum_by, count_by, filter_map, Contains, Option, None, Some, if◌then◌else◌}
-use Rattle.std.specs.List.{AllByRecursion}
+-- How a frame is filled behind its request region: polls and unsolicited grants at their places, and in between
+-- opportunities that were reserved, data grants to the flow that is next, or an idle.
+use Rattle.std.specs.Prelude.{◌≡◌, ℕ, ◌+◌, ◌-◌, ◌<◌, ◌≤◌, min, Bool, true, false, nat_le, ◌⊎◌, List, [], ◌∷◌}
+use Rattle.std.specs.Prelude.{◌++◌, map, length, sum_by, count_by, filter_map, Contains, Some, if◌then◌else◌}
+use Rattle.std.specs.List.{AllByRecursion, slice_get}
 use Rattle.minislots.specs.declared.config.Config.{Config}
 use Rattle.minislots.specs.Units.{slots_for}
 use Rattle.flow_book.specs.declared.flow.Grant.{Grant}
@@ -10,36 +10,30 @@ use Rattle.flow_book.specs.Flows.{LiveFlow}
 use Rattle.flow_book.specs.Choice.{NoneEligible, IsNext, IsAmount}
 use Rattle.periodic.specs.declared.placement.Spot.{Spot}
 use Rattle.map_build.specs.declared.TheConstants.{MAX_DATA_GRANTS}
+use Rattle.map_build.specs.declared.opportunity.Opportunity.{Opportunity}
+use Rattle.map_build.specs.declared.purpose.Allocation.{Allocation}
+use Rattle.map_build.specs.declared.purpose.Purpose.{Purpose}
+use Rattle.map_build.specs.declared.purpose.Purpose.TheVariants.{Poll, UnsolicitedGrant, Offer, DataGrant, Idle}
 use Rattle.map_build.specs.EachAfter.{EachAfter}
+use Rattle.map_build.specs.Purpose.{Rank, Placed, Reserved, Requested, Left, rank_of, ranks_before}
+use Rattle.map_build.specs.Purpose.{is_data_grant, place_of, grant_to, allocation_of}
 
--- what an allocation is for
-pub data Purpose : Type 0 where
-  -- a poll: minislots in which the polled flow of this SID may request
-  Poll : ℕ → Purpose
-  -- a grant of the unsolicited flow of this SID, at its place in the cycle
-  UnsolicitedGrant : ℕ → Purpose
-  -- a grant for what the flow of this SID asked: the SID, and then the bytes
-  DataGrant : ℕ → ℕ → Purpose
-  -- minislots in which nobody sends
-  Idle : Purpose
+-- What a frame has to serve: the minislot at which it starts, the live flows before it, what polls and unsolicited
+-- grants take of it, and the opportunities that wait for its MAP, in their order
+pub record Demand : Type 0 where
+  pub start : ℕ
+  pub flows : List LiveFlow
+  pub spots : List Spot
+  pub waiting : List Opportunity
 
--- minislots of a frame that stand side by side, and what they are for: the offset of the first from the frame's start,
--- how many they are, and the purpose
-pub record Allocation : Type 0 where
-  pub offset : ℕ
-  pub slots : ℕ
-  pub purpose : Purpose
+-- the same of its parts
+abbrev pub demand_at : List LiveFlow → List Spot → List Opportunity → ℕ → Demand
+demand_at flows spots waiting start =
+    record { start = start; flows = flows; spots = spots; waiting = waiting }
 
--- whether it is a data grant
-abbrev pub is_data_grant : Purpose → Bool
-is_data_grant (Poll sid) = false
-is_data_grant (UnsolicitedGrant sid) = false
-is_data_grant (DataGrant sid bytes) = true
-is_data_grant Idle = false
-
--- the most data grants of one MAP
-abbrev pub most_grants : ℕ
-most_grants = MAX_DATA_GRANTS
+-- the most data grants of its MAP: each opportunity that waits takes the place of one
+abbrev pub most_grants : List Opportunity → ℕ
+most_grants waiting = MAX_DATA_GRANTS - length waiting
 
 -- how many data grants there are
 abbrev pub grants_in : List Allocation → ℕ
@@ -48,14 +42,6 @@ grants_in plan = count_by (λ a. is_data_grant a.purpose) plan
 -- where allocations that fill the frame behind the request region end
 abbrev pub end_of : Config → List Allocation → ℕ
 end_of c plan = c.req_slots + sum_by (λ a. a.slots) plan
-
--- the data grant of an allocation to this flow, in the frame that starts there
-abbrev pub grant_to : ℕ → ℕ → Purpose → ℕ → Option Grant
-grant_to start sid (Poll other) offset = None
-grant_to start sid (UnsolicitedGrant other) offset = None
-grant_to start sid (DataGrant other bytes) offset =
-    if other == sid then Some (record { start = start + offset; bytes = bytes }) else None
-grant_to start sid Idle offset = None
 
 -- the data grants to this flow, in order
 abbrev pub grants_to : ℕ → ℕ → List Allocation → List Grant
@@ -83,36 +69,58 @@ room_at c spots offset = next_stop c spots offset - offset
 abbrev pub IsSpot : List Spot → ℕ → Bool → ℕ → ℕ → Type 0
 IsSpot spots sid poll offset slots = Contains spots (record { sid = sid; poll = poll; offset = offset; slots = slots })
 
--- an allocation for this purpose may stand here, where these allocations stand before it
-abbrev pub StandsByItsRule : Config → List LiveFlow → List Spot → ℕ → List Allocation → ℕ → ℕ → Purpose → Type 0
-StandsByItsRule c flows spots start before offset slots (Poll sid) = IsSpot spots sid true offset slots
-StandsByItsRule c flows spots start before offset slots (UnsolicitedGrant sid) = IsSpot spots sid false offset slots
-StandsByItsRule c flows spots start before offset slots (DataGrant sid bytes) = (grants_in before < most_grants)
-    × (f : LiveFlow) × (f.sid ≡ sid)
-    × IsNext c (flows_after start before flows) (start + offset) (room_at c spots offset) f
-    × IsAmount c f (start + offset) (room_at c spots offset) bytes × (slots ≡ slots_for c bytes)
-StandsByItsRule c flows spots start before offset slots Idle = (slots ≡ room_at c spots offset)
-    × ((most_grants ≤ grants_in before)
-    ⊎ NoneEligible c (flows_after start before flows) (start + offset) (room_at c spots offset))
+-- one of these allocations is the opportunity at this place
+abbrev pub IsMetIn : List Allocation → ℕ → Type 0
+IsMetIn plan place = (a : Allocation) × Contains plan a × (place_of a.purpose ≡ Some place)
 
--- the allocation may stand after these: it is not empty, and begins where they end
-pub record Stands (c : Config) (flows : List LiveFlow) (spots : List Spot) (start : ℕ) (before : List Allocation)
-    (a : Allocation) : Type 0 where
+-- the opportunity that waits at this place is not met yet, and is at most as long as the room
+pub record MayMeet (waiting : List Opportunity) (before : List Allocation) (room place : ℕ) (o : Opportunity) :
+    Type 0 where
+  pub waits : slice_get waiting place ≡ Some o
+  pub unmet : IsMetIn before place → ⊥
+  pub fits : o.slots ≤ room
+
+-- no such opportunity waits
+abbrev pub NoneToMeet : List Opportunity → List Allocation → ℕ → Type 0
+NoneToMeet waiting before room = (place : ℕ) (o : Opportunity) → MayMeet waiting before room place o → ⊥
+
+-- it is the first such
+pub record IsFirstToMeet (waiting : List Opportunity) (before : List Allocation) (room place : ℕ) (o : Opportunity) :
+    Type 0 where
+  pub may : MayMeet waiting before room place o
+  pub first : (earlier : ℕ) (p : Opportunity) → MayMeet waiting before room earlier p → place ≤ earlier
+
+-- nothing of this rank is to stand here, where these allocations stand before. What has its place in the cycle begins
+-- only where there is no room up to it.
+abbrev pub NoneOf : Config → Demand → List Allocation → ℕ → Rank → Type 0
+NoneOf c d before offset Placed = 0 < room_at c d.spots offset
+NoneOf c d before offset Reserved = NoneToMeet d.waiting before (room_at c d.spots offset)
+NoneOf c d before offset Requested = (most_grants d.waiting ≤ grants_in before)
+    ⊎ NoneEligible c (flows_after d.start before d.flows) (d.start + offset) (room_at c d.spots offset)
+NoneOf c d before offset Left = ⊥
+
+-- an allocation of so many minislots for this purpose is the one of its rank here, where these stand before
+abbrev pub IsOfRank : Config → Demand → List Allocation → ℕ → ℕ → Purpose → Type 0
+IsOfRank c d before offset slots (Poll sid) = IsSpot d.spots sid true offset slots
+IsOfRank c d before offset slots (UnsolicitedGrant sid) = IsSpot d.spots sid false offset slots
+IsOfRank c d before offset slots (Offer place usage) =
+    IsFirstToMeet d.waiting before (room_at c d.spots offset) place (record { usage = usage; slots = slots })
+IsOfRank c d before offset slots (DataGrant sid bytes) = (grants_in before < most_grants d.waiting)
+    × (f : LiveFlow) × (f.sid ≡ sid)
+    × IsNext c (flows_after d.start before d.flows) (d.start + offset) (room_at c d.spots offset) f
+    × IsAmount c f (d.start + offset) (room_at c d.spots offset) bytes × (slots ≡ slots_for c bytes)
+IsOfRank c d before offset slots Idle = slots ≡ room_at c d.spots offset
+
+-- the allocation may stand after these: it is not empty, begins where they end, is the one of its rank, and nothing of
+-- a rank before its own is to stand there
+pub record Stands (c : Config) (d : Demand) (before : List Allocation) (a : Allocation) : Type 0 where
   pub some_slots : 0 < a.slots
   pub follows : a.offset ≡ end_of c before
-  pub purpose : StandsByItsRule c flows spots start before a.offset a.slots a.purpose
+  pub purpose : IsOfRank c d before a.offset a.slots a.purpose
+  pub first : AllByRecursion (NoneOf c d before a.offset) (ranks_before (rank_of a.purpose))
 
--- what a spot is for
-abbrev pub allocation_of : Spot → Allocation
-allocation_of s = record {
-  offset = s.offset;
-  slots = s.slots;
-  purpose = if s.poll then Poll s.sid else UnsolicitedGrant s.sid;
-}
-
--- The allocations fill a frame that starts there, lawfully for these live flows and these spots
-pub record IsPlan (c : Config) (flows : List LiveFlow) (spots : List Spot) (start : ℕ)
-    (plan : List Allocation) : Type 0 where
-  pub each : EachAfter (Stands c flows spots start) [] plan
+-- The allocations fill a frame, lawfully for what it has to serve
+pub record IsPlan (c : Config) (d : Demand) (plan : List Allocation) : Type 0 where
+  pub each : EachAfter (Stands c d) [] plan
   pub whole : end_of c plan ≡ c.frame
-  pub due : AllByRecursion (λ s. Contains plan (allocation_of s)) spots
+  pub due : AllByRecursion (λ s. Contains plan (allocation_of s)) d.spots

@@ -8,25 +8,23 @@ ghost use Rattle.flow_book.specs.Flows.{flow_of, outstanding};
 ghost use Rattle.flow_book.specs.Book.{IsLive, room_of};
 ghost use Rattle.flow_book.specs.Choice.{HasStartedBy};
 ghost use Rattle.periodic.specs.declared.placement.Spot.{Spot};
-ghost use Rattle.map_build.specs.Plan.{most_grants};
+ghost use Rattle.map_build.specs.declared.TheConstants.{MAX_DATA_GRANTS, MAX_WAITING};
+ghost use Rattle.map_build.specs.declared.opportunity.Opportunity.{Opportunity};
+ghost use Rattle.map_build.specs.Plan.{demand_at};
 ghost use Rattle.map_build.specs.FrameMap.{map_with};
 ghost use Rattle.map_build.specs.Spots.{AreInFrame};
-ghost use Rattle.map_build.specs.Draft.{Puts, PutsPending, Ends};
+ghost use Rattle.map_build.specs.Draft.{Puts, PutsAllocation, PutsPending, Ends};
 ghost use Rattle.map_build.specs.Walk.{HasPlan};
 
-use crate::MAX_DATA_GRANTS;
 use crate::frame_map::{ByteCounts, FrameMap};
+use crate::opportunity::Header;
+use crate::purpose::{Allocation, BROADCAST, NOBODY};
 use crate::usage_codes::long_iuc;
+use crate::{MAX_DATA_GRANTS, MAX_WAITING};
 use flow_book::Book;
 use map_codec::{Element, Elements, MAX_ELEMENTS, WireMap, iuc};
 use minislots::{Checked, wire};
 use std::alloc::{AllocError, Global};
-
-// The SID of all modems.
-const BROADCAST: u16 = 0x3fff;
-
-/// The SID of none.
-pub(crate) const NOBODY: u16 = 0;
 
 /// A MAP while it is made.
 #[derive(Drop)]
@@ -42,6 +40,8 @@ pub(crate) struct Draft {
     pub(crate) offset: u16,
     /// The data grants so far.
     pub(crate) grants: usize,
+    /// Which of the waiting opportunities it has, by their places.
+    pub(crate) met: [bool; MAX_WAITING],
 }
 
 // A copy of the book, with room for all data grants of a MAP.
@@ -49,7 +49,7 @@ fn copy_with_room(book: &Book) -> Result<Book, AllocError>
     ensures config { IfOk result (λ copy. copy.config ≡ book.now.config) }
     ensures flows { IfOk result (λ copy. copy.flows ≡ book.now.flows) }
     ensures room { IfOk result (λ copy. (sid : ℕ) → IsLive sid copy.flows →
-        most_grants ≤ room_of sid copy.rooms) }
+        MAX_DATA_GRANTS ≤ room_of sid copy.rooms) }
 {
     let mut copy = book.copy()?;
     copy.reserve(MAX_DATA_GRANTS)?;
@@ -61,8 +61,9 @@ impl Draft {
     pub(crate) fn open(alloc: Global, book: &Book, start: u64) -> Result<Draft, AllocError>
         requires started { AllByRecursion (HasStartedBy start) book.now.flows }
         requires bounded { start ≤ 2 ^ 61 }
-        ensures { IfOk result (λ d. (spots : List Spot) → AreInFrame book.now.config spots →
-            HasPlan book.now.config book.now.flows spots start [] d) }
+        ensures { IfOk result (λ d. (spots : List Spot) (waiting : List Opportunity)
+            → AreInFrame book.now.config spots
+            → HasPlan book.now.config (demand_at book.now.flows spots waiting start) [] d) }
     {
         let mut draft = Draft {
             book: copy_with_room(book)?,
@@ -71,20 +72,25 @@ impl Draft {
             bytes: Vec::with_capacity(alloc, usize::from(MAX_ELEMENTS))?,
             offset: 0,
             grants: 0,
+            met: [false; MAX_WAITING],
         };
         let requests = draft.book.config().req_slots() as u16;
         draft.put_slots(BROADCAST, iuc::REQUEST, requests, 0)?;
         Ok(draft)
     }
 
-    /// An element of so many minislots more, at the offset that is reached.
-    pub(crate) fn put_slots(
-        &mut self,
-        sid: u16,
-        iuc: u8,
-        slots: u16,
-        bytes: u32,
-    ) -> Result<(), AllocError>
+    /// The element of an allocation more, which begins at the offset that is reached.
+    pub(crate) fn put_allocation(&mut self, allocation: Allocation) -> Result<(), AllocError>
+        requires { self.old.offset + allocation.slots < 2 ^ 16 }
+        ensures { OnOk result (PutsAllocation allocation self.old self.new) }
+    {
+        let Allocation { slots, purpose, .. } = allocation;
+        let kind = purpose.kind(self.book.config(), slots);
+        self.put_slots(kind.sid, kind.iuc, slots, kind.bytes)
+    }
+
+    // An element of so many minislots more, at the offset that is reached.
+    fn put_slots(&mut self, sid: u16, iuc: u8, slots: u16, bytes: u32) -> Result<(), AllocError>
         requires { self.old.offset + slots < 2 ^ 16 }
         ensures { OnOk result (Puts sid iuc slots bytes self.old self.new) }
     {
@@ -150,8 +156,8 @@ impl Draft {
     }
 
     /// The MAP with the elements of the draft, and its book.
-    pub(crate) fn into_map(self, ack: u64) -> (FrameMap, Book)
-        ensures made { result.0 ≡ map_with self.book.config self.start ack
+    pub(crate) fn into_map(self, header: Header, ack: u64) -> (FrameMap, Book)
+        ensures made { result.0 ≡ map_with self.book.config header self.start ack
             self.elements.items self.bytes.items }
         ensures fits { FitsHeader result.0.wire }
         ensures book { result.1 ≡ self.book }
@@ -166,7 +172,7 @@ impl Draft {
         let map = FrameMap {
             start,
             ack,
-            wire: wire_map(book.config(), start, ack, elements),
+            wire: wire_map(book.config(), header, start, ack, elements),
             bytes: ByteCounts::from_vec(bytes),
         };
         (map, book)
@@ -174,20 +180,26 @@ impl Draft {
 }
 
 // The fields of a MAP with these elements, of a frame that starts there.
-fn wire_map(config: &Checked, start: u64, ack: u64, elements: Vec<Element>) -> WireMap
-    ensures made { result ≡ (map_with config.now start ack elements.items []).wire }
+fn wire_map(
+    config: &Checked,
+    header: Header,
+    start: u64,
+    ack: u64,
+    elements: Vec<Element>,
+) -> WireMap
+    ensures made { result ≡ (map_with config.now header start ack elements.items []).wire }
     ensures fits { FitsHeader result }
 {
     WireMap {
         channel: config.channel(),
-        ucd_count: config.ucd_count(),
+        ucd_count: header.ucd_count,
         reserved: 0,
         alloc_start: wire(start),
         ack: wire(ack),
-        ranging_start: config.ranging_start(),
-        ranging_end: config.ranging_end(),
-        data_start: config.data_start(),
-        data_end: config.data_end(),
+        ranging_start: header.ranging_start,
+        ranging_end: header.ranging_end,
+        data_start: header.data_start,
+        data_end: header.data_end,
         elements: Elements::from_vec(elements),
     }
 }

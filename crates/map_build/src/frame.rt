@@ -1,16 +1,20 @@
 //! The MAP of one frame.
 
-ghost use Rattle.std.specs.Prelude.{◌≡◌, ◌≤◌, ◌*◌, ◌^◌, IfOk};
+ghost use Rattle.std.specs.Prelude.{◌≡◌, ◌≤◌, ◌*◌, ◌^◌, [], IfOk};
 ghost use Rattle.std.specs.List.{AllByRecursion};
 ghost use Rattle.map_codec.specs.WireMap.{IsWellFormed};
 ghost use Rattle.flow_book.specs.Choice.{HasStartedBy};
 ghost use Rattle.periodic.specs.Placement.{spots_in};
 ghost use Rattle.map_build.specs.declared.frame_map.FrameMap.{FrameMap};
+ghost use Rattle.map_build.specs.Opportunities.{header_of, MayWait, HaveStationSids, MeetsFirst};
+ghost use Rattle.map_build.specs.Plan.{Demand, demand_at};
 ghost use Rattle.map_build.specs.FrameMap.{IsLawfulMap, IsLawfulFrame};
 ghost use Rattle.map_build.specs.Spots.{AreInFrame, AreOfChannel, HaveFlowSids, ArePeriodicOf};
 
+use crate::MAX_WAITING;
 use crate::draft::Draft;
 use crate::frame_map::FrameMap;
+use crate::opportunity::{Header, Opportunity};
 use flow_book::Book;
 use periodic::{MAX_PERIODIC_GRANTS, Spot, Table};
 use std::alloc::{AllocError, Global};
@@ -23,35 +27,52 @@ const NO_SPOT: Spot = Spot {
     slots: 0,
 };
 
-// The lawful MAP of the frame that starts there, round these spots, and the book with its data grants.
+/// A MAP that is planned, and what it changes.
+#[derive(Drop)]
+pub struct PlannedFrame {
+    /// The MAP.
+    pub map: FrameMap,
+    /// The book with the data grants of the MAP.
+    pub book: Book,
+    /// Which of the opportunities that waited for the MAP it has, by their places.
+    pub met: [bool; MAX_WAITING],
+}
+
+// The lawful MAP of the frame that starts there, round these spots, and what it changes.
 fn plan_around(
     alloc: Global,
     book: &Book,
     spots: &[Spot],
+    waiting: &[Opportunity],
+    header: Header,
     start: u64,
     ack: u64,
-) -> Result<(FrameMap, Book), AllocError>
+) -> Result<PlannedFrame, AllocError>
     requires placed { AreInFrame book.now.config spots.now }
+    requires waiting { MayWait waiting.now }
     requires started { AllByRecursion (HasStartedBy start) book.now.flows }
     requires bounded { start ≤ 2 ^ 61 }
 
-    ensures lawful { IfOk result (λ both.
-        IsLawfulFrame book.now.config book.now.flows spots.now start ack both.0 both.1.flows) }
-    ensures only { IfOk result (λ both. (n : FrameMap) →
-        IsLawfulMap book.now.config book.now.flows spots.now start ack n → n ≡ both.0) }
-    ensures encodable { AreOfChannel book.now.flows → HaveFlowSids spots.now →
-        IfOk result (λ both. IsWellFormed both.0.wire) }
-    ensures config { IfOk result (λ both. both.1.config ≡ book.now.config) }
+    ensures lawful { IfOk result (λ p. IsLawfulFrame book.now.config
+        (demand_at book.now.flows spots.now waiting.now start) header ack p) }
+    ensures only { IfOk result (λ p. (n : FrameMap) → IsLawfulMap book.now.config
+        (demand_at book.now.flows spots.now waiting.now start) header ack n → n ≡ p.map) }
+    ensures encodable { AreOfChannel book.now.flows → HaveFlowSids spots.now → HaveStationSids waiting.now →
+        IfOk result (λ p. IsWellFormed p.map.wire) }
+    ensures config { IfOk result (λ p. p.book.config ≡ book.now.config) }
 {
     let mut draft = Draft::open(alloc, book, start)?;
-    draft.fill(spots)?;
+    draft.fill(spots, waiting)?;
     draft.put_end()?;
-    Ok(draft.into_map(ack))
+    let met = draft.met;
+    let (map, book) = draft.into_map(header, ack);
+    Ok(PlannedFrame { map, book, met })
 }
 
 /// The lawful MAP of frame number `frame`, which starts at `frame` times the frame's minislots, with
 /// the minislot `ack` as its acknowledge time. Book and table are of one channel, the table places the
-/// book's periodic flows, and the book's grants start before the frame.
+/// book's periodic flows, and the book's grants start before the frame. No opportunity waits for it, and its header is
+/// the configuration's.
 pub fn plan_frame(
     alloc: Global,
     book: &Book,
@@ -65,43 +86,53 @@ pub fn plan_frame(
         book.now.flows }
     requires bounded { frame * book.now.config.frame ≤ 2 ^ 61 }
 
-    ensures lawful { IfOk result (λ m. IsLawfulMap book.now.config book.now.flows
-        (spots_in book.now.config frame table.now.placed) (frame * book.now.config.frame) ack m) }
-    ensures only { IfOk result (λ m. (n : FrameMap) → IsLawfulMap book.now.config book.now.flows
-        (spots_in book.now.config frame table.now.placed) (frame * book.now.config.frame) ack n →
-        n ≡ m) }
+    ensures lawful { IfOk result (λ m. IsLawfulMap book.now.config (demand_at book.now.flows
+        (spots_in book.now.config frame table.now.placed) [] (frame * book.now.config.frame))
+        (header_of book.now.config) ack m) }
+    ensures only { IfOk result (λ m. (n : FrameMap) → IsLawfulMap book.now.config (demand_at book.now.flows
+        (spots_in book.now.config frame table.now.placed) [] (frame * book.now.config.frame))
+        (header_of book.now.config) ack n → n ≡ m) }
     ensures encodable { AreOfChannel book.now.flows → IfOk result (λ m. IsWellFormed m.wire) }
 {
-    let (map, _) = plan_with_book(alloc, book, table, frame, ack)?;
+    let header = Header::of(book.config());
+    let planned = plan_with_book(alloc, book, table, frame, ack, header, &[])?;
+    let PlannedFrame { map, .. } = planned;
     Ok(map)
 }
 
-/// The MAP of [`plan_frame`], and the book with the data grants that it has.
+/// The lawful MAP of frame number `frame`, and what it changes. Beside what [`plan_frame`] takes there is the MAP's
+/// header, and the opportunities that wait for the MAP are told in their order: [`MAX_WAITING`](crate::MAX_WAITING) at
+/// most.
 pub fn plan_with_book(
     alloc: Global,
     book: &Book,
     table: &Table,
     frame: u64,
     ack: u64,
-) -> Result<(FrameMap, Book), AllocError>
+    header: Header,
+    waiting: &[Opportunity],
+) -> Result<PlannedFrame, AllocError>
     requires config { table.now.config ≡ book.now.config }
     requires periodic { ArePeriodicOf book.now.flows table.now.placed }
     requires started { AllByRecursion (HasStartedBy (frame * book.now.config.frame))
         book.now.flows }
     requires bounded { frame * book.now.config.frame ≤ 2 ^ 61 }
+    requires waiting { MayWait waiting.now }
 
-    ensures lawful { IfOk result (λ both. IsLawfulFrame book.now.config book.now.flows
-        (spots_in book.now.config frame table.now.placed) (frame * book.now.config.frame) ack
-        both.0 both.1.flows) }
-    ensures only { IfOk result (λ both. (n : FrameMap) → IsLawfulMap book.now.config book.now.flows
-        (spots_in book.now.config frame table.now.placed) (frame * book.now.config.frame) ack n →
-        n ≡ both.0) }
-    ensures encodable { AreOfChannel book.now.flows
-        → IfOk result (λ both. IsWellFormed both.0.wire) }
-    ensures config { IfOk result (λ both. both.1.config ≡ book.now.config) }
+    ensures lawful { IfOk result (λ p. IsLawfulFrame book.now.config (demand_at book.now.flows
+        (spots_in book.now.config frame table.now.placed) waiting.now (frame * book.now.config.frame))
+        header ack p) }
+    ensures only { IfOk result (λ p. (n : FrameMap) → IsLawfulMap book.now.config (demand_at book.now.flows
+        (spots_in book.now.config frame table.now.placed) waiting.now (frame * book.now.config.frame))
+        header ack n → n ≡ p.map) }
+    ensures first { IfOk result (λ p. MeetsFirst book.now.config
+        (spots_in book.now.config frame table.now.placed) waiting.now p.met) }
+    ensures encodable { AreOfChannel book.now.flows → HaveStationSids waiting.now
+        → IfOk result (λ p. IsWellFormed p.map.wire) }
+    ensures config { IfOk result (λ p. p.book.config ≡ book.now.config) }
 {
     let start = frame * u64::from(book.config().frame());
     let mut spots = [NO_SPOT; MAX_PERIODIC_GRANTS];
     let count = table.in_frame(frame, &mut spots);
-    plan_around(alloc, book, &spots[..count], start, ack)
+    plan_around(alloc, book, &spots[..count], waiting, header, start, ack)
 }

@@ -1,82 +1,81 @@
 //! The walk along a frame: what stands at each offset, up to the end.
 
-ghost use Rattle.std.specs.Prelude.{◌≡◌, ◌<◌, ◌≤◌, ◌+◌, ◌^◌, ◌==◌, OnOk, find, option_copied};
-ghost use Rattle.map_build.specs.Plan.{next_stop, allocation_of};
-ghost use Rattle.map_build.specs.Spots.{AreInFrame};
-ghost use Rattle.map_build.specs.Walk.{IsWellBegun, IsUnfilled, IsFilled, Takes, TakesNext, ServesNext, PutsGrant};
-ghost use Rattle.map_build.specs.Walk.{idle_to};
-ghost use Rattle.map_build.specs.Left.{left_at, AreAhead};
+ghost use Rattle.std.specs.Prelude.{◌≡◌, ◌<◌, ◌≤◌, ◌+◌, ◌^◌, ◌==◌, OnOk, find, option_copied, length};
 ghost use Rattle.minislots.specs.declared.config.Config.{Config};
-ghost use Rattle.minislots.specs.Units.{slots_for};
+ghost use Rattle.map_build.specs.declared.TheConstants.{MAX_WAITING};
+ghost use Rattle.map_build.specs.Plan.{next_stop};
+ghost use Rattle.map_build.specs.Purpose.{allocation_of};
+ghost use Rattle.map_build.specs.Spots.{AreInFrame};
+ghost use Rattle.map_build.specs.Walk.{IsWellBegun, IsUnfilled, IsFilled, MeetsNext, ServesNext, Chooses};
+ghost use Rattle.map_build.specs.Opportunities.{MayWait};
+ghost use Rattle.map_build.specs.Left.{left_at, AreAhead};
 
 use crate::MAX_DATA_GRANTS;
-use crate::draft::{Draft, NOBODY};
-use crate::usage_codes::{data_iuc, long_iuc, unsolicited_iuc};
-use flow_book::Served;
-use map_codec::iuc;
+use crate::draft::Draft;
+use crate::opportunity::{Opportunity, first_unmet};
+use crate::purpose::{Allocation, Purpose};
 use minislots::Checked;
 use periodic::Spot;
 use std::alloc::AllocError;
 
 impl Draft {
-    /// Fills the frame from the offset that is reached. The spots that are left there go with it.
-    pub(crate) fn fill(&mut self, spots: &[Spot]) -> Result<(), AllocError>
+    /// Fills the frame from the offset that is reached. The spots that are left there go with it, and the
+    /// opportunities that wait for its MAP.
+    pub(crate) fn fill(&mut self, spots: &[Spot], waiting: &[Opportunity]) -> Result<(), AllocError>
         requires placed { AreInFrame self.old.book.config spots.now }
-        requires unfilled { IsUnfilled spots.now self.old }
-        ensures { OnOk result (IsFilled spots.now self.old self.new) }
+        requires waiting { MayWait waiting.now }
+        requires unfilled { IsUnfilled spots.now waiting.now self.old }
+        ensures { OnOk result (IsFilled spots.now waiting.now self.old self.new) }
     {
         let frame = self.book.config().frame() as u16;
         let mut left = spots;
         while self.offset < frame {
-            self.put_next(left)?;
+            let next = self.next(left, waiting);
+            self.put_allocation(next)?;
             left = left_at(left, self.offset);
         }
         Ok(())
     }
 
-    // What stands at the offset that is reached: the spot that begins there, else a data grant to the
-    // flow that is next, else an idle. The spots are those that are left.
-    fn put_next(&mut self, spots: &[Spot]) -> Result<(), AllocError>
+    // What stands at the offset that is reached, by rank: the spot that begins there, else the first opportunity that
+    // waits and fits, else a data grant to the flow that is next, else an idle. The spots are those that are left.
+    fn next(&mut self, spots: &[Spot], waiting: &[Opportunity]) -> Allocation
         requires placed { AreInFrame self.old.book.config spots.now }
+        requires waiting { MayWait waiting.now }
         requires ahead { AreAhead self.old.offset spots.now }
-        requires ready { IsWellBegun self.old }
+        requires ready { IsWellBegun waiting.now self.old }
         requires inside { self.old.offset < self.old.book.config.frame }
-        ensures { OnOk result (TakesNext spots.now self.old self.new) }
+        ensures { Chooses spots.now waiting.now result self.old self.new }
     {
         if let Some(spot) = spot_at(spots, self.offset) {
-            return self.put_spot(*spot);
+            return allocation_of(*spot);
         }
-        let stop = next_stop(spots, self.offset, self.book.config());
-        let room = u32::from(stop - self.offset);
-        match self.serve(room) {
-            Some(served) => self.put_grant(served),
-            None => self.put_idle(stop),
+        let room = next_stop(spots, self.offset, self.book.config()) - self.offset;
+        if let Some(offer) = self.meet(waiting, room) {
+            return offer;
+        }
+        if let Some(grant) = self.serve(waiting, room) {
+            return grant;
+        }
+        Allocation {
+            offset: self.offset,
+            slots: room,
+            purpose: Purpose::Idle,
         }
     }
 
-    // The poll or unsolicited grant of a spot.
-    fn put_spot(&mut self, spot: Spot) -> Result<(), AllocError>
-        requires here { spot.offset ≡ self.old.offset }
-        requires inside { spot.offset + spot.slots < 2 ^ 16 }
-        ensures { OnOk result (Takes (allocation_of spot) self.old self.new) }
+    // The first opportunity that waits and fits. The draft has it from now on.
+    fn meet(&mut self, waiting: &[Opportunity], room: u16) -> Option<Allocation>
+        requires { length waiting.now ≤ MAX_WAITING }
+        ensures { MeetsNext waiting.now room result self.old self.new }
     {
-        let iuc = if spot.poll {
-            iuc::REQUEST
-        } else {
-            unsolicited_iuc(self.book.config(), u64::from(spot.slots))
-        };
-        self.put_slots(spot.sid, iuc, spot.slots, 0)?;
-        Ok(())
-    }
-
-    // An idle up to the minislot.
-    fn put_idle(&mut self, stop: u16) -> Result<(), AllocError>
-        requires { self.old.offset ≤ stop }
-        ensures { OnOk result (Takes (idle_to self.old stop) self.old self.new) }
-    {
-        let iuc = long_iuc(self.book.config());
-        self.put_slots(NOBODY, iuc, stop - self.offset, 0)?;
-        Ok(())
+        let place = first_unmet(waiting, &self.met, room)?;
+        self.met[place] = true;
+        Some(Allocation {
+            offset: self.offset,
+            slots: waiting[place].slots,
+            purpose: Purpose::Offer(place, waiting[place].usage),
+        })
     }
 
     // The minislot that is reached.
@@ -87,28 +86,38 @@ impl Draft {
         self.start + u64::from(self.offset)
     }
 
-    // The data grant of the book to the flow that is next, where one more may stand. Its element is to come.
-    fn serve(&mut self, room: u32) -> Option<Served>
-        requires { IsWellBegun self.old }
-        ensures { ServesNext room result self.old self.new }
+    // The data grant of the book to the flow that is next, where one more may stand beside the opportunities that wait.
+    fn serve(&mut self, waiting: &[Opportunity], room: u16) -> Option<Allocation>
+        requires few { length waiting.now ≤ MAX_WAITING }
+        requires ready { IsWellBegun waiting.now self.old }
+        ensures { ServesNext waiting.now room result self.old self.new }
     {
-        if self.grants < MAX_DATA_GRANTS {
-            let start = self.minislot();
-            let served = self.book.serve(start, room)?;
-            self.grants += 1;
-            return Some(served);
+        if self.grants >= MAX_DATA_GRANTS - waiting.len() {
+            return None;
         }
-        None
+        let start = self.minislot();
+        let served = self.book.serve(start, u32::from(room))?;
+        self.grants += 1;
+        Some(Allocation {
+            offset: self.offset,
+            slots: self.book.config().slots_for(served.bytes) as u16,
+            purpose: Purpose::DataGrant(served.sid, served.bytes),
+        })
     }
+}
 
-    // The element of a data grant that the book has.
-    fn put_grant(&mut self, served: Served) -> Result<(), AllocError>
-        requires { self.old.offset + slots_for self.old.book.config served.bytes < 2 ^ 16 }
-        ensures { OnOk result (PutsGrant served self.old self.new) }
-    {
-        let slots = self.book.config().slots_for(served.bytes);
-        let iuc = data_iuc(self.book.config(), slots);
-        self.put_slots(served.sid, iuc, slots as u16, served.bytes)
+// The poll or unsolicited grant of a spot.
+fn allocation_of(spot: Spot) -> Allocation
+    ensures { result ≡ allocation_of spot }
+{
+    Allocation {
+        offset: spot.offset,
+        slots: spot.slots,
+        purpose: if spot.poll {
+            Purpose::Poll(spot.sid)
+        } else {
+            Purpose::UnsolicitedGrant(spot.sid)
+        },
     }
 }
 

@@ -17,6 +17,7 @@ use Rattle.periodic.proofs.Parameters.{places_of}
 use Rattle.map_build.specs.EachAfter.{EachAfter}
 use Rattle.sched_history.specs.declared.call.Call.{Call}
 use Rattle.sched_history.specs.declared.call.Call.TheVariants.{Admit, Remove, Ask, Heard, Build, Skip, Status}
+use Rattle.sched_history.specs.declared.call.Call.TheVariants.{Reserve, Header}
 use Rattle.sched_history.specs.declared.reply.Refusal.{Refusal}
 use Rattle.sched_history.specs.declared.reply.Reply.{Reply}
 use Rattle.sched_history.specs.declared.reply.Reply.TheVariants as replies
@@ -72,6 +73,8 @@ module _ (c : Config) (conf : IsLawful c) where
   answer_room h (Build now) reply passed (m, is, e) = rw e tt
   answer_room h (Skip now) reply passed (start, is, e) = rw e tt
   answer_room h (Status sid) reply passed is = life_room sid (life_of sid h) reply is
+  answer_room h (Reserve usage slots) reply passed e = rw e tt
+  answer_room h (Header count ranging_start ranging_end data_start data_end) reply passed e = rw e tt
 
   either_room : (h : List Entry) (call : Call) (reply : Reply) (o : Option Refusal) → refusal_of c h call ≡ o
       → MatchOption o (Answers c h call reply) (λ refusal. reply ≡ replies.Refused refusal) → HasRoom reply

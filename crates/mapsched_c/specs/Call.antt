@@ -1,12 +1,19 @@
--- A call in plain numbers.
+-- A call in plain numbers. An opportunity has its usage where an admission has its kind of flow, and its minislots
+-- where an unsolicited flow has its size; a header has its UCD count and the exponents of the windows of ranging where
+-- others have a receiver, a priority and grants.
 use Rattle.std.specs.Prelude.{◌==◌, Option, None, Some, option_map, if◌then◌else◌}
 use Rattle.flow_book.specs.declared.spec.FlowSpec.{FlowSpec}
 use Rattle.flow_book.specs.declared.spec.FlowSpec.TheVariants.{Unsolicited, Polled, BestEffort}
+use Rattle.map_build.specs.declared.opportunity.Usage.{Usage}
+use Rattle.map_build.specs.declared.opportunity.Usage.TheVariants.{Initial, Station}
 use Rattle.sched_history.specs.declared.call.Call.{Call}
 use Rattle.sched_history.specs.declared.call.Call.TheVariants.{Admit, Remove, Ask, Heard, Build, Skip, Status}
+use Rattle.sched_history.specs.declared.call.Call.TheVariants.{Reserve, Header}
 use Rattle.mapsched_c.specs.declared.call.PlainCall.{PlainCall}
 use Rattle.mapsched_c.specs.declared.call.kind.TheConstants.{ADMIT, REMOVE, ASK, HEARD, BUILD, SKIP, STATUS}
+use Rattle.mapsched_c.specs.declared.call.kind.TheConstants.{RESERVE, HEADER}
 use Rattle.mapsched_c.specs.declared.call.flow.TheConstants.{UNSOLICITED, POLLED, BEST_EFFORT}
+use Rattle.mapsched_c.specs.declared.call.usage.TheConstants.{INITIAL, STATION}
 
 -- the flow of these numbers, where there is such a kind
 abbrev pub flow_of : PlainCall → Option FlowSpec
@@ -14,6 +21,10 @@ flow_of c = if c.flow == UNSOLICITED then Some (Unsolicited c.size c.interval_us
     else if c.flow == POLLED then Some (Polled c.interval_us c.jitter_us c.rate c.burst)
     else if c.flow == BEST_EFFORT then Some (BestEffort c.priority c.rate c.burst)
     else None
+
+-- whom the opportunity of these numbers is for, where there is such a kind
+abbrev pub usage_of : PlainCall → Option Usage
+usage_of c = if c.flow == INITIAL then Some Initial else if c.flow == STATION then Some (Station c.sid) else None
 
 -- the call of these numbers, where there is such a kind
 abbrev pub call_of : PlainCall → Option Call
@@ -24,6 +35,8 @@ call_of c = if c.kind == ADMIT then option_map (Admit c.sid) (flow_of c)
     else if c.kind == BUILD then Some (Build c.minislot)
     else if c.kind == SKIP then Some (Skip c.minislot)
     else if c.kind == STATUS then Some (Status c.sid)
+    else if c.kind == RESERVE then option_map (λ usage. Reserve usage c.size) (usage_of c)
+    else if c.kind == HEADER then Some (Header c.receiver c.priority c.grants c.data_start c.data_end)
     else None
 
 -- all numbers 0
@@ -42,6 +55,8 @@ nothing_called = record {
   receiver = 0;
   priority = 0;
   grants = 0;
+  data_start = 0;
+  data_end = 0;
 }
 
 -- the numbers of a flow
@@ -82,3 +97,14 @@ plain_call (Heard receiver upto) = record nothing_called { kind = HEARD; receive
 plain_call (Build now) = record nothing_called { kind = BUILD; minislot = now }
 plain_call (Skip now) = record nothing_called { kind = SKIP; minislot = now }
 plain_call (Status sid) = record nothing_called { kind = STATUS; sid = sid }
+plain_call (Reserve Initial slots) = record nothing_called { kind = RESERVE; flow = INITIAL; size = slots }
+plain_call (Reserve (Station sid) slots) =
+    record nothing_called { kind = RESERVE; flow = STATION; size = slots; sid = sid }
+plain_call (Header count ranging_start ranging_end data_start data_end) = record nothing_called {
+  kind = HEADER;
+  receiver = count;
+  priority = ranging_start;
+  grants = ranging_end;
+  data_start = data_start;
+  data_end = data_end;
+}

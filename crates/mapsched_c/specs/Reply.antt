@@ -3,12 +3,12 @@ use Rattle.std.specs.Prelude.{ℕ, ◌≤◌, ◌++◌, length, drop, Option, No
 use Rattle.map_codec.specs.WireMap.{spelling}
 use Rattle.sched_history.specs.declared.reply.Reply.{Reply}
 use Rattle.sched_history.specs.declared.reply.Reply.TheVariants.{Admitted, Removed, Taken, Noted, Built, Skipped, Flow}
-use Rattle.sched_history.specs.declared.reply.Reply.TheVariants.{Refused}
+use Rattle.sched_history.specs.declared.reply.Reply.TheVariants.{Refused, Reserved}
 use Rattle.sched_lines.specs.Line.{refusal_number, refusal_value}
 use Rattle.mapsched_c.specs.declared.reply.PlainReply.{PlainReply}
 use Rattle.mapsched_c.specs.declared.reply.TheConstants.{MAX_STARTS}
 use Rattle.mapsched_c.specs.declared.reply.answer.TheConstants.{ADMITTED, PLACED, REMOVED, TAKEN, NOTED, BUILT}
-use Rattle.mapsched_c.specs.declared.reply.answer.TheConstants.{SKIPPED, FLOW, REFUSED}
+use Rattle.mapsched_c.specs.declared.reply.answer.TheConstants.{SKIPPED, FLOW, REFUSED, RESERVED}
 
 -- a placement in the reply has no more starts than there is room for
 abbrev pub HasRoom : Reply → Type 0
@@ -17,6 +17,7 @@ HasRoom (Admitted (Some placement)) = length placement.starts ≤ MAX_STARTS
 HasRoom Removed = Unit {0}
 HasRoom Taken = Unit {0}
 HasRoom Noted = Unit {0}
+HasRoom Reserved = Unit {0}
 HasRoom (Built m) = Unit {0}
 HasRoom (Skipped next) = Unit {0}
 HasRoom (Flow asked granted outstanding) = Unit {0}
@@ -51,6 +52,7 @@ plain_reply old (Admitted (Some p)) = record (with_kind old PLACED) {
 plain_reply old Removed = with_kind old REMOVED
 plain_reply old Taken = with_kind old TAKEN
 plain_reply old Noted = with_kind old NOTED
+plain_reply old Reserved = with_kind old RESERVED
 plain_reply old (Built m) = record (with_kind old BUILT) {
   length = length (spelling m.wire);
   value = m.start;

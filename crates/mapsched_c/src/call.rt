@@ -1,9 +1,10 @@
 //! A call in plain numbers.
 
 ghost use Rattle.std.specs.Prelude.{◌≡◌, Some};
-ghost use Rattle.mapsched_c.specs.Call.{call_of, flow_of, plain_call};
+ghost use Rattle.mapsched_c.specs.Call.{call_of, flow_of, usage_of, plain_call};
 
 use flow_book::FlowSpec;
+use map_build::Usage;
 use sched_history::Call;
 
 /// The kinds of calls.
@@ -28,6 +29,21 @@ pub mod kind {
 
     /// Asks for a flow's bytes.
     pub const STATUS: u32 = 6;
+
+    /// Asks for an opportunity to range.
+    pub const RESERVE: u32 = 7;
+
+    /// Sets the UCD count and the backoff windows of the next MAPs.
+    pub const HEADER: u32 = 8;
+}
+
+/// Whom an opportunity is for.
+pub mod usage {
+    /// Initial Maintenance: all modems that join the channel.
+    pub const INITIAL: u32 = 0;
+
+    /// Station Maintenance: the modem of the service identifier.
+    pub const STATION: u32 = 1;
 }
 
 /// The kinds of flows.
@@ -42,15 +58,16 @@ pub mod flow {
     pub const BEST_EFFORT: u32 = 2;
 }
 
-/// A call by its kind. Each kind reads only the numbers that it has.
+/// A call by its kind. Each kind reads only the numbers that it has. An opportunity and a header have numbers of their
+/// own where other kinds have others: in C two names share such a place.
 #[repr(C)]
 #[derive(Clone, Copy)]
 pub struct PlainCall {
     /// The number of its kind: one of [`kind`].
     pub kind: u32,
-    /// An admission's kind of flow: one of [`flow`].
+    /// An admission's kind of flow: one of [`flow`]. Whom an opportunity is for: one of [`usage`].
     pub flow: u32,
-    /// An unsolicited flow's bytes in a grant.
+    /// An unsolicited flow's bytes in a grant. How many minislots an opportunity has.
     pub size: u32,
     /// A periodic flow's nominal interval, in microseconds.
     pub interval_us: u32,
@@ -64,14 +81,18 @@ pub struct PlainCall {
     pub bytes: u32,
     /// The minislot at which it is made or was heard, or up to which all was heard.
     pub minislot: u64,
-    /// The service identifier of the flow.
+    /// The service identifier of the flow, or of the modem that an opportunity is for.
     pub sid: u16,
-    /// The receiver that heard a request, or has handed in all.
+    /// The receiver that heard a request, or has handed in all. A header's UCD count.
     pub receiver: u8,
-    /// A best effort flow's traffic priority, from 0 to 7.
+    /// A best effort flow's traffic priority, from 0 to 7. A header's exponent of the first window of ranging.
     pub priority: u8,
-    /// An unsolicited flow's grants in an interval.
+    /// An unsolicited flow's grants in an interval. A header's exponent of the last window of ranging.
     pub grants: u8,
+    /// A header's exponent of the first window of requests.
+    pub data_start: u8,
+    /// Of the last.
+    pub data_end: u8,
 }
 
 // A call of which every number is 0.
@@ -89,6 +110,8 @@ const NOTHING: PlainCall = PlainCall {
     receiver: 0,
     priority: 0,
     grants: 0,
+    data_start: 0,
+    data_end: 0,
 };
 
 impl PlainCall {
@@ -118,6 +141,17 @@ impl PlainCall {
         }
     }
 
+    // Whom the opportunity is for, where there is such a kind.
+    fn usage(&self) -> Option<Usage>
+        ensures { result ≡ usage_of self.now }
+    {
+        match self.flow {
+            usage::INITIAL => Some(Usage::Initial),
+            usage::STATION => Some(Usage::Station(self.sid)),
+            _ => None,
+        }
+    }
+
     // The call of these numbers, where there is such a kind.
     pub(crate) fn call(&self) -> Option<Call>
         ensures { result ≡ call_of self.now }
@@ -138,6 +172,17 @@ impl PlainCall {
             kind::BUILD => Call::Build { now: self.minislot },
             kind::SKIP => Call::Skip { now: self.minislot },
             kind::STATUS => Call::Status(self.sid),
+            kind::RESERVE => Call::Reserve {
+                usage: self.usage()?,
+                slots: self.size,
+            },
+            kind::HEADER => Call::Header {
+                ucd_count: self.receiver,
+                ranging_start: self.priority,
+                ranging_end: self.grants,
+                data_start: self.data_start,
+                data_end: self.data_end,
+            },
             _ => return None,
         })
     }
@@ -190,6 +235,48 @@ impl PlainCall {
         }
     }
 
+    // The numbers of a Reserve.
+    fn of_reserve(usage: Usage, slots: u32) -> PlainCall
+        ensures { result ≡ plain_call (Call.Reserve usage slots) }
+    {
+        match usage {
+            Usage::Initial => PlainCall {
+                kind: kind::RESERVE,
+                flow: usage::INITIAL,
+                size: slots,
+                ..NOTHING
+            },
+            Usage::Station(sid) => PlainCall {
+                kind: kind::RESERVE,
+                flow: usage::STATION,
+                size: slots,
+                sid,
+                ..NOTHING
+            },
+        }
+    }
+
+    // The numbers of a header.
+    fn of_header(
+        ucd_count: u8,
+        ranging_start: u8,
+        ranging_end: u8,
+        data_start: u8,
+        data_end: u8,
+    ) -> PlainCall
+        ensures { result ≡ plain_call (Call.Header ucd_count ranging_start ranging_end data_start data_end) }
+    {
+        PlainCall {
+            kind: kind::HEADER,
+            receiver: ucd_count,
+            priority: ranging_start,
+            grants: ranging_end,
+            data_start,
+            data_end,
+            ..NOTHING
+        }
+    }
+
     // The numbers of a call: those that its kind has not are 0.
     pub(crate) fn of(call: Call) -> PlainCall
         ensures value { result ≡ plain_call call }
@@ -236,6 +323,14 @@ impl PlainCall {
                 sid,
                 ..NOTHING
             },
+            Call::Reserve { usage, slots } => PlainCall::of_reserve(usage, slots),
+            Call::Header {
+                ucd_count,
+                ranging_start,
+                ranging_end,
+                data_start,
+                data_end,
+            } => PlainCall::of_header(ucd_count, ranging_start, ranging_end, data_start, data_end),
         }
     }
 }

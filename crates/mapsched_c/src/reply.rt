@@ -25,7 +25,7 @@ pub mod answer {
     /// The request is counted.
     pub const TAKEN: u32 = 3;
 
-    /// The progress of a receiver is noted.
+    /// The progress of a receiver, or the header of the next MAPs, is noted.
     pub const NOTED: u32 = 4;
 
     /// The MAP of the next frame, as its bytes.
@@ -39,6 +39,9 @@ pub mod answer {
 
     /// The call changes nothing.
     pub const REFUSED: u32 = 8;
+
+    /// The opportunity waits for a MAP.
+    pub const RESERVED: u32 = 9;
 }
 
 /// The most starts of a placement: the most grants of one interval, in each frame of the longest cycle.
@@ -125,6 +128,7 @@ impl PlainReply {
             Reply::Removed => self.put_kind(answer::REMOVED),
             Reply::Taken => self.put_kind(answer::TAKEN),
             Reply::Noted => self.put_kind(answer::NOTED),
+            Reply::Reserved => self.put_kind(answer::RESERVED),
             Reply::Built(map) => self.put_map(map),
             Reply::Skipped(next) => {
                 self.put_kind(answer::SKIPPED);

@@ -30,8 +30,8 @@ pub use-all : (width : ℕ) (fs : List Frame) (i : ℕ) → length fs < width * 
 use-all width fs i past =
     ap use_in (sym (take_all (width * (i + 1)) fs (omega (arith, past)))) ∙ use-next width fs i
 
--- a step begins before the last frame
-pub step-begins : (width n i : ℕ) → 0 < width → i < steps_of width n → width * i ≤ n
+-- a step begins with a frame
+pub step-begins : (width n i : ℕ) → 0 < width → i < steps_of width n → width * i < n
 step-begins width n i some below =
     let up : width * (i + 1) ≤ width * steps_of width n = mul-le-mul_left width (omega (arith, below)) in
     let most : width * steps_of width n ≤ n + (width - 1) = mul-div-le (n + (width - 1)) width in

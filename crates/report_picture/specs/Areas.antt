@@ -5,9 +5,11 @@ use Rattle.sched_report.specs.declared.slots.Slots.{Slots}
 use Rattle.sched_report.specs.declared.slots.Use.{Use}
 use Rattle.sched_report.specs.declared.slots.Use.TheVariants.{Request, Poll, Unsolicited, Opportunity, Data, Idle}
 use Rattle.report_picture.specs.declared.course.Course.{Course}
-use Rattle.report_picture.specs.declared.over_time.TheConstants.{NO_SLOTS}
+use Rattle.report_picture.specs.declared.over_time.Step.{Step}
+use Rattle.report_picture.specs.declared.over_time.TheConstants.{NO_STEP}
 use Rattle.report_picture.specs.Filled.{filled}
-use Rattle.report_picture.specs.Course.{first_frame, frame_behind, height_of, frame_place}
+use Rattle.report_picture.specs.Axis.{microseconds}
+use Rattle.report_picture.specs.Course.{first_frame, frame_behind, height_of, end_of, time_since, time_place}
 
 -- the name of the look of a use
 unfoldable pub look_of : Use → List ℕ
@@ -27,40 +29,58 @@ slots_upto Opportunity s = s.request + s.poll + s.unsolicited + s.opportunity
 slots_upto Data s = s.request + s.poll + s.unsolicited + s.opportunity + s.data_grants
 slots_upto Idle s = s.request + s.poll + s.unsolicited + s.opportunity + s.data_grants + s.idle
 
--- the use of the step at a place
-abbrev pub use_at : List Slots → ℕ → Slots
-use_at uses i = slice_index_or uses i NO_SLOTS
+-- the step at a place
+abbrev pub step_in : List Step → ℕ → Step
+step_in steps i = slice_index_or steps i NO_STEP
 
--- up, or down, to the upper edge of a use in a step, and on to where the step ends
-abbrev pub edge_text : Course → Use → List Slots → ℕ → List ℕ
-edge_text c kind uses i =
-    filled (codes "V-~H~") (height_of c i (slots_upto kind (use_at uses i)) ∷ frame_place c (frame_behind c i) ∷ [])
+-- where a step begins and ends
+abbrev pub begin_place : Course → Step → ℕ
+begin_place c s = time_place c s.first
+
+abbrev pub end_place : Course → Step → ℕ
+end_place c s = time_place c (end_of c s.last)
+
+-- to where a step begins, up to the upper edge of a use in it, on to where the step ends, and down
+abbrev pub edge_text : Course → Use → List Step → ℕ → List ℕ
+edge_text c kind steps i =
+    filled (codes "H~V-~H~V0")
+    (begin_place c (step_in steps i) ∷ height_of c (step_in steps i) (slots_upto kind (step_in steps i).slots)
+    ∷ end_place c (step_in steps i) ∷ [])
 
 -- the upper edge of a use, step by step
-abbrev pub edges_text : Course → Use → List Slots → List ℕ
-edges_text c kind uses = flat_map (edge_text c kind uses) (range_with_len 0 (length uses))
+abbrev pub edges_text : Course → Use → List Step → List ℕ
+edges_text c kind steps = flat_map (edge_text c kind steps) (range_with_len 0 (length steps))
 
 -- what stands below the upper edge of a use
-unfoldable pub area_text : Course → Use → List Slots → List ℕ
-area_text c kind uses =
-    codes "<path class='area " ++ (look_of kind ++ (codes "' d='M0 0" ++ (edges_text c kind uses ++ codes "V0z'/>\n")))
+unfoldable pub area_text : Course → Use → List Step → List ℕ
+area_text c kind steps =
+    codes "<path class='area " ++ (look_of kind ++ (codes "' d='M0 0" ++ (edges_text c kind steps ++ codes "z'/>\n")))
 
 -- all uses: each one hides what stands below it of those above
-unfoldable pub areas_text : Course → List Slots → List ℕ
-areas_text c uses =
-    area_text c Idle uses ++ (area_text c Data uses ++ (area_text c Opportunity uses
-    ++ (area_text c Unsolicited uses ++ (area_text c Poll uses ++ area_text c Request uses))))
+unfoldable pub areas_text : Course → List Step → List ℕ
+areas_text c steps =
+    area_text c Idle steps ++ (area_text c Data steps ++ (area_text c Opportunity steps
+    ++ (area_text c Unsolicited steps ++ (area_text c Poll steps ++ area_text c Request steps))))
+
+-- from which frame to which a step reaches, and from when to when, where the first frame starts at 0
+unfoldable pub stretch_text : Course → Step → ℕ → List ℕ
+stretch_text c s i =
+    filled (codes "<path class='step' d='M~ 0V-320H~V0z'><title>frames @ to @, ")
+    (begin_place c s ∷ end_place c s ∷ first_frame c i ∷ (frame_behind c i - 1) ∷ [])
+    ++ filled (codes "^ to ^ ms, minislots: ")
+    (microseconds c.ticks (time_since c s.first) ∷ microseconds c.ticks (time_since c (end_of c s.last)) ∷ [])
+
+-- what the minislots of a step are for
+unfoldable pub slots_text : Slots → List ℕ
+slots_text s =
+    filled
+    (codes "request region @, polls @, unsolicited @, opportunities @, data grants @, idle @</title></path>\n")
+    (s.request ∷ s.poll ∷ s.unsolicited ∷ s.opportunity ∷ s.data_grants ∷ s.idle ∷ [])
 
 -- what a step says of its frames
-unfoldable pub step_text : Course → List Slots → ℕ → List ℕ
-step_text c uses i =
-    filled (codes "<path class='step' d='M~ 0V-320H~V0z'><title>frames @ to @, minislots: request region @, polls @, ")
-    (frame_place c (first_frame c i) ∷ frame_place c (frame_behind c i) ∷ first_frame c i ∷ (frame_behind c i - 1)
-    ∷ (use_at uses i).request ∷ (use_at uses i).poll ∷ [])
-    ++ filled (codes "unsolicited @, opportunities @, data grants @, idle @</title></path>\n")
-    ((use_at uses i).unsolicited ∷ (use_at uses i).opportunity ∷ (use_at uses i).data_grants
-    ∷ (use_at uses i).idle ∷ [])
+unfoldable pub step_text : Course → List Step → ℕ → List ℕ
+step_text c steps i = stretch_text c (step_in steps i) i ++ slots_text (step_in steps i).slots
 
 -- what all steps say
-abbrev pub steps_text : Course → List Slots → List ℕ
-steps_text c uses = flat_map (step_text c uses) (range_with_len 0 (length uses))
+abbrev pub steps_text : Course → List Step → List ℕ
+steps_text c steps = flat_map (step_text c steps) (range_with_len 0 (length steps))

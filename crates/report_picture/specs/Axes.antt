@@ -1,26 +1,54 @@
--- The axes of the use of minislots: frames and their milliseconds to the right, minislots of a frame upwards.
-use Rattle.std.specs.Prelude.{ℕ, ◌*◌, nat_le, if◌then◌else◌, List, [], ◌∷◌, ◌++◌, codes, flat_map}
+-- The axes of the use of minislots: time to the right, minislots of a frame upwards.
+use Rattle.std.specs.Prelude.{ℕ, ◌*◌, ◌/◌, nat_le, Bool, if◌then◌else◌, List, [], ◌∷◌, ◌++◌, codes, flat_map}
 use Rattle.std.specs.List.{range_with_len}
 use Rattle.report_picture.specs.declared.course.Course.{Course}
 use Rattle.report_picture.specs.Filled.{filled}
-use Rattle.report_picture.specs.Axis.{place, round_step, microseconds}
-use Rattle.report_picture.specs.Course.{frame_place}
+use Rattle.report_picture.specs.Axis.{place, round_step}
 
--- the mark of a number of frames: the number, and how long they take
-unfoldable pub frame_mark : Course → ℕ → List ℕ
-frame_mark c n =
-    filled (codes "<path class='tick' d='M~ 6V-320'/><text class='at' x='~' y='20'>@</text>")
-    (frame_place c n ∷ frame_place c n ∷ n ∷ [])
-    ++ filled (codes "<text class='at' x='~' y='34'>^</text>\n")
-    (frame_place c n ∷ microseconds c.ticks (n * c.frame) ∷ [])
+-- the time from the start of the first frame to the end of the last one, in quarters of a microsecond, of which a tick
+-- has 25
+abbrev pub quarters : Course → ℕ
+quarters c = c.span * c.ticks * 25
 
--- the tick of a number of frames, where there are so many
-unfoldable pub frame_tick : Course → ℕ → List ℕ
-frame_tick c n = if nat_le n c.frames then frame_mark c n else []
+-- whether the axis is in seconds: from 10 of them on, and else in milliseconds
+abbrev pub is_in_seconds : Course → Bool
+is_in_seconds c = nat_le 40000000 (quarters c)
 
--- the ticks of frames: from 0 on, ten steps at most
-abbrev pub frame_ticks : Course → List ℕ
-frame_ticks c = flat_map (λ i. frame_tick c (round_step c.frames * i)) (range_with_len 0 11)
+-- so many quarters of a microsecond are a thousandth of the axis' unit
+abbrev pub thousandth : Course → ℕ
+thousandth c = if is_in_seconds c then 4000 else 4
+
+-- so many thousandths of the unit the axis has
+abbrev pub axis_end : Course → ℕ
+axis_end c = quarters c / thousandth c
+
+-- where so many of them stand, in tenths of a unit of the picture
+abbrev pub mark_place : Course → ℕ → ℕ
+mark_place c n = place 10240 (n * thousandth c) (quarters c)
+
+-- their mark
+unfoldable pub time_mark : Course → ℕ → List ℕ
+time_mark c n =
+    filled (codes "<path class='tick' d='M~ 6V-320'/><text class='at' x='~' y='20'>^</text>\n")
+    (mark_place c n ∷ mark_place c n ∷ n ∷ [])
+
+-- their tick, where the axis has so many
+unfoldable pub time_tick : Course → ℕ → List ℕ
+time_tick c n = if nat_le n (axis_end c) then time_mark c n else []
+
+-- the ticks of time: from 0 on, ten steps at most
+abbrev pub time_ticks : Course → List ℕ
+time_ticks c = flat_map (λ i. time_tick c (round_step (axis_end c) * i)) (range_with_len 0 11)
+
+-- the name of the unit at the axis
+unfoldable pub unit_name : Course → List ℕ
+unit_name c = if is_in_seconds c then codes "seconds" else codes "milliseconds"
+
+-- what the axis of time is in
+unfoldable pub time_name : Course → List ℕ
+time_name c =
+    codes "<text class='at' x='512' y='38'>time from the start of the first frame, in "
+    ++ (unit_name c ++ codes "</text>\n")
 
 -- the tick of so many minislots of a frame
 unfoldable pub slots_tick : Course → ℕ → List ℕ
@@ -45,9 +73,8 @@ part_ticks =
 unfoldable pub axes_names : List ℕ
 axes_names =
     codes "<path class='edge' d='M0-320V0H1024V-320z'/><text class='end' x='-8' y='-332'>minislots</text>"
-    ++ (codes "<text class='part' x='1032' y='-332'>of a frame</text><text class='end' x='-24' y='20'>frame</text>"
-    ++ codes "<text class='end' x='-24' y='34'>ms</text>\n")
+    ++ codes "<text class='part' x='1032' y='-332'>of a frame</text>\n"
 
 -- the axes
 unfoldable pub axes_text : Course → List ℕ
-axes_text c = slots_ticks c ++ (part_ticks ++ (frame_ticks c ++ axes_names))
+axes_text c = slots_ticks c ++ (part_ticks ++ (time_ticks c ++ (axes_names ++ time_name c)))

@@ -4,12 +4,13 @@ use Rattle.std.specs.Prelude.{flat_map, length, slice_index_or, Option, None, So
 use Rattle.std.specs.List.{range_with_len}
 use Rattle.sched_report.specs.declared.life.TheConstants.{POLLED}
 use Rattle.sched_report.specs.declared.ranks.RankSums.{RankSums}
-use Rattle.report_writing.specs.declared.gathered.RankTold.{RankTold}
+use Rattle.sched_report.specs.declared.ranks_told.RankTold.{RankTold}
 use Rattle.report_picture.specs.declared.spread.Spread.{Spread}
 use Rattle.report_picture.specs.declared.spread.Scale.{Scale}
 use Rattle.report_picture.specs.declared.ranks.TheConstants.{NO_RANK}
 use Rattle.report_picture.specs.Filled.{filled}
 use Rattle.report_picture.specs.Axis.{place, round_step, microseconds}
+use Rattle.report_picture.specs.Course.{or_zero}
 
 -- these delays, where there are all four
 unfoldable pub spread_with : Option ℕ → Option ℕ → Option ℕ → Option ℕ → Option Spread
@@ -20,11 +21,6 @@ spread_with least middle p99 greatest = None
 -- how the delays of a rank are spread, where a request of it was served
 abbrev pub spread_of : RankTold → Option Spread
 spread_of r = spread_with r.numbers.sums.least r.numbers.middle r.numbers.p99 r.numbers.sums.greatest
-
--- a number, or 0 where there is none
-abbrev pub or_zero : Option ℕ → ℕ
-or_zero None = 0
-or_zero (Some n) = n
 
 -- the greatest delay of some ranks
 abbrev pub most_of : List RankTold → ℕ
@@ -122,8 +118,14 @@ columns_text =
     ++ (codes "<text class='end' x='1104' y='-10'>greatest</text>"
     ++ codes "<text class='end' x='1194' y='-10'>waiting</text><text class='end' x='1284' y='-10'>dropped</text>\n")))
 
+-- what stands in the place of rows where no rank has any
+unfoldable pub no_rows_text : ℕ → List ℕ
+no_rows_text rows =
+    if rows == 0 then codes "<text class='head' x='0' y='20'>No request was accepted, so there is no delay.</text>\n"
+    else []
+
 -- the delays of ranks, on channels whose minislots have so many ticks
 unfoldable pub delays_text : ℕ → List RankTold → List ℕ
 delays_text ticks ranks =
     delays_legend ++ (columns_text ++ (delay_ticks (scale_to ticks (most_of ranks)) (length ranks)
-    ++ (rows_text (scale_to ticks (most_of ranks)) ranks ++ codes "</g>\n")))
+    ++ (rows_text (scale_to ticks (most_of ranks)) ranks ++ (no_rows_text (length ranks) ++ codes "</g>\n"))))

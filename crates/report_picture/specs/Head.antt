@@ -1,5 +1,5 @@
 -- The head of a picture: how its parts look, its title, and what each look is for.
-use Rattle.std.specs.Prelude.{ℕ, ◌+◌, ◌-◌, ◌*◌, ◌/◌, List, [], ◌∷◌, ◌++◌, codes, Option, None, Some}
+use Rattle.std.specs.Prelude.{ℕ, ◌+◌, ◌-◌, ◌*◌, ◌/◌, max, List, [], ◌∷◌, ◌++◌, codes, Option, None, Some}
 use Rattle.sched_report.specs.declared.slots.Slots.{Slots}
 use Rattle.sched_report.specs.declared.totals.Totals.{Totals}
 use Rattle.sched_report.specs.Uses.{all_slots}
@@ -7,9 +7,9 @@ use Rattle.report_picture.specs.declared.course.Course.{Course}
 use Rattle.report_picture.specs.Filled.{filled}
 use Rattle.report_picture.specs.Axis.{place, microseconds}
 
--- how deep a picture is in which so many ranks have delays
+-- how deep a picture is in which so many ranks have delays: it has one row at least
 abbrev pub depth_of : ℕ → ℕ
-depth_of ranks = 584 + 32 * ranks
+depth_of ranks = 584 + 32 * max ranks 1
 
 -- how large it is
 unfoldable pub size_text : ℕ → List ℕ
@@ -20,12 +20,14 @@ size_text ranks =
 -- how its parts look
 unfoldable pub style_text : List ℕ
 style_text =
-    codes "' font-family='sans-serif' font-size='12' style='background:#fff'>\n<style>.head{font-size:14px}"
-    ++ (codes ".at,.end,.part{font-size:11px}.at{text-anchor:middle}.end{text-anchor:end}.key{stroke:#333;"
+    codes "' font-family='sans-serif' font-size='12'>\n<rect width='100%' height='100%' fill='#fff'/><style>"
     ++ (codes
-    "stroke-width:.5px}\n.tick{stroke:#000;stroke-opacity:.2}.edge{stroke:#333;fill:none}.step{fill-opacity:0}\n"
-    ++ (codes ".request{fill:url(#request)}.poll{fill:url(#poll)}.unsolicited{fill:url(#unsolicited)}\n"
-    ++ (codes ".opportunity{fill:url(#opportunity)}.data{fill:#2f7fc1}.idle{fill:#fff}.range{fill:#ccc}\n"
+    ".head{font-size:14px}.at,.end,.part{font-size:11px}.at{text-anchor:middle}.end{text-anchor:end}\n"
+    ++ (codes
+    ".key{stroke:#333;stroke-width:.5px}.tick{stroke:#000;stroke-opacity:.2}.edge{stroke:#333;fill:none}\n"
+    ++ (codes
+    ".step{fill-opacity:0}.request{fill:url(#request)}.poll{fill:url(#poll)}.unsolicited{fill:url(#unsolicited)}"
+    ++ (codes ".opportunity{fill:url(#opportunity)}.data{fill:#2f7fc1}.idle{fill:#ddd}.range{fill:#ccc}\n"
     ++ (codes ".most{stroke:#333;stroke-width:2px}.middle{fill:#fff;stroke:#000;stroke-width:2px}</style>\n")))))
 
 -- the patterns of minislots in which modems may ask
@@ -58,9 +60,11 @@ title_text c t =
     (c.frames ∷ c.frame ∷ microseconds c.ticks c.frame ∷ [])
     ++ (span_text c.ticks t.from t.to
     ++ (filled (codes " Skips: @.</text>\n") (t.skips ∷ [])
-    ++ filled
-    (codes "<text x='96' y='47'>Frames in a step: @. The height of a step is the mean of its frames.</text>\n")
-    (c.width ∷ [])))
+    ++ (filled
+    (codes
+    "<text x='96' y='47'>Frames in a step: @. It reaches from the start of its first to the end of its last one, ")
+    (c.width ∷ [])
+    ++ codes "a use as high as its part of that time. White: no frame, since no MAP was built.</text>\n")))
 
 -- how many in a thousand of all a part is, rounded to the nearest
 abbrev pub thousandths : ℕ → ℕ → ℕ
@@ -85,11 +89,12 @@ first_keys s =
 unfoldable pub last_keys : Slots → List ℕ
 last_keys s =
     key_text
-    (codes "<path class='key opportunity' d='M590 60h28v16h-28z'/><text x='626' y='73'>opportunities ~ %</text>\n")
+    (codes
+    "<path class='key opportunity' d='M590 60h28v16h-28z'/><text x='626' y='73'>opportunity to range ~ %</text>\n")
     s.opportunity (all_slots s)
-    ++ (key_text (codes "<path class='key data' d='M786 60h28v16h-28z'/><text x='822' y='73'>data grants ~ %</text>\n")
+    ++ (key_text (codes "<path class='key data' d='M836 60h28v16h-28z'/><text x='872' y='73'>data grants ~ %</text>\n")
     s.data_grants (all_slots s)
-    ++ key_text (codes "<path class='key idle' d='M970 60h28v16h-28z'/><text x='1006' y='73'>idle ~ %</text>\n")
+    ++ key_text (codes "<path class='key idle' d='M1020 60h28v16h-28z'/><text x='1056' y='73'>idle ~ %</text>\n")
     s.idle (all_slots s))
 
 -- the head of a picture in which so many ranks have delays

@@ -1,10 +1,11 @@
 -- The use of minislots over time, in steps of so many frames each.
 use Rattle.std.specs.Prelude.{◌≡◌, ℕ, ◌+◌, ◌-◌, ◌*◌, ◌/◌, ◌^◌, ◌<◌, ◌≤◌, List, take, drop, length, map, flat_map}
-use Rattle.std.specs.Prelude.{sum_by}
+use Rattle.std.specs.Prelude.{sum_by, min, slice_index_or}
 use Rattle.std.specs.List.{range_with_len}
 use Rattle.frame_picture.specs.Frames.{Frame}
 use Rattle.sched_report.specs.declared.slots.Slots.{Slots}
 use Rattle.sched_report.specs.Uses.{slots_in}
+use Rattle.report_picture.specs.declared.over_time.Step.{Step}
 
 -- the minislots of some frames by their use
 abbrev pub use_in : List Frame → Slots
@@ -17,6 +18,10 @@ use_in fs = record {
   unsolicited = sum_by (λ f. (slots_in f).unsolicited) fs;
 }
 
+-- where the frame with a number starts, which is counted from 0
+abbrev pub start_of : List Frame → ℕ → ℕ
+start_of fs k = slice_index_or (map (λ f. f.built.start) fs) k 0
+
 -- the frames of the step at a place, where a step has so many: the last one has those that are left
 abbrev pub frames_at : ℕ → List Frame → ℕ → List Frame
 frames_at width fs i = take width (drop (width * i) fs)
@@ -25,9 +30,17 @@ frames_at width fs i = take width (drop (width * i) fs)
 abbrev pub steps_of : ℕ → ℕ → ℕ
 steps_of width n = (n + (width - 1)) / width
 
--- the minislots of each step by their use
-abbrev pub uses_of : ℕ → List Frame → List Slots
-uses_of width fs = map (λ i. use_in (frames_at width fs i)) (range_with_len 0 (steps_of width (length fs)))
+-- the step at a place: where its first and its last frame start, and the minislots of all its frames by their use
+abbrev pub step_at : ℕ → List Frame → ℕ → Step
+step_at width fs i = record {
+  first = start_of fs (width * i);
+  last = start_of fs (min (width * (i + 1)) (length fs) - 1);
+  slots = use_in (frames_at width fs i);
+}
+
+-- all steps
+abbrev pub all_steps : ℕ → List Frame → List Step
+all_steps width fs = map (step_at width fs) (range_with_len 0 (steps_of width (length fs)))
 
 -- So many frames have steps of this width: the least power of two with which there are no more than 800 of them
 pub record IsWidth (n width : ℕ) : Type 0 where

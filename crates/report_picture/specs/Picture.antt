@@ -1,34 +1,49 @@
 -- The picture of a report.
-use Rattle.std.specs.Prelude.{◌≡◌, ℕ, List, ◌++◌, length, codes}
+use Rattle.std.specs.Prelude.{◌≡◌, ℕ, ◌-◌, ◌==◌, if◌then◌else◌, List, [], ◌++◌, length, codes}
 use Rattle.minislots.specs.declared.config.Config.{Config}
 use Rattle.sched_history.specs.declared.reply.Entry.{Entry}
 use Rattle.frame_picture.specs.Frames.{frames_of}
-use Rattle.sched_report.specs.declared.slots.Slots.{Slots}
 use Rattle.sched_report.specs.declared.totals.Totals.{Totals}
 use Rattle.sched_report.specs.Totals.{totals_of}
-use Rattle.report_writing.specs.declared.gathered.RankTold.{RankTold}
-use Rattle.report_writing.specs.Gathered.{AreRanksTold}
+use Rattle.sched_report.specs.declared.ranks_told.RankTold.{RankTold}
+use Rattle.sched_report.specs.RanksTold.{AreRanksTold}
 use Rattle.report_picture.specs.declared.course.Course.{Course}
-use Rattle.report_picture.specs.OverTime.{uses_of, IsWidth}
+use Rattle.report_picture.specs.declared.over_time.Step.{Step}
+use Rattle.report_picture.specs.OverTime.{all_steps, IsWidth}
+use Rattle.report_picture.specs.Course.{or_zero}
 use Rattle.report_picture.specs.Head.{head_text}
 use Rattle.report_picture.specs.Areas.{areas_text, steps_text}
 use Rattle.report_picture.specs.Axes.{axes_text}
 use Rattle.report_picture.specs.Delays.{delays_text}
 
+-- what stands in the place of steps where there are none
+unfoldable pub no_frames_text : ℕ → List ℕ
+no_frames_text steps =
+    if steps == 0 then codes "<text class='head' x='24' y='-135'>No MAP was built, so there is no frame.</text>\n"
+    else []
+
 -- the use of minislots over time, with its axes
-unfoldable pub use_text : Course → List Slots → List ℕ
-use_text c uses =
+unfoldable pub use_text : Course → List Step → List ℕ
+use_text c steps =
     codes "<g transform='translate(96 420)'>\n"
-    ++ (areas_text c uses ++ (axes_text c ++ (steps_text c uses ++ codes "</g>\n")))
+    ++ (areas_text c steps
+    ++ (axes_text c ++ (steps_text c steps ++ (no_frames_text (length steps) ++ codes "</g>\n"))))
 
 -- the picture of these numbers
-unfoldable pub report_text : Course → Totals → List Slots → List RankTold → List ℕ
-report_text c t uses ranks =
-    head_text c t (length ranks) ++ (use_text c uses ++ (delays_text c.ticks ranks ++ codes "</svg>\n"))
+unfoldable pub report_text : Course → Totals → List Step → List RankTold → List ℕ
+report_text c t steps ranks =
+    head_text c t (length ranks) ++ (use_text c steps ++ (delays_text c.ticks ranks ++ codes "</svg>\n"))
 
--- so many frames, on this channel, in steps of so many each
-abbrev pub course_of : Config → ℕ → ℕ → Course
-course_of c frames width = record { frame = c.frame; ticks = c.ticks; frames = frames; width = width }
+-- so many frames, on this channel, in steps of so many each, from where the first one starts to where the last one ends
+abbrev pub course_of : Config → Totals → ℕ → ℕ → Course
+course_of c t frames width = record {
+  frame = c.frame;
+  ticks = c.ticks;
+  frames = frames;
+  width = width;
+  from = or_zero t.from;
+  span = or_zero t.to - or_zero t.from;
+}
 
 -- The text is the picture of the report on a history
 pub record IsReportPicture (c : Config) (h : List Entry) (text : List ℕ) : Type 0 where
@@ -37,4 +52,5 @@ pub record IsReportPicture (c : Config) (h : List Entry) (text : List ℕ) : Typ
   pub ranks : List RankTold
   pub are_ranks : AreRanksTold c h ranks
   pub text_is : text
-      ≡ report_text (course_of c (length (frames_of h)) width) (totals_of c h) (uses_of width (frames_of h)) ranks
+      ≡ report_text (course_of c (totals_of c h) (length (frames_of h)) width) (totals_of c h)
+      (all_steps width (frames_of h)) ranks

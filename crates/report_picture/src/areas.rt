@@ -2,11 +2,13 @@
 
 ghost use Rattle.std.specs.Prelude.{◌≡◌, ◌<◌, ◌≤◌, ◌^◌, length};
 ghost use Rattle.report_picture.specs.Areas.{look_of, slots_upto, edge_text, edges_text, area_text, areas_text};
-ghost use Rattle.report_picture.specs.Areas.{step_text, steps_text};
+ghost use Rattle.report_picture.specs.Areas.{begin_place, end_place, stretch_text, slots_text, step_text, steps_text};
 ghost use Rattle.text_stream.specs.Writing.{Puts};
 
-use crate::course::{Course, first_frame, frame_behind, frame_place, height_of};
+use crate::axis::microseconds;
+use crate::course::{Course, end_of, first_frame, frame_behind, height_of, time_place, time_since};
 use crate::filled::put_filled;
+use crate::over_time::Step;
 use sched_report::{Slots, Use};
 use text_stream::{Sink, TextBuffer, TextFault};
 
@@ -46,24 +48,39 @@ fn slots_upto(kind: Use, slots: Slots) -> u128
     }
 }
 
-// Up, or down, to the upper edge of a use in a step, and on to where the step ends.
+// Where a step begins.
+fn begin_place(course: Course, step: Step) -> u128
+    ensures { result ≡ begin_place course step }
+{
+    time_place(course, u128::from(step.first))
+}
+
+// Where it ends.
+fn end_place(course: Course, step: Step) -> u128
+    ensures { result ≡ end_place course step }
+{
+    time_place(course, end_of(course, step.last))
+}
+
+// To where a step begins, up to the upper edge of a use in it, on to where the step ends, and down.
 fn put_edge<W: Sink>(
     lines: &mut TextBuffer,
     writer: &mut W,
     course: Course,
     kind: Use,
-    uses: &[Slots],
+    steps: &[Step],
     i: usize,
 ) -> Result<(), TextFault>
-    requires inside { i < length uses.now }
-    requires most { length uses.now ≤ 800 }
+    requires inside { i < length steps.now }
+    requires most { length steps.now ≤ 800 }
     requires narrow { course.width ≤ 2 ^ 45 }
     ensures { Puts W.contents W.has_failed writer.old writer.new lines.old lines.new
-        (edge_text course kind uses.now i) result }
+        (edge_text course kind steps.now i) result }
 {
-    let height = height_of(course, i, slots_upto(kind, uses[i]));
-    let end = frame_place(course, frame_behind(course, i));
-    put_filled(lines, writer, b"V-~H~", &[height, end])
+    let step = steps[i];
+    let height = height_of(course, step, slots_upto(kind, step.slots));
+    let numbers = [begin_place(course, step), height, end_place(course, step)];
+    put_filled(lines, writer, b"H~V-~H~V0", &numbers)
 }
 
 // The upper edge of a use, step by step.
@@ -72,15 +89,15 @@ fn put_edges<W: Sink>(
     writer: &mut W,
     course: Course,
     kind: Use,
-    uses: &[Slots],
+    steps: &[Step],
 ) -> Result<(), TextFault>
-    requires most { length uses.now ≤ 800 }
+    requires most { length steps.now ≤ 800 }
     requires narrow { course.width ≤ 2 ^ 45 }
     ensures { Puts W.contents W.has_failed writer.old writer.new lines.old lines.new
-        (edges_text course kind uses.now) result }
+        (edges_text course kind steps.now) result }
 {
-    for i in 0..uses.len() {
-        put_edge(lines, writer, course, kind, uses, i)?;
+    for i in 0..steps.len() {
+        put_edge(lines, writer, course, kind, steps, i)?;
     }
     Ok(())
 }
@@ -92,18 +109,18 @@ fn put_area<W: Sink>(
     writer: &mut W,
     course: Course,
     kind: Use,
-    uses: &[Slots],
+    steps: &[Step],
 ) -> Result<(), TextFault>
-    requires most { length uses.now ≤ 800 }
+    requires most { length steps.now ≤ 800 }
     requires narrow { course.width ≤ 2 ^ 45 }
     ensures { Puts W.contents W.has_failed writer.old writer.new lines.old lines.new
-        (area_text course kind uses.now) result }
+        (area_text course kind steps.now) result }
 {
     lines.put(writer, b"<path class='area ")?;
     lines.put(writer, look_of(kind))?;
     lines.put(writer, b"' d='M0 0")?;
-    put_edges(lines, writer, course, kind, uses)?;
-    lines.put(writer, b"V0z'/>\n")
+    put_edges(lines, writer, course, kind, steps)?;
+    lines.put(writer, b"z'/>\n")
 }
 
 // All uses: each one hides what stands below it of those above.
@@ -112,19 +129,19 @@ pub(crate) fn put_areas<W: Sink>(
     lines: &mut TextBuffer,
     writer: &mut W,
     course: Course,
-    uses: &[Slots],
+    steps: &[Step],
 ) -> Result<(), TextFault>
-    requires most { length uses.now ≤ 800 }
+    requires most { length steps.now ≤ 800 }
     requires narrow { course.width ≤ 2 ^ 45 }
     ensures { Puts W.contents W.has_failed writer.old writer.new lines.old lines.new
-        (areas_text course uses.now) result }
+        (areas_text course steps.now) result }
 {
-    put_area(lines, writer, course, Use::Idle, uses)?;
-    put_area(lines, writer, course, Use::Data, uses)?;
-    put_area(lines, writer, course, Use::Opportunity, uses)?;
-    put_area(lines, writer, course, Use::Unsolicited, uses)?;
-    put_area(lines, writer, course, Use::Poll, uses)?;
-    put_area(lines, writer, course, Use::Request, uses)
+    put_area(lines, writer, course, Use::Idle, steps)?;
+    put_area(lines, writer, course, Use::Data, steps)?;
+    put_area(lines, writer, course, Use::Opportunity, steps)?;
+    put_area(lines, writer, course, Use::Unsolicited, steps)?;
+    put_area(lines, writer, course, Use::Poll, steps)?;
+    put_area(lines, writer, course, Use::Request, steps)
 }
 
 // What a step says of its frames.
@@ -133,37 +150,71 @@ fn put_step<W: Sink>(
     lines: &mut TextBuffer,
     writer: &mut W,
     course: Course,
-    uses: &[Slots],
+    steps: &[Step],
     i: usize,
 ) -> Result<(), TextFault>
-    requires inside { i < length uses.now }
-    requires most { length uses.now ≤ 800 }
+    requires inside { i < length steps.now }
+    requires most { length steps.now ≤ 800 }
     requires narrow { course.width ≤ 2 ^ 45 }
     ensures { Puts W.contents W.has_failed writer.old writer.new lines.old lines.new
-        (step_text course uses.now i) result }
+        (step_text course steps.now i) result }
 {
-    let slots = uses[i];
-    let first = first_frame(course, i);
-    let behind = frame_behind(course, i);
-    let last = behind.saturating_sub(1);
+    let step = steps[i];
+    put_stretch(lines, writer, course, step, i)?;
+    put_slots(lines, writer, step.slots)
+}
+
+// From which frame to which a step reaches, and from when to when.
+#[tactic(auto, unfolding(crate::specs::Areas::stretch_text))]
+fn put_stretch<W: Sink>(
+    lines: &mut TextBuffer,
+    writer: &mut W,
+    course: Course,
+    step: Step,
+    i: usize,
+) -> Result<(), TextFault>
+    requires near { i ≤ 800 }
+    requires narrow { course.width ≤ 2 ^ 45 }
+    ensures { Puts W.contents W.has_failed writer.old writer.new lines.old lines.new
+        (stretch_text course step i) result }
+{
+    let begin = u128::from(step.first);
+    let end = end_of(course, step.last);
     put_filled(
         lines,
         writer,
-        b"<path class='step' d='M~ 0V-320H~V0z'><title>frames @ to @, minislots: request region @, polls @, ",
+        b"<path class='step' d='M~ 0V-320H~V0z'><title>frames @ to @, ",
         &[
-            frame_place(course, first),
-            frame_place(course, behind),
-            u128::from(first),
-            u128::from(last),
-            u128::from(slots.request),
-            u128::from(slots.poll),
+            begin_place(course, step),
+            end_place(course, step),
+            u128::from(first_frame(course, i)),
+            u128::from(frame_behind(course, i).saturating_sub(1)),
         ],
     )?;
     put_filled(
         lines,
         writer,
-        b"unsolicited @, opportunities @, data grants @, idle @</title></path>\n",
+        b"^ to ^ ms, minislots: ",
         &[
+            microseconds(course.ticks, time_since(course, begin)),
+            microseconds(course.ticks, time_since(course, end)),
+        ],
+    )
+}
+
+// What the minislots of a step are for.
+#[tactic(auto, unfolding(crate::specs::Areas::slots_text))]
+fn put_slots<W: Sink>(lines: &mut TextBuffer, writer: &mut W, slots: Slots) -> Result<(), TextFault>
+    ensures { Puts W.contents W.has_failed writer.old writer.new lines.old lines.new
+        (slots_text slots) result }
+{
+    put_filled(
+        lines,
+        writer,
+        b"request region @, polls @, unsolicited @, opportunities @, data grants @, idle @</title></path>\n",
+        &[
+            u128::from(slots.request),
+            u128::from(slots.poll),
             u128::from(slots.unsolicited),
             u128::from(slots.opportunity),
             u128::from(slots.data_grants),
@@ -177,15 +228,15 @@ pub(crate) fn put_steps<W: Sink>(
     lines: &mut TextBuffer,
     writer: &mut W,
     course: Course,
-    uses: &[Slots],
+    steps: &[Step],
 ) -> Result<(), TextFault>
-    requires most { length uses.now ≤ 800 }
+    requires most { length steps.now ≤ 800 }
     requires narrow { course.width ≤ 2 ^ 45 }
     ensures { Puts W.contents W.has_failed writer.old writer.new lines.old lines.new
-        (steps_text course uses.now) result }
+        (steps_text course steps.now) result }
 {
-    for i in 0..uses.len() {
-        put_step(lines, writer, course, uses, i)?;
+    for i in 0..steps.len() {
+        put_step(lines, writer, course, steps, i)?;
     }
     Ok(())
 }

@@ -1,78 +1,131 @@
-//! The axes of the use of minislots: frames and their milliseconds to the right, minislots of a frame upwards.
+//! The axes of the use of minislots: time to the right, in milliseconds or from 10 seconds on in seconds, and minislots
+//! of a frame upwards.
 
 ghost use Rattle.std.specs.Prelude.{◌≡◌, ◌<◌, ◌≤◌, ◌^◌};
-ghost use Rattle.report_picture.specs.Axes.{frame_mark, frame_tick, frame_ticks, slots_tick, slots_ticks};
-ghost use Rattle.report_picture.specs.Axes.{part_ticks, axes_names, axes_text};
+ghost use Rattle.report_picture.specs.Axes.{quarters, is_in_seconds, thousandth, axis_end};
+ghost use Rattle.report_picture.specs.Axes.{time_mark, time_tick, time_ticks, unit_name, time_name};
+ghost use Rattle.report_picture.specs.Axes.{slots_tick, slots_ticks, part_ticks, axes_names, axes_text};
 ghost use Rattle.text_stream.specs.Writing.{Puts};
 
-use crate::axis::{microseconds, place, round_step};
+use crate::axis::{place, round_step};
 use crate::course::Course;
 use crate::filled::put_filled;
 use text_stream::{Sink, TextBuffer, TextFault};
 
-// The mark of a number of frames: the number, and how long they take.
-#[tactic(auto, unfolding(crate::specs::Axes::frame_mark))]
-fn put_frame_mark<W: Sink>(
+// The time from the start of the first frame to the end of the last one, in quarters of a microsecond.
+fn quarters(course: Course) -> u128
+    ensures value { result ≡ quarters course }
+    ensures small { result < 2 ^ 101 }
+{
+    u128::from(course.span) * u128::from(course.ticks) * 25
+}
+
+// Whether the axis is in seconds.
+fn is_in_seconds(course: Course) -> bool
+    ensures { result ≡ is_in_seconds course }
+{
+    quarters(course) >= 40_000_000
+}
+
+// So many quarters of a microsecond are a thousandth of the unit at the axis.
+fn thousandth(course: Course) -> u128
+    ensures value { result ≡ thousandth course }
+    ensures some { 4 ≤ result }
+    ensures small { result ≤ 4000 }
+{
+    if is_in_seconds(course) { 4000 } else { 4 }
+}
+
+// So many thousandths of the unit the axis has.
+fn axis_end(course: Course) -> u128
+    ensures value { result ≡ axis_end course }
+    ensures small { result < 2 ^ 99 }
+{
+    quarters(course) / thousandth(course)
+}
+
+// The mark of so many thousandths of the unit.
+#[tactic(auto, unfolding(crate::specs::Axes::time_mark))]
+fn put_time_mark<W: Sink>(
     lines: &mut TextBuffer,
     writer: &mut W,
     course: Course,
     number: u128,
 ) -> Result<(), TextFault>
-    requires short { course.frame ≤ 1024 }
-    requires near { number ≤ course.frames }
+    requires { number < 2 ^ 99 }
     ensures { Puts W.contents W.has_failed writer.old writer.new lines.old lines.new
-        (frame_mark course number) result }
+        (time_mark course number) result }
 {
-    let frames = u128::from(course.frames);
-    let x = place(10240, number, frames);
-    let time = microseconds(course.ticks, number * u128::from(course.frame));
+    let x = place(10240, number * thousandth(course), quarters(course));
     put_filled(
         lines,
         writer,
-        b"<path class='tick' d='M~ 6V-320'/><text class='at' x='~' y='20'>@</text>",
+        b"<path class='tick' d='M~ 6V-320'/><text class='at' x='~' y='20'>^</text>\n",
         &[x, x, number],
-    )?;
-    put_filled(
-        lines,
-        writer,
-        b"<text class='at' x='~' y='34'>^</text>\n",
-        &[x, time],
     )
 }
 
-// The tick of a number of frames, where there are so many.
-#[tactic(auto, unfolding(crate::specs::Axes::frame_tick))]
-fn put_frame_tick<W: Sink>(
+// The tick of so many thousandths of the unit, where the axis has so many.
+#[tactic(auto, unfolding(crate::specs::Axes::time_tick))]
+fn put_time_tick<W: Sink>(
     lines: &mut TextBuffer,
     writer: &mut W,
     course: Course,
     number: u128,
 ) -> Result<(), TextFault>
-    requires { course.frame ≤ 1024 }
     ensures { Puts W.contents W.has_failed writer.old writer.new lines.old lines.new
-        (frame_tick course number) result }
+        (time_tick course number) result }
 {
-    if number > u128::from(course.frames) {
+    if number > axis_end(course) {
         return Ok(());
     }
-    put_frame_mark(lines, writer, course, number)
+    put_time_mark(lines, writer, course, number)
 }
 
-// The ticks of frames: from 0 on, ten steps at most.
-fn put_frame_ticks<W: Sink>(
+// The ticks of time: from 0 on, ten steps at most.
+fn put_time_ticks<W: Sink>(
     lines: &mut TextBuffer,
     writer: &mut W,
     course: Course,
 ) -> Result<(), TextFault>
-    requires { course.frame ≤ 1024 }
     ensures { Puts W.contents W.has_failed writer.old writer.new lines.old lines.new
-        (frame_ticks course) result }
+        (time_ticks course) result }
 {
-    let step = round_step(u128::from(course.frames));
+    let step = round_step(axis_end(course));
     for i in 0..11usize {
-        put_frame_tick(lines, writer, course, step * i as u128)?;
+        put_time_tick(lines, writer, course, step * i as u128)?;
     }
     Ok(())
+}
+
+// The name of the unit at the axis.
+#[tactic(auto, unfolding(crate::specs::Axes::unit_name))]
+fn unit_name(course: Course) -> &'static [u8]
+    ensures { result.now ≡ unit_name course }
+{
+    if is_in_seconds(course) {
+        b"seconds"
+    } else {
+        b"milliseconds"
+    }
+}
+
+// What the axis of time is in.
+#[tactic(auto, unfolding(crate::specs::Axes::time_name))]
+fn put_time_name<W: Sink>(
+    lines: &mut TextBuffer,
+    writer: &mut W,
+    course: Course,
+) -> Result<(), TextFault>
+    ensures { Puts W.contents W.has_failed writer.old writer.new lines.old lines.new
+        (time_name course) result }
+{
+    lines.put(
+        writer,
+        b"<text class='at' x='512' y='38'>time from the start of the first frame, in ",
+    )?;
+    lines.put(writer, unit_name(course))?;
+    lines.put(writer, b"</text>\n")
 }
 
 // The tick of so many minislots of a frame.
@@ -147,9 +200,8 @@ fn put_axes_names<W: Sink>(lines: &mut TextBuffer, writer: &mut W) -> Result<(),
     )?;
     lines.put(
         writer,
-        b"<text class='part' x='1032' y='-332'>of a frame</text><text class='end' x='-24' y='20'>frame</text>",
-    )?;
-    lines.put(writer, b"<text class='end' x='-24' y='34'>ms</text>\n")
+        b"<text class='part' x='1032' y='-332'>of a frame</text>\n",
+    )
 }
 
 // The axes.
@@ -159,12 +211,12 @@ pub(crate) fn put_axes<W: Sink>(
     writer: &mut W,
     course: Course,
 ) -> Result<(), TextFault>
-    requires { course.frame ≤ 1024 }
     ensures { Puts W.contents W.has_failed writer.old writer.new lines.old lines.new
         (axes_text course) result }
 {
     put_slots_ticks(lines, writer, course)?;
     put_part_ticks(lines, writer)?;
-    put_frame_ticks(lines, writer, course)?;
-    put_axes_names(lines, writer)
+    put_time_ticks(lines, writer, course)?;
+    put_axes_names(lines, writer)?;
+    put_time_name(lines, writer, course)
 }

@@ -68,7 +68,7 @@ pub const ROUND: [u64; 58] = [
 /// The place of an amount on an axis that is so many units long and has the other amount at its end, rounded down.
 pub fn place(long: u128, amount: u128, full: u128) -> u128
     requires short { long ≤ 10240 }
-    requires small { amount < 2 ^ 110 }
+    requires small { amount < 2 ^ 112 }
     ensures value { result ≡ place long amount full }
 {
     long * amount / full.max(1)

@@ -1,16 +1,14 @@
 //! The delays of requests by rank.
 
 ghost use Rattle.std.specs.Prelude.{◌≡◌, ◌<◌, ◌≤◌, ◌^◌, length};
-ghost use Rattle.report_picture.specs.Delays.{most_of, delay_tick, delay_ticks, rank_text, counts_text, row_text};
-ghost use Rattle.report_picture.specs.Delays.{rows_text};
-ghost use Rattle.report_picture.specs.Delays.{delays_legend, columns_text, delays_text};
+ghost use Rattle.report_picture.specs.Delays.{most_of, delay_tick, delay_ticks, delays_legend, columns_text, delays_text};
 ghost use Rattle.text_stream.specs.Writing.{Puts};
 
 use crate::axis::{place, round_step};
 use crate::filled::put_filled;
-use crate::spread::{Scale, put_spread, scale_to, spread_with};
-use report_writing::RankTold;
-use sched_report::{POLLED, RankSums};
+use crate::rows::{put_no_rows, put_rows};
+use crate::spread::{Scale, scale_to};
+use sched_report::RankTold;
 use text_stream::{Sink, TextBuffer, TextFault};
 
 // The greatest delay of some ranks.
@@ -65,92 +63,6 @@ fn put_delay_ticks<W: Sink>(
     let step = round_step(scale.tenths);
     for i in 0..11usize {
         put_delay_tick(lines, writer, scale, rows, step * i as u128)?;
-    }
-    Ok(())
-}
-
-// The name of a rank.
-#[tactic(auto, unfolding(crate::specs::Delays::rank_text))]
-fn put_rank<W: Sink>(lines: &mut TextBuffer, writer: &mut W, rank: u8) -> Result<(), TextFault>
-    ensures { Puts W.contents W.has_failed writer.old writer.new lines.old lines.new
-        (rank_text rank) result }
-{
-    if rank == POLLED {
-        return lines.put(writer, b"<text class='end' x='-8' y='20'>polled</text>");
-    }
-    let template = b"<text class='end' x='-8' y='20'>priority @</text>";
-    put_filled(lines, writer, template, &[u128::from(rank)])
-}
-
-// How many requests of a rank were served, and how many wait or were dropped.
-#[tactic(auto, unfolding(crate::specs::Delays::counts_text))]
-fn put_counts<W: Sink>(
-    lines: &mut TextBuffer,
-    writer: &mut W,
-    sums: &RankSums,
-) -> Result<(), TextFault>
-    ensures { Puts W.contents W.has_failed writer.old writer.new lines.old lines.new
-        (counts_text sums.now) result }
-{
-    let template = b"<text class='end' x='724' y='20'>@</text>";
-    put_filled(lines, writer, template, &[sums.served])?;
-    put_filled(
-        lines,
-        writer,
-        b"<text class='end' x='1194' y='20'>@</text><text class='end' x='1284' y='20'>@</text>\n",
-        &[sums.waiting, sums.dropped],
-    )
-}
-
-// The row of a rank: its name, how many of its requests were served, wait and were dropped, and their delays.
-#[tactic(auto, unfolding(crate::specs::Delays::row_text))]
-fn put_row<W: Sink>(
-    lines: &mut TextBuffer,
-    writer: &mut W,
-    scale: Scale,
-    ranks: &[RankTold],
-    i: usize,
-) -> Result<(), TextFault>
-    requires small { scale.tenths < 2 ^ 96 }
-    requires inside { i < length ranks.now }
-    requires few { length ranks.now ≤ 9 }
-    ensures { Puts W.contents W.has_failed writer.old writer.new lines.old lines.new
-        (row_text scale ranks.now i) result }
-{
-    let told = ranks[i];
-    let sums = told.numbers.sums;
-    let spread = spread_with(
-        sums.least,
-        told.numbers.middle,
-        told.numbers.p99,
-        sums.greatest,
-    );
-    put_filled(
-        lines,
-        writer,
-        b"<g transform='translate(0 @)'>",
-        &[32 * i as u128],
-    )?;
-    put_rank(lines, writer, told.rank)?;
-    put_counts(lines, writer, &sums)?;
-    put_spread(lines, writer, scale, spread)?;
-    lines.put(writer, b"</g>\n")
-}
-
-// The rows of ranks, one below the other.
-fn put_rows<W: Sink>(
-    lines: &mut TextBuffer,
-    writer: &mut W,
-    scale: Scale,
-    ranks: &[RankTold],
-) -> Result<(), TextFault>
-    requires small { scale.tenths < 2 ^ 96 }
-    requires few { length ranks.now ≤ 9 }
-    ensures { Puts W.contents W.has_failed writer.old writer.new lines.old lines.new
-        (rows_text scale ranks.now) result }
-{
-    for i in 0..ranks.len() {
-        put_row(lines, writer, scale, ranks, i)?;
     }
     Ok(())
 }
@@ -232,5 +144,6 @@ pub(crate) fn put_delays<W: Sink>(
     put_columns(lines, writer)?;
     put_delay_ticks(lines, writer, scale, ranks.len())?;
     put_rows(lines, writer, scale, ranks)?;
+    put_no_rows(lines, writer, ranks.len())?;
     lines.put(writer, b"</g>\n")
 }

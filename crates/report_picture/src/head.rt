@@ -19,7 +19,7 @@ fn put_size<W: Sink>(lines: &mut TextBuffer, writer: &mut W, ranks: usize) -> Re
     ensures { Puts W.contents W.has_failed writer.old writer.new lines.old lines.new
         (size_text ranks) result }
 {
-    let depth = 584 + 32 * ranks as u128;
+    let depth = 584 + 32 * ranks.max(1) as u128;
     let template =
         b"<svg xmlns='http://www.w3.org/2000/svg' width='1400' height='@' viewBox='0 0 1400 @";
     put_filled(lines, writer, template, &[depth, depth])
@@ -33,23 +33,23 @@ fn put_style<W: Sink>(lines: &mut TextBuffer, writer: &mut W) -> Result<(), Text
 {
     lines.put(
         writer,
-        b"' font-family='sans-serif' font-size='12' style='background:#fff'>\n<style>.head{font-size:14px}",
+        b"' font-family='sans-serif' font-size='12'>\n<rect width='100%' height='100%' fill='#fff'/><style>",
     )?;
     lines.put(
         writer,
-        b".at,.end,.part{font-size:11px}.at{text-anchor:middle}.end{text-anchor:end}.key{stroke:#333;",
+        b".head{font-size:14px}.at,.end,.part{font-size:11px}.at{text-anchor:middle}.end{text-anchor:end}\n",
     )?;
     lines.put(
         writer,
-        b"stroke-width:.5px}\n.tick{stroke:#000;stroke-opacity:.2}.edge{stroke:#333;fill:none}.step{fill-opacity:0}\n",
+        b".key{stroke:#333;stroke-width:.5px}.tick{stroke:#000;stroke-opacity:.2}.edge{stroke:#333;fill:none}\n",
     )?;
     lines.put(
         writer,
-        b".request{fill:url(#request)}.poll{fill:url(#poll)}.unsolicited{fill:url(#unsolicited)}\n",
+        b".step{fill-opacity:0}.request{fill:url(#request)}.poll{fill:url(#poll)}.unsolicited{fill:url(#unsolicited)}",
     )?;
     lines.put(
         writer,
-        b".opportunity{fill:url(#opportunity)}.data{fill:#2f7fc1}.idle{fill:#fff}.range{fill:#ccc}\n",
+        b".opportunity{fill:url(#opportunity)}.data{fill:#2f7fc1}.idle{fill:#ddd}.range{fill:#ccc}\n",
     )?;
     lines.put(
         writer,
@@ -158,8 +158,12 @@ fn put_title<W: Sink>(
     put_filled(
         lines,
         writer,
-        b"<text x='96' y='47'>Frames in a step: @. The height of a step is the mean of its frames.</text>\n",
+        b"<text x='96' y='47'>Frames in a step: @. It reaches from the start of its first to the end of its last one, ",
         &[u128::from(course.width)],
+    )?;
+    lines.put(
+        writer,
+        b"a use as high as its part of that time. White: no frame, since no MAP was built.</text>\n",
     )
 }
 

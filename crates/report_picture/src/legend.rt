@@ -85,21 +85,21 @@ pub(crate) fn put_last_keys<W: Sink>(
     put_key(
         lines,
         writer,
-        b"<path class='key opportunity' d='M590 60h28v16h-28z'/><text x='626' y='73'>opportunities ~ %</text>\n",
+        b"<path class='key opportunity' d='M590 60h28v16h-28z'/><text x='626' y='73'>opportunity to range ~ %</text>\n",
         slots.opportunity,
         all,
     )?;
     put_key(
         lines,
         writer,
-        b"<path class='key data' d='M786 60h28v16h-28z'/><text x='822' y='73'>data grants ~ %</text>\n",
+        b"<path class='key data' d='M836 60h28v16h-28z'/><text x='872' y='73'>data grants ~ %</text>\n",
         slots.data_grants,
         all,
     )?;
     put_key(
         lines,
         writer,
-        b"<path class='key idle' d='M970 60h28v16h-28z'/><text x='1006' y='73'>idle ~ %</text>\n",
+        b"<path class='key idle' d='M1020 60h28v16h-28z'/><text x='1056' y='73'>idle ~ %</text>\n",
         slots.idle,
         all,
     )

@@ -17,6 +17,7 @@ mod legend;
 mod over_time;
 mod picture;
 mod ranks;
+mod rows;
 mod spread;
 mod timed;
 

@@ -1,11 +1,13 @@
 //! The use of minislots over time, in steps of as many frames each.
 
-ghost use Rattle.std.specs.Prelude.{◌≡◌, ◌+◌, ◌*◌, ◌^◌, ◌<◌, ◌≤◌, ◌++◌, ◌∷◌, [], List, ℕ, length, slice_index_or};
+ghost use Rattle.std.specs.Prelude.{◌≡◌, ◌+◌, ◌-◌, ◌*◌, ◌^◌, ◌<◌, ◌≤◌, ◌++◌, ◌∷◌, [], List, ℕ, length, min};
+ghost use Rattle.std.specs.Prelude.{slice_index_or};
 ghost use Rattle.frame_picture.specs.Frames.{Frame};
 ghost use Rattle.sched_report.specs.declared.slots.Slots.{Slots as Uses};
 ghost use Rattle.sched_report.specs.Uses.{sum_of};
-ghost use Rattle.report_picture.specs.OverTime.{use_in, frames_at, steps_of, uses_of, CoversEachFrame, HasOneWidth};
-ghost use Rattle.report_picture.specs.Kept.{IsOverTime, IsReadyFor};
+ghost use Rattle.report_picture.specs.OverTime.{use_in, start_of, frames_at, steps_of, step_at, all_steps};
+ghost use Rattle.report_picture.specs.OverTime.{CoversEachFrame, HasOneWidth};
+ghost use Rattle.report_picture.specs.Kept.{IsOverTime, IsReadyFor, HasBegun};
 
 use crate::few::Few;
 use sched_report::Slots;
@@ -23,10 +25,32 @@ pub(crate) const NO_SLOTS: Slots = Slots {
     unsolicited: 0,
 };
 
+/// Some frames, one after the other.
+#[derive(Clone, Copy)]
+pub struct Step {
+    /// The minislot at which the first of them starts.
+    pub first: u64,
+    /// The minislot at which the last of them starts.
+    pub last: u64,
+    /// What their minislots are for.
+    pub slots: Slots,
+}
+
+// A step of no frames.
+pub(crate) const NO_STEP: Step = Step {
+    first: 0,
+    last: 0,
+    slots: NO_SLOTS,
+};
+
 // The marks: one more than there are steps.
 type Marks = [Slots; 801];
 
-/// The use of minislots over time. It keeps the use of all frames before each step alone.
+// Where a frame at each mark starts.
+type Starts = [u64; 801];
+
+/// The use of minislots over time. It keeps the use of all frames before each step alone, and where the frames start
+/// between which a step ends.
 #[derive(Clone, Copy)]
 pub(crate) struct UseOverTime {
     // How many frames a step has.
@@ -35,8 +59,14 @@ pub(crate) struct UseOverTime {
     pub(crate) frames: u64,
     // The use of all of them.
     pub(crate) total: Slots,
+    // Where the last of them starts.
+    pub(crate) last: u64,
     // The use of those before each step, and before the first one that is not whole.
     pub(crate) marks: Marks,
+    // Where the first frame of each step starts.
+    pub(crate) firsts: Starts,
+    // Where the last frame before each step starts, and before the first one that is not whole.
+    pub(crate) lasts: Starts,
 }
 
 // The marks of steps that are twice as wide: each second one.
@@ -48,6 +78,19 @@ fn joined(marks: &Marks) -> Marks
     let mut wider = *marks;
     for i in 0..401 {
         wider[i] = marks[2 * i];
+    }
+    wider
+}
+
+// The same of where frames start.
+fn joined_starts(starts: &Starts) -> Starts
+    ensures long { length result ≡ 801 }
+    ensures each { (i d : ℕ) → i ≤ 400
+        → slice_index_or result i d ≡ slice_index_or starts.now (2 * i) d }
+{
+    let mut wider = *starts;
+    for i in 0..401 {
+        wider[i] = starts[2 * i];
     }
     wider
 }
@@ -76,7 +119,10 @@ impl UseOverTime {
             width: 1,
             frames: 0,
             total: NO_SLOTS,
+            last: 0,
             marks: [NO_SLOTS; 801],
+            firsts: [0; 801],
+            lasts: [0; 801],
         }
     }
 
@@ -89,20 +135,36 @@ impl UseOverTime {
             return;
         }
         self.marks = joined(&self.marks);
+        self.firsts = joined_starts(&self.firsts);
+        self.lasts = joined_starts(&self.lasts);
         self.width *= 2;
     }
 
-    // Counts one frame more, where this is the use of all frames with it.
-    pub(crate) fn add(&mut self, total: Slots)
+    // Notes where the next frame starts, where it is the first one of a step.
+    fn begin(&mut self, start: u64)
+        requires { (fs : List Frame) × IsReadyFor self.old fs × (length fs < 2 ^ 45) }
+        ensures { (fs : List Frame) → IsReadyFor self.old fs → HasBegun self.new fs start }
+    {
+        if self.frames % self.width == 0 {
+            self.firsts[(self.frames / self.width) as usize] = start;
+        }
+    }
+
+    // Counts one frame more, which starts there, where this is the use of all frames with it.
+    pub(crate) fn add(&mut self, total: Slots, start: u64)
         requires { (fs : List Frame) × IsOverTime self.old fs × (length fs < 2 ^ 45) }
         ensures { (fs : List Frame) (f : Frame) → IsOverTime self.old fs → total ≡ use_in (fs ++ f ∷ [])
-            → IsOverTime self.new (fs ++ f ∷ []) }
+            → start ≡ f.built.start → IsOverTime self.new (fs ++ f ∷ []) }
     {
         self.widen();
+        self.begin(start);
         self.frames += 1;
         self.total = total;
+        self.last = start;
         if self.frames % self.width == 0 {
-            self.marks[(self.frames / self.width) as usize] = total;
+            let place = (self.frames / self.width) as usize;
+            self.marks[place] = total;
+            self.lasts[place] = start;
         }
     }
 
@@ -116,7 +178,7 @@ impl UseOverTime {
     }
 
     // The use of the step at a place.
-    pub(crate) fn step(&self, i: usize) -> Slots
+    fn slots(&self, i: usize) -> Slots
         requires { (fs : List Frame) × IsOverTime self.now fs × (length fs < 2 ^ 46)
             × (i < steps_of self.now.width self.now.frames) }
         ensures { (fs : List Frame) → IsOverTime self.now fs → result ≡ use_in (frames_at self.now.width fs i) }
@@ -130,16 +192,43 @@ impl UseOverTime {
         rest_of(all, self.marks[i])
     }
 
-    // The use of each step.
-    pub(crate) fn uses(&self) -> Few<Slots, MOST_STEPS>
-        requires { (fs : List Frame) × IsOverTime self.now fs × (length fs < 2 ^ 46) }
-        ensures { (fs : List Frame) → IsOverTime self.now fs → result ≡ uses_of self.now.width fs }
+    // Where the last frame of the step at a place starts.
+    fn last(&self, i: usize) -> u64
+        requires { (fs : List Frame) × IsOverTime self.now fs × (length fs < 2 ^ 46)
+            × (i < steps_of self.now.width self.now.frames) }
+        ensures { (fs : List Frame) → IsOverTime self.now fs
+            → result ≡ start_of fs (min (self.now.width * (i + 1)) (length fs) - 1) }
     {
-        let mut uses = Few::none(NO_SLOTS);
-        for i in 0..self.steps() {
-            uses.push(self.step(i));
+        if self.width * (i as u64 + 1) <= self.frames {
+            self.lasts[i + 1]
+        } else {
+            self.last
         }
-        uses
+    }
+
+    // The step at a place.
+    pub(crate) fn step(&self, i: usize) -> Step
+        requires { (fs : List Frame) × IsOverTime self.now fs × (length fs < 2 ^ 46)
+            × (i < steps_of self.now.width self.now.frames) }
+        ensures { (fs : List Frame) → IsOverTime self.now fs → result ≡ step_at self.now.width fs i }
+    {
+        Step {
+            first: self.firsts[i],
+            last: self.last(i),
+            slots: self.slots(i),
+        }
+    }
+
+    // All steps.
+    pub(crate) fn all_steps(&self) -> Few<Step, MOST_STEPS>
+        requires { (fs : List Frame) × IsOverTime self.now fs × (length fs < 2 ^ 46) }
+        ensures { (fs : List Frame) → IsOverTime self.now fs → result ≡ all_steps self.now.width fs }
+    {
+        let mut steps = Few::none(NO_STEP);
+        for i in 0..self.steps() {
+            steps.push(self.step(i));
+        }
+        steps
     }
 }
 

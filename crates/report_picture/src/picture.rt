@@ -1,7 +1,7 @@
 //! The picture of a report.
 
 ghost use Rattle.std.specs.Prelude.{◌≡◌, ◌≤◌, ◌<◌, ◌^◌, List, ℕ, length};
-ghost use Rattle.report_picture.specs.Picture.{use_text, report_text, course_of, IsReportPicture};
+ghost use Rattle.report_picture.specs.Picture.{no_frames_text, use_text, report_text, course_of, IsReportPicture};
 ghost use Rattle.report_picture.specs.Kept.{IsOverTime};
 ghost use Rattle.frame_picture.specs.Frames.{Frame};
 ghost use Rattle.text_stream.specs.Writing.{Puts, Writes};
@@ -11,13 +11,31 @@ use crate::axes::put_axes;
 use crate::course::Course;
 use crate::delays::put_delays;
 use crate::head::put_head;
-use crate::over_time::UseOverTime;
+use crate::over_time::{Step, UseOverTime};
 use crate::ranks::ranks_told;
 use crate::timed::TimedReporter;
 use minislots::Checked;
-use report_writing::RankTold;
-use sched_report::{Slots, Totals};
+use sched_report::{RankTold, Totals};
 use text_stream::{Sink, TextBuffer, TextFault};
+
+// What stands in the place of steps where there are none.
+#[tactic(auto, unfolding(crate::specs::Picture::no_frames_text))]
+fn put_no_frames<W: Sink>(
+    lines: &mut TextBuffer,
+    writer: &mut W,
+    steps: usize,
+) -> Result<(), TextFault>
+    ensures { Puts W.contents W.has_failed writer.old writer.new lines.old lines.new
+        (no_frames_text steps) result }
+{
+    if steps == 0 {
+        return lines.put(
+            writer,
+            b"<text class='head' x='24' y='-135'>No MAP was built, so there is no frame.</text>\n",
+        );
+    }
+    Ok(())
+}
 
 // The use of minislots over time, with its axes.
 #[tactic(auto, unfolding(crate::specs::Picture::use_text))]
@@ -25,18 +43,18 @@ fn put_use<W: Sink>(
     lines: &mut TextBuffer,
     writer: &mut W,
     course: Course,
-    uses: &[Slots],
+    steps: &[Step],
 ) -> Result<(), TextFault>
-    requires most { length uses.now ≤ 800 }
+    requires most { length steps.now ≤ 800 }
     requires narrow { course.width ≤ 2 ^ 45 }
-    requires short { course.frame ≤ 1024 }
     ensures { Puts W.contents W.has_failed writer.old writer.new lines.old lines.new
-        (use_text course uses.now) result }
+        (use_text course steps.now) result }
 {
     lines.put(writer, b"<g transform='translate(96 420)'>\n")?;
-    put_areas(lines, writer, course, uses)?;
+    put_areas(lines, writer, course, steps)?;
     put_axes(lines, writer, course)?;
-    put_steps(lines, writer, course, uses)?;
+    put_steps(lines, writer, course, steps)?;
+    put_no_frames(lines, writer, steps.len())?;
     lines.put(writer, b"</g>\n")
 }
 
@@ -47,18 +65,17 @@ fn put_report<W: Sink>(
     writer: &mut W,
     course: Course,
     totals: &Totals,
-    uses: &[Slots],
+    steps: &[Step],
     ranks: &[RankTold],
 ) -> Result<(), TextFault>
-    requires most { length uses.now ≤ 800 }
+    requires most { length steps.now ≤ 800 }
     requires narrow { course.width ≤ 2 ^ 45 }
-    requires short { course.frame ≤ 1024 }
     requires few { length ranks.now ≤ 9 }
     ensures { Puts W.contents W.has_failed writer.old writer.new lines.old lines.new
-        (report_text course totals.now uses.now ranks.now) result }
+        (report_text course totals.now steps.now ranks.now) result }
 {
     put_head(lines, writer, course, totals, ranks.len())?;
-    put_use(lines, writer, course, uses)?;
+    put_use(lines, writer, course, steps)?;
     put_delays(lines, writer, course.ticks, ranks)?;
     lines.put(writer, b"</svg>\n")
 }
@@ -68,33 +85,34 @@ fn write_report<W: Sink>(
     writer: &mut W,
     course: Course,
     totals: &Totals,
-    uses: &[Slots],
+    steps: &[Step],
     ranks: &[RankTold],
 ) -> Result<(), TextFault>
-    requires most { length uses.now ≤ 800 }
+    requires most { length steps.now ≤ 800 }
     requires narrow { course.width ≤ 2 ^ 45 }
-    requires short { course.frame ≤ 1024 }
     requires few { length ranks.now ≤ 9 }
     ensures { Writes W.contents W.has_failed writer.old writer.new
-        (report_text course totals.now uses.now ranks.now) result }
+        (report_text course totals.now steps.now ranks.now) result }
 {
     let mut lines = TextBuffer::new();
-    put_report(&mut lines, writer, course, totals, uses, ranks)?;
+    put_report(&mut lines, writer, course, totals, steps, ranks)?;
     lines.write_out(writer)
 }
 
-// The course of the frames that were taken, under this configuration.
-fn course_of(config: &Checked, over_time: &UseOverTime) -> Course
+// The course of the frames that were taken, whose numbers these are, under this configuration.
+fn course_of(config: &Checked, totals: &Totals, over_time: &UseOverTime) -> Course
     requires { (fs : List Frame) × IsOverTime over_time.now fs × (length fs ≤ 2 ^ 44) }
-    ensures value { result ≡ course_of config.now over_time.now.frames over_time.now.width }
+    ensures value { result ≡ course_of config.now totals.now over_time.now.frames over_time.now.width }
     ensures narrow { result.width ≤ 2 ^ 45 }
-    ensures short { result.frame ≤ 1024 }
 {
+    let from = totals.from.unwrap_or(0);
     Course {
         frame: config.frame(),
         ticks: config.ticks(),
         frames: over_time.frames,
         width: over_time.width,
+        from,
+        span: totals.to.unwrap_or(0).saturating_sub(from),
     }
 }
 
@@ -113,9 +131,9 @@ pub fn put_report_picture<W: Sink>(
         × Writes W.contents W.has_failed writer.old writer.new text result }
 {
     let over_time = timed.over_time();
-    let course = course_of(config, over_time);
-    let uses = over_time.uses();
-    let ranks = ranks_told(timed.reporter());
     let totals = timed.reporter().totals();
-    write_report(writer, course, &totals, uses.as_slice(), ranks.as_slice())
+    let course = course_of(config, &totals, over_time);
+    let steps = over_time.all_steps();
+    let ranks = ranks_told(timed.reporter());
+    write_report(writer, course, &totals, steps.as_slice(), ranks.as_slice())
 }

@@ -1,14 +1,10 @@
 //! The numbers of the ranks that asked.
 
 ghost use Rattle.std.specs.Prelude.{◌≤◌, length};
-ghost use Rattle.report_writing.specs.Gathered.{AreRanksTold};
+ghost use Rattle.sched_report.specs.RanksTold.{AreRanksTold};
 
 use crate::few::Few;
-use report_writing::RankTold;
-use sched_report::{POLLED, RankNumbers, RankSums, Reporter};
-
-// The ranks, from the one that is served first on.
-const RANKS: [u8; 9] = [POLLED, 7, 6, 5, 4, 3, 2, 1, 0];
+use sched_report::{RANKS, RankNumbers, RankSums, RankTold, Reporter};
 
 // A rank of no numbers.
 pub(crate) const NO_RANK: RankTold = RankTold {

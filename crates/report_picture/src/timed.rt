@@ -65,8 +65,8 @@ impl TimedReporter {
         ensures legal { IsLegal self.new.config self.new.history }
     {
         self.reporter.take(entry)?;
-        if let Reply::Built(_) = &entry.reply {
-            self.over_time.add(self.reporter.totals().slots);
+        if let Reply::Built(map) = &entry.reply {
+            self.over_time.add(self.reporter.totals().slots, map.start);
         }
         Ok(())
     }

@@ -13,12 +13,13 @@ use Rattle.sched_report.specs.declared.slots.Slots.{Slots}
 use Rattle.sched_report.specs.declared.totals.Totals.{Totals}
 use Rattle.sched_report.specs.declared.life.LifeNumbers.{LifeNumbers}
 use Rattle.sched_report.specs.declared.life.TheConstants.{POLLED}
+use Rattle.sched_report.specs.declared.ranks_told.RankTold.{RankTold}
 use Rattle.sched_report.specs.Counts.{CountsRefusals}
+use Rattle.sched_report.specs.RanksTold.{AreRanksTold}
 use Rattle.sched_report.specs.Totals.{totals_of}
 use Rattle.history_writing.specs.Json.{count}
-use Rattle.report_writing.specs.declared.gathered.RankTold.{RankTold}
 use Rattle.report_writing.specs.Cells.{delay_data, maybe_data}
-use Rattle.report_writing.specs.Gathered.{AreLivesTold, AreRanksTold}
+use Rattle.report_writing.specs.Gathered.{AreLivesTold}
 
 -- the name of a kind of flow
 abbrev pub kind_name : FlowSpec → List ℕ
@@ -61,9 +62,10 @@ rank_data t = object (
 unfoldable pub calls_data : Calls → Data
 calls_data c = object (
     member (codes "admit") (count c.admit) (member (codes "ask") (count c.ask) (
-    member (codes "build") (count c.build) (member (codes "heard") (count c.heard) (
-    member (codes "remove") (count c.remove) (member (codes "skip") (count c.skip) (
-    member (codes "status") (count c.status) no_members)))))))
+    member (codes "build") (count c.build) (member (codes "header") (count c.header) (
+    member (codes "heard") (count c.heard) (member (codes "remove") (count c.remove) (
+    member (codes "reserve") (count c.reserve) (member (codes "skip") (count c.skip) (
+    member (codes "status") (count c.status) no_members)))))))))
 
 -- the minislots of each use
 unfoldable pub use_data : Slots → Data
@@ -83,9 +85,10 @@ refused_members [] counts = no_members
 refused_members (place ∷ places) counts =
     with_refusals place (slice_index counts place) (refused_members places counts)
 
--- the places of the numbers from 1 to 17, in the ascending order of their texts
+-- the places of the numbers from 1 to 20, in the ascending order of their texts
 abbrev pub by_text : List ℕ
-by_text = 0 ∷ 9 ∷ 10 ∷ 11 ∷ 12 ∷ 13 ∷ 14 ∷ 15 ∷ 16 ∷ 1 ∷ 2 ∷ 3 ∷ 4 ∷ 5 ∷ 6 ∷ 7 ∷ 8 ∷ []
+by_text =
+    0 ∷ 9 ∷ 10 ∷ 11 ∷ 12 ∷ 13 ∷ 14 ∷ 15 ∷ 16 ∷ 17 ∷ 18 ∷ 1 ∷ 19 ∷ 2 ∷ 3 ∷ 4 ∷ 5 ∷ 6 ∷ 7 ∷ 8 ∷ []
 
 -- the refusals with each number of which there is one
 abbrev pub refused_data : List ℕ → Data

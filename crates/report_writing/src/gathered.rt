@@ -1,22 +1,11 @@
 //! The numbers of a report, gathered from a reporter.
 
 ghost use Rattle.std.specs.Prelude.{IfOk};
-ghost use Rattle.report_writing.specs.Gathered.{AreLivesTold, AreRanksTold};
+ghost use Rattle.sched_report.specs.RanksTold.{AreRanksTold};
+ghost use Rattle.report_writing.specs.Gathered.{AreLivesTold};
 
-use sched_report::{LifeNumbers, POLLED, RankNumbers, Reporter};
+use sched_report::{LifeNumbers, RANKS, RankTold, Reporter};
 use std::alloc::{AllocError, Global};
-
-/// The numbers of a rank.
-#[derive(Clone, Copy)]
-pub struct RankTold {
-    /// The rank: [`POLLED`], or else a priority.
-    pub rank: u8,
-    /// The numbers of all lives of that rank.
-    pub numbers: RankNumbers,
-}
-
-// The ranks, from the one that is served first on.
-pub(crate) const RANKS: [u8; 9] = [POLLED, 7, 6, 5, 4, 3, 2, 1, 0];
 
 // The numbers of each life, in the order of the admissions.
 pub(crate) fn lives_told(alloc: Global, reporter: &Reporter) -> Result<Vec<LifeNumbers>, AllocError>

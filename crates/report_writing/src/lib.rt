@@ -3,11 +3,11 @@
 
 mod cell;
 mod gathered;
+mod life;
 mod members;
 mod printed;
 mod tables;
 mod text;
 
-pub use gathered::RankTold;
 pub use printed::json_text;
 pub use tables::report_text;

@@ -1,57 +1,24 @@
-//! The objects of a report's JSON: a life of a flow, a rank, the refusals, the calls and the use of minislots.
+//! The objects of a report's JSON: a rank, the refusals, the calls and the use of minislots.
 
 ghost use Rattle.std.specs.Prelude.{◌≡◌, ◌++◌, OnOk, slice_index};
 ghost use Rattle.serde_json.specs.Data.{Members};
 ghost use Rattle.history_writing.specs.Tokens.{tokens_of};
 ghost use Rattle.report_writing.specs.Cells.{cell_data, tokens_to_end};
-ghost use Rattle.report_writing.specs.Report.{kind_name, rank_name, life_data, rank_data, calls_data, use_data};
-ghost use Rattle.report_writing.specs.Report.{refused_data, with_refusals};
+ghost use Rattle.report_writing.specs.Report.{rank_name, rank_data, calls_data, use_data, refused_data, with_refusals};
 
 use crate::cell::{Cell, Spread, put_cell, put_object};
-use crate::gathered::RankTold;
-use flow_book::FlowSpec;
 use itoa::Buffer;
 use json::Writer;
-use sched_report::{Calls, LifeNumbers, POLLED, Slots};
+use sched_report::{Calls, POLLED, RankTold, Slots};
 use std::alloc::AllocError;
-
-// The keys of a life, in ascending order, and those of one of a best effort flow.
-static LIFE: [&str; 12] = [
-    "asked",
-    "asks",
-    "delay",
-    "dropped",
-    "from",
-    "granted",
-    "kind",
-    "outstanding",
-    "served",
-    "sid",
-    "to",
-    "waiting",
-];
-
-static BEST_EFFORT: [&str; 13] = [
-    "asked",
-    "asks",
-    "delay",
-    "dropped",
-    "from",
-    "granted",
-    "kind",
-    "outstanding",
-    "priority",
-    "served",
-    "sid",
-    "to",
-    "waiting",
-];
 
 static RANK: [&str; 7] = [
     "asks", "delay", "dropped", "granted", "rank", "served", "waiting",
 ];
 
-static CALLS: [&str; 7] = ["admit", "ask", "build", "heard", "remove", "skip", "status"];
+static CALLS: [&str; 9] = [
+    "admit", "ask", "build", "header", "heard", "remove", "reserve", "skip", "status",
+];
 
 static USES: [&str; 6] = [
     "data",
@@ -63,85 +30,9 @@ static USES: [&str; 6] = [
 ];
 
 // The places of the refusals' numbers, which are counted from 1, in the ascending order of their texts.
-const BY_TEXT: [u8; 17] = [0, 9, 10, 11, 12, 13, 14, 15, 16, 1, 2, 3, 4, 5, 6, 7, 8];
-
-// The name of a kind of flow.
-fn kind_name(spec: FlowSpec) -> &'static str
-    ensures { result.now ≡ kind_name spec }
-{
-    match spec {
-        FlowSpec::Unsolicited { .. } => "unsolicited",
-        FlowSpec::Polled { .. } => "polled",
-        FlowSpec::BestEffort { .. } => "best_effort",
-    }
-}
-
-// Writes the numbers of a life.
-#[tactic(auto, unfolding(crate::specs::Report::life_data))]
-pub(crate) fn put_life(out: &mut Writer, life: &LifeNumbers) -> Result<(), AllocError>
-    ensures ok { OnOk result (out.new.tokens ≡ out.old.tokens ++ tokens_of (life_data life.now)) }
-    ensures before { out.new.before ≡ out.old.before }
-{
-    let asked = Cell::Count(life.sums.asked as u128);
-    let asks = Cell::Count(life.sums.asks as u128);
-    let delay = Cell::Delay(Spread {
-        greatest: life.sums.delays.greatest,
-        least: life.sums.delays.least,
-        middle: life.middle,
-        p99: life.p99,
-    });
-    let dropped = Cell::Count(life.dropped as u128);
-    let from = Cell::Count(life.from as u128);
-    let granted = Cell::Count(life.granted);
-    let kind = Cell::Name(kind_name(life.spec));
-    let outstanding = Cell::Count(life.outstanding as u128);
-    let served = Cell::Count(life.sums.delays.served as u128);
-    let sid = Cell::Count(life.sid as u128);
-    let to = Cell::Count(life.to as u128);
-    let waiting = Cell::Count(life.waiting as u128);
-    match life.priority {
-        None => put_object(
-            out,
-            &LIFE,
-            &[
-                asked,
-                asks,
-                delay,
-                dropped,
-                from,
-                granted,
-                kind,
-                outstanding,
-                served,
-                sid,
-                to,
-                waiting,
-            ],
-        ),
-        Some(priority) => {
-            let priority = Cell::Count(priority as u128);
-            put_object(
-                out,
-                &BEST_EFFORT,
-                &[
-                    asked,
-                    asks,
-                    delay,
-                    dropped,
-                    from,
-                    granted,
-                    kind,
-                    outstanding,
-                    priority,
-                    served,
-                    sid,
-                    to,
-                    waiting,
-                ],
-            )
-        }
-    }
-}
+const BY_TEXT: [u8; 20] = [
+    0, 9, 10, 11, 12, 13, 14, 15, 16, 17, 18, 1, 19, 2, 3, 4, 5, 6, 7, 8,
+];
 
 // The name or the number of a rank.
 fn rank_cell(rank: u8) -> Cell
@@ -189,8 +80,10 @@ pub(crate) fn put_calls(out: &mut Writer, calls: &Calls) -> Result<(), AllocErro
         Cell::Count(calls.admit as u128),
         Cell::Count(calls.ask as u128),
         Cell::Count(calls.build as u128),
+        Cell::Count(calls.header as u128),
         Cell::Count(calls.heard as u128),
         Cell::Count(calls.remove as u128),
+        Cell::Count(calls.reserve as u128),
         Cell::Count(calls.skip as u128),
         Cell::Count(calls.status as u128),
     ];

@@ -7,10 +7,11 @@ ghost use Rattle.report_writing.specs.Cells.{cell_data};
 ghost use Rattle.report_writing.specs.Report.{lives_data, ranks_data, report_data, IsReportText};
 
 use crate::cell::{Cell, put_cell};
-use crate::gathered::{RankTold, lives_told, ranks_told};
-use crate::members::{put_calls, put_life, put_rank, put_refused, put_use};
+use crate::gathered::{lives_told, ranks_told};
+use crate::life::put_life;
+use crate::members::{put_calls, put_rank, put_refused, put_use};
 use json::Writer;
-use sched_report::{LifeNumbers, Reporter, Totals};
+use sched_report::{LifeNumbers, RankTold, Reporter, Totals};
 use std::alloc::{AllocError, Global};
 
 // Writes a number under a key.

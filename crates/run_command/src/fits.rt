@@ -64,7 +64,7 @@ fn reply_fits(reply: &Reply)
     ensures { ReplyFits reply.now }
 {
     match reply {
-        Reply::Admitted(None) | Reply::Removed | Reply::Taken | Reply::Noted => {}
+        Reply::Admitted(None) | Reply::Removed | Reply::Taken | Reply::Noted | Reply::Reserved => {}
         Reply::Admitted(Some(placement)) => placement_fits(placement),
         Reply::Built(map) => map_fits(map),
         Reply::Skipped(next) => number_fits(*next),

@@ -65,6 +65,9 @@ module _ (c : Config) (h : List Entry) (m : FrameMap) where
       subst (IsNextMap c h) (same_Some answers.0 m (ap map_by (sym answers.2))) answers.1
   answered (calls.Skip now) answers = not_built (replies.Skipped answers.0) refl answers.2
   answered (calls.Status sid) answers = status (life_of sid h) sid answers
+  answered (calls.Reserve usage slots) answers = not_built replies.Reserved refl answers
+  answered (calls.Header count ranging_start ranging_end data_start data_end) answers =
+      not_built replies.Noted refl answers
 
   unrefused : (o : Option Refusal) (call : Call)
       → MatchOption o (Answers c h call (replies.Built m)) (λ r. replies.Built m ≡ replies.Refused r) → IsNextMap c h m

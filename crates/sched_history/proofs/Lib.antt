@@ -3,6 +3,7 @@ pub mod lives
 pub mod flows
 pub mod time
 pub mod steps
+pub mod reserves
 pub mod plans
 pub mod placements
 pub mod facts

@@ -2,4 +2,5 @@
 pub mod SoundLives
 pub mod OnTime
 pub mod Orderly
+pub mod Ranging
 pub mod FactsOf

@@ -1,6 +1,4 @@
 -- The allocations of a frame: where they begin, how many there are, and what their grants keep.
 pub mod PlanOffsets
-pub mod PlanCounts
-pub mod SpotsFrom
 pub mod Fronts
 pub mod SoundPlans

@@ -14,3 +14,5 @@ pub mod Memory
 pub mod HandingOver
 pub mod Limits
 pub mod Facts
+pub mod Opportunities
+pub mod Headers

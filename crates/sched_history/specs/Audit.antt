@@ -9,6 +9,7 @@ use Rattle.sched_history.specs.declared.auditing.sameness.PlainReply.{PlainReply
 use Rattle.sched_history.specs.declared.auditing.sameness.PlainReply.TheVariants as plain
 use Rattle.sched_history.specs.declared.call.Call.{Call}
 use Rattle.sched_history.specs.declared.call.Call.TheVariants.{Admit, Remove, Ask, Heard, Build, Skip, Status}
+use Rattle.sched_history.specs.declared.call.Call.TheVariants.{Reserve, Header}
 use Rattle.sched_history.specs.declared.reply.Reply.{Reply}
 use Rattle.sched_history.specs.declared.reply.Reply.TheVariants as replies
 use Rattle.sched_history.specs.declared.reply.Entry.{Entry}
@@ -30,6 +31,8 @@ is_told (Heard receiver upto) = true
 is_told (Build now) = false
 is_told (Skip now) = true
 is_told (Status sid) = true
+is_told (Reserve usage slots) = true
+is_told (Header count ranging_start ranging_end data_start data_end) = true
 
 -- a reply without lists
 abbrev pub plain_of : Reply → Option PlainReply
@@ -38,6 +41,7 @@ plain_of (replies.Admitted (Some p)) = None
 plain_of replies.Removed = Some plain.Removed
 plain_of replies.Taken = Some plain.Taken
 plain_of replies.Noted = Some plain.Noted
+plain_of replies.Reserved = Some plain.Reserved
 plain_of (replies.Built m) = None
 plain_of (replies.Skipped next) = Some (plain.Skipped next)
 plain_of (replies.Flow asked granted outstanding) = Some (plain.Flow asked granted outstanding)

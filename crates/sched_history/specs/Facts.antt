@@ -1,5 +1,5 @@
 -- What follows for every legal history, as an operator of the plant would say it.
-use Rattle.std.specs.Prelude.{◌≡◌, ℕ, ◌+◌, ◌/◌, ◌%◌, ◌<◌, ◌≤◌, false, List, [], ◌∷◌}
+use Rattle.std.specs.Prelude.{◌≡◌, ℕ, ◌+◌, ◌/◌, ◌%◌, ◌<◌, ◌≤◌, true, false, List, [], ◌∷◌}
 use Rattle.std.specs.Prelude.{◌++◌, length, take, zip, filter_map, Contains}
 use Rattle.std.specs.List.{AllByRecursion}
 use Rattle.minislots.specs.declared.config.Config.{Config}
@@ -19,8 +19,10 @@ use Rattle.sched_history.specs.declared.reply.Reply.{Reply}
 use Rattle.sched_history.specs.declared.reply.Reply.TheVariants.{Taken, Built}
 use Rattle.sched_history.specs.declared.reply.Entry.{Entry}
 use Rattle.sched_history.specs.Life.{flows_of, table_of}
+use Rattle.sched_history.specs.Reserves.{is_opportunity}
 use Rattle.sched_history.specs.Refusal.{bad_sid}
 use Rattle.sched_history.specs.History.{map_by}
+use Rattle.sched_history.specs.Ranging.{HoldsForRanging}
 
 -- the MAPs that were built, in order
 abbrev pub maps_of : List Entry → List FrameMap
@@ -40,18 +42,25 @@ OffsetsAscend [] = Unit {0}
 OffsetsAscend (e ∷ []) = Unit {0}
 OffsetsAscend (e ∷ next ∷ es) = (e.offset < next.offset) × OffsetsAscend (next ∷ es)
 
--- A front of disjoint ascending allocations, each up to the next: the request region first, the only Null last
+-- A front of disjoint ascending allocations, each up to the next: the request region first, the only Null last. All
+-- opportunities are among them
 pub record HasFront (c : Config) (es : List Element) : Type 0 where
   pub allocations : List Element
   pub behind : List Element
   pub whole : es ≡ request_region ∷ (allocations ++ null_element c ∷ behind)
   pub one_null : nulls es ≡ 1
   pub ascend : OffsetsAscend (request_region ∷ (allocations ++ null_element c ∷ []))
+  pub ranging : AllByRecursion (λ e. is_opportunity e ≡ false) behind
+
+-- an opportunity has no bytes
+abbrev pub IsUnasked : Element → ℕ → Type 0
+IsUnasked e bytes = is_opportunity e ≡ true → bytes ≡ 0
 
 -- the MAP has at most 240 elements, a byte count for each, and such a front
 pub record IsOrderly (c : Config) (m : FrameMap) : Type 0 where
   pub within : length m.wire.elements ≤ MAX_ELEMENTS
   pub counted : length m.bytes ≡ length m.wire.elements
+  pub unasked : AllByRecursion (λ e. IsUnasked e.0 e.1) (zip m.wire.elements m.bytes)
   pub front : HasFront c m.wire.elements
 
 -- each MAP starts at least a frame after every earlier one
@@ -59,11 +68,13 @@ abbrev pub StartsAscend : Config → List FrameMap → Type 0
 StartsAscend c maps =
     EachAfter (λ before m. AllByRecursion (λ earlier. earlier.start + c.frame ≤ m.start) before) [] maps
 
--- the element is a poll or an unsolicited grant: in the frame, to a flow, and without bytes that were asked
+-- the element is a poll or an unsolicited grant: in the frame, to a flow, without bytes that were asked, and no
+-- opportunity
 pub record IsPeriodic (c : Config) (e : Element) (bytes : ℕ) : Type 0 where
   pub in_frame : e.offset < c.frame
   pub to_flow : bad_sid e.sid ≡ false
   pub unasked : bytes ≡ 0
+  pub unreserved : is_opportunity e ≡ false
 
 -- the nominal time of a placed flow in the frame that starts there
 abbrev pub nominal_time : Config → ℕ → Placed → ℕ
@@ -98,6 +109,7 @@ pub record HoldsAfter (c : Config) (h : List Entry) : Type 0 where
   pub starts_ascend : StartsAscend c (maps_of h)
   pub on_time : EachAfter (λ before e. KeepsTimes c (table_of before) e.reply) [] h
   pub heard_after : EachAfter (λ before e. IsHeardAfter (maps_of before) e.call e.reply) [] h
+  pub ranging : HoldsForRanging c h
 
 -- it holds after every entry of the history: for every front of its list
 unfoldable pub FollowsAlways : Config → List Entry → Type 0

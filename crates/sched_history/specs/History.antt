@@ -10,15 +10,18 @@ use Rattle.periodic.specs.declared.placement.Placement.{Placement}
 use Rattle.periodic.specs.Placement.{IsPlacement, NoPlacement, spots_in}
 use Rattle.map_build.specs.declared.frame_map.FrameMap.{FrameMap}
 use Rattle.map_build.specs.EachAfter.{EachAfter}
+use Rattle.map_build.specs.Plan.{Demand, demand_at}
 use Rattle.map_build.specs.FrameMap.{IsLawfulMap}
 use Rattle.sched_history.specs.declared.call.Call.{Call}
 use Rattle.sched_history.specs.declared.call.Call.TheVariants.{Admit, Remove, Ask, Heard, Build, Skip, Status}
+use Rattle.sched_history.specs.declared.call.Call.TheVariants.{Reserve, Header}
 use Rattle.sched_history.specs.declared.reply.Refusal.TheVariants.{NoPlace}
 use Rattle.sched_history.specs.declared.reply.Reply.{Reply}
 use Rattle.sched_history.specs.declared.reply.Reply.TheVariants as replies
 use Rattle.sched_history.specs.declared.reply.Entry.{Entry}
 use Rattle.sched_history.specs.Life.{life_of, flow_in_life, flows_of, table_of}
 use Rattle.sched_history.specs.Time.{next_after, ack_after, IsFirstStart}
+use Rattle.sched_history.specs.Reserves.{header_after, reserves_of, waiting_in}
 use Rattle.sched_history.specs.Refusal.{refusal_of}
 
 -- a flow is admitted with a lawful placement, or refused where there is none
@@ -39,10 +42,15 @@ AnswersAdmit c h (BestEffort priority rate burst) reply = reply ≡ replies.Admi
 abbrev pub flow_status : LiveFlow → Reply
 flow_status f = if takes_requests f.spec then replies.Flow f.asked (granted f) (outstanding f) else replies.Flow 0 0 0
 
+-- what the next frame has to serve
+abbrev pub demand_after : Config → List Entry → Demand
+demand_after c h = demand_at (flows_of h) (spots_in c (next_after c h / c.frame) (table_of h))
+    (waiting_in (reserves_of h)) (next_after c h)
+
 -- the MAP is the lawful one of the next frame
 abbrev pub IsNextMap : Config → List Entry → FrameMap → Type 0
 IsNextMap c h m =
-    IsLawfulMap c (flows_of h) (spots_in c (next_after c h / c.frame) (table_of h)) (next_after c h) (ack_after c h) m
+    IsLawfulMap c (demand_after c h) (header_after c h) (ack_after c h) m
 
 -- the MAP that a reply builds
 abbrev pub map_by : Reply → Option FrameMap
@@ -58,6 +66,8 @@ Answers c h (Heard receiver upto) reply = reply ≡ replies.Noted
 Answers c h (Build now) reply = (m : FrameMap) × IsNextMap c h m × (reply ≡ replies.Built m)
 Answers c h (Skip now) reply = (start : ℕ) × IsFirstStart c (now + c.lead) start × (reply ≡ replies.Skipped start)
 Answers c h (Status sid) reply = MatchOption (life_of sid h) ⊥ (λ life. reply ≡ flow_status (flow_in_life sid life))
+Answers c h (Reserve usage slots) reply = reply ≡ replies.Reserved
+Answers c h (Header count ranging_start ranging_end data_start data_end) reply = reply ≡ replies.Noted
 
 -- the reply may follow the history: the first refusal, or where there is none the answer
 abbrev pub IsStep : Config → List Entry → Call → Reply → Type 0

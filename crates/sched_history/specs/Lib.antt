@@ -9,11 +9,13 @@ pub use Rattle.map_build.specs.FrameMap
 pub mod Latest
 pub mod Life
 pub mod Time
+pub mod Reserves
 pub mod Refusal
 pub mod History
 pub mod Reply
 pub mod Machine
 pub mod Planned
 pub mod State
+pub mod Ranging
 pub mod Facts
 pub mod Audit

@@ -8,6 +8,7 @@ use Rattle.periodic.specs.declared.placement.Placement.{Placement}
 use Rattle.periodic.specs.Placement.{IsPlacement}
 use Rattle.sched_history.specs.declared.call.Call.{Call}
 use Rattle.sched_history.specs.declared.call.Call.TheVariants.{Admit, Remove, Ask, Heard, Build, Skip, Status}
+use Rattle.sched_history.specs.declared.call.Call.TheVariants.{Reserve, Header}
 use Rattle.sched_history.specs.declared.reply.TheConstants.{MAX_WHOLE_HISTORY}
 use Rattle.sched_history.specs.declared.reply.Reply.{Reply}
 use Rattle.sched_history.specs.declared.reply.Reply.TheVariants as replies
@@ -45,6 +46,7 @@ IsEncodable (replies.Admitted placement) = Unit {0}
 IsEncodable replies.Removed = Unit {0}
 IsEncodable replies.Taken = Unit {0}
 IsEncodable replies.Noted = Unit {0}
+IsEncodable replies.Reserved = Unit {0}
 IsEncodable (replies.Built m) = IsWellFormed m.wire
 IsEncodable (replies.Skipped next) = Unit {0}
 IsEncodable (replies.Flow asked granted outstanding) = Unit {0}
@@ -67,6 +69,8 @@ TakesMemory c h (Heard receiver upto) = ⊥
 TakesMemory c h (Build now) = Unit {0}
 TakesMemory c h (Skip now) = ⊥
 TakesMemory c h (Status sid) = ⊥
+TakesMemory c h (Reserve usage slots) = ⊥
+TakesMemory c h (Header count ranging_start ranging_end data_start data_end) = ⊥
 
 -- no refusal meets the call, and it takes memory
 pub record MayLackMemory (c : Config) (h : List Entry) (call : Call) : Type 0 where

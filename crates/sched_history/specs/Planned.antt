@@ -1,5 +1,5 @@
 -- What callers see of a planned build, and when a scheduler may commit it.
-use Rattle.std.specs.Prelude.{◌≡◌, ℕ, false, List, [], ◌∷◌, ◌++◌, None}
+use Rattle.std.specs.Prelude.{◌≡◌, ℕ, Bool, false, List, [], ◌∷◌, ◌++◌, None}
 use Rattle.minislots.specs.declared.config.Config.{Config}
 use Rattle.minislots.specs.declared.stamp.Stamp.{Stamp}
 use Rattle.map_codec.specs.WireMap.{IsWellFormed}
@@ -8,19 +8,21 @@ use Rattle.map_build.specs.declared.frame_map.FrameMap.{FrameMap}
 use Rattle.sched_history.specs.declared.call.Call.TheVariants.{Build}
 use Rattle.sched_history.specs.declared.reply.Reply.TheVariants.{Built}
 use Rattle.sched_history.specs.Life.{flows_of}
+use Rattle.sched_history.specs.Reserves.{reserves_of, aged, unmarked}
 use Rattle.sched_history.specs.Refusal.{refusal_of}
 use Rattle.sched_history.specs.History.{IsNextMap}
 use Rattle.sched_history.specs.Machine.{Machine, is_full}
 
--- a build's clock and its MAP, and the live flows of the channel after it
+-- a build's clock and its MAP, the live flows of the channel after it, and marks at the Reserves that it meets
 pub record PlannedBuild : Type 0 where
   pub config : Config
   pub clock : ℕ
   pub map : FrameMap
   pub flows : List LiveFlow
+  pub met : List Bool
 
 -- The build may follow the history, where it is not full: no test refuses it, its MAP is the lawful one of the next
--- frame and is well formed, and the flows are those after it
+-- frame and is well formed, and the flows and Reserves are those after it
 pub record IsPlanAfter (m : Machine) (p : PlannedBuild) : Type 0 where
   pub room : is_full m ≡ false
   pub unrefused : refusal_of m.config m.history (Build p.clock) ≡ None
@@ -29,3 +31,5 @@ pub record IsPlanAfter (m : Machine) (p : PlannedBuild) : Type 0 where
   pub config : p.config ≡ m.config
   pub flows : (stamp : Stamp) → p.flows
       ≡ flows_of (m.history ++ record { stamp = stamp; call = Build p.clock; reply = Built p.map } ∷ [])
+  pub reserves : (stamp : Stamp) → aged (unmarked p.met (reserves_of m.history))
+      ≡ reserves_of (m.history ++ record { stamp = stamp; call = Build p.clock; reply = Built p.map } ∷ [])

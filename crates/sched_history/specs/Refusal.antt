@@ -1,21 +1,27 @@
 -- The refusals of each call, in the order of their tests.
-use Rattle.std.specs.Prelude.{ℕ, ◌+◌, ◌^◌, Bool, false, not, ◌||◌, ◌&&◌, nat_lt, nat_le, ◌==◌, List, [], ◌∷◌}
+use Rattle.std.specs.Prelude.{ℕ, ◌+◌, ◌-◌, ◌^◌, Bool, false, not, ◌||◌, ◌&&◌, nat_lt, nat_le, ◌==◌, List, [], ◌∷◌}
 use Rattle.std.specs.Prelude.{length, sum_by, Option, None, Some, is_some, option_map, if◌then◌else◌}
 use Rattle.std.specs.Option.{option_or, option_map_or}
 use Rattle.minislots.specs.declared.config.Config.{Config}
 use Rattle.flow_book.specs.declared.TheConstants.{MAX_FLOWS}
 use Rattle.flow_book.specs.FlowSpec.{is_periodic, grants_of, takes_requests, first_fault}
 use Rattle.periodic.specs.declared.TheConstants.{MAX_PERIODIC_GRANTS}
+use Rattle.map_build.specs.declared.opportunity.Usage.{Usage}
+use Rattle.map_build.specs.declared.opportunity.Usage.TheVariants.{Initial, Station}
+use Rattle.sched_history.specs.declared.call.TheConstants.{MAX_RESERVES}
 use Rattle.sched_history.specs.declared.call.Call.{Call}
 use Rattle.sched_history.specs.declared.call.Call.TheVariants.{Admit, Remove, Ask, Heard, Build, Skip, Status}
+use Rattle.sched_history.specs.declared.call.Call.TheVariants.{Reserve, Header}
 use Rattle.sched_history.specs.declared.reply.Refusal.{Refusal}
 use Rattle.sched_history.specs.declared.reply.Refusal.TheVariants.{BadSid, SidLive, BadFlow, FlowsFull, PeriodicFull}
 use Rattle.sched_history.specs.declared.reply.Refusal.TheVariants.{NoFlow, NotAsking, BadReceiver, BadBytes, Acked}
 use Rattle.sched_history.specs.declared.reply.Refusal.TheVariants.{Ahead, Backwards, BadClock}
 use Rattle.sched_history.specs.declared.reply.Refusal.TheVariants.{TooEarly, Late, NotLate}
+use Rattle.sched_history.specs.declared.reply.Refusal.TheVariants.{BadLength, ReservesFull, BadBackoff}
 use Rattle.sched_history.specs.declared.reply.Entry.{Entry}
 use Rattle.sched_history.specs.Life.{last_sid, life_of, flows_of}
 use Rattle.sched_history.specs.Time.{next_after, progress_of}
+use Rattle.sched_history.specs.Reserves.{reserves_of}
 
 -- the refusal, where its test holds
 abbrev pub refused_if : Bool → Refusal → Option Refusal
@@ -38,6 +44,10 @@ most_ahead = 4096
 abbrev pub last_clock : ℕ
 last_clock = 2 ^ 60
 
+-- the greatest exponent of a backoff window
+abbrev pub most_exponent : ℕ
+most_exponent = 15
+
 -- whether no flow can have this SID
 abbrev pub bad_sid : ℕ → Bool
 bad_sid sid = sid == 0 || nat_lt last_sid sid
@@ -53,6 +63,15 @@ is_silent sid h = option_map_or (λ life. not (takes_requests life.admission.spe
 -- the grants per interval of the live flows
 abbrev pub periodic_grants : List Entry → ℕ
 periodic_grants h = sum_by (λ f. grants_of f.spec) (flows_of h)
+
+-- whether no modem can have the SID of this usage
+abbrev pub is_to_bad_sid : Usage → Bool
+is_to_bad_sid Initial = false
+is_to_bad_sid (Station sid) = bad_sid sid
+
+-- whether no window of contention may be as wide
+abbrev pub is_wide : ℕ → Bool
+is_wide exponent = nat_lt most_exponent exponent
 
 -- the first refusal of a call after a history; that there is no place for a flow is not among these
 abbrev pub refusal_of : Config → List Entry → Call → Option Refusal
@@ -82,4 +101,10 @@ refusal_of c h (Build now) = first_of (
 refusal_of c h (Skip now) = first_of (
     refused_if (nat_lt last_clock now) BadClock ∷
     refused_if (nat_le (now + c.lead) (next_after c h)) (NotLate (next_after c h)) ∷ [])
+refusal_of c h (Reserve usage slots) = first_of (
+    refused_if (is_to_bad_sid usage) BadSid ∷
+    refused_if (slots == 0 || nat_lt (c.frame - c.req_slots) slots) BadLength ∷
+    refused_if (nat_le MAX_RESERVES (length (reserves_of h))) ReservesFull ∷ [])
+refusal_of c h (Header count ranging_start ranging_end data_start data_end) = refused_if
+    (is_wide ranging_start || is_wide ranging_end || is_wide data_start || is_wide data_end) BadBackoff
 refusal_of c h (Status sid) = first_of (refused_if (bad_sid sid) BadSid ∷ refused_if (not (is_live sid h)) NoFlow ∷ [])

@@ -1,5 +1,5 @@
 -- What a scheduler keeps of its history, and what is true of each scheduler.
-use Rattle.std.specs.Prelude.{◌≡◌, ℕ, ◌+◌, ◌-◌, ◌*◌, ◌%◌, ◌<◌, ◌≤◌, false, None, List, [], ◌∷◌}
+use Rattle.std.specs.Prelude.{◌≡◌, ℕ, ◌+◌, ◌-◌, ◌*◌, ◌/◌, ◌%◌, ◌<◌, ◌≤◌, false, None, List, [], ◌∷◌}
 use Rattle.std.specs.Prelude.{◌++◌, length, slice_index, vec_capacity}
 use Rattle.std.specs.List.{AllByRecursion}
 use Rattle.minislots.specs.declared.config.Config.{Config}
@@ -9,6 +9,8 @@ use Rattle.map_codec.specs.WireMap.{IsWellFormed}
 use Rattle.flow_book.specs.declared.TheConstants.{MAX_FLOWS}
 use Rattle.flow_book.specs.Flows.{LiveFlow}
 use Rattle.flow_book.specs.Choice.{HasStartedBy}
+use Rattle.periodic.specs.Placement.{spots_in}
+use Rattle.map_build.specs.Plan.{Demand, demand_at}
 use Rattle.sched_history.specs.declared.scheduler.state.State.{State}
 use Rattle.sched_history.specs.declared.scheduler.answering.Answer.{Answer}
 use Rattle.sched_history.specs.declared.scheduler.Scheduler.TheInside.{Inside}
@@ -20,11 +22,17 @@ use Rattle.sched_history.specs.declared.reply.Reply.TheVariants.{Built}
 use Rattle.sched_history.specs.declared.reply.Entry.{Entry}
 use Rattle.sched_history.specs.Life.{turn_by, asked_by, grants_by, flows_of, table_of}
 use Rattle.sched_history.specs.Time.{skip_by, is_built, progress_by, next_after, progress_of}
+use Rattle.sched_history.specs.Reserves.{reserve_by, header_by, header_after, reserves_of, waiting_in, aged, unmarked}
 use Rattle.sched_history.specs.Refusal.{most_bytes, most_ahead, last_clock, refusal_of}
 use Rattle.sched_history.specs.History.{Answers, IsStep, IsLegal, IsNextMap}
 use Rattle.sched_history.specs.Planned.{PlannedBuild}
 use Rattle.sched_history.specs.Facts.{IsWithinAsked}
 use Rattle.sched_history.specs.Machine.{Machine, kept_of, IsEncodable, TakesMemory}
+
+-- what the next frame has to serve, by the fields
+abbrev pub next_demand : State → Demand
+next_demand s = demand_at s.book.flows (spots_in s.config (s.next / s.config.frame) s.table.placed)
+    (waiting_in s.reserves) s.next
 
 -- The bounds of what a scheduler keeps, after so many calls
 pub record IsBounded (c : Config) (flows : List LiveFlow) (next calls : ℕ) : Type 0 where
@@ -46,6 +54,8 @@ pub record IsStateAfter (s : State) (h : List Entry) : Type 0 where
   pub places : length s.progress ≡ 16
   pub progress : (receiver : ℕ) → receiver < s.config.receivers
       → slice_index s.progress receiver ≡ progress_of s.config receiver h
+  pub reserves : s.reserves ≡ reserves_of h
+  pub header : s.header ≡ header_after s.config h
 
 -- what contracts see of a scheduler: what it does not keep of the ledger's entries was handed over
 abbrev pub machine_of : Inside → Machine
@@ -89,6 +99,8 @@ pub record IsBuildAfter (c : Config) (h : List Entry) (p : PlannedBuild) : Type 
   pub config : p.config ≡ c
   pub flows : (stamp : Stamp) → p.flows
       ≡ flows_of (h ++ record { stamp = stamp; call = Build p.clock; reply = Built p.map } ∷ [])
+  pub reserves : (stamp : Stamp) → aged (unmarked p.met (reserves_of h))
+      ≡ reserves_of (h ++ record { stamp = stamp; call = Build p.clock; reply = Built p.map } ∷ [])
 
 -- The answer to a call after the history, twice, and the fields with one entry more
 pub record IsAnswered (old new : State) (call : Call) (a : Answer) (h : List Entry) : Type 0 where
@@ -142,7 +154,7 @@ pub record IsRecorded (old new : Machine) (stamp : Stamp) (call : Call) (reply :
   pub step : IsStep old.config old.history call reply
   pub encodable : IsEncodable reply
 
--- Neither the flows nor the time of a history depend on an entry
+-- Neither the flows nor the time, the Reserves or the header of a history depend on an entry
 pub record IsQuiet (call : Call) (reply : Reply) : Type 0 where
   pub turns : (sid : ℕ) → turn_by sid call reply ≡ None
   pub asks : (sid : ℕ) → asked_by sid call reply ≡ 0
@@ -150,3 +162,5 @@ pub record IsQuiet (call : Call) (reply : Reply) : Type 0 where
   pub skips : skip_by reply ≡ None
   pub builds : is_built reply ≡ false
   pub notes : (receiver : ℕ) → progress_by receiver call reply ≡ None
+  pub reserves : reserve_by call reply ≡ None
+  pub headers : header_by call reply ≡ None

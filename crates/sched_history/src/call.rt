@@ -1,9 +1,13 @@
 //! What is asked of the scheduler.
 
 use flow_book::FlowSpec;
+use map_build::Usage;
 
 /// The most scripts, lists of calls, that are run at the same time.
 pub const MAX_SCRIPTS: usize = 16;
+
+/// The most Reserves that are neither met nor lapsed.
+pub const MAX_RESERVES: usize = 64;
 
 /// A call of the scheduler. Minislots are counted in 64 bits from the channel's timebase.
 #[derive(Clone, Copy, Debug, PartialEq, Eq)]
@@ -34,4 +38,17 @@ pub enum Call {
     },
     /// Asks for a flow's bytes.
     Status(u16),
+    /// Asks for an opportunity of so many minislots, whether or not a flow with the modem's SID is live.
+    Reserve {
+        usage: Usage,
+        slots: u32,
+    },
+    /// Sets the UCD count and the exponents of the backoff windows for every MAP from the next one on.
+    Header {
+        ucd_count: u8,
+        ranging_start: u8,
+        ranging_end: u8,
+        data_start: u8,
+        data_end: u8,
+    },
 }

@@ -8,7 +8,7 @@ mod reply;
 mod scheduler;
 
 pub use auditing::{Auditor, audit, lawful_reply};
-pub use call::{Call, MAX_SCRIPTS};
+pub use call::{Call, MAX_RESERVES, MAX_SCRIPTS};
 pub use reply::{
     AuditFault, Entry, JudgeFault, MAX_ENTRIES, MAX_WHOLE_HISTORY, PlanFault, Refusal, Reply,
     Unrecorded,

@@ -56,6 +56,12 @@ pub enum Refusal {
     Late(u64),
     /// The frame that starts here is not late.
     NotLate(u64),
+    /// The minislots are 0, or more than a frame has behind its request region.
+    BadLength,
+    /// [`MAX_RESERVES`](crate::MAX_RESERVES) Reserves are neither met nor lapsed.
+    ReservesFull,
+    /// An exponent of a backoff window is above 15.
+    BadBackoff,
 }
 
 /// What the scheduler answers to a call that it records.
@@ -67,8 +73,10 @@ pub enum Reply {
     Removed,
     /// The request is counted.
     Taken,
-    /// The progress is noted.
+    /// The progress or the header is noted.
     Noted,
+    /// The opportunity waits for a MAP.
+    Reserved,
     /// The MAP of the next frame.
     Built(FrameMap),
     /// The start of the frame that the next MAP describes.
@@ -97,6 +105,7 @@ impl Reply {
             Reply::Removed => Reply::Removed,
             Reply::Taken => Reply::Taken,
             Reply::Noted => Reply::Noted,
+            Reply::Reserved => Reply::Reserved,
             Reply::Built(map) => Reply::Built(map.copy(alloc)?),
             Reply::Skipped(next) => Reply::Skipped(*next),
             Reply::Flow {

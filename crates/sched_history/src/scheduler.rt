@@ -16,6 +16,7 @@ mod planned;
 mod present;
 mod recording;
 mod refusing;
+mod reserves;
 mod resuming;
 mod state;
 

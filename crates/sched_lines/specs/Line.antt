@@ -9,10 +9,10 @@ use Rattle.sched_history.specs.declared.reply.Refusal.{Refusal}
 use Rattle.sched_history.specs.declared.reply.Refusal.TheVariants.{BadSid, SidLive, BadFlow, FlowsFull, PeriodicFull}
 use Rattle.sched_history.specs.declared.reply.Refusal.TheVariants.{NoPlace, NoFlow, NotAsking, BadReceiver, BadBytes}
 use Rattle.sched_history.specs.declared.reply.Refusal.TheVariants.{Acked, Ahead, Backwards, BadClock, TooEarly, Late}
-use Rattle.sched_history.specs.declared.reply.Refusal.TheVariants.{NotLate}
+use Rattle.sched_history.specs.declared.reply.Refusal.TheVariants.{NotLate, BadLength, ReservesFull, BadBackoff}
 use Rattle.sched_history.specs.declared.reply.Reply.{Reply}
 use Rattle.sched_history.specs.declared.reply.Reply.TheVariants.{Admitted, Removed, Taken, Noted, Built, Skipped, Flow}
-use Rattle.sched_history.specs.declared.reply.Reply.TheVariants.{Refused}
+use Rattle.sched_history.specs.declared.reply.Reply.TheVariants.{Reserved, Refused}
 use Rattle.sched_history.specs.declared.reply.Unrecorded.TheVariants.{HistoryFull, Memory}
 use Rattle.sched_history.specs.Machine.{IsEncodable}
 use Rattle.sched_history.specs.declared.reply.Unrecorded.{Unrecorded}
@@ -62,6 +62,9 @@ refusal_number BadClock = 14
 refusal_number (TooEarly slot) = 15
 refusal_number (Late slot) = 16
 refusal_number (NotLate slot) = 17
+refusal_number BadLength = 18
+refusal_number ReservesFull = 19
+refusal_number BadBackoff = 20
 
 -- the value of a refusal that has one
 abbrev pub refusal_value : Refusal → Option ℕ
@@ -82,6 +85,9 @@ refusal_value BadClock = None
 refusal_value (TooEarly slot) = Some slot
 refusal_value (Late slot) = Some slot
 refusal_value (NotLate slot) = Some slot
+refusal_value BadLength = None
+refusal_value ReservesFull = None
+refusal_value BadBackoff = None
 
 -- the text of a value, where there is one
 abbrev pub value_text : Option ℕ → List ℕ
@@ -95,6 +101,7 @@ reply_text (Admitted (Some p)) = codes "admitted" ++ (number_text p.reference ++
 reply_text Removed = codes "removed"
 reply_text Taken = codes "taken"
 reply_text Noted = codes "noted"
+reply_text Reserved = codes "reserved"
 reply_text (Built m) = codes "map " ++ encode_lower (spelling m.wire)
 reply_text (Skipped next) = codes "skipped" ++ number_text next
 reply_text (Flow asked granted outstanding) = codes "flow"

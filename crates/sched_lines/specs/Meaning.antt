@@ -5,14 +5,15 @@ use Rattle.flow_book.specs.declared.spec.FlowFault.{FlowFault}
 use Rattle.flow_book.specs.declared.spec.FlowFault.TheVariants.{Size, IntervalNotWhole, IntervalNotFrames}
 use Rattle.flow_book.specs.declared.spec.FlowFault.TheVariants.{IntervalNotInCycle, Priority, Burst, Grants}
 use Rattle.periodic.specs.declared.TheConstants.{MAX_PERIODIC_GRANTS}
+use Rattle.sched_history.specs.declared.call.TheConstants.{MAX_RESERVES}
 use Rattle.sched_history.specs.declared.reply.Refusal.{Refusal}
 use Rattle.sched_history.specs.declared.reply.Refusal.TheVariants.{BadSid, SidLive, BadFlow, FlowsFull, PeriodicFull}
 use Rattle.sched_history.specs.declared.reply.Refusal.TheVariants.{NoPlace, NoFlow, NotAsking, BadReceiver, BadBytes}
 use Rattle.sched_history.specs.declared.reply.Refusal.TheVariants.{Acked, Ahead, Backwards, BadClock, TooEarly, Late}
-use Rattle.sched_history.specs.declared.reply.Refusal.TheVariants.{NotLate}
+use Rattle.sched_history.specs.declared.reply.Refusal.TheVariants.{NotLate, BadLength, ReservesFull, BadBackoff}
 use Rattle.sched_history.specs.declared.reply.Reply.{Reply}
 use Rattle.sched_history.specs.declared.reply.Reply.TheVariants.{Admitted, Removed, Taken, Noted, Built, Skipped, Flow}
-use Rattle.sched_history.specs.declared.reply.Reply.TheVariants.{Refused}
+use Rattle.sched_history.specs.declared.reply.Reply.TheVariants.{Reserved, Refused}
 use Rattle.sched_lines.specs.Line.{Answer, answer_text}
 
 -- what is wrong with a flow's parameters
@@ -44,6 +45,9 @@ words_before BadClock = codes "bad clock: it is above 1152921504606846976"
 words_before (TooEarly slot) = codes "too early: the next frame starts at "
 words_before (Late slot) = codes "too late: the next frame starts at "
 words_before (NotLate slot) = codes "not late: the next frame starts at "
+words_before BadLength = codes "bad length: it is 0, or more than a frame has behind the request region"
+words_before ReservesFull = codes "no more reserves: there are "
+words_before BadBackoff = codes "bad backoff: an exponent is above 15"
 
 -- the number that it tells: how many flows or grants there can be, or a minislot
 abbrev pub number_told : Refusal → Option ℕ
@@ -64,6 +68,9 @@ number_told BadClock = None
 number_told (TooEarly slot) = Some slot
 number_told (Late slot) = Some slot
 number_told (NotLate slot) = Some slot
+number_told BadLength = None
+number_told ReservesFull = Some MAX_RESERVES
+number_told BadBackoff = None
 
 -- the rest of its meaning
 abbrev pub words_behind : Refusal → List ℕ
@@ -84,6 +91,9 @@ words_behind BadClock = []
 words_behind (TooEarly slot) = codes ", and its end is more than 4096 minislots past the clock"
 words_behind (Late slot) = codes ", and the clock with its lead is past it"
 words_behind (NotLate slot) = codes ", and the clock with its lead is not past it"
+words_behind BadLength = []
+words_behind ReservesFull = codes " already"
+words_behind BadBackoff = []
 
 -- a number in decimal, where there is one
 abbrev pub digits_of : Option ℕ → List ℕ
@@ -100,6 +110,7 @@ refusal_as (Admitted placement) = None
 refusal_as Removed = None
 refusal_as Taken = None
 refusal_as Noted = None
+refusal_as Reserved = None
 refusal_as (Built m) = None
 refusal_as (Skipped next) = None
 refusal_as (Flow asked granted outstanding) = None

@@ -86,6 +86,9 @@ pub fn refusal_number(refusal: Refusal) -> u64
         Refusal::TooEarly(_) => 15,
         Refusal::Late(_) => 16,
         Refusal::NotLate(_) => 17,
+        Refusal::BadLength => 18,
+        Refusal::ReservesFull => 19,
+        Refusal::BadBackoff => 20,
     }
 }
 
@@ -157,6 +160,7 @@ fn put_reply<W: Sink>(writer: &mut W, reply: &Reply) -> Result<(), TextFault>
         Reply::Removed => put(writer, b"removed"),
         Reply::Taken => put(writer, b"taken"),
         Reply::Noted => put(writer, b"noted"),
+        Reply::Reserved => put(writer, b"reserved"),
         Reply::Built(map) => put_payload(writer, b"map ", &map.wire),
         Reply::Skipped(next) => put_words(writer, b"skipped", &[*next]),
         Reply::Flow {

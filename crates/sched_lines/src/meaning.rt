@@ -10,7 +10,7 @@ use crate::line::put_answer;
 use flow_book::{FlowFault, MAX_FLOWS};
 use itoa::Buffer;
 use periodic::MAX_PERIODIC_GRANTS;
-use sched_history::{Refusal, Reply, Unrecorded};
+use sched_history::{MAX_RESERVES, Refusal, Reply, Unrecorded};
 use text_stream::{Sink, TextFault, put};
 
 // What is wrong with a flow's parameters.
@@ -52,6 +52,10 @@ fn words_before(refusal: Refusal) -> &'static [u8]
         Refusal::TooEarly(_) => b"too early: the next frame starts at ",
         Refusal::Late(_) => b"too late: the next frame starts at ",
         Refusal::NotLate(_) => b"not late: the next frame starts at ",
+        Refusal::BadLength =>
+            b"bad length: it is 0, or more than a frame has behind the request region",
+        Refusal::ReservesFull => b"no more reserves: there are ",
+        Refusal::BadBackoff => b"bad backoff: an exponent is above 15",
     }
 }
 
@@ -62,6 +66,7 @@ fn number_told(refusal: Refusal) -> Option<u64>
     match refusal {
         Refusal::FlowsFull => Some(MAX_FLOWS as u64),
         Refusal::PeriodicFull => Some(MAX_PERIODIC_GRANTS as u64),
+        Refusal::ReservesFull => Some(MAX_RESERVES as u64),
         Refusal::Acked(slot)
         | Refusal::Ahead(slot)
         | Refusal::Backwards(slot)
@@ -77,7 +82,7 @@ fn words_behind(refusal: Refusal) -> &'static [u8]
     ensures { result.now ≡ words_behind refusal }
 {
     match refusal {
-        Refusal::FlowsFull | Refusal::Backwards(_) => b" already",
+        Refusal::FlowsFull | Refusal::ReservesFull | Refusal::Backwards(_) => b" already",
         Refusal::Ahead(_) => b", and what is heard must lie before it",
         Refusal::TooEarly(_) => b", and its end is more than 4096 minislots past the clock",
         Refusal::Late(_) => b", and the clock with its lead is past it",

@@ -8,17 +8,16 @@ use Rattle.map_codec.specs.declared.element.Element.{Element}
 use Rattle.map_codec.specs.Element.{IsInRange, no_element}
 use Rattle.map_drawing.specs.Allocation.{front_length}
 use Rattle.map_drawing.proofs.Fronts.{front_length-<}
-use Rattle.periodic.specs.declared.placement.Spot.{Spot}
-use Rattle.periodic.specs.Placement.{spots_in}
 use Rattle.map_build.specs.declared.frame_map.FrameMap.{FrameMap}
 use Rattle.map_build.specs.FrameMap.{elements_of}
 use Rattle.map_build.proofs.WellFormed.{AreEncodable, elements_of-encodable}
 use Rattle.sched_history.specs.declared.reply.Entry.{Entry}
-use Rattle.sched_history.specs.Life.{flows_of, table_of}
+use Rattle.sched_history.specs.Life.{flows_of}
 use Rattle.sched_history.specs.Time.{next_after}
 use Rattle.sched_history.specs.Refusal.{last_clock, most_ahead}
-use Rattle.sched_history.specs.History.{IsLegal, IsNextMap}
+use Rattle.sched_history.specs.History.{demand_after, IsLegal, IsNextMap}
 use Rattle.sched_history.proofs.facts.Orderly.{flows_of-in_range, spots_in-in_range}
+use Rattle.sched_history.proofs.reserves.GoodReserves.{HaveStationSids-legal}
 use Rattle.sched_history.proofs.steps.LegalBounds.{next_after-most}
 use Rattle.sched_history.proofs.time.NextFrames.{next_start}
 use Rattle.sched_report.specs.Uses.{AreOfFrame}
@@ -37,14 +36,13 @@ of_frame es are =
 
 module _ (c : Config) (lawful : IsLawful c) (h : List Entry) where
   -- the next MAP has the elements of a frame
-  pub of_next_frame : (m : FrameMap) → IsNextMap c h m → AreOfFrame m.wire.elements
-  of_next_frame m next =
-      let spots : List Spot = spots_in c (next_after c h / c.frame) (table_of h) in
+  pub of_next_frame : (m : FrameMap) → IsLegal c h → IsNextMap c h m → AreOfFrame m.wire.elements
+  of_next_frame m legal next =
       let frame = (bounds_of c lawful).frame_most in
       subst (λ (n : FrameMap). AreOfFrame n.wire.elements) (sym next.2)
       (of_frame (elements_of c (flows_of h) (next_after c h) next.0)
-      (elements_of-encodable c (flows_of h) spots (next_after c h) next.0 (omega (arith, frame)) (flows_of-in_range h)
-      (spots_in-in_range c (next_after c h / c.frame) h) next.1.each next.1.whole))
+      (elements_of-encodable c (demand_after c h) next.0 (omega (arith, frame)) (flows_of-in_range h)
+      (spots_in-in_range c (next_after c h / c.frame) h) (HaveStationSids-legal c h legal) next.1.each next.1.whole))
 
   -- and starts in reach of the clock
   pub next_start-most : (m : FrameMap) → IsLegal c h → IsNextMap c h m → m.start ≤ last_clock + most_ahead

@@ -18,5 +18,6 @@ pub mod LivesEach
 pub mod LivesGoing
 pub mod Naming
 pub mod LiveNow
+pub mod RanksTold
 pub mod RowsPercentiles
 pub mod RowsSaid

@@ -58,6 +58,7 @@ ungranted sid (replies.Admitted placement) unbuilt = refl
 ungranted sid replies.Removed unbuilt = refl
 ungranted sid replies.Taken unbuilt = refl
 ungranted sid replies.Noted unbuilt = refl
+ungranted sid replies.Reserved unbuilt = refl
 ungranted sid (replies.Flow asked granted outstanding) unbuilt = refl
 ungranted sid (replies.Refused refusal) unbuilt = refl
 
@@ -69,6 +70,7 @@ ungranted_unsolicited spec sid (replies.Admitted placement) unbuilt = refl
 ungranted_unsolicited spec sid replies.Removed unbuilt = refl
 ungranted_unsolicited spec sid replies.Taken unbuilt = refl
 ungranted_unsolicited spec sid replies.Noted unbuilt = refl
+ungranted_unsolicited spec sid replies.Reserved unbuilt = refl
 ungranted_unsolicited spec sid (replies.Flow asked granted outstanding) unbuilt = refl
 ungranted_unsolicited spec sid (replies.Refused refusal) unbuilt = refl
 

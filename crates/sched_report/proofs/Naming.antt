@@ -75,27 +75,37 @@ unnamed-other sid named (calls.Ask receiver other bytes heard) replies.Taken is 
     record { stays = refl; silent = none_under (other == sid) _ fails; ungranted = refl; unsolicited = λ spec. refl }
 unnamed-other sid named call reply is apart = absurd (cc)
 
--- elements of other SIDs are no data grants to this one
+-- what stands under a test that fails beside another
+none_beside : {X : Type 0} (b : Bool) (x : X) → (if b && false then Some x else None) ≡ None
+none_beside true x = refl
+none_beside false x = refl
+
+-- an element without bytes is no data grant, nor is one of another SID
+no_grant : (sid start b : ℕ) (e : Element) → (0 < b → e.sid ≡ sid → ⊥) → grant_by sid start (e, b) ≡ None
+no_grant sid start zero e other = none_beside (e.sid == sid) (record { start = start + e.offset; bytes = 0 })
+no_grant sid start (suc b) e other =
+    ap (λ t. if t && nat_lt 0 (suc b) then Some (record { start = start + e.offset; bytes = suc b }) else None)
+    (ne_eqb e.sid sid (other (omega arith)))
+
+-- elements of other SIDs or without bytes are no data grants to this one
 no_grants : (sid start : ℕ) (es : List Element) (bs : List ℕ)
-    → ((k : ℕ) (e : Element) → k < length es → (get_or es k e).sid ≡ sid → ⊥)
+    → ((k : ℕ) (e : Element) → k < length es → 0 < get_or bs k 1 → (get_or es k e).sid ≡ sid → ⊥)
     → filter_map (grant_by sid start) (zip es bs) ≡ []
 no_grants sid start [] bs others = refl
 no_grants sid start (e ∷ es) [] others = refl
 no_grants sid start (e ∷ es) (b ∷ bs) others =
-    let fails : (e.sid == sid) ≡ false = ne_eqb e.sid sid (others 0 e (omega arith)) in
-    let none : grant_by sid start (e, b) ≡ None =
-    ap (λ t. if t && nat_lt 0 b then Some (record { start = start + e.offset; bytes = b }) else None) fails in
+    let none : grant_by sid start (e, b) ≡ None = no_grant sid start b e (others 0 e (omega arith)) in
     ap (λ (g : Option Grant). cons_option g (filter_map (grant_by sid start) (zip es bs))) none
     ∙ no_grants sid start es bs (λ k d below. others (suc k) d (omega (arith, below)))
 
-module _ (sid : ℕ) (es : List Element)
-    (others : (k : ℕ) (e : Element) → k < length es → (get_or es k e).sid ≡ sid → ⊥) where
-  -- nor are their allocations unsolicited grants to it
-  no_allocations : (n : ℕ) → n ≤ length es → count_by (is_grant_to sid) (first_allocations es n) ≡ 0
+module _ (sid : ℕ) (es : List Element) (front : ℕ) (within_all : front ≤ length es)
+    (others : (k : ℕ) (e : Element) → k < length es → k < front → (get_or es k e).sid ≡ sid → ⊥) where
+  -- nor are the allocations of such elements in front unsolicited grants to it
+  no_allocations : (n : ℕ) → n ≤ front → count_by (is_grant_to sid) (first_allocations es n) ≡ 0
   no_allocations zero within = refl
   no_allocations (suc n) within =
       let a : Allocation = allocation_at es n in
-      let fails : (a.sid == sid) ≡ false = ne_eqb a.sid sid (others n no_element (omega (arith, within))) in
+      let fails : (a.sid == sid) ≡ false = ne_eqb a.sid sid (others n no_element (omega (arith, within, within_all)) (omega (arith, within))) in
       let none : is_grant_to sid a ≡ false = ap (λ t. t && is_unsolicited (use_of a.sid a.iuc true)) fails in
       omega (
         arith,
@@ -106,12 +116,13 @@ module _ (sid : ℕ) (es : List Element)
         no_allocations n (omega (arith, within)),
       )
 
--- so a MAP without an element of this SID grants nothing to its flow, whatever that is
+-- so a MAP without an element of this SID in front grants nothing unsolicited to its flow, whatever that is
 no_unsolicited : (sid : ℕ) (m : FrameMap)
-    → ((k : ℕ) (e : Element) → k < length m.wire.elements → (get_or m.wire.elements k e).sid ≡ sid → ⊥)
-    → (spec : FlowSpec) → unsolicited_of_map spec sid m ≡ 0
+    → ((k : ℕ) (e : Element) → k < length m.wire.elements → k < front_length m.wire.elements
+    → (get_or m.wire.elements k e).sid ≡ sid → ⊥) → (spec : FlowSpec) → unsolicited_of_map spec sid m ≡ 0
 no_unsolicited sid m others (flows.Unsolicited size interval jitter grants) =
-    no_allocations sid m.wire.elements others (front_length m.wire.elements) (front_length-≤ m.wire.elements)
+    no_allocations sid m.wire.elements (front_length m.wire.elements) (front_length-≤ m.wire.elements) others
+    (front_length m.wire.elements) (omega arith)
 no_unsolicited sid m others (flows.Polled interval jitter rate burst) = refl
 no_unsolicited sid m others (flows.BestEffort priority rate burst) = refl
 
@@ -125,16 +136,18 @@ built_request : (sid : ℕ) (call : Call) (m : FrameMap) → request_by sid call
 built_request sid (calls.Ask receiver other bytes heard) m = refl
 built_request sid call m = refl
 
--- a MAP without an element of this SID
+-- a MAP without an element of this SID, but for those behind the front without bytes
 pub unnamed-map : (sid : ℕ) (call : Call) (reply : Reply) (m : FrameMap) → reply ≡ replies.Built m
-    → ((k : ℕ) (e : Element) → k < length m.wire.elements → (get_or m.wire.elements k e).sid ≡ sid → ⊥)
-    → IsUnnamed sid call reply
-unnamed-map sid call reply m built others =
+    → ((k : ℕ) (e : Element) → k < length m.wire.elements → k < front_length m.wire.elements
+    → (get_or m.wire.elements k e).sid ≡ sid → ⊥)
+    → ((k : ℕ) (e : Element) → k < length m.wire.elements → 0 < get_or m.bytes k 1
+    → (get_or m.wire.elements k e).sid ≡ sid → ⊥) → IsUnnamed sid call reply
+unnamed-map sid call reply m built ahead others =
     subst (IsUnnamed sid call) (sym built) (record {
       stays = built_turn sid call m;
       silent = built_request sid call m;
       ungranted = no_grants sid m.start m.wire.elements m.bytes others;
-      unsolicited = no_unsolicited sid m others;
+      unsolicited = no_unsolicited sid m ahead;
     })
 
 -- a life whose SID an entry does not name goes on as it was

@@ -2,6 +2,7 @@
 use Rattle.std.specs.Prelude.{◌≡◌, ℕ, ◌+◌, ◌<◌, ◌==◌, Bool, true, false, List, length, count_by, slice_index}
 use Rattle.sched_history.specs.declared.call.Call.{Call}
 use Rattle.sched_history.specs.declared.call.Call.TheVariants.{Admit, Remove, Ask, Heard, Build, Skip, Status}
+use Rattle.sched_history.specs.declared.call.Call.TheVariants.{Reserve, Header}
 use Rattle.sched_history.specs.declared.reply.Reply.{Reply}
 use Rattle.sched_history.specs.declared.reply.Reply.TheVariants.{Refused}
 use Rattle.sched_history.specs.declared.reply.Entry.{Entry}
@@ -43,6 +44,16 @@ abbrev pub is_status : Call → Bool
 is_status (Status sid) = true
 is_status call = false
 
+-- the call reserves an opportunity
+abbrev pub is_reserve : Call → Bool
+is_reserve (Reserve usage slots) = true
+is_reserve call = false
+
+-- the call sets the header of the MAPs that follow
+abbrev pub is_header : Call → Bool
+is_header (Header count ranging_start ranging_end data_start data_end) = true
+is_header call = false
+
 -- how many calls of a kind there are, whatever their replies
 abbrev pub calls_with : (Call → Bool) → List Entry → ℕ
 calls_with kind h = count_by (λ e. kind e.call) h
@@ -53,8 +64,10 @@ calls_of h = record {
   admit = calls_with is_admit h;
   ask = calls_with is_ask h;
   build = calls_with is_build h;
+  header = calls_with is_header h;
   heard = calls_with is_heard h;
   remove = calls_with is_remove h;
+  reserve = calls_with is_reserve h;
   skip = calls_with is_skip h;
   status = calls_with is_status h;
 }
@@ -70,5 +83,5 @@ refusals_with number h = count_by (λ e. is_refusal number e.reply) h
 
 -- so many refusals there are with each number: with 1 at the first place, and so on
 pub record CountsRefusals (counts : List ℕ) (h : List Entry) : Type 0 where
-  pub places : length counts ≡ 17
-  pub each : (place : ℕ) → place < 17 → slice_index counts place ≡ refusals_with (place + 1) h
+  pub places : length counts ≡ 20
+  pub each : (place : ℕ) → place < 20 → slice_index counts place ≡ refusals_with (place + 1) h

@@ -10,6 +10,7 @@ pub mod Served
 pub mod Lives
 pub mod Said
 pub mod Ranks
+pub mod RanksTold
 pub mod Told
 pub mod Named
 pub mod Live

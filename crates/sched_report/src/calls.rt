@@ -9,7 +9,7 @@ use sched_history::{Call, Entry, Reply};
 use sched_lines::refusal_number;
 
 /// How many numbers a refusal may have: they are counted from 1.
-pub const REFUSALS: usize = 17;
+pub const REFUSALS: usize = 20;
 
 /// How many calls of each kind there were, refused ones among them.
 #[derive(Clone, Copy)]
@@ -20,10 +20,14 @@ pub struct Calls {
     pub ask: u64,
     /// Builds of MAPs.
     pub build: u64,
+    /// Headers of the MAPs that follow.
+    pub header: u64,
     /// Notices of the minislot before which a receiver has handed in all that it heard.
     pub heard: u64,
     /// Removals of flows.
     pub remove: u64,
+    /// Reserves of opportunities.
+    pub reserve: u64,
     /// Calls that leave out the frames whose MAP would be late.
     pub skip: u64,
     /// Questions for the bytes of a flow.
@@ -39,8 +43,10 @@ impl Calls {
             admit: 0,
             ask: 0,
             build: 0,
+            header: 0,
             heard: 0,
             remove: 0,
+            reserve: 0,
             skip: 0,
             status: 0,
         }
@@ -56,8 +62,10 @@ impl Calls {
             Call::Admit(..) => self.admit += 1,
             Call::Ask { .. } => self.ask += 1,
             Call::Build { .. } => self.build += 1,
+            Call::Header { .. } => self.header += 1,
             Call::Heard { .. } => self.heard += 1,
             Call::Remove(_) => self.remove += 1,
+            Call::Reserve { .. } => self.reserve += 1,
             Call::Skip { .. } => self.skip += 1,
             Call::Status(_) => self.status += 1,
         }

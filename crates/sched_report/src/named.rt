@@ -5,6 +5,7 @@ ghost use Rattle.map_codec.specs.declared.element.Element.{Element as Entered};
 ghost use Rattle.sched_report.specs.Named.{named_by, is_marked, TellsNamed};
 
 use map_codec::Element;
+use map_drawing::front_len;
 use sched_history::{Call, Entry, Reply};
 
 // How many marks there are. SIDs that differ by a multiple of it share one.
@@ -29,13 +30,25 @@ fn mark(marks: &mut Marks, sid: u16)
     marks[usize::from(sid % MARKS)] = true;
 }
 
-// Marks the SIDs of elements.
-fn mark_each(marks: &mut Marks, elements: &[Element])
-    ensures { (k : ℕ) (e : Entered) → k < length elements.now
+// Whether the element at a place is not known to have no bytes.
+fn may_have_bytes(bytes: &[u32], place: usize) -> bool
+    ensures { 0 < slice_index_or bytes.now place 1 → result ≡ true }
+{
+    place >= bytes.len() || bytes[place] > 0
+}
+
+// Marks the SIDs of so many elements in front, and of those behind them that have bytes: no other is granted anything.
+fn mark_each(marks: &mut Marks, elements: &[Element], bytes: &[u32], front: usize)
+    ensures front { (k : ℕ) (e : Entered) → k < length elements.now → k < front
+        → is_marked marks.new (slice_index_or elements.now k e).sid ≡ true }
+    ensures granted { (k : ℕ) (e : Entered) → k < length elements.now
+        → 0 < slice_index_or bytes.now k 1
         → is_marked marks.new (slice_index_or elements.now k e).sid ≡ true }
 {
     for i in 0..elements.len() {
-        mark(marks, elements[i].sid);
+        if i < front || may_have_bytes(bytes, i) {
+            mark(marks, elements[i].sid);
+        }
     }
 }
 
@@ -57,7 +70,13 @@ pub(crate) fn marks_of(entry: &Entry) -> Marks
 {
     let mut marks = [false; 256];
     if let Reply::Built(map) = &entry.reply {
-        mark_each(&mut marks, map.wire.elements.as_slice());
+        let elements = map.wire.elements.as_slice();
+        mark_each(
+            &mut marks,
+            elements,
+            map.bytes.as_slice(),
+            front_len(elements),
+        );
         return marks;
     }
     if let Some(sid) = named_by(entry) {

@@ -122,7 +122,7 @@ impl Reporter {
         totals
     }
 
-    /// How many refusals with each number there are among the entries that were taken: with 1 first, with 17 last.
+    /// How many refusals with each number there are among the entries that were taken: with 1 first, with 20 last.
     pub fn refused(&self) -> &[u64]
         ensures { CountsRefusals result.now self.now.history }
     {

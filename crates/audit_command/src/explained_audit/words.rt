@@ -3,7 +3,7 @@
 ghost use Rattle.sched_history.specs.Machine.{IsEncodable};
 
 use decode_command::put_table;
-use map_build::FrameMap;
+use map_build::{FrameMap, Usage};
 use sched_history::{Call, Entry, Reply, Unrecorded};
 use sched_lines::LineBuffer;
 use std::alloc::{AllocError, Global};
@@ -36,6 +36,28 @@ fn tell_call(words: &mut String, call: Call) -> Result<(), AllocError> {
         Call::Build { now } => writeln!(words, "build at {now}"),
         Call::Skip { now } => writeln!(words, "skip at {now}"),
         Call::Status(sid) => writeln!(words, "status of SID {sid}"),
+        Call::Reserve {
+            usage: Usage::Initial,
+            slots,
+        } => writeln!(words, "reserve {slots} minislots of initial maintenance"),
+        Call::Reserve {
+            usage: Usage::Station(sid),
+            slots,
+        } => writeln!(
+            words,
+            "reserve {slots} minislots of station maintenance to SID {sid}"
+        ),
+        Call::Header {
+            ucd_count,
+            ranging_start,
+            ranging_end,
+            data_start,
+            data_end,
+        } => writeln!(
+            words,
+            "header with UCD count {ucd_count}, ranging backoff {ranging_start} to {ranging_end}, data backoff \
+             {data_start} to {data_end}"
+        ),
     }
 }
 
@@ -98,6 +120,7 @@ fn show(alloc: Global, reply: &Reply) -> Result<Shown, AllocError> {
         | Reply::Removed
         | Reply::Taken
         | Reply::Noted
+        | Reply::Reserved
         | Reply::Skipped(_)
         | Reply::Flow { .. }
         | Reply::Refused(_) => Ok(Shown {

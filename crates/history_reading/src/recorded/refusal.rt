@@ -39,6 +39,9 @@ fn plain_refusal(number: u64) -> Option<Refusal>
         9 => Refusal::BadReceiver,
         10 => Refusal::BadBytes,
         14 => Refusal::BadClock,
+        18 => Refusal::BadLength,
+        19 => Refusal::ReservesFull,
+        20 => Refusal::BadBackoff,
         _ => return None,
     })
 }

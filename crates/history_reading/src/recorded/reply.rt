@@ -151,6 +151,7 @@ pub fn reply_of<T: Tree>(alloc: Global, value: &T) -> Result<Option<Reply>, Allo
         "skipped" => skipped_reply(value),
         "flow" => flow_reply(value),
         "refused" => refused_reply(value),
+        "reserved" => Some(Reply::Reserved),
         _ => None,
     })
 }

@@ -7,6 +7,7 @@ ghost use Rattle.history_writing.specs.Tokens.{tokens_of};
 use super::count::{put_counts, put_name, put_named};
 use flow_book::FlowSpec;
 use json::Writer;
+use map_build::Usage;
 use sched_history::Call;
 use std::alloc::AllocError;
 
@@ -24,6 +25,18 @@ static ASK: [&str; 4] = ["bytes", "heard", "receiver", "sid"];
 static HEARD: [&str; 2] = ["receiver", "upto"];
 
 static NOW: [&str; 1] = ["now"];
+
+static SLOTS: [&str; 1] = ["slots"];
+
+static SID_AND_SLOTS: [&str; 2] = ["sid", "slots"];
+
+static HEADER: [&str; 5] = [
+    "data_end",
+    "data_start",
+    "ranging_end",
+    "ranging_start",
+    "ucd_count",
+];
 
 // Writes the parameters of a flow, by its kind.
 #[tactic(auto, unfolding(crate::specs::Json::flow_data))]
@@ -85,6 +98,28 @@ fn put_admit(out: &mut Writer, sid: u16, flow: FlowSpec) -> Result<(), AllocErro
     out.end_object()
 }
 
+// Writes a Reserve: for a modem's opportunity with its SID.
+#[tactic(auto, unfolding(crate::specs::Json::call_data))]
+fn put_reserve(out: &mut Writer, usage: Usage, slots: u32) -> Result<(), AllocError>
+    ensures ok { OnOk result (out.new.tokens
+        ≡ out.old.tokens ++ tokens_of (call_data (Call.Reserve usage slots))) }
+    ensures before { out.new.before ≡ out.old.before }
+{
+    out.begin_object()?;
+    put_name(out, "call", "reserve")?;
+    match usage {
+        Usage::Initial => {
+            put_counts(out, &SLOTS, &[slots as u64])?;
+            put_name(out, "usage", "initial")?;
+        }
+        Usage::Station(sid) => {
+            put_counts(out, &SID_AND_SLOTS, &[sid as u64, slots as u64])?;
+            put_name(out, "usage", "station")?;
+        }
+    }
+    out.end_object()
+}
+
 /// Writes a call, by its name.
 #[tactic(auto, unfolding(crate::specs::Json::call_data))]
 pub fn put_call(out: &mut Writer, call: Call) -> Result<(), AllocError>
@@ -109,5 +144,22 @@ pub fn put_call(out: &mut Writer, call: Call) -> Result<(), AllocError>
         Call::Build { now } => put_named(out, "call", "build", 0, &NOW, &[now]),
         Call::Skip { now } => put_named(out, "call", "skip", 0, &NOW, &[now]),
         Call::Status(sid) => put_named(out, "call", "status", 0, &SID, &[sid as u64]),
+        Call::Reserve { usage, slots } => put_reserve(out, usage, slots),
+        Call::Header {
+            ucd_count,
+            ranging_start,
+            ranging_end,
+            data_start,
+            data_end,
+        } => {
+            let numbers = [
+                data_end as u64,
+                data_start as u64,
+                ranging_end as u64,
+                ranging_start as u64,
+                ucd_count as u64,
+            ];
+            put_named(out, "call", "header", 0, &HEADER, &numbers)
+        }
     }
 }

@@ -117,6 +117,7 @@ pub fn put_reply(out: &mut Writer, reply: &Reply) -> Result<(), AllocError>
         Reply::Removed => put_plain(out, "removed"),
         Reply::Taken => put_plain(out, "taken"),
         Reply::Noted => put_plain(out, "noted"),
+        Reply::Reserved => put_plain(out, "reserved"),
         Reply::Built(frame) => put_map(out, "map", frame),
         Reply::Skipped(next) => put_named(out, "kind", "skipped", 0, &NEXT, &[*next]),
         Reply::Flow {

@@ -85,6 +85,15 @@ fn push_lives(
     Ok(())
 }
 
+// In which order the lives stand.
+fn push_order(words: &mut String, all: bool) -> Result<(), AllocError> {
+    if all {
+        words.push_str("\nflows, in the order of their admissions:\n")
+    } else {
+        words.push_str("\nflows, those first that asked for the most bytes:\n")
+    }
+}
+
 // The lives of flows, all of them or those that asked most.
 pub(crate) fn push_flows(
     words: &mut String,
@@ -96,9 +105,8 @@ pub(crate) fn push_flows(
     if lives.is_empty() {
         return Ok(());
     }
-    words.push_str(
-        "\nflows: bits per second asked, granted and at most; delays in milliseconds\n",
-    )?;
+    push_order(words, all)?;
+    words.push_str("bits per second asked, granted and at most; delays in milliseconds\n")?;
     words.push_str(
         " SID kind   asked/s  granted  ceiling   asks wait drop  middle     p99    most\n",
     )?;

@@ -1,8 +1,7 @@
 //! The requests by the rank in which they were served.
 
-use crate::gathered::RankTold;
 use crate::text::{push_left, push_ms, push_number};
-use sched_report::POLLED;
+use sched_report::{POLLED, RankTold};
 use std::alloc::{AllocError, Global};
 use std::fmt::Write;
 

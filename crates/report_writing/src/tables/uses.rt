@@ -42,8 +42,8 @@ fn push_use(
 // How many calls there were of a kind.
 fn push_call(words: &mut String, alloc: Global, name: &str, count: u64) -> Result<(), AllocError> {
     push_left(words, "", 8)?;
-    push_left(words, name, 6)?;
-    push_number(words, alloc, u128::from(count), 12)?;
+    push_left(words, name, 7)?;
+    push_number(words, alloc, u128::from(count), 11)?;
     words.push('\n')
 }
 
@@ -78,6 +78,10 @@ pub(crate) fn push_uses(
     push_call(words, alloc, "build", calls.build)?;
     push_use(words, alloc, "idle", slots.idle, all)?;
     push_call(words, alloc, "skip", calls.skip)?;
+    push_left(words, "", 34)?;
+    push_call(words, alloc, "reserve", calls.reserve)?;
+    push_left(words, "", 34)?;
+    push_call(words, alloc, "header", calls.header)?;
     push_left(words, "", 34)?;
     push_call(words, alloc, "status", calls.status)
 }

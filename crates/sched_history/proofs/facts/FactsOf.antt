@@ -11,6 +11,7 @@ use Rattle.sched_history.proofs.time.AckTimes.{heard_after}
 use Rattle.sched_history.proofs.facts.SoundLives.{within_asked, within_rate}
 use Rattle.sched_history.proofs.facts.OnTime.{on_time}
 use Rattle.sched_history.proofs.facts.Orderly.{orderly}
+use Rattle.sched_history.proofs.facts.Ranging.{ranging}
 
 -- what holds after the entries of a legal history
 pub holds_after : (c : Config) (h : List Entry) → IsLawful c → IsLegal c h → HoldsAfter c h
@@ -21,6 +22,7 @@ holds_after c h lawful legal = record {
   starts_ascend = starts_ascend c h legal;
   on_time = on_time c lawful h legal;
   heard_after = heard_after c h legal;
+  ranging = ranging c h legal;
 }
 
 -- so too after each front of them

@@ -14,18 +14,24 @@ use Rattle.periodic.specs.Placement.{Placed, phase_of, starts_in, spot_at, spots
 use Rattle.periodic.proofs.Frames.{IsStartIn, starts-here, in-cycle}
 use Rattle.periodic.proofs.Joined.{all-map}
 use Rattle.map_build.specs.EachAfter.{EachAfter}
-use Rattle.map_build.specs.Plan.{Purpose, Poll, UnsolicitedGrant, DataGrant, Idle}
-use Rattle.map_build.specs.Plan.{Allocation, flows_after, Stands, StandsByItsRule}
-use Rattle.map_build.specs.FrameMap.{broadcast, request_region, element_for, element_of}
-use Rattle.map_build.specs.FrameMap.{bytes_for, null_element, pending_of, pending, map_of}
+use Rattle.map_build.specs.declared.opportunity.Header.{Header}
+use Rattle.map_build.specs.declared.opportunity.Usage.{Usage}
+use Rattle.map_build.specs.declared.opportunity.Usage.TheVariants.{Initial, Station}
+use Rattle.map_build.specs.declared.purpose.Allocation.{Allocation}
+use Rattle.map_build.specs.declared.purpose.Purpose.{Purpose}
+use Rattle.map_build.specs.declared.purpose.Purpose.TheVariants.{Poll, UnsolicitedGrant, Offer, DataGrant, Idle}
+use Rattle.map_build.specs.Purpose.{broadcast, kind_of, element_of, bytes_in}
+use Rattle.map_build.specs.Plan.{Demand, flows_after, IsOfRank, Stands}
+use Rattle.map_build.specs.FrameMap.{request_region, null_element, pending_of, pending, map_of}
 use Rattle.sched_history.specs.declared.call.Call.{Call}
 use Rattle.sched_history.specs.declared.reply.Reply.{Reply}
 use Rattle.sched_history.specs.declared.reply.Reply.TheVariants as replies
 use Rattle.sched_history.specs.declared.reply.Entry.{Entry}
-use Rattle.sched_history.specs.Life.{flows_of, table_of}
+use Rattle.sched_history.specs.Life.{table_of}
 use Rattle.sched_history.specs.Time.{next_after, ack_after}
 use Rattle.sched_history.specs.Refusal.{bad_sid}
-use Rattle.sched_history.specs.History.{IsNextMap, IsStep, IsLegal}
+use Rattle.sched_history.specs.Reserves.{is_opportunity, header_after}
+use Rattle.sched_history.specs.History.{demand_after, IsNextMap, IsStep, IsLegal}
 use Rattle.sched_history.specs.Facts.{IsPeriodic, IsOnTime, KeepsTimes}
 use Rattle.sched_history.proofs.steps.LegalHistories.{IsNextMap-from_step, EachAfter-from_legal}
 use Rattle.sched_history.proofs.steps.LegalBounds.{next_after-aligned}
@@ -33,6 +39,7 @@ use Rattle.map_build.proofs.SameSpots.{all-members}
 use Rattle.sched_history.proofs.lists.Members.{all-flat_map}
 use Rattle.sched_history.proofs.placements.NominalTimes.{reference_past, interval_divides, place_rest, nominal-start}
 use Rattle.sched_history.proofs.placements.PlacedLives.{WasPlaced, table_placed}
+use Rattle.sched_history.proofs.reserves.Offers.{element_for}
 
 -- a spot of a placed flow, in a frame that starts there, is on time
 module _ (c : Config) (conf : IsLawful c) (table : List Placed) (start : ℕ) (aligned : start % c.frame ≡ 0)
@@ -94,29 +101,41 @@ timely-pending c table start (f ∷ flows) [] = tt
 timely-pending c table start (f ∷ flows) (b ∷ bs) =
     ((λ periodic. absurd (omega (arith, periodic.in_frame))), timely-pending c table start flows bs)
 
-module _ (c : Config) (flows : List LiveFlow) (table : List Placed) (start : ℕ)
-    (spots_timely : (s : Spot) (e : Element) → Contains (spots_in c (start / c.frame) table) s → e.sid ≡ s.sid
+offer-is : (c : Config) (offset slots place : ℕ) (usage : Usage)
+    → is_opportunity (element_for c offset slots (Offer place usage)) ≡ true
+offer-is c offset slots place Initial = refl
+offer-is c offset slots place (Station sid) = refl
+
+module _ (c : Config) (d : Demand) (table : List Placed) (same : d.spots ≡ spots_in c (d.start / c.frame) table)
+    (spots_timely : (s : Spot) (e : Element) → Contains (spots_in c (d.start / c.frame) table) s → e.sid ≡ s.sid
     → e.offset ≡ s.offset
-    → (flow : Placed) × IsOnTime c table start e flow) where
+    → (flow : Placed) × IsOnTime c table d.start e flow) where
+  timely-spot : (s : Spot) (e : Element) → Contains d.spots s → e.sid ≡ s.sid → e.offset ≡ s.offset
+      → (flow : Placed) × IsOnTime c table d.start e flow
+  timely-spot s e member sid offset =
+      spots_timely s e (subst (λ spots. Contains spots s) same member) sid offset
+
   -- an allocation's element
   timely-element : (before : List Allocation) (offset slots : ℕ) (purpose : Purpose)
-      → StandsByItsRule c flows (spots_in c (start / c.frame) table) start before offset slots purpose
-      → IsTimely c table start (element_for c offset slots purpose, bytes_for purpose)
+      → IsOfRank c d before offset slots purpose
+      → IsTimely c table d.start (element_for c offset slots purpose, (kind_of c slots purpose).bytes)
   timely-element before offset slots (Poll sid) stands periodic =
-      spots_timely (record { sid = sid; poll = true; offset = offset; slots = slots })
+      timely-spot (record { sid = sid; poll = true; offset = offset; slots = slots })
       (element_for c offset slots (Poll sid)) stands refl refl
   timely-element before offset slots (UnsolicitedGrant sid) stands periodic =
-      spots_timely (record { sid = sid; poll = false; offset = offset; slots = slots })
+      timely-spot (record { sid = sid; poll = false; offset = offset; slots = slots })
       (element_for c offset slots (UnsolicitedGrant sid)) stands refl refl
+  timely-element before offset slots (Offer place usage) stands periodic =
+      absurd (let is = offer-is c offset slots place usage in let isnt = periodic.unreserved in cc)
   timely-element before offset slots (DataGrant sid bytes) stands periodic =
       absurd (omega (arith, stands.4.allowed.positive, periodic.unasked))
   timely-element before offset slots Idle stands periodic = absurd (unaddressed periodic.to_flow)
 
   -- the elements of a plan, with timely ones behind
   timely-plan : (before plan : List Allocation) (es : List Element) (bs : List ℕ)
-      → EachAfter (Stands c flows (spots_in c (start / c.frame) table) start) before plan
-      → AllByRecursion (IsTimely c table start) (zip es bs) → AllByRecursion (IsTimely c table start)
-      (zip (map (element_of c) plan ++ es) (map (λ a. bytes_for a.purpose) plan ++ bs))
+      → EachAfter (Stands c d) before plan
+      → AllByRecursion (IsTimely c table d.start) (zip es bs) → AllByRecursion (IsTimely c table d.start)
+      (zip (map (element_of c) plan ++ es) (map (bytes_in c) plan ++ bs))
   timely-plan before [] es bs each timely = timely
   timely-plan before (a ∷ plan) es bs each timely = (
     timely-element before a.offset a.slots a.purpose each.0.purpose,
@@ -124,18 +143,17 @@ module _ (c : Config) (flows : List LiveFlow) (table : List Placed) (start : ℕ
   )
 
   -- the elements of the MAP of a plan
-  timely-map : (ack : ℕ) (plan : List Allocation)
-      → EachAfter (Stands c flows (spots_in c (start / c.frame) table) start) [] plan
-      → KeepsTimes c table (replies.Built (map_of c flows start ack plan))
-  timely-map ack plan each =
-      let tail : List Element = pending c (flows_after start plan flows) in
-      let waiting : List LiveFlow =
-      filter (λ (f : LiveFlow). nat_lt 0 (outstanding f)) (flows_after start plan flows) in (
+  timely-map : (header : Header) (ack : ℕ) (plan : List Allocation) → EachAfter (Stands c d) [] plan
+      → KeepsTimes c table (replies.Built (map_of c d header ack plan))
+  timely-map header ack plan each =
+      let tail : List Element = pending c (flows_after d.start plan d.flows) in
+      let asking : List LiveFlow =
+      filter (λ (f : LiveFlow). nat_lt 0 (outstanding f)) (flows_after d.start plan d.flows) in (
         (λ (periodic : IsPeriodic c request_region 0). absurd
             (let bad : bad_sid broadcast ≡ false = periodic.to_flow in cc)),
         timely-plan [] plan (null_element c ∷ tail) (0 ∷ map (λ e. 0) tail) each (
           (λ periodic. absurd (unaddressed periodic.to_flow)),
-          timely-pending c table start waiting (map (λ e. 0) tail),
+          timely-pending c table d.start asking (map (λ e. 0) tail),
         ),
       )
 
@@ -145,8 +163,8 @@ module _ (c : Config) (conf : IsLawful c) where
   timely_by h call (replies.Built m) legal step =
       let next : IsNextMap c h m = IsNextMap-from_step c h call m step in
       subst (λ m. KeepsTimes c (table_of h) (replies.Built m)) (sym next.2)
-      (timely-map c (flows_of h) (table_of h) (next_after c h) (spot_on_time c conf (table_of h) (next_after c h)
-      (next_after-aligned c conf h legal) (table_placed c h legal)) (ack_after c h) next.0 next.1.each)
+      (timely-map c (demand_after c h) (table_of h) refl (spot_on_time c conf (table_of h) (next_after c h)
+      (next_after-aligned c conf h legal) (table_placed c h legal)) (header_after c h) (ack_after c h) next.0 next.1.each)
   timely_by h call reply legal step = tt
 
   -- every poll and unsolicited grant is on time

@@ -16,13 +16,17 @@ use Rattle.periodic.specs.declared.placement.Spot.{Spot}
 use Rattle.periodic.specs.Placement.{Placed, starts_in, spot_at, spots_of, spots_in}
 use Rattle.periodic.proofs.Joined.{all-map}
 use Rattle.map_build.specs.declared.frame_map.FrameMap.{FrameMap}
-use Rattle.map_build.specs.Plan.{Allocation, flow_after, flows_after, IsPlan}
-use Rattle.map_build.specs.FrameMap.{element_of, null_element, pending_of, pending, elements_of}
+use Rattle.map_build.specs.declared.TheConstants.{MAX_WAITING}
+use Rattle.map_build.specs.declared.purpose.Allocation.{Allocation}
+use Rattle.map_build.specs.Purpose.{element_of}
+use Rattle.map_build.specs.Plan.{Demand, flow_after, flows_after, IsPlan}
+use Rattle.map_build.specs.FrameMap.{null_element, pending_of, pending, elements_of}
+use Rattle.map_build.proofs.Counts.{length-plan}
 use Rattle.map_build.proofs.WellFormed.{HaveSids, HaveSpotSids}
 use Rattle.sched_history.specs.declared.reply.Entry.{Entry}
 use Rattle.sched_history.specs.Life.{flows_of, table_of}
 use Rattle.sched_history.specs.Time.{next_after}
-use Rattle.sched_history.specs.History.{IsNextMap, map_by, IsStep, IsLegal}
+use Rattle.sched_history.specs.History.{demand_after, IsNextMap, map_by, IsStep, IsLegal}
 use Rattle.sched_history.specs.Facts.{maps_of, IsOrderly}
 use Rattle.sched_history.proofs.steps.LegalHistories.{Builds, Skips, Stays, change_by_step, legal_induction}
 use Rattle.sched_history.proofs.time.NextFrames.{maps_of-built, maps_of-unbuilt}
@@ -30,8 +34,8 @@ use Rattle.sched_history.proofs.lists.Numbered.{filter_map-below}
 use Rattle.sched_history.proofs.lives.Finding.{sids-range, flow_at, flow_at-sid, placed_at, placed_at-sid}
 use Rattle.map_build.proofs.SameSpots.{all-members}
 use Rattle.sched_history.proofs.lists.Members.{all-flat_map}
-use Rattle.sched_history.proofs.plans.Fronts.{HasFront-plan}
-use Rattle.sched_history.proofs.plans.PlanCounts.{length-plan, length-bytes_of_plan}
+use Rattle.sched_history.proofs.plans.Fronts.{HasFront-plan, IsUnasked-plan, length-bytes_of_plan}
+use Rattle.sched_history.proofs.reserves.GoodReserves.{MayWait-legal, HaveStationSids-legal}
 use Rattle.sched_history.proofs.placements.SpotsFew.{spots-few}
 use Rattle.sched_history.proofs.steps.LegalBounds.{flows_of-few}
 
@@ -57,13 +61,13 @@ spots_in-in_range c k h =
     all-map fits (spot_at c flow) starts (all-members (λ start. flow.sid < 2 ^ 14) starts (λ start here. sid)))
 
 -- the elements of a plan's MAP: the request region, the allocations, the Null and the pending grants
-length-elements : (c : Config) (flows : List LiveFlow) (spots : List Spot) (start : ℕ) (plan : List Allocation)
-    → IsPlan c flows spots start plan → length flows ≤ MAX_FLOWS → length spots ≤ MAX_PERIODIC_GRANTS
-    → length (elements_of c flows start plan) ≤ 240
-length-elements c flows spots start plan is few few_spots =
-    let after : List LiveFlow = flows_after start plan flows in
-    let waiting : List LiveFlow = filter (λ (f : LiveFlow). nat_lt 0 (outstanding f)) after in
-    let kept : length waiting ≤ length after =
+length-elements : (c : Config) (d : Demand) (plan : List Allocation) → 0 < c.overhead → IsPlan c d plan
+    → length d.flows ≤ MAX_FLOWS → length d.spots ≤ MAX_PERIODIC_GRANTS → length d.waiting ≤ MAX_WAITING
+    → length (elements_of c d.flows d.start plan) ≤ 240
+length-elements c d plan overhead is few few_spots few_waiting =
+    let after : List LiveFlow = flows_after d.start plan d.flows in
+    let asking : List LiveFlow = filter (λ (f : LiveFlow). nat_lt 0 (outstanding f)) after in
+    let kept : length asking ≤ length after =
     omega (
       arith,
       length-filter (λ (f : LiveFlow). nat_lt 0 (outstanding f)) after,
@@ -74,27 +78,28 @@ length-elements c flows spots start plan is few few_spots =
       few,
       few_spots,
       kept,
-      length-plan c flows spots start plan is,
-      length-map flows (flow_after start plan),
+      length-plan c d overhead plan few_waiting is.each,
+      length-map d.flows (flow_after d.start plan),
       length-append (map (element_of c) plan) (null_element c ∷ pending c after),
       length-map plan (element_of c),
-      length-map waiting (pending_of c),
+      length-map asking (pending_of c),
     )
 
 module _ (c : Config) (conf : IsLawful c) where
   -- the next MAP is orderly
   pub next_orderly : (h : List Entry) (m : FrameMap) → IsLegal c h → IsNextMap c h m → IsOrderly c m
   next_orderly h m legal next =
-      let spots : List Spot = spots_in c (next_after c h / c.frame) (table_of h) in
+      let d : Demand = demand_after c h in
       let bounds : HasBounds c = bounds_of c conf in
       subst (IsOrderly c) (sym next.2) (record {
-        within = length-elements c (flows_of h) spots (next_after c h) next.0 next.1 (flows_of-few c conf h legal)
-            (spots-few c conf (next_after c h / c.frame) h legal);
-        counted = length-bytes_of_plan c (flows_of h) (next_after c h) next.0;
-        front = HasFront-plan c (flows_of h) spots (next_after c h) next.0
+        within = length-elements c d next.0 bounds.overhead_positive next.1 (flows_of-few c conf h legal)
+            (spots-few c conf (next_after c h / c.frame) h legal) (MayWait-legal c h legal).few;
+        counted = length-bytes_of_plan c d next.0;
+        unasked = IsUnasked-plan c d next.0;
+        front = HasFront-plan c d next.0
             (omega (arith, bounds.frame_most)) bounds.requests_positive
             (flows_of-in_range h)
-            (spots_in-in_range c (next_after c h / c.frame) h) next.1;
+            (spots_in-in_range c (next_after c h / c.frame) h) (HaveStationSids-legal c h legal) next.1;
       })
 
   orderly_more : (h : List Entry) (e : Entry) → IsLegal c h → IsStep c h e.call e.reply

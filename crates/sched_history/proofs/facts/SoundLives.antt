@@ -1,5 +1,5 @@
 -- The live flows of a legal history: each was granted at most what it asked, within its rate ceiling.
-use Rattle.std.proofs.Common.{◌≡◌, ℕ, ◌+◌, ◌/◌, List, [], ◌∷◌, ◌++◌, Option, None}
+use Rattle.std.proofs.Common.{◌≡◌, ℕ, ◌+◌, List, [], ◌∷◌, ◌++◌, Option, None}
 use Rattle.std.proofs.Common.{Some, refl, sym, ap, ◌∙◌, subst, Contains, arith}
 use Rattle.std.specs.List.{AllByRecursion}
 use Rattle.std.specs.Option.{option_map}
@@ -7,16 +7,17 @@ use Rattle.std.proofs.lemmas.List.{append-nil}
 use Rattle.minislots.specs.declared.config.Config.{Config}
 use Rattle.flow_book.specs.Flows.{LiveFlow}
 use Rattle.flow_book.specs.Entry.{IsSoundFlow}
-use Rattle.periodic.specs.Placement.{spots_in}
 use Rattle.map_build.specs.declared.frame_map.FrameMap.{FrameMap}
-use Rattle.map_build.specs.Plan.{Allocation, grants_to}
+use Rattle.map_build.specs.declared.purpose.Allocation.{Allocation}
+use Rattle.map_build.specs.Plan.{Demand, grants_to}
 use Rattle.sched_history.specs.declared.reply.Reply.{Reply}
 use Rattle.sched_history.specs.declared.reply.Reply.TheVariants as replies
 use Rattle.sched_history.specs.declared.reply.Entry.{Entry}
 use Rattle.sched_history.specs.Life.{Turn, Begins, Ends, turn_by, asked_by, grants_by, grants_of_map}
-use Rattle.sched_history.specs.Life.{Life, life_of, flow_in_life, sids, flows_of, table_of}
+use Rattle.sched_history.specs.Life.{Life, life_of, flow_in_life, sids, flows_of}
 use Rattle.sched_history.specs.Time.{next_after, ack_after}
-use Rattle.sched_history.specs.History.{IsNextMap, map_by, IsStep, IsLegal}
+use Rattle.sched_history.specs.Reserves.{header_after}
+use Rattle.sched_history.specs.History.{demand_after, IsNextMap, map_by, IsStep, IsLegal}
 use Rattle.sched_history.specs.Facts.{IsWithinAsked, IsWithinRate}
 use Rattle.sched_history.proofs.steps.LegalHistories as legal
 use Rattle.sched_history.proofs.steps.LegalHistories.{change_by_step, legal_induction}
@@ -73,13 +74,12 @@ module _ (c : Config) (h : List Entry) (sid : ℕ) (life : Life) (lives : life_o
       (record (flow_in_life sid life) { grants = (flow_in_life sid life).grants ++ grants_of_map sid m })
   sound_map m next =
       let plan : List Allocation = next.0 in
+      let d : Demand = demand_after c h in
       let grants : grants_of_map sid m ≡ grants_to (next_after c h) sid plan =
-      ap (grants_of_map sid) next.2 ∙ grants_of_map-plan sid (next_after c h) c (flows_of h) (ack_after c h) plan
-      (plan-HasBytes c (flows_of h) (spots_in c (next_after c h / c.frame) (table_of h))
-      (next_after c h) plan next.1) in
+      ap (grants_of_map sid) next.2 ∙ grants_of_map-plan sid c d (header_after c h) (ack_after c h) plan
+      (plan-HasBytes c d plan next.1) in
       rw grants
-      (sound_plan c (flows_of h) (spots_in c (next_after c h / c.frame) (table_of h)) (next_after c h)
-      (flow_in_life sid life)
+      (sound_plan c d (flow_in_life sid life)
       (flows_of-alone h sid life lives) [] plan next.1.each (rw append-nil sound))
 
   -- the flow with the grants of an entry

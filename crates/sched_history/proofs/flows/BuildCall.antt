@@ -6,14 +6,17 @@ use Rattle.minislots.specs.declared.stamp.Stamp.{Stamp}
 use Rattle.flow_book.specs.Flows.{LiveFlow}
 use Rattle.flow_book.specs.declared.flow.Grant.{Grant}
 use Rattle.map_build.specs.declared.frame_map.FrameMap.{FrameMap}
-use Rattle.map_build.specs.Plan.{Allocation, grants_to, flow_after, flows_after}
+use Rattle.map_build.specs.declared.opportunity.Header.{Header}
+use Rattle.map_build.specs.declared.purpose.Allocation.{Allocation}
+use Rattle.map_build.specs.Plan.{Demand, grants_to, flow_after, flows_after}
 use Rattle.map_build.specs.FrameMap.{map_of}
 use Rattle.sched_history.specs.declared.call.Call.TheVariants as calls
 use Rattle.sched_history.specs.declared.reply.Reply.TheVariants as replies
 use Rattle.sched_history.specs.declared.reply.Entry.{Entry}
 use Rattle.sched_history.specs.Life.{grants_of_map, flows_of}
 use Rattle.sched_history.specs.Time.{next_after}
-use Rattle.sched_history.specs.History.{IsNextMap}
+use Rattle.sched_history.specs.Reserves.{header_after}
+use Rattle.sched_history.specs.History.{demand_after, IsNextMap}
 use Rattle.sched_history.proofs.lives.FlowsAfter.{grown_by, flows_of-grown}
 use Rattle.sched_history.proofs.flows.FlowCalls.{map-each}
 use Rattle.sched_history.proofs.flows.MapGrants.{HasBytes, plan-HasBytes, grants_of_map-plan}
@@ -34,17 +37,17 @@ module _ (stamp : Stamp) (h : List Entry) (now : ℕ) (m : FrameMap) where
       (λ f. granted_flow f (grants_of_map f.sid m) (grants_to start f.sid plan) (reads f.sid))
 
   -- so too for the MAP of a plan in which each data grant has some bytes
-  pub flows_of-build_plan : (c : Config) (flows : List LiveFlow) (start ack : ℕ) (plan : List Allocation)
-      → AllByRecursion (λ a. HasBytes a.purpose) plan → m ≡ map_of c flows start ack plan
+  pub flows_of-build_plan : (c : Config) (d : Demand) (header : Header) (ack : ℕ) (plan : List Allocation)
+      → AllByRecursion (λ a. HasBytes a.purpose) plan → m ≡ map_of c d header ack plan
       → flows_of (h ++ record { stamp = stamp; call = calls.Build now; reply = replies.Built m } ∷ [])
-      ≡ flows_after start plan (flows_of h)
-  flows_of-build_plan c flows start ack plan has is =
-      flows_of-build start plan (λ sid. ap (grants_of_map sid) is ∙ grants_of_map-plan sid start c flows ack plan has)
+      ≡ flows_after d.start plan (flows_of h)
+  flows_of-build_plan c d header ack plan has is =
+      flows_of-build d.start plan (λ sid. ap (grants_of_map sid) is ∙ grants_of_map-plan sid c d header ack plan has)
 
   -- so too for the MAP of the next frame
   pub flows_of-build_next : (c : Config) (next : IsNextMap c h m)
       → flows_of (h ++ record { stamp = stamp; call = calls.Build now; reply = replies.Built m } ∷ [])
       ≡ flows_after (next_after c h) next.0 (flows_of h)
   flows_of-build_next c next =
-      flows_of-build_plan c (flows_of h) (next_after c h) _ next.0
-      (plan-HasBytes c (flows_of h) _ (next_after c h) next.0 next.1) next.2
+      flows_of-build_plan c (demand_after c h) (header_after c h) _ next.0
+      (plan-HasBytes c (demand_after c h) next.0 next.1) next.2

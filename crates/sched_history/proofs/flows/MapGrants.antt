@@ -6,38 +6,36 @@ use Rattle.std.proofs.lemmas.Bool.Decides.{nat_tests}
 use Rattle.minislots.specs.declared.config.Config.{Config}
 use Rattle.map_codec.specs.declared.element.Element.{Element}
 use Rattle.flow_book.specs.declared.flow.Grant.{Grant}
-use Rattle.flow_book.specs.Flows.{LiveFlow}
-use Rattle.periodic.specs.declared.placement.Spot.{Spot}
+use Rattle.map_build.specs.declared.opportunity.Header.{Header}
+use Rattle.map_build.specs.declared.purpose.Allocation.{Allocation}
+use Rattle.map_build.specs.declared.purpose.Purpose.{Purpose}
+use Rattle.map_build.specs.declared.purpose.Purpose.TheVariants.{Poll, UnsolicitedGrant, Offer, DataGrant, Idle}
 use Rattle.map_build.specs.EachAfter.{EachAfter}
-use Rattle.map_build.specs.Plan.{Purpose, Poll, UnsolicitedGrant, DataGrant, Idle, Allocation, grant_to}
-use Rattle.map_build.specs.Plan.{grants_to, flows_after, StandsByItsRule, Stands, IsPlan}
-use Rattle.map_build.specs.FrameMap.{element_for, element_of, bytes_for, request_region, null_element, pending, map_of}
+use Rattle.map_build.specs.Purpose.{kind_of, grant_to, element_of, bytes_in}
+use Rattle.map_build.specs.Plan.{Demand, grants_to, flows_after, IsOfRank, Stands, IsPlan}
+use Rattle.map_build.specs.FrameMap.{request_region, null_element, pending, map_of}
 use Rattle.sched_history.specs.Life.{grant_by, grants_of_map}
+use Rattle.sched_history.proofs.reserves.Offers.{element_for}
 
 -- a data grant has some bytes
 abbrev pub HasBytes : Purpose → Type 0
-HasBytes (Poll sid) = Unit {0}
-HasBytes (UnsolicitedGrant sid) = Unit {0}
 HasBytes (DataGrant sid bytes) = 0 < bytes
-HasBytes Idle = Unit {0}
+HasBytes purpose = Unit {0}
 
-module _ (c : Config) (flows : List LiveFlow) (spots : List Spot) (start : ℕ) where
+module _ (c : Config) (d : Demand) where
   stands-HasBytes : (before : List Allocation) (offset slots : ℕ) (purpose : Purpose)
-      → StandsByItsRule c flows spots start before offset slots purpose → HasBytes purpose
-  stands-HasBytes before offset slots (Poll sid) stands = tt
-  stands-HasBytes before offset slots (UnsolicitedGrant sid) stands = tt
+      → IsOfRank c d before offset slots purpose → HasBytes purpose
   stands-HasBytes before offset slots (DataGrant sid bytes) stands = stands.4.allowed.positive
-  stands-HasBytes before offset slots Idle stands = tt
+  stands-HasBytes before offset slots purpose stands = tt
 
-  each-HasBytes : (before plan : List Allocation) → EachAfter (Stands c flows spots start) before plan
+  each-HasBytes : (before plan : List Allocation) → EachAfter (Stands c d) before plan
       → AllByRecursion (λ a. HasBytes a.purpose) plan
   each-HasBytes before [] each = tt
   each-HasBytes before (a ∷ plan) each =
       (stands-HasBytes before a.offset a.slots a.purpose each.0.purpose, each-HasBytes (before ++ a ∷ []) plan each.1)
 
   -- each data grant of a plan has some bytes
-  pub plan-HasBytes : (plan : List Allocation) → IsPlan c flows spots start plan
-      → AllByRecursion (λ a. HasBytes a.purpose) plan
+  pub plan-HasBytes : (plan : List Allocation) → IsPlan c d plan → AllByRecursion (λ a. HasBytes a.purpose) plan
   plan-HasBytes plan is = each-HasBytes [] plan is.each
 
 module _ (sid start : ℕ) where
@@ -56,12 +54,15 @@ module _ (sid start : ℕ) where
 
   -- the data grant that an allocation's element is read as
   grant_by-allocation : (c : Config) (offset slots : ℕ) (purpose : Purpose) → HasBytes purpose
-      → grant_by sid start (element_for c offset slots purpose, bytes_for purpose) ≡ grant_to start sid purpose offset
+      → grant_by sid start (element_for c offset slots purpose, (kind_of c slots purpose).bytes)
+      ≡ grant_to start sid purpose offset
+  grant_by-allocation c offset slots (DataGrant other bytes) has =
+      some_bytes (other == sid) bytes (record { start = start + offset; bytes = bytes }) has
   grant_by-allocation c offset slots (Poll other) has = grant_by-none (element_for c offset slots (Poll other))
   grant_by-allocation c offset slots (UnsolicitedGrant other) has =
       grant_by-none (element_for c offset slots (UnsolicitedGrant other))
-  grant_by-allocation c offset slots (DataGrant other bytes) has =
-      some_bytes (other == sid) bytes (record { start = start + offset; bytes = bytes }) has
+  grant_by-allocation c offset slots (Offer place usage) has =
+      grant_by-none (element_for c offset slots (Offer place usage))
   grant_by-allocation c offset slots Idle has = grant_by-none (element_for c offset slots Idle)
 
   -- elements with no bytes have no data grants
@@ -72,16 +73,17 @@ module _ (sid start : ℕ) where
   -- the elements of a plan, and behind them some with no data grant
   zip-plan : (c : Config) (plan : List Allocation) (es : List Element) (bs : List ℕ)
       → AllByRecursion (λ a. HasBytes a.purpose) plan → filter_map (grant_by sid start) (zip es bs) ≡ []
-      → filter_map (grant_by sid start)
-      (zip (map (element_of c) plan ++ es) (map (λ a. bytes_for a.purpose) plan ++ bs)) ≡ grants_to start sid plan
+      → filter_map (grant_by sid start) (zip (map (element_of c) plan ++ es) (map (bytes_in c) plan ++ bs))
+      ≡ grants_to start sid plan
   zip-plan c [] es bs has none = none
   zip-plan c (a ∷ plan) es bs has none =
       rw (grant_by-allocation c a.offset a.slots a.purpose has.0, zip-plan c plan es bs has.1 none) refl
 
-  -- the data grants of the MAP with this plan are those of the plan
-  pub grants_of_map-plan : (c : Config) (flows : List LiveFlow) (ack : ℕ) (plan : List Allocation)
-      → AllByRecursion (λ a. HasBytes a.purpose) plan
-      → grants_of_map sid (map_of c flows start ack plan) ≡ grants_to start sid plan
-  grants_of_map-plan c flows ack plan has =
-      let behind : List Element = null_element c ∷ pending c (flows_after start plan flows) in
-      rw (grant_by-none request_region) (zip-plan c plan behind (map (λ e. 0) behind) has (zip-none behind))
+-- the data grants of the MAP with this plan are those of the plan
+pub grants_of_map-plan : (sid : ℕ) (c : Config) (d : Demand) (header : Header) (ack : ℕ) (plan : List Allocation)
+    → AllByRecursion (λ a. HasBytes a.purpose) plan
+    → grants_of_map sid (map_of c d header ack plan) ≡ grants_to d.start sid plan
+grants_of_map-plan sid c d header ack plan has =
+    let behind : List Element = null_element c ∷ pending c (flows_after d.start plan d.flows) in
+    rw (grant_by-none sid d.start request_region)
+    (zip-plan sid d.start c plan behind (map (λ e. 0) behind) has (zip-none sid d.start behind))

@@ -8,6 +8,7 @@ use Rattle.sched_history.specs.declared.reply.Reply.TheVariants as replies
 use Rattle.sched_history.specs.declared.reply.Entry.{Entry}
 use Rattle.sched_history.specs.Life.{turn_by, asked_by, flows_of}
 use Rattle.sched_history.specs.Time.{progress_by}
+use Rattle.sched_history.specs.Reserves.{reserve_by, header_by}
 use Rattle.sched_history.specs.State.{IsQuiet}
 use Rattle.sched_history.proofs.lives.FlowsAfter.{flows_of-quiet}
 
@@ -19,6 +20,8 @@ turn_by-refused (calls.Heard receiver upto) refusal sid = refl
 turn_by-refused (calls.Build now) refusal sid = refl
 turn_by-refused (calls.Skip now) refusal sid = refl
 turn_by-refused (calls.Status other) refusal sid = refl
+turn_by-refused (calls.Reserve usage slots) refusal sid = refl
+turn_by-refused (calls.Header count ranging_start ranging_end data_start data_end) refusal sid = refl
 
 asked_by-refused : (call : Call) (refusal : Refusal) (sid : ℕ) → asked_by sid call (replies.Refused refusal) ≡ 0
 asked_by-refused (calls.Admit other spec) refusal sid = refl
@@ -28,6 +31,8 @@ asked_by-refused (calls.Heard receiver upto) refusal sid = refl
 asked_by-refused (calls.Build now) refusal sid = refl
 asked_by-refused (calls.Skip now) refusal sid = refl
 asked_by-refused (calls.Status other) refusal sid = refl
+asked_by-refused (calls.Reserve usage slots) refusal sid = refl
+asked_by-refused (calls.Header count ranging_start ranging_end data_start data_end) refusal sid = refl
 
 progress_by-refused : (call : Call) (refusal : Refusal) (receiver : ℕ)
     → progress_by receiver call (replies.Refused refusal) ≡ None
@@ -38,6 +43,16 @@ progress_by-refused (calls.Heard other upto) refusal receiver = refl
 progress_by-refused (calls.Build now) refusal receiver = refl
 progress_by-refused (calls.Skip now) refusal receiver = refl
 progress_by-refused (calls.Status other) refusal receiver = refl
+progress_by-refused (calls.Reserve usage slots) refusal receiver = refl
+progress_by-refused (calls.Header count ranging_start ranging_end data_start data_end) refusal receiver = refl
+
+reserve_by-refused : (call : Call) (refusal : Refusal) → reserve_by call (replies.Refused refusal) ≡ None
+reserve_by-refused (calls.Reserve usage slots) refusal = refl
+reserve_by-refused call refusal = refl
+
+header_by-refused : (call : Call) (refusal : Refusal) → header_by call (replies.Refused refusal) ≡ None
+header_by-refused (calls.Header count ranging_start ranging_end data_start data_end) refusal = refl
+header_by-refused call refusal = refl
 
 -- nothing depends on a refusal
 pub IsQuiet-refused : (call : Call) (refusal : Refusal) → IsQuiet call (replies.Refused refusal)
@@ -48,6 +63,8 @@ IsQuiet-refused call refusal = record {
   skips = refl;
   builds = refl;
   notes = progress_by-refused call refusal;
+  reserves = reserve_by-refused call refusal;
+  headers = header_by-refused call refusal;
 }
 
 -- the live flows stay as they are

@@ -5,11 +5,12 @@ use Rattle.std.specs.List.{AllByRecursion, cons_option}
 use Rattle.std.proofs.lemmas.List.Sums.{sum_by-append, sum_by-cons}
 use Rattle.minislots.specs.declared.config.Config.{Config}
 use Rattle.flow_book.specs.declared.flow.Grant.{Grant}
-use Rattle.flow_book.specs.Flows.{LiveFlow}
-use Rattle.periodic.specs.declared.placement.Spot.{Spot}
+use Rattle.map_build.specs.declared.purpose.Allocation.{Allocation}
+use Rattle.map_build.specs.declared.purpose.Purpose.{Purpose}
+use Rattle.map_build.specs.declared.purpose.Purpose.TheVariants.{DataGrant}
 use Rattle.map_build.specs.EachAfter.{EachAfter}
-use Rattle.map_build.specs.Plan.{Purpose, Poll, UnsolicitedGrant, DataGrant, Idle, Allocation}
-use Rattle.map_build.specs.Plan.{end_of, grant_to, grants_to, Stands, IsPlan}
+use Rattle.map_build.specs.Purpose.{grant_to}
+use Rattle.map_build.specs.Plan.{Demand, end_of, grants_to, Stands, IsPlan}
 
 -- allocations end where those before them end, and later by their own minislots
 end_of-append : (c : Config) (before : List Allocation) (a : Allocation) (plan : List Allocation)
@@ -21,8 +22,8 @@ end_of-append c before a plan =
       sum_by-cons (λ (b : Allocation). b.slots) a plan,
     )
 
-module _ (c : Config) (flows : List LiveFlow) (spots : List Spot) (start : ℕ) where
-  offsets-before : (frame : ℕ) (before plan : List Allocation) → EachAfter (Stands c flows spots start) before plan
+module _ (c : Config) (d : Demand) where
+  offsets-before : (frame : ℕ) (before plan : List Allocation) → EachAfter (Stands c d) before plan
       → end_of c (before ++ plan) ≤ frame → AllByRecursion (λ a. a.offset < frame) plan
   offsets-before frame before [] each within = tt
   offsets-before frame before (a ∷ plan) each within = (
@@ -31,7 +32,7 @@ module _ (c : Config) (flows : List LiveFlow) (spots : List Spot) (start : ℕ) 
   )
 
   -- each allocation of a plan begins within the frame
-  pub plan-offsets : (plan : List Allocation) → IsPlan c flows spots start plan
+  pub plan-offsets : (plan : List Allocation) → IsPlan c d plan
       → AllByRecursion (λ a. a.offset < c.frame) plan
   plan-offsets plan is = offsets-before c.frame [] plan is.each (omega (arith, is.whole))
 
@@ -48,11 +49,9 @@ chosen-before slot false g grants here all = all
 grant-before : (slot start sid : ℕ) (purpose : Purpose) (offset : ℕ) (grants : List Grant) → start + offset < slot
     → AllByRecursion (StartsBefore slot) grants
     → AllByRecursion (StartsBefore slot) (cons_option (grant_to start sid purpose offset) grants)
-grant-before slot start sid (Poll other) offset grants here all = all
-grant-before slot start sid (UnsolicitedGrant other) offset grants here all = all
 grant-before slot start sid (DataGrant other bytes) offset grants here all =
     chosen-before slot (other == sid) (record { start = start + offset; bytes = bytes }) grants here all
-grant-before slot start sid Idle offset grants here all = all
+grant-before slot start sid purpose offset grants here all = all
 
 -- the data grants to a flow start before the frame ends, where each allocation does
 pub grants_to-before : (frame start sid : ℕ) (plan : List Allocation) → AllByRecursion (λ a. a.offset < frame) plan

@@ -10,10 +10,12 @@ use Rattle.flow_book.specs.declared.flow.Grant.{Grant}
 use Rattle.flow_book.specs.Flows.{LiveFlow, with_grant}
 use Rattle.flow_book.specs.Choice.{IsAmount}
 use Rattle.flow_book.specs.Entry.{IsSoundFlow}
-use Rattle.periodic.specs.declared.placement.Spot.{Spot}
+use Rattle.map_build.specs.declared.purpose.Allocation.{Allocation}
+use Rattle.map_build.specs.declared.purpose.Purpose.{Purpose}
+use Rattle.map_build.specs.declared.purpose.Purpose.TheVariants.{DataGrant}
 use Rattle.map_build.specs.EachAfter.{EachAfter}
-use Rattle.map_build.specs.Plan.{Purpose, Poll, UnsolicitedGrant, DataGrant, Idle, Allocation, grant_to}
-use Rattle.map_build.specs.Plan.{flow_after, flows_after, room_at, Stands, StandsByItsRule}
+use Rattle.map_build.specs.Purpose.{grant_to}
+use Rattle.map_build.specs.Plan.{Demand, flow_after, flows_after, room_at, IsOfRank, Stands}
 use Rattle.sched_history.proofs.lists.Members.{IsImage, Contains-map}
 
 -- a flow is sound with a grant more of the amount
@@ -50,19 +52,25 @@ after_grant start before a f g some =
       append_assoc,
     ) refl
 
-module _ (c : Config) (flows : List LiveFlow) (spots : List Spot) (start : ℕ) (f : LiveFlow)
-    (alone : (g : LiveFlow) → Contains flows g → g.sid ≡ f.sid → g ≡ f) where
+module _ (c : Config) (d : Demand) (f : LiveFlow)
+    (alone : (g : LiveFlow) → Contains d.flows g → g.sid ≡ f.sid → g ≡ f) where
+  -- the minislot at which the frame starts
+  abbrev start : ℕ
+  start = d.start
+
   -- the flow after these is the only one of its SID
-  only_after : (before : List Allocation) (g : LiveFlow) → Contains (flows_after start before flows) g → g.sid ≡ f.sid
+  only_after : (before : List Allocation) (g : LiveFlow) → Contains (flows_after d.start before d.flows) g
+      → g.sid ≡ f.sid
       → flow_after start before f ≡ g
   only_after before g live same =
-      let image : IsImage (flow_after start before) flows g = Contains-map (flow_after start before) flows g live in
+      let image : IsImage (flow_after d.start before) d.flows g =
+      Contains-map (flow_after d.start before) d.flows g live in
       ap (flow_after start before)
       (sym (alone image.origin image.member (ap (λ (g : LiveFlow). g.sid) image.same ∙ same))) ∙ image.same
 
   sound_grant : (before : List Allocation) (a : Allocation) (other bytes : ℕ) (same : Bool) → other == f.sid ≡ same
       → a.purpose ≡ DataGrant other bytes
-      → StandsByItsRule c flows spots start before a.offset a.slots (DataGrant other bytes)
+      → IsOfRank c d before a.offset a.slots (DataGrant other bytes)
       → IsSoundFlow c (flow_after start before f)
       → IsSoundFlow c (flow_after start (before ++ a ∷ []) f)
   sound_grant before a other bytes false test is stands sound =
@@ -77,23 +85,19 @@ module _ (c : Config) (flows : List LiveFlow) (spots : List Spot) (start : ℕ) 
       only_after before g stands.3.live (stands.2 ∙ eqb-true other f.sid test) in
       rw (after_grant start before a f (record { start = start + a.offset; bytes = bytes })
       (ap (λ p. grant_to start f.sid p a.offset) is ∙ some))
-      (sound_with c (flow_after start before f) (start + a.offset) (room_at c spots a.offset) bytes sound
-      (subst (λ g. IsAmount c g (start + a.offset) (room_at c spots a.offset) bytes) (sym them) stands.4))
+      (sound_with c (flow_after start before f) (start + a.offset) (room_at c d.spots a.offset) bytes sound
+      (subst (λ g. IsAmount c g (start + a.offset) (room_at c d.spots a.offset) bytes) (sym them) stands.4))
 
   sound_more : (before : List Allocation) (a : Allocation) (purpose : Purpose) → a.purpose ≡ purpose
-      → StandsByItsRule c flows spots start before a.offset a.slots purpose → IsSoundFlow c (flow_after start before f)
+      → IsOfRank c d before a.offset a.slots purpose → IsSoundFlow c (flow_after start before f)
       → IsSoundFlow c (flow_after start (before ++ a ∷ []) f)
-  sound_more before a (Poll sid) is stands sound =
-      rw (after_other start before a f (ap (λ p. grant_to start f.sid p a.offset) is)) sound
-  sound_more before a (UnsolicitedGrant sid) is stands sound =
-      rw (after_other start before a f (ap (λ p. grant_to start f.sid p a.offset) is)) sound
   sound_more before a (DataGrant sid bytes) is stands sound =
       sound_grant before a sid bytes (sid == f.sid) refl is stands sound
-  sound_more before a Idle is stands sound =
+  sound_more before a purpose is stands sound =
       rw (after_other start before a f (ap (λ p. grant_to start f.sid p a.offset) is)) sound
 
   -- a flow that is sound before some allocations is sound after them
-  pub sound_plan : (before plan : List Allocation) → EachAfter (Stands c flows spots start) before plan
+  pub sound_plan : (before plan : List Allocation) → EachAfter (Stands c d) before plan
       → IsSoundFlow c (flow_after start before f) → IsSoundFlow c (flow_after start (before ++ plan) f)
   sound_plan before [] each sound = rw append-nil sound
   sound_plan before (a ∷ plan) each sound = rw append_assoc at

@@ -6,17 +6,18 @@ use Rattle.std.proofs.lemmas.Bool.{ne_eqb}
 use Rattle.map_codec.specs.declared.element.Element.{Element}
 use Rattle.flow_book.specs.declared.spec.FlowSpec.TheVariants.{BestEffort}
 use Rattle.flow_book.proofs.Base.{base, the_base_is_lawful}
-use Rattle.periodic.specs.Placement.{Placed}
+use Rattle.periodic.specs.Placement.{Placed, AreFree, spots_in}
 use Rattle.periodic.proofs.RowsPlacement.{voice, placement, first_placed}
 use Rattle.map_build.specs.declared.frame_map.FrameMap.{FrameMap}
 use Rattle.map_build.specs.FrameMap.{request_region, null_element}
-use Rattle.map_build.proofs.RowsMaps.{element, base_map}
-use Rattle.sched_history.specs.declared.call.Call.TheVariants.{Admit, Ask, Build}
-use Rattle.sched_history.specs.declared.reply.Reply.TheVariants.{Admitted, Taken, Built}
+use Rattle.map_build.specs.declared.opportunity.Usage.TheVariants.{Initial}
+use Rattle.map_build.proofs.RowsMaps.{element, base_map, first_map}
+use Rattle.sched_history.specs.declared.call.Call.TheVariants.{Admit, Ask, Build, Reserve}
+use Rattle.sched_history.specs.declared.reply.Reply.TheVariants.{Admitted, Taken, Built, Reserved}
 use Rattle.sched_history.specs.declared.reply.Entry.{Entry}
 use Rattle.sched_history.specs.Life.{Life, flow_in_life, flows_of, table_of}
 use Rattle.sched_history.specs.Facts.{IsWithinAsked, IsWithinRate, OffsetsAscend, IsOnTime, HoldsAfter}
-use Rattle.sched_history.proofs.lives.LiveFlows.{flows_of-one, table_of-one}
+use Rattle.sched_history.proofs.lives.LiveFlows.{flows_of-one, table_of-one, table_of-none}
 use Rattle.sched_history.proofs.rows.TwoMaps.{entry, built, admitted, asked, granted, two_maps_of_one_flow}
 use Rattle.sched_history.proofs.facts.FactsOf.{holds_after}
 
@@ -110,9 +111,25 @@ a_late_unsolicited_grant_is_refused holds =
     table_of-one (voiced ∷ []) 5 voiced_life first_placed (lit≤ tt) (lit≤ tt) refl refl
     (λ sid other. rw (ne_eqb 5 sid (λ e. other (sym e)))) in
     let says : (flow : Placed) × IsOnTime base (table_of (voiced ∷ [])) 800 (element 5 6 37) flow =
-    holds.on_time.1.0.1.1.0 (record { in_frame = lit< tt; to_flow = refl; unasked = refl }) in
+    holds.on_time.1.0.1.1.0 (record { in_frame = lit< tt; to_flow = refl; unasked = refl; unreserved = refl }) in
     let live : Contains (first_placed ∷ []) says.0 = rw table at says.1.live in
     let timed : IsOnTime base (table_of (voiced ∷ [])) 800 (element 5 6 37) first_placed =
     subst (IsOnTime base (table_of (voiced ∷ [])) 800 (element 5 6 37))
     (sym (only first_placed says.0 live.0 live.1 live.2)) says.1 in
     absurd (omega (arith, timed.within_jitter))
+
+-- a Reserve of 8 minislots
+abbrev reserved : Entry
+reserved = entry 0 (Reserve Initial 8) Reserved
+
+-- a MAP that passes it over, though its frame is idle
+pub a_reserve_that_is_passed_over_is_refused :
+    HoldsAfter base (reserved ∷ entry 1 (Build 760) (Built first_map) ∷ []) → ⊥
+a_reserve_that_is_passed_over_is_refused holds =
+    let none : table_of (reserved ∷ []) ≡ [] = table_of-none (reserved ∷ []) (λ sid. refl) in
+    let free : AreFree (spots_in base 20 (table_of (reserved ∷ []))) 4 8 =
+    subst (λ placed. AreFree (spots_in base 20 placed) 4 8) (sym none) tt in
+    let met : Contains [] (record { usage = Initial; slots = 8 }) =
+    (holds.ranging.first_met.1.0 (record { usage = Initial; slots = 8 }) refl).1
+    (record { from = 4; behind = lit≤ tt; within = lit≤ tt; free = free }) in
+    absurd (omega (arith, met.1))

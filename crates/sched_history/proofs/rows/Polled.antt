@@ -4,9 +4,10 @@ use Rattle.std.proofs.lemmas.Bool.{ne_eqb}
 use Rattle.flow_book.specs.FlowSpec.{first_fault}
 use Rattle.flow_book.proofs.Base.{base}
 use Rattle.periodic.proofs.RowsPlacement.{polling, placement, polled_placed, four_polls_stand_behind_the_requests}
+use Rattle.map_build.specs.Opportunities.{header_of}
+use Rattle.map_build.specs.Plan.{demand_at}
 use Rattle.map_build.specs.FrameMap.{IsLawfulMap}
-use Rattle.map_build.proofs.RowsMaps.{all_idle}
-use Rattle.map_build.proofs.IdleFrame.{idle_map}
+use Rattle.map_build.proofs.RowsMaps.{all_idle, none_waits}
 use Rattle.map_build.proofs.RowsPoll.{polled, poll_map, a_frame_with_a_poll}
 use Rattle.sched_history.specs.declared.call.Call.TheVariants.{Admit, Ask, Build}
 use Rattle.sched_history.specs.declared.reply.Reply.TheVariants.{Admitted, Taken, Built}
@@ -14,7 +15,7 @@ use Rattle.sched_history.specs.declared.reply.Entry.{Entry}
 use Rattle.sched_history.specs.Life.{Life, life_of}
 use Rattle.sched_history.specs.History.{IsStep, IsLegal}
 use Rattle.sched_history.proofs.lives.LiveFlows.{flows_of-none, flows_of-one, table_of-none, table_of-one}
-use Rattle.sched_history.proofs.rows.NextMap.{IsNextMap-from_lawful}
+use Rattle.sched_history.proofs.rows.NextMap.{idle_map, IsNextMap-from_lawful}
 use Rattle.sched_history.proofs.rows.TwoMaps.{entry}
 
 -- the admission, and the two MAPs
@@ -63,7 +64,7 @@ polls = (
 )
 
 -- the frame after it has none, and no bytes are outstanding
-idles : IsLawfulMap base (polled ∷ []) [] 840 800 (idle_map base 840 800)
+idles : IsLawfulMap base (demand_at (polled ∷ []) [] [] 840) (header_of base) 800 (idle_map base 840 800)
 idles = (
   all_idle,
   record {
@@ -71,8 +72,8 @@ idles = (
       record {
         some_slots = lit< tt;
         follows = refl;
-        purpose =
-            (refl, inr ((λ e. absurd (omega (arith, e.waits))), tt));
+        purpose = refl;
+        first = (lit< tt, (none_waits [] 36, (inr ((λ e. absurd (omega (arith, e.waits))), tt), tt)));
       },
       tt,
     );

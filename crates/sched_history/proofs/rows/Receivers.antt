@@ -3,14 +3,13 @@ use Rattle.std.proofs.Common.{◌≡◌, List, [], ◌∷◌, ◌++◌, None, re
 use Rattle.minislots.specs.declared.config.Config.{Config}
 use Rattle.flow_book.specs.declared.spec.FlowSpec.TheVariants.{BestEffort}
 use Rattle.flow_book.proofs.Base.{base}
-use Rattle.map_build.proofs.IdleFrame.{idle_map}
 use Rattle.sched_history.specs.declared.call.Call.TheVariants.{Admit, Ask, Heard, Build}
 use Rattle.sched_history.specs.declared.reply.Refusal.TheVariants.{BadReceiver, Acked, Ahead, Backwards}
 use Rattle.sched_history.specs.declared.reply.Reply.TheVariants.{Admitted, Noted, Built, Refused}
 use Rattle.sched_history.specs.declared.reply.Entry.{Entry}
 use Rattle.sched_history.specs.Time.{next_after, ack_after}
 use Rattle.sched_history.specs.History.{IsStep, IsLegal}
-use Rattle.sched_history.proofs.rows.NextMap.{IsNextMap-idle}
+use Rattle.sched_history.proofs.rows.NextMap.{idle_map, IsNextMap-idle}
 use Rattle.sched_history.proofs.rows.TwoMaps.{entry}
 
 -- the base channel heard by two receivers
@@ -48,20 +47,20 @@ three_maps_move_three_frames = refl
 pub maps_carry_the_acknowledge_time : IsLegal pair
     (both_heard ++ entry 4 (Build 840) (Built (idle_map pair 880 840)) ∷ [])
 maps_carry_the_acknowledge_time = (
-  (idle_map pair 800 800, IsNextMap-idle pair [] (lit< tt) (λ sid. refl), refl),
+  (idle_map pair 800 800, IsNextMap-idle pair [] (lit< tt) (λ sid. refl) refl refl, refl),
   (
     refl,
     (
       (
         idle_map pair 840 800,
         IsNextMap-idle pair (entry 0 (Build 760) (Built (idle_map pair 800 800)) ∷ entry 1 (Heard 0 840) Noted ∷ [])
-            (lit< tt) (λ sid. refl),
+            (lit< tt) (λ sid. refl) refl refl,
         refl,
       ),
       (
         refl,
         (
-          (idle_map pair 880 840, IsNextMap-idle pair both_heard (lit< tt) (λ sid. refl), refl),
+          (idle_map pair 880 840, IsNextMap-idle pair both_heard (lit< tt) (λ sid. refl) refl refl, refl),
           tt,
         ),
       ),

@@ -4,7 +4,6 @@ use Rattle.minislots.specs.declared.config.Config.{Config}
 use Rattle.map_codec.specs.WireMap.{header, spelling}
 use Rattle.flow_book.proofs.Base.{base}
 use Rattle.map_build.specs.declared.frame_map.FrameMap.{FrameMap}
-use Rattle.map_build.proofs.IdleFrame.{idle_map}
 use Rattle.sched_history.specs.declared.call.Call.TheVariants.{Build, Skip}
 use Rattle.sched_history.specs.declared.reply.Refusal.TheVariants.{BadClock, TooEarly, Late, NotLate}
 use Rattle.sched_history.specs.declared.reply.Reply.{Reply}
@@ -12,7 +11,7 @@ use Rattle.sched_history.specs.declared.reply.Reply.TheVariants.{Built, Skipped,
 use Rattle.sched_history.specs.declared.reply.Entry.{Entry}
 use Rattle.sched_history.specs.Time.{IsFirstStart}
 use Rattle.sched_history.specs.History.{IsStep, IsLegal}
-use Rattle.sched_history.proofs.rows.NextMap.{IsNextMap-idle}
+use Rattle.sched_history.proofs.rows.NextMap.{idle_map, IsNextMap-idle}
 use Rattle.sched_history.proofs.rows.TwoMaps.{entry, built}
 
 -- a MAP that must be built 40 minislots ahead is late at 801 for a frame at 840
@@ -22,7 +21,7 @@ a_late_build_is_refused = refl
 -- at 800 it is not
 pub a_build_just_in_time_is_accepted : IsStep base (built ∷ []) (Build 800) (Built (idle_map base 840 800))
 a_build_just_in_time_is_accepted =
-    (idle_map base 840 800, IsNextMap-idle base (built ∷ []) (lit< tt) (λ sid. refl), refl)
+    (idle_map base 840 800, IsNextMap-idle base (built ∷ []) (lit< tt) (λ sid. refl) refl refl, refl)
 
 -- the late build and the skip
 abbrev late : Entry
@@ -54,7 +53,7 @@ a_skip_of_no_late_frame_is_refused = refl
 pub the_frame_after_a_skip_is_described : IsStep base (built ∷ late ∷ skipped ∷ []) (Build 801)
     (Built (idle_map base 880 800))
 the_frame_after_a_skip_is_described =
-    (idle_map base 880 800, IsNextMap-idle base (built ∷ late ∷ skipped ∷ []) (lit< tt) (λ sid. refl), refl)
+    (idle_map base 880 800, IsNextMap-idle base (built ∷ late ∷ skipped ∷ []) (lit< tt) (λ sid. refl) refl refl, refl)
 
 -- the channel whose first frame starts at 5000
 abbrev later : Config
@@ -67,7 +66,7 @@ a_build_too_early_is_refused = refl
 -- at 944 it ends 4096 ahead
 pub a_build_at_the_earliest_minislot_is_accepted : IsStep later [] (Build 944) (Built (idle_map later 5000 5000))
 a_build_at_the_earliest_minislot_is_accepted =
-    (idle_map later 5000 5000, IsNextMap-idle later [] (lit< tt) (λ sid. refl), refl)
+    (idle_map later 5000 5000, IsNextMap-idle later [] (lit< tt) (λ sid. refl) refl refl, refl)
 
 -- a clock above 2^60 is refused before its distance is looked at
 pub a_clock_above_the_greatest_is_refused : IsStep later [] (Build 1152921504606846977) (Refused BadClock)
@@ -88,12 +87,12 @@ after_the_wrap = idle_map wrapping 4294967320 4294967280
 pub two_maps_across_the_wrap : IsLegal wrapping
     (entry 0 (Build 4294967240) (Built before_the_wrap) ∷ entry 1 (Build 4294967280) (Built after_the_wrap) ∷ [])
 two_maps_across_the_wrap = (
-  (before_the_wrap, IsNextMap-idle wrapping [] (lit< tt) (λ sid. refl), refl),
+  (before_the_wrap, IsNextMap-idle wrapping [] (lit< tt) (λ sid. refl) refl refl, refl),
   (
     (
       after_the_wrap,
       IsNextMap-idle wrapping (entry 0 (Build 4294967240) (Built before_the_wrap) ∷ []) (lit< tt)
-          (λ sid. refl),
+          (λ sid. refl) refl refl,
       refl,
     ),
     tt,

@@ -3,6 +3,8 @@ use Rattle.std.proofs.Common.{◌≡◌, ℕ, [], ◌∷◌, refl, ap, ◌∙◌
 use Rattle.std.specs.Prelude.{slice_index}
 use Rattle.flow_book.proofs.Base.{base}
 use Rattle.map_build.specs.declared.frame_map.FrameMap.{FrameMap}
+use Rattle.map_build.specs.Opportunities.{header_of}
+use Rattle.map_build.specs.Plan.{demand_at}
 use Rattle.map_build.proofs.Apart.{BeginApart-nil}
 use Rattle.map_build.proofs.OneMap.{one_map}
 use Rattle.map_build.proofs.RowsMaps.{first_map, a_frame_without_flows}
@@ -26,7 +28,7 @@ late_ack = record first_map { ack = 801 }
 pub the_first_map_is_one : (m : FrameMap) → IsStep base [] (Build 760) (Built m) → m ≡ first_map
 the_first_map_is_one m (other, next, e) =
     let same : m ≡ other = cc in
-    same ∙ one_map base [] [] 800 (lit< tt) BeginApart-nil 800 other first_map
+    same ∙ one_map base (demand_at [] [] [] 800) (lit< tt) BeginApart-nil (header_of base) 800 other first_map
     (lawful-from_IsNextMap base [] [] [] other (flows_of-none [] (λ sid. refl)) (table_of-none [] (λ sid. refl)) next)
     a_frame_without_flows
 

@@ -11,6 +11,7 @@ use Rattle.sched_history.specs.declared.auditing.sameness.PlainReply.{PlainReply
 use Rattle.sched_history.specs.declared.auditing.sameness.PlainReply.TheVariants as plain
 use Rattle.sched_history.specs.declared.call.Call.{Call}
 use Rattle.sched_history.specs.declared.call.Call.TheVariants.{Admit, Remove, Ask, Heard, Build, Skip, Status}
+use Rattle.sched_history.specs.declared.call.Call.TheVariants.{Reserve, Header}
 use Rattle.sched_history.specs.declared.reply.Reply.{Reply}
 use Rattle.sched_history.specs.declared.reply.Reply.TheVariants as replies
 use Rattle.sched_history.specs.declared.reply.Entry.{Entry}
@@ -25,6 +26,7 @@ reply_of plain.Admitted = replies.Admitted None
 reply_of plain.Removed = replies.Removed
 reply_of plain.Taken = replies.Taken
 reply_of plain.Noted = replies.Noted
+reply_of plain.Reserved = replies.Reserved
 reply_of (plain.Skipped next) = replies.Skipped next
 reply_of (plain.Flow asked granted outstanding) = replies.Flow asked granted outstanding
 reply_of (plain.Refused refusal) = replies.Refused refusal
@@ -35,6 +37,7 @@ plain-reply (replies.Admitted (Some placement)) p e = absurd cc
 plain-reply replies.Removed p e = ap reply_of (same_Some plain.Removed p e)
 plain-reply replies.Taken p e = ap reply_of (same_Some plain.Taken p e)
 plain-reply replies.Noted p e = ap reply_of (same_Some plain.Noted p e)
+plain-reply replies.Reserved p e = ap reply_of (same_Some plain.Reserved p e)
 plain-reply (replies.Built m) p e = absurd cc
 plain-reply (replies.Skipped next) p e = ap reply_of (same_Some (plain.Skipped next) p e)
 plain-reply (replies.Flow asked granted outstanding) p e =
@@ -83,6 +86,9 @@ IsPlain-told c h (Build now) r told answers = absurd cc
 IsPlain-told c h (Skip now) r told answers =
     IsPlain-as r (replies.Skipped answers.0) answers.2 (plain.Skipped answers.0, refl)
 IsPlain-told c h (Status sid) r told answers = IsPlain-status sid (life_of sid h) r answers
+IsPlain-told c h (Reserve usage slots) r told answers = IsPlain-as r replies.Reserved answers (plain.Reserved, refl)
+IsPlain-told c h (Header count ranging_start ranging_end data_start data_end) r told answers =
+    IsPlain-as r replies.Noted answers (plain.Noted, refl)
 
 -- the answer is one
 pub told-one : (c : Config) (h : List Entry) (call : Call) (r r' : Reply) → is_told call ≡ true → Answers c h call r
@@ -97,6 +103,9 @@ told-one c h (Build now) r r' told answers other = absurd cc
 told-one c h (Skip now) r r' told answers other =
     answers.2 ∙ ap (λ start. replies.Skipped start) (start-one c _ answers.0 other.0 answers.1 other.1) ∙ sym other.2
 told-one c h (Status sid) r r' told answers other = status-one sid (life_of sid h) r r' answers other
+told-one c h (Reserve usage slots) r r' told answers other = answers ∙ sym other
+told-one c h (Header count ranging_start ranging_end data_start data_end) r r' told answers other =
+    answers ∙ sym other
 
 module _ (c : Config) (h : List Entry) (call : Call) (told : is_told call ≡ true) (answer reply : Reply)
     (answers : Answers c h call answer) where

@@ -11,19 +11,25 @@ use Rattle.flow_book.specs.Book.{BookView, with_flow, new_flow, without, changed
 use Rattle.periodic.specs.declared.placement.Placement.{Placement}
 use Rattle.periodic.specs.Table.{with_placed, without as without_placed}
 use Rattle.map_build.specs.declared.frame_map.FrameMap.{FrameMap}
+use Rattle.map_build.specs.declared.opportunity.Header.{Header}
+use Rattle.map_build.specs.declared.opportunity.Usage.{Usage}
 use Rattle.sched_history.specs.declared.scheduler.state.State.{State}
+use Rattle.sched_history.specs.declared.scheduler.reserves.Reserve.{Reserve as Waiting}
 use Rattle.sched_history.specs.declared.call.Call.{Call}
 use Rattle.sched_history.specs.declared.call.Call.TheVariants as calls
 use Rattle.sched_history.specs.declared.reply.Reply.{Reply}
 use Rattle.sched_history.specs.declared.reply.Reply.TheVariants as replies
 use Rattle.sched_history.specs.declared.reply.Entry.{Entry}
 use Rattle.sched_history.specs.Life.{life_of, flows_of}
+use Rattle.sched_history.specs.Reserves.{new_reserve, reserves_of, header_call}
 use Rattle.sched_history.specs.State.{IsStateAfter, IsQuiet}
 use Rattle.sched_history.proofs.lives.FlowsAfter.{flows_of-quiet, table_of-stays}
 use Rattle.sched_history.proofs.flows.FlowCalls.{flows_of-ask, table_of-ask, flows_of-remove, table_of-remove}
 use Rattle.sched_history.proofs.flows.Admissions.{flows_of-admit, table_of-admit_placed, table_of-admit_unplaced}
 use Rattle.sched_history.proofs.time.TimeAfter.{next_after-same, next_after-built, next_after-skipped}
 use Rattle.sched_history.proofs.time.TimeAfter.{progress_of-same, progress_of-noted}
+use Rattle.sched_history.proofs.reserves.ReservesAfter.{reserves_of-push, reserves_of-same}
+use Rattle.sched_history.proofs.reserves.HeaderAfter.{header_after-same, header_after-set}
 
 -- a note is of its receiver alone
 noted : (receiver upto : ℕ) → (if receiver == receiver then Some upto else None) ≡ Some upto
@@ -53,6 +59,8 @@ module _ (s : State) (h : List Entry) (is_after : IsStateAfter s h) (stamp : Sta
         progress =
             λ receiver below. is_after.progress receiver below
             ∙ sym (progress_of-same s.config receiver h e (quiet.notes receiver));
+        reserves = is_after.reserves ∙ sym (reserves_of-same h e quiet.reserves quiet.builds);
+        header = is_after.header ∙ sym (header_after-same s.config h e quiet.headers);
       }
 
   -- after a request
@@ -72,6 +80,8 @@ module _ (s : State) (h : List Entry) (is_after : IsStateAfter s h) (stamp : Sta
         next = is_after.next ∙ sym (next_after-same s.config h e refl refl);
         places = is_after.places;
         progress = λ other below. is_after.progress other below ∙ sym (progress_of-same s.config other h e refl);
+        reserves = is_after.reserves ∙ sym (reserves_of-same h e refl refl);
+        header = is_after.header ∙ sym (header_after-same s.config h e refl);
       }
 
   -- after a removal
@@ -92,6 +102,8 @@ module _ (s : State) (h : List Entry) (is_after : IsStateAfter s h) (stamp : Sta
         next = is_after.next ∙ sym (next_after-same s.config h e refl refl);
         places = is_after.places;
         progress = λ other below. is_after.progress other below ∙ sym (progress_of-same s.config other h e refl);
+        reserves = is_after.reserves ∙ sym (reserves_of-same h e refl refl);
+        header = is_after.header ∙ sym (header_after-same s.config h e refl);
       } in
       rw same after
 
@@ -113,6 +125,8 @@ module _ (s : State) (h : List Entry) (is_after : IsStateAfter s h) (stamp : Sta
         next = is_after.next ∙ sym (next_after-same s.config h e refl refl);
         places = is_after.places;
         progress = λ other below. is_after.progress other below ∙ sym (progress_of-same s.config other h e refl);
+        reserves = is_after.reserves ∙ sym (reserves_of-same h e refl refl);
+        header = is_after.header ∙ sym (header_after-same s.config h e refl);
       }
 
   -- after an admission with a place
@@ -138,6 +152,8 @@ module _ (s : State) (h : List Entry) (is_after : IsStateAfter s h) (stamp : Sta
         next = is_after.next ∙ sym (next_after-same s.config h e refl refl);
         places = is_after.places;
         progress = λ other below. is_after.progress other below ∙ sym (progress_of-same s.config other h e refl);
+        reserves = is_after.reserves ∙ sym (reserves_of-same h e refl refl);
+        header = is_after.header ∙ sym (header_after-same s.config h e refl);
       } in
       rw same after
 
@@ -162,6 +178,8 @@ module _ (s : State) (h : List Entry) (is_after : IsStateAfter s h) (stamp : Sta
               ∙ is_after.progress other below
               ∙ sym (progress_of-same s.config other h e (not_noted receiver other upto differ))
         ];
+        reserves = is_after.reserves ∙ sym (reserves_of-same h e refl refl);
+        header = is_after.header ∙ sym (header_after-same s.config h e refl);
       }
 
   -- after a skip
@@ -178,14 +196,18 @@ module _ (s : State) (h : List Entry) (is_after : IsStateAfter s h) (stamp : Sta
         next = sym (next_after-skipped s.config h e next refl);
         places = is_after.places;
         progress = λ other below. is_after.progress other below ∙ sym (progress_of-same s.config other h e refl);
+        reserves = is_after.reserves ∙ sym (reserves_of-same h e refl refl);
+        header = is_after.header ∙ sym (header_after-same s.config h e refl);
       }
 
-  -- after a MAP, where the flows are those after it
-  pub IsStateAfter-built : (now : ℕ) (m : FrameMap) (book : BookView) → book.config ≡ s.config
+  -- after a MAP, where the flows and the Reserves are those after it
+  pub IsStateAfter-built : (now : ℕ) (m : FrameMap) (book : BookView) (reserves : List Waiting)
+      → book.config ≡ s.config
       → book.flows ≡ flows_of (h ++ record { stamp = stamp; call = calls.Build now; reply = replies.Built m } ∷ [])
-      → IsStateAfter (record s { book = book; next = s.next + s.config.frame })
+      → reserves ≡ reserves_of (h ++ record { stamp = stamp; call = calls.Build now; reply = replies.Built m } ∷ [])
+      → IsStateAfter (record s { book = book; next = s.next + s.config.frame; reserves = reserves })
       (h ++ record { stamp = stamp; call = calls.Build now; reply = replies.Built m } ∷ [])
-  IsStateAfter-built now m book book_config flows =
+  IsStateAfter-built now m book reserves book_config flows left =
       let e : Entry = entry (calls.Build now) (replies.Built m) in
       record {
         lawful = is_after.lawful;
@@ -196,4 +218,44 @@ module _ (s : State) (h : List Entry) (is_after : IsStateAfter s h) (stamp : Sta
         next = ap (λ n. n + s.config.frame) is_after.next ∙ sym (next_after-built s.config h e m refl);
         places = is_after.places;
         progress = λ other below. is_after.progress other below ∙ sym (progress_of-same s.config other h e refl);
+        reserves = left;
+        header = is_after.header ∙ sym (header_after-same s.config h e refl);
+      }
+
+  -- after a Reserve
+  pub IsStateAfter-reserved : (usage : Usage) (slots : ℕ) → IsStateAfter
+      (record s { reserves = s.reserves ++ new_reserve (record { usage = usage; slots = slots }) ∷ [] })
+      (h ++ record { stamp = stamp; call = calls.Reserve usage slots; reply = replies.Reserved } ∷ [])
+  IsStateAfter-reserved usage slots =
+      let e : Entry = entry (calls.Reserve usage slots) replies.Reserved in
+      record {
+        lawful = is_after.lawful;
+        book_config = is_after.book_config;
+        table_config = is_after.table_config;
+        flows = is_after.flows ∙ sym (flows_of-quiet h e (λ sid. refl) (λ sid. refl) (λ sid. refl));
+        placed = is_after.placed ∙ sym (table_of-stays h e (λ sid. refl));
+        next = is_after.next ∙ sym (next_after-same s.config h e refl refl);
+        places = is_after.places;
+        progress = λ other below. is_after.progress other below ∙ sym (progress_of-same s.config other h e refl);
+        reserves = ap (λ rs. rs ++ new_reserve (record { usage = usage; slots = slots }) ∷ []) is_after.reserves
+            ∙ sym (reserves_of-push h e);
+        header = is_after.header ∙ sym (header_after-same s.config h e refl);
+      }
+
+  -- after a header
+  pub IsStateAfter-headed : (header : Header) → IsStateAfter (record s { header = header })
+      (h ++ record { stamp = stamp; call = header_call header; reply = replies.Noted } ∷ [])
+  IsStateAfter-headed header =
+      let e : Entry = entry (header_call header) replies.Noted in
+      record {
+        lawful = is_after.lawful;
+        book_config = is_after.book_config;
+        table_config = is_after.table_config;
+        flows = is_after.flows ∙ sym (flows_of-quiet h e (λ sid. refl) (λ sid. refl) (λ sid. refl));
+        placed = is_after.placed ∙ sym (table_of-stays h e (λ sid. refl));
+        next = is_after.next ∙ sym (next_after-same s.config h e refl refl);
+        places = is_after.places;
+        progress = λ other below. is_after.progress other below ∙ sym (progress_of-same s.config other h e refl);
+        reserves = is_after.reserves ∙ sym (reserves_of-same h e refl refl);
+        header = sym (header_after-set s.config h e header refl);
       }

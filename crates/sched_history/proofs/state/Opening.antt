@@ -5,6 +5,7 @@ use Rattle.std.specs.Prelude.{vec_capacity}
 use Rattle.minislots.specs.declared.config.Config.{Config}
 use Rattle.minislots.specs.Config.{IsLawful}
 use Rattle.minislots.proofs.Bounds.{bounds_of}
+use Rattle.map_build.specs.Opportunities.{header_of}
 use Rattle.sched_history.specs.declared.scheduler.state.State.{State}
 use Rattle.sched_history.specs.declared.scheduler.Scheduler.TheInside.{Inside}
 use Rattle.sched_history.specs.Life.{flows_of, table_of}
@@ -28,8 +29,8 @@ next-open c = omega arith
 pub IsStateAfter-open : (s : State) → IsLawful s.config → s.book.config ≡ s.config → s.book.flows ≡ []
     → s.table.config ≡ s.config
     → s.table.placed ≡ [] → s.next ≡ s.config.start
-    → s.progress ≡ replicate 16 s.config.start → IsStateAfter s []
-IsStateAfter-open s lawful book_config flows table_config placed next progress =
+    → s.progress ≡ replicate 16 s.config.start → s.reserves ≡ [] → s.header ≡ header_of s.config → IsStateAfter s []
+IsStateAfter-open s lawful book_config flows table_config placed next progress reserves header =
     let bounds = bounds_of s.config lawful in
     record {
       lawful = lawful;
@@ -42,6 +43,8 @@ IsStateAfter-open s lawful book_config flows table_config placed next progress =
       progress =
           λ receiver below. rw progress
           (get_or-replicate 16 receiver s.config.start 0 (omega (arith, bounds.receivers_most)));
+      reserves = reserves;
+      header = header;
     }
 
 -- A scheduler without entries is sound, where its fields stand for the empty history

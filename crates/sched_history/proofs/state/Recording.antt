@@ -100,7 +100,13 @@ IsKeptOf-inside a sound = record { is_after = sound.is_after; bounded = sound.bo
 -- a planned build may follow
 pub IsBuildAfter-planned : (m : Machine) (p : PlannedBuild) → IsPlanAfter m p → IsBuildAfter m.config m.history p
 IsBuildAfter-planned m p fits =
-    record { lawful = fits.lawful; encodable = fits.encodable; config = fits.config; flows = fits.flows }
+    record {
+      lawful = fits.lawful;
+      encodable = fits.encodable;
+      config = fits.config;
+      flows = fits.flows;
+      reserves = fits.reserves;
+    }
 
 -- and is planned, where there is room and no test refuses it
 pub IsPlanAfter-build : (m : Machine) (p : PlannedBuild) → is_full m ≡ false
@@ -113,6 +119,7 @@ IsPlanAfter-build m p room unrefused fits =
       encodable = fits.encodable;
       config = fits.config;
       flows = fits.flows;
+      reserves = fits.reserves;
     }
 
 -- a call that no test refuses is open

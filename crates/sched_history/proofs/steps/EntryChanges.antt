@@ -21,7 +21,7 @@ use Rattle.sched_history.specs.declared.reply.Refusal.TheVariants.{NoPlace}
 use Rattle.sched_history.specs.declared.reply.Reply.{Reply}
 use Rattle.sched_history.specs.declared.reply.Reply.TheVariants as replies
 use Rattle.sched_history.specs.declared.reply.Entry.{Entry}
-use Rattle.sched_history.specs.Life.{Life, life_of, flow_in_life, flows_of}
+use Rattle.sched_history.specs.Life.{turn_by, asked_by, grants_by, Life, life_of, flow_in_life, flows_of}
 use Rattle.sched_history.specs.Time.{skip_by, is_built, next_after, IsFirstStart}
 use Rattle.sched_history.specs.Refusal.{most_bytes, most_ahead, last_clock, refusal_of}
 use Rattle.sched_history.specs.History.{PlacesOrRefuses, AnswersAdmit, flow_status, IsNextMap}
@@ -118,6 +118,13 @@ module _ (c : Config) (lawful : IsLawful c) (stamp : Stamp) (h : List Entry) whe
       by_reply (calls.Status sid) reply (flow_status f) answers
       (tells_sums sid (takes_requests f.spec) f.asked (granted f) (outstanding f))
 
+  -- a call that changes neither flows nor the next frame
+  quiet : (call : Call) (reply : Reply) → ((sid : ℕ) → turn_by sid call reply ≡ None)
+      → ((sid : ℕ) → asked_by sid call reply ≡ 0) → ((sid : ℕ) → grants_by sid reply ≡ []) → skip_by reply ≡ None
+      → is_built reply ≡ false → EntryChange c h (after call reply)
+  quiet call reply turns asks grants skips builds =
+      Nothing (flows_of-quiet h (entry call reply) turns asks grants) (same_next call reply skips builds)
+
   heard : (receiver upto : ℕ) → EntryChange c h (after (calls.Heard receiver upto) replies.Noted)
   heard receiver upto =
       let e : Entry = entry (calls.Heard receiver upto) replies.Noted in
@@ -163,6 +170,13 @@ module _ (c : Config) (lawful : IsLawful c) (stamp : Stamp) (h : List Entry) whe
   answered (calls.Skip now) reply none answers =
       by_reply (calls.Skip now) reply (replies.Skipped answers.0) answers.2 (skips now answers.0 answers.1 none)
   answered (calls.Status sid) reply none answers = tells sid (life_of sid h) reply answers
+  answered (calls.Reserve usage slots) reply none answers =
+      by_reply (calls.Reserve usage slots) reply replies.Reserved answers
+      (quiet (calls.Reserve usage slots) replies.Reserved (λ sid. refl) (λ sid. refl) (λ sid. refl) refl refl)
+  answered (calls.Header count ranging_start ranging_end data_start data_end) reply none answers =
+      let call : Call = calls.Header count ranging_start ranging_end data_start data_end in
+      by_reply call reply replies.Noted answers
+      (quiet call replies.Noted (λ sid. refl) (λ sid. refl) (λ sid. refl) refl refl)
 
   stepped : (call : Call) (reply : Reply) (o : Option Refusal) → refusal_of c h call ≡ o
       → MatchOption o (Answers c h call reply) (λ refusal. reply ≡ replies.Refused refusal)

@@ -19,7 +19,7 @@ use Rattle.sched_history.specs.declared.reply.Entry.{Entry}
 use Rattle.sched_history.specs.Life.{flows_of}
 use Rattle.sched_history.specs.Time.{next_after}
 use Rattle.sched_history.specs.Refusal.{most_bytes, most_ahead, last_clock}
-use Rattle.sched_history.specs.History.{IsLegal}
+use Rattle.sched_history.specs.History.{demand_after, IsLegal}
 use Rattle.sched_history.proofs.lives.LiveFlows.{flows_of-none}
 use Rattle.sched_history.proofs.steps.LegalHistories.{legal_induction}
 use Rattle.sched_history.proofs.steps.EntryChanges.{EntryChange, Nothing, Asked, Began, Ended}
@@ -119,7 +119,7 @@ module _ (c : Config) (lawful : IsLawful c) where
         grants = λ m map next f started. all-append (λ (g : Grant). g.start < next_after c new) f.grants
             (grants_to (next_after c h) f.sid map.0) (older f.grants started)
             (rw next (grants_to-before c.frame (next_after c h) f.sid map.0
-            (plan-offsets c (flows_of h) _ (next_after c h) map.0 map.1)));
+            (plan-offsets c (demand_after c h) map.0 map.1)));
       }
 
   -- each data grant of a live flow starts before the next frame

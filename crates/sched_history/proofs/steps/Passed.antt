@@ -1,5 +1,5 @@
 -- What is known of a call that passed all tests.
-use Rattle.std.proofs.Common.{◌≡◌, ℕ, ◌+◌, ◌≤◌, ◌<◌, Bool, true, false, not, nat_lt, nat_le, ◌==◌}
+use Rattle.std.proofs.Common.{◌≡◌, ℕ, ◌+◌, ◌-◌, ◌≤◌, ◌<◌, Bool, true, false, not, nat_lt, nat_le, ◌==◌}
 use Rattle.std.proofs.Common.{◌||◌, ◌&&◌, List, length, Option, None, Some, refl, arith}
 use Rattle.std.specs.Option.{option_or, option_map}
 use Rattle.std.proofs.lemmas.Bool.Decides.{nat_tests}
@@ -9,15 +9,19 @@ use Rattle.flow_book.specs.declared.spec.FlowSpec.{FlowSpec}
 use Rattle.flow_book.specs.declared.spec.FlowFault.{FlowFault}
 use Rattle.flow_book.specs.FlowSpec.{is_periodic, grants_of, first_fault}
 use Rattle.periodic.specs.declared.TheConstants.{MAX_PERIODIC_GRANTS}
-use Rattle.sched_history.specs.declared.call.Call.TheVariants.{Admit, Remove, Ask, Heard, Build, Skip, Status}
+use Rattle.map_build.specs.declared.opportunity.Usage.{Usage}
+use Rattle.sched_history.specs.declared.call.TheConstants.{MAX_RESERVES}
+use Rattle.sched_history.specs.declared.call.Call.TheVariants.{Admit, Remove, Ask, Heard, Build, Skip, Status, Reserve}
 use Rattle.sched_history.specs.declared.reply.Refusal.{Refusal}
 use Rattle.sched_history.specs.declared.reply.Refusal.TheVariants.{BadSid, BadFlow, NoFlow, NotAsking, BadReceiver}
 use Rattle.sched_history.specs.declared.reply.Refusal.TheVariants.{BadBytes, Acked, Ahead, Backwards}
+use Rattle.sched_history.specs.declared.reply.Refusal.TheVariants.{BadLength, ReservesFull}
 use Rattle.sched_history.specs.declared.reply.Entry.{Entry}
 use Rattle.sched_history.specs.Life.{flows_of}
 use Rattle.sched_history.specs.Time.{next_after, progress_of}
+use Rattle.sched_history.specs.Reserves.{reserves_of}
 use Rattle.sched_history.specs.Refusal.{refused_if, most_bytes, most_ahead, last_clock, bad_sid}
-use Rattle.sched_history.specs.Refusal.{is_live, is_silent, periodic_grants, refusal_of}
+use Rattle.sched_history.specs.Refusal.{is_live, is_silent, periodic_grants, is_to_bad_sid, refusal_of}
 
 -- where no test refuses the first does not, nor do the others
 passed : (b : Bool) (refusal : Refusal) (rest : Option Refusal) → option_or (refused_if b refusal) rest ≡ None
@@ -179,3 +183,32 @@ passed-skip c h now e =
     let clock = passed _ _ _ e in
     let late = passed _ _ _ clock.1 in
     record { clock = within last_clock now clock.0; late = above (now + c.lead) (next_after c h) late.0 }
+
+some : (n : ℕ) → n == 0 ≡ false → 0 < n
+some n test = grind (arith, nat_tests)
+
+-- A Reserve passed
+pub record MayReserve (c : Config) (h : List Entry) (usage : Usage) (slots : ℕ) : Type 0 where
+  pub good : is_to_bad_sid usage ≡ false
+  pub some_slots : 0 < slots
+  pub within : slots ≤ c.frame - c.req_slots
+  pub room : length (reserves_of h) < MAX_RESERVES
+
+-- a Reserve that no test refuses passed
+pub passed-reserve : (c : Config) (h : List Entry) (usage : Usage) (slots : ℕ)
+    → refusal_of c h (Reserve usage slots) ≡ None → MayReserve c h usage slots
+passed-reserve c h usage slots e =
+    let full : Option Refusal =
+    option_or (refused_if (nat_le MAX_RESERVES (length (reserves_of h))) ReservesFull) None in
+    let long : Option Refusal =
+    option_or (refused_if (slots == 0 || nat_lt (c.frame - c.req_slots) slots) BadLength) full in
+    let past_sid = passed (is_to_bad_sid usage) BadSid long e in
+    let past_length = passed (slots == 0 || nat_lt (c.frame - c.req_slots) slots) BadLength full past_sid.1 in
+    let past_room = passed (nat_le MAX_RESERVES (length (reserves_of h))) ReservesFull None past_length.1 in
+    let lengths = neither (slots == 0) (nat_lt (c.frame - c.req_slots) slots) past_length.0 in
+    record {
+      good = past_sid.0;
+      some_slots = some slots lengths.0;
+      within = within (c.frame - c.req_slots) slots lengths.1;
+      room = above MAX_RESERVES (length (reserves_of h)) past_room.0;
+    }

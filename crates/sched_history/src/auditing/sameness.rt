@@ -15,6 +15,7 @@ pub(crate) enum PlainReply {
     Removed,
     Taken,
     Noted,
+    Reserved,
     Skipped(u64),
     Flow(u64, u64, u64),
     Refused(Refusal),
@@ -44,6 +45,7 @@ fn plain(reply: &Reply) -> Option<PlainReply>
         Reply::Removed => Some(PlainReply::Removed),
         Reply::Taken => Some(PlainReply::Taken),
         Reply::Noted => Some(PlainReply::Noted),
+        Reply::Reserved => Some(PlainReply::Reserved),
         Reply::Built(_) => None,
         Reply::Skipped(next) => Some(PlainReply::Skipped(*next)),
         Reply::Flow {

@@ -3,6 +3,7 @@
 ghost use Rattle.std.specs.Prelude.{◌≡◌, ◌+◌, List, false, true, IfOk, OnErr};
 ghost use Rattle.flow_book.specs.FlowSpec.{is_periodic};
 ghost use Rattle.sched_history.specs.declared.reply.Entry.{Entry};
+ghost use Rattle.sched_history.specs.Reserves.{header_call};
 ghost use Rattle.sched_history.specs.Time.{IsFirstStart};
 ghost use Rattle.sched_history.specs.State.{IsOpenTo, IsOpen, IsBuildAfter, AnswersOpen, TakesMemoryOpen, IsAnswered};
 
@@ -12,6 +13,7 @@ use super::state::State;
 use crate::call::Call;
 use crate::reply::{Refusal, Reply};
 use flow_book::FlowSpec;
+use map_build::{Header, Opportunity, Usage};
 use periodic::PlaceFault;
 use std::alloc::{AllocError, Global};
 
@@ -45,6 +47,20 @@ impl State {
             Call::Build { now } => self.build(alloc, now),
             Call::Skip { now } => Ok(self.skip(now)),
             Call::Status(sid) => Ok(self.tell(sid)),
+            Call::Reserve { usage, slots } => Ok(self.reserve(usage, slots)),
+            Call::Header {
+                ucd_count,
+                ranging_start,
+                ranging_end,
+                data_start,
+                data_end,
+            } => Ok(self.note_header(Header {
+                ucd_count,
+                ranging_start,
+                ranging_end,
+                data_start,
+                data_end,
+            })),
         }
     }
 
@@ -112,6 +128,31 @@ impl State {
         }
     }
 
+    // Keeps a Reserve for the next MAPs.
+    fn reserve(&mut self, usage: Usage, slots: u32) -> Answer
+        requires { IsOpen self.old (Call.Reserve usage slots) }
+        ensures { AnswersOpen self.old self.new (Call.Reserve usage slots) result }
+    {
+        let slots = slots as u16;
+        self.reserves.add(Opportunity { usage, slots });
+        Answer {
+            reply: Reply::Reserved,
+            kept: Reply::Reserved,
+        }
+    }
+
+    // Notes the header of the next MAPs.
+    fn note_header(&mut self, header: Header) -> Answer
+        requires { IsOpen self.old (header_call header) }
+        ensures { AnswersOpen self.old self.new (header_call header) result }
+    {
+        self.header = header;
+        Answer {
+            reply: Reply::Noted,
+            kept: Reply::Noted,
+        }
+    }
+
     // Builds the MAP of the next frame.
     fn build(&mut self, alloc: Global, now: u64) -> Result<Answer, AllocError>
         requires { IsOpen self.old (Call.Build now) }
@@ -135,9 +176,11 @@ impl State {
             map,
             kept,
             book,
+            met,
             ..
         } = planned;
         self.book = book;
+        self.reserves.age(&met);
         self.next += u64::from(self.config.frame());
         Answer {
             reply: Reply::Built(map),

@@ -72,6 +72,8 @@ impl State {
             Call::Build { .. } => unreachable!(),
             Call::Skip { now } => Reply::Skipped(self.start_after(now)),
             Call::Status(sid) => self.tell(sid).reply,
+            Call::Reserve { .. } => Reply::Reserved,
+            Call::Header { .. } => Reply::Noted,
         }
     }
 

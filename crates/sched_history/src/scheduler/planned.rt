@@ -3,7 +3,7 @@
 ghost use Rattle.std.specs.Prelude.{◌≡◌};
 
 use flow_book::Book;
-use map_build::FrameMap;
+use map_build::{FrameMap, MAX_WAITING};
 use std::marker::Model;
 
 /// A build with the MAP of the next frame, which [`crate::Scheduler::commit`] records. Contracts see its
@@ -17,6 +17,8 @@ pub struct Planned {
     pub(super) kept: FrameMap,
     // The flows with the data grants of the MAP.
     pub(super) book: Book,
+    // Which of the Reserves that waited for the MAP it meets.
+    pub(super) met: [bool; MAX_WAITING],
 }
 
 impl Model for Planned {
@@ -30,6 +32,7 @@ impl Model for Planned {
       clock = p.clock;
       map = p.map;
       flows = p.book.flows;
+      met = p.met;
     } };
 
     ghost invariant = { λ p. p.kept ≡ p.map };

@@ -6,12 +6,13 @@ ghost use Rattle.periodic.specs.declared.TheConstants.{MAX_PERIODIC_GRANTS};
 ghost use Rattle.sched_history.specs.Life.{life_of};
 ghost use Rattle.sched_history.specs.Time.{next_after, progress_of};
 ghost use Rattle.sched_history.specs.Refusal.{bad_sid, is_live, is_silent, periodic_grants, refused_if};
-ghost use Rattle.sched_history.specs.Refusal.{first_of, refusal_of, most_bytes};
+ghost use Rattle.sched_history.specs.Refusal.{first_of, refusal_of, most_bytes, is_wide};
 
 use super::present::Present;
 use crate::call::Call;
 use crate::reply::Refusal;
 use flow_book::{FlowSpec, MAX_FLOWS};
+use map_build::Usage;
 use periodic::MAX_PERIODIC_GRANTS;
 
 // The greatest SID of a flow.
@@ -20,6 +21,8 @@ const LAST_SID: u16 = 8191;
 const MOST_BYTES: u32 = 1_048_560;
 // The most minislots that are described ahead.
 const MOST_AHEAD: u64 = 4096;
+// The greatest exponent of a backoff window.
+const MOST_EXPONENT: u8 = 15;
 // The greatest clock.
 const LAST_CLOCK: u64 = 1 << 60;
 
@@ -44,6 +47,27 @@ pub(super) fn takes_requests(spec: FlowSpec) -> bool
     !matches!(spec, FlowSpec::Unsolicited { .. })
 }
 
+// The refusal of exponents of backoff windows.
+fn refuse_backoff(
+    ranging_start: u8,
+    ranging_end: u8,
+    data_start: u8,
+    data_end: u8,
+) -> Option<Refusal>
+    ensures { result ≡ refused_if (is_wide ranging_start || is_wide ranging_end || is_wide data_start
+        || is_wide data_end) Refusal.BadBackoff }
+{
+    if ranging_start > MOST_EXPONENT
+        || ranging_end > MOST_EXPONENT
+        || data_start > MOST_EXPONENT
+        || data_end > MOST_EXPONENT
+    {
+        Some(Refusal::BadBackoff)
+    } else {
+        None
+    }
+}
+
 impl<'a> Present<'a> {
     // The first refusal of a call.
     pub(crate) fn refusal_of(&self, call: Call) -> Option<Refusal>
@@ -64,6 +88,14 @@ impl<'a> Present<'a> {
             Call::Heard { receiver, upto } => self.refuse_progress(receiver, upto),
             Call::Build { now } => self.refuse_build(now),
             Call::Skip { now } => self.refuse_skip(now),
+            Call::Reserve { usage, slots } => self.refuse_reserve(usage, slots),
+            Call::Header {
+                ranging_start,
+                ranging_end,
+                data_start,
+                data_end,
+                ..
+            } => refuse_backoff(ranging_start, ranging_end, data_start, data_end),
         }
     }
 
@@ -182,6 +214,24 @@ impl<'a> Present<'a> {
             Some(Refusal::Ahead(self.state.next))
         } else if upto < progress {
             Some(Refusal::Backwards(progress))
+        } else {
+            None
+        }
+    }
+
+    // The refusal of a Reserve.
+    fn refuse_reserve(&self, usage: Usage, slots: u32) -> Option<Refusal>
+        ensures { result ≡ refusal_of self.now.config self.now.history (Call.Reserve usage slots) }
+    {
+        let config = &self.state.config;
+        if let Usage::Station(sid) = usage
+            && is_bad_sid(sid)
+        {
+            Some(Refusal::BadSid)
+        } else if slots == 0 || slots > config.frame() - config.req_slots() {
+            Some(Refusal::BadLength)
+        } else if self.state.reserves.is_full() {
+            Some(Refusal::ReservesFull)
         } else {
             None
         }

@@ -9,23 +9,27 @@ ghost use Rattle.flow_book.specs.Flows.{flow_of};
 ghost use Rattle.flow_book.specs.Choice.{HasStartedBy};
 ghost use Rattle.flow_book.specs.Book.{IsLive, with_flow, new_flow, without};
 ghost use Rattle.periodic.specs.declared.TheConstants.{MAX_PERIODIC_GRANTS};
-ghost use Rattle.periodic.specs.Placement.{IsPlacement, NoPlacement, spots_in};
+ghost use Rattle.periodic.specs.Placement.{IsPlacement, NoPlacement};
 ghost use Rattle.periodic.specs.Table.{placed_grants, IsPlaced, with_placed, without as without_placed};
+ghost use Rattle.map_build.specs.declared.frame_map.FrameMap.{FrameMap};
+ghost use Rattle.map_build.specs.Opportunities.{MayWait, HaveStationSids};
 ghost use Rattle.map_build.specs.FrameMap.{IsLawfulMap, IsLawfulFrame};
 ghost use Rattle.map_build.specs.Spots.{AreOfChannel, ArePeriodicOf};
 ghost use Rattle.sched_history.specs.declared.reply.Reply.TheVariants.{Flow};
 ghost use Rattle.sched_history.specs.Time.{least, IsFirstStart};
 ghost use Rattle.sched_history.specs.History.{flow_status, IsNextMap};
 ghost use Rattle.sched_history.specs.declared.reply.Entry.{Entry};
-ghost use Rattle.sched_history.specs.State.{IsStateAfter, IsOpenTo, IsOpen, IsBuildAfter};
+ghost use Rattle.sched_history.specs.Reserves.{waiting_in};
+ghost use Rattle.sched_history.specs.State.{next_demand, IsStateAfter, IsOpenTo, IsOpen, IsBuildAfter};
 ghost use Rattle.sched_history.specs.Facts.{IsWithinAsked};
 
 use super::planned::Planned;
 use super::refusing::{is_periodic, takes_requests};
+use super::reserves::Reserves;
 use crate::call::Call;
 use crate::reply::copy_of_placement;
 use flow_book::{Book, FlowSpec};
-use map_build::{FrameMap, plan_with_book};
+use map_build::{Header, PlannedFrame, plan_with_book};
 use minislots::Checked;
 use periodic::{PlaceFault, Placement, Table};
 use std::alloc::{AllocError, Global};
@@ -40,6 +44,10 @@ pub(crate) struct State {
     pub(crate) next: u64,
     // The minislot before which each receiver has handed in every request that it heard.
     pub(crate) progress: [u64; 16],
+    // The Reserves that are neither met nor lapsed.
+    pub(crate) reserves: Reserves,
+    // The header of the next MAP.
+    pub(crate) header: Header,
 }
 
 // The least of some numbers, 0 where there are none.
@@ -72,6 +80,8 @@ impl State {
             table: Table::open(alloc, config)?,
             next: start,
             progress: [start; 16],
+            reserves: Reserves::none(),
+            header: Header::of(&config),
         })
     }
 
@@ -196,8 +206,8 @@ impl State {
         least_of(&self.progress[..usize::from(self.config.receivers())])
     }
 
-    // The MAP of the next frame, and the book with its data grants.
-    fn plan_next(&self, alloc: Global) -> Result<(FrameMap, Book), AllocError>
+    // The MAP of the next frame, and what it changes.
+    fn plan_next(&self, alloc: Global) -> Result<PlannedFrame, AllocError>
         requires book_config { self.now.book.config ≡ self.now.config }
         requires table_config { self.now.table.config ≡ self.now.config }
         requires aligned { self.now.next % self.now.config.frame ≡ 0 }
@@ -205,19 +215,28 @@ impl State {
         requires started { AllByRecursion (HasStartedBy self.now.next) self.now.book.flows }
         requires periodic { ArePeriodicOf self.now.book.flows self.now.table.placed }
         requires channel { AreOfChannel self.now.book.flows }
-        ensures lawful { IfOk result
-            (λ both. IsLawfulFrame self.now.config self.now.book.flows (spots_in self.now.config
-            (self.now.next / self.now.config.frame) self.now.table.placed) self.now.next
-            (least (take self.now.config.receivers self.now.progress)) both.0 both.1.flows) }
-        ensures only { IfOk result (λ both. (n : FrameMap)
-            → IsLawfulMap self.now.config self.now.book.flows (spots_in self.now.config
-            (self.now.next / self.now.config.frame) self.now.table.placed) self.now.next
-            (least (take self.now.config.receivers self.now.progress)) n → n ≡ both.0) }
-        ensures encodable { IfOk result (λ both. IsWellFormed both.0.wire) }
-        ensures config { IfOk result (λ both. both.1.config ≡ self.now.config) }
+        requires waiting { MayWait (waiting_in self.now.reserves) }
+        requires stations { HaveStationSids (waiting_in self.now.reserves) }
+        ensures lawful { IfOk result (λ p. IsLawfulFrame self.now.config (next_demand self.now)
+            self.now.header (least (take self.now.config.receivers self.now.progress)) p) }
+        ensures only { IfOk result (λ p. (n : FrameMap)
+            → IsLawfulMap self.now.config (next_demand self.now)
+            self.now.header (least (take self.now.config.receivers self.now.progress)) n → n ≡ p.map) }
+        ensures encodable { IfOk result (λ p. IsWellFormed p.map.wire) }
+        ensures config { IfOk result (λ p. p.book.config ≡ self.now.config) }
     {
         let frame = self.next / u64::from(self.config.frame());
-        plan_with_book(alloc, &self.book, &self.table, frame, self.ack())
+        let waiting = self.reserves.waiting();
+        let waiting = &waiting[..self.reserves.waiting_count()];
+        plan_with_book(
+            alloc,
+            &self.book,
+            &self.table,
+            frame,
+            self.ack(),
+            self.header,
+            waiting,
+        )
     }
 
     // The build of the MAP of the next frame, with all that it fills.
@@ -229,12 +248,14 @@ impl State {
         ensures only { IfOk result (λ planned. (h : List Entry) → IsOpenTo self.now
             (Call.Build now) h → (n : FrameMap) → IsNextMap self.now.config h n → n ≡ planned.map) }
     {
-        let (map, book) = self.plan_next(alloc)?;
+        let frame = self.plan_next(alloc)?;
+        let PlannedFrame { map, book, met } = frame;
         Ok(Planned {
             clock: now,
             kept: map.copy(alloc)?,
             map,
             book,
+            met,
         })
     }
 }

@@ -14,6 +14,6 @@ returns-clause-is c =
     let are = c.in_ok-found.ensures.are in (
       object are.0,
       object_read c.args.depth c.args.reader.now r c.next.new.self are.0 (omega arith) is are.1,
-      sym (seen_call_is are.0) ∙ ap seen_call (sym are.2) ∙ sym c.in-Some.ensures,
+      seen_call_is are.0 c.in-Some.call (ap seen_call (sym are.2) ∙ sym c.in-Some.ensures),
       no_configuration are.0 c.in_ok-found.found are.2,
     )

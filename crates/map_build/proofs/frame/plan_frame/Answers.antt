@@ -1,11 +1,17 @@
 -- The MAP alone.
+use Rattle.std.proofs.Common.{[]}
 use Rattle.periodic.specs.Placement.{spots_in}
+use Rattle.map_build.specs.Opportunities.{header_of}
+use Rattle.map_build.specs.Plan.{demand_at}
 use Rattle.map_build.proofs.Planned.{lawful-from_frame}
 use Rattle.map_build.proofs.frame.plan_frame.Goals as goal
 
 pub returns-clause-lawful : goal.returns-clause-lawful
 returns-clause-lawful c =
     let book = c.args.book.now in
-    lawful-from_frame book.config book.flows (spots_in book.config c.args.frame c.args.table.now.placed) _ c.args.ack
-    _ _
-    c.in_ok-map.ensures.lawful
+    lawful-from_frame book.config (demand_at book.flows (spots_in book.config c.args.frame c.args.table.now.placed) []
+    _) (header_of book.config) c.args.ack _
+    (rw (c.of-header.ensures, c.config.ensures.value) at c.in_ok-planned.ensures.lawful)
+
+pub returns-clause-only : goal.returns-clause-only
+returns-clause-only c = rw (c.of-header.ensures, c.config.ensures.value) at c.in_ok-planned.ensures.only

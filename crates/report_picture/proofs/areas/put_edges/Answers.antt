@@ -6,7 +6,7 @@ use Rattle.report_picture.proofs.areas.put_edges.Goals as goal
 
 pub loop-i-preserved : goal.loop-i-preserved
 loop-i-preserved g c = (
-  text_more _ _ _ (edge_text c.args.course c.args.kind c.args.uses.now) c.loop-i.i c.loop-i.invariant.0
+  text_more _ _ _ (edge_text c.args.course c.args.kind c.args.steps.now) c.loop-i.i c.loop-i.invariant.0
       c.in_ok-put_edge.ensures.0,
   c.in_ok-put_edge.ensures.1 ∙ c.loop-i.invariant.1,
 )

@@ -2,7 +2,7 @@
 use Rattle.std.proofs.Common.{refl, length}
 use Rattle.frame_picture.specs.Frames.{frames_of}
 use Rattle.sched_report.specs.Totals.{totals_of}
-use Rattle.report_picture.specs.OverTime.{uses_of}
+use Rattle.report_picture.specs.OverTime.{all_steps}
 use Rattle.report_picture.specs.Picture.{report_text, course_of}
 use Rattle.report_picture.proofs.picture.put_report_picture.Goals as goal
 
@@ -13,13 +13,13 @@ returns g c =
     let width = c.over_time-over_time.result.now.width in
     let told = c.over_time-over_time.ensures.told in
     let ranks = c.ranks_told-ranks.result in (
-      report_text (course_of past.config (length fs) width) (totals_of past.config past.history)
-          (uses_of width fs) ranks,
+      report_text (course_of past.config (totals_of past.config past.history) (length fs) width)
+          (totals_of past.config past.history) (all_steps width fs) ranks,
       record {
         width = width;
         is_width = told.width;
         ranks = ranks;
-        are_ranks = rw c.reporter.ensures at c.ranks_told-ranks.ensures.told;
+        are_ranks = rw c.reporter-2.ensures at c.ranks_told-ranks.ensures.told;
         text_is = refl;
       },
       rw (
@@ -27,8 +27,8 @@ returns g c =
         c.as_slice-2.ensures,
         c.course_of-course.ensures.value,
         c.totals-totals.ensures,
-        c.reporter-2.ensures,
-        c.uses-uses.ensures fs told,
+        c.reporter.ensures,
+        c.all_steps-steps.ensures fs told,
         told.are.count,
         c.requires.same,
       )

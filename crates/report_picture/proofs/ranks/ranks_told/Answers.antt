@@ -2,9 +2,9 @@
 use Rattle.std.proofs.Common.{length, ◌∙◌, ap, refl, arith}
 use Rattle.std.specs.Prelude.{slice_index}
 use Rattle.std.proofs.lemmas.List.{length_push}
-use Rattle.report_writing.specs.declared.gathered.RankTold.{RankTold}
-use Rattle.report_writing.specs.Gathered.{ranks_served}
-use Rattle.report_writing.proofs.Gathering.{first-ranks-more, first-ranks-same}
+use Rattle.sched_report.specs.declared.ranks_told.RankTold.{RankTold}
+use Rattle.sched_report.specs.RanksTold.{ranks_served}
+use Rattle.sched_report.proofs.RanksTold.{first-ranks-more, first-ranks-same}
 use Rattle.report_picture.proofs.ranks.ranks_told.Goals.{then-numbers-gt0, else-numbers-gt0}
 use Rattle.report_picture.proofs.ranks.ranks_told.Goals as goal
 

@@ -1,6 +1,6 @@
 -- The ranks so far.
 use Rattle.std.proofs.Common.{◌≤◌, length}
-use Rattle.report_writing.proofs.Gathering.{AreFirstRanks}
+use Rattle.sched_report.proofs.RanksTold.{AreFirstRanks}
 use Rattle.report_picture.proofs.ranks.ranks_told.Given as goal
 
 abbrev pub invariant-loop-index : goal.invariant-loop-index

@@ -1,5 +1,5 @@
 -- The ranks so far.
-use Rattle.report_writing.proofs.Gathering.{AreFirstRanks}
+use Rattle.sched_report.proofs.RanksTold.{AreFirstRanks}
 use Rattle.report_writing.proofs.gathered.ranks_told.Given as goal
 
 abbrev pub invariant-loop-index : goal.invariant-loop-index

@@ -26,6 +26,7 @@ unmoved (replies.Admitted placement) unbuilt unskipped = (refl, refl)
 unmoved replies.Removed unbuilt unskipped = (refl, refl)
 unmoved replies.Taken unbuilt unskipped = (refl, refl)
 unmoved replies.Noted unbuilt unskipped = (refl, refl)
+unmoved replies.Reserved unbuilt unskipped = (refl, refl)
 unmoved (replies.Flow asked granted outstanding) unbuilt unskipped = (refl, refl)
 unmoved (replies.Refused refusal) unbuilt unskipped = (refl, refl)
 

@@ -1,6 +1,7 @@
--- An entry does nothing to a flow whose SID no element of its MAP has, or that is not the one of its call.
-use Rattle.std.proofs.Common.{◌≡◌, ◌<◌, List, length, get_or, true, sym, subst}
+-- An entry does nothing to a flow whose SID no grant of its MAP has, or that is not the one of its call.
+use Rattle.std.proofs.Common.{◌≡◌, ◌<◌, List, ℕ, length, get_or, true, sym, ap, ◌∙◌, subst}
 use Rattle.map_codec.specs.declared.element.Element.{Element}
+use Rattle.map_drawing.specs.Allocation.{front_length}
 use Rattle.sched_report.specs.Named.{is_marked}
 use Rattle.sched_report.proofs.Naming.{unnamed-map, other_than}
 use Rattle.sched_report.proofs.named.marks_of.Goals as goal
@@ -8,7 +9,17 @@ use Rattle.sched_report.proofs.named.marks_of.Goals as goal
 pub returns-in-Built : goal.returns-in-Built
 returns-in-Built c = λ sid unset.
     let e = c.args.entry.now in
-    unnamed-map sid e.call e.reply c.in-Built.map c.in-Built.is (λ k (d : Element) below same.
-    other_than c.mark_each.new.marks sid (get_or c.in-Built.map.wire.elements k d).sid unset
-    (subst (λ (es : List Element). is_marked c.mark_each.new.marks (get_or es k d).sid ≡ true) c.as_slice.ensures
-    (c.mark_each.ensures k d (subst (λ (es : List Element). k < length es) (sym c.as_slice.ensures) below))) same)
+    let m = c.in-Built.map in
+    let marks = c.mark_each.new.marks in
+    let are = c.as_slice-elements.ensures in
+    let front : c.front_len.result ≡ front_length m.wire.elements =
+    c.front_len.ensures.count ∙ ap (λ (es : List Element). front_length es) are in
+    unnamed-map sid e.call e.reply m c.in-Built.is
+    (λ k (d : Element) below ahead. other_than marks sid (get_or m.wire.elements k d).sid unset
+    (subst (λ (es : List Element). is_marked marks (get_or es k d).sid ≡ true) are
+    (c.mark_each.ensures.front k d (subst (λ (es : List Element). k < length es) (sym are) below)
+    (subst (λ (n : ℕ). k < n) (sym front) ahead))))
+    (λ k (d : Element) below some. other_than marks sid (get_or m.wire.elements k d).sid unset
+    (subst (λ (es : List Element). is_marked marks (get_or es k d).sid ≡ true) are
+    (c.mark_each.ensures.granted k d (subst (λ (es : List Element). k < length es) (sym are) below)
+    (subst (λ (bs : List ℕ). 0 < get_or bs k 1) (sym c.as_slice.ensures) some))))

@@ -1,27 +1,23 @@
--- The rest of the marks.
-use Rattle.std.proofs.Common.{◌∙◌}
-use Rattle.report_picture.specs.OverTime.{use_in, frames_at}
-use Rattle.report_picture.proofs.Kept.{rest-marked, rest-last}
-use Rattle.report_picture.proofs.over_time.UseOverTime.step.Goals.{then-behind-self, else-behind-self}
+-- Where it starts, and its use.
+use Rattle.std.proofs.Common.{◌≡◌, ℕ, ap, ◌∙◌}
+use Rattle.sched_report.specs.declared.slots.Slots.{Slots}
+use Rattle.report_picture.specs.declared.over_time.Step.{Step}
+use Rattle.report_picture.proofs.Told.{first-told}
 use Rattle.report_picture.proofs.over_time.UseOverTime.step.Goals as goal
 
-pub rest_of-requires : goal.rest_of-requires
-rest_of-requires c =
-    let fs = c.requires.0 in
-    let is = c.requires.1 in
-    let u = c.args.self.now in (
-      use_in (frames_at u.width fs c.args.i),
-      elim c.if-behind-self.branch [
-        | then-behind-self w ↦ w.all-is ∙ rest-marked u fs is c.args.i _ _ w.if-behind-self.true c.requires.3
-        | else-behind-self w ↦ w.all-is ∙ rest-last u fs is c.args.i _ w.if-behind-self.false c.requires.3
-      ],
-    )
+-- a step by its parts
+step_of : ℕ → ℕ → Slots → Step
+step_of first last slots = record { first = first; last = last; slots = slots }
+
+same_step : (first other last behind : ℕ) (slots uses : Slots) → first ≡ other → last ≡ behind → slots ≡ uses
+    → step_of first last slots ≡ step_of other behind uses
+same_step first other last behind slots uses begins ends is =
+    ap (λ (n : ℕ). step_of n last slots) begins
+    ∙ ap (λ (n : ℕ). step_of other n slots) ends
+    ∙ ap (step_of other behind) is
 
 pub returns : goal.returns
+unfolding step_of
 returns c = λ fs is.
-    let u = c.args.self.now in
-    let i = c.args.i in
-    c.rest_of.ensures (use_in (frames_at u.width fs i)) (elim c.if-behind-self.branch [
-      | then-behind-self w ↦ w.all-is ∙ rest-marked u fs is i _ _ w.if-behind-self.true c.requires.3
-      | else-behind-self w ↦ w.all-is ∙ rest-last u fs is i _ w.if-behind-self.false c.requires.3
-    ])
+    same_step _ _ _ _ _ _ (first-told c.args.self.now fs is c.args.i _ c.requires.3) (c.last.ensures fs is)
+    (c.slots.ensures fs is)

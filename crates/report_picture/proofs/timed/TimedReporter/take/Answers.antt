@@ -1,5 +1,5 @@
 -- A frame more, where there is one.
-use Rattle.std.proofs.Common.{◌≡◌, ◌<◌, ◌++◌, ◌∷◌, [], length, inl, inr, sym, subst, ap, ◌∙◌, arith}
+use Rattle.std.proofs.Common.{◌≡◌, ◌<◌, ◌++◌, ◌∷◌, [], length, inl, inr, refl, sym, subst, ap, ◌∙◌, arith}
 use Rattle.std.proofs.lemmas.Bool.{cases_lt}
 use Rattle.frame_picture.specs.Frames.{Frame, frames_of}
 use Rattle.sched_history.specs.declared.reply.TheConstants.{MAX_WHOLE_HISTORY}
@@ -24,13 +24,13 @@ pub invariant_of-self-in-Built : goal.invariant_of-self-in-Built
 invariant_of-self-in-Built c =
     let h = c.self.inside.reporter.history in
     let e = c.args.entry.now in
-    let f : Frame = record { before = h; built = c.in-Built.field-0 } in
+    let f : Frame = record { before = h; built = c.in-Built.map } in
     let new : c.take.new.self.history ≡ h ++ e ∷ [] = ap (λ (p : Past). p.history) c.in_ok-take.ensures.taken in
     let frames : frames_of c.take.new.self.history ≡ frames_of h ++ f ∷ [] =
-    ap frames_of new ∙ frames_of-built h e c.in-Built.field-0 c.in-Built.is in
+    ap frames_of new ∙ frames_of-built h e c.in-Built.map c.in-Built.is in
     let over_time = subst (IsOverTime c.add.new.self) (sym frames)
     (c.add.ensures (frames_of h) f c.self.invariant.over_time
-    (ap (λ (t : Totals). t.slots) c.totals.ensures ∙ ap use_in frames)) in
+    (ap (λ (t : Totals). t.slots) c.totals.ensures ∙ ap use_in frames) refl) in
     record {
       over_time = over_time;
       short = one-more h e c.take.new.self.history new

@@ -15,7 +15,7 @@ add_frame-requires-clause-elements c =
     let k = c.args.config.now in
     let h = c.requires.0 in
     let e = c.args.entry.now in
-    of_next_frame k c.frame-frame.ensures.lawful h c.in-Built.map
+    of_next_frame k c.frame-frame.ensures.lawful h c.in-Built.map c.requires.1.legal
     (IsNextMap-from_step k h e.call c.in-Built.map
     (subst (λ (r : Reply). IsStep k h e.call r) c.in-Built.is c.requires.1.step))
 

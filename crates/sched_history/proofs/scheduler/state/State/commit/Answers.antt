@@ -1,6 +1,7 @@
 -- The next frame is described.
-use Rattle.std.proofs.Common.{refl, ap}
+use Rattle.std.proofs.Common.{refl, ap, ◌∙◌}
 use Rattle.sched_history.specs.declared.reply.Reply.TheVariants.{Built}
+use Rattle.sched_history.specs.Reserves.{aged, unmarked}
 use Rattle.sched_history.proofs.state.Moves.{IsStateAfter-built}
 use Rattle.sched_history.proofs.scheduler.state.State.commit.Goals as goal
 
@@ -14,5 +15,7 @@ returns-clause-answered c = λ h opens fits.
       config = refl;
       answers = (p.map, own.lawful, refl);
       encodable = own.encodable;
-      is_after = λ stamp. IsStateAfter-built s h opens.is_after stamp p.clock p.map p.book own.config (own.flows stamp);
+      is_after = λ stamp. IsStateAfter-built s h opens.is_after stamp p.clock p.map p.book c.age.new.self own.config
+          (own.flows stamp)
+          (c.age.ensures ∙ ap (λ rs. aged (unmarked p.met rs)) opens.is_after.reserves ∙ own.reserves stamp);
     })

@@ -32,5 +32,7 @@ returns c = λ h opens.
         skips = refl;
         builds = refl;
         notes = λ receiver. refl;
+        reserves = refl;
+        headers = refl;
       });
     }

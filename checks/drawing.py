@@ -1,0 +1,226 @@
+"""Scripts that are drawn call by call, where the plain scheduler (plain.py) stands, so that they meet what a run can
+meet; and the text of their histories."""
+
+import json
+
+from plain import HEADING, LAST_CLOCK, MOST_BYTES, Scheduler, line_of
+
+
+class Drawing:
+    """A script that is drawn call by call, where the plain scheduler stands."""
+
+    MORE = (0, 30, 150, 300)
+
+    def __init__(self, random_numbers):
+        self.draw = random_numbers
+        self.config = self.drawn_config()
+        self.plain = Scheduler(self.config)
+        self.sids = [self.draw.randint(1, 8191) for _ in range(self.draw.choice([3, 12, 12, 100]))]
+        self.admissions, self.builds = self.draw.choice([4, 4, 60]), self.draw.choice([6, 6, 6, 60])
+        kinds = ["best_effort", "polled", "unsolicited"]
+        self.kinds = self.draw.choice([kinds, kinds + kinds[:1] * 6, kinds[1:], kinds[2:]])
+        self.ranging = self.draw.choice([[], ["reserve"] * 3 + ["header"], ["reserve"] * 24 + ["header"]])
+        self.sizes = self.draw.choice([[0, 1, 20, 60, 60, 200, 200, 5000], [1, 1, 8]])
+        room = self.config["frame"] - self.config["req_slots"]
+        self.lengths = self.draw.choice([[1, 2, 4, 4, 8, room // 3, room - 1, room, room, room + 1, 0, 2**32 - 1],
+                                         [1, 1, 1, 2], [3, 4, 6, 10]])
+
+    def drawn_config(self):
+        draw = self.draw
+        frame = draw.choice([16, 40, 64, 100, 150, 256])
+        overhead, per_slot = draw.randint(1, 4), draw.choice([8, 16, 32, 64, 100])
+        region = draw.randint(1, min(8, frame - overhead - 9))
+        quantum = draw.randint(64, max(64, min(1522, (frame - region - overhead) * per_slot)))
+        if overhead + -(-quantum // per_slot) > frame - region:
+            per_slot, quantum = 100, 64
+        return {
+            "ticks": draw.choice([2, 4, 8, 16]), "bytes_per_slot": per_slot, "overhead": overhead, "frame": frame,
+            "cycle": draw.choice([1, 2, 4, 6, 12, 20, 64]), "req_slots": region, "poll_slots": draw.randint(1, 3),
+            "lead": draw.choice([0, frame, 4096 - 2 * frame]), "short_max": draw.randint(0, frame),
+            "quantum": quantum, "grant_cap": draw.randint(quantum, 5 * quantum), "receivers": draw.randint(1, 3),
+            "calls": draw.choice([40, *[1000] * 6]), "start": frame * draw.choice([0, 20, 2**31 // frame, 10**12]),
+            "ranging_start": draw.randint(0, 15), "ranging_end": draw.randint(0, 15), "data_start": draw.randint(0, 15),
+            "data_end": draw.randint(0, 15), "channel": draw.randint(0, 255), "ucd_count": draw.randint(0, 255),
+            "phy": draw.randint(0, 1),
+        }
+
+    def times(self):
+        """An interval of whole frames that part the cycle, or mostly so, and a jitter."""
+        quarters = 25 * self.config["ticks"]
+        frames = self.draw.choice([it for it in range(1, 65) if self.config["cycle"] % it == 0])
+        frames = self.draw.choice([frames] * 12 + [0, 65, frames * 3])
+        micros = frames * self.config["frame"] * quarters / 4
+        interval = int(micros) + (self.draw.random() < 0.05) * self.draw.randint(1, 60)
+        return {"interval_us": interval, "jitter_us": self.draw.choice([0, 0, 50, 400, 3000]) * quarters // 100}
+
+    def ceiling(self):
+        rate = self.draw.choice([0, 0, 64000, 300000, 5000000])
+        burst = self.draw.choice([self.config["quantum"], 1522, 5000, 100000])
+        return {"rate": rate, "burst": burst if self.draw.random() < 0.95 else 63}
+
+    def flow(self):
+        kind = self.draw.choice(self.kinds)
+        if kind == "best_effort":
+            return {"kind": kind, "priority": self.draw.choice([*range(8)] * 8 + [8, 255]),
+                    **self.ceiling()}
+        if kind == "polled":
+            return {"kind": kind, **self.times(), **self.ceiling()}
+        flow = {"kind": kind, "size": self.draw.choice(self.sizes), **self.times()}
+        return flow if self.draw.random() < 0.4 else {**flow, "grants": self.draw.choice([0, 1, 1, 1, 2, 2, 3, 8, 9])}
+
+    def sid(self, is_live):
+        """An SID that is live or not, mostly, as is wanted."""
+        wanted = [it for it in self.sids if (it in self.plain.flows) == is_live]
+        if self.draw.random() < 0.04:
+            return self.draw.choice([0, 8192, 65535, 4711])
+        return self.draw.choice(wanted if wanted and self.draw.random() < 0.95 else self.sids)
+
+    def clock(self):
+        """A time at which the next frame can be built, or mostly so."""
+        just = self.plain.next - self.config["lead"]
+        early = max(0, self.plain.next + self.config["frame"] - 4096)
+        times = [max(0, just)] * 6 + [early, max(0, early - 1), max(0, just) + 1, LAST_CLOCK + 1, max(0, just - 3)]
+        return self.draw.choice(times)
+
+    def receiver(self):
+        return self.draw.choice([*range(self.config["receivers"])] * 8 + [self.config["receivers"], 255])
+
+    def near(self, receiver):
+        """A minislot round the receiver's progress and the next frame."""
+        of = self.plain.progress[receiver] if receiver < self.config["receivers"] else self.config["start"]
+        end = self.plain.next
+        between = self.draw.randint(min(of, end), end)
+        return max(0, self.draw.choice([of, of, end - 1, end - 1, of - 1, end, end + 1, between]))
+
+    def next_call(self):
+        receiver, kinds = self.receiver(), ["ask"] * 9 + ["build"] * self.builds
+        kinds += ["admit"] * self.admissions + ["heard"] * 2
+        kind = self.draw.choice(kinds + ["status", "status", "remove", "skip"] + self.ranging)
+        if kind == "admit":
+            return {"call": kind, "sid": self.sid(False), "flow": self.flow()}
+        if kind in ("remove", "status"):
+            return {"call": kind, "sid": self.sid(True)}
+        if kind == "ask":
+            count = self.draw.choice([1, 64, 100, 544, 1522, 3000, 9000, 100000, MOST_BYTES])
+            count = count if self.draw.random() < 0.97 else self.draw.choice([0, MOST_BYTES + 1, 2**32 - 1])
+            asked = {"sid": self.sid(True), "bytes": count}
+            return {"call": kind, "receiver": receiver, **asked, "heard": self.near(receiver)}
+        if kind == "heard":
+            return {"call": kind, "receiver": receiver, "upto": self.near(receiver)}
+        if kind == "reserve":
+            return self.reserve()
+        if kind == "header":
+            return {"call": kind, **{key: self.draw.choice([*range(16)] * 3 + [16, 255]) for key in HEADING}}
+        return {"call": kind, "now": self.clock()}
+
+    def reserve(self):
+        """A Reserve, mostly short and of a length that a frame has."""
+        slots = self.draw.choice(self.lengths)
+        if self.draw.random() < 0.5:
+            return {"call": "reserve", "usage": "initial", "slots": slots}
+        return {"call": "reserve", "usage": "station", "sid": self.sid(self.draw.random() < 0.5), "slots": slots}
+
+    def build(self):
+        """A build of the next frame, which is not refused."""
+        return {"call": "build", "now": max(0, self.plain.next - self.config["lead"])}
+
+    def begun(self):
+        """The calls before those that are drawn one by one."""
+        return iter(())
+
+    def calls(self):
+        yield from self.begun()
+        for _ in range(self.draw.choice(self.MORE)):
+            yield self.next_call()
+
+    def play(self):
+        """The calls of the script and the plain scheduler's lines."""
+        calls, lines = [], []
+        for call in self.calls():
+            calls.append(call)
+            lines.append(line_of(self.plain.call(call)))
+        return calls, lines
+
+
+class Blocked(Drawing):
+    """A script that begins with Reserves for which a poll in each frame leaves no room, and as many MAPs as let them
+    lapse, or nearly so."""
+
+    def drawn_config(self):
+        return {**super().drawn_config(), "calls": 1000, "ticks": 4, "cycle": 1}
+
+    def begun(self):
+        frame, region = self.config["frame"], self.config["req_slots"]
+        times = {"interval_us": 25 * frame, "jitter_us": 0}
+        yield {"call": "admit", "sid": 8191, "flow": {"kind": "polled", **times, "rate": 0, "burst": 0}}
+        for _ in range(self.draw.choice([1, 15, 16, 17, 40, 65])):
+            yield {"call": "reserve", "usage": "initial", "slots": frame - region}
+        for _ in range(self.draw.choice([62, 63, 63, 64, 65])):
+            yield self.build()
+            if self.draw.random() < 0.1:
+                yield {"call": "reserve", "usage": "initial", "slots": self.draw.randint(1, 4)}
+        if self.draw.random() < 0.6:
+            yield {"call": "remove", "sid": 8191}
+            yield self.build()
+
+
+class Crowded(Drawing):
+    """A script that begins with forty polls, each behind a minislot or more that is nobody's, 64 flows that ask, and up
+    to sixteen Reserves: its MAP has up to 240 elements."""
+
+    MORE = (0, 10, 30)
+
+    def drawn_config(self):
+        frame = self.draw.randint(260, 320)
+        sizes = {"frame": frame, "bytes_per_slot": 64, "overhead": 1, "req_slots": 1, "poll_slots": 1, "cycle": 2}
+        times = {"ticks": 4, "start": 11 * frame, "lead": frame}
+        return {**super().drawn_config(), **sizes, **times, "quantum": 64, "grant_cap": 64, "calls": 1000}
+
+    def admit(self, sid, frames, jitter, **flow):
+        times = {"interval_us": 25 * self.config["frame"] * frames, "jitter_us": 25 * jitter}
+        return {"call": "admit", "sid": sid, "flow": {**times, **flow}}
+
+    def polled(self, sid, jitter=0):
+        return self.admit(sid, 1, jitter, kind="polled", rate=0, burst=0)
+
+    def begun(self):
+        """A grant that is removed again keeps the minislots before a poll free. The last poll but one is elsewhere in
+        the other frame of the cycle, where it keeps the last from the first minislot."""
+        yield self.build()
+        for sid in range(40, 2, -1):
+            yield self.admit(100, 1, 0, kind="unsolicited", size=64 * (2 * sid - 2))
+            yield self.polled(sid)
+            yield {"call": "remove", "sid": 100}
+        yield self.admit(100, 2, 0, kind="unsolicited", size=128)
+        yield self.polled(2, 3)
+        yield {"call": "remove", "sid": 100}
+        yield self.polled(1)
+        for sid in range(41, 65):
+            flow = {"kind": "best_effort", "priority": 7, "rate": 0, "burst": 0}
+            yield {"call": "admit", "sid": sid, "flow": flow}
+        heard = self.plain.next - 1
+        for sid in range(1, 65):
+            yield {"call": "ask", "receiver": 0, "sid": sid, "bytes": 6400, "heard": heard}
+        slots = self.draw.choice([[2], [2, 2, 2, 1, 3], [2, self.config["frame"] - 1]])
+        for _ in range(self.draw.choice([0, 1, 15, 16, 17, 20])):
+            yield {"call": "reserve", "usage": "initial", "slots": self.draw.choice(slots)}
+        yield self.build()
+        yield self.build()
+
+
+def drawing_of(random_numbers):
+    """A drawn script: of ten one begins so that Reserves lapse, and one so that its MAPs are crowded."""
+    return random_numbers.choice([Drawing] * 8 + [Blocked, Crowded])(random_numbers)
+
+
+def as_written(entries):
+    """Entries as a history has them: grants are always written."""
+    for entry in entries:
+        flow = entry["call"].get("flow", {})
+        if flow.get("kind") == "unsolicited":
+            entry = {**entry, "call": {**entry["call"], "flow": {"grants": 1, **flow}}}
+        yield entry
+
+
+def compact(value):
+    return json.dumps(value, sort_keys=True, separators=(",", ":"))

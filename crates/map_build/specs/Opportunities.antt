@@ -1,0 +1,64 @@
+-- The opportunities that wait for a MAP, and the header of a MAP.
+use Rattle.std.specs.Prelude.{◌≡◌, ℕ, ◌+◌, ◌<◌, ◌≤◌, Bool, true, false, List, length, Some}
+use Rattle.std.specs.List.{AllByRecursion, slice_get}
+use Rattle.minislots.specs.declared.config.Config.{Config}
+use Rattle.periodic.specs.declared.placement.Spot.{Spot}
+use Rattle.periodic.specs.Placement.{AreFree}
+use Rattle.map_build.specs.declared.TheConstants.{MAX_WAITING}
+use Rattle.map_build.specs.declared.opportunity.Header.{Header}
+use Rattle.map_build.specs.declared.opportunity.Opportunity.{Opportunity}
+use Rattle.map_build.specs.declared.opportunity.Usage.{Usage}
+use Rattle.map_build.specs.declared.opportunity.Usage.TheVariants.{Initial, Station}
+
+-- the header of a configuration
+abbrev pub header_of : Config → Header
+header_of c = record {
+  ucd_count = c.ucd_count;
+  ranging_start = c.ranging_start;
+  ranging_end = c.ranging_end;
+  data_start = c.data_start;
+  data_end = c.data_end;
+}
+
+-- a modem's SID is one that a flow may have
+abbrev pub HasStationSid : Usage → Type 0
+HasStationSid Initial = Unit {0}
+HasStationSid (Station sid) = (1 ≤ sid) × (sid ≤ 8191)
+
+-- each is to a modem's SID, or to all
+abbrev pub HaveStationSids : List Opportunity → Type 0
+HaveStationSids waiting = AllByRecursion (λ o. HasStationSid o.usage) waiting
+
+-- these opportunities may wait for a MAP: each has some minislots, and they are few
+pub record MayWait (waiting : List Opportunity) : Type 0 where
+  pub few : length waiting ≤ MAX_WAITING
+  pub some_slots : AllByRecursion (λ o. 0 < o.slots) waiting
+
+-- the opportunity at this place is not met, and is at most so long
+pub record IsUnmet (waiting : List Opportunity) (met : List Bool) (room place : ℕ) : Type 0 where
+  pub opportunity : Opportunity
+  pub waits : slice_get waiting place ≡ Some opportunity
+  pub unmet : slice_get met place ≡ Some false
+  pub fits : opportunity.slots ≤ room
+
+-- it is the first such
+pub record IsFirstUnmet (waiting : List Opportunity) (met : List Bool) (room place : ℕ) : Type 0 where
+  pub is : IsUnmet waiting met room place
+  pub first : (other : ℕ) → IsUnmet waiting met room other → place ≤ other
+
+-- there is none such
+abbrev pub NoneUnmet : List Opportunity → List Bool → ℕ → Type 0
+NoneUnmet waiting met room = (place : ℕ) → IsUnmet waiting met room place → ⊥
+
+-- somewhere behind the request region of a frame so many minislots stand together of which no spot has one
+pub record HasGap (c : Config) (spots : List Spot) (slots : ℕ) : Type 0 where
+  pub from : ℕ
+  pub behind : c.req_slots ≤ from
+  pub within : from + slots ≤ c.frame
+  pub free : AreFree spots from slots
+
+-- Of the opportunities that wait a MAP with these marks has the first one exactly where its frame has such a gap for
+-- it. So only polls and unsolicited grants can make it wait, and never data.
+pub record MeetsFirst (c : Config) (spots : List Spot) (waiting : List Opportunity) (met : List Bool) : Type 0 where
+  pub meets : (o : Opportunity) → slice_get waiting 0 ≡ Some o → HasGap c spots o.slots → slice_get met 0 ≡ Some true
+  pub only : (o : Opportunity) → slice_get waiting 0 ≡ Some o → slice_get met 0 ≡ Some true → HasGap c spots o.slots

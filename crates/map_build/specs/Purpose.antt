@@ -1,0 +1,98 @@
+-- The kinds of allocations: what each is on the wire, and its rank. A kind more is one line in each of these tables.
+use Rattle.std.specs.Prelude.{ℕ, ◌+◌, Bool, true, false, ◌==◌, List, [], ◌∷◌, Option, None, Some, if◌then◌else◌}
+use Rattle.minislots.specs.declared.config.Config.{Config}
+use Rattle.map_codec.specs.declared.element.Element.{Element}
+use Rattle.map_codec.specs.declared.element.iuc.TheConstants.{REQUEST, INITIAL_MAINTENANCE, STATION_MAINTENANCE}
+use Rattle.flow_book.specs.declared.flow.Grant.{Grant}
+use Rattle.periodic.specs.declared.placement.Spot.{Spot}
+use Rattle.map_build.specs.declared.opportunity.Usage.{Usage}
+use Rattle.map_build.specs.declared.opportunity.Usage.TheVariants.{Initial, Station}
+use Rattle.map_build.specs.declared.purpose.Allocation.{Allocation}
+use Rattle.map_build.specs.declared.purpose.Kind.{Kind}
+use Rattle.map_build.specs.declared.purpose.Purpose.{Purpose}
+use Rattle.map_build.specs.declared.purpose.Purpose.TheVariants.{Poll, UnsolicitedGrant, Offer, DataGrant, Idle}
+use Rattle.map_build.specs.UsageCodes.{long_iuc, data_iuc, unsolicited_iuc}
+
+-- all modems
+abbrev pub broadcast : ℕ
+broadcast = 16383
+
+-- the SID that an opportunity goes to
+abbrev pub sid_for : Usage → ℕ
+sid_for Initial = broadcast
+sid_for (Station sid) = sid
+
+-- the usage code of an opportunity
+abbrev pub iuc_for : Usage → ℕ
+iuc_for Initial = INITIAL_MAINTENANCE
+iuc_for (Station sid) = STATION_MAINTENANCE
+
+-- what the element of so many minislots says, and the bytes that are told beside it: those of a data grant, else 0
+abbrev pub kind_of : Config → ℕ → Purpose → Kind
+kind_of c slots (Poll sid) = record { sid = sid; iuc = REQUEST; bytes = 0 }
+kind_of c slots (UnsolicitedGrant sid) = record { sid = sid; iuc = unsolicited_iuc c slots; bytes = 0 }
+kind_of c slots (Offer place usage) = record { sid = sid_for usage; iuc = iuc_for usage; bytes = 0 }
+kind_of c slots (DataGrant sid bytes) = record { sid = sid; iuc = data_iuc c slots; bytes = bytes }
+kind_of c slots Idle = record { sid = 0; iuc = long_iuc c; bytes = 0 }
+
+-- who goes first where several could stand at an offset
+pub data Rank : Type 0 where
+  -- what has its place in the cycle
+  Placed : Rank
+  -- what was reserved
+  Reserved : Rank
+  -- what was requested
+  Requested : Rank
+  -- the rest
+  Left : Rank
+
+-- the rank of each kind
+abbrev pub rank_of : Purpose → Rank
+rank_of (Poll sid) = Placed
+rank_of (UnsolicitedGrant sid) = Placed
+rank_of (Offer place usage) = Reserved
+rank_of (DataGrant sid bytes) = Requested
+rank_of Idle = Left
+
+-- the ranks that go before this one
+abbrev pub ranks_before : Rank → List Rank
+ranks_before Placed = []
+ranks_before Reserved = Placed ∷ []
+ranks_before Requested = Placed ∷ Reserved ∷ []
+ranks_before Left = Placed ∷ Reserved ∷ Requested ∷ []
+
+-- whether it is a data grant
+abbrev pub is_data_grant : Purpose → Bool
+is_data_grant (DataGrant sid bytes) = true
+is_data_grant purpose = false
+
+-- the place, among the opportunities that wait, of the one that it is
+abbrev pub place_of : Purpose → Option ℕ
+place_of (Offer place usage) = Some place
+place_of purpose = None
+
+-- the data grant of an allocation to this flow, in the frame that starts there
+abbrev pub grant_to : ℕ → ℕ → Purpose → ℕ → Option Grant
+grant_to start sid (DataGrant other bytes) offset =
+    if other == sid then Some (record { start = start + offset; bytes = bytes }) else None
+grant_to start sid purpose offset = None
+
+-- what a spot is for
+abbrev pub allocation_of : Spot → Allocation
+allocation_of s = record {
+  offset = s.offset;
+  slots = s.slots;
+  purpose = if s.poll then Poll s.sid else UnsolicitedGrant s.sid;
+}
+
+-- the element of an allocation
+abbrev pub element_of : Config → Allocation → Element
+element_of c a = record {
+  sid = (kind_of c a.slots a.purpose).sid;
+  iuc = (kind_of c a.slots a.purpose).iuc;
+  offset = a.offset;
+}
+
+-- its bytes
+abbrev pub bytes_in : Config → Allocation → ℕ
+bytes_in c a = (kind_of c a.slots a.purpose).bytes

@@ -1,0 +1,69 @@
+//! The kinds of allocations, of which contracts of a MAP speak. What each is on the wire stands here and nowhere else.
+
+ghost use Rattle.std.specs.Prelude.{◌≡◌, ◌<◌, ◌^◌};
+ghost use Rattle.map_build.specs.Purpose.{kind_of};
+
+use crate::opportunity::Usage;
+use crate::usage_codes::{data_iuc, long_iuc, unsolicited_iuc};
+use map_codec::iuc;
+use minislots::Checked;
+
+/// The SID of all modems.
+pub(crate) const BROADCAST: u16 = 0x3fff;
+
+/// The SID of none.
+pub(crate) const NOBODY: u16 = 0;
+
+/// What an allocation is for.
+#[derive(Clone, Copy, Debug)]
+pub enum Purpose {
+    /// A poll: the polled flow of this SID may request.
+    Poll(u16),
+    /// A grant of the unsolicited flow of this SID, at its place in the cycle.
+    UnsolicitedGrant(u16),
+    /// The waiting opportunity at this place, and whom it is for.
+    Offer(usize, Usage),
+    /// A grant for what the flow of this SID asked: the SID, and then the bytes.
+    DataGrant(u16, u32),
+    /// Nobody sends.
+    Idle,
+}
+
+/// Minislots of a frame that stand side by side, and what they are for.
+#[derive(Clone, Copy, Debug)]
+pub struct Allocation {
+    /// The first of them, from the frame's start.
+    pub offset: u16,
+    /// How many they are.
+    pub slots: u16,
+    /// What they are for.
+    pub purpose: Purpose,
+}
+
+/// What the element of an allocation says beside its offset, and the bytes that are told beside the element.
+#[derive(Clone, Copy, Debug)]
+pub struct Kind {
+    /// Whom it is for.
+    pub sid: u16,
+    /// The usage code.
+    pub iuc: u8,
+    /// The bytes of a data grant, else 0.
+    pub bytes: u32,
+}
+
+impl Purpose {
+    /// The element of so many minislots for this purpose.
+    pub(crate) fn kind(self, config: &Checked, slots: u16) -> Kind
+        ensures { result ≡ kind_of config.now slots self }
+    {
+        let (sid, iuc, bytes) = match self {
+            Purpose::Poll(sid) => (sid, iuc::REQUEST, 0),
+            Purpose::UnsolicitedGrant(sid) => (sid, unsolicited_iuc(config, u64::from(slots)), 0),
+            Purpose::Offer(_, Usage::Initial) => (BROADCAST, iuc::INITIAL_MAINTENANCE, 0),
+            Purpose::Offer(_, Usage::Station(sid)) => (sid, iuc::STATION_MAINTENANCE, 0),
+            Purpose::DataGrant(sid, bytes) => (sid, data_iuc(config, u64::from(slots)), bytes),
+            Purpose::Idle => (NOBODY, long_iuc(config), 0),
+        };
+        Kind { sid, iuc, bytes }
+    }
+}

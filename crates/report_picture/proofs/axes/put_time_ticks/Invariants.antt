@@ -1,0 +1,15 @@
+-- One after the other.
+use Rattle.std.proofs.Common.{◌≡◌, ◌*◌, flat_map}
+use Rattle.std.specs.List.{range_with_len}
+use Rattle.std.specs.Io.KnownBytes.{Appends, append_known}
+use Rattle.report_picture.specs.Axis.{round_step}
+use Rattle.report_picture.specs.Axes.{time_tick, axis_end}
+use Rattle.report_picture.proofs.axes.put_time_ticks.Given as goal
+
+-- those so far are written or wait
+abbrev pub invariant-loop-i : goal.invariant-loop-i
+invariant-loop-i g l =
+    Appends (append_known (g.W.Sink.contents l.initial.writer) l.initial.lines)
+    (append_known (g.W.Sink.contents l.writer) l.lines)
+    (flat_map (λ i. time_tick l.course (round_step (axis_end l.course) * i)) (range_with_len 0 l.i))
+    × (g.W.Sink.has_failed l.writer ≡ g.W.Sink.has_failed l.initial.writer)

@@ -1,0 +1,13 @@
+-- The Reserves of a history, which MAPs meet, and the header of the next MAP.
+pub mod Aging
+pub mod ReservesAfter
+pub mod HeaderAfter
+pub mod GoodReserves
+pub mod Places
+pub mod Offers
+pub mod MetPlaces
+pub mod Rooms
+pub mod Counting
+pub mod Waited
+pub mod MetOnce
+pub mod Losing

@@ -1,0 +1,143 @@
+//! The Reserves that are neither met nor lapsed, in a fixed room.
+
+ghost use Rattle.std.specs.Prelude.{◌≡◌, ◌<◌, ◌≤◌, ◌+◌, ◌++◌, ◌∷◌, [], false, map, take, drop, length, nat_le, get_or};
+ghost use Rattle.sched_history.specs.declared.call.TheConstants.{MAX_RESERVES};
+ghost use Rattle.map_build.specs.declared.TheConstants.{MAX_WAITING};
+ghost use Rattle.sched_history.specs.Reserves.{new_reserve, aged, left_of, unmarked};
+
+use crate::MAX_RESERVES;
+use map_build::{MAX_WAITING, Opportunity, Usage};
+use std::marker::Model;
+
+// The MAPs after which a Reserve has lapsed.
+const LAST_MAP: u8 = 64;
+
+// What stands in the room where no Reserve does.
+const NO_RESERVE: Reserve = Reserve {
+    opportunity: Opportunity {
+        usage: Usage::Initial,
+        slots: 0,
+    },
+    maps: 0,
+};
+
+// An opportunity that was asked for, and how many MAPs came since.
+#[derive(Clone, Copy)]
+pub(crate) struct Reserve {
+    opportunity: Opportunity,
+    maps: u8,
+}
+
+// Whether a mark stands at this place.
+fn is_marked(met: &[bool; MAX_WAITING], place: usize) -> bool
+    ensures { result ≡ get_or met.now place false }
+{
+    place < MAX_WAITING && met[place]
+}
+
+// Puts a Reserve that one MAP more came after behind the first ones, which are kept, unless the MAP met it or it has
+// lapsed. Answers how many are kept then.
+fn keep(items: &mut [Reserve; MAX_RESERVES], kept: usize, reserve: Reserve, is_met: bool) -> usize
+    requires { kept < MAX_RESERVES }
+    ensures kept { take result items.new ≡ take kept items.old ++ aged (left_of is_met reserve) }
+    ensures behind { drop (kept + 1) items.new ≡ drop (kept + 1) items.old }
+    ensures few { result ≤ kept + 1 }
+    ensures long { length items.new ≡ length items.old }
+{
+    if is_met || reserve.maps >= LAST_MAP - 1 {
+        return kept;
+    }
+    items[kept] = Reserve {
+        opportunity: reserve.opportunity,
+        maps: reserve.maps + 1,
+    };
+    kept + 1
+}
+
+// Reserves in the order in which they were accepted. Takes no memory.
+#[derive(Drop)]
+pub(crate) struct Reserves {
+    items: [Reserve; MAX_RESERVES],
+    count: usize,
+}
+
+impl Model for Reserves {
+    ghost use Rattle.std.specs.Prelude.{◌≡◌, ◌≤◌, List, take, length};
+    ghost use Rattle.sched_history.specs.declared.scheduler.reserves.Reserve.{Reserve};
+    ghost use Rattle.sched_history.specs.declared.call.TheConstants.{MAX_RESERVES};
+
+    ghost Value = { List Reserve };
+
+    ghost view = { λ r. take r.count r.items };
+
+    ghost invariant = { λ r. (length r.items ≡ MAX_RESERVES) × (r.count ≤ MAX_RESERVES) };
+}
+
+impl Reserves {
+    // None.
+    pub(crate) fn none() -> Reserves
+        ensures { result ≡ [] }
+    {
+        Reserves {
+            items: [NO_RESERVE; MAX_RESERVES],
+            count: 0,
+        }
+    }
+
+    // Whether there are as many as may be.
+    pub(crate) fn is_full(&self) -> bool
+        ensures { result ≡ nat_le MAX_RESERVES (length self.now) }
+    {
+        self.count >= MAX_RESERVES
+    }
+
+    // One more, behind the others.
+    pub(crate) fn add(&mut self, opportunity: Opportunity)
+        requires { length self.old < MAX_RESERVES }
+        ensures { self.new ≡ self.old ++ new_reserve opportunity ∷ [] }
+    {
+        self.items[self.count] = Reserve {
+            opportunity,
+            maps: 0,
+        };
+        self.count += 1;
+    }
+
+    // How many wait for the next MAP.
+    pub(crate) fn waiting_count(&self) -> usize
+        ensures value { result ≡ length (take MAX_WAITING self.now) }
+        ensures most { result ≤ MAX_WAITING }
+    {
+        if self.count < MAX_WAITING {
+            self.count
+        } else {
+            MAX_WAITING
+        }
+    }
+
+    // The opportunities that wait for the next MAP: those of the first Reserves, as many as there are. The rest of the
+    // array has nothing.
+    pub(crate) fn waiting(&self) -> [Opportunity; MAX_WAITING]
+        ensures { take (length (take MAX_WAITING self.now)) result
+            ≡ map (λ r. r.opportunity) (take MAX_WAITING self.now) }
+    {
+        let mut waiting = [NO_RESERVE.opportunity; MAX_WAITING];
+        for place in 0..self.waiting_count() {
+            waiting[place] = self.items[place].opportunity;
+        }
+        waiting
+    }
+
+    // The Reserves after a MAP that met those at the places of these marks: the others are one MAP older, and those
+    // that have lapsed are gone.
+    pub(crate) fn age(&mut self, met: &[bool; MAX_WAITING])
+        ensures { self.new ≡ aged (unmarked met.now self.old) }
+    {
+        let mut kept = 0;
+        for place in 0..self.count {
+            let reserve = self.items[place];
+            kept = keep(&mut self.items, kept, reserve, is_marked(met, place));
+        }
+        self.count = kept;
+    }
+}
