@@ -1,5 +1,6 @@
 -- The flows that wait for bytes, in the order in which they are served.
 use Rattle.std.specs.Prelude.{◌≡◌, ◌≢◌, ℕ, ◌<◌, ◌⊎◌, Bool, true, List, [], ◌∷◌, Some, option_map, slice_get}
+use Rattle.std.specs.Prelude.{◌+◌, ◌-◌, nat_le, nat_lt, if◌then◌else◌}
 use Rattle.std.specs.List.{AllByRecursion}
 use Rattle.minislots.specs.declared.config.Config.{Config}
 use Rattle.flow_book.specs.declared.flow.Flow.{Flow}
@@ -34,6 +35,14 @@ pub record IsMoved (items : List Flow) (w : Waiting) (queue : List Waiting) : Ty
   pub others : List Waiting
   pub among : IsQueueAmong items (λ other. other ≢ w.place) others
   pub is : queue ≡ put_in (λ v. v.turn) w others
+
+-- its place is one more where a flow was put in at this place or before it
+abbrev pub moved_up : ℕ → Waiting → Waiting
+moved_up place w = record w { place = if nat_le place w.place then w.place + 1 else w.place }
+
+-- its place is one less where a flow was taken out before it
+abbrev pub moved_down : ℕ → Waiting → Waiting
+moved_down place w = record w { place = if nat_lt place w.place then w.place - 1 else w.place }
 
 -- the flows are the same at each other place
 abbrev pub AreSameBut : ℕ → List Flow → List Flow → Type 0
