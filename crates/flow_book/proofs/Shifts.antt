@@ -13,7 +13,7 @@ use Rattle.flow_book.specs.Flows.{LiveFlow, outstanding}
 use Rattle.flow_book.specs.Entry.{live}
 use Rattle.flow_book.specs.Book.{Ascend}
 use Rattle.flow_book.specs.Sids.{AscendBy}
-use Rattle.flow_book.specs.Queue.{IsAt, IsIn, IsQueue, IsQueueAmong, moved_up, moved_down}
+use Rattle.flow_book.specs.Queue.{entry_of, IsAt, IsIn, IsQueue, IsQueueAmong, moved_up, moved_down}
 use Rattle.flow_book.proofs.Queues.{at-within}
 use Rattle.flow_book.proofs.Searches.{below}
 use Rattle.flow_book.proofs.Places.{position-map}
@@ -65,7 +65,7 @@ module _ {X : Type 0} where
 
 -- the one that waits stands at another place
 moved : (ℕ → ℕ) → Waiting → Waiting
-moved to w = record { turn = w.turn; place = to w.place }
+moved to w = record { turn = w.turn; wants = w.wants; place = to w.place }
 
 ascends-moved : (to : ℕ → ℕ) (queue : List Waiting) → AscendBy (λ w. w.turn) queue
     → AscendBy (λ w. w.turn) (map (moved to) queue)
@@ -90,7 +90,7 @@ module _ (old new : List Flow) (some : ℕ → Type 0) (to : ℕ → ℕ)
   unfolding moved
   each-moved [] all among = tt
   each-moved (w ∷ queue) all among =
-      (ap (option_map (λ (f : Flow). f.turn)) (stays w.place among.0) ∙ all.0, each-moved queue all.1 among.1)
+      (ap (option_map entry_of) (stays w.place among.0) ∙ all.0, each-moved queue all.1 among.1)
 
   any-moved : (queue : List Waiting) → AllByRecursion (λ w. Unit {0}) (map (moved to) queue)
   any-moved [] = tt
@@ -219,13 +219,28 @@ filter-at sid (f ∷ items) i up at =
     let here : (get_or (f ∷ items) i f).sid ≡ sid = grind (arith, nat_tests) in
     (found.0, filter-remove sid (f ∷ items) i f up found.0 here)
 
+cons-is : {X : Type 0} (x y : X) (xs ys : List X) → x ∷ xs ≡ y ∷ ys → (x ≡ y) × (xs ≡ ys)
+cons-is x y xs ys same = (cc, cc)
+
+-- flows that show the same and have the same turns are the same to the queue
+same-entries : (old new : List Flow) → map live new ≡ map live old
+    → map (λ (f : Flow). f.turn) new ≡ map (λ (f : Flow). f.turn) old → map entry_of new ≡ map entry_of old
+same-entries [] [] shown turns = refl
+same-entries [] (g ∷ new) shown turns = absurd (cc)
+same-entries (f ∷ old) [] shown turns = absurd (cc)
+same-entries (f ∷ old) (g ∷ new) shown turns =
+    let both = cons-is (live g) (live f) (map live new) (map live old) shown in
+    let and = cons-is g.turn f.turn (map (λ (h : Flow). h.turn) new) (map (λ (h : Flow). h.turn) old) turns in
+    let wants : outstanding (live g) ≡ outstanding (live f) = ap outstanding both.0 in
+    rw (wants, and.0, same-entries old new both.1 and.1)
+
 module _ (old new : List Flow) (shown : map live new ≡ map live old)
     (turns : map (λ (f : Flow). f.turn) new ≡ map (λ (f : Flow). f.turn) old) where
   same-each : (queue : List Waiting) → AllByRecursion (IsAt old) queue → AllByRecursion (IsAt new) queue
   same-each [] all = tt
   same-each (w ∷ queue) all = (
-    sym (slice_get-map (λ (f : Flow). f.turn) new w.place) ∙ ap (λ ns. slice_get ns w.place) turns
-        ∙ slice_get-map (λ (f : Flow). f.turn) old w.place ∙ all.0,
+    sym (slice_get-map entry_of new w.place) ∙ ap (λ es. slice_get es w.place) (same-entries old new shown turns)
+        ∙ slice_get-map entry_of old w.place ∙ all.0,
     same-each queue all.1,
   )
 

@@ -9,9 +9,13 @@ use Rattle.flow_book.specs.Flows.{outstanding}
 use Rattle.flow_book.specs.Entry.{live, IsBook}
 use Rattle.flow_book.specs.Sids.{AscendBy, put_in}
 
--- there is a flow at its place, and this is its turn
+-- a flow's turn, and the bytes that it waits for
+abbrev pub entry_of : Flow → ℕ × ℕ
+entry_of f = (f.turn, outstanding (live f))
+
+-- there is a flow at its place, and these are its turn and the bytes that it waits for
 abbrev pub IsAt : List Flow → Waiting → Type 0
-IsAt items w = option_map (λ f. f.turn) (slice_get items w.place) ≡ Some w.turn
+IsAt items w = option_map entry_of (slice_get items w.place) ≡ Some (w.turn, w.wants)
 
 -- the place is one of those in the queue
 abbrev pub IsIn : ℕ → List Waiting → Type 0

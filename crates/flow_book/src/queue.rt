@@ -20,10 +20,11 @@ use std::alloc::{AllocError, Global};
 // So many that wait take 1,024 bytes: an allocator often finds no more than these soon.
 const FEW: usize = 32;
 
-// A flow that waits for bytes: its turn, and its place among the flows.
+// A flow that waits for bytes: its turn, the bytes that it waits for, and its place among the flows.
 #[derive(Clone, Copy)]
 pub(crate) struct Waiting {
     pub(crate) turn: u128,
+    pub(crate) wants: u64,
     pub(crate) place: usize,
 }
 
@@ -76,9 +77,10 @@ pub(crate) fn queue_of(alloc: Global, flows: &[Flow]) -> Result<Vec<Waiting>, Al
     let mut queue = Vec::with_capacity(alloc, flows.len())?;
     for place in 0..flows.len() {
         let flow = &flows[place];
-        if flow.waits() {
+        let wants = flow.outstanding();
+        if wants > 0 {
             let turn = flow.turn;
-            put_in_turn(&mut queue, Waiting { turn, place })?;
+            put_in_turn(&mut queue, Waiting { turn, wants, place })?;
         }
     }
     Ok(queue)
@@ -99,8 +101,12 @@ pub(crate) fn first_in_turn(
         (λ place. IsSomeAnd (slice_get (map live flows.now) place)
         (IsNext config.now (map live flows.now) start room)) }
 {
+    let quantum = u64::from(config.quantum());
+    let fits = config.bytes_in(room);
     for waiting in queue {
-        if flows[waiting.place].is_eligible(config, start, room) {
+        if waiting.wants.min(quantum) <= fits
+            && flows[waiting.place].is_eligible(config, start, room)
+        {
             return Some(waiting.place);
         }
     }
@@ -149,9 +155,10 @@ fn put_again(queue: &mut Vec<Waiting>, flows: &[Flow], place: usize) -> Result<(
     ensures { OnOk result (IsQueue flows.now queue.new.items) }
 {
     let flow = &flows[place];
-    if flow.waits() {
+    let wants = flow.outstanding();
+    if wants > 0 {
         let turn = flow.turn;
-        move_to_turn(queue, Waiting { turn, place })?;
+        move_to_turn(queue, Waiting { turn, wants, place })?;
         return Ok(());
     }
     take_out(queue, place);
