@@ -12,9 +12,7 @@ ghost use Rattle.flow_book.specs.Book.{IsLive, Ascend, KeepsRoom, room_of, new_f
 ghost use Rattle.flow_book.specs.Book.{with_asked};
 
 use crate::flow::{Flow, Served, first_eligible, reserve_each};
-use crate::queue::{
-    Waiting, copy_of, first_in_turn, follow, leave, make_room, make_way, place_by_queue, queue_of,
-};
+use crate::queue::{Waiting, copy_of, first_in_turn, follow, leave, make_room, make_way, queue_of};
 use crate::spec::FlowSpec;
 use minislots::Checked;
 use std::alloc::{AllocError, Global};
@@ -55,17 +53,6 @@ fn place_in(flows: &[Flow], sid: u16) -> Option<usize>
     ensures { result ≡ position (λ f. f.sid == sid) flows.now }
 {
     flows.binary_search_by_key(&sid, |flow| flow.sid).ok()
-}
-
-// The same, which the queue may tell sooner.
-fn place_of(flows: &[Flow], queue: &[Waiting], sid: u16) -> Option<usize>
-    requires { Ascend (map live flows.now) }
-    ensures { result ≡ position (λ f. f.sid == sid) flows.now }
-{
-    match place_by_queue(queue, flows, sid) {
-        Some(place) => Some(place),
-        None => place_in(flows, sid),
-    }
 }
 
 // The place of the first flow with a higher SID.
@@ -330,7 +317,7 @@ impl Book {
         requires { IsLive sid self.now.flows }
         ensures { position (λ f. f.sid == sid) self.now.flows ≡ Some result }
     {
-        match place_of(&self.flows, &self.queue, sid) {
+        match place_in(&self.flows, sid) {
             Some(place) => place,
             None => unreachable!(),
         }

@@ -1,6 +1,6 @@
 //! The flows that wait for bytes, in the order in which they are served.
 
-ghost use Rattle.std.specs.Prelude.{◌==◌, nat_lt, position, true, IfSome, ◌+◌, ◌^◌, insert};
+ghost use Rattle.std.specs.Prelude.{◌==◌, nat_lt, position, true, ◌+◌, ◌^◌, insert};
 ghost use Rattle.std.specs.Prelude.{ℕ, ◌≡◌, ◌≢◌, ◌<◌, ◌≤◌, List, remove, slice_index_or, map, length, OnOk, IfOk};
 ghost use Rattle.std.specs.Prelude.{IsSomeAnd, MatchOption, slice_get};
 ghost use Rattle.std.specs.List.{AllByRecursion, position_or_len};
@@ -9,7 +9,6 @@ ghost use Rattle.flow_book.specs.declared.flow.Flow.{Flow};
 ghost use Rattle.flow_book.specs.Flows.{outstanding};
 ghost use Rattle.flow_book.specs.Choice.{HasStartedBy, IsNext, NoneEligible};
 ghost use Rattle.flow_book.specs.Entry.{live, IsBook};
-ghost use Rattle.flow_book.specs.Book.{Ascend};
 ghost use Rattle.flow_book.specs.Sids.{AscendBy, put_in};
 ghost use Rattle.flow_book.specs.Queue.{IsQueue, IsQueueAmong, IsMoved, AreSameBut, moved_up, moved_down};
 
@@ -42,21 +41,6 @@ fn index_of(queue: &[Waiting], place: usize) -> Option<usize>
     ensures { result ≡ position (λ w. w.place == place) queue.now }
 {
     queue.iter().position(|waiting| waiting.place == place)
-}
-
-// The place of the flow with this SID among the flows, where it is in the queue: soon found for one that is served.
-pub(crate) fn place_by_queue(queue: &[Waiting], flows: &[Flow], sid: u16) -> Option<usize>
-    requires { Ascend (map live flows.now) }
-    ensures { IfSome result (λ place. position (λ f. f.sid == sid) flows.now ≡ Some place) }
-{
-    for waiting in queue {
-        if let Some(flow) = flows.get(waiting.place)
-            && flow.sid == sid
-        {
-            return Some(waiting.place);
-        }
-    }
-    None
 }
 
 // Puts one that waits into the queue, before the first of a later turn.
@@ -135,11 +119,13 @@ fn move_to_turn(queue: &mut Vec<Waiting>, waiting: Waiting) -> Result<(), AllocE
     ensures { OnOk result ((items : List Flow) → IsQueue items queue.old.items
         → IsMoved items waiting queue.new.items) }
 {
-    if let Some(index) = index_of(queue, waiting.place) {
-        if queue[index].turn <= waiting.turn {
-            move_back(queue, index, waiting);
-            return Ok(());
-        }
+    let Some(index) = index_of(queue, waiting.place) else {
+        put_in_turn(queue, waiting)?;
+        return Ok(());
+    };
+    if queue[index].turn <= waiting.turn {
+        move_back(queue, index, waiting);
+        return Ok(());
     }
     take_out(queue, waiting.place);
     put_in_turn(queue, waiting)?;
