@@ -213,11 +213,15 @@ pub(crate) fn make_room(queue: &mut Vec<Waiting>, flows: usize) -> Result<(), Al
     queue.reserve(flows.saturating_sub(queue.len()).saturating_add(1))
 }
 
-// A copy of the queue, with room for so many flows, or for a few where they are more.
+// A copy of the queue, with room for so many flows, or for a few where fewer wait.
 pub(crate) fn copy_of(queue: &Vec<Waiting>, flows: usize) -> Result<Vec<Waiting>, AllocError>
     ensures { IfOk result (λ copy. copy.items ≡ queue.now.items) }
 {
-    let room = flows.min(FEW).max(queue.len());
+    let room = if queue.len() < FEW {
+        flows.min(FEW)
+    } else {
+        flows
+    };
     let mut copy = Vec::with_capacity(*queue.allocator(), room)?;
     copy.extend_from_slice(queue)?;
     Ok(copy)
