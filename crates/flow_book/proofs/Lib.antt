@@ -19,6 +19,7 @@ pub mod RowsChoice
 pub mod RowsFaults
 pub mod NextServed
 pub mod Serving
+pub mod Shifts
 pub mod Sinking
 pub mod Started
 pub mod Steps

@@ -18,7 +18,7 @@ use Rattle.flow_book.specs.Choice.{last_start}
 use Rattle.flow_book.specs.Flows.{outstanding}
 use Rattle.flow_book.specs.Entry.{live, IsBook, KeepsSums, KnowsTurn}
 use Rattle.flow_book.specs.Sids.{AscendBy, put_in}
-use Rattle.flow_book.specs.Queue.{IsAt, IsIn, IsQueue, IsQueueAmong, AreSameBut}
+use Rattle.flow_book.specs.Queue.{entry_of, IsAt, IsIn, IsQueue, IsQueueAmong, AreSameBut}
 use Rattle.flow_book.proofs.Insertion.{all-put_in, ascends-put_in}
 use Rattle.flow_book.proofs.Searches.{below}
 use Rattle.flow_book.proofs.Turns.{turn-sid}
@@ -74,12 +74,14 @@ in-rest place (w ∷ queue) zero d lt differ (inr rest) = rest
 in-rest place (w ∷ queue) (suc i) d lt differ (inl here) = inl here
 in-rest place (w ∷ queue) (suc i) d lt differ (inr rest) = inr (in-rest place queue i d (omega arith) differ rest)
 
-some-within : (items : List Flow) (place turn : ℕ)
-    → option_map (λ (f : Flow). f.turn) (slice_get items place) ≡ Some turn
+some-within : (items : List Flow) (place : ℕ) (e : ℕ × ℕ) → option_map entry_of (slice_get items place) ≡ Some e
     → place < length items
-some-within [] place turn at = absurd (cc)
-some-within (f ∷ items) zero turn at = omega arith
-some-within (f ∷ items) (suc place) turn at = omega (arith, some-within items place turn at)
+some-within [] place e at = absurd (cc)
+some-within (f ∷ items) zero e at = omega arith
+some-within (f ∷ items) (suc place) e at = omega (arith, some-within items place e at)
+
+same-some : (d e : ℕ × ℕ) → Some d ≡ Some e → d ≡ e
+same-some d e same = cc
 
 -- where none in the queue has the place none has it
 pub none-at : (place : ℕ) (queue : List Waiting) → position (λ w. w.place == place) queue ≡ None
@@ -94,19 +96,26 @@ none-at place queue none =
 module _ (items : List Flow) where
   -- its place is one of the flows'
   pub at-within : (w : Waiting) → IsAt items w → w.place < length items
-  at-within w at = some-within items w.place w.turn at
+  at-within w at = some-within items w.place (w.turn, w.wants) at
+
+  entry-at : (w : Waiting) (f : Flow) → IsAt items w → slice_get items w.place ≡ Some f
+      → entry_of f ≡ (w.turn, w.wants)
+  entry-at w f at found = same-some (entry_of f) (w.turn, w.wants) (ap (option_map entry_of) (sym found) ∙ at)
 
   -- the flow that waits has this turn
   pub turn-at : (w : Waiting) (f : Flow) → IsAt items w → slice_get items w.place ≡ Some f → f.turn ≡ w.turn
-  turn-at w f at found =
-      let e : Some f.turn ≡ Some w.turn = ap (option_map (λ (g : Flow). g.turn)) (sym found) ∙ at in cc
+  turn-at w f at found = ap (λ (e : ℕ × ℕ). e.0) (entry-at w f at found)
+
+  -- and waits for these bytes
+  pub wants-at : (w : Waiting) (f : Flow) → IsAt items w → slice_get items w.place ≡ Some f
+      → outstanding (live f) ≡ w.wants
+  wants-at w f at found = ap (λ (e : ℕ × ℕ). e.1) (entry-at w f at found)
 
   -- at one place there is one turn
   same-turn : (v w : Waiting) → IsAt items v → IsAt items w → v.place ≡ w.place → v.turn ≡ w.turn
   same-turn v w at at' same =
-      let e : Some v.turn ≡ Some w.turn =
-      sym at ∙ ap (λ k. option_map (λ (g : Flow). g.turn) (slice_get items k)) same ∙ at' in
-      cc
+      ap (λ (e : ℕ × ℕ). e.0) (same-some (v.turn, v.wants) (w.turn, w.wants)
+      (sym at ∙ ap (λ k. option_map entry_of (slice_get items k)) same ∙ at'))
 
   later : (w : Waiting) (queue : List Waiting) → IsAt items w → AllByRecursion (IsAt items) queue
       → AllByRecursion (λ v. w.turn < v.turn) queue → AllByRecursion (λ v. v.place ≢ w.place) queue
@@ -163,7 +172,7 @@ pub among-others : (place : ℕ) (old new : List Flow) (queue : List Waiting) �
 among-others place old new queue same is = record {
   ascending = is.ascending;
   each = all-both (IsAt old) (λ w. w.place ≢ place) (IsAt new) queue
-      (λ w at other. ap (option_map (λ (f : Flow). f.turn)) (same w.place other) ∙ at) is.each is.among;
+      (λ w at other. ap (option_map entry_of) (same w.place other) ∙ at) is.each is.among;
   among = is.among;
   whole = λ other f found differ waits. is.whole other f (sym (same other differ) ∙ found) differ waits;
 }
@@ -245,10 +254,10 @@ module _ (c : Config) (items : List Flow) (are : IsBook c items) where
     )
 
     -- a queue with the flow at one more place
-    pub put-among : (w : Waiting) → w.place ≡ place → w.turn ≡ f.turn → (some place → ⊥) → more place
-        → IsQueueAmong items more (with-one w queue)
-    put-among w at turn out new =
-        let stands : IsAt items w = rw (at, turn, here) refl in
+    pub put-among : (w : Waiting) → w.place ≡ place → w.turn ≡ f.turn → w.wants ≡ outstanding (live f)
+        → (some place → ⊥) → more place → IsQueueAmong items more (with-one w queue)
+    put-among w at turn wants out new =
+        let stands : IsAt items w = rw (at, turn, wants, here) refl in
         let differ = rw (sym turn) at (all-differ out queue is.each is.among) in
         record {
           ascending = ascends-put_in (λ v. v.turn) w queue (none-found w.turn queue differ) is.ascending;

@@ -1,5 +1,5 @@
 -- The first in the queue that may be served is the flow that is served first.
-use Rattle.std.proofs.Common.{◌≡◌, refl, sym, ap, ◌∙◌, ℕ, suc, ◌<◌, true, ◌⊎◌, inl, inr, Contains}
+use Rattle.std.proofs.Common.{◌≡◌, refl, sym, ap, ◌∙◌, ℕ, suc, ◌<◌, ◌≤◌, min, true, ◌⊎◌, inl, inr, Contains}
 use Rattle.std.proofs.Common.{List, [], ◌∷◌, ◌++◌, map, slice_get, Some, arith}
 use Rattle.std.specs.List.{AllByRecursion}
 use Rattle.std.proofs.lemmas.Option.{slice_get_within, get_or_from_slice_get}
@@ -9,7 +9,11 @@ use Rattle.minislots.specs.declared.config.Config.{Config}
 use Rattle.flow_book.specs.declared.flow.Flow.{Flow}
 use Rattle.flow_book.specs.declared.queue.Waiting.{Waiting}
 use Rattle.flow_book.specs.FlowSpec.{rank_of}
-use Rattle.flow_book.specs.Flows.{LiveFlow}
+use Rattle.minislots.specs.Config.{IsLawful}
+use Rattle.minislots.specs.Units.{bytes_in}
+use Rattle.minislots.proofs.Bounds.{bounds_of}
+use Rattle.minislots.proofs.UnitLaws.{fits_bytes}
+use Rattle.flow_book.specs.Flows.{LiveFlow, outstanding}
 use Rattle.flow_book.specs.Choice.{last_start, is_before, IsEligible, IsNext, NoneEligible}
 use Rattle.flow_book.specs.Entry.{live, IsBook, KnowsTurn}
 use Rattle.flow_book.specs.Sids.{AscendBy}
@@ -60,6 +64,12 @@ turns-before : (f g : Flow) → KnowsTurn f → KnowsTurn g → f.turn < g.turn 
 turns-before f g mine yours less =
     less-first (rank_of f.spec) (rank_of g.spec) (last_start f.grants.items) (last_start g.grants.items) f.sid g.sid
     f.turn g.turn mine.0 yours.0 mine.1 yours.1 less
+
+-- what a flow that may be served takes at least fits the minislots
+pub wanted-fits : (c : Config) (start room : ℕ) (f : LiveFlow) → IsLawful c → IsEligible c start room f
+    → min (outstanding f) c.quantum ≤ bytes_in c room
+wanted-fits c start room f lawful may =
+    fits_bytes c (bounds_of c lawful).bytes_positive (min (outstanding f) c.quantum) room may.takes.fits
 
 module _ (c : Config) (start room : ℕ) (items : List Flow) (are : IsBook c items) where
   -- a place in the queue that may be served is not passed

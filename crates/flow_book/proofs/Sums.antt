@@ -58,6 +58,15 @@ copies-live [] (g ∷ gs) are = absurd are
 copies-live (f ∷ fs) [] are = absurd are
 copies-live (f ∷ fs) (g ∷ gs) are = let is : IsCopy f g = are.0 in rw (is.same, copies-live fs gs are.1)
 
+-- and have the same turns
+pub copies-turns : (fs gs : List Flow) → AllZip IsCopy fs gs
+    → map (λ (f : Flow). f.turn) gs ≡ map (λ (f : Flow). f.turn) fs
+copies-turns [] [] are = refl
+copies-turns [] (g ∷ gs) are = absurd are
+copies-turns (f ∷ fs) [] are = absurd are
+copies-turns (f ∷ fs) (g ∷ gs) are =
+    let is : IsCopy f g = are.0 in rw (is.turn, copies-turns fs gs are.1)
+
 -- copies of accounts that keep their sums keep them
 pub copies-sums : (c : Config) (fs gs : List Flow) → AllZip IsCopy fs gs → AllByRecursion (KeepsSums c) fs
     → AllByRecursion (KeepsSums c) gs

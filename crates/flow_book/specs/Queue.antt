@@ -1,5 +1,6 @@
 -- The flows that wait for bytes, in the order in which they are served.
 use Rattle.std.specs.Prelude.{◌≡◌, ◌≢◌, ℕ, ◌<◌, ◌⊎◌, Bool, true, List, [], ◌∷◌, Some, option_map, slice_get}
+use Rattle.std.specs.Prelude.{◌+◌, ◌-◌, nat_le, nat_lt, if◌then◌else◌}
 use Rattle.std.specs.List.{AllByRecursion}
 use Rattle.minislots.specs.declared.config.Config.{Config}
 use Rattle.flow_book.specs.declared.flow.Flow.{Flow}
@@ -8,9 +9,13 @@ use Rattle.flow_book.specs.Flows.{outstanding}
 use Rattle.flow_book.specs.Entry.{live, IsBook}
 use Rattle.flow_book.specs.Sids.{AscendBy, put_in}
 
--- there is a flow at its place, and this is its turn
+-- a flow's turn, and the bytes that it waits for
+abbrev pub entry_of : Flow → ℕ × ℕ
+entry_of f = (f.turn, outstanding (live f))
+
+-- there is a flow at its place, and these are its turn and the bytes that it waits for
 abbrev pub IsAt : List Flow → Waiting → Type 0
-IsAt items w = option_map (λ f. f.turn) (slice_get items w.place) ≡ Some w.turn
+IsAt items w = option_map entry_of (slice_get items w.place) ≡ Some (w.turn, w.wants)
 
 -- the place is one of those in the queue
 abbrev pub IsIn : ℕ → List Waiting → Type 0
@@ -34,6 +39,14 @@ pub record IsMoved (items : List Flow) (w : Waiting) (queue : List Waiting) : Ty
   pub others : List Waiting
   pub among : IsQueueAmong items (λ other. other ≢ w.place) others
   pub is : queue ≡ put_in (λ v. v.turn) w others
+
+-- its place is one more where a flow was put in at this place or before it
+abbrev pub moved_up : ℕ → Waiting → Waiting
+moved_up place w = record w { place = if nat_le place w.place then w.place + 1 else w.place }
+
+-- its place is one less where a flow was taken out before it
+abbrev pub moved_down : ℕ → Waiting → Waiting
+moved_down place w = record w { place = if nat_lt place w.place then w.place - 1 else w.place }
 
 -- the flows are the same at each other place
 abbrev pub AreSameBut : ℕ → List Flow → List Flow → Type 0

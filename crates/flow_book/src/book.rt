@@ -12,7 +12,7 @@ ghost use Rattle.flow_book.specs.Book.{IsLive, Ascend, KeepsRoom, room_of, new_f
 ghost use Rattle.flow_book.specs.Book.{with_asked};
 
 use crate::flow::{Flow, Served, first_eligible, reserve_each};
-use crate::queue::{Waiting, first_in_turn, follow, place_by_queue, queue_of};
+use crate::queue::{Waiting, copy_of, first_in_turn, follow, leave, make_room, make_way, queue_of};
 use crate::spec::FlowSpec;
 use minislots::Checked;
 use std::alloc::{AllocError, Global};
@@ -55,17 +55,6 @@ fn place_in(flows: &[Flow], sid: u16) -> Option<usize>
     flows.binary_search_by_key(&sid, |flow| flow.sid).ok()
 }
 
-// The same, which the queue may tell sooner.
-fn place_of(flows: &[Flow], queue: &[Waiting], sid: u16) -> Option<usize>
-    requires { Ascend (map live flows.now) }
-    ensures { result ≡ position (λ f. f.sid == sid) flows.now }
-{
-    match place_by_queue(queue, flows, sid) {
-        Some(place) => Some(place),
-        None => place_in(flows, sid),
-    }
-}
-
 // The place of the first flow with a higher SID.
 fn place_above(flows: &[Flow], sid: u16) -> Option<usize>
     ensures { result ≡ position (λ f. nat_lt sid f.sid) flows.now }
@@ -83,7 +72,7 @@ impl Book {
             config,
             flows: Vec::new(alloc),
             queue: Vec::new(alloc),
-            is_queued: false,
+            is_queued: true,
         })
     }
 
@@ -163,8 +152,9 @@ impl Book {
     {
         let place = place_above(&self.flows, sid).unwrap_or(self.flows.len());
         let flow = Flow::open(&self.config, sid, spec);
+        make_room(&mut self.queue, self.flows.len())?;
         self.flows.insert(place, flow)?;
-        self.is_queued = false;
+        make_way(&mut self.queue, self.is_queued, place);
         Ok(())
     }
 
@@ -176,8 +166,9 @@ impl Book {
         ensures room { (other : ℕ)
             → other ≢ sid → room_of other self.new.rooms ≡ room_of other self.old.rooms }
     {
+        let place = self.place(sid);
         self.flows.retain(|flow| flow.sid != sid);
-        self.is_queued = false;
+        leave(&mut self.queue, place);
     }
 
     /// Adds bytes to what a live flow asked. The sum fits a `u64`.
@@ -189,7 +180,7 @@ impl Book {
     {
         let place = self.place(sid);
         self.flows[place].asked += u64::from(bytes);
-        self.is_queued = false;
+        self.is_queued = follow(&mut self.queue, self.is_queued, &self.flows, place);
     }
 
     /// The most bytes of a data grant to a live flow at minislot `start`, in `room` minislots: at most
@@ -226,10 +217,11 @@ impl Book {
         ensures kept { KeepsRoom self.old.rooms self.new.rooms }
         ensures same { self.new ≡ record self.old { rooms = self.new.rooms } }
     {
-        self.is_queued = false;
         reserve_each(&mut self.flows, grants);
-        self.queue = queue_of(*self.flows.allocator(), &self.flows)?;
-        self.is_queued = true;
+        if !self.is_queued {
+            self.queue = queue_of(*self.flows.allocator(), &self.flows)?;
+            self.is_queued = true;
+        }
         Ok(())
     }
 
@@ -289,8 +281,8 @@ impl Book {
         Ok(Book {
             config: self.config,
             flows: self.flows.clone()?,
-            queue: Vec::new(*self.flows.allocator()),
-            is_queued: false,
+            queue: copy_of(&self.queue, self.flows.len())?,
+            is_queued: self.is_queued,
         })
     }
 
@@ -325,7 +317,7 @@ impl Book {
         requires { IsLive sid self.now.flows }
         ensures { position (λ f. f.sid == sid) self.now.flows ≡ Some result }
     {
-        match place_of(&self.flows, &self.queue, sid) {
+        match place_in(&self.flows, sid) {
             Some(place) => place,
             None => unreachable!(),
         }

@@ -223,6 +223,7 @@ pub(crate) fn first_eligible<'a>(
 // Gives each flow room for so many more grants.
 pub(crate) fn reserve_each(flows: &mut [Flow], grants: usize)
     ensures same { map live flows.new ≡ map live flows.old }
+    ensures turns { map (λ f. f.turn) flows.new ≡ map (λ f. f.turn) flows.old }
     ensures room { (k : ℕ) (d : Flow) → k < length flows.new
         → grants ≤ (room_in (slice_index_or flows.new k d)).grants }
     ensures kept { KeepsRoom (map room_in flows.old) (map room_in flows.new) }

@@ -1,25 +1,29 @@
 //! The flows that wait for bytes, in the order in which they are served.
 
-ghost use Rattle.std.specs.Prelude.{◌==◌, nat_lt, position, true, IfSome};
+ghost use Rattle.std.specs.Prelude.{◌==◌, nat_lt, position, true, ◌+◌, ◌^◌, insert};
 ghost use Rattle.std.specs.Prelude.{ℕ, ◌≡◌, ◌≢◌, ◌<◌, ◌≤◌, List, remove, slice_index_or, map, length, OnOk, IfOk};
 ghost use Rattle.std.specs.Prelude.{IsSomeAnd, MatchOption, slice_get};
 ghost use Rattle.std.specs.List.{AllByRecursion, position_or_len};
 ghost use Rattle.minislots.specs.declared.config.Config.{Config};
 ghost use Rattle.flow_book.specs.declared.flow.Flow.{Flow};
+ghost use Rattle.flow_book.specs.Flows.{outstanding};
 ghost use Rattle.flow_book.specs.Choice.{HasStartedBy, IsNext, NoneEligible};
 ghost use Rattle.flow_book.specs.Entry.{live, IsBook};
-ghost use Rattle.flow_book.specs.Book.{Ascend};
 ghost use Rattle.flow_book.specs.Sids.{AscendBy, put_in};
-ghost use Rattle.flow_book.specs.Queue.{IsQueue, IsQueueAmong, IsMoved, AreSameBut};
+ghost use Rattle.flow_book.specs.Queue.{IsQueue, IsQueueAmong, IsMoved, AreSameBut, moved_up, moved_down};
 
 use crate::flow::Flow;
 use minislots::Checked;
 use std::alloc::{AllocError, Global};
 
-// A flow that waits for bytes: its turn, and its place among the flows.
+// So many that wait take 1,024 bytes: an allocator often finds no more than these soon.
+const FEW: usize = 32;
+
+// A flow that waits for bytes: its turn, the bytes that it waits for, and its place among the flows.
 #[derive(Clone, Copy)]
 pub(crate) struct Waiting {
     pub(crate) turn: u128,
+    pub(crate) wants: u64,
     pub(crate) place: usize,
 }
 
@@ -37,21 +41,6 @@ fn index_of(queue: &[Waiting], place: usize) -> Option<usize>
     ensures { result ≡ position (λ w. w.place == place) queue.now }
 {
     queue.iter().position(|waiting| waiting.place == place)
-}
-
-// The place of the flow with this SID among the flows, where it is in the queue: soon found for one that is served.
-pub(crate) fn place_by_queue(queue: &[Waiting], flows: &[Flow], sid: u16) -> Option<usize>
-    requires { Ascend (map live flows.now) }
-    ensures { IfSome result (λ place. position (λ f. f.sid == sid) flows.now ≡ Some place) }
-{
-    for waiting in queue {
-        if let Some(flow) = flows.get(waiting.place)
-            && flow.sid == sid
-        {
-            return Some(waiting.place);
-        }
-    }
-    None
 }
 
 // Puts one that waits into the queue, before the first of a later turn.
@@ -72,9 +61,10 @@ pub(crate) fn queue_of(alloc: Global, flows: &[Flow]) -> Result<Vec<Waiting>, Al
     let mut queue = Vec::with_capacity(alloc, flows.len())?;
     for place in 0..flows.len() {
         let flow = &flows[place];
-        if flow.waits() {
+        let wants = flow.outstanding();
+        if wants > 0 {
             let turn = flow.turn;
-            put_in_turn(&mut queue, Waiting { turn, place })?;
+            put_in_turn(&mut queue, Waiting { turn, wants, place })?;
         }
     }
     Ok(queue)
@@ -95,8 +85,12 @@ pub(crate) fn first_in_turn(
         (λ place. IsSomeAnd (slice_get (map live flows.now) place)
         (IsNext config.now (map live flows.now) start room)) }
 {
+    let quantum = u64::from(config.quantum());
+    let fits = config.bytes_in(room);
     for waiting in queue {
-        if flows[waiting.place].is_eligible(config, start, room) {
+        if waiting.wants.min(quantum) <= fits
+            && flows[waiting.place].is_eligible(config, start, room)
+        {
             return Some(waiting.place);
         }
     }
@@ -125,11 +119,13 @@ fn move_to_turn(queue: &mut Vec<Waiting>, waiting: Waiting) -> Result<(), AllocE
     ensures { OnOk result ((items : List Flow) → IsQueue items queue.old.items
         → IsMoved items waiting queue.new.items) }
 {
-    if let Some(index) = index_of(queue, waiting.place) {
-        if queue[index].turn <= waiting.turn {
-            move_back(queue, index, waiting);
-            return Ok(());
-        }
+    let Some(index) = index_of(queue, waiting.place) else {
+        put_in_turn(queue, waiting)?;
+        return Ok(());
+    };
+    if queue[index].turn <= waiting.turn {
+        move_back(queue, index, waiting);
+        return Ok(());
     }
     take_out(queue, waiting.place);
     put_in_turn(queue, waiting)?;
@@ -145,9 +141,10 @@ fn put_again(queue: &mut Vec<Waiting>, flows: &[Flow], place: usize) -> Result<(
     ensures { OnOk result (IsQueue flows.now queue.new.items) }
 {
     let flow = &flows[place];
-    if flow.waits() {
+    let wants = flow.outstanding();
+    if wants > 0 {
         let turn = flow.turn;
-        move_to_turn(queue, Waiting { turn, place })?;
+        move_to_turn(queue, Waiting { turn, wants, place })?;
         return Ok(());
     }
     take_out(queue, place);
@@ -162,6 +159,72 @@ fn take_out(queue: &mut Vec<Waiting>, place: usize)
     if let Some(index) = index_of(queue, place) {
         let _ = queue.remove(index);
     }
+}
+
+// Moves the places up for a flow that is put in at this place: each from there on is one more.
+fn move_up(queue: &mut [Waiting], place: usize)
+    requires { AllByRecursion (λ w. w.place + 1 < 2 ^ 64) queue.old }
+    ensures { queue.new ≡ map (moved_up place) queue.old }
+{
+    for waiting in queue.iter_mut() {
+        if place <= waiting.place {
+            waiting.place += 1;
+        }
+    }
+}
+
+// Makes way in a queue that is known for a flow that is put in at this place and waits for nothing.
+pub(crate) fn make_way(queue: &mut Vec<Waiting>, is_queued: bool, place: usize)
+    requires { is_queued ≡ true → (items : List Flow)
+        × IsQueue items queue.old.items × (length items + 1 < 2 ^ 64) }
+    ensures { (items : List Flow) (f : Flow) → is_queued ≡ true → IsQueue items queue.old.items
+        → place ≤ length items → outstanding (live f) ≡ 0
+        → IsQueue (insert items place f) queue.new.items }
+{
+    if is_queued {
+        move_up(queue, place);
+    }
+}
+
+// Moves the places down where the flow at this place is taken out: each behind it is one less.
+fn move_down(queue: &mut [Waiting], place: usize)
+    ensures { queue.new ≡ map (moved_down place) queue.old }
+{
+    for waiting in queue.iter_mut() {
+        if place < waiting.place {
+            waiting.place -= 1;
+        }
+    }
+}
+
+// Takes the flow at this place, which leaves the book, out of the queue.
+pub(crate) fn leave(queue: &mut Vec<Waiting>, place: usize)
+    ensures { (items : List Flow) → place < length items → IsQueue items queue.old.items
+        → IsQueue (remove items place) queue.new.items }
+{
+    take_out(queue, place);
+    move_down(queue, place);
+}
+
+// Makes room in the queue for one more than so many flows.
+pub(crate) fn make_room(queue: &mut Vec<Waiting>, flows: usize) -> Result<(), AllocError>
+    ensures { queue.new.items ≡ queue.old.items }
+{
+    queue.reserve(flows.saturating_sub(queue.len()).saturating_add(1))
+}
+
+// A copy of the queue, with room for so many flows, or for a few where fewer wait.
+pub(crate) fn copy_of(queue: &Vec<Waiting>, flows: usize) -> Result<Vec<Waiting>, AllocError>
+    ensures { IfOk result (λ copy. copy.items ≡ queue.now.items) }
+{
+    let room = if queue.len() < FEW {
+        flows.min(FEW)
+    } else {
+        flows
+    };
+    let mut copy = Vec::with_capacity(*queue.allocator(), room)?;
+    copy.extend_from_slice(queue)?;
+    Ok(copy)
 }
 
 // Keeps a queue that is known where the flow at this place of a book has changed, and answers whether it still is.

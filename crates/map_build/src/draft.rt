@@ -26,6 +26,9 @@ use map_codec::{Element, Elements, MAX_ELEMENTS, WireMap, iuc};
 use minislots::{Checked, wire};
 use std::alloc::{AllocError, Global};
 
+// The elements that a MAP has room for at first: they take no more than 1,024 bytes, which an allocator finds soonest.
+const FEW_ELEMENTS: usize = 170;
+
 /// A MAP while it is made.
 #[derive(Drop)]
 pub(crate) struct Draft {
@@ -68,7 +71,7 @@ impl Draft {
         let mut draft = Draft {
             book: copy_with_room(book)?,
             start,
-            elements: Vec::with_capacity(alloc, usize::from(MAX_ELEMENTS))?,
+            elements: Vec::with_capacity(alloc, FEW_ELEMENTS)?,
             bytes: Vec::with_capacity(alloc, usize::from(MAX_ELEMENTS))?,
             offset: 0,
             grants: 0,

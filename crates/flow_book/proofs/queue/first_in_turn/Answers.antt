@@ -8,18 +8,21 @@ use Rattle.std.proofs.lemmas.List.Elements.{All-from_recursion}
 use Rattle.std.proofs.lemmas.Option.{slice_get_read, slice_get-map}
 use Rattle.flow_book.specs.declared.flow.Flow.{Flow}
 use Rattle.flow_book.specs.declared.queue.Waiting.{Waiting}
+use Rattle.flow_book.specs.Flows.{outstanding}
 use Rattle.flow_book.specs.Choice.{HasStartedBy, IsEligible}
 use Rattle.flow_book.specs.Entry.{live, IsSoundFlow, KeepsSums}
 use Rattle.flow_book.specs.Queue.{IsAt, IsQueue}
 use Rattle.flow_book.proofs.Order.{all-push}
-use Rattle.flow_book.proofs.Queues.{at-within}
-use Rattle.flow_book.proofs.Serving.{IsPassed, first-next, none-next}
+use Rattle.flow_book.proofs.Queues.{at-within, wants-at}
+use Rattle.flow_book.proofs.Serving.{IsPassed, first-next, none-next, wanted-fits}
 use Rattle.flow_book.proofs.Steps.{all-item}
 use Rattle.flow_book.proofs.queue.first_in_turn.Goals as goal
+use Rattle.flow_book.proofs.queue.first_in_turn.Goals.{else-min-fits-via-else-min-fits}
+use Rattle.flow_book.proofs.queue.first_in_turn.Goals.{else-min-fits-via-then-min-fits+else-is_eligible}
 
 -- the one at a place of the queue, and that its own place is one of the flows'
 abbrev nobody : Waiting
-nobody = record { turn = 0; place = 0 }
+nobody = record { turn = 0; wants = 0; place = 0 }
 
 within : (items : List Flow) (queue : List Waiting) (i : ℕ) → IsQueue items queue → i < length queue
     → (get_or queue i nobody).place < length items
@@ -71,23 +74,31 @@ returns-then-is_eligible c =
 
 pub loop-waiting-preserved : goal.loop-waiting-preserved
 loop-waiting-preserved c =
+    let channel = c.args.config.now in
     let items = c.args.flows.now in
     let queue = c.args.queue.now in
     let i = c.loop-waiting.waiting-index in
     let w = get_or queue i nobody in
-    let f = c.index-flows-waiting.result in
     let lt = c.loop-waiting-test.true in
-    let found : slice_get items w.place ≡ Some f =
-    slice_get_read items (length items) w.place f refl (within items queue i c.requires.queue lt)
-    c.index-flows-waiting.is in
-    let P = IsPassed c.args.config.now c.args.start c.args.room items in
-    let passed : P w = λ g at may.
-    let e : Some g ≡ Some f = sym at ∙ found in
-    let equal : g ≡ f = cc in
-    let t : c.is_eligible.result ≡ true =
-    c.is_eligible.ensures.1 (subst (λ h. IsEligible c.args.config.now c.args.start c.args.room (live h)) equal may) in
-    let no' : c.is_eligible.result ≡ false = c.if-is_eligible.false in
-    absurd (cc) in
+    let P = IsPassed channel c.args.start c.args.room items in
+    let passed : P w = λ g at may. elim c.else-min-fits.branch [
+      | else-min-fits-via-then-min-fits+else-is_eligible v ↦ (
+          let f = v.index-flows-waiting.result in
+          let found : slice_get items w.place ≡ Some f =
+          slice_get_read items (length items) w.place f refl (within items queue i c.requires.queue lt)
+          v.index-flows-waiting.is in
+          let e : Some g ≡ Some f = sym at ∙ found in
+          let equal : g ≡ f = cc in
+          let t : v.is_eligible.result ≡ true =
+          v.is_eligible.ensures.1 (subst (λ h. IsEligible channel c.args.start c.args.room (live h)) equal may) in
+          let no' : v.is_eligible.result ≡ false = v.if-is_eligible.false in
+          absurd (cc))
+      | else-min-fits-via-else-min-fits v ↦ (
+          let stands = All-from_recursion (IsAt items) queue c.requires.queue.each i nobody lt in
+          let wants : outstanding (live g) ≡ w.wants = wants-at items w g stands at in
+          let fits = wanted-fits channel c.args.start c.args.room (live g) c.quantum.ensures.lawful may in
+          absurd (omega (arith, fits, wants, v.if-min-fits.false)))
+    ] in
     subst (AllByRecursion P) (sym (take_more queue i nobody lt))
     (all-push P (take i queue) w c.loop-waiting.invariant passed)
 

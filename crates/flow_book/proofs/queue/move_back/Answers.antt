@@ -7,7 +7,7 @@ use Rattle.flow_book.proofs.queue.move_back.Goals as goal
 use Rattle.flow_book.proofs.queue.move_back.Goals.{then-loop-at-test+else-queue-at, else-loop-at-test}
 
 abbrev nobody : Waiting
-nobody = record { turn = 0; place = 0 }
+nobody = record { turn = 0; wants = 0; place = 0 }
 
 pub loop-at-init : goal.loop-at-init
 loop-at-init c = record {

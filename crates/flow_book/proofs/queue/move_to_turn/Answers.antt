@@ -1,9 +1,9 @@
--- It moves behind those that are no later, or is taken out and put in again.
+-- It is put in where it is not in the queue yet, moves behind those no later, or is taken out and put in again.
 use Rattle.std.proofs.Common.{◌≡◌, ◌==◌, sym, ap, ◌∙◌, position, remove, Some, length, arith}
 use Rattle.std.proofs.lemmas.List.{take_at, get_or_default}
 use Rattle.std.proofs.lemmas.List.Quantifiers.{position-Some}
 use Rattle.flow_book.specs.declared.queue.Waiting.{Waiting}
-use Rattle.flow_book.proofs.Queues.{taken-at}
+use Rattle.flow_book.proofs.Queues.{taken-at, none-out, none-at}
 use Rattle.flow_book.proofs.Searches.{rises}
 use Rattle.flow_book.proofs.queue.move_to_turn.Goals as goal
 
@@ -38,11 +38,23 @@ returns-then-index-waiting c = λ items is.
     }
 
 pub put_in_turn-requires : goal.put_in_turn-requires
-put_in_turn-requires c = (c.take_out.ensures c.requires.0 c.requires.1).ascending
+put_in_turn-requires c = c.requires.1.ascending
+
+pub returns-in_default : goal.returns-in_default
+returns-in_default c = λ items is. record {
+  others = c.args.queue.now.items;
+  among = none-out items c.args.queue.now.items c.args.waiting.place
+      (none-at c.args.waiting.place c.args.queue.now.items
+      (sym (rw c.deref.ensures.value at c.in_default.ensures))) is;
+  is = c.in_ok-put_in_turn.ensures;
+}
+
+pub put_in_turn-requires-2 : goal.put_in_turn-requires-2
+put_in_turn-requires-2 c = (c.take_out.ensures c.requires.0 c.requires.1).ascending
 
 pub returns : goal.returns
 returns c = λ items is. record {
   others = c.take_out.new.queue.items;
   among = c.take_out.ensures items is;
-  is = c.in_ok-put_in_turn.ensures;
+  is = c.in_ok-put_in_turn-2.ensures;
 }

@@ -1,21 +1,19 @@
 -- The flow at its place is put where its turn is.
-use Rattle.std.proofs.Common.{◌≡◌, ◌≢◌, refl, length, nat_lt, arith}
+use Rattle.std.proofs.Common.{◌≢◌, refl, length, arith}
 use Rattle.std.proofs.lemmas.Bool.{cases_eq}
-use Rattle.std.proofs.lemmas.Bool.Decides.{nat_tests}
 use Rattle.std.proofs.lemmas.Option.{slice_get_read}
-use Rattle.flow_book.specs.Flows.{outstanding}
 use Rattle.flow_book.specs.Entry.{live, IsSoundFlow}
 use Rattle.flow_book.proofs.Queues.{among-others, put-among, pass-among}
 use Rattle.flow_book.proofs.Steps.{all-item}
 use Rattle.flow_book.proofs.queue.put_again.Goals as goal
 
-pub waits-requires-clause-within : goal.waits-requires-clause-within
-waits-requires-clause-within c =
+pub outstanding-wants-requires-clause-within : goal.outstanding-wants-requires-clause-within
+outstanding-wants-requires-clause-within c =
     (all-item live c.args.flows.now c.args.place c.index-flows-place.result c.requires.within c.index-flows-place.is
     (IsSoundFlow c.requires.book.0) c.requires.book.1.sound.each).within
 
-pub returns-then-waits : goal.returns-then-waits
-returns-then-waits c =
+pub returns-then-wants-gt0 : goal.returns-then-wants-gt0
+returns-then-wants-gt0 c =
     let place = c.args.place in
     let items = c.args.flows.now in
     let f = c.index-flows-place.result in
@@ -25,7 +23,8 @@ returns-then-waits c =
     let others = among-others place before.0 items moved.others before.1 moved.among in
     rw moved.is (put-among c.requires.book.0 items c.requires.book.1 (λ other. other ≢ place) (λ other. Unit {0})
     moved.others place f here (λ k may. cases_eq k place) (λ k other. tt) others
-    (record { turn = f.turn; place = place }) refl refl (λ differ. differ refl) tt)
+    (record { turn = f.turn; wants = c.outstanding-wants.result; place = place }) refl refl
+    c.outstanding-wants.ensures (λ differ. differ refl) tt)
 
 pub returns : goal.returns
 returns c =
@@ -38,5 +37,4 @@ returns c =
     among-others place before.0 items c.take_out.new.queue.items before.1 (c.take_out.ensures before.0 before.2) in
     pass-among c.requires.book.0 items c.requires.book.1 (λ other. other ≢ place) (λ other. Unit {0})
     c.take_out.new.queue.items place f here (λ k may. cases_eq k place) (λ k other. tt) others
-    (λ waits. let e : c.waits.result ≡ nat_lt 0 (outstanding (live f)) = c.waits.ensures in
-    let idle = c.if-waits.false in absurd (grind (arith, nat_tests)))
+    (λ waits. absurd (omega (arith, c.outstanding-wants.ensures, c.if-wants-gt0.false)))

@@ -1,17 +1,15 @@
 -- A flow more is gone through.
-use Rattle.std.proofs.Common.{◌≡◌, ℕ, ◌+◌, ◌<◌, ◌⊎◌, refl, inl, inr, length, nat_lt, arith}
+use Rattle.std.proofs.Common.{◌≡◌, ℕ, ◌+◌, ◌<◌, ◌⊎◌, refl, inl, inr, length, arith}
 use Rattle.std.proofs.lemmas.Bool.{cases_eq}
-use Rattle.std.proofs.lemmas.Bool.Decides.{nat_tests}
 use Rattle.std.proofs.lemmas.Option.{slice_get_read}
-use Rattle.flow_book.specs.Flows.{outstanding}
 use Rattle.flow_book.specs.Entry.{live, IsSoundFlow}
 use Rattle.flow_book.proofs.Queues.{put-among, pass-among, whole-among}
 use Rattle.flow_book.proofs.Steps.{all-item}
 use Rattle.flow_book.proofs.queue.queue_of.Goals as goal
-use Rattle.flow_book.proofs.queue.queue_of.Goals.{then-waits+in_ok-put_in_turn, else-waits}
+use Rattle.flow_book.proofs.queue.queue_of.Goals.{then-wants-gt0+in_ok-put_in_turn, else-wants-gt0}
 
-pub waits-requires-clause-within : goal.waits-requires-clause-within
-waits-requires-clause-within c =
+pub outstanding-wants-requires-clause-within : goal.outstanding-wants-requires-clause-within
+outstanding-wants-requires-clause-within c =
     (all-item live c.args.flows.now c.loop-place.place c.index-flows-place.result
     (omega (arith, c.loop-place-test.true))
     c.index-flows-place.is (IsSoundFlow c.requires.0) c.requires.1.sound.each).within
@@ -33,16 +31,17 @@ loop-place-preserved c =
     let f = c.index-flows-place.result in
     let here = slice_get_read items (length items) i f refl (omega (arith, c.loop-place-test.true))
     c.index-flows-place.is in
-    elim c.if-waits.branch [
-      | then-waits+in_ok-put_in_turn w ↦ rw (w.queue-is, w.in_ok-put_in_turn.ensures)
+    elim c.if-wants-gt0.branch [
+      | then-wants-gt0+in_ok-put_in_turn w ↦ rw (w.queue-is, w.in_ok-put_in_turn.ensures)
           (put-among c.requires.0 items c.requires.1 (λ k. k < i) (λ k. k < i + 1) c.loop-place.queue.items i f here
-          (only i) (λ k lt. omega arith) c.loop-place.invariant (record { turn = f.turn; place = i }) refl refl
+          (only i) (λ k lt. omega arith) c.loop-place.invariant
+          (record { turn = f.turn; wants = c.outstanding-wants.result; place = i }) refl refl
+          c.outstanding-wants.ensures
           (λ lt. absurd (omega arith)) (omega arith))
-      | else-waits w ↦ rw w.queue-is
+      | else-wants-gt0 w ↦ rw w.queue-is
           (pass-among c.requires.0 items c.requires.1 (λ k. k < i) (λ k. k < i + 1) c.loop-place.queue.items i f here
           (only i) (λ k lt. omega arith) c.loop-place.invariant
-          (λ waits. let e : c.waits.result ≡ nat_lt 0 (outstanding (live f)) = c.waits.ensures in
-          let idle = w.if-waits.false in absurd (grind (arith, nat_tests))))
+          (λ waits. absurd (omega (arith, c.outstanding-wants.ensures, w.if-wants-gt0.false))))
     ]
 
 pub returns : goal.returns

@@ -1,10 +1,11 @@
 -- The new flow stands in order of SID, is sound and keeps its sums.
-use Rattle.std.proofs.Common.{◌≡◌, ℕ, ◌∙◌, ap, sym, map, length, nat_lt, position, true≢false, arith}
+use Rattle.std.proofs.Common.{◌≡◌, ℕ, ◌≤◌, ◌∙◌, ap, map, length, not, nat_lt, position, arith}
 use Rattle.std.specs.List.{position_or_len}
+use Rattle.std.proofs.lemmas.List.Sums.{prefix_len-le-length}
 use Rattle.minislots.specs.declared.config.Config.{Config}
 use Rattle.flow_book.specs.declared.flow.Flow.{Flow}
 use Rattle.flow_book.specs.declared.spec.FlowSpec.{FlowSpec}
-use Rattle.flow_book.specs.Flows.{LiveFlow}
+use Rattle.flow_book.specs.Flows.{LiveFlow, outstanding}
 use Rattle.flow_book.specs.Entry.{live, IsSoundFlow, KeepsSums}
 use Rattle.flow_book.specs.Book.{new_flow, with_flow}
 use Rattle.flow_book.proofs.Places.{place-or_len}
@@ -37,8 +38,17 @@ invariant_of-self-2 c =
     let config = c.self.inside.config in
     let flows = rw (← c.self.view_is) at (returns-clause-ok c) in
     let none = rw (← c.self.view_is) at c.requires in
+    let above : c.place_above.result ≡ position (λ f. nat_lt c.args.sid f.sid) items =
+    rw c.deref.ensures.value at c.place_above.ensures in
+    let len : c.len.result ≡ length items = omega (arith, c.self.inside.flows.ok.0) in
+    let place : c.unwrap_or-place.result ≡ position_or_len (λ f. nat_lt c.args.sid f.sid) items =
+    c.unwrap_or-place.ensures ∙ rw (above, len) (place-or_len (λ f. nat_lt c.args.sid f.sid) items) in
+    let within : c.unwrap_or-place.result ≤ length items =
+    omega (arith, place, prefix_len-le-length (λ (f : Flow). not (nat_lt c.args.sid f.sid)) items) in
     record {
-      order = λ known. absurd (true≢false (sym known));
+      order = λ known. rw c.in_ok-insert.ensures.items (c.make_way.ensures items c.open-flow.result known
+          (rw c.in_ok-make_room.ensures (c.self.invariant.order known)) within
+          (ap outstanding c.open-flow.ensures.live));
       book = record {
         sound = rw flows (sound-with_flow config (new_flow c.args.sid c.args.spec) (map live items) none
             (new-sound config c.args.sid c.args.spec) c.self.invariant.book.sound);

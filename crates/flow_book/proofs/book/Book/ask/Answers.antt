@@ -1,5 +1,5 @@
 -- The flow in its place asks for more.
-use Rattle.std.proofs.Common.{◌+◌, ap, sym, refl, true≢false, arith}
+use Rattle.std.proofs.Common.{◌+◌, ap, refl, arith}
 use Rattle.std.proofs.Math.Seq.{map-set_same}
 use Rattle.flow_book.specs.declared.flow.Flow.{Flow}
 use Rattle.flow_book.specs.Entry.{live, room_in}
@@ -7,6 +7,7 @@ use Rattle.flow_book.specs.Book.{with_asked}
 use Rattle.flow_book.proofs.Places.{StandsAt, placed}
 use Rattle.flow_book.proofs.Changes.{placed-changed, placed-is_sound, asked-sound, same-view}
 use Rattle.flow_book.proofs.Sums.{placed-sums, placed-book}
+use Rattle.flow_book.proofs.Queues.{same-but}
 use Rattle.flow_book.proofs.book.Book.ask.Goals as goal
 
 pub overflow_add-index_mut : goal.overflow_add-index_mut
@@ -16,6 +17,30 @@ overflow_add-index_mut c =
     let is = placed c.args.sid items c.place-place.result c.index_mut.result.now stands c.index_mut.ensures.value in
     let fits = rw (← c.self.view_is, is.found) at c.requires.fits in
     omega arith
+
+pub follow-self-inside-requires-clause-book : goal.follow-self-inside-requires-clause-book
+follow-self-inside-requires-clause-book c =
+    let config = c.self.inside.config in
+    let items = c.self.inside.flows.items in
+    let f = c.index_mut.result.now in
+    let is =
+    placed c.args.sid items c.place-place.result f (rw (← c.self.view_is) at c.place-place.ensures)
+    c.index_mut.ensures.value in
+    let sound = placed-is_sound config c.args.sid items c.place-place.result f c.self.invariant.book.sound is in
+    let keeps = placed-sums config c.args.sid items c.place-place.result f c.self.invariant.book is in (
+      config,
+      rw c.deref.ensures.value (placed-book config c.args.sid items c.place-place.result _ f c.self.invariant.book is
+          refl (asked-sound config c.from.result (live f) sound)
+          (record { granted = keeps.granted; turn = keeps.turn; bucket = keeps.bucket })),
+    )
+
+pub follow-self-inside-requires-clause-queue : goal.follow-self-inside-requires-clause-queue
+follow-self-inside-requires-clause-queue c = λ known.
+    let items = c.self.inside.flows.items in (
+      items,
+      rw c.deref.ensures.value (same-but items c.place-place.result _),
+      c.self.invariant.order known,
+    )
 
 -- the flow stands at its place
 stands : (c : goal.After-self-2-1)
@@ -36,7 +61,7 @@ invariant_of-self c =
       book = placed-book config c.args.sid items c.place-place.result _ f c.self.invariant.book is refl
           (asked-sound config c.from.result (live f) sound)
           (record { granted = keeps.granted; turn = keeps.turn; bucket = keeps.bucket });
-      order = λ known. absurd (true≢false (sym known));
+      order = λ known. rw c.deref.ensures.value at (c.follow-self-inside.ensures known);
     }
 
 pub returns : goal.returns

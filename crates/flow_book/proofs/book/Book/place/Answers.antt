@@ -20,5 +20,5 @@ returns c =
     rw c.deref.ensures.value at c.in-Some.ensures in
     rw (← c.self.view_is) (position-map live (λ f. f.sid == c.args.sid) c.self.inside.flows.items ∙ sym is)
 
-pub place_of-requires : goal.place_of-requires
-place_of-requires c = rw c.deref.ensures.value c.self.invariant.book.sound.ascending
+pub place_in-requires : goal.place_in-requires
+place_in-requires c = rw c.deref.ensures.value c.self.invariant.book.sound.ascending

@@ -1,5 +1,5 @@
 -- The flows of other SIDs are left.
-use Rattle.std.proofs.Common.{◌≡◌, ◌∙◌, ap, map, filter, not, ◌==◌, sym, true≢false, rules}
+use Rattle.std.proofs.Common.{◌≡◌, ◌∙◌, ap, map, filter, not, ◌==◌, rules}
 use Rattle.std.proofs.lemmas.Fn.{filter_same}
 use Rattle.flow_book.specs.declared.flow.Flow.{Flow}
 use Rattle.flow_book.specs.Flows.{LiveFlow}
@@ -7,10 +7,11 @@ use Rattle.flow_book.specs.Entry.{live, room_in, IsSoundBook, KeepsSums}
 use Rattle.flow_book.specs.Book.{Room, room_of}
 use Rattle.flow_book.proofs.Admission.{room-found}
 use Rattle.flow_book.proofs.Removal.{map-filter, sound-filter, all-filter, room-filter}
+use Rattle.flow_book.proofs.Shifts.{filter-at}
 use Rattle.flow_book.proofs.book.Book.remove.Goals as goal
 
 -- the flows of other SIDs
-left : (c : goal.After-self-1)
+left : (c : goal.After-leave)
     → c.retain.new.self.items ≡ filter (λ (f : Flow). not (f.sid == c.args.sid)) c.self.inside.flows.items
 left c = filter_same _ _ _ (λ x b f' k. search rules) _ _ c.retain.ensures.filtered
 
@@ -26,7 +27,10 @@ invariant_of-self c =
         sums = all-filter (KeepsSums c.self.inside.config) (λ f. not (f.sid == c.args.sid)) items
             c.self.invariant.book.sums;
       };
-      order = λ known. absurd (true≢false (sym known));
+      order = λ known.
+          let stands = rw (← c.self.view_is) at c.place-place.ensures in
+          let out = filter-at c.args.sid items c.place-place.result c.self.invariant.book.sound.ascending stands in
+          rw out.1 (c.leave.ensures items out.0 (c.self.invariant.order known));
     })
 
 pub returns-clause-removed : goal.returns-clause-removed
