@@ -212,33 +212,41 @@ fn live<R: Files<File = File> + Input + Print + Eprint + AllocGlobal>(
     }
 }
 
+// The exit code of a command that finds all well or not.
+fn exit_of(rt: &impl Eprint, outcome: Result<bool, RunFault>) -> ExitCode {
+    match outcome {
+        Ok(true) => ExitCode::SUCCESS,
+        Ok(false) => ExitCode::FAILURE,
+        Err(fault) => fail(rt, fault),
+    }
+}
+
+// Does what the words of the command line ask for; with no command, runs a script.
+fn answer(rt: &HostRuntime, matches: &ArgMatches) -> ExitCode {
+    match matches.subcommand() {
+        Some(("decode", decode)) => exit_of(rt, show(rt, decode)),
+        Some(("draw", words)) => draw(rt, words),
+        Some(("audit", audit)) if audit.get_flag("journal") => audit_journal(rt),
+        Some(("audit", audit)) => exit_of(rt, audit_input(rt, audit.get_flag("explain"))),
+        Some(("check", _)) => check(rt),
+        Some(("report", words)) if words.get_flag("journal") => {
+            code_of(rt, report_journal_input(rt, form_of(words)))
+        }
+        Some(("report", words)) => exit_of(rt, report_input(rt, form_of(words))),
+        Some(("storm", _)) => exit_of(rt, storm_input(rt)),
+        Some(("pcap", words)) => pcap(rt, words),
+        Some(("live", words)) => live(rt, words),
+        Some((_, words)) => exit_of(rt, run(rt, words)),
+        None => exit_of(rt, run_input(rt, RunOutput::Lines(Words::Plain))),
+    }
+}
+
 fn main(rt: HostRuntime) -> ExitCode {
     let Ok(words) = words_of(&rt) else {
         return fail(&rt, RunFault::Text(TextFault::Memory));
     };
-    let matches = match matches_of(rt.alloc(), &words) {
-        Ok(matches) => matches,
-        Err(error) => return explain(&rt, error),
-    };
-    let outcome = match matches.subcommand() {
-        Some(("decode", decode)) => show(&rt, decode),
-        Some(("draw", words)) => return draw(&rt, words),
-        Some(("audit", audit)) if audit.get_flag("journal") => return audit_journal(&rt),
-        Some(("audit", audit)) => audit_input(&rt, audit.get_flag("explain")),
-        Some(("check", _)) => return check(&rt),
-        Some(("report", words)) if words.get_flag("journal") => {
-            return code_of(&rt, report_journal_input(&rt, form_of(words)));
-        }
-        Some(("report", words)) => report_input(&rt, form_of(words)),
-        Some(("storm", _)) => storm_input(&rt),
-        Some(("pcap", words)) => return pcap(&rt, words),
-        Some(("live", words)) => return live(&rt, words),
-        Some((_, words)) => run(&rt, words),
-        None => run_input(&rt, RunOutput::Lines(Words::Plain)),
-    };
-    match outcome {
-        Ok(true) => ExitCode::SUCCESS,
-        Ok(false) => ExitCode::FAILURE,
-        Err(fault) => fail(&rt, fault),
+    match matches_of(rt.alloc(), &words) {
+        Ok(matches) => answer(&rt, &matches),
+        Err(error) => explain(&rt, error),
     }
 }

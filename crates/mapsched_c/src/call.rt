@@ -1,7 +1,7 @@
 //! A call in plain numbers.
 
 ghost use Rattle.std.specs.Prelude.{◌≡◌, Some};
-ghost use Rattle.mapsched_c.specs.Call.{call_of, flow_of, usage_of, plain_call};
+ghost use Rattle.mapsched_c.specs.Call.{call_of, flow_of, usage_of, nothing_called, plain_call};
 
 use flow_book::FlowSpec;
 use map_build::Usage;
@@ -152,6 +152,32 @@ impl PlainCall {
         }
     }
 
+    // The request for bytes of these numbers.
+    fn ask(&self) -> Call
+        ensures { result ≡ Call.Ask self.now.receiver self.now.sid self.now.bytes self.now.minislot }
+    {
+        Call::Ask {
+            receiver: self.receiver,
+            sid: self.sid,
+            bytes: self.bytes,
+            heard: self.minislot,
+        }
+    }
+
+    // The header of these numbers.
+    fn header(&self) -> Call
+        ensures { result ≡ Call.Header self.now.receiver self.now.priority self.now.grants
+            self.now.data_start self.now.data_end }
+    {
+        Call::Header {
+            ucd_count: self.receiver,
+            ranging_start: self.priority,
+            ranging_end: self.grants,
+            data_start: self.data_start,
+            data_end: self.data_end,
+        }
+    }
+
     // The call of these numbers, where there is such a kind.
     pub(crate) fn call(&self) -> Option<Call>
         ensures { result ≡ call_of self.now }
@@ -159,12 +185,7 @@ impl PlainCall {
         Some(match self.kind {
             kind::ADMIT => Call::Admit(self.sid, self.flow()?),
             kind::REMOVE => Call::Remove(self.sid),
-            kind::ASK => Call::Ask {
-                receiver: self.receiver,
-                sid: self.sid,
-                bytes: self.bytes,
-                heard: self.minislot,
-            },
+            kind::ASK => self.ask(),
             kind::HEARD => Call::Heard {
                 receiver: self.receiver,
                 upto: self.minislot,
@@ -176,15 +197,60 @@ impl PlainCall {
                 usage: self.usage()?,
                 slots: self.size,
             },
-            kind::HEADER => Call::Header {
-                ucd_count: self.receiver,
-                ranging_start: self.priority,
-                ranging_end: self.grants,
-                data_start: self.data_start,
-                data_end: self.data_end,
-            },
+            kind::HEADER => self.header(),
             _ => return None,
         })
+    }
+
+    // The numbers of an admission of unsolicited grants.
+    fn of_unsolicited(
+        sid: u16,
+        size: u32,
+        interval_us: u32,
+        jitter_us: u32,
+        grants: u8,
+    ) -> PlainCall
+        ensures { result ≡
+            plain_call (Call.Admit sid (FlowSpec.Unsolicited size interval_us jitter_us grants)) }
+    {
+        PlainCall {
+            flow: flow::UNSOLICITED,
+            sid,
+            size,
+            interval_us,
+            jitter_us,
+            grants,
+            ..NOTHING
+        }
+    }
+
+    // The numbers of an admission of polls.
+    fn of_polled(sid: u16, interval_us: u32, jitter_us: u32, rate: u32, burst: u32) -> PlainCall
+        ensures { result ≡ plain_call (Call.Admit sid (FlowSpec.Polled interval_us jitter_us rate burst)) }
+    {
+        PlainCall {
+            flow: flow::POLLED,
+            sid,
+            interval_us,
+            jitter_us,
+            rate,
+            burst,
+            ..NOTHING
+        }
+    }
+
+    // The numbers of an admission of a best effort flow.
+    fn of_best_effort(sid: u16, priority: u8, rate: u32, burst: u32) -> PlainCall
+        ensures { result ≡ plain_call (Call.Admit sid (FlowSpec.BestEffort priority rate burst)) }
+    {
+        PlainCall {
+            flow: flow::BEST_EFFORT,
+            sid,
+            priority,
+            rate,
+            burst,
+            ..NOTHING
+        }
     }
 
     // The numbers of an admission.
@@ -197,41 +263,66 @@ impl PlainCall {
                 interval_us,
                 jitter_us,
                 grants,
-            } => PlainCall {
-                flow: flow::UNSOLICITED,
-                sid,
-                size,
-                interval_us,
-                jitter_us,
-                grants,
-                ..NOTHING
-            },
+            } => PlainCall::of_unsolicited(sid, size, interval_us, jitter_us, grants),
             FlowSpec::Polled {
                 interval_us,
                 jitter_us,
                 rate,
                 burst,
-            } => PlainCall {
-                flow: flow::POLLED,
-                sid,
-                interval_us,
-                jitter_us,
-                rate,
-                burst,
-                ..NOTHING
-            },
+            } => PlainCall::of_polled(sid, interval_us, jitter_us, rate, burst),
             FlowSpec::BestEffort {
                 priority,
                 rate,
                 burst,
-            } => PlainCall {
-                flow: flow::BEST_EFFORT,
-                sid,
-                priority,
-                rate,
-                burst,
-                ..NOTHING
-            },
+            } => PlainCall::of_best_effort(sid, priority, rate, burst),
+        }
+    }
+
+    // The numbers of a call of this kind that names a flow and no more.
+    fn of_flow(kind: u32, sid: u16) -> PlainCall
+        ensures { result ≡ record nothing_called { kind = kind; sid = sid } }
+    {
+        PlainCall {
+            kind,
+            sid,
+            ..NOTHING
+        }
+    }
+
+    // The numbers of a call of this kind that names a minislot and no more.
+    fn of_minislot(kind: u32, minislot: u64) -> PlainCall
+        ensures { result ≡ record nothing_called { kind = kind; minislot = minislot } }
+    {
+        PlainCall {
+            kind,
+            minislot,
+            ..NOTHING
+        }
+    }
+
+    // The numbers of a request for bytes.
+    fn of_ask(receiver: u8, sid: u16, bytes: u32, heard: u64) -> PlainCall
+        ensures { result ≡ plain_call (Call.Ask receiver sid bytes heard) }
+    {
+        PlainCall {
+            kind: kind::ASK,
+            receiver,
+            sid,
+            bytes,
+            minislot: heard,
+            ..NOTHING
+        }
+    }
+
+    // The numbers of a receiver's progress.
+    fn of_heard(receiver: u8, upto: u64) -> PlainCall
+        ensures { result ≡ plain_call (Call.Heard receiver upto) }
+    {
+        PlainCall {
+            kind: kind::HEARD,
+            receiver,
+            minislot: upto,
+            ..NOTHING
         }
     }
 
@@ -264,7 +355,8 @@ impl PlainCall {
         data_start: u8,
         data_end: u8,
     ) -> PlainCall
-        ensures { result ≡ plain_call (Call.Header ucd_count ranging_start ranging_end data_start data_end) }
+        ensures { result ≡
+            plain_call (Call.Header ucd_count ranging_start ranging_end data_start data_end) }
     {
         PlainCall {
             kind: kind::HEADER,
@@ -284,45 +376,17 @@ impl PlainCall {
     {
         match call {
             Call::Admit(sid, spec) => PlainCall::of_admission(sid, spec),
-            Call::Remove(sid) => PlainCall {
-                kind: kind::REMOVE,
-                sid,
-                ..NOTHING
-            },
+            Call::Remove(sid) => PlainCall::of_flow(kind::REMOVE, sid),
             Call::Ask {
                 receiver,
                 sid,
                 bytes,
                 heard,
-            } => PlainCall {
-                kind: kind::ASK,
-                receiver,
-                sid,
-                bytes,
-                minislot: heard,
-                ..NOTHING
-            },
-            Call::Heard { receiver, upto } => PlainCall {
-                kind: kind::HEARD,
-                receiver,
-                minislot: upto,
-                ..NOTHING
-            },
-            Call::Build { now } => PlainCall {
-                kind: kind::BUILD,
-                minislot: now,
-                ..NOTHING
-            },
-            Call::Skip { now } => PlainCall {
-                kind: kind::SKIP,
-                minislot: now,
-                ..NOTHING
-            },
-            Call::Status(sid) => PlainCall {
-                kind: kind::STATUS,
-                sid,
-                ..NOTHING
-            },
+            } => PlainCall::of_ask(receiver, sid, bytes, heard),
+            Call::Heard { receiver, upto } => PlainCall::of_heard(receiver, upto),
+            Call::Build { now } => PlainCall::of_minislot(kind::BUILD, now),
+            Call::Skip { now } => PlainCall::of_minislot(kind::SKIP, now),
+            Call::Status(sid) => PlainCall::of_flow(kind::STATUS, sid),
             Call::Reserve { usage, slots } => PlainCall::of_reserve(usage, slots),
             Call::Header {
                 ucd_count,

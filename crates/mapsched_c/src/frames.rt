@@ -1,6 +1,6 @@
 //! The exports for frames: the management message of a MAP is written, and the request frames of modems are read.
 
-ghost use Rattle.mapsched_c.specs.Frame.{FramesMap, HearsRequest, request_fault_number};
+ghost use Rattle.mapsched_c.specs.Frame.{FramesMap, HearsRequest, plain_request, request_fault_number};
 ghost use Rattle.std.specs.Prelude.{◌≡◌};
 
 use crate::status;
@@ -44,6 +44,16 @@ fn fault_number(fault: RequestFault) -> u32
     }
 }
 
+// A request in numbers: its kind, its number and its SID.
+fn plain_request(request: Request) -> (u32, u16, u16)
+    ensures { result ≡ plain_request request }
+{
+    match request {
+        Request::Minislots { number, sid } => (ASKS_MINISLOTS, u16::from(number), sid),
+        Request::Queue { number, sid } => (TELLS_QUEUE, number, sid),
+    }
+}
+
 /// Reads a request frame, of 6 bytes, or a queue-depth request frame, of 7: tells which it is, its number and its SID.
 /// Of bytes that are neither, tells the first fault by the status alone.
 #[unsafe(no_mangle)]
@@ -53,27 +63,13 @@ pub extern "C" fn mapsched_request(
     number: &mut u16,
     sid: &mut u16,
 ) -> u32
-    ensures { HearsRequest bytes.now result (kind.old, (number.old, sid.old)) (kind.new, (number.new, sid.new)) }
+    ensures { HearsRequest bytes.now result
+        (kind.old, (number.old, sid.old)) (kind.new, (number.new, sid.new)) }
 {
     match Request::read(bytes) {
-        Ok(
-            Request::Minislots {
-                number: minislots,
-                sid: of,
-            },
-        ) => {
-            *kind = ASKS_MINISLOTS;
-            *number = u16::from(minislots);
-            *sid = of;
-            status::OK
-        }
-        Ok(
-            Request::Queue {
-                number: units,
-                sid: of,
-            },
-        ) => {
-            *kind = TELLS_QUEUE;
+        Ok(request) => {
+            let (asked, units, of) = plain_request(request);
+            *kind = asked;
             *number = units;
             *sid = of;
             status::OK

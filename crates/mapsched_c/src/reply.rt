@@ -2,7 +2,7 @@
 
 ghost use Rattle.std.specs.Prelude.{◌≡◌, ◌≤◌, length};
 ghost use Rattle.map_codec.specs.WireMap.{IsWellFormed};
-ghost use Rattle.sched_history.specs.declared.reply.Reply.TheVariants.{Admitted, Built, Refused};
+ghost use Rattle.sched_history.specs.declared.reply.Reply.TheVariants.{Admitted, Built, Flow, Refused};
 ghost use Rattle.sched_history.specs.Machine.{IsEncodable};
 ghost use Rattle.mapsched_c.specs.Reply.{HasRoom, plain_reply, with_kind};
 
@@ -88,6 +88,7 @@ impl PlainReply {
         self.outstanding = 0;
     }
 
+    // The reply to an admission of a periodic flow.
     fn put_placement(&mut self, placement: &Placement)
         requires { length placement.now.starts ≤ MAX_STARTS }
         ensures { self.new ≡ plain_reply self.old (Admitted (Some placement.now)) }
@@ -99,6 +100,7 @@ impl PlainReply {
         self.starts[..starts.len()].copy_from_slice(starts);
     }
 
+    // The reply to a build.
     fn put_map(&mut self, map: &FrameMap)
         requires { IsWellFormed map.now.wire }
         ensures { self.new ≡ plain_reply self.old (Built map.now) }
@@ -108,6 +110,17 @@ impl PlainReply {
         self.length = encode(&map.wire, &mut self.payload) as u32;
     }
 
+    // The bytes of a flow.
+    fn put_flow(&mut self, asked: u64, granted: u64, outstanding: u64)
+        ensures { self.new ≡ plain_reply self.old (Flow asked granted outstanding) }
+    {
+        self.put_kind(answer::FLOW);
+        self.asked = asked;
+        self.granted = granted;
+        self.outstanding = outstanding;
+    }
+
+    // A refusal.
     fn put_refusal(&mut self, refusal: Refusal)
         ensures { self.new ≡ plain_reply self.old (Refused refusal) }
     {
@@ -138,12 +151,7 @@ impl PlainReply {
                 asked,
                 granted,
                 outstanding,
-            } => {
-                self.put_kind(answer::FLOW);
-                self.asked = *asked;
-                self.granted = *granted;
-                self.outstanding = *outstanding;
-            }
+            } => self.put_flow(*asked, *granted, *outstanding),
             Reply::Refused(refusal) => self.put_refusal(*refusal),
         }
     }

@@ -99,15 +99,24 @@ row_text s ranks i =
 abbrev pub rows_text : Scale → List RankTold → List ℕ
 rows_text s ranks = flat_map (row_text s ranks) (range_with_len 0 (length ranks))
 
+-- what the delays are
+unfoldable pub delays_title : List ℕ
+delays_title =
+    codes "<text class='head' x='96' y='492'>Delays of requests by rank, in ms: from where a request was heard "
+    ++ codes "to the end of the data grant that served it.</text>\n"
+
+-- what their marks are for
+unfoldable pub marks_legend : List ℕ
+marks_legend =
+    codes "<path class='range' d='M96 506h28v14h-28z'/><text x='132' y='517'>least to 99 in a hundred</text>"
+    ++ (codes "<circle class='middle' cx='330' cy='513' r='5'/><text x='344' y='517'>middle: 50 in a hundred</text>"
+    ++ (codes "<path d='M520 506l7 14h-14z'/><text x='536' y='517'>99 in a hundred</text>"
+    ++ (codes "<path class='most' d='M670 513h20'/>"
+    ++ codes "<path class='most' d='M690 505v16'/><text x='702' y='517'>greatest</text>\n")))
+
 -- what the delays are, and what their marks are for
 unfoldable pub delays_legend : List ℕ
-delays_legend =
-    codes "<text class='head' x='96' y='492'>Delays of requests by rank, in ms: from where a request was heard "
-    ++ (codes "to the end of the data grant that served it.</text>\n<path class='range' d='M96 506h28v14h-28z'/>"
-    ++ (codes "<text x='132' y='517'>least to 99 in a hundred</text><circle class='middle' cx='330' cy='513' r='5'/>"
-    ++ (codes "<text x='344' y='517'>middle: 50 in a hundred</text><path d='M520 506l7 14h-14z'/>"
-    ++ (codes "<text x='536' y='517'>99 in a hundred</text><path class='most' d='M670 513h20'/>"
-    ++ codes "<path class='most' d='M690 505v16'/><text x='702' y='517'>greatest</text>\n"))))
+delays_legend = delays_title ++ marks_legend
 
 -- the names of the columns of numbers
 unfoldable pub columns_text : List ℕ

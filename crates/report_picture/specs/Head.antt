@@ -17,18 +17,26 @@ size_text ranks =
     filled (codes "<svg xmlns='http://www.w3.org/2000/svg' width='1400' height='@' viewBox='0 0 1400 @")
     (depth_of ranks ∷ depth_of ranks ∷ [])
 
--- how its parts look
-unfoldable pub style_text : List ℕ
-style_text =
+-- how its texts and lines look
+unfoldable pub line_style : List ℕ
+line_style =
     codes "' font-family='sans-serif' font-size='12'>\n<rect width='100%' height='100%' fill='#fff'/><style>"
     ++ (codes
     ".head{font-size:14px}.at,.end,.part{font-size:11px}.at{text-anchor:middle}.end{text-anchor:end}\n"
-    ++ (codes
-    ".key{stroke:#333;stroke-width:.5px}.tick{stroke:#000;stroke-opacity:.2}.edge{stroke:#333;fill:none}\n"
-    ++ (codes
+    ++ codes
+    ".key{stroke:#333;stroke-width:.5px}.tick{stroke:#000;stroke-opacity:.2}.edge{stroke:#333;fill:none}\n")
+
+-- how its areas and marks look
+unfoldable pub area_style : List ℕ
+area_style =
+    codes
     ".step{fill-opacity:0}.request{fill:url(#request)}.poll{fill:url(#poll)}.unsolicited{fill:url(#unsolicited)}"
     ++ (codes ".opportunity{fill:url(#opportunity)}.data{fill:#2f7fc1}.idle{fill:#ddd}.range{fill:#ccc}\n"
-    ++ (codes ".most{stroke:#333;stroke-width:2px}.middle{fill:#fff;stroke:#000;stroke-width:2px}</style>\n")))))
+    ++ codes ".most{stroke:#333;stroke-width:2px}.middle{fill:#fff;stroke:#000;stroke-width:2px}</style>\n")
+
+-- how its parts look
+unfoldable pub style_text : List ℕ
+style_text = line_style ++ area_style
 
 -- the patterns of minislots in which modems may ask
 unfoldable pub request_patterns : List ℕ
@@ -53,18 +61,25 @@ span_text ticks (Some from) (Some to) =
 span_text ticks (Some from) None = []
 span_text ticks None to = []
 
--- the title: how many frames there are, how long they are, from where to where they reach, and what a step is
-unfoldable pub title_text : Course → Totals → List ℕ
-title_text c t =
+-- how many frames there are, how long they are, and from where to where they reach
+unfoldable pub frames_told : Course → Totals → List ℕ
+frames_told c t =
     filled (codes "<text class='head' x='96' y='26'>Use of minislots over time. Frames: @, of @ minislots, ^ ms each.")
     (c.frames ∷ c.frame ∷ microseconds c.ticks c.frame ∷ [])
-    ++ (span_text c.ticks t.from t.to
-    ++ (filled (codes " Skips: @.</text>\n") (t.skips ∷ [])
-    ++ (filled
+    ++ (span_text c.ticks t.from t.to ++ filled (codes " Skips: @.</text>\n") (t.skips ∷ []))
+
+-- what a step is
+unfoldable pub step_told : Course → List ℕ
+step_told c =
+    filled
     (codes
     "<text x='96' y='47'>Frames in a step: @. It reaches from the start of its first to the end of its last one, ")
     (c.width ∷ [])
-    ++ codes "a use as high as its part of that time. White: no frame, since no MAP was built.</text>\n")))
+    ++ codes "a use as high as its part of that time. White: no frame, since no MAP was built.</text>\n"
+
+-- the title: how many frames there are, how long they are, from where to where they reach, and what a step is
+unfoldable pub title_text : Course → Totals → List ℕ
+title_text c t = frames_told c t ++ step_told c
 
 -- how many in a thousand of all a part is, rounded to the nearest
 abbrev pub thousandths : ℕ → ℕ → ℕ

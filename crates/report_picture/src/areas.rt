@@ -178,8 +178,6 @@ fn put_stretch<W: Sink>(
     ensures { Puts W.contents W.has_failed writer.old writer.new lines.old lines.new
         (stretch_text course step i) result }
 {
-    let begin = u128::from(step.first);
-    let end = end_of(course, step.last);
     put_filled(
         lines,
         writer,
@@ -196,8 +194,8 @@ fn put_stretch<W: Sink>(
         writer,
         b"^ to ^ ms, minislots: ",
         &[
-            microseconds(course.ticks, time_since(course, begin)),
-            microseconds(course.ticks, time_since(course, end)),
+            microseconds(course.ticks, time_since(course, u128::from(step.first))),
+            microseconds(course.ticks, time_since(course, end_of(course, step.last))),
         ],
     )
 }

@@ -1,7 +1,8 @@
 //! The delays of requests by rank.
 
 ghost use Rattle.std.specs.Prelude.{◌≡◌, ◌<◌, ◌≤◌, ◌^◌, length};
-ghost use Rattle.report_picture.specs.Delays.{most_of, delay_tick, delay_ticks, delays_legend, columns_text, delays_text};
+ghost use Rattle.report_picture.specs.Delays.{most_of, delay_tick, delay_ticks, delays_title, marks_legend};
+ghost use Rattle.report_picture.specs.Delays.{delays_legend, columns_text, delays_text};
 ghost use Rattle.text_stream.specs.Writing.{Puts};
 
 use crate::axis::{place, round_step};
@@ -67,11 +68,11 @@ fn put_delay_ticks<W: Sink>(
     Ok(())
 }
 
-// What the delays are, and what their marks are for.
-#[tactic(auto, unfolding(crate::specs::Delays::delays_legend))]
-fn put_delays_legend<W: Sink>(lines: &mut TextBuffer, writer: &mut W) -> Result<(), TextFault>
+// What the delays are.
+#[tactic(auto, unfolding(crate::specs::Delays::delays_title))]
+fn put_delays_title<W: Sink>(lines: &mut TextBuffer, writer: &mut W) -> Result<(), TextFault>
     ensures { Puts W.contents W.has_failed writer.old writer.new lines.old lines.new
-        (delays_legend) result }
+        (delays_title) result }
 {
     lines.put(
         writer,
@@ -79,24 +80,43 @@ fn put_delays_legend<W: Sink>(lines: &mut TextBuffer, writer: &mut W) -> Result<
     )?;
     lines.put(
         writer,
-        b"to the end of the data grant that served it.</text>\n<path class='range' d='M96 506h28v14h-28z'/>",
+        b"to the end of the data grant that served it.</text>\n",
+    )
+}
+
+// What their marks are for.
+#[tactic(auto, unfolding(crate::specs::Delays::marks_legend))]
+fn put_marks_legend<W: Sink>(lines: &mut TextBuffer, writer: &mut W) -> Result<(), TextFault>
+    ensures { Puts W.contents W.has_failed writer.old writer.new lines.old lines.new
+        (marks_legend) result }
+{
+    lines.put(
+        writer,
+        b"<path class='range' d='M96 506h28v14h-28z'/><text x='132' y='517'>least to 99 in a hundred</text>",
     )?;
     lines.put(
         writer,
-        b"<text x='132' y='517'>least to 99 in a hundred</text><circle class='middle' cx='330' cy='513' r='5'/>",
+        b"<circle class='middle' cx='330' cy='513' r='5'/><text x='344' y='517'>middle: 50 in a hundred</text>",
     )?;
     lines.put(
         writer,
-        b"<text x='344' y='517'>middle: 50 in a hundred</text><path d='M520 506l7 14h-14z'/>",
+        b"<path d='M520 506l7 14h-14z'/><text x='536' y='517'>99 in a hundred</text>",
     )?;
-    lines.put(
-        writer,
-        b"<text x='536' y='517'>99 in a hundred</text><path class='most' d='M670 513h20'/>",
-    )?;
+    lines.put(writer, b"<path class='most' d='M670 513h20'/>")?;
     lines.put(
         writer,
         b"<path class='most' d='M690 505v16'/><text x='702' y='517'>greatest</text>\n",
     )
+}
+
+// What the delays are, and what their marks are for.
+#[tactic(auto, unfolding(crate::specs::Delays::delays_legend))]
+fn put_delays_legend<W: Sink>(lines: &mut TextBuffer, writer: &mut W) -> Result<(), TextFault>
+    ensures { Puts W.contents W.has_failed writer.old writer.new lines.old lines.new
+        (delays_legend) result }
+{
+    put_delays_title(lines, writer)?;
+    put_marks_legend(lines, writer)
 }
 
 // The names of the columns of numbers.

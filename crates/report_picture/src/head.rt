@@ -2,7 +2,7 @@
 
 ghost use Rattle.std.specs.Prelude.{◌≡◌, ◌≤◌, ◌<◌, ◌^◌};
 ghost use Rattle.report_picture.specs.Head.{size_text, style_text, request_patterns, other_patterns, span_text};
-ghost use Rattle.report_picture.specs.Head.{title_text, head_text};
+ghost use Rattle.report_picture.specs.Head.{line_style, area_style, frames_told, step_told, title_text, head_text};
 ghost use Rattle.text_stream.specs.Writing.{Puts};
 
 use crate::axis::microseconds;
@@ -25,11 +25,11 @@ fn put_size<W: Sink>(lines: &mut TextBuffer, writer: &mut W, ranks: usize) -> Re
     put_filled(lines, writer, template, &[depth, depth])
 }
 
-// How its parts look.
-#[tactic(auto, unfolding(crate::specs::Head::style_text))]
-fn put_style<W: Sink>(lines: &mut TextBuffer, writer: &mut W) -> Result<(), TextFault>
+// How its texts and lines look.
+#[tactic(auto, unfolding(crate::specs::Head::line_style))]
+fn put_line_style<W: Sink>(lines: &mut TextBuffer, writer: &mut W) -> Result<(), TextFault>
     ensures { Puts W.contents W.has_failed writer.old writer.new lines.old lines.new
-        (style_text) result }
+        (line_style) result }
 {
     lines.put(
         writer,
@@ -42,7 +42,15 @@ fn put_style<W: Sink>(lines: &mut TextBuffer, writer: &mut W) -> Result<(), Text
     lines.put(
         writer,
         b".key{stroke:#333;stroke-width:.5px}.tick{stroke:#000;stroke-opacity:.2}.edge{stroke:#333;fill:none}\n",
-    )?;
+    )
+}
+
+// How its areas and marks look.
+#[tactic(auto, unfolding(crate::specs::Head::area_style))]
+fn put_area_style<W: Sink>(lines: &mut TextBuffer, writer: &mut W) -> Result<(), TextFault>
+    ensures { Puts W.contents W.has_failed writer.old writer.new lines.old lines.new
+        (area_style) result }
+{
     lines.put(
         writer,
         b".step{fill-opacity:0}.request{fill:url(#request)}.poll{fill:url(#poll)}.unsolicited{fill:url(#unsolicited)}",
@@ -55,6 +63,16 @@ fn put_style<W: Sink>(lines: &mut TextBuffer, writer: &mut W) -> Result<(), Text
         writer,
         b".most{stroke:#333;stroke-width:2px}.middle{fill:#fff;stroke:#000;stroke-width:2px}</style>\n",
     )
+}
+
+// How its parts look.
+#[tactic(auto, unfolding(crate::specs::Head::style_text))]
+fn put_style<W: Sink>(lines: &mut TextBuffer, writer: &mut W) -> Result<(), TextFault>
+    ensures { Puts W.contents W.has_failed writer.old writer.new lines.old lines.new
+        (style_text) result }
+{
+    put_line_style(lines, writer)?;
+    put_area_style(lines, writer)
 }
 
 // The patterns of minislots in which modems may ask.
@@ -125,6 +143,56 @@ fn put_span<W: Sink>(
     put_filled(lines, writer, b" Minislots @ to @, ^ ms.", &numbers)
 }
 
+// How many frames there are, how long they are, and from where to where they reach.
+#[tactic(auto, unfolding(crate::specs::Head::frames_told))]
+fn put_frames_told<W: Sink>(
+    lines: &mut TextBuffer,
+    writer: &mut W,
+    course: Course,
+    totals: &Totals,
+) -> Result<(), TextFault>
+    ensures { Puts W.contents W.has_failed writer.old writer.new lines.old lines.new
+        (frames_told course totals.now) result }
+{
+    let frame = u128::from(course.frame);
+    let time = microseconds(course.ticks, frame);
+    put_filled(
+        lines,
+        writer,
+        b"<text class='head' x='96' y='26'>Use of minislots over time. Frames: @, of @ minislots, ^ ms each.",
+        &[u128::from(course.frames), frame, time],
+    )?;
+    put_span(lines, writer, course.ticks, totals.from, totals.to)?;
+    put_filled(
+        lines,
+        writer,
+        b" Skips: @.</text>\n",
+        &[u128::from(totals.skips)],
+    )
+}
+
+// What a step is.
+#[tactic(auto, unfolding(crate::specs::Head::step_told))]
+fn put_step_told<W: Sink>(
+    lines: &mut TextBuffer,
+    writer: &mut W,
+    course: Course,
+) -> Result<(), TextFault>
+    ensures { Puts W.contents W.has_failed writer.old writer.new lines.old lines.new
+        (step_told course) result }
+{
+    put_filled(
+        lines,
+        writer,
+        b"<text x='96' y='47'>Frames in a step: @. It reaches from the start of its first to the end of its last one, ",
+        &[u128::from(course.width)],
+    )?;
+    lines.put(
+        writer,
+        b"a use as high as its part of that time. White: no frame, since no MAP was built.</text>\n",
+    )
+}
+
 // The title: how many frames there are, how long they are, from where to where they reach, and what a step is.
 #[tactic(auto, unfolding(crate::specs::Head::title_text))]
 fn put_title<W: Sink>(
@@ -136,35 +204,8 @@ fn put_title<W: Sink>(
     ensures { Puts W.contents W.has_failed writer.old writer.new lines.old lines.new
         (title_text course totals.now) result }
 {
-    let frame = u128::from(course.frame);
-    let numbers = [
-        u128::from(course.frames),
-        frame,
-        microseconds(course.ticks, frame),
-    ];
-    put_filled(
-        lines,
-        writer,
-        b"<text class='head' x='96' y='26'>Use of minislots over time. Frames: @, of @ minislots, ^ ms each.",
-        &numbers,
-    )?;
-    put_span(lines, writer, course.ticks, totals.from, totals.to)?;
-    put_filled(
-        lines,
-        writer,
-        b" Skips: @.</text>\n",
-        &[u128::from(totals.skips)],
-    )?;
-    put_filled(
-        lines,
-        writer,
-        b"<text x='96' y='47'>Frames in a step: @. It reaches from the start of its first to the end of its last one, ",
-        &[u128::from(course.width)],
-    )?;
-    lines.put(
-        writer,
-        b"a use as high as its part of that time. White: no frame, since no MAP was built.</text>\n",
-    )
+    put_frames_told(lines, writer, course, totals)?;
+    put_step_told(lines, writer, course)
 }
 
 // The head of a picture in which so many ranks have delays.

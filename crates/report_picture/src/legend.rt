@@ -48,27 +48,15 @@ pub(crate) fn put_first_keys<W: Sink>(
         (first_keys slots.now) result }
 {
     let all = all_slots(slots);
-    put_key(
-        lines,
-        writer,
-        b"<path class='key request' d='M96 60h28v16h-28z'/><text x='132' y='73'>request region ~ %</text>\n",
-        slots.request,
-        all,
-    )?;
-    put_key(
-        lines,
-        writer,
-        b"<path class='key poll' d='M290 60h28v16h-28z'/><text x='326' y='73'>polls ~ %</text>\n",
-        slots.poll,
-        all,
-    )?;
-    put_key(
-        lines,
-        writer,
-        b"<path class='key unsolicited' d='M420 60h28v16h-28z'/><text x='456' y='73'>unsolicited ~ %</text>\n",
-        slots.unsolicited,
-        all,
-    )
+    let request =
+        b"<path class='key request' d='M96 60h28v16h-28z'/><text x='132' y='73'>request region ~ %</text>\n";
+    put_key(lines, writer, request, slots.request, all)?;
+    let poll =
+        b"<path class='key poll' d='M290 60h28v16h-28z'/><text x='326' y='73'>polls ~ %</text>\n";
+    put_key(lines, writer, poll, slots.poll, all)?;
+    let unsolicited =
+        b"<path class='key unsolicited' d='M420 60h28v16h-28z'/><text x='456' y='73'>unsolicited ~ %</text>\n";
+    put_key(lines, writer, unsolicited, slots.unsolicited, all)
 }
 
 // The others.
@@ -82,25 +70,13 @@ pub(crate) fn put_last_keys<W: Sink>(
         (last_keys slots.now) result }
 {
     let all = all_slots(slots);
-    put_key(
-        lines,
-        writer,
-        b"<path class='key opportunity' d='M590 60h28v16h-28z'/><text x='626' y='73'>opportunity to range ~ %</text>\n",
-        slots.opportunity,
-        all,
-    )?;
-    put_key(
-        lines,
-        writer,
-        b"<path class='key data' d='M836 60h28v16h-28z'/><text x='872' y='73'>data grants ~ %</text>\n",
-        slots.data_grants,
-        all,
-    )?;
-    put_key(
-        lines,
-        writer,
-        b"<path class='key idle' d='M1020 60h28v16h-28z'/><text x='1056' y='73'>idle ~ %</text>\n",
-        slots.idle,
-        all,
-    )
+    let opportunity =
+        b"<path class='key opportunity' d='M590 60h28v16h-28z'/><text x='626' y='73'>opportunity to range ~ %</text>\n";
+    put_key(lines, writer, opportunity, slots.opportunity, all)?;
+    let data =
+        b"<path class='key data' d='M836 60h28v16h-28z'/><text x='872' y='73'>data grants ~ %</text>\n";
+    put_key(lines, writer, data, slots.data_grants, all)?;
+    let idle =
+        b"<path class='key idle' d='M1020 60h28v16h-28z'/><text x='1056' y='73'>idle ~ %</text>\n";
+    put_key(lines, writer, idle, slots.idle, all)
 }

@@ -56,6 +56,24 @@ pub struct Rooms<R: Starts, G: Gate> {
     pub row: Vec<Seat<Desk>>,
 }
 
+// What a worker gives back, which was stopped.
+fn stopped(worked: Worked) -> Worked
+    ensures seat { result.seat ≡ worked.seat }
+    ensures unrecorded { result.unrecorded ≡ worked.unrecorded }
+    ensures ended { result.ended ≡ Ended.Stopped }
+{
+    let Worked {
+        seat,
+        unrecorded,
+        ..
+    } = worked;
+    Worked {
+        seat,
+        unrecorded,
+        ended: Ended::Stopped,
+    }
+}
+
 // Starts a worker. Where it gets no thread, the storm is stopped, and the worker gives its seat back here.
 fn start<'s, E: 's, R: Starts + Wait + Sync, G: Gate>(
     scope: &Scope<'s, E>,
@@ -85,23 +103,13 @@ fn start<'s, E: 's, R: Starts + Wait + Sync, G: Gate>(
             (G.lets_pass gate.entry.now) (G.holds_back gate.entry.now) R.lacks_thread
             shared.entry.now.config seat script.items result.seat result.unrecorded result.ended }
     { work(rt, shared, gate, stop, seat, &script) };
-    match scope.spawn_with(given, run) {
-        Ok(handle) => Job::Started(handle),
-        Err(error) => {
-            let unstarted = rt.refused(error);
-            stop.set();
-            let Worked {
-                seat,
-                unrecorded,
-                ..
-            } = unstarted();
-            Job::Refused(Worked {
-                seat,
-                unrecorded,
-                ended: Ended::Stopped,
-            })
-        }
-    }
+    let error = match scope.spawn_with(given, run) {
+        Ok(handle) => return Job::Started(handle),
+        Err(error) => error,
+    };
+    let unstarted = rt.refused(error);
+    stop.set();
+    Job::Refused(stopped(unstarted()))
 }
 
 // Starts a worker for each seat, with the script at the same place, the last of the lists first.

@@ -78,6 +78,20 @@ fn count_calls(script: &[Call]) -> usize
     script.len()
 }
 
+// What a worker gives back.
+fn worked(seat: Seat<Desk>, unrecorded: u64, ended: Ended) -> Worked
+    requires { unrecorded < 2 ^ 59 }
+    ensures seat { result.seat ≡ seat }
+    ensures unrecorded { result.unrecorded ≡ unrecorded }
+    ensures ended { result.ended ≡ ended }
+{
+    Worked {
+        seat,
+        unrecorded,
+        ended,
+    }
+}
+
 /// Makes the calls of a script in order, as far as the gate lets them pass.
 pub fn work<R: Starts + Wait, G: Gate>(
     rt: &R,
@@ -98,11 +112,7 @@ pub fn work<R: Starts + Wait, G: Gate>(
     let mut unrecorded = 0;
     while made < calls {
         if let Some(ended) = hindrance(gate, stop, worker, made) {
-            return Worked {
-                seat,
-                unrecorded,
-                ended,
-            };
+            return worked(seat, unrecorded, ended);
         }
         let (next, is_recorded) = make_call(rt, shared, seat, script[made]);
         seat = next;
@@ -112,9 +122,5 @@ pub fn work<R: Starts + Wait, G: Gate>(
         gate.answered(worker, made);
         made += 1;
     }
-    Worked {
-        seat,
-        unrecorded,
-        ended: Ended::Done,
-    }
+    worked(seat, unrecorded, Ended::Done)
 }

@@ -148,17 +148,21 @@ fn tally_of<R: Threads + Wait + Abort + AllocGlobal + Sync>(
     Ok(storm_with(rt, rt.alloc(), config, scripts, gate)?)
 }
 
-// The storm has this tally.
-fn ends_so(rt: &impl Abort, row: Row, tally: &Tally) {
+// The numbers of a tally: the recorded calls of each worker, those not recorded, and the MAPs.
+fn ends_of(tally: &Tally) -> [u64; 5] {
     let counts = &tally.counts;
-    let ends = [
+    [
         counts[0],
         counts[1],
         counts[2],
         tally.unrecorded,
         tally.maps,
-    ];
-    assert!(rt; ends == row.ends, "{}: the counts", row.what);
+    ]
+}
+
+// The storm has this tally.
+fn ends_so(rt: &impl Abort, row: Row, tally: &Tally) {
+    assert!(rt; ends_of(tally) == row.ends, "{}: the counts", row.what);
     assert!(rt;
         tally.held == row.held && tally.legal,
         "{}: who is held",

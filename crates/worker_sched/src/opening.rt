@@ -33,18 +33,16 @@ fn open_with(
     let Ok(desk) = Desk::new(alloc, scheduler, keeps) else {
         return Err(LockFault::Memory);
     };
-    match TicketLock::open(alloc, desk, seats, 0) {
-        Ok((lock, row)) => {
-            let workplace = Workplace {
-                lock: QuietLock::of(lock),
-                config: checked,
-                keeps,
-                seats,
-            };
-            Ok((workplace, row))
-        }
-        Err(_) => Err(LockFault::Memory),
-    }
+    let Ok((lock, row)) = TicketLock::open(alloc, desk, seats, 0) else {
+        return Err(LockFault::Memory);
+    };
+    let workplace = Workplace {
+        lock: QuietLock::of(lock),
+        config: checked,
+        keeps,
+        seats,
+    };
+    Ok((workplace, row))
 }
 
 /// Opens a scheduler of this configuration with this many seats, 1 to 64, and an empty history, all of which it keeps.

@@ -94,6 +94,17 @@ fn push_order(words: &mut String, all: bool) -> Result<(), AllocError> {
     }
 }
 
+// Says how many of all lives there are, where some are left out.
+fn push_few(words: &mut String, few: usize, all: usize) -> Result<(), AllocError> {
+    if few < all {
+        writeln!(
+            words,
+            "{FEW} of {all} lives of flows: those that asked for most bytes"
+        )?;
+    }
+    Ok(())
+}
+
 // The lives of flows, all of them or those that asked most.
 pub(crate) fn push_flows(
     words: &mut String,
@@ -115,12 +126,5 @@ pub(crate) fn push_flows(
     }
     let most = most_asking(alloc, lives)?;
     push_lives(words, alloc, ticks, &most)?;
-    if most.len() < lives.len() {
-        let all = lives.len();
-        writeln!(
-            words,
-            "{FEW} of {all} lives of flows: those that asked for most bytes"
-        )?;
-    }
-    Ok(())
+    push_few(words, most.len(), lives.len())
 }

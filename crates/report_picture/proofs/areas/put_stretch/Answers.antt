@@ -20,7 +20,7 @@ returns g c =
       c.microseconds-2.ensures,
       c.time_since.ensures.value,
       c.time_since-2.ensures.value,
-      c.from-begin.ensures,
-      c.end_of-end.ensures.value,
+      c.from-3.ensures,
+      c.end_of.ensures.value,
     ) at c.put_filled-2.ensures in
     then_text _ _ _ _ _ _ _ _ _ place time
