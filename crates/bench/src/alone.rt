@@ -81,6 +81,12 @@ fn time_each<R: Wait + Clock>(
     (seat, all)
 }
 
+// Prints what all hand-overs took together, in nanoseconds by the clock.
+fn print_parts<R: Print>(rt: &R, wall: u64) -> Option<()> {
+    let took = Took { wall, used: 0 };
+    print_line(rt, 1, "hand-over", took, PARTS)
+}
+
 /// Prints what a hand-over of a thousand entries takes, from the draw of its ticket to the end of its turn.
 pub fn print<R: Wait + Clock + Print>(rt: &R, alloc: Global) -> Option<()> {
     let room = Vec::with_capacity(alloc, WIDE.calls as usize).ok()?;
@@ -94,14 +100,5 @@ pub fn print<R: Wait + Clock + Print>(rt: &R, alloc: Global) -> Option<()> {
     if !is_whole(rt, shared, seats, PART * PARTS, true) {
         return None;
     }
-    print_line(
-        rt,
-        1,
-        "hand-over",
-        Took {
-            wall: wall?,
-            used: 0,
-        },
-        PARTS,
-    )
+    print_parts(rt, wall?)
 }

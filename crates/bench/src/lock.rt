@@ -104,13 +104,16 @@ pub(crate) fn time_lock<R: Threads + Wait + Sync + Clock + CpuClock>(
     figure(start, end, taken == threads.saturating_mul(turns))
 }
 
-// What turns at a mutex take, by so many threads, 1 to 64.
-fn time_mutex<R: Threads + Wait + Sync + Clock + CpuClock>(rt: &R, threads: usize) -> Option<Took> {
-    let turns = TURNS / threads.max(1);
-    let (lock, barrier) = (Mutex::new(0usize), Barrier::new(threads));
+// Takes so many turns by each of 1 to 64 threads, once all have come.
+fn turn_mutex<R: Threads + Wait + Sync>(
+    rt: &R,
+    lock: &Mutex<usize>,
+    barrier: &Barrier,
+    threads: usize,
+    turns: usize,
+) {
     let mut seats = [0; 64];
     let row = &mut seats[..threads.min(64)];
-    let start = now(rt);
     thread::for_each_mut(
         rt,
         row,
@@ -123,6 +126,14 @@ fn time_mutex<R: Threads + Wait + Sync + Clock + CpuClock>(rt: &R, threads: usiz
             }
         },
     );
+}
+
+// What turns at a mutex take, by so many threads, 1 to 64.
+fn time_mutex<R: Threads + Wait + Sync + Clock + CpuClock>(rt: &R, threads: usize) -> Option<Took> {
+    let turns = TURNS / threads.max(1);
+    let (lock, barrier) = (Mutex::new(0usize), Barrier::new(threads));
+    let start = now(rt);
+    turn_mutex(rt, &lock, &barrier, threads, turns);
     let end = now(rt);
     figure(
         start,

@@ -10,8 +10,12 @@ mod readers;
 mod run;
 mod storms;
 
+use std::alloc::Global;
 use std::process::ExitCode;
 use std::rt::Env;
+use std::sync::Wait;
+use std::thread::Threads;
+use std::time::{Clock, CpuClock};
 use std::{env, io};
 
 // The first word of the command line after the program's name.
@@ -21,6 +25,22 @@ fn word_of(rt: &(impl Env + AllocGlobal)) -> io::Result<Option<String>> {
     Ok(words.next())
 }
 
+// Prints the figures of a part. None where there is no such part; and within, none where a run did not do its work.
+fn print<R: Threads + Wait + Sync + Clock + CpuClock + Print>(
+    rt: &R,
+    alloc: Global,
+    part: &str,
+) -> Option<Option<()>> {
+    match part {
+        "handing" => Some(handing::print(rt, alloc)),
+        "lock" => Some(lock::print(rt, alloc)),
+        "queue" => Some(queue::print(rt, alloc)),
+        "readers" => Some(readers::print(rt, alloc)),
+        "storm" => Some(storms::print(rt, alloc)),
+        _ => None,
+    }
+}
+
 fn main(rt: HostRuntime) -> ExitCode {
     let Ok(word) = word_of(&rt) else {
         return ExitCode::FAILURE;
@@ -28,19 +48,12 @@ fn main(rt: HostRuntime) -> ExitCode {
     let Some(word) = word else {
         return ExitCode::SUCCESS;
     };
-    let printed = match word.as_str() {
-        "handing" => handing::print(&rt, rt.alloc()),
-        "lock" => lock::print(&rt, rt.alloc()),
-        "queue" => queue::print(&rt, rt.alloc()),
-        "readers" => readers::print(&rt, rt.alloc()),
-        "storm" => storms::print(&rt, rt.alloc()),
-        _ => {
+    match print(&rt, rt.alloc(), word.as_str()) {
+        Some(Some(())) => ExitCode::SUCCESS,
+        Some(None) => ExitCode::FAILURE,
+        None => {
             let _ = rt.eprintln("usage: bench [handing|lock|queue|readers|storm]");
-            return ExitCode::from(2);
+            ExitCode::from(2)
         }
-    };
-    match printed {
-        Some(()) => ExitCode::SUCCESS,
-        None => ExitCode::FAILURE,
     }
 }

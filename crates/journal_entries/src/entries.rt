@@ -84,26 +84,22 @@ impl JournalEntries {
         ensures failed { FailsBy TextFault.Input result (R.has_failed reader.old) (R.has_failed reader.new) }
     {
         let mut lines = Lines::new();
-        match read_opening(alloc, &mut lines, reader) {
-            Ok(Some(config)) => match Auditor::open(alloc, config) {
-                Ok(auditor) => {
-                    let scratch = Scratch::new(alloc);
-                    Ok(Some((
-                        config,
-                        JournalEntries {
-                            alloc,
-                            scratch,
-                            is_long: false,
-                            lines,
-                            auditor,
-                        },
-                    )))
-                }
-                Err(_) => Err(TextFault::Memory),
-            },
-            Ok(None) => Ok(None),
-            Err(fault) => Err(fault),
-        }
+        let config = match read_opening(alloc, &mut lines, reader) {
+            Ok(Some(config)) => config,
+            Ok(None) => return Ok(None),
+            Err(fault) => return Err(fault),
+        };
+        let Ok(auditor) = Auditor::open(alloc, config) else {
+            return Err(TextFault::Memory);
+        };
+        let entries = JournalEntries {
+            alloc,
+            scratch: Scratch::new(alloc),
+            is_long: false,
+            lines,
+            auditor,
+        };
+        Ok(Some((config, entries)))
     }
 
     /// Reads the next line, and gives its entry where it may follow those before it. After anything else nothing comes.
@@ -138,12 +134,8 @@ impl JournalEntries {
             Ok(Whole::Torn(bytes)) => return Ok(Next::End(bytes)),
             Err(fault) => return Err(fault),
         }
-        match take_line(
-            self.alloc,
-            &mut self.scratch,
-            &mut self.auditor,
-            self.lines.line(),
-        ) {
+        let scratch = &mut self.scratch;
+        match take_line(self.alloc, scratch, &mut self.auditor, self.lines.line()) {
             Ok(Taken::Entry(entry)) => return Ok(Next::Entry(entry)),
             Ok(Taken::Illegal) => return Ok(Next::Illegal(self.auditor.taken())),
             Ok(Taken::NoEntry) => {}

@@ -22,17 +22,11 @@ pub fn skip_plain(reader: &mut Reader<'_>, depth: usize) -> Result<(), Stop>
             let _number = whole_of(text).ok_or(Stop::Unusual)?;
             Ok(())
         }
-        Token::BeginArray => {
-            if depth == 0 {
-                return Err(Stop::Unusual);
-            }
+        Token::BeginArray if depth > 0 => {
             skip_items(reader, depth - 1)?;
             Ok(())
         }
-        Token::BeginObject => {
-            if depth == 0 {
-                return Err(Stop::Unusual);
-            }
+        Token::BeginObject if depth > 0 => {
             skip_members(reader, depth - 1)?;
             Ok(())
         }

@@ -92,27 +92,12 @@ pub(crate) fn talk_from<R: Source, W: Sink, J: Journal>(
         (J.has_failed journal.old) (J.has_failed journal.new) }
 {
     let mut outbox = Outbox::new(alloc)?;
+    let outbox = &mut outbox;
     take_first(
-        alloc,
-        scratch,
-        scheduler,
-        &mut outbox,
-        lines,
-        told,
-        writer,
-        journal,
-        wording,
+        alloc, scratch, scheduler, outbox, lines, told, writer, journal, wording,
     )?;
     talk_on(
-        alloc,
-        scratch,
-        scheduler,
-        &mut outbox,
-        lines,
-        reader,
-        writer,
-        journal,
-        wording,
+        alloc, scratch, scheduler, outbox, lines, reader, writer, journal, wording,
     )
 }
 

@@ -16,6 +16,45 @@ struct Shown {
     rows: String,
 }
 
+// A bandwidth request.
+fn tell_ask(
+    words: &mut String,
+    receiver: u8,
+    sid: u16,
+    bytes: u32,
+    heard: u64,
+) -> Result<(), AllocError> {
+    writeln!(
+        words,
+        "ask for {bytes} bytes of SID {sid}, heard by receiver {receiver} at {heard}"
+    )
+}
+
+// An opportunity that was asked for, and whom it is for.
+fn tell_reserve(words: &mut String, usage: Usage, slots: u32) -> Result<(), AllocError> {
+    match usage {
+        Usage::Initial => writeln!(words, "reserve {slots} minislots of initial maintenance"),
+        Usage::Station(sid) => writeln!(
+            words,
+            "reserve {slots} minislots of station maintenance to SID {sid}"
+        ),
+    }
+}
+
+// A header: its UCD count, and the first and the last exponent of each backoff window.
+fn tell_header(
+    words: &mut String,
+    ucd_count: u8,
+    (ranging_start, ranging_end): (u8, u8),
+    (data_start, data_end): (u8, u8),
+) -> Result<(), AllocError> {
+    writeln!(
+        words,
+        "header with UCD count {ucd_count}, ranging backoff {ranging_start} to {ranging_end}, data backoff \
+         {data_start} to {data_end}"
+    )
+}
+
 // What was asked for.
 fn tell_call(words: &mut String, call: Call) -> Result<(), AllocError> {
     match call {
@@ -26,38 +65,24 @@ fn tell_call(words: &mut String, call: Call) -> Result<(), AllocError> {
             sid,
             bytes,
             heard,
-        } => writeln!(
-            words,
-            "ask for {bytes} bytes of SID {sid}, heard by receiver {receiver} at {heard}"
-        ),
+        } => tell_ask(words, receiver, sid, bytes, heard),
         Call::Heard { receiver, upto } => {
             writeln!(words, "all heard by receiver {receiver} before {upto}")
         }
         Call::Build { now } => writeln!(words, "build at {now}"),
         Call::Skip { now } => writeln!(words, "skip at {now}"),
         Call::Status(sid) => writeln!(words, "status of SID {sid}"),
-        Call::Reserve {
-            usage: Usage::Initial,
-            slots,
-        } => writeln!(words, "reserve {slots} minislots of initial maintenance"),
-        Call::Reserve {
-            usage: Usage::Station(sid),
-            slots,
-        } => writeln!(
-            words,
-            "reserve {slots} minislots of station maintenance to SID {sid}"
-        ),
+        Call::Reserve { usage, slots } => tell_reserve(words, usage, slots),
         Call::Header {
             ucd_count,
             ranging_start,
             ranging_end,
             data_start,
             data_end,
-        } => writeln!(
-            words,
-            "header with UCD count {ucd_count}, ranging backoff {ranging_start} to {ranging_end}, data backoff \
-             {data_start} to {data_end}"
-        ),
+        } => {
+            let (ranging, data) = ((ranging_start, ranging_end), (data_start, data_end));
+            tell_header(words, ucd_count, ranging, data)
+        }
     }
 }
 

@@ -1,6 +1,7 @@
 //! Calls as JSON.
 
 ghost use Rattle.std.specs.Prelude.{◌≡◌, ◌++◌, OnOk};
+ghost use Rattle.flow_book.specs.declared.spec.FlowSpec.TheVariants.{Unsolicited, Polled, BestEffort};
 ghost use Rattle.history_writing.specs.Json.{flow_data, call_data};
 ghost use Rattle.history_writing.specs.Tokens.{tokens_of};
 
@@ -38,6 +39,58 @@ static HEADER: [&str; 5] = [
     "ucd_count",
 ];
 
+#[tactic(auto, unfolding(crate::specs::Json::flow_data))]
+fn put_unsolicited(
+    out: &mut Writer,
+    size: u32,
+    interval_us: u32,
+    jitter_us: u32,
+    grants: u8,
+) -> Result<(), AllocError>
+    ensures ok { OnOk result (out.new.tokens ≡ out.old.tokens
+        ++ tokens_of (flow_data (Unsolicited size interval_us jitter_us grants))) }
+    ensures before { out.new.before ≡ out.old.before }
+{
+    let numbers = [
+        grants as u64,
+        interval_us as u64,
+        jitter_us as u64,
+        size as u64,
+    ];
+    put_named(out, "kind", "unsolicited", 3, &UNSOLICITED, &numbers)
+}
+
+#[tactic(auto, unfolding(crate::specs::Json::flow_data))]
+fn put_polled(
+    out: &mut Writer,
+    interval_us: u32,
+    jitter_us: u32,
+    rate: u32,
+    burst: u32,
+) -> Result<(), AllocError>
+    ensures ok { OnOk result (out.new.tokens ≡ out.old.tokens
+        ++ tokens_of (flow_data (Polled interval_us jitter_us rate burst))) }
+    ensures before { out.new.before ≡ out.old.before }
+{
+    let numbers = [
+        burst as u64,
+        interval_us as u64,
+        jitter_us as u64,
+        rate as u64,
+    ];
+    put_named(out, "kind", "polled", 3, &POLLED, &numbers)
+}
+
+#[tactic(auto, unfolding(crate::specs::Json::flow_data))]
+fn put_best_effort(out: &mut Writer, priority: u8, rate: u32, burst: u32) -> Result<(), AllocError>
+    ensures ok { OnOk result (out.new.tokens
+        ≡ out.old.tokens ++ tokens_of (flow_data (BestEffort priority rate burst))) }
+    ensures before { out.new.before ≡ out.old.before }
+{
+    let numbers = [burst as u64, priority as u64, rate as u64];
+    put_named(out, "kind", "best_effort", 1, &BEST_EFFORT, &numbers)
+}
+
 // Writes the parameters of a flow, by its kind.
 #[tactic(auto, unfolding(crate::specs::Json::flow_data))]
 fn put_flow(out: &mut Writer, flow: FlowSpec) -> Result<(), AllocError>
@@ -50,37 +103,18 @@ fn put_flow(out: &mut Writer, flow: FlowSpec) -> Result<(), AllocError>
             interval_us,
             jitter_us,
             grants,
-        } => {
-            let numbers = [
-                grants as u64,
-                interval_us as u64,
-                jitter_us as u64,
-                size as u64,
-            ];
-            put_named(out, "kind", "unsolicited", 3, &UNSOLICITED, &numbers)
-        }
+        } => put_unsolicited(out, size, interval_us, jitter_us, grants),
         FlowSpec::Polled {
             interval_us,
             jitter_us,
             rate,
             burst,
-        } => {
-            let numbers = [
-                burst as u64,
-                interval_us as u64,
-                jitter_us as u64,
-                rate as u64,
-            ];
-            put_named(out, "kind", "polled", 3, &POLLED, &numbers)
-        }
+        } => put_polled(out, interval_us, jitter_us, rate, burst),
         FlowSpec::BestEffort {
             priority,
             rate,
             burst,
-        } => {
-            let numbers = [burst as u64, priority as u64, rate as u64];
-            put_named(out, "kind", "best_effort", 1, &BEST_EFFORT, &numbers)
-        }
+        } => put_best_effort(out, priority, rate, burst),
     }
 }
 

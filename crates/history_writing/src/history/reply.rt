@@ -4,6 +4,7 @@ ghost use Rattle.std.specs.Prelude.{◌≡◌, ◌++◌, OnOk, codes};
 ghost use Rattle.hex.specs.Hex.{encode_lower};
 ghost use Rattle.map_codec.specs.WireMap.{IsWellFormed, spelling};
 ghost use Rattle.sched_history.specs.Machine.{IsEncodable};
+ghost use Rattle.sched_history.specs.declared.reply.Reply.TheVariants.{Flow};
 ghost use Rattle.history_writing.specs.Json.{placed_data, map_data, plain_data, refused_data, reply_data};
 ghost use Rattle.history_writing.specs.Tokens.{tokens_of, titled};
 
@@ -104,6 +105,16 @@ fn put_plain(out: &mut Writer, kind: &str) -> Result<(), AllocError>
     put_named(out, "kind", kind, 0, &[], &[])
 }
 
+#[tactic(auto, unfolding(crate::specs::Json::reply_data))]
+fn put_sums(out: &mut Writer, asked: u64, granted: u64, outstanding: u64) -> Result<(), AllocError>
+    ensures ok { OnOk result (out.new.tokens
+        ≡ out.old.tokens ++ tokens_of (reply_data (Flow asked granted outstanding))) }
+    ensures before { out.new.before ≡ out.old.before }
+{
+    let numbers = [asked, granted, outstanding];
+    put_named(out, "kind", "flow", 2, &SUMS, &numbers)
+}
+
 /// Writes a reply, by its kind.
 #[tactic(auto, unfolding(crate::specs::Json::reply_data))]
 pub fn put_reply(out: &mut Writer, reply: &Reply) -> Result<(), AllocError>
@@ -124,10 +135,7 @@ pub fn put_reply(out: &mut Writer, reply: &Reply) -> Result<(), AllocError>
             asked,
             granted,
             outstanding,
-        } => {
-            let numbers = [*asked, *granted, *outstanding];
-            put_named(out, "kind", "flow", 2, &SUMS, &numbers)
-        }
+        } => put_sums(out, *asked, *granted, *outstanding),
         Reply::Refused(refusal) => {
             put_refused(out, refusal_number(*refusal), refusal_value(*refusal))
         }

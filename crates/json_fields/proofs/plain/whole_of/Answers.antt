@@ -1,6 +1,4 @@
 -- Digits alone are the number that they write.
-use Rattle.std.proofs.Common.{false}
-use Rattle.fast_float.specs.Text.{scan}
 use Rattle.json_fields.proofs.PlainValues.{whole_read}
 use Rattle.json_fields.proofs.plain.whole_of.Goals as goal
 
