@@ -91,7 +91,7 @@ pub struct PlainCall {
     pub grants: u8,
     /// A header's exponent of the first window of requests.
     pub data_start: u8,
-    /// Of the last.
+    /// A header's exponent of the last window of requests.
     pub data_end: u8,
 }
 
