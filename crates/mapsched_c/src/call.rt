@@ -91,7 +91,7 @@ pub struct PlainCall {
     pub grants: u8,
     /// A header's exponent of the first window of requests.
     pub data_start: u8,
-    /// Of the last.
+    /// A header's exponent of the last window of requests.
     pub data_end: u8,
 }
 
@@ -154,7 +154,8 @@ impl PlainCall {
 
     // The request for bytes of these numbers.
     fn ask(&self) -> Call
-        ensures { result ≡ Call.Ask self.now.receiver self.now.sid self.now.bytes self.now.minislot }
+        ensures { result ≡
+            Call.Ask self.now.receiver self.now.sid self.now.bytes self.now.minislot }
     {
         Call::Ask {
             receiver: self.receiver,
@@ -226,7 +227,8 @@ impl PlainCall {
 
     // The numbers of an admission of polls.
     fn of_polled(sid: u16, interval_us: u32, jitter_us: u32, rate: u32, burst: u32) -> PlainCall
-        ensures { result ≡ plain_call (Call.Admit sid (FlowSpec.Polled interval_us jitter_us rate burst)) }
+        ensures { result ≡
+            plain_call (Call.Admit sid (FlowSpec.Polled interval_us jitter_us rate burst)) }
     {
         PlainCall {
             flow: flow::POLLED,

@@ -55,8 +55,10 @@ fn put_entries<R: Source, W: Sink>(
     ensures stops { IfErr result (λ fault. (before : Option (List ℕ)) →
         HasGiven before (R.remaining reader.old) entries.old →
         StopsEntries before (R.remaining reader.new) fault) }
-    ensures failed_read { FailsBy TextFault.Input result (R.has_failed reader.old) (R.has_failed reader.new) }
-    ensures failed_write { (before : Option (List ℕ)) → HasGiven before (R.remaining reader.old) entries.old →
+    ensures failed_read { FailsBy TextFault.Input result
+        (R.has_failed reader.old) (R.has_failed reader.new) }
+    ensures failed_write { (before : Option (List ℕ)) →
+        HasGiven before (R.remaining reader.old) entries.old →
         FailsBy TextFault.Output result (W.has_failed writer.old) (W.has_failed writer.new) }
 {
     for _ in 0..=MAX_WHOLE_HISTORY {
@@ -86,12 +88,15 @@ fn capture_entries<R: Source, W: Sink>(
 
     ensures captures { IfOk result (λ end. (before : Option (List ℕ)) →
         HasGiven before (R.remaining reader.old) entries →
-        CapturedEntries address.now before (R.remaining reader.new) (W.contents writer.old) (W.contents writer.new) end) }
+        CapturedEntries address.now before (R.remaining reader.new)
+        (W.contents writer.old) (W.contents writer.new) end) }
     ensures stops { IfErr result (λ fault. (before : Option (List ℕ)) →
         HasGiven before (R.remaining reader.old) entries →
         StopsEntries before (R.remaining reader.new) fault) }
-    ensures failed_read { FailsBy TextFault.Input result (R.has_failed reader.old) (R.has_failed reader.new) }
-    ensures failed_write { (before : Option (List ℕ)) → HasGiven before (R.remaining reader.old) entries →
+    ensures failed_read { FailsBy TextFault.Input result
+        (R.has_failed reader.old) (R.has_failed reader.new) }
+    ensures failed_write { (before : Option (List ℕ)) →
+        HasGiven before (R.remaining reader.old) entries →
         FailsBy TextFault.Output result (W.has_failed writer.old) (W.has_failed writer.new) }
 {
     let mut buffer = WireBuffer::new();
@@ -122,8 +127,10 @@ pub fn capture_journal<R: Source, W: Sink>(
     ensures stops { IfErr result (StopsCommand (R.remaining reader.old) (R.remaining reader.new)) }
 
     // A failed read or write is told where one has failed, and where all went well none did.
-    ensures failed_read { TellsFailedRead result (R.has_failed reader.old) (R.has_failed reader.new) }
-    ensures failed_write { TellsFailedWrite result (W.has_failed writer.old) (W.has_failed writer.new) }
+    ensures failed_read { TellsFailedRead result
+        (R.has_failed reader.old) (R.has_failed reader.new) }
+    ensures failed_write { TellsFailedWrite result
+        (W.has_failed writer.old) (W.has_failed writer.new) }
 {
     match JournalEntries::open(alloc, reader) {
         Ok(Some((config, entries))) => {

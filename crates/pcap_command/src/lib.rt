@@ -1,4 +1,5 @@
-//! The run of a script on the channel: the whole frame of each MAP, in lines or in a capture; and the capture of a journal.
+//! The run of a script on the channel: the whole frame of each MAP, in lines or in a capture; and the capture of a
+//! journal.
 #![tactic(auto)]
 
 mod address;

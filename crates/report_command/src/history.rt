@@ -41,8 +41,10 @@ pub fn run_report_json<R: Source, W: Sink>(
     ensures quiet { WritesLast result writer.old writer.new }
 
     // A failed read or write is told where one has failed, and where all went well none did.
-    ensures failed_read { TellsFailedRead result (R.has_failed reader.old) (R.has_failed reader.new) }
-    ensures failed_write { TellsFailedWrite result (W.has_failed writer.old) (W.has_failed writer.new) }
+    ensures failed_read { TellsFailedRead result
+        (R.has_failed reader.old) (R.has_failed reader.new) }
+    ensures failed_write { TellsFailedWrite result
+        (W.has_failed writer.old) (W.has_failed writer.new) }
 {
     let (config, entries) = read_history(alloc, reader)?;
     let reporter = match feed(alloc, &config, &entries)? {
@@ -72,8 +74,10 @@ pub fn run_report_text<R: Source, W: Sink>(
     ensures quiet { WritesLast result writer.old writer.new }
 
     // A failed read or write is told where one has failed, and where all went well none did.
-    ensures failed_read { TellsFailedRead result (R.has_failed reader.old) (R.has_failed reader.new) }
-    ensures failed_write { TellsFailedWrite result (W.has_failed writer.old) (W.has_failed writer.new) }
+    ensures failed_read { TellsFailedRead result
+        (R.has_failed reader.old) (R.has_failed reader.new) }
+    ensures failed_write { TellsFailedWrite result
+        (W.has_failed writer.old) (W.has_failed writer.new) }
 {
     let (config, entries) = read_history(alloc, reader)?;
     let reporter = match feed(alloc, &config, &entries)? {
@@ -102,8 +106,10 @@ pub fn run_report_picture<R: Source, W: Sink>(
     ensures quiet { WritesLast result writer.old writer.new }
 
     // A failed read or write is told where one has failed, and where all went well none did.
-    ensures failed_read { TellsFailedRead result (R.has_failed reader.old) (R.has_failed reader.new) }
-    ensures failed_write { TellsFailedWrite result (W.has_failed writer.old) (W.has_failed writer.new) }
+    ensures failed_read { TellsFailedRead result
+        (R.has_failed reader.old) (R.has_failed reader.new) }
+    ensures failed_write { TellsFailedWrite result
+        (W.has_failed writer.old) (W.has_failed writer.new) }
 {
     let (config, entries) = read_history(alloc, reader)?;
     let reporter = match feed(alloc, &config, &entries)? {

@@ -41,7 +41,8 @@ fn take_entries<R: Source>(
     ensures stops { IfErr result (λ fault. (before : Option (List ℕ)) →
         HasRead before (R.remaining reader.old) entries.old reporter.old.config [] →
         StopsJournal before (R.remaining reader.new) fault) }
-    ensures failed { FailsBy TextFault.Input result (R.has_failed reader.old) (R.has_failed reader.new) }
+    ensures failed { FailsBy TextFault.Input result
+        (R.has_failed reader.old) (R.has_failed reader.new) }
 {
     for place in 0..=MAX_WHOLE_HISTORY {
         match entries.next(reader) {
@@ -73,7 +74,8 @@ fn show_entries<R: Source>(
     ensures stops { IfErr result (λ fault. (before : Option (List ℕ)) →
         HasRead before (R.remaining reader.old) entries config [] →
         StopsJournal before (R.remaining reader.new) fault) }
-    ensures failed { FailsBy TextFault.Input result (R.has_failed reader.old) (R.has_failed reader.new) }
+    ensures failed { FailsBy TextFault.Input result
+        (R.has_failed reader.old) (R.has_failed reader.new) }
 {
     let Ok(mut reporter) = TimedReporter::open(alloc, config) else {
         return Err(TextFault::Memory);
@@ -90,7 +92,8 @@ fn show_entries<R: Source>(
 pub(crate) fn show_journal<R: Source>(alloc: Global, reader: &mut R) -> Result<Shown, TextFault>
     ensures shown { IfOk result (IsShown (R.remaining reader.old) (R.remaining reader.new)) }
     ensures stops { IfErr result (StopsJournal (R.remaining reader.old) (R.remaining reader.new)) }
-    ensures failed { FailsBy TextFault.Input result (R.has_failed reader.old) (R.has_failed reader.new) }
+    ensures failed { FailsBy TextFault.Input result
+        (R.has_failed reader.old) (R.has_failed reader.new) }
 {
     match UnjudgedEntries::open(alloc, reader) {
         Ok(Some((config, entries))) => show_entries(alloc, entries, config, reader),

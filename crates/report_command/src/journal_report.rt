@@ -25,10 +25,10 @@ fn put_illegal_entry<W: Sink>(writer: &mut W, place: u64) -> Result<EntriesEnd, 
     Ok(EntriesEnd::Illegal(place))
 }
 
-/// Reads a journal to its end, and writes the report on its entries in JSON; or where they are no legal history `illegal`
-/// and the first entry, counted from 0, whose reply may not follow those before it. Nothing is written where a line is
-/// bad, nor before another fault than one of output. Its memory is that of the lives, of the requests that wait and of
-/// the kinds of delays, and not of the entries.
+/// Reads a journal to its end, and writes the report on its entries in JSON; or where they are no legal history
+/// `illegal` and the first entry, counted from 0, whose reply may not follow those before it. Nothing is written where
+/// a line is bad, nor before another fault than one of output. Its memory is that of the lives, of the requests that
+/// wait and of the kinds of delays, and not of the entries.
 pub fn run_journal_json<R: Source, W: Sink>(
     alloc: Global,
     reader: &mut R,
@@ -43,8 +43,10 @@ pub fn run_journal_json<R: Source, W: Sink>(
     ensures quiet { WritesLast result writer.old writer.new }
 
     // A failed read or write is told where one has failed, and where all went well none did.
-    ensures failed_read { TellsFailedRead result (R.has_failed reader.old) (R.has_failed reader.new) }
-    ensures failed_write { TellsFailedWrite result (W.has_failed writer.old) (W.has_failed writer.new) }
+    ensures failed_read { TellsFailedRead result
+        (R.has_failed reader.old) (R.has_failed reader.new) }
+    ensures failed_write { TellsFailedWrite result
+        (W.has_failed writer.old) (W.has_failed writer.new) }
 {
     let (reporter, torn) = match show_journal(alloc, reader)? {
         Shown::Legal(_, reporter, torn) => (reporter, torn),
@@ -74,8 +76,10 @@ pub fn run_journal_text<R: Source, W: Sink>(
     ensures quiet { WritesLast result writer.old writer.new }
 
     // A failed read or write is told where one has failed, and where all went well none did.
-    ensures failed_read { TellsFailedRead result (R.has_failed reader.old) (R.has_failed reader.new) }
-    ensures failed_write { TellsFailedWrite result (W.has_failed writer.old) (W.has_failed writer.new) }
+    ensures failed_read { TellsFailedRead result
+        (R.has_failed reader.old) (R.has_failed reader.new) }
+    ensures failed_write { TellsFailedWrite result
+        (W.has_failed writer.old) (W.has_failed writer.new) }
 {
     let (config, reporter, torn) = match show_journal(alloc, reader)? {
         Shown::Legal(config, reporter, torn) => (config, reporter, torn),
@@ -95,7 +99,8 @@ pub fn run_journal_picture<R: Source, W: Sink>(
     reader: &mut R,
     writer: &mut W,
 ) -> Result<EntriesEnd, RunFault>
-    // What was written is the picture of the report on exactly the entries that the journal stands for, and nothing else.
+    // What was written is the picture of the report on exactly the entries that the journal stands for, and nothing
+    // else.
     ensures ok { IfOk result (JournalPicture (R.remaining reader.old) (R.remaining reader.new)
         (W.contents writer.old) (W.contents writer.new)) }
 
@@ -104,8 +109,10 @@ pub fn run_journal_picture<R: Source, W: Sink>(
     ensures quiet { WritesLast result writer.old writer.new }
 
     // A failed read or write is told where one has failed, and where all went well none did.
-    ensures failed_read { TellsFailedRead result (R.has_failed reader.old) (R.has_failed reader.new) }
-    ensures failed_write { TellsFailedWrite result (W.has_failed writer.old) (W.has_failed writer.new) }
+    ensures failed_read { TellsFailedRead result
+        (R.has_failed reader.old) (R.has_failed reader.new) }
+    ensures failed_write { TellsFailedWrite result
+        (W.has_failed writer.old) (W.has_failed writer.new) }
 {
     let (config, reporter, torn) = match show_journal(alloc, reader)? {
         Shown::Legal(config, reporter, torn) => (config, reporter, torn),

@@ -35,7 +35,7 @@ module _ (u : UseOverTime) (fs : List Frame) (is : IsOverTime u fs) (i d : ℕ) 
       let some = width-some (length fs) u.width is.width in
       is.starts.firsts i d (omega (arith, is.are.count, step-begins u.width u.frames i some below))
 
-  -- where its last one does: before the mark behind the step, and where there is none the last one of all
+  -- where its last one does: before the mark behind the step
   pub last-marked : u.width * (i + 1) ≤ u.frames
       → get_or u.lasts (i + 1) d ≡ start_of fs (min (u.width * (i + 1)) (length fs) - 1)
   last-marked within =
@@ -43,6 +43,7 @@ module _ (u : UseOverTime) (fs : List Frame) (is : IsOverTime u fs) (i d : ℕ) 
       is.starts.lasts (i + 1) d (omega arith) (omega (arith, within, is.are.count))
       ∙ ap (λ k. start_of fs (k - 1)) least
 
+  -- where there is no mark behind the step, its last frame is the last one of all
   pub last-rest : u.frames < u.width * (i + 1)
       → u.last ≡ start_of fs (min (u.width * (i + 1)) (length fs) - 1)
   last-rest past =

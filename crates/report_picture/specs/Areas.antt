@@ -33,10 +33,11 @@ slots_upto Idle s = s.request + s.poll + s.unsolicited + s.opportunity + s.data_
 abbrev pub step_in : List Step → ℕ → Step
 step_in steps i = slice_index_or steps i NO_STEP
 
--- where a step begins and ends
+-- where a step begins
 abbrev pub begin_place : Course → Step → ℕ
 begin_place c s = time_place c s.first
 
+-- where it ends
 abbrev pub end_place : Course → Step → ℕ
 end_place c s = time_place c (end_of c s.last)
 

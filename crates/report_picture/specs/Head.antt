@@ -61,7 +61,7 @@ span_text ticks (Some from) (Some to) =
 span_text ticks (Some from) None = []
 span_text ticks None to = []
 
--- how many frames there are, how long they are, and from where to where they reach
+-- how many frames there are, how long they are, from where to where they reach, and how often frames were left out
 unfoldable pub frames_told : Course → Totals → List ℕ
 frames_told c t =
     filled (codes "<text class='head' x='96' y='26'>Use of minislots over time. Frames: @, of @ minislots, ^ ms each.")

@@ -143,7 +143,7 @@ fn put_span<W: Sink>(
     put_filled(lines, writer, b" Minislots @ to @, ^ ms.", &numbers)
 }
 
-// How many frames there are, how long they are, and from where to where they reach.
+// How many frames there are, how long they are, from where to where they reach, and how often frames were left out.
 #[tactic(auto, unfolding(crate::specs::Head::frames_told))]
 fn put_frames_told<W: Sink>(
     lines: &mut TextBuffer,

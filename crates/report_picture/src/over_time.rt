@@ -153,8 +153,9 @@ impl UseOverTime {
     // Counts one frame more, which starts there, where this is the use of all frames with it.
     pub(crate) fn add(&mut self, total: Slots, start: u64)
         requires { (fs : List Frame) × IsOverTime self.old fs × (length fs < 2 ^ 45) }
-        ensures { (fs : List Frame) (f : Frame) → IsOverTime self.old fs → total ≡ use_in (fs ++ f ∷ [])
-            → start ≡ f.built.start → IsOverTime self.new (fs ++ f ∷ []) }
+        ensures { (fs : List Frame) (f : Frame) → IsOverTime self.old fs
+            → total ≡ use_in (fs ++ f ∷ []) → start ≡ f.built.start
+            → IsOverTime self.new (fs ++ f ∷ []) }
     {
         self.widen();
         self.begin(start);
@@ -181,7 +182,8 @@ impl UseOverTime {
     fn slots(&self, i: usize) -> Slots
         requires { (fs : List Frame) × IsOverTime self.now fs × (length fs < 2 ^ 46)
             × (i < steps_of self.now.width self.now.frames) }
-        ensures { (fs : List Frame) → IsOverTime self.now fs → result ≡ use_in (frames_at self.now.width fs i) }
+        ensures { (fs : List Frame) → IsOverTime self.now fs
+            → result ≡ use_in (frames_at self.now.width fs i) }
     {
         let behind = self.width * (i as u64 + 1);
         let all = if behind <= self.frames {
@@ -210,7 +212,8 @@ impl UseOverTime {
     pub(crate) fn step(&self, i: usize) -> Step
         requires { (fs : List Frame) × IsOverTime self.now fs × (length fs < 2 ^ 46)
             × (i < steps_of self.now.width self.now.frames) }
-        ensures { (fs : List Frame) → IsOverTime self.now fs → result ≡ step_at self.now.width fs i }
+        ensures { (fs : List Frame) → IsOverTime self.now fs
+            → result ≡ step_at self.now.width fs i }
     {
         Step {
             first: self.firsts[i],
@@ -222,7 +225,8 @@ impl UseOverTime {
     // All steps.
     pub(crate) fn all_steps(&self) -> Few<Step, MOST_STEPS>
         requires { (fs : List Frame) × IsOverTime self.now fs × (length fs < 2 ^ 46) }
-        ensures { (fs : List Frame) → IsOverTime self.now fs → result ≡ all_steps self.now.width fs }
+        ensures { (fs : List Frame) → IsOverTime self.now fs
+            → result ≡ all_steps self.now.width fs }
     {
         let mut steps = Few::none(NO_STEP);
         for i in 0..self.steps() {

@@ -102,7 +102,8 @@ fn write_report<W: Sink>(
 // The course of the frames that were taken, whose numbers these are, under this configuration.
 fn course_of(config: &Checked, totals: &Totals, over_time: &UseOverTime) -> Course
     requires { (fs : List Frame) × IsOverTime over_time.now fs × (length fs ≤ 2 ^ 44) }
-    ensures value { result ≡ course_of config.now totals.now over_time.now.frames over_time.now.width }
+    ensures value { result ≡
+        course_of config.now totals.now over_time.now.frames over_time.now.width }
     ensures narrow { result.width ≤ 2 ^ 45 }
 {
     let from = totals.from.unwrap_or(0);

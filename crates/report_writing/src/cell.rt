@@ -43,7 +43,8 @@ fn put_count(out: &mut Writer, number: u128) -> Result<(), AllocError>
 
 // Writes a whole number under a key.
 fn put_count_at(out: &mut Writer, name: &str, number: u64) -> Result<(), AllocError>
-    ensures ok { OnOk result (out.new.tokens ≡ out.old.tokens ++ key name.now ∷ tokens_of (count number)) }
+    ensures ok { OnOk result (out.new.tokens
+        ≡ out.old.tokens ++ key name.now ∷ tokens_of (count number)) }
     ensures before { out.new.before ≡ out.old.before }
 {
     out.key(name)?;
@@ -58,7 +59,8 @@ fn put_spread(
     middle: u64,
     p99: u64,
 ) -> Result<(), AllocError>
-    ensures ok { OnOk result (out.new.tokens ≡ out.old.tokens ++ tokens_of (spread_data greatest least middle p99)) }
+    ensures ok { OnOk result (out.new.tokens
+        ≡ out.old.tokens ++ tokens_of (spread_data greatest least middle p99)) }
     ensures before { out.new.before ≡ out.old.before }
 {
     out.begin_object()?;
@@ -100,7 +102,8 @@ pub(crate) fn put_cell(out: &mut Writer, cell: Cell) -> Result<(), AllocError>
 // Writes an object: each of these under the key at its place.
 pub(crate) fn put_object(out: &mut Writer, keys: &[&str], cells: &[Cell]) -> Result<(), AllocError>
     requires { length keys.now ≡ length cells.now }
-    ensures ok { OnOk result (out.new.tokens ≡ out.old.tokens ++ tokens_of (object_of keys.now cells.now)) }
+    ensures ok { OnOk result (out.new.tokens
+        ≡ out.old.tokens ++ tokens_of (object_of keys.now cells.now)) }
     ensures before { out.new.before ≡ out.old.before }
 {
     out.begin_object()?;

@@ -9,7 +9,8 @@ use std::alloc::{AllocError, Global};
 
 // The numbers of each life, in the order of the admissions.
 pub(crate) fn lives_told(alloc: Global, reporter: &Reporter) -> Result<Vec<LifeNumbers>, AllocError>
-    ensures { IfOk result (λ lives. AreLivesTold reporter.now.config reporter.now.history lives.items) }
+    ensures { IfOk result (λ lives.
+        AreLivesTold reporter.now.config reporter.now.history lives.items) }
 {
     let mut lives = Vec::new(alloc);
     for place in 0..reporter.lives() {
@@ -20,7 +21,8 @@ pub(crate) fn lives_told(alloc: Global, reporter: &Reporter) -> Result<Vec<LifeN
 
 // The numbers of each rank that asked, from the one that is served first on.
 pub(crate) fn ranks_told(alloc: Global, reporter: &Reporter) -> Result<Vec<RankTold>, AllocError>
-    ensures { IfOk result (λ ranks. AreRanksTold reporter.now.config reporter.now.history ranks.items) }
+    ensures { IfOk result (λ ranks.
+        AreRanksTold reporter.now.config reporter.now.history ranks.items) }
 {
     let mut ranks = Vec::new(alloc);
     for index in 0..RANKS.len() {

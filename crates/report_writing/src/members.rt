@@ -133,7 +133,8 @@ fn put_refusals(out: &mut Writer, place: u8, count: u64) -> Result<(), AllocErro
 
 // Writes how many refusals with each number there were, where there was one.
 pub(crate) fn put_refused(out: &mut Writer, refused: &[u64]) -> Result<(), AllocError>
-    ensures ok { OnOk result (out.new.tokens ≡ out.old.tokens ++ tokens_of (refused_data refused.now)) }
+    ensures ok { OnOk result (out.new.tokens
+        ≡ out.old.tokens ++ tokens_of (refused_data refused.now)) }
     ensures before { out.new.before ≡ out.old.before }
 {
     out.begin_object()?;

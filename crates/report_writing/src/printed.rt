@@ -16,7 +16,8 @@ use std::alloc::{AllocError, Global};
 
 // Writes a number under a key.
 fn put_at(out: &mut Writer, name: &str, cell: Cell) -> Result<(), AllocError>
-    ensures ok { OnOk result (out.new.tokens ≡ out.old.tokens ++ key name.now ∷ tokens_of (cell_data cell)) }
+    ensures ok { OnOk result (out.new.tokens
+        ≡ out.old.tokens ++ key name.now ∷ tokens_of (cell_data cell)) }
     ensures before { out.new.before ≡ out.old.before }
 {
     out.key(name)?;
@@ -80,7 +81,8 @@ fn put_report(
 
 /// The report on the entries that were taken as JSON without spaces, keys in ascending order, and one newline.
 pub fn json_text(alloc: Global, reporter: &Reporter) -> Result<Vec<u8>, AllocError>
-    ensures { IfOk result (λ text. IsReportText reporter.now.config reporter.now.history text.items) }
+    ensures { IfOk result (λ text.
+        IsReportText reporter.now.config reporter.now.history text.items) }
 {
     let lives = lives_told(alloc, reporter)?;
     let ranks = ranks_told(alloc, reporter)?;

@@ -270,7 +270,7 @@ module _ (c : Config) (lock : Lock FixedDesk Event) (s : Standing FixedDesk Even
             told.marked);
       }
 
-      -- what a holder had forgotten
+      -- what a holder let go of
       pub forgets_entered : (done : Bool) → done ≡ not d.keeps → x ≡ marked_by d stamp done
           → IsLegal x.config (history_of x) → ForgetsHeld c s keeps w done
       forgets_entered done exact marked legal = record {

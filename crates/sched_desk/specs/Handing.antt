@@ -71,7 +71,7 @@ module _ (c : Config) (s : Standing FixedDesk Event) where
     pub gives : Gives c keeps (seen s) room answer
     pub marks : MarksHeld (is_given answer) w
 
-  -- a holder had forgotten what the desk kept, where it does not keep its whole history, and its seat has left
+  -- a holder let go of what the desk kept, where it does not keep its whole history, and its seat has left
   pub record ForgetsHeld (keeps : Bool) (w : Standing FixedDesk Event) (done : Bool) : Type 0 where
     pub exact : done ≡ not keeps
     pub marks : MarksHeld done w

@@ -5,7 +5,7 @@ use Rattle.sched_desk.specs.declared.event.Event.{Event}
 use Rattle.sched_desk.specs.declared.event.Event.TheVariants.{Recorded, Marked}
 use Rattle.sched_desk.specs.Events.{Parted, nothing_yet, with_entry, all_handed}
 
--- entries that a seat with this number handed over or had forgotten at once, and the place of the first of them in the
+-- entries that a seat with this number handed over or let go of at once, and the place of the first of them in the
 -- whole history
 pub record Portion : Type 0 where
   pub seat : ℕ

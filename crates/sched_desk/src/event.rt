@@ -8,6 +8,6 @@ use sched_history::Entry;
 pub enum Event {
     /// A call was recorded, with its reply.
     Recorded(Entry),
-    /// Whoever held the desk, with this stamp, was handed over what was kept, or had it forgotten.
+    /// Whoever held the desk, with this stamp, was given what was kept, or let go of it.
     Marked(Stamp),
 }

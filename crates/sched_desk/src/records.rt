@@ -24,7 +24,9 @@ pub trait Records {
         ensures encodable { IfOk result
             (λ given. AllByRecursion (λ e. IsEncodable e.reply) given.entries.items) }
         ensures handed { OnOk result ((recording self.new).machine
-            ≡ record (recording self.old).machine { handed = length (recording self.old).machine.history }) }
+            ≡ record (recording self.old).machine {
+              handed = length (recording self.old).machine.history;
+            }) }
         ensures exact { IsOk result
             ↔ ((room.items ≡ [])
             × ((recording self.old).machine.config.calls ≤ vec_capacity room)) }
@@ -35,7 +37,9 @@ pub trait Records {
     /// Lets go of the entries that are kept, as if they were handed over.
     fn forget(&mut self)
         ensures forgotten { (recording self.new).machine
-            ≡ record (recording self.old).machine { handed = length (recording self.old).machine.history } }
+            ≡ record (recording self.old).machine {
+              handed = length (recording self.old).machine.history;
+            } }
         ensures press { (recording self.new).press ≡ (recording self.old).press };
 }
 

@@ -62,6 +62,7 @@ ungranted sid replies.Reserved unbuilt = refl
 ungranted sid (replies.Flow asked granted outstanding) unbuilt = refl
 ungranted sid (replies.Refused refusal) unbuilt = refl
 
+-- nor unsolicited ones
 pub ungranted_unsolicited : (spec : FlowSpec) (sid : ℕ) (reply : Reply)
     → ((m : FrameMap) → reply ≡ replies.Built m → ⊥) → unsolicited_by spec sid reply ≡ 0
 ungranted_unsolicited spec sid (replies.Built m) unbuilt = absurd (unbuilt m refl)
@@ -220,6 +221,7 @@ module _ (c : Config) (t : LifeTally) (life : PastLife) (slot : ℕ) (e : Entry)
       (sym (ap (λ (o : Option Request). requests_in life.sid life.since ++ cons_option o []) silent
       ∙ append-nil (requests_in life.sid life.since))) is.service))
 
+  -- and so it is where the entry is no request of it and has no MAP
   pub goes_on-silent : request_by life.sid e.call e.reply ≡ None
       → ((m : FrameMap) → e.reply ≡ replies.Built m → ⊥) → IsLifeOf c t (with_entry e life)
   goes_on-silent silent unbuilt =

@@ -105,7 +105,8 @@ module _ (sid : ℕ) (es : List Element) (front : ℕ) (within_all : front ≤ l
   no_allocations zero within = refl
   no_allocations (suc n) within =
       let a : Allocation = allocation_at es n in
-      let fails : (a.sid == sid) ≡ false = ne_eqb a.sid sid (others n no_element (omega (arith, within, within_all)) (omega (arith, within))) in
+      let inside : n < length es = omega (arith, within, within_all) in
+      let fails : (a.sid == sid) ≡ false = ne_eqb a.sid sid (others n no_element inside (omega (arith, within))) in
       let none : is_grant_to sid a ≡ false = ap (λ t. t && is_unsolicited (use_of a.sid a.iuc true)) fails in
       omega (
         arith,

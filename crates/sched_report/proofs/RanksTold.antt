@@ -50,7 +50,8 @@ first-ranks-more c h told n d new first below is numbers some =
     ∙ ap (λ (b : Bool). cond b (new.rank ∷ []) []) asked in
     record {
       those = map_push (λ (t : RankTold). t.rank) told new ∙ ap (λ (rs : List ℕ). rs ++ new.rank ∷ []) first.those
-          ∙ ap (λ (rs : List ℕ). filter (has_asked h) (take n ranks_served) ++ rs) (sym one) ∙ sym (ranks-more h n d below);
+          ∙ ap (λ (rs : List ℕ). filter (has_asked h) (take n ranks_served) ++ rs) (sym one)
+          ∙ sym (ranks-more h n d below);
       each = all-push (IsRankTold c h) told new first.each numbers;
     }
 
@@ -64,7 +65,8 @@ first-ranks-same c h told n d numbers first below are none =
     ap (λ (b : Bool). cond b (rank ∷ []) []) (asked-none c h rank numbers are none) in
     record {
       those = first.those ∙ sym (append-nil (filter (has_asked h) (take n ranks_served)))
-          ∙ ap (λ (rs : List ℕ). filter (has_asked h) (take n ranks_served) ++ rs) (sym no) ∙ sym (ranks-more h n d below);
+          ∙ ap (λ (rs : List ℕ). filter (has_asked h) (take n ranks_served) ++ rs) (sym no)
+          ∙ sym (ranks-more h n d below);
       each = first.each;
     }
 

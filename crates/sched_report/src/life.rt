@@ -1,6 +1,7 @@
 //! One life of a flow: what it asked and was granted, and from when to when it lived.
 
-ghost use Rattle.std.specs.Prelude.{◌≡◌, ◌<◌, ◌≤◌, ◌^◌, ◌++◌, [], List, length, count_by, false, None, Some, is_some, IfSome, OnOk};
+ghost use Rattle.std.specs.Prelude.{◌≡◌, ◌<◌, ◌≤◌, ◌^◌, ◌++◌, [], List, length, count_by, false};
+ghost use Rattle.std.specs.Prelude.{None, Some, is_some, IfSome, OnOk};
 ghost use Rattle.std.specs.List.{cons_option, filter_map, zip};
 ghost use Rattle.minislots.specs.declared.config.Config.{Config};
 ghost use Rattle.map_codec.specs.Element.{nulls};

@@ -30,7 +30,7 @@ fn mark(marks: &mut Marks, sid: u16)
     marks[usize::from(sid % MARKS)] = true;
 }
 
-// Whether the element at a place is not known to have no bytes.
+// Whether the element at a place may have bytes.
 fn may_have_bytes(bytes: &[u32], place: usize) -> bool
     ensures { 0 < slice_index_or bytes.now place 1 → result ≡ true }
 {

@@ -4,7 +4,8 @@ ghost use Rattle.std.specs.Prelude.{◌≡◌, ◌<◌, ◌≤◌, ◌+◌, ◌^
 ghost use Rattle.sched_history.specs.declared.reply.Entry.{Entry};
 ghost use Rattle.map_drawing.specs.Allocation.{allocations_of, frame_slots};
 ghost use Rattle.frame_picture.specs.Frames.{is_unsolicited_after, TellsUnsolicited};
-ghost use Rattle.sched_report.specs.Uses.{is_unsolicited, use_of, slots_among, all_slots, with_slots, sum_of, AreOfFrame};
+ghost use Rattle.sched_report.specs.Uses.{is_unsolicited, use_of, slots_among, all_slots, with_slots};
+ghost use Rattle.sched_report.specs.Uses.{sum_of, AreOfFrame};
 
 use frame_picture::Flows;
 use map_codec::{Element, iuc};

@@ -95,8 +95,8 @@ module _ (c : Config) (lock : Lock FixedDesk Event) (round : IsDeskLock c lock) 
       let taken = turn.turn in
       let entered = taken.entered in
       let h = taken.holder in
-      let same = ap (λ (u : Standing FixedDesk Event). u.lock) (whole c s turn.ticket h w taken.handed turn.drawn entered)
-      in
+      let all = whole c s turn.ticket h w taken.handed turn.drawn entered in
+      let same = ap (λ (u : Standing FixedDesk Event). u.lock) all in
       let here = ap (λ (u : Standing FixedDesk Event). u.lock) entered.entered in
       calls c s turn.ticket h w taken.handed turn.drawn entered call answer
       (ends_turn h w taken.handed (same ∙ of_lock)

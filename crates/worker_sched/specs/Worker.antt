@@ -125,7 +125,8 @@ TurnsForgetting old new turn = MatchOption old.ticket ((turn ≡ forget.NoTicket
 
 -- a worker with this ticket begins its turn, after entries of others alone, or is not served yet
 abbrev pub BeginsWith : Stands → WorkerState → WorkerState → Begin → Type 0
-BeginsWith t old new begin.Entered = (h : Stands) × (new ≡ record old { ticket = None; entered = Some h }) × HasEntered t h
+BeginsWith t old new begin.Entered =
+    (h : Stands) × (new ≡ record old { ticket = None; entered = Some h }) × HasEntered t h
 BeginsWith t old new begin.NotYet = new ≡ record old { ticket = Some (record t { looks = t.looks + 1 }) }
 BeginsWith t old new begin.NoTicket = ⊥
 

@@ -55,7 +55,7 @@ module _ (c : Config) (keeps : Bool) (t : Standing FixedDesk Event) where
     pub own_is : own_entries w ≡ own_entries t
     pub portions_are : own_portions w ≡ own_portions t ++ portion_by holder (is_given answer)
 
-  -- a seat with this ticket has entered, had forgotten what is kept, and left
+  -- a seat with this ticket has entered, let go of what is kept, and left
   pub record ForgetsTurn (w : Standing FixedDesk Event) (done : Bool) : Type 0 where
     pub holder : Standing FixedDesk Event
     pub entered : HasEntered t holder

@@ -1,4 +1,4 @@
-//! How a turn begins, and how one ends that hands over what is kept, or has it forgotten.
+//! How a turn begins, and how one ends that hands over what is kept, or lets go of it.
 
 use sched_history::{Entry, HandedOver};
 

@@ -36,7 +36,8 @@ returns-in-Ok-Illegal-clause-puts g c = λ before given.
     let meets = (rw c.in-Ok-Illegal.field-0-is at c.in-Ok-Illegal.ensures).gives before (at.so_far before given) in
     record {
       entries = es;
-      ends = subst (λ d. EndsBehind before (g.R.Source.remaining c.next.new.reader) d es (Illegal c.in-Ok-Illegal.place)) (at.same ∙ sym c.requires.same)
+      ends = subst (λ d. EndsBehind before (g.R.Source.remaining c.next.new.reader) d es
+          (Illegal c.in-Ok-Illegal.place)) (at.same ∙ sym c.requires.same)
           (record { entry = meets.entry; found = meets.found; behind = meets.behind });
       written = at.written;
     }
@@ -48,7 +49,8 @@ returns-in-Ok-Bad-clause-puts g c = λ before given.
     let found = (rw c.in-Ok-Bad.field-0-is at c.in-Ok-Bad.ensures).gives before (at.so_far before given) in
     record {
       entries = es;
-      ends = subst (λ d. EndsBehind before (g.R.Source.remaining c.next.new.reader) d es (Bad c.in-Ok-Bad.line)) (at.same ∙ sym c.requires.same) found;
+      ends = subst (λ d. EndsBehind before (g.R.Source.remaining c.next.new.reader) d es
+          (Bad c.in-Ok-Bad.line)) (at.same ∙ sym c.requires.same) found;
       written = at.written;
     }
 
@@ -59,7 +61,8 @@ returns-in-Ok-End-clause-puts g c = λ before given.
     let found = (rw c.in-Ok-End.field-0-is at c.in-Ok-End.ensures).gives before (at.so_far before given) in
     record {
       entries = es;
-      ends = subst (λ d. EndsBehind before (g.R.Source.remaining c.next.new.reader) d es (Legal c.in-Ok-End.torn)) (at.same ∙ sym c.requires.same) found;
+      ends = subst (λ d. EndsBehind before (g.R.Source.remaining c.next.new.reader) d es
+          (Legal c.in-Ok-End.torn)) (at.same ∙ sym c.requires.same) found;
       written = at.written;
     }
 
@@ -76,8 +79,8 @@ loop-preserved g c =
     record {
       so_far = λ before given. entry.gives before (at.so_far before given);
       same = ap (λ (p : Past). p.config) entry.takes.0 ∙ at.same;
-      written = rw all (Puts-push c.args.config.now c.args.address.now c.loop.entries.auditor.history c.in-Ok-Entry.entry
-          _ _ _ at.written c.in_ok-put_entry-in-Ok-Entry.ensures.0);
+      written = rw all (Puts-push c.args.config.now c.args.address.now c.loop.entries.auditor.history
+          c.in-Ok-Entry.entry _ _ _ at.written c.in_ok-put_entry-in-Ok-Entry.ensures.0);
       count = omega (arith, more, at.count);
       read = c.in-Ok-Entry.ensures.failed ∙ at.read;
       wrote = c.in_ok-put_entry-in-Ok-Entry.ensures.1 ∙ at.wrote;

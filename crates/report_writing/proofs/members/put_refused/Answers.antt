@@ -12,7 +12,8 @@ loop-index-preserved c =
     let counts = c.args.refused.now in
     let rest = refused_members (drop (at.index + 1) by_text) counts in (
       c.in_ok-put_refusals.ensures.ok rest
-          ∙ ap (λ n. at.out.tokens ++ tokens_to_end (with_refusals (get_or by_text at.index 0) n rest)) c.refusals_at.ensures
+          ∙ ap (λ n. at.out.tokens ++ tokens_to_end (with_refusals (get_or by_text at.index 0) n rest))
+          c.refusals_at.ensures
           ∙ ap (λ (members : Members). at.out.tokens ++ tokens_to_end members)
           (sym (refused_members-drop by_text counts at.index 0 c.loop-index-test.true))
           ∙ at.invariant.0,
