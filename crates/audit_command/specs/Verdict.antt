@@ -39,8 +39,8 @@ pub record Audited (unread left written_before written_after : Option (List ℕ)
   pub written : Appends written_before written_after (verdict_line verdict)
   pub legal_is : (legal ≡ true) ↔ IsLegal history.config history.entries
 
--- why an audit ends: there is no history, or a write was tried after a whole one was read; want of memory tells
--- nothing more
+-- why an audit ends: there is no history, or a write was tried after a whole one was read; where
+-- memory runs out nothing more is told
 abbrev pub StopsAudit : Option (List ℕ) → Option (List ℕ) → RunFault → Type 0
 StopsAudit unread left (Text Input) = StopsHistory unread left Input
 StopsAudit unread left (Text TooLong) = StopsHistory unread left TooLong

@@ -5,7 +5,7 @@ use Rattle.text_stream.specs.declared.fault.TextFault.{TextFault}
 use Rattle.text_stream.specs.declared.fault.TextFault.TheVariants.{Input, Memory}
 use Rattle.text_stream.specs.Watched.{FailsBy}
 
--- want of memory is no failed read
+-- to run out of memory is no failed read
 pub failed-memory : {T : Type 0} (r : Result T TextFault) (old new : Bool) → IfErr r (λ e. e ≡ Memory) → new ≡ old
     → FailsBy Input r old new
 failed-memory (Ok x) old new is same = same

@@ -26,8 +26,8 @@ pub record HasTooManyLines (passed : ℕ) (unread : Option (List ℕ)) : Type 0 
   pub read : BeginsWith unread lines
   pub many : 2 ^ 64 - 1 ≤ passed + length lines
 
--- why lines behind so many others are not read to their end: want of memory tells nothing more, and a failed read is
--- told by the reader
+-- why lines behind so many others are not read to their end: where memory runs out nothing more is told, and
+-- a failed read is told by the reader
 abbrev pub StopsLines : ℕ → Option (List ℕ) → Option (List ℕ) → TextFault → Type 0
 StopsLines passed unread left Input = Unit {0}
 StopsLines passed unread left TooLong = HasEndlessLine unread left ⊎ HasTooManyLines passed unread

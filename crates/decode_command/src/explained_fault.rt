@@ -145,7 +145,7 @@ pub fn decode_explained<W: Sink>(
         (ShowsMap columns text.now (W.contents writer.old) (W.contents writer.new))
         (ShowsExplained text.now (W.contents writer.old) (W.contents writer.new))) }
 
-    // No other fault ends it; want of memory only before anything is written.
+    // No other fault ends it; out of memory only before anything is written.
     ensures err { IfErr result
         (λ e. (e ≡ RunFault.Text TextFault.Memory) ⊎ (e ≡ RunFault.Text TextFault.Output)) }
     ensures failed { TellsFailedWrite result (W.has_failed writer.old) (W.has_failed writer.new) }

@@ -267,7 +267,7 @@ pub fn decode_frame<W: Sink>(
         (ShowsFrame columns text.now (W.contents writer.old) (W.contents writer.new))
         (ShowsFrameFault text.now (W.contents writer.old) (W.contents writer.new))) }
 
-    // No other fault ends it; want of memory only before anything is written, and not where the digits are odd in
+    // No other fault ends it; out of memory only before anything is written, and not where the digits are odd in
     // number.
     ensures err { IfErr result
         (λ e. (e ≡ RunFault.Text TextFault.Memory) ⊎ (e ≡ RunFault.Text TextFault.Output)) }

@@ -249,7 +249,7 @@ fn put_decoded<W: Sink>(
 /// Reads a text as hexadecimal, digits of both cases, and writes the table of the MAP payload that
 /// it is, and behind it the drawing of its frame where one in so many columns is asked for, answering true; or
 /// the one line of what is wrong with it, answering false: `fault hex`, or `fault`, the number of the payload's
-/// fault, and the element that the fault names where it names one. Its faults are want of memory, before anything
+/// fault, and the element that the fault names where it names one. Its faults are that memory runs out, before anything
 /// is written, and a failed write.
 pub fn decode_text<W: Sink>(
     alloc: Global,
@@ -266,7 +266,7 @@ pub fn decode_text<W: Sink>(
         (ShowsMap columns text.now (W.contents writer.old) (W.contents writer.new))
         (ShowsFault text.now (W.contents writer.old) (W.contents writer.new))) }
 
-    // No other fault ends it; want of memory only before anything is written, and not where the
+    // No other fault ends it; out of memory only before anything is written, and not where the
     // digits are odd in number.
     ensures err { IfErr result
         (λ e. (e ≡ RunFault.Text TextFault.Memory) ⊎ (e ≡ RunFault.Text TextFault.Output)) }

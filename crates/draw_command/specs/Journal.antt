@@ -53,7 +53,7 @@ StopsEntries unread left (Config field) = ⊥
 StopsEntries unread left Memory = Unit {0}
 StopsEntries unread left Output = ⊥
 
--- why the drawing of a journal ends; want of memory and a failed write tell nothing more
+-- why the drawing of a journal ends; where memory runs out or a write fails nothing more is told
 abbrev pub StopsJournalDrawing : Option (List ℕ) → Option (List ℕ) → RunFault → Type 0
 StopsJournalDrawing unread left (Text Input) = StopsEntries unread left Input
 StopsJournalDrawing unread left (Text TooLong) = StopsEntries unread left TooLong

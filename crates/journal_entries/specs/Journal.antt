@@ -104,7 +104,8 @@ pub record HasEndlessLine (before left : Option (List ℕ)) : Type 0 where
   pub within : IsWithinLine line
   pub long : 2 ^ 64 - 1 ≤ length line
 
--- why a journal is not judged to its end: want of memory tells nothing more, and a failed read is told by the reader
+-- why a journal is not judged to its end: where memory runs out nothing more is told, and a failed read is told by
+-- the reader
 abbrev pub StopsJournal : Option (List ℕ) → Option (List ℕ) → TextFault → Type 0
 StopsJournal before left Input = Unit {0}
 StopsJournal before left TooLong = HasTooMany before left ⊎ HasEndlessLine before left

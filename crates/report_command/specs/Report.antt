@@ -60,8 +60,8 @@ abbrev pub ReportedText : Option (List ℕ) → Option (List ℕ) → Option (Li
 ReportedText unread left before after true = ReportsLegal IsText unread left before after
 ReportedText unread left before after false = ReportsIllegal unread left before after
 
--- why a report ends: there is no history, or a write was tried after a whole one was read; want of memory tells nothing
--- more
+-- why a report ends: there is no history, or a write was tried after a whole one was read; where
+-- memory runs out nothing more is told
 abbrev pub StopsReport : Option (List ℕ) → Option (List ℕ) → RunFault → Type 0
 StopsReport unread left (Text Input) = StopsHistory unread left Input
 StopsReport unread left (Text TooLong) = StopsHistory unread left TooLong

@@ -16,8 +16,8 @@ use minislots::Checked;
 use std::alloc::Global;
 
 /// Judges a history under a configuration: whether each reply is one that the scheduler may give after
-/// the entries before it. Every lawful placement is one, whichever this scheduler would take, and a
-/// refusal for want of a place where there is none. There are at most [`MAX_ENTRIES`](crate::MAX_ENTRIES)
+/// the entries before it. Every lawful placement is one, whichever this scheduler would take, and the
+/// refusal that no place is free where there is none. There are at most [`MAX_ENTRIES`](crate::MAX_ENTRIES)
 /// entries. Their stamps are not judged, nor is their number by what the configuration records.
 pub fn audit(alloc: Global, config: &Checked, entries: &[Entry]) -> Result<(), AuditFault>
     requires { length entries.now ≤ MAX_ENTRIES }
