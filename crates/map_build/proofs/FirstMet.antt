@@ -184,8 +184,8 @@ module _ (c : Config) (d : Demand) where
         member-at (λ (t : Spot). Contains plan (allocation_of t)) d.spots s is.due there in
         elim (disjoint [] plan is.each a (allocation_of s) has due) [
           | inl same ↦ absurd (none-some
-              (sym (spot-no-place s.poll s.sid s.offset s.slots) ∙ sym (ap (λ (b : Allocation). place_of b.purpose) same)
-              ∙ at))
+              (sym (spot-no-place s.poll s.sid s.offset s.slots)
+              ∙ sym (ap (λ (b : Allocation). place_of b.purpose) same) ∙ at))
           | inr past ↦ past
         ]
       where

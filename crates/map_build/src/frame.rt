@@ -57,8 +57,8 @@ fn plan_around(
         (demand_at book.now.flows spots.now waiting.now start) header ack p) }
     ensures only { IfOk result (λ p. (n : FrameMap) → IsLawfulMap book.now.config
         (demand_at book.now.flows spots.now waiting.now start) header ack n → n ≡ p.map) }
-    ensures encodable { AreOfChannel book.now.flows → HaveFlowSids spots.now → HaveStationSids waiting.now →
-        IfOk result (λ p. IsWellFormed p.map.wire) }
+    ensures encodable { AreOfChannel book.now.flows → HaveFlowSids spots.now
+        → HaveStationSids waiting.now → IfOk result (λ p. IsWellFormed p.map.wire) }
     ensures config { IfOk result (λ p. p.book.config ≡ book.now.config) }
 {
     let mut draft = Draft::open(alloc, book, start)?;
@@ -89,9 +89,9 @@ pub fn plan_frame(
     ensures lawful { IfOk result (λ m. IsLawfulMap book.now.config (demand_at book.now.flows
         (spots_in book.now.config frame table.now.placed) [] (frame * book.now.config.frame))
         (header_of book.now.config) ack m) }
-    ensures only { IfOk result (λ m. (n : FrameMap) → IsLawfulMap book.now.config (demand_at book.now.flows
-        (spots_in book.now.config frame table.now.placed) [] (frame * book.now.config.frame))
-        (header_of book.now.config) ack n → n ≡ m) }
+    ensures only { IfOk result (λ m. (n : FrameMap) → IsLawfulMap book.now.config
+        (demand_at book.now.flows (spots_in book.now.config frame table.now.placed) []
+        (frame * book.now.config.frame)) (header_of book.now.config) ack n → n ≡ m) }
     ensures encodable { AreOfChannel book.now.flows → IfOk result (λ m. IsWellFormed m.wire) }
 {
     let header = Header::of(book.config());
@@ -119,12 +119,12 @@ pub fn plan_with_book(
     requires bounded { frame * book.now.config.frame ≤ 2 ^ 61 }
     requires waiting { MayWait waiting.now }
 
-    ensures lawful { IfOk result (λ p. IsLawfulFrame book.now.config (demand_at book.now.flows
-        (spots_in book.now.config frame table.now.placed) waiting.now (frame * book.now.config.frame))
-        header ack p) }
-    ensures only { IfOk result (λ p. (n : FrameMap) → IsLawfulMap book.now.config (demand_at book.now.flows
-        (spots_in book.now.config frame table.now.placed) waiting.now (frame * book.now.config.frame))
-        header ack n → n ≡ p.map) }
+    ensures lawful { IfOk result (λ p. IsLawfulFrame book.now.config
+        (demand_at book.now.flows (spots_in book.now.config frame table.now.placed) waiting.now
+        (frame * book.now.config.frame)) header ack p) }
+    ensures only { IfOk result (λ p. (n : FrameMap) → IsLawfulMap book.now.config
+        (demand_at book.now.flows (spots_in book.now.config frame table.now.placed) waiting.now
+        (frame * book.now.config.frame)) header ack n → n ≡ p.map) }
     ensures first { IfOk result (λ p. MeetsFirst book.now.config
         (spots_in book.now.config frame table.now.placed) waiting.now p.met) }
     ensures encodable { AreOfChannel book.now.flows → HaveStationSids waiting.now

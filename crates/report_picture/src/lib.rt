@@ -2,8 +2,8 @@
 //!
 //! However many frames there are, time is put into at most 800 steps of as many frames each, and no frame is kept. The
 //! use of a step stands upon those below it, as high as its minislots are of all those from the start of the step's
-//! first frame to the end of its last one, those of frames that were left out among them. Places are told in tenths of a
-//! unit, rounded down.
+//! first frame to the end of its last one, those of frames that were left out among them. Places are told in tenths of
+//! a unit, rounded down.
 #![tactic(auto)]
 
 mod areas;

@@ -164,7 +164,8 @@ module _ (c : Config) (conf : IsLawful c) where
       let next : IsNextMap c h m = IsNextMap-from_step c h call m step in
       subst (λ m. KeepsTimes c (table_of h) (replies.Built m)) (sym next.2)
       (timely-map c (demand_after c h) (table_of h) refl (spot_on_time c conf (table_of h) (next_after c h)
-      (next_after-aligned c conf h legal) (table_placed c h legal)) (header_after c h) (ack_after c h) next.0 next.1.each)
+      (next_after-aligned c conf h legal) (table_placed c h legal)) (header_after c h) (ack_after c h)
+      next.0 next.1.each)
   timely_by h call reply legal step = tt
 
   -- every poll and unsolicited grant is on time

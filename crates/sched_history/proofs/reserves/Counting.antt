@@ -8,7 +8,8 @@ use Rattle.std.proofs.lemmas.List.Sums.{sum_by-cons, sum_by-append}
 use Rattle.map_build.specs.declared.opportunity.Opportunity.{Opportunity}
 use Rattle.map_build.specs.Purpose.{sid_for, iuc_for}
 use Rattle.sched_history.specs.declared.scheduler.reserves.Reserve.{Reserve}
-use Rattle.sched_history.specs.Reserves.{last_map, is_same, without_first, unmet_by, older, aged, asked_for, new_reserve}
+use Rattle.sched_history.specs.Reserves.{last_map, is_same, without_first, unmet_by, older, aged}
+use Rattle.sched_history.specs.Reserves.{asked_for, new_reserve}
 use Rattle.sched_history.specs.Ranging.{count_alike}
 use Rattle.sched_history.proofs.reserves.Places.{all-three}
 

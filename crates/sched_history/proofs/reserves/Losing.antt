@@ -12,11 +12,11 @@ use Rattle.sched_history.specs.declared.reply.Reply.{Reply}
 use Rattle.sched_history.specs.declared.reply.Reply.TheVariants as replies
 use Rattle.sched_history.specs.declared.reply.Entry.{Entry}
 use Rattle.sched_history.specs.Time.{is_built, builds_in}
-use Rattle.sched_history.specs.Reserves.{last_map, reserve_by, offers_of, unmet_by, reserves_by, reserves_with, asked_for}
-use Rattle.sched_history.specs.Reserves.{reserves_then, reserves_after, reserves_of}
+use Rattle.sched_history.specs.Reserves.{last_map, reserve_by, offers_of, unmet_by, reserves_by}
+use Rattle.sched_history.specs.Reserves.{reserves_with, asked_for, reserves_then, reserves_after, reserves_of}
 use Rattle.sched_history.specs.Ranging.{reserved_in, offers_by, offers_in, count_alike, LosesNone, LapsesInTime}
-use Rattle.sched_history.proofs.reserves.Counting.{one, count_alike-append, count_young, young-unmet_by, fewer-unmet_by}
-use Rattle.sched_history.proofs.reserves.Counting.{young-aged, young-push, young-new, young-least, young-most, young-now}
+use Rattle.sched_history.proofs.reserves.Counting.{one, count_alike-append, count_young, young-unmet_by}
+use Rattle.sched_history.proofs.reserves.Counting.{fewer-unmet_by, young-aged, young-push, young-new, young-least, young-most, young-now}
 use Rattle.sched_history.proofs.reserves.Counting.{young-later}
 use Rattle.sched_history.proofs.reserves.MetOnce.{count_offer, count_offer-cons}
 

@@ -25,7 +25,8 @@ same-opportunity p q is = cc
 
 one-more : (b : Bool) (o : Opportunity) (r : Reserve) (rs left : List Reserve) (n : ℕ)
     → count_alike o (asked_for rs) ≡ count_alike o (asked_for left) + n
-    → count_alike o (asked_for (if b then rs else r ∷ rs)) ≡ count_alike o (asked_for (if b then left else r ∷ left)) + n
+    → count_alike o (asked_for (if b then rs else r ∷ rs))
+    ≡ count_alike o (asked_for (if b then left else r ∷ left)) + n
 one-more true o r rs left n same = same
 one-more false o r rs left n same = omega (
   arith,
@@ -60,6 +61,7 @@ abbrev pub count_offer : Opportunity → Option Opportunity → ℕ
 count_offer o None = 0
 count_offer o (Some p) = one (is_same o p)
 
+-- one that an allocation may have in front of others adds as many as it has itself
 pub count_offer-cons : (o : Opportunity) (p : Option Opportunity) (os : List Opportunity)
     → count_alike o (cons_option p os) ≡ count_offer o p + count_alike o os
 count_offer-cons o None os = omega arith

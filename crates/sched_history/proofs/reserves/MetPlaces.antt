@@ -28,6 +28,7 @@ pub is_met-before : (plan : List Allocation) (a : Allocation) (k : ℕ) → is_m
 is_met-before [] a k isnt = isnt
 is_met-before (x ∷ plan) a k isnt = rw (is_met-before plan a k isnt) refl
 
+-- an allocation that is no opportunity meets none
 pub is_met-none : (a : Allocation) (k : ℕ) → place_of a.purpose ≡ None → is_met (a ∷ []) k ≡ false
 is_met-none a k none = unmet-test (a ∷ []) k (λ met. let is = met-only a k met in cc)
 
@@ -67,6 +68,7 @@ module _ (c : Config) (d : Demand) (rs : List Reserve) (waits : d.waiting ≡ wa
       ap (λ os. slice_get os k) waits ∙ ap (λ os. slice_get os k) (asked_for-take MAX_WAITING rs)
       ∙ asks-front MAX_WAITING k (asked_for rs) o below is
 
+  -- an allocation that stands for the first opportunity to meet meets that one alone
   pub meets-one : (before : List Allocation) (a : Allocation) (room place : ℕ) (o : Opportunity)
       → place_of a.purpose ≡ Some place → IsFirstToMeet d.waiting before room place o
       → MeetsOne (is_met before) (is_met (before ++ a ∷ [])) rs place o

@@ -31,6 +31,7 @@ left_by-none test (r ∷ rs) none =
 pub is_same-itself : (o : Opportunity) → is_same o o ≡ true
 is_same-itself o = grind (arith, nat_tests)
 
+-- where three are true together, each is
 pub all-three : (a b d : Bool) → (a && b && d) ≡ true → (a ≡ true) × (b ≡ true) × (d ≡ true)
 all-three true true true is = (refl, refl, refl)
 all-three true true false is = absurd cc
@@ -69,6 +70,7 @@ pub record MeetsOne (test other : ℕ → Bool) (rs : List Reserve) (place : ℕ
   pub first : (k : ℕ) (p : Opportunity) → k < place → slice_get (asked_for rs) k ≡ Some p → is_same o p ≡ true
       → test k ≡ true
 
+-- what holds of an opportunity behind the first holds of its place among those behind
 pub later-one : (test other : ℕ → Bool) (r : Reserve) (rs : List Reserve) (place : ℕ) (o : Opportunity)
     → MeetsOne test other (r ∷ rs) (suc place) o
     → MeetsOne (λ k. test (suc k)) (λ k. other (suc k)) rs place o

@@ -43,4 +43,5 @@ pub reserves_of-built : (h : List Entry) (e : Entry) (m : FrameMap) → e.reply 
 reserves_of-built h e m is =
     reserves_of-push h e
     ∙ ap (λ (r : Reply). reserves_with (reserve_by e.call r) (reserves_by r (reserves_of h))) is
-    ∙ ap (λ o. reserves_with o (aged (unmet_by (offers_of m.wire.elements) (reserves_of h)))) (reserve_by-built e.call m)
+    ∙ ap (λ o. reserves_with o (aged (unmet_by (offers_of m.wire.elements) (reserves_of h))))
+    (reserve_by-built e.call m)

@@ -45,7 +45,8 @@ the_words_of_the_met_opportunity : map word_of meets.wire.elements
 the_words_of_the_met_opportunity = refl
 
 -- it is met once: the next MAP is idle
-it_is_met_once : IsStep base (asked ∷ entry 1 (Build 760) (Built meets) ∷ []) (Build 800) (Built (idle_map base 840 800))
+it_is_met_once : IsStep base (asked ∷ entry 1 (Build 760) (Built meets) ∷ []) (Build 800)
+    (Built (idle_map base 840 800))
 it_is_met_once = (
   idle_map base 840 800,
   IsNextMap-idle base (asked ∷ entry 1 (Build 760) (Built meets) ∷ []) (lit< tt) (λ sid. refl) refl refl,

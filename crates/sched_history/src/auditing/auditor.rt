@@ -52,8 +52,8 @@ impl Auditor {
 
     /// Judges one entry, and takes it where its reply may follow the entries that were taken: every lawful placement
     /// may, whichever a scheduler would take, and the refusal that no place is free where there is none. Its stamp is
-    /// not judged. An entry that is not taken changes nothing; the fault tells why, an entry above [`MAX_WHOLE_HISTORY`]
-    /// before any other. After a lack of memory the entry may be judged again.
+    /// not judged. An entry that is not taken changes nothing; the fault tells why, an entry above
+    /// [`MAX_WHOLE_HISTORY`] before any other. After a lack of memory the entry may be judged again.
     pub fn judge(&mut self, entry: &Entry) -> Result<(), JudgeFault>
         // An entry that is taken is a step, and stands behind those before it.
         ensures taken { OnOk result

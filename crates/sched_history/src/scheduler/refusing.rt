@@ -54,8 +54,8 @@ fn refuse_backoff(
     data_start: u8,
     data_end: u8,
 ) -> Option<Refusal>
-    ensures { result ≡ refused_if (is_wide ranging_start || is_wide ranging_end || is_wide data_start
-        || is_wide data_end) Refusal.BadBackoff }
+    ensures { result ≡ refused_if (is_wide ranging_start || is_wide ranging_end
+        || is_wide data_start || is_wide data_end) Refusal.BadBackoff }
 {
     if ranging_start > MOST_EXPONENT
         || ranging_end > MOST_EXPONENT

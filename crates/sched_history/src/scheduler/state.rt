@@ -220,8 +220,8 @@ impl State {
         ensures lawful { IfOk result (λ p. IsLawfulFrame self.now.config (next_demand self.now)
             self.now.header (least (take self.now.config.receivers self.now.progress)) p) }
         ensures only { IfOk result (λ p. (n : FrameMap)
-            → IsLawfulMap self.now.config (next_demand self.now)
-            self.now.header (least (take self.now.config.receivers self.now.progress)) n → n ≡ p.map) }
+            → IsLawfulMap self.now.config (next_demand self.now) self.now.header
+            (least (take self.now.config.receivers self.now.progress)) n → n ≡ p.map) }
         ensures encodable { IfOk result (λ p. IsWellFormed p.map.wire) }
         ensures config { IfOk result (λ p. p.book.config ≡ self.now.config) }
     {
