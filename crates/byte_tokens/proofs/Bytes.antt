@@ -1,5 +1,6 @@
 -- Bytes of a text that are read one by one.
-use Rattle.std.proofs.Common.{◌≡◌, ◌+◌, ◌*◌, ◌-◌, ◌/◌, ◌%◌, ◌^◌, ◌<◌, ◌≤◌, ℕ, List, [], ◌∷◌, ◌++◌, length, take, drop, get_or}
+use Rattle.std.proofs.Common.{◌≡◌, ◌+◌, ◌*◌, ◌-◌, ◌/◌, ◌%◌, ◌^◌, ◌<◌, ◌≤◌, ℕ, List, [], ◌∷◌, ◌++◌}
+use Rattle.std.proofs.Common.{length, take, drop, get_or}
 use Rattle.std.proofs.Common.{decimal, sym, ap, ◌∙◌, subst, arith, drop-cons, add-one, append_assoc}
 use Rattle.std.proofs.Common.{inl, inr}
 use Rattle.std.proofs.lemmas.List.{take_more, get_or-drop, drop-drop, take-append-drop, length-drop}
@@ -16,6 +17,7 @@ first bytes text at x c same is here some =
     let found : drop at bytes ≡ x ∷ drop (at + 1) bytes = here (subst (λ y. 0 < y) (sym is) some) in
     subst (λ t. drop at t ≡ c ∷ drop (at + 1) t) same (subst (λ y. drop at bytes ≡ y ∷ drop (at + 1) bytes) is found)
 
+-- within a text the byte at a place stands first in what is left there
 pub next_byte : (text : List ℕ) (at : ℕ) → at < length text → drop at text ≡ get_or text at 0 ∷ drop (at + 1) text
 next_byte text at within = rw add-one (drop-cons text at 0 within)
 
@@ -46,6 +48,7 @@ decimal_more n d some digit fits =
     let last : (n * 10 + d) % 10 ≡ d = omega arith in
     decimal_step (n * 10 + d) (omega arith) fits ∙ (λ i. decimal (front i) ++ (48 + last i) ∷ [])
 
+-- a number that is spelled up to a digit of a text is spelled, with that digit, up to the next place
 pub digit_more : (text : List ℕ) (from at n : ℕ) → at < length text → 0 < n → 48 ≤ get_or text at 0
     → get_or text at 0 ≤ 57 → n * 10 + (get_or text at 0 - 48) < 2 ^ 64
     → drop from text ≡ decimal n ++ drop at text
@@ -83,6 +86,7 @@ at_stop text from stop r le is =
     let rest : drop n (drop from text) ≡ 34 ∷ r = drop-drop n from text ∙ ap (λ i. drop i text) place ∙ is in
     sym (take-append-drop n (drop from text)) ∙ ap (λ l. take n (drop from text) ++ l) rest
 
+-- a byte that ends a value is not 0
 pub some_byte : (c : ℕ) → (c ≡ 44) ⊎ ((c ≡ 125) ⊎ (c ≡ 93)) → 0 < c
 some_byte c (inl e) = omega (arith, e)
 some_byte c (inr (inl e)) = omega (arith, e)

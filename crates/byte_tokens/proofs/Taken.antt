@@ -26,6 +26,7 @@ over Value may = refl
 over Comma may = impossible may
 
 module _ (t r : List ℕ) where
+  -- where a value may begin, a brace opens an object
   pub object_opens : (b : Before) → begins_at b ≡ true → t ≡ 123 ∷ r
       → tokens_from b t ≡ begin_object ∷ tokens_from Opening r
   unfolding lex punctuate
@@ -33,6 +34,7 @@ module _ (t r : List ℕ) where
   object_opens Value may is = impossible may
   object_opens Comma may is = rw is refl
 
+  -- where a value may begin, a bracket opens an array
   pub array_opens : (b : Before) → begins_at b ≡ true → t ≡ 91 ∷ r
       → tokens_from b t ≡ begin_array ∷ tokens_from Opening r
   unfolding lex punctuate
@@ -40,6 +42,7 @@ module _ (t r : List ℕ) where
   array_opens Value may is = impossible may
   array_opens Comma may is = rw is refl
 
+  -- where what is open may be closed, a brace closes an object
   pub object_closes : (b : Before) → closes_at b ≡ true → t ≡ 125 ∷ r
       → tokens_from b t ≡ end_object ∷ tokens_from Value r
   unfolding lex punctuate
@@ -47,6 +50,7 @@ module _ (t r : List ℕ) where
   object_closes Value may is = rw is refl
   object_closes Comma may is = impossible may
 
+  -- where what is open may be closed, a bracket closes an array
   pub array_closes : (b : Before) → closes_at b ≡ true → t ≡ 93 ∷ r
       → tokens_from b t ≡ end_array ∷ tokens_from Value r
   unfolding lex punctuate
@@ -54,6 +58,7 @@ module _ (t r : List ℕ) where
   array_closes Value may is = rw is refl
   array_closes Comma may is = impossible may
 
+  -- a comma behind a value is no token
   pub comma_passed : t ≡ 44 ∷ r → tokens_from Comma r ≡ tokens_from Value t
   unfolding lex punctuate
   comma_passed is = rw is refl
@@ -104,7 +109,8 @@ module _ (b : Before) (may : begins_at b ≡ true) (t : List ℕ) (c : ℕ) (q :
   pub text_taken : (s : List ℕ) → escape s ≡ s → t ≡ 34 ∷ (s ++ 34 ∷ (c ∷ q)) → (c ≡ 44) ⊎ ((c ≡ 125) ⊎ (c ≡ 93))
       → tokens_from b t ≡ string s ∷ tokens_from Value (c ∷ q)
   text_taken s same is ended =
-      string_first b s (lex between (c ∷ q)) may (ends_text c q ended) t (ap (lex between) is ∙ lex_quoted s (c ∷ q) same)
+      string_first b s (lex between (c ∷ q)) may (ends_text c q ended) t
+      (ap (lex between) is ∙ lex_quoted s (c ∷ q) same)
 
   -- a key with its colon
   pub key_taken : (s : List ℕ) → escape s ≡ s → t ≡ 34 ∷ (s ++ 34 ∷ (58 ∷ q))

@@ -1,6 +1,7 @@
 //! A reader of tokens.
 
-ghost use Rattle.std.specs.Prelude.{◌≡◌, ◌^◌, ◌<◌, ◌≤◌, ◌∷◌, [], Some, IsTrue, IfSome, option_map, decimal, length, drop};
+ghost use Rattle.std.specs.Prelude.{◌≡◌, ◌^◌, ◌<◌, ◌≤◌, ◌∷◌, [], Some, IsTrue, IfSome, option_map};
+ghost use Rattle.std.specs.Prelude.{decimal, length, drop};
 ghost use Rattle.std.specs.Bool.{MatchBool};
 ghost use Rattle.json.specs.Token.{begin_object, end_object, begin_array, end_array, key, string, number};
 ghost use Rattle.json.specs.Lex.{tokens, between, lex, after_value, punctuate};

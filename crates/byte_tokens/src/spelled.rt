@@ -1,6 +1,7 @@
 //! What is spelled at a place of a text.
 
-ghost use Rattle.std.specs.Prelude.{◌≡◌, ◌+◌, ◌-◌, ◌^◌, ◌<◌, ◌≤◌, ◌⊎◌, ◌∷◌, ◌++◌, length, take, drop, decimal, IsTrue, IfSome};
+ghost use Rattle.std.specs.Prelude.{◌≡◌, ◌+◌, ◌-◌, ◌^◌, ◌<◌, ◌≤◌, ◌⊎◌, ◌∷◌, ◌++◌, length, take};
+ghost use Rattle.std.specs.Prelude.{drop, decimal, IsTrue, IfSome};
 ghost use Rattle.json.specs.Print.{escape};
 
 /// The byte at a place, or 0 at the end.

@@ -52,8 +52,8 @@ impl<T: Journal, C: Calling<T>> CallQueue<T, C> {
         left
     }
 
-    /// Gives the value back and serves the next ticket, as `leave` does. Then it makes the calls that were left with the
-    /// next tickets.
+    /// Gives the value back and serves the next ticket, as `leave` does. Then it makes the calls that were left with
+    /// the next tickets.
     #[inline(always)]
     pub fn leave_and_go_on<R: Wait>(&self, rt: &R, held: Held<T>, value: T) -> Seat<T>
         requires own { held.lock ≡ self.now }

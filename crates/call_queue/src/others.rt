@@ -23,8 +23,8 @@ struct Taken<'a, T: Journal, C: Calling<T>> {
 }
 
 impl<T: Journal, C: Calling<T>> CallQueue<T, C> {
-    // Makes a call by the seat that holds, and leaves. Calls of seats that waited are made here, with a handle of another
-    // type than theirs: so the compiler has two functions, and each is put into the one place that calls it.
+    // Makes a call by the seat that holds, and leaves. Calls of seats that waited are made here, with a handle of
+    // another type than theirs: so the compiler has two functions, and each is put into the one place that calls it.
     #[inline(never)]
     fn turn<R: Wait>(&self, rt: &R, held: Held<T>, value: T, call: C::Call) -> (Seat<T>, C::Reply)
         requires own { held.lock ≡ self.now }

@@ -1,11 +1,11 @@
 //! Where a holder sees who left the ticket that it serves next. No clause tells of it: a sign says only where to look.
 //!
-//! A ticket that was left is made or called up. Its seat puts up a sign, looks once more at the lock, leaves the
-//! ticket, and asks whether the sign is still up; if not, it calls itself up. Whoever serves the ticket leaves the lock,
-//! and then looks for the sign: it takes up what was left, or, if that is not there yet, takes the sign down and calls
-//! up. So either the seat sees that its ticket is served, or the holder sees its sign. At most 64 tickets are in flight,
-//! but a holder may look late, when the word has the sign of a later ticket: so it takes down just the sign that it
-//! found. `checks/leaving` takes these steps in every order.
+//! The call of a ticket that was left is made, or its seat is called up. The seat puts up a sign, looks once more at
+//! the lock, leaves the ticket, and asks whether the sign is still up; if not, it calls itself up. Whoever serves the
+//! ticket leaves the lock, and then looks for the sign: it takes up what was left, or, if that is not there yet, takes
+//! the sign down and calls up. So either the seat sees that its ticket is served, or the holder sees its sign. At most
+//! 64 tickets are in flight, but a holder may look late, when the word has the sign of a later ticket: so it takes down
+//! just the sign that it found. `checks/leaving` takes these steps in every order.
 use std::alloc::Global;
 use std::sync::atomic::AtomicU64;
 use std::sync::atomic::Ordering::SeqCst;

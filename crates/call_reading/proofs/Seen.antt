@@ -57,34 +57,42 @@ module _ (k : List ℕ) (f : Found) where
   is_key : (name : List ℕ) → bytes_eq k name ≡ true → k ≡ name
   is_key name e = (bytes_eq-Decides k name).0 e
 
+  -- the name of the call under the key `call`
   pub name_with : (s : Bor (List ℕ)) → bytes_eq k (codes "call") ≡ true
       → seen_of (record f { name = Some s }) ≡ seen_with k (string s.now) (seen_of f)
   name_with s e = let is : k ≡ codes "call" = is_key (codes "call") e in rw is refl
 
+  -- a flow under the key `flow`
   pub flow_with : (d : Data) (flow : Option FlowSpec) → flow ≡ flow_of d → bytes_eq k (codes "flow") ≡ true
       → seen_of (record f { flow = flow }) ≡ seen_with k d (seen_of f)
   flow_with d flow made e = let is : k ≡ codes "flow" = is_key (codes "flow") e in rw is (rw made refl)
 
+  -- a SID under the key `sid`
   pub sid_with : (n : ℕ) → bytes_eq k (codes "sid") ≡ true
       → seen_of (record f { sid = Some n }) ≡ seen_with k (number (unsigned n)) (seen_of f)
   sid_with n e = let is : k ≡ codes "sid" = is_key (codes "sid") e in rw is refl
 
+  -- a receiver under the key `receiver`
   pub receiver_with : (n : ℕ) → bytes_eq k (codes "receiver") ≡ true
       → seen_of (record f { receiver = Some n }) ≡ seen_with k (number (unsigned n)) (seen_of f)
   receiver_with n e = let is : k ≡ codes "receiver" = is_key (codes "receiver") e in rw is refl
 
+  -- a count of bytes under the key `bytes`
   pub bytes_with : (n : ℕ) → bytes_eq k (codes "bytes") ≡ true
       → seen_of (record f { bytes = Some n }) ≡ seen_with k (number (unsigned n)) (seen_of f)
   bytes_with n e = let is : k ≡ codes "bytes" = is_key (codes "bytes") e in rw is refl
 
+  -- the minislot at which a request was heard under the key `heard`
   pub heard_with : (n : ℕ) → bytes_eq k (codes "heard") ≡ true
       → seen_of (record f { heard = Some n }) ≡ seen_with k (number (unsigned n)) (seen_of f)
   heard_with n e = let is : k ≡ codes "heard" = is_key (codes "heard") e in rw is refl
 
+  -- the minislot before which all was heard under the key `upto`
   pub upto_with : (n : ℕ) → bytes_eq k (codes "upto") ≡ true
       → seen_of (record f { upto = Some n }) ≡ seen_with k (number (unsigned n)) (seen_of f)
   upto_with n e = let is : k ≡ codes "upto" = is_key (codes "upto") e in rw is refl
 
+  -- the minislot of a call under the key `now`
   pub time_with : (n : ℕ) → bytes_eq k (codes "now") ≡ true
       → seen_of (record f { time = Some n }) ≡ seen_with k (number (unsigned n)) (seen_of f)
   time_with n e = let is : k ≡ codes "now" = is_key (codes "now") e in rw is refl

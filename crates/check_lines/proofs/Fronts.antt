@@ -1,5 +1,6 @@
 -- The bytes that were looked at, and what is behind them.
-use Rattle.std.proofs.Common.{◌≡◌, ℕ, ◌+◌, ◌-◌, ◌<◌, ◌≤◌, min, List, [], ◌++◌, length, take, drop, Option, None, Some, Result}
+use Rattle.std.proofs.Common.{◌≡◌, ℕ, ◌+◌, ◌-◌, ◌<◌, ◌≤◌, min, List, [], ◌++◌, length, take, drop}
+use Rattle.std.proofs.Common.{Option, None, Some, Result}
 use Rattle.std.proofs.Common.{refl, sym, ap, subst, ◌∙◌, append_assoc, arith, inl, inr}
 use Rattle.std.specs.Prelude.{◌⊎◌}
 use Rattle.std.specs.Io.KnownBytes.{Consumes, IsAtEnd, Keeps, ReadConsumes, prepend_known}
@@ -22,7 +23,8 @@ Keeps-read (Some text) (Some rest) hand read consumed =
     append_assoc hand read rest ∙ ap (λ (l : List ℕ). hand ++ l) (sym consumed)
 
 -- a read that failed
-pub Keeps-behind : (a b : Option (List ℕ)) (hand : List ℕ) → Keeps a b → Keeps (prepend_known hand a) (prepend_known hand b)
+pub Keeps-behind : (a b : Option (List ℕ)) (hand : List ℕ) → Keeps a b
+    → Keeps (prepend_known hand a) (prepend_known hand b)
 Keeps-behind None b hand keeps = tt
 Keeps-behind (Some text) None hand keeps = absurd keeps
 Keeps-behind (Some text) (Some rest) hand keeps = ap (λ (l : List ℕ). hand ++ l) keeps

@@ -27,7 +27,8 @@ module _ (given : Option (List ℕ) → Type 0) (left : Option (List ℕ)) where
   StopsJournal-memory (Err e) is = λ before has. subst (StopsJournal before left) (sym is) tt
 
 -- what was found behind an opening that was read
-pub FindsEnd-opened : (r : Result JournalReport TextFault) (before left known : Option (List ℕ)) (entries : JournalEntries)
+pub FindsEnd-opened : (r : Result JournalReport TextFault) (before left known : Option (List ℕ))
+    (entries : JournalEntries)
     → IfOk r (λ report. (b : Option (List ℕ)) → HasGiven b known entries → FindsEnd b left report.entries report.end)
     → HasGiven before known entries → IfOk r (λ report. FindsEnd before left report.entries report.end)
 FindsEnd-opened (Ok report) before left known entries finds given = finds before given

@@ -21,7 +21,8 @@ use Rattle.live_command.proofs.OpeningFaults.{opens}
 use Rattle.check_lines.proofs.Fronts.{prepend-none}
 use Rattle.check_lines.specs.declared.opening.Opening.{Opening}
 use Rattle.check_lines.specs.declared.opening.Opening.TheVariants.{Lawful, Faulty}
-use Rattle.check_lines.specs.Opening.{HasTooManyLines, StopsLines, TellsNumbered, FindsOpening, IsOpening, OpensAt, FailsAt}
+use Rattle.check_lines.specs.Opening.{HasTooManyLines, StopsLines, TellsNumbered, FindsOpening}
+use Rattle.check_lines.specs.Opening.{IsOpening, OpensAt, FailsAt}
 
 -- the input has ended behind lines that were taken
 pub TakesLines-ended : (a b c : Option (List ℕ)) (xs : List (List ℕ)) → TakesLines a xs b → HasEnded b c

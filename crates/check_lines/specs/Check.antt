@@ -30,7 +30,8 @@ ChecksAsJournal unread left before after (Opening fault) = ⊥
 ChecksAsJournal unread left before after (Live bad) = ⊥
 
 -- a file was checked as this kind
-abbrev pub ChecksAs : FileKind → Option (List ℕ) → Option (List ℕ) → Option (List ℕ) → Option (List ℕ) → Verdict → Type 0
+abbrev pub ChecksAs : FileKind → Option (List ℕ) → Option (List ℕ) → Option (List ℕ) → Option (List ℕ) → Verdict
+    → Type 0
 ChecksAs kind.Document unread left before after found = ChecksDocument unread left before after found
 ChecksAs kind.Journal unread left before after found = ChecksAsJournal unread left before after found
 ChecksAs kind.Live unread left before after found = ChecksLive unread left before after found

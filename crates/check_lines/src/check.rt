@@ -136,7 +136,8 @@ fn check_as<R: Source, W: Sink>(
 /// lines, in the memory of a scheduler's state and of one line, whatever its length. Which of these it is, its first
 /// 196608 bytes say: the line behind the configuration. Writes what is found: of a document and of a faulty
 /// configuration the line by which the command for it would end; that a journal is legal, or its first line that is
-/// wrong; how many lines of a conversation are bad, and the first 20 of them. Words stand behind each line that is wrong.
+/// wrong; how many lines of a conversation are bad, and the first 20 of them. Words stand behind each line that is
+/// wrong.
 pub fn run_check_any<R: Source, W: Sink>(
     alloc: Global,
     reader: &mut Front<R>,

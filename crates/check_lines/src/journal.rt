@@ -95,8 +95,8 @@ pub(crate) fn read_journal<R: Source>(
     alloc: Global,
     reader: &mut R,
 ) -> Result<JournalReport, TextFault>
-    ensures finds { IfOk result (λ report. FindsEnd (R.remaining reader.old) (R.remaining reader.new)
-        report.entries report.end) }
+    ensures finds { IfOk result (λ report. FindsEnd
+        (R.remaining reader.old) (R.remaining reader.new) report.entries report.end) }
     ensures stops { IfErr result (StopsJournal (R.remaining reader.old) (R.remaining reader.new)) }
     ensures failed { FailsBy TextFault.Input result
         (R.has_failed reader.old) (R.has_failed reader.new) }

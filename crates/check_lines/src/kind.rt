@@ -3,7 +3,8 @@
 ghost use Rattle.std.specs.Prelude.{◌≡◌, option_map, IfOk, IfErr};
 ghost use Rattle.serde_json.specs.View.{view};
 ghost use Rattle.history_reading.specs.Replies.{has};
-ghost use Rattle.check_lines.specs.Kind.{value_in_line, has_config, has_object, kind_behind, kind_of_two, kind_of_front};
+ghost use Rattle.check_lines.specs.Kind.{value_in_line, has_config, has_object, kind_behind};
+ghost use Rattle.check_lines.specs.Kind.{kind_of_two, kind_of_front};
 
 use crate::lines::next_spoken;
 use line_stream::MAX_LINE;

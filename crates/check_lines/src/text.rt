@@ -2,7 +2,8 @@
 
 ghost use Rattle.std.specs.Prelude.{◌≡◌, ◌++◌, Option};
 ghost use Rattle.text_stream.specs.Writing.{Writes};
-ghost use Rattle.check_lines.specs.Text.{text_line, torn_text, good_text, legal_text, end_text, place_text, opening_text};
+ghost use Rattle.check_lines.specs.Text.{text_line, torn_text, good_text, legal_text, end_text};
+ghost use Rattle.check_lines.specs.Text.{place_text, opening_text};
 ghost use Rattle.check_lines.specs.Text.{bad_line_text, bad_text, more_text, talk_text};
 
 use crate::live::MOST;

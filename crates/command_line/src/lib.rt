@@ -97,7 +97,8 @@ fn journal_option<'a>(alloc: Global) -> Arg<'a>
 
 // The command that writes a capture.
 fn pcap_command<'a>(alloc: Global) -> Result<Command<'a>, AllocError>
-    ensures { IfOk result (λ r. IsCommand r (codes "pcap") (codes "mac" ∷ codes "journal" ∷ []) []) }
+    ensures { IfOk result
+        (λ r. IsCommand r (codes "pcap") (codes "mac" ∷ codes "journal" ∷ []) []) }
 {
     let about = "Reads a script from standard input and writes its MAPs as a capture for Wireshark";
     command(alloc, "pcap", about, help::PCAP)
@@ -295,13 +296,17 @@ fn live_command<'a>(alloc: Global) -> Result<Command<'a>, AllocError>
 pub fn commands<'a>(alloc: Global) -> Result<Command<'a>, AllocError>
     ensures { IfOk result (λ r. IsCommand r (codes "mapsched") []
         ((codes "run", codes "history" ∷ codes "journal" ∷ codes "explain" ∷ codes "frames" ∷ [])
-        ∷ (codes "decode", codes "HEX" ∷ codes "draw" ∷ codes "columns" ∷ codes "explain" ∷ codes "frame" ∷ [])
+        ∷ (
+          codes "decode",
+          codes "HEX" ∷ codes "draw" ∷ codes "columns" ∷ codes "explain" ∷ codes "frame" ∷ [],
+        )
         ∷ (codes "draw", codes "from" ∷ codes "count" ∷ codes "journal" ∷ [])
         ∷ (codes "audit", codes "explain" ∷ codes "journal" ∷ [])
         ∷ (codes "report", codes "all" ∷ codes "json" ∷ codes "svg" ∷ codes "journal" ∷ [])
         ∷ (codes "storm", []) ∷ (codes "check", [])
         ∷ (codes "pcap", codes "mac" ∷ codes "journal" ∷ [])
-        ∷ (codes "live", codes "explain" ∷ codes "frames" ∷ codes "journal" ∷ codes "sync" ∷ []) ∷ [])) }
+        ∷ (codes "live", codes "explain" ∷ codes "frames" ∷ codes "journal" ∷ codes "sync" ∷ [])
+        ∷ [])) }
 {
     program(alloc)
         .subcommand(run_command(alloc)?)?

@@ -36,7 +36,8 @@ fn take_entries<R: Source>(
     ensures stops { IfErr result (λ fault. (before : Option (List ℕ)) →
         HasGiven before (R.remaining reader.old) entries.old →
         StopsEntries before (R.remaining reader.new) fault) }
-    ensures failed { FailsBy TextFault.Input result (R.has_failed reader.old) (R.has_failed reader.new) }
+    ensures failed { FailsBy TextFault.Input result
+        (R.has_failed reader.old) (R.has_failed reader.new) }
 {
     let mut taken = Vec::new(alloc);
     for _ in 0..=MAX_DRAWN {
@@ -68,13 +69,16 @@ fn draw_entries<R: Source, W: Sink>(
 
     ensures draws { IfOk result (λ end. (before : Option (List ℕ)) →
         HasGiven before (R.remaining reader.old) entries →
-        DrawnEntries span before (R.remaining reader.new) (W.contents writer.old) (W.contents writer.new) end) }
+        DrawnEntries span before (R.remaining reader.new)
+        (W.contents writer.old) (W.contents writer.new) end) }
     ensures stops { IfErr result (λ fault. (before : Option (List ℕ)) →
         HasGiven before (R.remaining reader.old) entries →
         StopsJournalDrawing before (R.remaining reader.new) fault) }
     ensures quiet { WritesLast result writer.old writer.new }
-    ensures failed_read { TellsFailedRead result (R.has_failed reader.old) (R.has_failed reader.new) }
-    ensures failed_write { (before : Option (List ℕ)) → HasGiven before (R.remaining reader.old) entries →
+    ensures failed_read { TellsFailedRead result
+        (R.has_failed reader.old) (R.has_failed reader.new) }
+    ensures failed_write { (before : Option (List ℕ)) →
+        HasGiven before (R.remaining reader.old) entries →
         TellsFailedWrite result (W.has_failed writer.old) (W.has_failed writer.new) }
 {
     let (taken, end) = match take_entries(alloc, &mut entries, reader) {
@@ -86,9 +90,9 @@ fn draw_entries<R: Source, W: Sink>(
 }
 
 /// Reads a journal and writes the picture of its frames in this span in SVG. An entry that may not follow those before
-/// it ends the journal, and so does a line that stands for nothing: what stands before is drawn. Where the first line is
-/// no lawful configuration nothing is. A picture has at most 16777216 entries, which are kept until it is written; and
-/// nothing is written before another fault than one of output.
+/// it ends the journal, and so does a line that stands for nothing: what stands before is drawn. Where the first line
+/// is no lawful configuration nothing is drawn. A picture has at most 16777216 entries, which are kept until it is
+/// written; and nothing is written before another fault than one of output.
 pub fn draw_journal<R: Source, W: Sink>(
     alloc: Global,
     reader: &mut R,
@@ -101,12 +105,15 @@ pub fn draw_journal<R: Source, W: Sink>(
         (W.contents writer.old) (W.contents writer.new)) }
 
     // Each fault comes under its own condition.
-    ensures stops { IfErr result (StopsJournalDrawing (R.remaining reader.old) (R.remaining reader.new)) }
+    ensures stops { IfErr result (StopsJournalDrawing
+        (R.remaining reader.old) (R.remaining reader.new)) }
     ensures quiet { WritesLast result writer.old writer.new }
 
     // A failed read or write is told where one has failed, and where all went well none did.
-    ensures failed_read { TellsFailedRead result (R.has_failed reader.old) (R.has_failed reader.new) }
-    ensures failed_write { TellsFailedWrite result (W.has_failed writer.old) (W.has_failed writer.new) }
+    ensures failed_read { TellsFailedRead result
+        (R.has_failed reader.old) (R.has_failed reader.new) }
+    ensures failed_write { TellsFailedWrite result
+        (W.has_failed writer.old) (W.has_failed writer.new) }
 {
     match JournalEntries::open(alloc, reader) {
         Ok(Some((config, entries))) => draw_entries(alloc, entries, &config, reader, span, writer),

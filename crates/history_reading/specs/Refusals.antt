@@ -21,8 +21,8 @@ fault_with n = find (λ fault. fault_number fault == n) flow_faults
 -- the refusals that have no value
 abbrev pub plain_refusals : List Refusal
 plain_refusals =
-    BadSid ∷ SidLive ∷ FlowsFull ∷ PeriodicFull ∷ NoPlace ∷ NoFlow ∷ NotAsking ∷ BadReceiver ∷ BadBytes ∷ BadClock ∷ BadLength
-    ∷ ReservesFull ∷ BadBackoff ∷ []
+    BadSid ∷ SidLive ∷ FlowsFull ∷ PeriodicFull ∷ NoPlace ∷ NoFlow ∷ NotAsking ∷ BadReceiver ∷ BadBytes ∷ BadClock
+    ∷ BadLength ∷ ReservesFull ∷ BadBackoff ∷ []
 
 -- the refusals whose value is this minislot
 abbrev pub slot_refusals : ℕ → List Refusal

@@ -27,8 +27,8 @@ use text_stream::{Sink, TextFault, put};
 // The keys of a stamp.
 static STAMP: [&str; 2] = ["seat", "ticket"];
 
-/// Writes an entry: its call, its reply and its stamp. Nothing is said of which of its tokens are written where there is
-/// no memory for all.
+/// Writes an entry: its call, its reply and its stamp. Nothing is said of which of its tokens are written where there
+/// is no memory for all.
 #[tactic(auto, unfolding(crate::specs::HistoryText::entry_data))]
 pub fn put_entry(out: &mut Writer, entry: &Entry) -> Result<(), AllocError>
     requires { IsEncodable entry.now.reply }

@@ -143,6 +143,7 @@ pub in_line-short : {A : Type 0} (stands : List ℕ → Option A) (line : List �
     → in_line stands line ≡ stands line
 in_line-short stands line short = rw (le-ltb MAX_LINE (length line) short) refl
 
+-- the entry behind all others is the last
 pub slice_get-last : (es : List Entry) (e : Entry) → slice_get (es ++ e ∷ []) (length es) ≡ Some e
 slice_get-last [] e = refl
 slice_get-last (x ∷ es) e = slice_get-last es e
@@ -162,9 +163,11 @@ module _ (before mid remaining : Option (List ℕ)) (hand : List ℕ) (c : Confi
 
   module _ (line : List ℕ) (within : IsWithinLine line)
       (taken : Consumes mid (prepend_known hand remaining) (line ++ NEWLINE ∷ [])) where
+    -- one line more came, and nothing behind it
     pub came_line : Came before (prepend_known hand remaining) (so_far.lines ++ line ∷ []) []
     came_line = Came-push before mid (prepend_known hand remaining) so_far.lines so_far.came line within taken
 
+    -- one line more came, and behind it the bytes at hand
     pub came_hand : Came before remaining (so_far.lines ++ line ∷ []) hand
     came_hand = Came-hand before remaining hand (so_far.lines ++ line ∷ []) came_line
 

@@ -37,8 +37,10 @@ pub record MeetsIllegalAt (before remaining : Option (List ℕ)) (old : JournalE
 abbrev pub IsNext : Option (List ℕ) → Option (List ℕ) → JournalEntries → JournalEntries → Next → Type 0
 IsNext before remaining old new (next.Entry entry) = HasGiven before remaining new
 IsNext before remaining old new (next.Illegal place) = MeetsIllegalAt before remaining old place
-IsNext before remaining old new (next.Bad line) = FindsNoEntryIn before remaining old.auditor.config old.auditor.history line
-IsNext before remaining old new (next.End torn) = FindsLegal before remaining old.auditor.config old.auditor.history torn
+IsNext before remaining old new (next.Bad line) =
+    FindsNoEntryIn before remaining old.auditor.config old.auditor.history line
+IsNext before remaining old new (next.End torn) =
+    FindsLegal before remaining old.auditor.config old.auditor.history torn
 
 -- a journal was opened: its first line is this configuration, and nothing was given yet
 pub record HasOpened (before remaining : Option (List ℕ)) (c : Config) (new : JournalEntries) : Type 0 where

@@ -29,10 +29,10 @@ pub enum Next {
     End(u64),
 }
 
-/// The entries of a journal, which are read one by one, each judged as [`sched_history::audit`] judges a list. Each line
-/// is let go of before the next, so its memory is that of an auditor and of one line, whatever the journal's length.
-/// Contracts speak of its lines, that were read and not told, and of its auditor, which has taken the entries that were
-/// given.
+/// The entries of a journal, which are read one by one, each judged as [`sched_history::audit`] judges a list. Each
+/// line is let go of before the next, so its memory is that of an auditor and of one line, whatever the journal's
+/// length. Contracts speak of its lines, which were read and not told, and of its auditor, which has taken the entries
+/// that were given.
 #[derive(Drop)]
 pub struct JournalEntries {
     alloc: Global,
@@ -57,7 +57,8 @@ pub(crate) fn read_opening<R: Source>(
         (untold lines.new (R.remaining reader.new)) c [])) }
     ensures stops { IfErr result
         (StopsJournal (untold lines.old (R.remaining reader.old)) (R.remaining reader.new)) }
-    ensures failed { FailsBy TextFault.Input result (R.has_failed reader.old) (R.has_failed reader.new) }
+    ensures failed { FailsBy TextFault.Input result
+        (R.has_failed reader.old) (R.has_failed reader.new) }
 {
     match lines.next_whole(reader) {
         Ok(Whole::Line) => match opening_in(alloc, lines.line()) {
@@ -80,8 +81,10 @@ impl JournalEntries {
         ensures opened { IfOk result (λ opened. MatchOption opened
             (HasNoOpening (R.remaining reader.old) (R.remaining reader.new))
             (λ it. HasOpened (R.remaining reader.old) (R.remaining reader.new) it.0 it.1)) }
-        ensures stops { IfErr result (StopsJournal (R.remaining reader.old) (R.remaining reader.new)) }
-        ensures failed { FailsBy TextFault.Input result (R.has_failed reader.old) (R.has_failed reader.new) }
+        ensures stops { IfErr result (StopsJournal
+            (R.remaining reader.old) (R.remaining reader.new)) }
+        ensures failed { FailsBy TextFault.Input result
+            (R.has_failed reader.old) (R.has_failed reader.new) }
     {
         let mut lines = Lines::new();
         let config = match read_opening(alloc, &mut lines, reader) {
@@ -118,7 +121,8 @@ impl JournalEntries {
         ensures stops { IfErr result (λ fault. (before : Option (List ℕ)) →
             HasGiven before (R.remaining reader.old) self.old →
             StopsJournal before (R.remaining reader.new) fault) }
-        ensures failed { FailsBy TextFault.Input result (R.has_failed reader.old) (R.has_failed reader.new) }
+        ensures failed { FailsBy TextFault.Input result
+            (R.has_failed reader.old) (R.has_failed reader.new) }
 
         // A line that is told as bad is the one that was read, and is shown where it is not long.
         ensures shows { IfOk result (ShowsBad (untold self.old.lines (R.remaining reader.old))

@@ -1,5 +1,5 @@
-//! The entries of a journal, one after the other, each judged after those before it: in the memory of one line and of an
-//! auditor, however many there are.
+//! The entries of a journal, one after the other, each judged after those before it: in the memory of one line and of
+//! an auditor, however many there are.
 #![tactic(auto)]
 
 mod end;

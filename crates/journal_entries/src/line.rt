@@ -31,7 +31,8 @@ fn lawful_in(value: &Value) -> Option<Checked>
 
 // The configuration of a value that is an opening.
 fn opening_of(value: &Value) -> Option<Checked>
-    ensures { result ≡ if is_document (view value.now) then None else config_under (view value.now) }
+    ensures { result ≡ if is_document (view value.now) then None
+        else config_under (view value.now) }
 {
     if is_document(value) {
         return None;

@@ -47,8 +47,10 @@ impl UnjudgedEntries {
         ensures opened { IfOk result (λ opened. MatchOption opened
             (HasNoOpening (R.remaining reader.old) (R.remaining reader.new))
             (λ it. HasRead (R.remaining reader.old) (R.remaining reader.new) it.1 it.0 [])) }
-        ensures stops { IfErr result (StopsJournal (R.remaining reader.old) (R.remaining reader.new)) }
-        ensures failed { FailsBy TextFault.Input result (R.has_failed reader.old) (R.has_failed reader.new) }
+        ensures stops { IfErr result (StopsJournal
+            (R.remaining reader.old) (R.remaining reader.new)) }
+        ensures failed { FailsBy TextFault.Input result
+            (R.has_failed reader.old) (R.has_failed reader.new) }
     {
         let mut lines = Lines::new();
         match read_opening(alloc, &mut lines, reader) {
@@ -82,7 +84,8 @@ impl UnjudgedEntries {
             (before : Option (List ℕ)) (c : Configuration) (es : List Recorded) →
             HasRead before (R.remaining reader.old) self.old c es →
             StopsJournal before (R.remaining reader.new) fault) }
-        ensures failed { FailsBy TextFault.Input result (R.has_failed reader.old) (R.has_failed reader.new) }
+        ensures failed { FailsBy TextFault.Input result
+            (R.has_failed reader.old) (R.has_failed reader.new) }
     {
         match self.lines.next_whole(reader) {
             Ok(Whole::Line) => {}

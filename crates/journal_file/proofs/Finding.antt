@@ -91,8 +91,9 @@ exact_count text front behind size torn small long parts count =
     count ∙ min-eq_left few
 
 -- where the lines end, what may begin
-may_end : (c : Config) (es : List Entry) (text front behind : List ℕ) (size torn : ℕ) (place : Place) → IsEnd size torn place
-    → size < 2 ^ 64 → size ≡ length text → text ≡ front ++ behind → torn ≡ min (length behind) (2 ^ 64 - 1)
+may_end : (c : Config) (es : List Entry) (text front behind : List ℕ) (size torn : ℕ) (place : Place)
+    → IsEnd size torn place → size < 2 ^ 64 → size ≡ length text → text ≡ front ++ behind
+    → torn ≡ min (length behind) (2 ^ 64 - 1)
     → IsJournal c front es → IsTorn behind → KnownMayBegin place (Some text) c es
 may_end c es text front behind size torn Whole is small long parts count journal torn_is =
     let exact = exact_count text front behind size torn small long parts count in

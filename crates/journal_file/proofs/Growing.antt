@@ -1,5 +1,6 @@
 -- A journal that grows by lines.
-use Rattle.std.proofs.Common.{◌≡◌, ◌⊎◌, ℕ, ◌+◌, ◌-◌, ◌<◌, ◌≤◌, List, [], ◌∷◌, ◌++◌, length, take, refl, sym, ap, ◌∙◌, inl, inr}
+use Rattle.std.proofs.Common.{◌≡◌, ◌⊎◌, ℕ, ◌+◌, ◌-◌, ◌<◌, ◌≤◌, List, [], ◌∷◌, ◌++◌, length, take}
+use Rattle.std.proofs.Common.{refl, sym, ap, ◌∙◌, inl, inr}
 use Rattle.std.proofs.Common.{append_assoc, append-nil, arith, subst, suc}
 use Rattle.std.specs.Prelude.{flat_map}
 use Rattle.std.proofs.lemmas.Bool.{cases_lt}
@@ -109,8 +110,8 @@ are_part [] k = record { count = 0; torn = []; torn_is = inl tt; text_is = take-
 are_part (e ∷ es) k = part-by_place e es k (are_part es) (cases_lt k (length (entry_line e)))
 
 -- the first bytes of the lines of entries behind a journal
-pub IsTornJournal-more : (c : Config) (text new : List ℕ) (before entries : List Entry) (k : ℕ) → IsJournal c text before
-    → new ≡ text ++ take k (flat_map entry_line entries)
+pub IsTornJournal-more : (c : Config) (text new : List ℕ) (before entries : List Entry) (k : ℕ)
+    → IsJournal c text before → new ≡ text ++ take k (flat_map entry_line entries)
     → (n : ℕ) × (end : ℕ) × IsTornJournal c new (before ++ take n entries) end
 IsTornJournal-more c text new before entries k was more =
     let part = are_part entries k in

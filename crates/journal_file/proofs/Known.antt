@@ -29,8 +29,8 @@ append_known_part a b c bytes at n front more =
     ∙ ap (append_known a) (sym (take-add at n bytes))
 
 -- all of the bytes were appended, whatever came of the call behind that
-pub through : {T E : Type 0} (r : Result T E) (old new : Option (List ℕ)) (bytes : List ℕ) → new ≡ append_known old bytes
-    → AppendsFront old new bytes r
+pub through : {T E : Type 0} (r : Result T E) (old new : Option (List ℕ)) (bytes : List ℕ)
+    → new ≡ append_known old bytes → AppendsFront old new bytes r
 through (Ok x) old new bytes is = is
 through (Err e) old new bytes is =
     (length bytes, is ∙ ap (append_known old) (sym (take_all (length bytes) bytes (omega arith))))

@@ -13,7 +13,8 @@ use Rattle.journal_file.specs.declared.place.Place.TheVariants.{NoLine, Torn, Wh
 use Rattle.journal_file.specs.Store.{HasLength, Lacks, cut_known}
 use Rattle.journal_file.specs.Standing.{IsJournal, IsTorn, IsTornJournal}
 use Rattle.journal_file.specs.Place.{MayBegin, KnownStandsFor, KnownMayBegin}
-use Rattle.journal_file.proofs.Growing.{IsJournal-more, IsJournal-begun, IsTornJournal-whole, IsTornJournal-more, opening-front}
+use Rattle.journal_file.proofs.Growing.{IsJournal-more, IsJournal-begun, IsTornJournal-whole}
+use Rattle.journal_file.proofs.Growing.{IsTornJournal-more, opening-front}
 
 -- a file without a line that got what it lacks of the opening's
 pub begun : (c : Config) (n : ℕ) (old : Option (List ℕ)) (opening rest : List ℕ) → opening ≡ opening_line c

@@ -12,8 +12,8 @@ abbrev pub IsNoFront : List ℕ → ℕ → Option (List ℕ) → Type 0
 IsNoFront line n None = Unit {0}
 IsNoFront line n (Some text) = n ≡ length text → (others : List ℕ) → line ≡ text ++ others → others ≡ []
 
--- why a file may refuse: one without a whole line for want of memory, for other bytes than a front of the opening's line,
--- or for a call that fails; one with a torn line for a call that fails; and one behind a failed call for that
+-- why a file may refuse: one without a whole line for want of memory, for other bytes than a front of the opening's
+-- line, or for a call that fails; one with a torn line for a call that fails; and one behind a failed call for that
 abbrev pub MayRefuse : Place → Option (List ℕ) → Config → BeginFault → Type 0
 MayRefuse (place.NoLine n) known c begins.Memory = Unit {0}
 MayRefuse (place.NoLine n) known c begins.Other = IsNoFront (opening_line c) n known

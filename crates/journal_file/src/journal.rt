@@ -111,7 +111,8 @@ impl<S: Store> FileJournal<S> {
             (KnownMayBegin self.new.file.place (S.contents self.new.file.store) config.now)) }
         ensures refused { IfErr result
             (MayRefuse self.old.file.place (S.contents self.old.file.store) config.now) }
-        ensures failed { FailsJustBy BeginFault.Failed result self.old.file.has_failed self.new.file.has_failed }
+        ensures failed { FailsJustBy BeginFault.Failed result
+            self.old.file.has_failed self.new.file.has_failed }
     {
         let Ok(opening) = opening_text(self.alloc, &config.config()) else {
             return Err(BeginFault::Memory);
@@ -137,7 +138,8 @@ impl<S: Store> FileJournal<S> {
             (KnownMayBegin self.new.file.place (S.contents self.new.file.store) c)) }
         ensures refused { IfErr result (λ e. (c : Configuration) →
             MayRefuse self.old.file.place (S.contents self.old.file.store) c e) }
-        ensures failed { FailsJustBy BeginFault.Failed result self.old.file.has_failed self.new.file.has_failed }
+        ensures failed { FailsJustBy BeginFault.Failed result
+            self.old.file.has_failed self.new.file.has_failed }
     {
         self.file.cut(end)?;
         Ok(())
@@ -154,7 +156,8 @@ impl<S: Store> FileJournal<S> {
         ensures err { OnErr result ((c : Configuration) → GrowsInPart
             (KnownStandsFor self.old.file.place (S.contents self.old.file.store) c)
             (KnownStandsFor self.new.file.place (S.contents self.new.file.store) c) entries.now) }
-        ensures failed { FailsJustBy RecordFault.Failed result self.old.file.has_failed self.new.file.has_failed }
+        ensures failed { FailsJustBy RecordFault.Failed result
+            self.old.file.has_failed self.new.file.has_failed }
         ensures synced { OnOk result (self.old.file.is_synced ≡ true →
             S.reached self.new.file.store ≡ S.contents self.new.file.store) }
     {

@@ -53,7 +53,8 @@ impl<S: Store> LineFile<S> {
 
     // Appends bytes, which reach the device too where that is asked for.
     fn append_through(&mut self, bytes: &[u8]) -> Result<(), CallFailed>
-        ensures bytes { AppendsFront (S.contents self.old.store) (S.contents self.new.store) bytes.now result }
+        ensures bytes { AppendsFront
+            (S.contents self.old.store) (S.contents self.new.store) bytes.now result }
         ensures frame { self.new ≡ record self.old { store = self.new.store } }
         ensures reached { OnOk result (self.old.is_synced ≡ true →
             S.reached self.new.store ≡ S.contents self.new.store) }
@@ -64,7 +65,8 @@ impl<S: Store> LineFile<S> {
 
     // Cuts off what stands behind the last whole line, on the device too where that is asked for.
     fn cut_through(&mut self, end: u64) -> Result<(), CallFailed>
-        ensures cuts { CutsOrKeeps (S.contents self.old.store) (S.contents self.new.store) end result }
+        ensures cuts { CutsOrKeeps
+            (S.contents self.old.store) (S.contents self.new.store) end result }
         ensures frame { self.new ≡ record self.old { store = self.new.store } }
         ensures reached { OnOk result (self.old.is_synced ≡ true →
             S.reached self.new.store ≡ S.contents self.new.store) }
@@ -77,7 +79,8 @@ impl<S: Store> LineFile<S> {
     fn settle(&mut self, outcome: Result<(), CallFailed>) -> Result<(), CallFailed>
         ensures same { result ≡ outcome }
         ensures ok { OnOk result (self.new ≡ record self.old { place = Whole }) }
-        ensures err { OnErr result (self.new ≡ record self.old { place = Failed; has_failed = true }) }
+        ensures err { OnErr result
+            (self.new ≡ record self.old { place = Failed; has_failed = true }) }
     {
         if outcome.is_ok() {
             self.place = Place::Whole;
@@ -90,7 +93,8 @@ impl<S: Store> LineFile<S> {
 
     /// Puts whole lines behind those that the file has.
     pub fn put(&mut self, lines: &[u8]) -> Result<(), CallFailed>
-        ensures bytes { AppendsFront (S.contents self.old.store) (S.contents self.new.store) lines.now result }
+        ensures bytes { AppendsFront
+            (S.contents self.old.store) (S.contents self.new.store) lines.now result }
         ensures ok { OnOk result (IsWhole S.contents S.reached self.old self.new) }
         ensures err { OnErr result (IsBroken self.new) }
     {
@@ -100,7 +104,8 @@ impl<S: Store> LineFile<S> {
 
     /// Cuts off what stands behind the last whole line.
     pub fn cut(&mut self, end: u64) -> Result<(), CallFailed>
-        ensures cuts { CutsOrKeeps (S.contents self.old.store) (S.contents self.new.store) end result }
+        ensures cuts { CutsOrKeeps
+            (S.contents self.old.store) (S.contents self.new.store) end result }
         ensures ok { OnOk result (IsWhole S.contents S.reached self.old self.new) }
         ensures err { OnErr result (IsBroken self.new) }
     {

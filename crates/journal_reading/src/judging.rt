@@ -31,7 +31,8 @@ fn judge_entries<R: Source>(
 ) -> Result<Judged, TextFault>
     requires none { entries.auditor.history ≡ [] }
     ensures finds { IfOk result (λ judged. (before : Option (List ℕ)) →
-        HasGiven before (R.remaining reader.old) entries → Finds before (R.remaining reader.new) judged) }
+        HasGiven before (R.remaining reader.old) entries →
+        Finds before (R.remaining reader.new) judged) }
     ensures stops { IfErr result (λ fault. (before : Option (List ℕ)) →
         HasGiven before (R.remaining reader.old) entries →
         StopsJournal before (R.remaining reader.new) fault) }

@@ -1,6 +1,7 @@
 //! Bytes that are read piece by piece until a line ends.
 
-ghost use Rattle.std.specs.Prelude.{◌≡◌, ◌+◌, ◌≤◌, ◌<◌, List, ℕ, [], ◌∷◌, ◌++◌, take, drop, length, IfOk, IfErr, IfSome, Some, None};
+ghost use Rattle.std.specs.Prelude.{◌≡◌, ◌+◌, ◌≤◌, ◌<◌, List, ℕ, [], ◌∷◌, ◌++◌, take, drop, length};
+ghost use Rattle.std.specs.Prelude.{IfOk, IfErr, IfSome, Some, None};
 ghost use Rattle.std.specs.Prelude.{slice_index};
 ghost use Rattle.std.specs.Io.KnownBytes.{prepend_known};
 ghost use Rattle.line_stream.specs.declared.TheConstants.{MAX_LINE, NEWLINE};

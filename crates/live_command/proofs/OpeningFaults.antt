@@ -1,5 +1,6 @@
 -- What an opening says, and its faults.
-use Rattle.std.proofs.Common.{◌≡◌, ℕ, ◌<◌, ◌≤◌, List, [], ◌∷◌, length, Option, None, Some, Result, Ok, Err, refl, ap, subst, sym}
+use Rattle.std.proofs.Common.{◌≡◌, ℕ, ◌<◌, ◌≤◌, List, [], ◌∷◌, length, Option, None, Some, Result}
+use Rattle.std.proofs.Common.{Ok, Err, refl, ap, subst, sym}
 use Rattle.std.proofs.Common.{◌∙◌, inl}
 use Rattle.std.specs.Prelude.{◌≢◌, IfOk, IfErr}
 use Rattle.std.proofs.lemmas.Bool.{le-ltb, lt-ltb}

@@ -130,7 +130,8 @@ abbrev pub EndsGoing : Wording → Machine → Machine → Option (List ℕ) →
     → LiveFault → Type 0
 EndsGoing wording old new unread left before written refuses may stands untouched quiet fault =
     (StopsGoing old.config unread left fault × untouched)
-    ⊎ (GoesUnbegun old unread refuses quiet may fault ⊎ GoesEarly wording old new unread left before written stands fault)
+    ⊎ (GoesUnbegun old unread refuses quiet may fault
+    ⊎ GoesEarly wording old new unread left before written stands fault)
 
 -- The first line is a line of the conversation, and was told
 pub record TellsFirst (unread left : Option (List ℕ)) (hand : AtHand) (told : Told) : Type 0 where

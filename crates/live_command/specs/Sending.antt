@@ -9,7 +9,8 @@ abbrev pub AppendsInPart : Option (List ℕ) → Option (List ℕ) → List ℕ 
 AppendsInPart old new text = (n : ℕ) × Appends old new (take n text)
 
 -- what a writer holds grows by the text, and no write failed; or by the first bytes of it, and then a write failed
-abbrev pub WritesFront : {W T : Type 0} → (W → Option (List ℕ)) → (W → Bool) → W → W → List ℕ → Result T TextFault → Type 0
+abbrev pub WritesFront : {W T : Type 0} → (W → Option (List ℕ)) → (W → Bool) → W → W → List ℕ → Result T TextFault
+    → Type 0
 WritesFront contents has_failed old new text result = MatchResult result
     (λ _. Appends (contents old) (contents new) text × (has_failed new ≡ has_failed old))
     (λ e. (e ≡ Output) × (has_failed new ≡ true) × AppendsInPart (contents old) (contents new) text)

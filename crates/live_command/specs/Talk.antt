@@ -1,5 +1,6 @@
 -- How far a conversation has come, and how it ends.
-use Rattle.std.specs.Prelude.{◌≡◌, ◌⊎◌, ℕ, ◌+◌, ◌-◌, ◌^◌, ◌≤◌, Bool, true, false, List, [], ◌∷◌, ◌++◌, length, Option, None, Some}
+use Rattle.std.specs.Prelude.{◌≡◌, ◌⊎◌, ℕ, ◌+◌, ◌-◌, ◌^◌, ◌≤◌, Bool, true, false, List, [], ◌∷◌}
+use Rattle.std.specs.Prelude.{◌++◌, length, Option, None, Some}
 use Rattle.std.specs.Io.KnownBytes.{Appends, IsAtEnd}
 use Rattle.minislots.specs.declared.config.Config.{Config as Configuration}
 use Rattle.sched_history.specs.declared.reply.Entry.{Entry}
@@ -76,13 +77,14 @@ pub record Conversed (s : Start) (m : Machine) (left written : Option (List ℕ)
     pub stood : stands m.history
 
 -- one line more was answered, and the conversation goes on; or all of them were
-abbrev pub IsTurn : Start → ℕ → Machine → Option (List ℕ) → Option (List ℕ) → (List Entry → Type 0) → List ℕ → Bool → Type 0
+abbrev pub IsTurn : Start → ℕ → Machine → Option (List ℕ) → Option (List ℕ) → (List Entry → Type 0) → List ℕ → Bool
+    → Type 0
 IsTurn s turns m left written stands waits true = Talk s (turns + 1) m left written stands waits
 IsTurn s turns m left written stands waits false = Conversed s m left written stands
 
 -- However a conversation ends, with this whole history, its answers are those to the first lines of the input, and what
--- was written is the first bytes of the texts. The journal stands for a front of the history of the lines that were answered, and has the entry
--- of each answer of which a byte was written
+-- was written is the first bytes of the texts. The journal stands for a front of the history of the lines that were
+-- answered, and has the entry of each answer of which a byte was written
 pub record Stopped (s : Start) (whole : List Entry) (written : Option (List ℕ)) (stands : List Entry → Type 0) : Type 0
   where
     -- lines, of whose answers bytes may have been written

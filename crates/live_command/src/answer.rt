@@ -89,10 +89,12 @@ fn answer_call(
     ensures ok { OnOk result ((answer : Answer)
         × MayGet scheduler.old.config scheduler.old.history call answer
         × (outbox.new ≡ outbox.old ++ answer_line wording answer)
-        × (scheduler.new ≡ record scheduler.old { history = after scheduler.old.history call answer })) }
+        × (scheduler.new
+        ≡ record scheduler.old { history = after scheduler.old.history call answer })) }
     ensures unput { OnErr result ((answer : Answer)
         × MayGet scheduler.old.config scheduler.old.history call answer
-        × (scheduler.new ≡ record scheduler.old { history = after scheduler.old.history call answer })) }
+        × (scheduler.new
+        ≡ record scheduler.old { history = after scheduler.old.history call answer })) }
     ensures err { IfErr result (λ e. e ≡ TextFault.Memory) }
 {
     let answer = make_call(scheduler, call);
@@ -134,8 +136,8 @@ pub fn hear(
     }
 }
 
-/// Answers what was heard of a line: what is said goes behind what waits. Nothing is said where nothing was heard. Where
-/// memory runs out a call is made all the same, and its answer is not among those that wait.
+/// Answers what was heard of a line: what is said goes behind what waits. Nothing is said where nothing was heard.
+/// Where memory runs out a call is made all the same, and its answer is not among those that wait.
 pub(crate) fn answer(
     scheduler: &mut Scheduler,
     outbox: &mut Outbox,
@@ -143,7 +145,8 @@ pub(crate) fn answer(
     wording: Wording,
 ) -> Result<(), TextFault>
     requires { length (kept_of scheduler.old) < scheduler.old.config.calls }
-    ensures ok { OnOk result (AnswersHeard wording heard scheduler.old scheduler.new outbox.old outbox.new) }
+    ensures ok { OnOk result
+        (AnswersHeard wording heard scheduler.old scheduler.new outbox.old outbox.new) }
     ensures unput { OnErr result (SaysOne wording heard scheduler.old scheduler.new) }
     ensures err { IfErr result (λ e. e ≡ TextFault.Memory) }
 {

@@ -43,8 +43,8 @@ pub fn hold<R: Source, W: Sink, J: Journal>(
 
     // A failed read, write or journal is told exactly where one has failed, but that an input which is too long tells
     // nothing of reads; where all went well none did.
-    ensures failed_read { FailsButFor (Text TextFault.Input) (Text TextFault.TooLong) result (R.has_failed reader.old)
-        (R.has_failed reader.new) }
+    ensures failed_read { FailsButFor (Text TextFault.Input) (Text TextFault.TooLong) result
+        (R.has_failed reader.old) (R.has_failed reader.new) }
     ensures failed_write { FailsJustBy (Text TextFault.Output) result (W.has_failed writer.old)
         (W.has_failed writer.new) }
     ensures failed_journal { FailsJustBy Failed result

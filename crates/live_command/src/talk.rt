@@ -37,11 +37,12 @@ fn talk_on<R: Source, W: Sink, J: Journal>(
         (λ _. Conversed s scheduler.new
         (untold lines.new (R.remaining reader.new)) (W.contents writer.new)
         (J.stands_for journal.new s.config))
-        (λ e. Stopped s scheduler.new.history (W.contents writer.new) (J.stands_for journal.new s.config)
+        (λ e. Stopped s scheduler.new.history (W.contents writer.new)
+        (J.stands_for journal.new s.config)
         × StopsTalk s scheduler.new (R.remaining reader.new) (W.contents writer.new)
         (J.stands_for journal.new s.config) e) }
-    ensures failed_read { FailsButFor (Text TextFault.Input) (Text TextFault.TooLong) result (R.has_failed reader.old)
-        (R.has_failed reader.new) }
+    ensures failed_read { FailsButFor (Text TextFault.Input) (Text TextFault.TooLong) result
+        (R.has_failed reader.old) (R.has_failed reader.new) }
     ensures failed_write { FailsJustBy (Text TextFault.Output) result (W.has_failed writer.old)
         (W.has_failed writer.new) }
     ensures failed_journal { FailsJustBy Failed result
@@ -81,11 +82,12 @@ pub(crate) fn talk_from<R: Source, W: Sink, J: Journal>(
         (λ _. Conversed s scheduler.new
         (untold lines.new (R.remaining reader.new)) (W.contents writer.new)
         (J.stands_for journal.new s.config))
-        (λ e. Stopped s scheduler.new.history (W.contents writer.new) (J.stands_for journal.new s.config)
+        (λ e. Stopped s scheduler.new.history (W.contents writer.new)
+        (J.stands_for journal.new s.config)
         × StopsTalk s scheduler.new (R.remaining reader.new) (W.contents writer.new)
         (J.stands_for journal.new s.config) e) }
-    ensures failed_read { FailsButFor (Text TextFault.Input) (Text TextFault.TooLong) result (R.has_failed reader.old)
-        (R.has_failed reader.new) }
+    ensures failed_read { FailsButFor (Text TextFault.Input) (Text TextFault.TooLong) result
+        (R.has_failed reader.old) (R.has_failed reader.new) }
     ensures failed_write { FailsJustBy (Text TextFault.Output) result (W.has_failed writer.old)
         (W.has_failed writer.new) }
     ensures failed_journal { FailsJustBy Failed result
@@ -138,8 +140,8 @@ pub fn converse<R: Source, W: Sink, J: Journal>(
 
     // A failed read, write or journal is told exactly where one has failed, but that an input which is too long tells
     // nothing of reads; where all went well none did.
-    ensures failed_read { FailsButFor (Text TextFault.Input) (Text TextFault.TooLong) result (R.has_failed reader.old)
-        (R.has_failed reader.new) }
+    ensures failed_read { FailsButFor (Text TextFault.Input) (Text TextFault.TooLong) result
+        (R.has_failed reader.old) (R.has_failed reader.new) }
     ensures failed_write { FailsJustBy (Text TextFault.Output) result (W.has_failed writer.old)
         (W.has_failed writer.new) }
     ensures failed_journal { FailsJustBy Failed result

@@ -35,7 +35,8 @@ pub(crate) fn settle<W: Sink, J: Journal>(
         (λ _. Talk s turns scheduler.new left
         (W.contents writer.new) (J.stands_for journal.new s.config) outbox.new
         × J.stands_for journal.new s.config scheduler.new.history)
-        (λ _. Stopped s scheduler.new.history (W.contents writer.new) (J.stands_for journal.new s.config)) }
+        (λ _. Stopped s scheduler.new.history (W.contents writer.new)
+        (J.stands_for journal.new s.config)) }
     ensures settled { OnOk result (outbox.new ≡ []) }
     ensures handed { OnOk result
         (scheduler.new ≡ record scheduler.old { handed = length scheduler.old.history }) }
@@ -64,7 +65,8 @@ fn make_room<W: Sink, J: Journal>(
         MatchResult result
         (λ _. Talk s turns scheduler.new left
         (W.contents writer.new) (J.stands_for journal.new s.config) outbox.new)
-        (λ _. Stopped s scheduler.new.history (W.contents writer.new) (J.stands_for journal.new s.config)) }
+        (λ _. Stopped s scheduler.new.history (W.contents writer.new)
+        (J.stands_for journal.new s.config)) }
     ensures room { OnOk result (length (kept_of scheduler.new) < scheduler.new.config.calls) }
     ensures err { IfErr result IsAnywhere }
     ensures failed_write { FailsJustBy (Text TextFault.Output) result (W.has_failed writer.old)
@@ -100,11 +102,12 @@ fn next_line<R: Source, W: Sink, J: Journal>(
         (TellsOn s turns scheduler.new
         (untold lines.new (R.remaining reader.new)) (W.contents writer.new)
         (J.stands_for journal.new s.config) outbox.new lines.new))
-        (λ e. Stopped s scheduler.new.history (W.contents writer.new) (J.stands_for journal.new s.config)
+        (λ e. Stopped s scheduler.new.history (W.contents writer.new)
+        (J.stands_for journal.new s.config)
         × StopsTalk s scheduler.new (R.remaining reader.new) (W.contents writer.new)
         (J.stands_for journal.new s.config) e) }
-    ensures failed_read { FailsButFor (Text TextFault.Input) (Text TextFault.TooLong) result (R.has_failed reader.old)
-        (R.has_failed reader.new) }
+    ensures failed_read { FailsButFor (Text TextFault.Input) (Text TextFault.TooLong) result
+        (R.has_failed reader.old) (R.has_failed reader.new) }
     ensures failed_write { FailsJustBy (Text TextFault.Output) result (W.has_failed writer.old)
         (W.has_failed writer.new) }
     ensures failed_journal { FailsJustBy Failed result
@@ -138,7 +141,8 @@ fn take_told<W: Sink, J: Journal>(
         (λ _. Talk s (turns + 1) scheduler.new left
         (W.contents writer.new) (J.stands_for journal.new s.config)
         outbox.new)
-        (λ _. Stopped s scheduler.new.history (W.contents writer.new) (J.stands_for journal.new s.config)) }
+        (λ _. Stopped s scheduler.new.history (W.contents writer.new)
+        (J.stands_for journal.new s.config)) }
     ensures err { IfErr result IsAnywhere }
     ensures failed_write { FailsJustBy (Text TextFault.Output) result (W.has_failed writer.old)
         (W.has_failed writer.new) }
@@ -179,7 +183,8 @@ pub(crate) fn take_first<W: Sink, J: Journal>(
         MatchResult result
         (λ _. Talk s 0 scheduler.new left
         (W.contents writer.new) (J.stands_for journal.new s.config) outbox.new)
-        (λ _. Stopped s scheduler.new.history (W.contents writer.new) (J.stands_for journal.new s.config)) }
+        (λ _. Stopped s scheduler.new.history (W.contents writer.new)
+        (J.stands_for journal.new s.config)) }
     ensures err { IfErr result IsAnywhere }
     ensures failed_write { FailsJustBy (Text TextFault.Output) result (W.has_failed writer.old)
         (W.has_failed writer.new) }
@@ -214,11 +219,12 @@ pub(crate) fn take_turn<R: Source, W: Sink, J: Journal>(
         (IsTurn s turns scheduler.new
         (untold lines.new (R.remaining reader.new)) (W.contents writer.new)
         (J.stands_for journal.new s.config) outbox.new)
-        (λ e. Stopped s scheduler.new.history (W.contents writer.new) (J.stands_for journal.new s.config)
+        (λ e. Stopped s scheduler.new.history (W.contents writer.new)
+        (J.stands_for journal.new s.config)
         × StopsTalk s scheduler.new (R.remaining reader.new) (W.contents writer.new)
         (J.stands_for journal.new s.config) e) }
-    ensures failed_read { FailsButFor (Text TextFault.Input) (Text TextFault.TooLong) result (R.has_failed reader.old)
-        (R.has_failed reader.new) }
+    ensures failed_read { FailsButFor (Text TextFault.Input) (Text TextFault.TooLong) result
+        (R.has_failed reader.old) (R.has_failed reader.new) }
     ensures failed_write { FailsJustBy (Text TextFault.Output) result (W.has_failed writer.old)
         (W.has_failed writer.new) }
     ensures failed_journal { FailsJustBy Failed result

@@ -11,7 +11,8 @@ returns-then-first-eq48 c =
     let here = c.byte_at-first.ensures.here (omega arith) in
     let is : drop c.args.from text ≡ 48 ∷ drop (c.args.from + 1) text =
     here ∙ ap (λ y. y ∷ drop (c.args.from + 1) text) c.if-first-eq48.true in
-    (omega arith, omega arith, lit< tt, digit_first (drop c.args.from text) (drop (c.args.from + 1) text) 48 (omega arith) (omega arith) is)
+    let digit = digit_first (drop c.args.from text) (drop (c.args.from + 1) text) 48 (omega arith) (omega arith) is in
+    (omega arith, omega arith, lit< tt, digit)
 
 pub digits-init : goal.digits-init
 digits-init c =
@@ -24,7 +25,8 @@ digits-init c =
       omega arith,
       grind arith,
       omega arith,
-      digit_first (drop c.args.from text) (drop (c.args.from + 1) text) x c.if-first-lt48.false c.if-first-gt57.false here,
+      digit_first (drop c.args.from text) (drop (c.args.from + 1) text) x c.if-first-lt48.false
+          c.if-first-gt57.false here,
     )
 
 pub digits-preserved : goal.digits-preserved

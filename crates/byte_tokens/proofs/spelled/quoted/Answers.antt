@@ -10,7 +10,8 @@ range-requires-clause-start_boundary c some =
     let text = c.args.text.now in
     let bytes = c.as_bytes-bytes.result.now in
     let same = c.as_bytes-bytes.ensures.value in
-    let here = first bytes text c.args.at c.byte_at.result 34 same c.if-byte_at-ne34.false c.byte_at.ensures.here (omega arith) in
+    let here = first bytes text c.args.at c.byte_at.result 34 same c.if-byte_at-ne34.false
+    c.byte_at.ensures.here (omega arith) in
     let there = byte_there text c.args.at 34 here in
     IsCharBoundary-after_ascii text c.args.at c.utf8.text there.0 (omega (arith, there.1))
 
@@ -21,7 +22,8 @@ returns c =
     let same = c.as_bytes-bytes.ensures.value in
     let at = c.args.at in
     let stop = c.plain_end-stop.result in
-    let here = first bytes text at c.byte_at.result 34 same c.if-byte_at-ne34.false c.byte_at.ensures.here (omega arith) in
+    let here = first bytes text at c.byte_at.result 34 same c.if-byte_at-ne34.false c.byte_at.ensures.here
+    (omega arith) in
     let end = first bytes text stop c.byte_at-2.result 34 same c.if-byte_at-ne34-2.false c.byte_at-2.ensures.here
     (omega arith) in
     let there = byte_there text stop 34 end in

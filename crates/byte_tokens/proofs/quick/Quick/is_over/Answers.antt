@@ -7,4 +7,5 @@ use Rattle.byte_tokens.proofs.quick.Quick.is_over.Goals as goal
 pub returns-then-may_close : goal.returns-then-may_close
 returns-then-may_close c end =
     let a = c.self.inside in
-    sym c.self.view_is ∙ none_left a.before (sym c.may_close.ensures ∙ c.if-may_close.true) a.text.now a.at (eqb-true _ _ end)
+    let may = sym c.may_close.ensures ∙ c.if-may_close.true in
+    sym c.self.view_is ∙ none_left a.before may a.text.now a.at (eqb-true _ _ end)

@@ -8,7 +8,8 @@ pub returns : goal.returns
 returns c taken =
     let a = c.self.inside in
     let text = a.text.now in
-    let here = first c.as_bytes.result.now text a.at c.byte_at.result 123 c.as_bytes.ensures.value c.if-byte_at-ne123.false
+    let same = c.as_bytes.ensures.value in
+    let here = first c.as_bytes.result.now text a.at c.byte_at.result 123 same c.if-byte_at-ne123.false
     c.byte_at.ensures.here (omega arith) in
-    sym c.self.view_is
-    ∙ object_opens (drop a.at text) (drop (a.at + 1) text) a.before (sym c.may_begin.ensures ∙ c.if-not-may_begin.false) here
+    let may = sym c.may_begin.ensures ∙ c.if-not-may_begin.false in
+    sym c.self.view_is ∙ object_opens (drop a.at text) (drop (a.at + 1) text) a.before may here

@@ -18,6 +18,7 @@ returns c =
     let left : tokens_from r.1 (drop r.0 text) ≡ punctuate after_value (lex between (drop (a.at + 1) text)) =
     subst (λ t. tokens_from r.1 (drop r.0 t) ≡ punctuate after_value (lex between (drop (a.at + 1) t))) same
     c.behind_value-at.ensures.same in
+    let may = sym c.may_close.ensures ∙ c.if-not-may_close.false in
     sym c.self.view_is
-    ∙ object_closes (drop a.at text) (drop (a.at + 1) text) a.before (sym c.may_close.ensures ∙ c.if-not-may_close.false) here
+    ∙ object_closes (drop a.at text) (drop (a.at + 1) text) a.before may here
     ∙ ap (λ ts. end_object ∷ ts) (sym left)

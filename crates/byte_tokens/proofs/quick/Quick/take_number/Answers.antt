@@ -26,8 +26,8 @@ returns c =
     c.behind_value-at.ensures.same in (
       found.2,
       sym c.self.view_is
-          ∙ number_taken a.before (sym c.may_begin.ensures ∙ c.if-not-may_begin.false) (drop a.at text) x (drop (at + 1) text)
-          n found.2 (spelled ∙ ap (λ l. decimal n ++ l) rest) ended
+          ∙ number_taken a.before (sym c.may_begin.ensures ∙ c.if-not-may_begin.false) (drop a.at text) x
+          (drop (at + 1) text) n found.2 (spelled ∙ ap (λ l. decimal n ++ l) rest) ended
           ∙ ap (λ ts. number (decimal n) ∷ punctuate after_value (lex between ts)) (sym rest)
           ∙ ap (λ ts. number (decimal n) ∷ ts) (sym left),
     )

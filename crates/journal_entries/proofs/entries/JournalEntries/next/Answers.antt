@@ -13,7 +13,8 @@ returns-in-Ok-Long-clause-gives g c = λ before so_far.
     subst (λ n. FindsNoEntryIn before (g.R.Source.remaining c.next_whole.new.reader) c.args.self.now.auditor.config
     c.args.self.now.auditor.history (n + 1))
     (sym c.taken.ensures.value)
-    (FindsNoEntry-long before _ _ c.next_whole.new.self c.args.self.now.auditor.config c.args.self.now.auditor refl so_far told)
+    (FindsNoEntry-long before _ _ c.next_whole.new.self c.args.self.now.auditor.config c.args.self.now.auditor refl
+    so_far told)
 
 pub returns-in-Ok-Torn-clause-gives : goal.returns-in-Ok-Torn-clause-gives
 returns-in-Ok-Torn-clause-gives g c = λ before so_far.
@@ -48,8 +49,8 @@ returns-in-Ok-Illegal-clause-gives g c = λ before so_far.
     let taken = c.taken-in-Ok-Illegal.ensures in
     record {
       entry = meets.entry;
-      found = FindsIllegal-entry before _ _ c.next_whole.new.self c.args.self.now.auditor.config c.args.self.now.auditor refl
-          so_far c.line.result.now told c.line.ensures c.take_line.new.auditor c.taken-in-Ok-Illegal.result meets
+      found = FindsIllegal-entry before _ _ c.next_whole.new.self c.args.self.now.auditor.config c.args.self.now.auditor
+          refl so_far c.line.result.now told c.line.ensures c.take_line.new.auditor c.taken-in-Ok-Illegal.result meets
           taken.value;
       behind = taken.value ∙ ap (λ (p : Past). length p.history) meets.same;
       most = taken.most;
