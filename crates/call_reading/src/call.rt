@@ -111,27 +111,12 @@ fn reserve_call<T: Tree>(value: &T) -> Option<Call>
 fn header_call<T: Tree>(value: &T) -> Option<Call>
     ensures { result ≡ header_call (T.shown value.now) }
 {
-    let (
-        Some(ucd_count),
-        Some(ranging_start),
-        Some(ranging_end),
-        Some(data_start),
-        Some(data_end),
-    ) = (
-        number_u8(value, "ucd_count"),
-        number_u8(value, "ranging_start"),
-        number_u8(value, "ranging_end"),
-        number_u8(value, "data_start"),
-        number_u8(value, "data_end"),
-    ) else {
-        return None;
-    };
     Some(Call::Header {
-        ucd_count,
-        ranging_start,
-        ranging_end,
-        data_start,
-        data_end,
+        ucd_count: number_u8(value, "ucd_count")?,
+        ranging_start: number_u8(value, "ranging_start")?,
+        ranging_end: number_u8(value, "ranging_end")?,
+        data_start: number_u8(value, "data_start")?,
+        data_end: number_u8(value, "data_end")?,
     })
 }
 
