@@ -16,7 +16,8 @@ use Rattle.sched_history.specs.Reserves.{last_map, reserve_by, offers_of, unmet_
 use Rattle.sched_history.specs.Reserves.{reserves_with, asked_for, reserves_then, reserves_after, reserves_of}
 use Rattle.sched_history.specs.Ranging.{reserved_in, offers_by, offers_in, count_alike, LosesNone, LapsesInTime}
 use Rattle.sched_history.proofs.reserves.Counting.{one, count_alike-append, count_young, young-unmet_by}
-use Rattle.sched_history.proofs.reserves.Counting.{fewer-unmet_by, young-aged, young-push, young-new, young-least, young-most, young-now}
+use Rattle.sched_history.proofs.reserves.Counting.{fewer-unmet_by, young-aged, young-push}
+use Rattle.sched_history.proofs.reserves.Counting.{young-new, young-least, young-most, young-now}
 use Rattle.sched_history.proofs.reserves.Counting.{young-later}
 use Rattle.sched_history.proofs.reserves.MetOnce.{count_offer, count_offer-cons}
 
