@@ -19,6 +19,8 @@ use std::alloc::Global;
 use std::fs::File;
 use std::process::ExitCode;
 use std::rt::{Env, Files};
+use std::sync::Wait;
+use std::thread::Threads;
 use std::{env, io};
 use storm_command::storm_input;
 use text_stream::{RunFault, TextFault};
@@ -222,7 +224,10 @@ fn exit_of(rt: &impl Eprint, outcome: Result<bool, RunFault>) -> ExitCode {
 }
 
 // Does what the words of the command line ask for; with no command, runs a script.
-fn answer(rt: &HostRuntime, matches: &ArgMatches) -> ExitCode {
+fn answer<R>(rt: &R, matches: &ArgMatches) -> ExitCode
+where
+    R: Files<File = File> + Input + Print + Eprint + Env + AllocGlobal + Threads + Wait + Sync,
+{
     match matches.subcommand() {
         Some(("decode", decode)) => exit_of(rt, show(rt, decode)),
         Some(("draw", words)) => draw(rt, words),

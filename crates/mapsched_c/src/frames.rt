@@ -45,12 +45,12 @@ fn fault_number(fault: RequestFault) -> u32
 }
 
 // A request in numbers: its kind, its number and its SID.
-fn plain_request(request: Request) -> (u32, u16, u16)
+fn plain_request(request: Request) -> (u32, (u16, u16))
     ensures { result ≡ plain_request request }
 {
     match request {
-        Request::Minislots { number, sid } => (ASKS_MINISLOTS, u16::from(number), sid),
-        Request::Queue { number, sid } => (TELLS_QUEUE, number, sid),
+        Request::Minislots { number, sid } => (ASKS_MINISLOTS, (u16::from(number), sid)),
+        Request::Queue { number, sid } => (TELLS_QUEUE, (number, sid)),
     }
 }
 
@@ -68,7 +68,7 @@ pub extern "C" fn mapsched_request(
 {
     match Request::read(bytes) {
         Ok(request) => {
-            let (asked, units, of) = plain_request(request);
+            let (asked, (units, of)) = plain_request(request);
             *kind = asked;
             *number = units;
             *sid = of;

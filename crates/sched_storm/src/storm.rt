@@ -17,7 +17,7 @@ use crate::tally::{StormFault, Tally, count_maps, is_legal};
 use map_snapshot::Reader;
 use minislots::Checked;
 use sched_history::{Call, MAX_SCRIPTS};
-use shared_sched::{Shared, open};
+use shared_sched::{Closed, Shared, open};
 use std::alloc::{AllocError, Global};
 use std::sync::Wait;
 
@@ -52,21 +52,32 @@ fn close<R: Wait>(
     ensures err { IfErr result (λ fault. ((fault ≡ StormFault.Threads) × (gathered.stopped ≡ true))
         ⊎ ((fault ≡ StormFault.Memory) × (gathered.stopped ≡ false))) }
 {
-    let closed = shared.close(gathered.seats);
-    let newest = read_last(rt, closed.press, reader);
-    if gathered.stopped {
+    let Gathered {
+        seats,
+        unrecorded,
+        held,
+        stopped,
+    } = gathered;
+    let Closed {
+        history,
+        first: _,
+        counts,
+        press,
+    } = shared.close(seats);
+    let newest = read_last(rt, press, reader);
+    if stopped {
         return Err(StormFault::Threads);
     }
-    let maps = count_maps(&closed.history);
-    let legal = is_legal(alloc, checked, &closed.history)?;
+    let maps = count_maps(&history);
+    let legal = is_legal(alloc, checked, &history)?;
     Ok(Tally {
-        history: closed.history,
-        counts: closed.counts,
-        unrecorded: gathered.unrecorded,
+        history,
+        counts,
+        unrecorded,
         maps,
         newest,
         legal,
-        held: gathered.held,
+        held,
     })
 }
 

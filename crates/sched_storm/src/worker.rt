@@ -79,7 +79,7 @@ fn count_calls(script: &[Call]) -> usize
 }
 
 // What a worker gives back.
-fn worked(seat: Seat<Desk>, unrecorded: u64, ended: Ended) -> Worked
+fn gives_back(seat: Seat<Desk>, unrecorded: u64, ended: Ended) -> Worked
     requires { unrecorded < 2 ^ 59 }
     ensures seat { result.seat ≡ seat }
     ensures unrecorded { result.unrecorded ≡ unrecorded }
@@ -112,7 +112,7 @@ pub fn work<R: Starts + Wait, G: Gate>(
     let mut unrecorded = 0;
     while made < calls {
         if let Some(ended) = hindrance(gate, stop, worker, made) {
-            return worked(seat, unrecorded, ended);
+            return gives_back(seat, unrecorded, ended);
         }
         let (next, is_recorded) = make_call(rt, shared, seat, script[made]);
         seat = next;
@@ -122,5 +122,5 @@ pub fn work<R: Starts + Wait, G: Gate>(
         gate.answered(worker, made);
         made += 1;
     }
-    worked(seat, unrecorded, Ended::Done)
+    gives_back(seat, unrecorded, Ended::Done)
 }

@@ -4,9 +4,8 @@ use crate::base::{BASE, checked};
 use flow_book::FlowSpec;
 use minislots::Stamp;
 use sched_history::{Call, Scheduler};
-use sched_report::{LifeNumbers, Reporter, Totals};
+use sched_report::Reporter;
 use std::alloc::AllocGlobal;
-use std::process::Abort;
 use std::test::Fail;
 
 // Two frames, the second with a data grant of 9 minislots; a request to nobody; a frame after others were left out,
@@ -56,27 +55,6 @@ const CALLS: [Call; 9] = [
     Call::Build { now: 2000 },
 ];
 
-// The totals are those of the history.
-fn has_totals(rt: &impl Abort, totals: &Totals) {
-    assert!(rt; totals.frames == 3 && totals.skips == 1);
-    assert!(rt; totals.from == Some(800) && totals.to == Some(2080));
-    let calls = totals.calls;
-    assert!(rt; calls.build == 3 && calls.admit == 3 && calls.ask == 2 && calls.skip == 1);
-    assert!(rt; calls.heard == 0 && calls.remove == 0 && calls.status == 0);
-    let slots = totals.slots;
-    assert!(rt; slots.request == 12 && slots.data_grants == 9 && slots.idle == 93);
-    assert!(rt; slots.unsolicited == 4 && slots.poll == 2 && slots.opportunity == 0);
-}
-
-// The life is that of the flow whose request was served.
-fn is_served(rt: &impl Abort, life: &LifeNumbers) {
-    assert!(rt; life.sid == 17 && life.from == 840 && life.to == 2080 && !life.ended);
-    let sums = life.sums;
-    assert!(rt; sums.asks == 1 && sums.asked == 100 && sums.granted == 100);
-    let delays = sums.delays;
-    assert!(rt; delays.served == 1 && delays.least == Some(53) && delays.greatest == Some(53));
-}
-
 #[test]
 fn the_numbers_of_a_history_are_those_worked_out_by_hand(rt: HostRuntime) -> Result<(), Fail> {
     let config = checked(&rt, BASE);
@@ -89,7 +67,15 @@ fn the_numbers_of_a_history_are_those_worked_out_by_hand(rt: HostRuntime) -> Res
     for entry in scheduler.history() {
         reporter.take(entry)?;
     }
-    has_totals(&rt, &reporter.totals());
+    let totals = reporter.totals();
+    assert!(rt; totals.frames == 3 && totals.skips == 1);
+    assert!(rt; totals.from == Some(800) && totals.to == Some(2080));
+    let calls = totals.calls;
+    assert!(rt; calls.build == 3 && calls.admit == 3 && calls.ask == 2 && calls.skip == 1);
+    assert!(rt; calls.heard == 0 && calls.remove == 0 && calls.status == 0);
+    let slots = totals.slots;
+    assert!(rt; slots.request == 12 && slots.data_grants == 9 && slots.idle == 93);
+    assert!(rt; slots.unsolicited == 4 && slots.poll == 2 && slots.opportunity == 0);
     for (place, count) in reporter.refused().iter().enumerate() {
         assert!(rt;
             *count == u64::from(place == 6),
@@ -97,6 +83,11 @@ fn the_numbers_of_a_history_are_those_worked_out_by_hand(rt: HostRuntime) -> Res
         );
     }
     assert!(rt; reporter.lives() == 3, "three flows were admitted");
-    is_served(&rt, &reporter.life(0));
+    let life = reporter.life(0);
+    assert!(rt; life.sid == 17 && life.from == 840 && life.to == 2080 && !life.ended);
+    let sums = life.sums;
+    assert!(rt; sums.asks == 1 && sums.asked == 100 && sums.granted == 100);
+    let delays = sums.delays;
+    assert!(rt; delays.served == 1 && delays.least == Some(53) && delays.greatest == Some(53));
     Ok(())
 }

@@ -148,21 +148,17 @@ fn tally_of<R: Threads + Wait + Abort + AllocGlobal + Sync>(
     Ok(storm_with(rt, rt.alloc(), config, scripts, gate)?)
 }
 
-// The numbers of a tally: the recorded calls of each worker, those not recorded, and the MAPs.
-fn ends_of(tally: &Tally) -> [u64; 5] {
+// The storm has this tally.
+fn ends_so(rt: &impl Abort, row: Row, tally: &Tally) {
     let counts = &tally.counts;
-    [
+    let ends = [
         counts[0],
         counts[1],
         counts[2],
         tally.unrecorded,
         tally.maps,
-    ]
-}
-
-// The storm has this tally.
-fn ends_so(rt: &impl Abort, row: Row, tally: &Tally) {
-    assert!(rt; ends_of(tally) == row.ends, "{}: the counts", row.what);
+    ];
+    assert!(rt; ends == row.ends, "{}: the counts", row.what);
     assert!(rt;
         tally.held == row.held && tally.legal,
         "{}: who is held",

@@ -204,11 +204,15 @@ fn a_reader_reads_each_build_and_never_one_before_it(rt: HostRuntime) {
     let one = answers(&rt, &shared, one, &mut reader, build, Answer::Map(2));
     let build = Call::Build { now: 840 };
     let zero = answers(&rt, &shared, zero, &mut reader, build, Answer::Map(3));
-    let (build, late) = (
-        Call::Build { now: 881 },
-        Answer::Refused(Refusal::Late(920), 3),
+    let (build, late) = (Call::Build { now: 881 }, Refusal::Late(920));
+    let one = answers(
+        &rt,
+        &shared,
+        one,
+        &mut reader,
+        build,
+        Answer::Refused(late, 3),
     );
-    let one = answers(&rt, &shared, one, &mut reader, build, late);
     let (history, _counts) = close_pair(&rt, shared, zero, one);
     assert!(rt;
         history.len() == 4 && version_read(&mut reader) == 3,

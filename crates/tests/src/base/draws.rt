@@ -4,16 +4,6 @@ ghost use Rattle.std.specs.Prelude.{◌<◌, ◌≤◌};
 
 use flow_book::FlowSpec;
 
-// Parameters of a flow of so many unsolicited grants in an interval.
-fn unsolicited(grants: u8) -> FlowSpec {
-    FlowSpec::Unsolicited {
-        size: 100,
-        interval_us: 10_000,
-        jitter_us: 225,
-        grants,
-    }
-}
-
 /// A fixed sequence of numbers.
 #[derive(Drop)]
 pub struct Draws {
@@ -52,7 +42,12 @@ impl Draws {
         let rate = [0, 64_000, 300_000, 2_000_000][draw];
         let burst = [600, 1_600, 9_000][self.below(3) as usize];
         match self.below(8) {
-            0 => unsolicited([1, 2, 1, 2][draw]),
+            0 => FlowSpec::Unsolicited {
+                size: 100,
+                interval_us: 10_000,
+                jitter_us: 225,
+                grants: [1, 2, 1, 2][draw],
+            },
             1 | 2 => FlowSpec::Polled {
                 interval_us: 5_000,
                 jitter_us: 0,

@@ -43,18 +43,6 @@ fn frames_of(config: &Checked, micros: u32) -> u64
     (config.slots_floor(micros) / u64::from(config.frame())).max(1)
 }
 
-// So many grants of so many minislots in an interval, each within the jitter.
-fn wanted(config: &Checked, interval_us: u32, jitter_us: u32, grants: u64, slots: u64) -> Wanted
-    ensures { 0 < result.interval }
-{
-    Wanted {
-        interval: frames_of(config, interval_us),
-        grants,
-        jitter: config.slots_floor(jitter_us),
-        slots,
-    }
-}
-
 // What these parameters ask for.
 fn wanted_of(config: &Checked, spec: &FlowSpec) -> Wanted
     ensures { 0 < result.interval }
@@ -65,19 +53,28 @@ fn wanted_of(config: &Checked, spec: &FlowSpec) -> Wanted
             interval_us,
             jitter_us,
             grants,
-        } => {
-            let slots = config.slots_for(size);
-            wanted(config, interval_us, jitter_us, u64::from(grants), slots)
-        }
+        } => Wanted {
+            interval: frames_of(config, interval_us),
+            grants: u64::from(grants),
+            jitter: config.slots_floor(jitter_us),
+            slots: config.slots_for(size),
+        },
         FlowSpec::Polled {
             interval_us,
             jitter_us,
             ..
-        } => {
-            let slots = u64::from(config.poll_slots());
-            wanted(config, interval_us, jitter_us, 1, slots)
-        }
-        FlowSpec::BestEffort { .. } => wanted(config, 0, 0, 0, 1),
+        } => Wanted {
+            interval: frames_of(config, interval_us),
+            grants: 1,
+            jitter: config.slots_floor(jitter_us),
+            slots: u64::from(config.poll_slots()),
+        },
+        FlowSpec::BestEffort { .. } => Wanted {
+            interval: 1,
+            grants: 0,
+            jitter: 0,
+            slots: 1,
+        },
     }
 }
 

@@ -159,40 +159,30 @@ fn is_same(one: &Reply, other: &Reply) -> bool {
     }
 }
 
-// The auditor takes no entry that no scheduler records.
-fn judges_as_illegal(rt: &impl Abort, auditor: &mut Auditor) {
+#[test]
+fn what_an_auditor_took_goes_on_as_the_scheduler_does(rt: HostRuntime) {
+    let mut scheduler = scheduler_at_last(&rt);
+    let mut auditor = auditor_at_last(&rt);
+    play(&rt, &mut scheduler, &mut auditor);
     let wrong = Entry {
         stamp: Stamp { seat: 0, ticket: 7 },
         call: Call::Status(17),
         reply: Reply::Removed,
     };
     assert!(rt; matches!(auditor.judge(&wrong), Err(JudgeFault::Illegal)) && auditor.taken() == 7);
-}
-
-// Both schedulers answer the same calls alike.
-fn go_on_alike(rt: &impl Abort, scheduler: &mut Scheduler, resumed: &mut Scheduler) {
+    let mut resumed = resumed_at_last(&rt, auditor);
+    assert!(rt;
+        resumed.history().is_empty() && resumed.recorded() == 7 && resumed.handed_over() == 7
+    );
     for (place, call) in [Call::Status(17), Call::Build { now: 880 }]
         .iter()
         .enumerate()
     {
         let ticket = 7 + place as u64;
-        let one = reply_at_last(rt, scheduler, ticket, *call);
-        let other = reply_at_last(rt, resumed, ticket, *call);
+        let one = reply_at_last(&rt, &mut scheduler, ticket, *call);
+        let other = reply_at_last(&rt, &mut resumed, ticket, *call);
         assert!(rt; is_same(&one, &other), "call {ticket}");
     }
-}
-
-#[test]
-fn what_an_auditor_took_goes_on_as_the_scheduler_does(rt: HostRuntime) {
-    let mut scheduler = scheduler_at_last(&rt);
-    let mut auditor = auditor_at_last(&rt);
-    play(&rt, &mut scheduler, &mut auditor);
-    judges_as_illegal(&rt, &mut auditor);
-    let mut resumed = resumed_at_last(&rt, auditor);
-    assert!(rt;
-        resumed.history().is_empty() && resumed.recorded() == 7 && resumed.handed_over() == 7
-    );
-    go_on_alike(&rt, &mut scheduler, &mut resumed);
     resumed.forget();
     assert!(rt;
         resumed.history().is_empty() && resumed.recorded() == 9 && scheduler.history().len() == 2

@@ -81,34 +81,30 @@ fn is_run_in_order<R: Threads + Wait + Sync + Abort>(rt: &R, alloc: Global, run:
     is_in_order(rt, run, list.as_slice());
 }
 
-// How many entries of each seat a list has.
-fn counts_of(list: &[Stamp]) -> [usize; 64] {
-    let mut counts = [0usize; 64];
-    for stamp in list {
-        if let Some(count) = counts.get_mut(stamp.seat as usize) {
-            *count = count.saturating_add(1);
-        }
-    }
-    counts
-}
-
 // The list of a race has as many entries of each seat as it took turns, and the tickets of all begin with the first,
 // and each is one more than the one before.
 pub(super) fn is_in_order(rt: &impl Abort, run: Race, list: &[Stamp]) {
-    let (threads, first) = (run.threads, run.first);
+    let Race {
+        threads,
+        turns,
+        first,
+    } = run;
     assert!(rt;
-        list.len() == threads.saturating_mul(run.turns),
+        list.len() == threads.saturating_mul(turns),
         "{threads} threads, first {first}"
     );
+    let mut counts = [0usize; 64];
     for (place, stamp) in list.iter().enumerate() {
         let next = first.wrapping_add(place as u64);
         assert!(rt;
             stamp.ticket == next,
             "{threads} threads, first {first}: ticket {next}"
         );
+        if let Some(count) = counts.get_mut(stamp.seat as usize) {
+            *count = count.saturating_add(1);
+        }
     }
-    let counts = counts_of(list);
-    let are_all = counts.iter().take(threads).all(|count| *count == run.turns);
+    let are_all = counts.iter().take(threads).all(|count| *count == turns);
     assert!(rt;
         are_all,
         "{threads} threads, first {first}: the turns of each"

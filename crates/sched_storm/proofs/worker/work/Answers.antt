@@ -50,10 +50,12 @@ returns-in-Some g c =
     (let test = c.loop-made-test.true in let long = c.count_calls-calls.ensures.value in omega (arith, test, long)) in
     let why = subst (λ n. Hinders lacks (holds n so.made) c.in-Some.ended) c.number-worker.ensures.number
     c.in-Some.ensures in
+    let given = c.gives_back.ensures in
     record {
-      worked = has_worked (g.G.Gate.lets_pass gate) c.args.shared.now.config c.args.seat script so.made so.seat
+      worked = rw (given.seat, given.unrecorded, given.ended)
+          (has_worked (g.G.Gate.lets_pass gate) c.args.shared.now.config c.args.seat script so.made so.seat
           so.unrecorded so.invariant.so_far holds lacks c.in-Some.ended so.invariant.within
-          (hindered lacks (holds c.args.seat.number so.made) so.made (length script) c.in-Some.ended below why);
+          (hindered lacks (holds c.args.seat.number so.made) so.made (length script) c.in-Some.ended below why));
     }
 
 pub returns : goal.returns
@@ -64,8 +66,10 @@ returns g c =
     let all : so.made ≡ length script =
     (let test = c.loop-made-test.false in let long = c.count_calls-calls.ensures.value in
     let within = so.invariant.within in omega (arith, test, long, within)) in
+    let given = c.gives_back-2.ensures in
     record {
-      worked = has_worked (g.G.Gate.lets_pass gate) c.args.shared.now.config c.args.seat script so.made so.seat
+      worked = rw (given.seat, given.unrecorded, given.ended)
+          (has_worked (g.G.Gate.lets_pass gate) c.args.shared.now.config c.args.seat script so.made so.seat
           so.unrecorded so.invariant.so_far (g.G.Gate.holds_back gate) g.R.Starts.lacks_thread Done
-          so.invariant.within all;
+          so.invariant.within all);
     }
