@@ -156,7 +156,7 @@ impl Flow {
         if wanted == 0 || u64::from(wanted) > config.bytes_in(room) {
             return false;
         }
-        self.bucket.most(start, wanted) == wanted
+        self.bucket.has(start, wanted)
     }
 
     // Grants the flow, which may be served, the most bytes that it may have. There is room for the grant.
