@@ -32,35 +32,35 @@ within items queue i is lt =
 pub is_eligible-requires-clause-sound : goal.is_eligible-requires-clause-sound
 is_eligible-requires-clause-sound c =
     let items = c.args.flows.now in
-    let i = c.loop-waiting.waiting-index in
+    let i = c.loop-index.index in
     all-item live items (get_or c.args.queue.now i nobody).place c.index-flows-waiting.result
-    (within items c.args.queue.now i c.requires.queue c.loop-waiting-test.true) c.index-flows-waiting.is
+    (within items c.args.queue.now i c.requires.queue c.loop-index-test.true) c.index-flows-waiting.is
     (IsSoundFlow c.args.config.now) c.requires.book.sound.each
 
 pub is_eligible-requires-clause-sums : goal.is_eligible-requires-clause-sums
 is_eligible-requires-clause-sums c =
     let items = c.args.flows.now in
-    let i = c.loop-waiting.waiting-index in
+    let i = c.loop-index.index in
     rw c.index-flows-waiting.is (All-from_recursion (KeepsSums c.args.config.now) items c.requires.book.sums
     (get_or c.args.queue.now i nobody).place c.index-flows-waiting.result
-    (within items c.args.queue.now i c.requires.queue c.loop-waiting-test.true))
+    (within items c.args.queue.now i c.requires.queue c.loop-index-test.true))
 
 pub is_eligible-requires-clause-started : goal.is_eligible-requires-clause-started
 is_eligible-requires-clause-started c =
     let items = c.args.flows.now in
-    let i = c.loop-waiting.waiting-index in
+    let i = c.loop-index.index in
     all-item live items (get_or c.args.queue.now i nobody).place c.index-flows-waiting.result
-    (within items c.args.queue.now i c.requires.queue c.loop-waiting-test.true) c.index-flows-waiting.is
+    (within items c.args.queue.now i c.requires.queue c.loop-index-test.true) c.index-flows-waiting.is
     (HasStartedBy c.args.start) c.requires.started
 
 pub returns-then-is_eligible : goal.returns-then-is_eligible
 returns-then-is_eligible c =
     let items = c.args.flows.now in
     let queue = c.args.queue.now in
-    let i = c.loop-waiting.waiting-index in
+    let i = c.loop-index.index in
     let w = get_or queue i nobody in
     let f = c.index-flows-waiting.result in
-    let lt = c.loop-waiting-test.true in
+    let lt = c.loop-index-test.true in
     let found : slice_get items w.place ≡ Some f =
     slice_get_read items (length items) w.place f refl (within items queue i c.requires.queue lt)
     c.index-flows-waiting.is in
@@ -68,18 +68,18 @@ returns-then-is_eligible c =
     sym (take-append-drop i queue) ∙ ap (λ ws. take i queue ++ ws) (drop_more queue i nobody lt) in
     let next =
     first-next c.args.config.now c.args.start c.args.room items c.requires.book (take i queue) w (drop (i + 1) queue) f
-    found (subst (IsQueue items) split c.requires.queue) c.loop-waiting.invariant
+    found (subst (IsQueue items) split c.requires.queue) c.loop-index.invariant
     (c.is_eligible.ensures.0 c.if-is_eligible.true) in
     rw (slice_get-map live items w.place, found) next
 
-pub loop-waiting-preserved : goal.loop-waiting-preserved
-loop-waiting-preserved c =
+pub loop-index-preserved : goal.loop-index-preserved
+loop-index-preserved c =
     let channel = c.args.config.now in
     let items = c.args.flows.now in
     let queue = c.args.queue.now in
-    let i = c.loop-waiting.waiting-index in
+    let i = c.loop-index.index in
     let w = get_or queue i nobody in
-    let lt = c.loop-waiting-test.true in
+    let lt = c.loop-index-test.true in
     let P = IsPassed channel c.args.start c.args.room items in
     let passed : P w = λ g at may. elim c.else-min-fits.branch [
       | else-min-fits-via-then-min-fits+else-is_eligible v ↦ (
@@ -100,13 +100,13 @@ loop-waiting-preserved c =
           absurd (omega (arith, fits, wants, v.if-min-fits.false)))
     ] in
     subst (AllByRecursion P) (sym (take_more queue i nobody lt))
-    (all-push P (take i queue) w c.loop-waiting.invariant passed)
+    (all-push P (take i queue) w c.loop-index.invariant passed)
 
 pub returns : goal.returns
 returns c =
     let queue = c.args.queue.now in
     let P = IsPassed c.args.config.now c.args.start c.args.room c.args.flows.now in
-    let all : take c.loop-waiting.waiting-index queue ≡ queue = take_all _ _
-    (omega (arith, c.loop-waiting-test.false)) in
+    let all : take c.loop-index.index queue ≡ queue = take_all _ _
+    (omega (arith, c.loop-index-test.false)) in
     none-next c.args.config.now c.args.start c.args.room c.args.flows.now c.requires.book queue c.requires.queue
-    (subst (AllByRecursion P) all c.loop-waiting.invariant)
+    (subst (AllByRecursion P) all c.loop-index.invariant)
