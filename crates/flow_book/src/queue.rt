@@ -90,9 +90,8 @@ pub(crate) fn first_in_turn(
     let fits = config.bytes_in(room);
     for index in 0..queue.len() {
         let waiting = &queue[index];
-        if waiting.wants.min(quantum) <= fits
-            && flows[waiting.place].is_eligible(config, start, room)
-        {
+        let wanted = waiting.wants.min(quantum);
+        if wanted <= fits && flows[waiting.place].may_take(start, wanted as u32) {
             return Some((waiting.place, index));
         }
     }
