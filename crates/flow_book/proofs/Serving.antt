@@ -1,6 +1,7 @@
 -- The first in the queue that may be served is the flow that is served first.
-use Rattle.std.proofs.Common.{◌≡◌, refl, sym, ap, ◌∙◌, ℕ, suc, ◌<◌, ◌≤◌, min, true, ◌⊎◌, inl, inr, Contains}
-use Rattle.std.proofs.Common.{List, [], ◌∷◌, ◌++◌, map, slice_get, Some, arith}
+use Rattle.std.proofs.Common.{◌≡◌, refl, sym, ap, ◌∙◌, ℕ, suc, ◌<◌, ◌≤◌, min, true, nat_eq, IsTrue, ◌↔◌, ◌⊎◌, inl, inr, Contains}
+use Rattle.std.proofs.Common.{List, [], ◌∷◌, ◌++◌, map, slice_get, Some, Bool, arith}
+use Rattle.std.proofs.lemmas.Bool.Decides.{nat_tests}
 use Rattle.std.specs.List.{AllByRecursion}
 use Rattle.std.proofs.lemmas.Option.{slice_get_within, get_or_from_slice_get}
 use Rattle.std.proofs.Math.ListN.{get_or-map}
@@ -8,16 +9,18 @@ use Rattle.std.proofs.lemmas.List.{length-map}
 use Rattle.minislots.specs.declared.config.Config.{Config}
 use Rattle.flow_book.specs.declared.flow.Flow.{Flow}
 use Rattle.flow_book.specs.declared.queue.Waiting.{Waiting}
-use Rattle.flow_book.specs.FlowSpec.{rank_of}
+use Rattle.flow_book.specs.FlowSpec.{rank_of, takes_requests}
 use Rattle.minislots.specs.Config.{IsLawful}
 use Rattle.minislots.specs.Units.{bytes_in}
 use Rattle.minislots.proofs.Bounds.{bounds_of}
-use Rattle.minislots.proofs.UnitLaws.{fits_bytes}
+use Rattle.minislots.proofs.UnitLaws.{fits_bytes, fits_slots}
 use Rattle.flow_book.specs.Flows.{LiveFlow, outstanding}
 use Rattle.flow_book.specs.Choice.{last_start, is_before, IsEligible, IsNext, NoneEligible}
-use Rattle.flow_book.specs.Entry.{live, IsBook, KnowsTurn}
+use Rattle.flow_book.specs.Entry.{live, IsBook, KeepsSums, KnowsTurn}
+use Rattle.flow_book.specs.Bucket.{HaveStartedBy, most_of}
 use Rattle.flow_book.specs.Sids.{AscendBy}
 use Rattle.flow_book.specs.Queue.{IsAt, IsIn, IsQueue}
+use Rattle.flow_book.proofs.Amounts.{eligible-is, bucket-within}
 use Rattle.flow_book.proofs.Turns.{less-first}
 use Rattle.flow_book.proofs.Queues.{all-both, turn-at, knows-at}
 
@@ -70,6 +73,31 @@ pub wanted-fits : (c : Config) (start room : ℕ) (f : LiveFlow) → IsLawful c 
     → min (outstanding f) c.quantum ≤ bytes_in c room
 wanted-fits c start room f lawful may =
     fits_bytes c (bounds_of c lawful).bytes_positive (min (outstanding f) c.quantum) room may.takes.fits
+
+-- a flow that waits for these bytes may be served where they, or the quantum, fit and keep the ceiling
+pub may-is : (c : Config) (start room : ℕ) (f : Flow) (wants wanted : ℕ) (may : Bool) → IsLawful c → KeepsSums c f
+    → HaveStartedBy start f.grants.items → outstanding (live f) ≡ wants → wanted ≡ min wants c.quantum
+    → wanted ≤ bytes_in c room
+    → IsTrue may ↔ (takes_requests f.spec ≡ true) × (0 < wanted) × (most_of f.bucket start wanted ≡ wanted)
+    → IsTrue may ↔ IsEligible c start room (live f)
+may-is c start room f wants wanted may lawful keeps started asks is fits decides =
+    let bounds = bounds_of c lawful in
+    let limits : wanted ≡ min (outstanding (live f)) c.quantum = omega arith in
+    let most = most_of f.bucket start wanted in
+    let within = bucket-within c (live f) f.bucket start room wanted most keeps.bucket started refl in
+    let yes' : IsTrue may → IsEligible c start room (live f) = λ t.
+    let p = decides.0 t in
+    let whole : IsTrue (nat_eq most wanted) = let e : most ≡ wanted = p.2 in grind (arith, nat_tests) in
+    (eligible-is c (live f) start room wanted most p.0 limits p.1
+    (fits_slots c bounds.bytes_positive wanted room p.1 fits) within).0 whole in
+    let back : IsEligible c start room (live f) → IsTrue may = λ able.
+    let some : 0 < wanted = omega (arith, able.waits, bounds.quantum_least) in
+    let whole : IsTrue (nat_eq most wanted) =
+    (eligible-is c (live f) start room wanted most able.serves limits some
+    (fits_slots c bounds.bytes_positive wanted room some fits) within).1 able in
+    let e : most ≡ wanted = grind (arith, nat_tests) in
+    decides.1 (able.serves, some, e) in
+    (yes', back)
 
 module _ (c : Config) (start room : ℕ) (items : List Flow) (are : IsBook c items) where
   -- a place in the queue that may be served is not passed

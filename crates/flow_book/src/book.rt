@@ -12,7 +12,9 @@ ghost use Rattle.flow_book.specs.Book.{IsLive, Ascend, KeepsRoom, room_of, new_f
 ghost use Rattle.flow_book.specs.Book.{with_asked};
 
 use crate::flow::{Flow, Served, first_eligible, reserve_each};
-use crate::queue::{Waiting, copy_of, first_in_turn, follow, leave, make_room, make_way, queue_of};
+use crate::queue::{
+    Waiting, copy_of, first_in_turn, follow, follow_from, leave, make_room, make_way, queue_of,
+};
 use crate::spec::FlowSpec;
 use minislots::Checked;
 use std::alloc::{AllocError, Global};
@@ -204,7 +206,7 @@ impl Book {
         ensures { IsNextSid self.now.config start room self.now.flows result }
     {
         match self.next_place(start, room) {
-            Some(place) => Some(self.sid_at(place)),
+            Some((place, _)) => Some(self.sid_at(place)),
             None => None,
         }
     }
@@ -266,9 +268,9 @@ impl Book {
         ensures other_room { IfSome result (λ s. (other : ℕ)
             → other ≢ s.sid → room_of other self.new.rooms ≡ room_of other self.old.rooms) }
     {
-        let place = self.next_place(start, room)?;
+        let (place, index) = self.next_place(start, room)?;
         let served = self.flows[place].serve(&self.config, start, room);
-        self.is_queued = follow(&mut self.queue, self.is_queued, &self.flows, place);
+        self.is_queued = follow_from(&mut self.queue, self.is_queued, &self.flows, place, index);
         Some(served)
     }
 
@@ -286,18 +288,19 @@ impl Book {
         })
     }
 
-    // The place of the flow that the data grant of [`Book::eligible`] goes to.
-    fn next_place(&self, start: u64, room: u32) -> Option<usize>
+    // The place of the flow that the data grant of [`Book::eligible`] goes to, and where it stands in the queue if that
+    // is known.
+    fn next_place(&self, start: u64, room: u32) -> Option<(usize, usize)>
         requires { AllByRecursion (HasStartedBy start) self.now.flows }
         ensures { MatchOption result (NoneEligible self.now.config self.now.flows start room)
-            (λ place. IsSomeAnd (slice_get self.now.flows place)
+            (λ found. IsSomeAnd (slice_get self.now.flows found.0)
             (IsNext self.now.config self.now.flows start room)) }
     {
         if self.is_queued {
             return first_in_turn(&self.queue, &self.flows, &self.config, start, room);
         }
         match first_eligible(&self.flows, &self.config, start, room) {
-            Some(flow) => place_in(&self.flows, flow.sid),
+            Some(flow) => Some((self.place(flow.sid), 0)),
             None => None,
         }
     }

@@ -1,6 +1,6 @@
 //! The token bucket of a flow under a rate ceiling.
 
-ghost use Rattle.std.specs.Prelude.{◌≡◌, ◌*◌, ◌<◌, ◌≤◌, ◌^◌, [], IsTrue, false};
+ghost use Rattle.std.specs.Prelude.{◌≡◌, ◌*◌, ◌<◌, ◌≤◌, ◌^◌, ◌==◌, [], IsTrue, false};
 ghost use Rattle.flow_book.specs.Bucket.{level_of, most_of, StandsFor, AnswersLevel, AnswersCeiling, HasOneMore};
 
 use minislots::Checked;
@@ -8,7 +8,7 @@ use std::marker::Model;
 
 // The part of a byte in which levels are counted: one bit per second brings 8 of them in a tick of 6.25
 // microseconds.
-const PARTS: u128 = 1_280_000;
+const PARTS: u64 = 1_280_000;
 
 /// What a maximum sustained rate and burst leave to a flow, as the least over all windows of its grants.
 /// It is counted in 1/1280000 bytes: a rate of one bit per second brings one of them in each tick. With a
@@ -48,7 +48,7 @@ impl Bucket {
         ensures since { result.since ≡ 0 }
     {
         let burst = if rate == 0 { 0 } else { burst };
-        let full = PARTS as u64 * u64::from(burst);
+        let full = PARTS * u64::from(burst);
         Bucket {
             per_slot: u64::from(config.ticks()) * u64::from(rate),
             full,
@@ -64,8 +64,19 @@ impl Bucket {
         ensures least { AnswersLevel self.now slot result }
         ensures value { result ≡ level_of self.now slot }
     {
+        u128::from(self.level(slot))
+    }
+
+    // The same level, which is at most what the burst allows.
+    fn level(&self, slot: u64) -> u64
+        requires { self.now.since ≤ slot }
+        ensures { result ≡ level_of self.now slot }
+    {
         let brought = brought(slot - self.since, self.per_slot);
-        u128::from(self.full).min(u128::from(self.level) + brought)
+        if u128::from(self.full - self.level) <= brought {
+            return self.full;
+        }
+        self.level + brought as u64
     }
 
     /// Takes a grant of so many bytes that starts at minislot `slot`, where the grants keep the ceiling with
@@ -80,12 +91,12 @@ impl Bucket {
         if self.per_slot == 0 {
             return true;
         }
-        let level = self.level_at(slot);
-        let wanted = PARTS * u128::from(bytes);
+        let level = self.level(slot);
+        let wanted = PARTS * u64::from(bytes);
         if level < wanted {
             return false;
         }
-        self.level = (level - wanted) as u64;
+        self.level = level - wanted;
         self.since = slot;
         true
     }
@@ -95,11 +106,19 @@ impl Bucket {
         requires { self.now.since ≤ slot }
         ensures { result ≡ most_of self.now slot limit }
     {
-        let level = self.level_at(slot);
-        if self.per_slot == 0 || PARTS * u128::from(limit) <= level {
+        if self.has(slot, limit) {
             return limit;
         }
-        (level as u64 / PARTS as u64) as u32
+        (self.level(slot) / PARTS) as u32
+    }
+
+    // Whether a grant of so many bytes that starts at this minislot keeps the ceiling.
+    pub(crate) fn has(&self, slot: u64, bytes: u32) -> bool
+        requires { self.now.since ≤ slot }
+        ensures { result ≡ (most_of self.now slot bytes == bytes) }
+    {
+        let level = self.level(slot);
+        self.per_slot == 0 || PARTS * u64::from(bytes) <= level
     }
 }
 

@@ -1,7 +1,7 @@
 //! One live flow: what it asked, and what its data grants come to.
 
 ghost use Rattle.std.specs.Prelude.{◌≡◌, ℕ, ◌+◌, ◌-◌, ◌<◌, ◌≤◌, map, length, slice_index_or, IsTrue};
-ghost use Rattle.std.specs.Prelude.{◌↔◌, None, nat_lt, ◌&&◌, MatchOption, IfSome, option_map};
+ghost use Rattle.std.specs.Prelude.{◌↔◌, None, true, nat_lt, ◌&&◌, MatchOption, IfSome, option_map};
 ghost use Rattle.std.specs.Prelude.{option_copied};
 ghost use Rattle.std.specs.List.{AllByRecursion};
 ghost use Rattle.minislots.specs.declared.config.Config.{Config};
@@ -9,7 +9,8 @@ ghost use Rattle.minislots.specs.Config.{IsLawful};
 ghost use Rattle.flow_book.specs.Flows.{granted, outstanding, with_grant};
 ghost use Rattle.flow_book.specs.Choice.{is_before, IsEligible, IsAmount, IsMost, KeepsWith};
 ghost use Rattle.flow_book.specs.Choice.{IsNextOf, HasStartedBy};
-ghost use Rattle.flow_book.specs.Bucket.{HaveStartedBy};
+ghost use Rattle.flow_book.specs.FlowSpec.{takes_requests};
+ghost use Rattle.flow_book.specs.Bucket.{HaveStartedBy, most_of};
 ghost use Rattle.flow_book.specs.Entry.{live, room_in, IsSoundFlow, IsSoundBook, IsCopy, IsTurn, KnowsTurn, KeepsSums};
 ghost use Rattle.flow_book.specs.Book.{KeepsRoom, new_flow};
 ghost use Rattle.flow_book.specs.declared.flow.Flow.{Flow};
@@ -156,7 +157,16 @@ impl Flow {
         if wanted == 0 || u64::from(wanted) > config.bytes_in(room) {
             return false;
         }
-        self.bucket.most(start, wanted) == wanted
+        self.bucket.has(start, wanted)
+    }
+
+    // Whether the flow takes requests, and the ceiling is kept with so many bytes of them at this minislot.
+    pub(crate) fn may_take(&self, start: u64, wanted: u32) -> bool
+        requires { self.now.bucket.since ≤ start }
+        ensures { IsTrue result ↔ (takes_requests self.now.spec ≡ true) × (0 < wanted)
+            × (most_of self.now.bucket start wanted ≡ wanted) }
+    {
+        self.spec.takes_requests() && wanted > 0 && self.bucket.has(start, wanted)
     }
 
     // Grants the flow, which may be served, the most bytes that it may have. There is room for the grant.

@@ -1,6 +1,6 @@
 //! The flows that wait for bytes, in the order in which they are served.
 
-ghost use Rattle.std.specs.Prelude.{◌==◌, nat_lt, position, true, ◌+◌, ◌^◌, insert};
+ghost use Rattle.std.specs.Prelude.{◌==◌, nat_lt, position, true, false, ◌+◌, ◌^◌, insert};
 ghost use Rattle.std.specs.Prelude.{ℕ, ◌≡◌, ◌≢◌, ◌<◌, ◌≤◌, List, remove, slice_index_or, map, length, OnOk, IfOk};
 ghost use Rattle.std.specs.Prelude.{IsSomeAnd, MatchOption, slice_get};
 ghost use Rattle.std.specs.List.{AllByRecursion, position_or_len};
@@ -70,28 +70,29 @@ pub(crate) fn queue_of(alloc: Global, flows: &[Flow]) -> Result<Vec<Waiting>, Al
     Ok(queue)
 }
 
-// The place of the flow that is served first at this minislot, of those in the queue that may be served.
+// The place of the flow that is served first at this minislot, of those in the queue that may be served, and where it
+// stands in the queue.
 pub(crate) fn first_in_turn(
     queue: &[Waiting],
     flows: &[Flow],
     config: &Checked,
     start: u64,
     room: u32,
-) -> Option<usize>
+) -> Option<(usize, usize)>
     requires book { IsBook config.now flows.now }
     requires queue { IsQueue flows.now queue.now }
     requires started { AllByRecursion (HasStartedBy start) (map live flows.now) }
     ensures { MatchOption result (NoneEligible config.now (map live flows.now) start room)
-        (λ place. IsSomeAnd (slice_get (map live flows.now) place)
+        (λ found. IsSomeAnd (slice_get (map live flows.now) found.0)
         (IsNext config.now (map live flows.now) start room)) }
 {
     let quantum = u64::from(config.quantum());
     let fits = config.bytes_in(room);
-    for waiting in queue {
-        if waiting.wants.min(quantum) <= fits
-            && flows[waiting.place].is_eligible(config, start, room)
-        {
-            return Some(waiting.place);
+    for index in 0..queue.len() {
+        let waiting = &queue[index];
+        let wanted = waiting.wants.min(quantum);
+        if wanted <= fits && flows[waiting.place].may_take(start, wanted as u32) {
+            return Some((waiting.place, index));
         }
     }
     None
@@ -149,6 +150,30 @@ fn put_again(queue: &mut Vec<Waiting>, flows: &[Flow], place: usize) -> Result<(
     }
     take_out(queue, place);
     Ok(())
+}
+
+// Moves the flow at this place of a book, which has changed, back to its turn where it stands here in the queue, still
+// waits, and its turn is no earlier. Else nothing changes, and the answer is false.
+fn sink(queue: &mut [Waiting], flows: &[Flow], place: usize, index: usize) -> bool
+    requires book { (c : Config) × IsBook c flows.now }
+    requires within { place < length flows.now }
+    requires queue { (before : List Flow)
+        × AreSameBut place before flows.now × IsQueue before queue.old }
+    ensures moved { result ≡ true → IsQueue flows.now queue.new }
+    ensures same { result ≡ false → queue.new ≡ queue.old }
+    ensures len { length queue.new ≡ length queue.old }
+{
+    let flow = &flows[place];
+    let wants = flow.outstanding();
+    let turn = flow.turn;
+    if wants == 0 || index >= queue.len() {
+        return false;
+    }
+    if queue[index].place != place || turn < queue[index].turn {
+        return false;
+    }
+    move_back(queue, index, Waiting { turn, wants, place });
+    true
 }
 
 // Takes the flow at this place out of the queue, where it is in it.
@@ -241,4 +266,24 @@ pub(crate) fn follow(
     ensures { result ≡ true → IsQueue flows.now queue.new.items }
 {
     is_queued && put_again(queue, flows, place).is_ok()
+}
+
+// The same, where the flow most likely stands here in the queue.
+pub(crate) fn follow_from(
+    queue: &mut Vec<Waiting>,
+    is_queued: bool,
+    flows: &[Flow],
+    place: usize,
+    index: usize,
+) -> bool
+    requires book { (c : Config) × IsBook c flows.now }
+    requires within { place < length flows.now }
+    requires queue { is_queued ≡ true → (before : List Flow)
+        × AreSameBut place before flows.now × IsQueue before queue.old.items }
+    ensures { result ≡ true → IsQueue flows.now queue.new.items }
+{
+    if is_queued && sink(queue, flows, place, index) {
+        return true;
+    }
+    follow(queue, is_queued, flows, place)
 }

@@ -1,5 +1,5 @@
 -- Each that is gone through is asked whether its flow may be served.
-use Rattle.std.proofs.Common.{◌≡◌, ℕ, ◌+◌, ◌<◌, refl, sym, ap, ◌∙◌, subst, take, drop, ◌++◌, ◌∷◌, length, get_or}
+use Rattle.std.proofs.Common.{◌≡◌, ℕ, ◌+◌, ◌<◌, refl, sym, ap, ◌∙◌, subst, map, take, drop, ◌++◌, ◌∷◌, length, get_or}
 use Rattle.std.proofs.Common.{slice_get}
 use Rattle.std.proofs.Common.{List, Some, true, false, arith}
 use Rattle.std.specs.List.{AllByRecursion}
@@ -10,15 +10,17 @@ use Rattle.flow_book.specs.declared.flow.Flow.{Flow}
 use Rattle.flow_book.specs.declared.queue.Waiting.{Waiting}
 use Rattle.flow_book.specs.Flows.{outstanding}
 use Rattle.flow_book.specs.Choice.{HasStartedBy, IsEligible}
-use Rattle.flow_book.specs.Entry.{live, IsSoundFlow, KeepsSums}
+use Rattle.flow_book.specs.Entry.{live, IsBook, KeepsSums}
+use Rattle.flow_book.specs.Bucket.{HaveStartedBy}
+use Rattle.minislots.specs.declared.config.Config.{Config}
 use Rattle.flow_book.specs.Queue.{IsAt, IsQueue}
 use Rattle.flow_book.proofs.Order.{all-push}
 use Rattle.flow_book.proofs.Queues.{at-within, wants-at}
-use Rattle.flow_book.proofs.Serving.{IsPassed, first-next, none-next, wanted-fits}
+use Rattle.flow_book.proofs.Serving.{IsPassed, first-next, none-next, wanted-fits, may-is}
 use Rattle.flow_book.proofs.Steps.{all-item}
 use Rattle.flow_book.proofs.queue.first_in_turn.Goals as goal
-use Rattle.flow_book.proofs.queue.first_in_turn.Goals.{else-min-fits-via-else-min-fits}
-use Rattle.flow_book.proofs.queue.first_in_turn.Goals.{else-min-fits-via-then-min-fits+else-is_eligible}
+use Rattle.flow_book.proofs.queue.first_in_turn.Goals.{else-wanted-fits-via-else-wanted-fits}
+use Rattle.flow_book.proofs.queue.first_in_turn.Goals.{else-wanted-fits-via-then-wanted-fits+else-may_take}
 
 -- the one at a place of the queue, and that its own place is one of the flows'
 abbrev nobody : Waiting
@@ -29,84 +31,99 @@ within : (items : List Flow) (queue : List Waiting) (i : ℕ) → IsQueue items 
 within items queue i is lt =
     at-within items (get_or queue i nobody) (All-from_recursion (IsAt items) queue is.each i nobody lt)
 
-pub is_eligible-requires-clause-sound : goal.is_eligible-requires-clause-sound
-is_eligible-requires-clause-sound c =
-    let items = c.args.flows.now in
-    let i = c.loop-waiting.waiting-index in
-    all-item live items (get_or c.args.queue.now i nobody).place c.index-flows-waiting.result
-    (within items c.args.queue.now i c.requires.queue c.loop-waiting-test.true) c.index-flows-waiting.is
-    (IsSoundFlow c.args.config.now) c.requires.book.sound.each
+-- the flow of one in the queue keeps its sums, and its grants have started
+module _ (channel : Config) (items : List Flow) (queue : List Waiting) (start i : ℕ) (f : Flow)
+    (are : IsBook channel items) (is : IsQueue items queue) (lt : i < length queue)
+    (at : f ≡ get_or items (get_or queue i nobody).place f) where
+  keeps : KeepsSums channel f
+  keeps =
+      subst (KeepsSums channel) (sym at) (All-from_recursion (KeepsSums channel) items are.sums
+      (get_or queue i nobody).place f (within items queue i is lt))
 
-pub is_eligible-requires-clause-sums : goal.is_eligible-requires-clause-sums
-is_eligible-requires-clause-sums c =
-    let items = c.args.flows.now in
-    let i = c.loop-waiting.waiting-index in
-    rw c.index-flows-waiting.is (All-from_recursion (KeepsSums c.args.config.now) items c.requires.book.sums
-    (get_or c.args.queue.now i nobody).place c.index-flows-waiting.result
-    (within items c.args.queue.now i c.requires.queue c.loop-waiting-test.true))
+  started : AllByRecursion (HasStartedBy start) (map live items) → HaveStartedBy start f.grants.items
+  started all =
+      all-item live items (get_or queue i nobody).place f (within items queue i is lt) at (HasStartedBy start) all
 
-pub is_eligible-requires-clause-started : goal.is_eligible-requires-clause-started
-is_eligible-requires-clause-started c =
-    let items = c.args.flows.now in
-    let i = c.loop-waiting.waiting-index in
-    all-item live items (get_or c.args.queue.now i nobody).place c.index-flows-waiting.result
-    (within items c.args.queue.now i c.requires.queue c.loop-waiting-test.true) c.index-flows-waiting.is
-    (HasStartedBy c.args.start) c.requires.started
+  waits : slice_get items (get_or queue i nobody).place ≡ Some f → outstanding (live f) ≡ (get_or queue i nobody).wants
+  waits found =
+      wants-at items (get_or queue i nobody) f (All-from_recursion (IsAt items) queue is.each i nobody lt) found
 
-pub returns-then-is_eligible : goal.returns-then-is_eligible
-returns-then-is_eligible c =
-    let items = c.args.flows.now in
+pub may_take-requires : goal.may_take-requires
+may_take-requires c =
     let queue = c.args.queue.now in
-    let i = c.loop-waiting.waiting-index in
-    let w = get_or queue i nobody in
+    let items = c.args.flows.now in
+    let i = c.loop-index.index in
     let f = c.index-flows-waiting.result in
-    let lt = c.loop-waiting-test.true in
-    let found : slice_get items w.place ≡ Some f =
-    slice_get_read items (length items) w.place f refl (within items queue i c.requires.queue lt)
-    c.index-flows-waiting.is in
-    let split : queue ≡ take i queue ++ w ∷ drop (i + 1) queue =
-    sym (take-append-drop i queue) ∙ ap (λ ws. take i queue ++ ws) (drop_more queue i nobody lt) in
-    let next =
-    first-next c.args.config.now c.args.start c.args.room items c.requires.book (take i queue) w (drop (i + 1) queue) f
-    found (subst (IsQueue items) split c.requires.queue) c.loop-waiting.invariant
-    (c.is_eligible.ensures.0 c.if-is_eligible.true) in
-    rw (slice_get-map live items w.place, found) next
+    let at = c.index-flows-waiting.is in
+    let lt = c.loop-index-test.true in
+    (keeps c.args.config.now items queue c.args.start i f c.requires.book c.requires.queue lt at).bucket.since
+    c.args.start
+    (started c.args.config.now items queue c.args.start i f c.requires.book c.requires.queue lt at c.requires.started)
 
-pub loop-waiting-preserved : goal.loop-waiting-preserved
-loop-waiting-preserved c =
+pub returns-then-may_take : goal.returns-then-may_take
+returns-then-may_take c =
     let channel = c.args.config.now in
     let items = c.args.flows.now in
     let queue = c.args.queue.now in
-    let i = c.loop-waiting.waiting-index in
+    let i = c.loop-index.index in
     let w = get_or queue i nobody in
-    let lt = c.loop-waiting-test.true in
+    let f = c.index-flows-waiting.result in
+    let at = c.index-flows-waiting.is in
+    let lt = c.loop-index-test.true in
+    let found : slice_get items w.place ≡ Some f =
+    slice_get_read items (length items) w.place f refl (within items queue i c.requires.queue lt) at in
+    let split : queue ≡ take i queue ++ w ∷ drop (i + 1) queue =
+    sym (take-append-drop i queue) ∙ ap (λ ws. take i queue ++ ws) (drop_more queue i nobody lt) in
+    let able = may-is channel c.args.start c.args.room f w.wants c.min-wanted.result c.may_take.result
+    c.quantum.ensures.lawful (keeps channel items queue c.args.start i f c.requires.book c.requires.queue lt at)
+    (started channel items queue c.args.start i f c.requires.book c.requires.queue lt at c.requires.started)
+    (waits channel items queue c.args.start i f c.requires.book c.requires.queue lt at found)
+    (omega arith) (omega arith) c.may_take.ensures in
+    let next =
+    first-next channel c.args.start c.args.room items c.requires.book (take i queue) w (drop (i + 1) queue) f
+    found (subst (IsQueue items) split c.requires.queue) c.loop-index.invariant (able.0 c.if-may_take.true) in
+    rw (slice_get-map live items w.place, found) next
+
+pub loop-index-preserved : goal.loop-index-preserved
+loop-index-preserved c =
+    let channel = c.args.config.now in
+    let items = c.args.flows.now in
+    let queue = c.args.queue.now in
+    let i = c.loop-index.index in
+    let w = get_or queue i nobody in
+    let lt = c.loop-index-test.true in
     let P = IsPassed channel c.args.start c.args.room items in
-    let passed : P w = λ g at may. elim c.else-min-fits.branch [
-      | else-min-fits-via-then-min-fits+else-is_eligible v ↦ (
+    let passed : P w = λ g at' may. elim c.else-wanted-fits.branch [
+      | else-wanted-fits-via-then-wanted-fits+else-may_take v ↦ (
           let f = v.index-flows-waiting.result in
+          let at = v.index-flows-waiting.is in
           let found : slice_get items w.place ≡ Some f =
-          slice_get_read items (length items) w.place f refl (within items queue i c.requires.queue lt)
-          v.index-flows-waiting.is in
-          let e : Some g ≡ Some f = sym at ∙ found in
+          slice_get_read items (length items) w.place f refl (within items queue i c.requires.queue lt) at in
+          let e : Some g ≡ Some f = sym at' ∙ found in
           let equal : g ≡ f = cc in
-          let t : v.is_eligible.result ≡ true =
-          v.is_eligible.ensures.1 (subst (λ h. IsEligible channel c.args.start c.args.room (live h)) equal may) in
-          let no' : v.is_eligible.result ≡ false = v.if-is_eligible.false in
+          let able = may-is channel c.args.start c.args.room f w.wants c.min-wanted.result v.may_take.result
+          c.quantum.ensures.lawful (keeps channel items queue c.args.start i f c.requires.book c.requires.queue lt at)
+          (started channel items queue c.args.start i f c.requires.book c.requires.queue lt at c.requires.started)
+          (waits channel items queue c.args.start i f c.requires.book c.requires.queue lt at found)
+          (omega arith) (omega arith) v.may_take.ensures in
+          let t : v.may_take.result ≡ true =
+          able.1 (subst (λ h. IsEligible channel c.args.start c.args.room (live h)) equal may) in
+          let no' : v.may_take.result ≡ false = v.if-may_take.false in
           absurd (cc))
-      | else-min-fits-via-else-min-fits v ↦ (
+      | else-wanted-fits-via-else-wanted-fits v ↦ (
           let stands = All-from_recursion (IsAt items) queue c.requires.queue.each i nobody lt in
-          let wants : outstanding (live g) ≡ w.wants = wants-at items w g stands at in
+          let wants : outstanding (live g) ≡ w.wants = wants-at items w g stands at' in
           let fits = wanted-fits channel c.args.start c.args.room (live g) c.quantum.ensures.lawful may in
-          absurd (omega (arith, fits, wants, v.if-min-fits.false)))
+          absurd (omega (arith, fits, wants, v.if-wanted-fits.false)))
     ] in
     subst (AllByRecursion P) (sym (take_more queue i nobody lt))
-    (all-push P (take i queue) w c.loop-waiting.invariant passed)
+    (all-push P (take i queue) w c.loop-index.invariant passed)
 
 pub returns : goal.returns
 returns c =
     let queue = c.args.queue.now in
     let P = IsPassed c.args.config.now c.args.start c.args.room c.args.flows.now in
-    let all : take c.loop-waiting.waiting-index queue ≡ queue = take_all _ _
-    (omega (arith, c.loop-waiting-test.false)) in
+    let all : take c.loop-index.index queue ≡ queue = take_all _ _
+    (omega (arith, c.loop-index-test.false)) in
     none-next c.args.config.now c.args.start c.args.room c.args.flows.now c.requires.book queue c.requires.queue
-    (subst (AllByRecursion P) all c.loop-waiting.invariant)
+    (subst (AllByRecursion P) all c.loop-index.invariant)

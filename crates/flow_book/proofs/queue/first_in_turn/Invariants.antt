@@ -4,5 +4,5 @@ use Rattle.std.specs.List.{AllByRecursion}
 use Rattle.flow_book.proofs.Serving.{IsPassed}
 use Rattle.flow_book.proofs.queue.first_in_turn.Given as goal
 
-abbrev pub invariant-loop-waiting : goal.invariant-loop-waiting
-invariant-loop-waiting l = AllByRecursion (IsPassed l.config l.start l.room l.flows) (take l.waiting-index l.queue)
+abbrev pub invariant-loop-index : goal.invariant-loop-index
+invariant-loop-index l = AllByRecursion (IsPassed l.config l.start l.room l.flows) (take l.index l.queue)

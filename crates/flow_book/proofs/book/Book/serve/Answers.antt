@@ -64,8 +64,8 @@ serve-served-requires-clause-space c =
     let here = room-placed f.sid items c.in_ok-place.place f is.stands in
     omega (arith, some, here)
 
-pub follow-self-inside-requires-clause-book : goal.follow-self-inside-requires-clause-book
-follow-self-inside-requires-clause-book c =
+pub follow_from-self-inside-requires-clause-book : goal.follow_from-self-inside-requires-clause-book
+follow_from-self-inside-requires-clause-book c =
     let config = c.self.inside.config in
     let items = c.self.inside.flows.items in
     let f = c.index_mut.result.now in
@@ -78,8 +78,8 @@ follow-self-inside-requires-clause-book c =
           c.serve-served.ensures.amount c.serve-served.ensures.sums),
     )
 
-pub follow-self-inside-requires-clause-within : goal.follow-self-inside-requires-clause-within
-follow-self-inside-requires-clause-within c =
+pub follow_from-self-inside-requires-clause-within : goal.follow_from-self-inside-requires-clause-within
+follow_from-self-inside-requires-clause-within c =
     let config = c.self.inside.config in
     let items = c.self.inside.flows.items in
     let f = c.index_mut.result.now in
@@ -90,8 +90,8 @@ follow-self-inside-requires-clause-within c =
     let same = length-set items c.in_ok-place.place c.serve-served.new.self in
     omega (arith, is.stands.within, long, same)
 
-pub follow-self-inside-requires-clause-queue : goal.follow-self-inside-requires-clause-queue
-follow-self-inside-requires-clause-queue c =
+pub follow_from-self-inside-requires-clause-queue : goal.follow_from-self-inside-requires-clause-queue
+follow_from-self-inside-requires-clause-queue c =
     let config = c.self.inside.config in
     let items = c.self.inside.flows.items in
     let f = c.index_mut.result.now in
@@ -116,7 +116,7 @@ invariant_of-self c =
       book = served-book config items c.args.start c.args.room c.in_ok-place.place f c.serve-served.result.bytes
           c.serve-served.new.self c.self.invariant.book is c.serve-served.ensures.live c.serve-served.ensures.amount
           c.serve-served.ensures.sums;
-      order = λ known. rw c.deref.ensures.value at (c.follow-self-inside.ensures known);
+      order = λ known. rw c.deref.ensures.value at (c.follow_from-self-inside.ensures known);
     }
 
 pub returns-clause-next : goal.returns-clause-next

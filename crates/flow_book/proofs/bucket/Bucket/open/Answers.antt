@@ -6,6 +6,6 @@ use Rattle.flow_book.proofs.bucket.Bucket.open.Goals as goal
 
 pub invariant_of-result : goal.invariant_of-result
 invariant_of-result c =
-    let low = slow c.from-2.result c.from-3.result
+    let low = slow c.from.result c.from-2.result
     (omega (arith, (bounds_of _ c.ticks.ensures.lawful).ticks_most)) (omega arith) in
     (low, omega arith, omega arith)

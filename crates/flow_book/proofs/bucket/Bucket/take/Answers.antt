@@ -8,7 +8,7 @@ pub returns-then-level-wanted-clause-exact : goal.returns-then-level-wanted-clau
 returns-then-level-wanted-clause-exact c = λ channel rate burst grants stands started.
     let some : 0 < c.args.self.now.per_slot = rw (← c.self.view_is) (omega arith) in
     let less : level_of c.args.self.now c.args.slot < 1280000 * c.args.bytes =
-    omega (arith, c.level_at-level.ensures.value) in (
+    omega (arith, c.level-level.ensures) in (
       (λ no'. absurd cc),
       (λ kept.
           let has = has-more channel rate burst c.args.self.now grants stands c.args.slot c.args.bytes started some
@@ -19,7 +19,7 @@ returns-then-level-wanted-clause-exact c = λ channel rate burst grants stands s
 pub returns-clause-exact : goal.returns-clause-exact
 returns-clause-exact c = λ channel rate burst grants stands started.
     let enough : 1280000 * c.args.bytes ≤ level_of c.args.self.now c.args.slot =
-    omega (arith, c.level_at-level.ensures.value) in (
+    omega (arith, c.level-level.ensures) in (
       (λ yes'. kept-more channel rate burst c.args.self.now grants stands c.args.slot c.args.bytes started enough),
       (λ kept. refl),
     )
@@ -27,10 +27,10 @@ returns-clause-exact c = λ channel rate burst grants stands started.
 pub returns-clause-taken : goal.returns-clause-taken
 returns-clause-taken c = λ yes' channel rate burst grants stands started.
     let enough : 1280000 * c.args.bytes ≤ level_of c.args.self.now c.args.slot =
-    omega (arith, c.level_at-level.ensures.value) in
+    omega (arith, c.level-level.ensures) in
     let all = spent-stands channel rate burst c.args.self.now grants stands c.args.slot c.args.bytes started enough in
     rw (
-      c.level_at-level.ensures.value,
+      c.level-level.ensures,
       c.from-wanted.ensures,
       ap (λ (b : BucketView). b.per_slot) c.self.view_is,
       ap (λ (b : BucketView). b.full) c.self.view_is,

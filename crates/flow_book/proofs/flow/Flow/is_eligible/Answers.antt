@@ -1,8 +1,9 @@
 -- The limit is the quantum, or what is outstanding where that is less.
-use Rattle.std.proofs.Common.{◌≡◌, ◌<◌, ◌≤◌, sym, min, arith}
+use Rattle.std.proofs.Common.{◌≡◌, refl, ◌<◌, ◌≤◌, sym, min, arith}
 use Rattle.minislots.specs.Units.{slots_for}
 use Rattle.minislots.proofs.Bounds.{bounds_of}
 use Rattle.minislots.proofs.UnitLaws.{fits_bytes, fits_slots}
+use Rattle.flow_book.specs.Bucket.{most_of}
 use Rattle.flow_book.specs.Flows.{outstanding}
 use Rattle.flow_book.specs.Entry.{live}
 use Rattle.flow_book.proofs.Amounts.{eligible-is, bucket-within}
@@ -27,8 +28,8 @@ returns-then-wanted-eq0 c =
           ]),
     )
 
-pub most-requires : goal.most-requires
-most-requires c = c.requires.sums.bucket.since c.args.start c.requires.started
+pub has-requires : goal.has-requires
+has-requires c = c.requires.sums.bucket.since c.args.start c.requires.started
 
 pub returns : goal.returns
 returns c =
@@ -39,7 +40,8 @@ returns c =
     let carries = (bounds_of _ c.quantum.ensures.lawful).bytes_positive in
     let fits : slots_for channel c.min-wanted.result ≤ c.args.room =
     fits_slots channel carries c.min-wanted.result c.args.room some (omega arith) in
-    eligible-is channel f c.args.start c.args.room c.min-wanted.result c.most.result
+    let most = most_of c.args.self.now.bucket c.args.start c.min-wanted.result in
+    rw c.has.ensures (eligible-is channel f c.args.start c.args.room c.min-wanted.result most
     (sym c.if-not-takes_requests.ensures) limits some fits
-    (bucket-within channel f c.args.self.now.bucket c.args.start c.args.room c.min-wanted.result c.most.result
-    c.requires.sums.bucket c.requires.started c.most.ensures)
+    (bucket-within channel f c.args.self.now.bucket c.args.start c.args.room c.min-wanted.result most
+    c.requires.sums.bucket c.requires.started refl))
