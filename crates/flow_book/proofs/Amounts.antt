@@ -77,6 +77,15 @@ bucket-within c f b start room limit most stands started is =
       greatest = λ n some le kept. most-greatest c rate burst b f.grants stands start n started limit le kept;
     })
 
+-- so with the limit of what is outstanding, capped and fits, what the bucket has are the most
+pub most-in-bucket : (c : Config) (f : LiveFlow) (b : BucketView) (start room limit most : ℕ) → IsLawful c
+    → limit ≡ min (min (outstanding f) c.grant_cap) (bytes_in c room)
+    → StandsFor c (rate_of f.spec) (burst_of f.spec) b f.grants → HaveStartedBy start f.grants
+    → most ≡ most_of b start limit → IsMost c f start room most
+most-in-bucket c f b start room limit most lawful limits stands started is =
+    most-is c f start room limit most (bounds_of c lawful).bytes_positive limits
+    (bucket-within c f b start room limit most stands started is)
+
 module _ (c : Config) (lawful : IsLawful c) (start room : ℕ) where
   -- an eligible flow may be granted some bytes
   some_may : (f : LiveFlow) → IsEligible c start room f → MayGrant c f start room (min (outstanding f) c.quantum)

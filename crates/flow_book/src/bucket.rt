@@ -1,6 +1,6 @@
 //! The token bucket of a flow under a rate ceiling.
 
-ghost use Rattle.std.specs.Prelude.{◌≡◌, ◌*◌, ◌<◌, ◌≤◌, ◌^◌, ◌==◌, [], IsTrue, false};
+ghost use Rattle.std.specs.Prelude.{◌≡◌, ◌*◌, ◌/◌, ◌<◌, ◌≤◌, ◌^◌, ◌==◌, [], IsTrue, false, min};
 ghost use Rattle.flow_book.specs.Bucket.{level_of, most_of, StandsFor, AnswersLevel, AnswersCeiling, HasOneMore};
 
 use minislots::Checked;
@@ -101,15 +101,33 @@ impl Bucket {
         true
     }
 
+    // Takes a grant of the most bytes, up to the limit, that keeps the ceiling and starts at this minislot, and answers
+    // how many they are.
+    pub(crate) fn take_most(&mut self, slot: u64, limit: u32) -> u32
+        requires { self.old.since ≤ slot }
+        ensures most { result ≡ most_of self.old slot limit }
+        ensures taken { HasOneMore self.old self.new slot result }
+        ensures since { self.new.since ≤ slot }
+    {
+        if self.per_slot == 0 {
+            return limit;
+        }
+        let level = self.level(slot);
+        let bytes = bytes_of(level, limit);
+        self.level = level - PARTS * u64::from(bytes);
+        self.since = slot;
+        bytes
+    }
+
     // The most bytes, up to the limit, of a grant that starts at this minislot.
     pub(crate) fn most(&self, slot: u64, limit: u32) -> u32
         requires { self.now.since ≤ slot }
         ensures { result ≡ most_of self.now slot limit }
     {
-        if self.has(slot, limit) {
+        if self.per_slot == 0 {
             return limit;
         }
-        (self.level(slot) / PARTS) as u32
+        bytes_of(self.level(slot), limit)
     }
 
     // Whether a grant of so many bytes that starts at this minislot keeps the ceiling.
@@ -120,6 +138,16 @@ impl Bucket {
         let level = self.level(slot);
         self.per_slot == 0 || PARTS * u64::from(bytes) <= level
     }
+}
+
+// The bytes of a level, up to the limit.
+fn bytes_of(level: u64, limit: u32) -> u32
+    ensures { result ≡ min limit (level / 1280000) }
+{
+    if PARTS * u64::from(limit) <= level {
+        return limit;
+    }
+    (level / PARTS) as u32
 }
 
 // What a rate brings in so many minislots, in 1/1280000 bytes.

@@ -2,15 +2,17 @@
 
 ghost use Rattle.std.specs.Prelude.{◌≡◌, ℕ, ◌+◌, ◌-◌, ◌<◌, ◌≤◌, map, length, slice_index_or, IsTrue};
 ghost use Rattle.std.specs.Prelude.{◌↔◌, None, true, nat_lt, ◌&&◌, MatchOption, IfSome, option_map};
-ghost use Rattle.std.specs.Prelude.{option_copied};
+ghost use Rattle.std.specs.Prelude.{option_copied, min, ◌++◌, ◌∷◌, []};
 ghost use Rattle.std.specs.List.{AllByRecursion};
 ghost use Rattle.minislots.specs.declared.config.Config.{Config};
 ghost use Rattle.minislots.specs.Config.{IsLawful};
+ghost use Rattle.minislots.specs.Units.{bytes_in};
+ghost use Rattle.flow_book.specs.FlowSpec.{rate_of, burst_of};
 ghost use Rattle.flow_book.specs.Flows.{granted, outstanding, with_grant};
 ghost use Rattle.flow_book.specs.Choice.{is_before, IsEligible, IsAmount, IsMost, KeepsWith};
 ghost use Rattle.flow_book.specs.Choice.{IsNextOf, HasStartedBy};
 ghost use Rattle.flow_book.specs.FlowSpec.{takes_requests};
-ghost use Rattle.flow_book.specs.Bucket.{HaveStartedBy, most_of};
+ghost use Rattle.flow_book.specs.Bucket.{HaveStartedBy, StandsFor, most_of};
 ghost use Rattle.flow_book.specs.Entry.{live, room_in, IsSoundFlow, IsSoundBook, IsCopy, IsTurn, KnowsTurn, KeepsSums};
 ghost use Rattle.flow_book.specs.Book.{KeepsRoom, new_flow};
 ghost use Rattle.flow_book.specs.declared.flow.Flow.{Flow};
@@ -137,9 +139,20 @@ impl Flow {
         ensures most { IsMost config.now (live self.now) start room result }
         ensures lawful { IsLawful config.now }
     {
-        let asked = self.outstanding().min(u64::from(config.grant_cap()));
-        let limit = asked.min(config.bytes_in(room)) as u32;
+        let limit = self.limit(config, room);
         self.bucket.most(start, limit)
+    }
+
+    // The most bytes that a data grant may have in so many minislots, were there no ceiling.
+    fn limit(&self, config: &Checked, room: u32) -> u32
+        requires sum { self.now.granted ≡ granted (live self.now) }
+        requires within { granted (live self.now) ≤ self.now.asked }
+        ensures value { result ≡ min (min (outstanding (live self.now)) config.now.grant_cap)
+            (bytes_in config.now room) }
+        ensures lawful { IsLawful config.now }
+    {
+        let asked = self.outstanding().min(u64::from(config.grant_cap()));
+        asked.min(config.bytes_in(room)) as u32
     }
 
     // Whether the flow may be served at this minislot: what it waits for, at most the quantum, fits the
@@ -183,8 +196,9 @@ impl Flow {
         ensures space { (room_in self.new).grants + 1 ≡ (room_in self.old).grants }
         ensures sums { KeepsSums config.now self.new }
     {
-        let bytes = self.most(config, start, room);
-        self.grant(start, bytes);
+        let limit = self.limit(config, room);
+        let bytes = self.bucket.take_most(start, limit);
+        self.note(start, bytes);
         let sid = self.sid;
         Served { sid, bytes }
     }
@@ -201,9 +215,24 @@ impl Flow {
         ensures sums { (c : Config) → KeepsSums c self.old → HaveStartedBy start
             self.old.grants.items → KeepsWith c (live self.old) start bytes → KeepsSums c self.new }
     {
+        let _ = self.bucket.take(start, bytes);
+        self.note(start, bytes);
+    }
+
+    // Notes a data grant that its bucket stands for, for which there is room, of bytes that were asked.
+    fn note(&mut self, start: u64, bytes: u32)
+        requires room { 0 < (room_in self.old).grants }
+        requires asked { self.old.granted + bytes ≤ self.old.asked }
+        ensures live { live self.new
+            ≡ with_grant (record { start = start; bytes = bytes }) (live self.old) }
+        ensures room { (room_in self.new).grants + 1 ≡ (room_in self.old).grants }
+        ensures sums { (c : Config) → self.old.granted ≡ granted (live self.old) → KnowsTurn self.old
+            → StandsFor c (rate_of self.old.spec) (burst_of self.old.spec) self.old.bucket
+            (self.old.grants.items ++ record { start = start; bytes = bytes } ∷ [])
+            → KeepsSums c self.new }
+    {
         self.granted += u64::from(bytes);
         self.turn = turn_of(self.spec.rank(), Some(start), self.sid);
-        let _ = self.bucket.take(start, bytes);
         self.grants = GrantList::and(&self.grants, &Grant { start, bytes });
     }
 }

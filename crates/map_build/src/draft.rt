@@ -4,7 +4,6 @@ ghost use Rattle.std.specs.Prelude.{◌≡◌, ℕ, ◌<◌, ◌≤◌, ◌+◌,
 ghost use Rattle.std.specs.Prelude.{length, slice_get};
 ghost use Rattle.std.specs.List.{AllByRecursion};
 ghost use Rattle.map_codec.specs.WireMap.{FitsHeader};
-ghost use Rattle.flow_book.specs.Flows.{flow_of, outstanding};
 ghost use Rattle.flow_book.specs.Book.{IsLive, room_of};
 ghost use Rattle.flow_book.specs.Choice.{HasStartedBy};
 ghost use Rattle.periodic.specs.declared.placement.Spot.{Spot};
@@ -126,35 +125,25 @@ impl Draft {
         requires { self.old.offset ≡ self.old.book.config.frame }
         ensures { OnOk result (PutsPending self.old.book.flows self.old self.new) }
     {
-        for i in 0..self.book.len() {
-            let sid = self.book.sid_at(i);
-            self.put_pending_of(sid, i)?;
+        for place in 0..self.book.len() {
+            self.put_pending_of(place)?;
         }
         Ok(())
     }
 
-    // The bytes outstanding of the flow with this SID, by its place.
-    fn outstanding_of(&self, sid: u16, place: usize) -> u64
-        requires inside { place < length self.now.book.flows }
-        requires here { flow_of sid self.now.book.flows ≡ slice_get self.now.book.flows place }
-        ensures { IfSome (flow_of sid self.now.book.flows) (λ f. result ≡ outstanding f) }
-    {
-        let _ = sid;
-        self.book.outstanding_at(place)
-    }
-
-    // The pending grant of a flow, if it has bytes outstanding.
-    fn put_pending_of(&mut self, sid: u16, place: usize) -> Result<(), AllocError>
+    // The pending grant of the flow at this place, if it has bytes outstanding.
+    fn put_pending_of(&mut self, place: usize) -> Result<(), AllocError>
         requires inside { place < length self.old.book.flows }
-        requires here { flow_of sid self.old.book.flows ≡ slice_get self.old.book.flows place }
         requires end { self.old.offset ≡ self.old.book.config.frame }
-        ensures { OnOk result (IfSome (flow_of sid self.old.book.flows)
+        ensures { OnOk result (IfSome (slice_get self.old.book.flows place)
             (λ f. PutsPending (f ∷ []) self.old self.new)) }
     {
-        if self.outstanding_of(sid, place) > 0 {
-            let iuc = long_iuc(self.book.config());
-            self.put(sid, iuc, 0)?;
+        if self.book.outstanding_at(place) == 0 {
+            return Ok(());
         }
+        let sid = self.book.sid_at(place);
+        let iuc = long_iuc(self.book.config());
+        self.put(sid, iuc, 0)?;
         Ok(())
     }
 

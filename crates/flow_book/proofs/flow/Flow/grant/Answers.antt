@@ -1,10 +1,6 @@
--- The sums are those of the grants with this one more.
-use Rattle.std.proofs.Common.{◌≡◌, sym, ap, ◌∙◌, ◌+◌, Some, IsTrue, arith}
-use Rattle.flow_book.specs.FlowSpec.{rank_of, rate_of, burst_of}
-use Rattle.flow_book.specs.Flows.{bytes_of}
-use Rattle.flow_book.specs.Choice.{last_start}
-use Rattle.flow_book.specs.Entry.{IsTurn}
-use Rattle.flow_book.proofs.Sums.{last-more, bytes-added}
+-- The bucket has one more grant, and with it the sums are noted.
+use Rattle.std.proofs.Common.{IsTrue}
+use Rattle.flow_book.specs.FlowSpec.{rate_of, burst_of}
 use Rattle.flow_book.proofs.flow.Flow.grant.Goals as goal
 
 pub returns-clause-sums : goal.returns-clause-sums
@@ -12,16 +8,5 @@ returns-clause-sums c = λ channel keeps started kept.
     let f = c.args.self.now in
     let taken : IsTrue c.take.result =
     (c.take.ensures.exact channel (rate_of f.spec) (burst_of f.spec) f.grants.items keeps.bucket started).1 kept in
-    let bucket =
-    c.take.ensures.taken taken channel (rate_of f.spec) (burst_of f.spec) f.grants.items keeps.bucket started in
-    let bytes : f.granted + c.from.result ≡ bytes_of f.grants.items + c.args.bytes =
-    omega (arith, keeps.granted, c.from.ensures) in
-    let items = c.and-self.ensures.0 in
-    let last = ap last_start items ∙ last-more f.grants.items (record { start = c.args.start; bytes = c.args.bytes }) in
-    let turn : IsTurn (rank_of f.spec) (Some c.args.start) f.sid c.turn_of-self.result =
-    rw c.rank.ensures at c.turn_of-self.ensures in
-    record {
-      granted = bytes ∙ sym (ap bytes_of items ∙ bytes-added f.grants.items c.args.start c.args.bytes);
-      turn = (keeps.turn.0, rw last turn);
-      bucket = rw items bucket;
-    }
+    c.note.ensures.sums channel keeps.granted keeps.turn
+    (c.take.ensures.taken taken channel (rate_of f.spec) (burst_of f.spec) f.grants.items keeps.bucket started)

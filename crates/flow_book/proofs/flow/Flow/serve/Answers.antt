@@ -1,25 +1,35 @@
 -- The most that it may have is its amount: it was asked, and keeps the ceiling.
 use Rattle.std.proofs.Common.{arith}
+use Rattle.flow_book.specs.FlowSpec.{rate_of, burst_of}
 use Rattle.flow_book.specs.Entry.{live}
-use Rattle.flow_book.proofs.Amounts.{amount-of_most}
+use Rattle.flow_book.proofs.Amounts.{amount-of_most, most-in-bucket}
 use Rattle.flow_book.proofs.flow.Flow.serve.Goals as goal
 
-pub grant-requires-clause-asked : goal.grant-requires-clause-asked
-grant-requires-clause-asked c =
-    let amount = amount-of_most c.args.config.now c.most-bytes.ensures.lawful c.args.start c.args.room
-    (live c.args.self.now) c.most-bytes.result c.requires.may c.most-bytes.ensures.most in
-    omega (arith, amount.allowed.asked, c.requires.sound.within, c.requires.sums.granted)
+pub take_most-bytes-requires : goal.take_most-bytes-requires
+take_most-bytes-requires c = c.requires.sums.bucket.since c.args.start c.requires.started
 
-pub grant-requires-clause-since : goal.grant-requires-clause-since
-grant-requires-clause-since c = c.requires.sums.bucket.since c.args.start c.requires.started
+pub note-requires-clause-asked : goal.note-requires-clause-asked
+note-requires-clause-asked c =
+    let f = live c.args.self.now in
+    let most = most-in-bucket c.args.config.now f c.args.self.now.bucket c.args.start c.args.room c.limit-limit.result
+    c.take_most-bytes.result c.limit-limit.ensures.lawful c.limit-limit.ensures.value c.requires.sums.bucket
+    c.requires.started c.take_most-bytes.ensures.most in
+    let amount = amount-of_most c.args.config.now c.limit-limit.ensures.lawful c.args.start c.args.room f
+    c.take_most-bytes.result c.requires.may most in
+    omega (arith, amount.allowed.asked, c.requires.sound.within, c.requires.sums.granted)
 
 pub returns-clause-amount : goal.returns-clause-amount
 returns-clause-amount c =
-    amount-of_most c.args.config.now c.most-bytes.ensures.lawful c.args.start c.args.room (live c.args.self.now)
-    c.most-bytes.result c.requires.may c.most-bytes.ensures.most
+    let f = live c.args.self.now in
+    let most = most-in-bucket c.args.config.now f c.args.self.now.bucket c.args.start c.args.room c.limit-limit.result
+    c.take_most-bytes.result c.limit-limit.ensures.lawful c.limit-limit.ensures.value c.requires.sums.bucket
+    c.requires.started c.take_most-bytes.ensures.most in
+    amount-of_most c.args.config.now c.limit-limit.ensures.lawful c.args.start c.args.room f c.take_most-bytes.result
+    c.requires.may most
 
 pub returns-clause-sums : goal.returns-clause-sums
 returns-clause-sums c =
-    let amount = amount-of_most c.args.config.now c.most-bytes.ensures.lawful c.args.start c.args.room
-    (live c.args.self.now) c.most-bytes.result c.requires.may c.most-bytes.ensures.most in
-    c.grant.ensures.sums c.args.config.now c.requires.sums c.requires.started amount.allowed.taken.ceiling
+    let f = c.args.self.now in
+    c.note.ensures.sums c.args.config.now c.requires.sums.granted c.requires.sums.turn
+    (c.take_most-bytes.ensures.taken c.args.config.now (rate_of f.spec) (burst_of f.spec) f.grants.items
+    c.requires.sums.bucket c.requires.started)

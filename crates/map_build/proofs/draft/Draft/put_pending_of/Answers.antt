@@ -1,12 +1,15 @@
 -- A flow has its pending grant where bytes are outstanding.
-use Rattle.std.proofs.Common.{arith}
-use Rattle.flow_book.specs.Flows.{flow_of}
-use Rattle.map_build.proofs.Pendings.{PutsPending-some, found-sid}
+use Rattle.std.proofs.Common.{slice_get, arith}
+use Rattle.map_build.proofs.Pendings.{PutsPending-some, PutsPending-none}
 use Rattle.map_build.proofs.draft.Draft.put_pending_of.Goals as goal
 
-pub returns-in_ok-put : goal.returns-in_ok-put
-returns-in_ok-put c =
-    PutsPending-some c.args.sid c.outstanding_of.result c.args.self.now c.put.new.self c.requires.end
+pub returns-then-outstanding_at-eq0 : goal.returns-then-outstanding_at-eq0
+returns-then-outstanding_at-eq0 c =
+    PutsPending-none c.outstanding_at.result c.args.self.now (omega arith)
+    (slice_get c.args.self.now.book.flows c.args.place) c.outstanding_at.ensures
+
+pub returns : goal.returns
+returns c =
+    PutsPending-some c.sid_at-sid.result c.outstanding_at.result c.args.self.now c.put.new.self c.requires.end
     (omega arith) (rw (c.long_iuc-iuc.ensures, c.config.ensures.value) at c.in_ok-put.ensures)
-    (flow_of c.args.sid c.args.self.now.book.flows) (found-sid c.args.sid c.args.self.now.book.flows)
-    c.outstanding_of.ensures
+    (slice_get c.args.self.now.book.flows c.args.place) c.sid_at-sid.ensures.value c.outstanding_at.ensures
