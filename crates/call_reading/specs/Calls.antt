@@ -117,7 +117,13 @@ header_call d = do
   ranging_end ← u8_at (codes "ranging_end") d
   data_start ← u8_at (codes "data_start") d
   data_end ← u8_at (codes "data_end") d
-  Some (Header count ranging_start ranging_end data_start data_end)
+  Some (Header (record {
+    ucd_count = count;
+    ranging_start = ranging_start;
+    ranging_end = ranging_end;
+    data_start = data_start;
+    data_end = data_end;
+  }))
 
 -- the call that an object stands for, by its name
 unfoldable pub call_of : Data → Option Call

@@ -6,7 +6,7 @@ ghost use Rattle.call_reading.specs.Calls.{status_call, usage_of, reserve_call, 
 
 use super::flow::flow_of;
 use json_fields::{Tree, member, number_u8, number_u16, number_u32, number_u64, text};
-use map_build::Usage;
+use map_build::{Header, Usage};
 use sched_history::Call;
 
 #[tactic(auto, unfolding(crate::specs::Calls::admit_call))]
@@ -111,13 +111,13 @@ fn reserve_call<T: Tree>(value: &T) -> Option<Call>
 fn header_call<T: Tree>(value: &T) -> Option<Call>
     ensures { result ≡ header_call (T.shown value.now) }
 {
-    Some(Call::Header {
+    Some(Call::Header(Header {
         ucd_count: number_u8(value, "ucd_count")?,
         ranging_start: number_u8(value, "ranging_start")?,
         ranging_end: number_u8(value, "ranging_end")?,
         data_start: number_u8(value, "data_start")?,
         data_end: number_u8(value, "data_end")?,
-    })
+    }))
 }
 
 /// The call that an object stands for, by its name.

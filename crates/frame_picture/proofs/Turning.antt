@@ -82,7 +82,7 @@ turned sid (calls.Build now) reply before = refl
 turned sid (calls.Skip now) reply before = refl
 turned sid (calls.Status other) reply before = refl
 turned sid (calls.Reserve usage slots) reply before = refl
-turned sid (calls.Header count ranging_start ranging_end data_start data_end) reply before = refl
+turned sid (calls.Header header) reply before = refl
 
 -- what is known of a SID after an entry
 pub known_after : (sid : ℕ) (h : List Entry) (e : Entry)

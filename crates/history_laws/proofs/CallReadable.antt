@@ -144,21 +144,21 @@ call_readable (Reserve (Station sid) slots) fits = (
     ),
   ),
 )
-call_readable (Header count ranging_start ranging_end data_start data_end) fits = (
+call_readable (Header header) fits = (
   refl,
   (
     refl,
     name (codes "header") refl,
     (
       refl,
-      of_byte data_end fits.4,
+      of_byte header.data_end fits.4,
       (
         refl,
-        of_byte data_start fits.3,
+        of_byte header.data_start fits.3,
         (
           refl,
-          of_byte ranging_end fits.2,
-          (refl, of_byte ranging_start fits.1, (refl, of_byte count fits.0, tt)),
+          of_byte header.ranging_end fits.2,
+          (refl, of_byte header.ranging_start fits.1, (refl, of_byte header.ucd_count fits.0, tt)),
         ),
       ),
     ),

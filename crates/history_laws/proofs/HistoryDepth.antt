@@ -44,7 +44,7 @@ depth-call (Skip now) = omega arith
 depth-call (Status sid) = omega arith
 depth-call (Reserve Initial slots) = omega arith
 depth-call (Reserve (Station sid) slots) = omega arith
-depth-call (Header count ranging_start ranging_end data_start data_end) = omega arith
+depth-call (Header header) = omega arith
 
 depth-refused : (n : ℕ) (value : Option ℕ) → depth (refused_data n value) ≤ 2
 unfolding refused_data

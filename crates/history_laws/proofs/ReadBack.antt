@@ -61,10 +61,10 @@ call_of-data (Status sid) fits = rw (below-fits (2 ^ 16) sid fits) refl
 call_of-data (Reserve Initial slots) fits = rw (below-fits (2 ^ 32) slots fits) refl
 call_of-data (Reserve (Station sid) slots) fits =
     rw (below-fits (2 ^ 16) sid fits.0) (rw (below-fits (2 ^ 32) slots fits.1) refl)
-call_of-data (Header count ranging_start ranging_end data_start data_end) fits =
-    rw (below-fits (2 ^ 8) count fits.0) (
-    rw (below-fits (2 ^ 8) ranging_start fits.1) (rw (below-fits (2 ^ 8) ranging_end fits.2)
-    (rw (below-fits (2 ^ 8) data_start fits.3) (rw (below-fits (2 ^ 8) data_end fits.4) refl))))
+call_of-data (Header header) fits =
+    rw (below-fits (2 ^ 8) header.ucd_count fits.0) (
+    rw (below-fits (2 ^ 8) header.ranging_start fits.1) (rw (below-fits (2 ^ 8) header.ranging_end fits.2)
+    (rw (below-fits (2 ^ 8) header.data_start fits.3) (rw (below-fits (2 ^ 8) header.data_end fits.4) refl))))
 
 -- a configuration is read back
 pub config_of-data : (c : Config) → ConfigFits c → config_of (config_data c) ≡ Some c

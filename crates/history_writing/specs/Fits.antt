@@ -36,8 +36,8 @@ CallFits (Skip now) = now < 2 ^ 64
 CallFits (Status sid) = sid < 2 ^ 16
 CallFits (Reserve Initial slots) = slots < 2 ^ 32
 CallFits (Reserve (Station sid) slots) = (sid < 2 ^ 16) × (slots < 2 ^ 32)
-CallFits (Header count ranging_start ranging_end data_start data_end) = (count < 2 ^ 8) × (ranging_start < 2 ^ 8)
-    × (ranging_end < 2 ^ 8) × (data_start < 2 ^ 8) × (data_end < 2 ^ 8)
+CallFits (Header header) = (header.ucd_count < 2 ^ 8) × (header.ranging_start < 2 ^ 8)
+    × (header.ranging_end < 2 ^ 8) × (header.data_start < 2 ^ 8) × (header.data_end < 2 ^ 8)
 
 -- the numbers of a configuration fit their types
 pub record ConfigFits (c : Config) : Type 0 where

@@ -66,11 +66,12 @@ call_data (Reserve Initial slots) = object (
 call_data (Reserve (Station sid) slots) = object (
     member (codes "call") (string (codes "reserve")) (member (codes "sid") (count sid) (
     member (codes "slots") (count slots) (member (codes "usage") (string (codes "station")) no_members))))
-call_data (Header count_of_ucd ranging_start ranging_end data_start data_end) = object (
-    member (codes "call") (string (codes "header")) (member (codes "data_end") (count data_end) (
-    member (codes "data_start") (count data_start) (member (codes "ranging_end") (count ranging_end) (
-    member (codes "ranging_start") (count ranging_start) (
-    member (codes "ucd_count") (count count_of_ucd) no_members))))))
+call_data (Header header) = object (
+    member (codes "call") (string (codes "header")) (member (codes "data_end") (count header.data_end) (
+    member (codes "data_start") (count header.data_start) (
+    member (codes "ranging_end") (count header.ranging_end) (
+    member (codes "ranging_start") (count header.ranging_start) (
+    member (codes "ucd_count") (count header.ucd_count) no_members))))))
 
 -- a reply of this kind that says nothing more
 unfoldable pub plain_data : List ℕ → Data

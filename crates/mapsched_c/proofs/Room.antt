@@ -74,7 +74,7 @@ module _ (c : Config) (conf : IsLawful c) where
   answer_room h (Skip now) reply passed (start, is, e) = rw e tt
   answer_room h (Status sid) reply passed is = life_room sid (life_of sid h) reply is
   answer_room h (Reserve usage slots) reply passed e = rw e tt
-  answer_room h (Header count ranging_start ranging_end data_start data_end) reply passed e = rw e tt
+  answer_room h (Header header) reply passed e = rw e tt
 
   either_room : (h : List Entry) (call : Call) (reply : Reply) (o : Option Refusal) → refusal_of c h call ≡ o
       → MatchOption o (Answers c h call reply) (λ refusal. reply ≡ replies.Refused refusal) → HasRoom reply

@@ -4,11 +4,12 @@
 use Rattle.std.specs.Prelude.{◌==◌, Option, None, Some, option_map, if◌then◌else◌}
 use Rattle.flow_book.specs.declared.spec.FlowSpec.{FlowSpec}
 use Rattle.flow_book.specs.declared.spec.FlowSpec.TheVariants.{Unsolicited, Polled, BestEffort}
+use Rattle.map_build.specs.declared.opportunity.Header.{Header}
 use Rattle.map_build.specs.declared.opportunity.Usage.{Usage}
 use Rattle.map_build.specs.declared.opportunity.Usage.TheVariants.{Initial, Station}
 use Rattle.sched_history.specs.declared.call.Call.{Call}
-use Rattle.sched_history.specs.declared.call.Call.TheVariants.{Admit, Remove, Ask, Heard, Build, Skip, Status}
-use Rattle.sched_history.specs.declared.call.Call.TheVariants.{Reserve, Header}
+use Rattle.sched_history.specs.declared.call.Call.TheVariants as calls
+use Rattle.sched_history.specs.declared.call.Call.TheVariants.{Admit, Remove, Ask, Heard, Build, Skip, Status, Reserve}
 use Rattle.mapsched_c.specs.declared.call.PlainCall.{PlainCall}
 use Rattle.mapsched_c.specs.declared.call.kind.TheConstants.{ADMIT, REMOVE, ASK, HEARD, BUILD, SKIP, STATUS}
 use Rattle.mapsched_c.specs.declared.call.kind.TheConstants.{RESERVE, HEADER}
@@ -26,6 +27,16 @@ flow_of c = if c.flow == UNSOLICITED then Some (Unsolicited c.size c.interval_us
 abbrev pub usage_of : PlainCall → Option Usage
 usage_of c = if c.flow == INITIAL then Some Initial else if c.flow == STATION then Some (Station c.sid) else None
 
+-- the header of these numbers
+abbrev pub header_of : PlainCall → Header
+header_of c = record {
+  ucd_count = c.receiver;
+  ranging_start = c.priority;
+  ranging_end = c.grants;
+  data_start = c.data_start;
+  data_end = c.data_end;
+}
+
 -- the call of these numbers, where there is such a kind
 abbrev pub call_of : PlainCall → Option Call
 call_of c = if c.kind == ADMIT then option_map (Admit c.sid) (flow_of c)
@@ -36,7 +47,7 @@ call_of c = if c.kind == ADMIT then option_map (Admit c.sid) (flow_of c)
     else if c.kind == SKIP then Some (Skip c.minislot)
     else if c.kind == STATUS then Some (Status c.sid)
     else if c.kind == RESERVE then option_map (λ usage. Reserve usage c.size) (usage_of c)
-    else if c.kind == HEADER then Some (Header c.receiver c.priority c.grants c.data_start c.data_end)
+    else if c.kind == HEADER then Some (calls.Header (header_of c))
     else None
 
 -- all numbers 0
@@ -100,11 +111,11 @@ plain_call (Status sid) = record nothing_called { kind = STATUS; sid = sid }
 plain_call (Reserve Initial slots) = record nothing_called { kind = RESERVE; flow = INITIAL; size = slots }
 plain_call (Reserve (Station sid) slots) =
     record nothing_called { kind = RESERVE; flow = STATION; size = slots; sid = sid }
-plain_call (Header count ranging_start ranging_end data_start data_end) = record nothing_called {
+plain_call (calls.Header header) = record nothing_called {
   kind = HEADER;
-  receiver = count;
-  priority = ranging_start;
-  grants = ranging_end;
-  data_start = data_start;
-  data_end = data_end;
+  receiver = header.ucd_count;
+  priority = header.ranging_start;
+  grants = header.ranging_end;
+  data_start = header.data_start;
+  data_end = header.data_end;
 }

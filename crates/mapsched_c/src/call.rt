@@ -1,10 +1,10 @@
 //! A call in plain numbers.
 
 ghost use Rattle.std.specs.Prelude.{◌≡◌, Some};
-ghost use Rattle.mapsched_c.specs.Call.{call_of, flow_of, usage_of, nothing_called, plain_call};
+ghost use Rattle.mapsched_c.specs.Call.{call_of, flow_of, usage_of, header_of, nothing_called, plain_call};
 
 use flow_book::FlowSpec;
-use map_build::Usage;
+use map_build::{Header, Usage};
 use sched_history::Call;
 
 /// The kinds of calls.
@@ -167,16 +167,15 @@ impl PlainCall {
 
     // The header of these numbers.
     fn header(&self) -> Call
-        ensures { result ≡ Call.Header self.now.receiver self.now.priority self.now.grants
-            self.now.data_start self.now.data_end }
+        ensures { result ≡ Call.Header (header_of self.now) }
     {
-        Call::Header {
+        Call::Header(Header {
             ucd_count: self.receiver,
             ranging_start: self.priority,
             ranging_end: self.grants,
             data_start: self.data_start,
             data_end: self.data_end,
-        }
+        })
     }
 
     // The call of these numbers, where there is such a kind.
@@ -350,23 +349,16 @@ impl PlainCall {
     }
 
     // The numbers of a header.
-    fn of_header(
-        ucd_count: u8,
-        ranging_start: u8,
-        ranging_end: u8,
-        data_start: u8,
-        data_end: u8,
-    ) -> PlainCall
-        ensures { result ≡
-            plain_call (Call.Header ucd_count ranging_start ranging_end data_start data_end) }
+    fn of_header(header: Header) -> PlainCall
+        ensures { result ≡ plain_call (Call.Header header) }
     {
         PlainCall {
             kind: kind::HEADER,
-            receiver: ucd_count,
-            priority: ranging_start,
-            grants: ranging_end,
-            data_start,
-            data_end,
+            receiver: header.ucd_count,
+            priority: header.ranging_start,
+            grants: header.ranging_end,
+            data_start: header.data_start,
+            data_end: header.data_end,
             ..NOTHING
         }
     }
@@ -390,13 +382,7 @@ impl PlainCall {
             Call::Skip { now } => PlainCall::of_minislot(kind::SKIP, now),
             Call::Status(sid) => PlainCall::of_flow(kind::STATUS, sid),
             Call::Reserve { usage, slots } => PlainCall::of_reserve(usage, slots),
-            Call::Header {
-                ucd_count,
-                ranging_start,
-                ranging_end,
-                data_start,
-                data_end,
-            } => PlainCall::of_header(ucd_count, ranging_start, ranging_end, data_start, data_end),
+            Call::Header(header) => PlainCall::of_header(header),
         }
     }
 }

@@ -66,8 +66,7 @@ module _ (c : Config) (h : List Entry) (m : FrameMap) where
   answered (calls.Skip now) answers = not_built (replies.Skipped answers.0) refl answers.2
   answered (calls.Status sid) answers = status (life_of sid h) sid answers
   answered (calls.Reserve usage slots) answers = not_built replies.Reserved refl answers
-  answered (calls.Header count ranging_start ranging_end data_start data_end) answers =
-      not_built replies.Noted refl answers
+  answered (calls.Header header) answers = not_built replies.Noted refl answers
 
   unrefused : (o : Option Refusal) (call : Call)
       → MatchOption o (Answers c h call (replies.Built m)) (λ r. replies.Built m ≡ replies.Refused r) → IsNextMap c h m

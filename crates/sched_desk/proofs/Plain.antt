@@ -51,7 +51,7 @@ module _ (c : Config) (h : List Entry) where
   answered (calls.Skip now) other reply answers = ap map_by answers.2
   answered (calls.Status sid) other reply answers = shown (life_of sid h) sid reply answers
   answered (calls.Reserve usage slots) other reply answers = ap map_by answers
-  answered (calls.Header count ranging_start ranging_end data_start data_end) other reply answers = ap map_by answers
+  answered (calls.Header header) other reply answers = ap map_by answers
 
   by_refusal : (o : Option Refusal) (call : Call) → ((now : ℕ) → call ≢ calls.Build now) → (reply : Reply)
       → MatchOption o (Answers c h call reply) (λ refusal. reply ≡ replies.Refused refusal) → map_by reply ≡ None

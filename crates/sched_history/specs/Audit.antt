@@ -32,7 +32,7 @@ is_told (Build now) = false
 is_told (Skip now) = true
 is_told (Status sid) = true
 is_told (Reserve usage slots) = true
-is_told (Header count ranging_start ranging_end data_start data_end) = true
+is_told (Header header) = true
 
 -- a reply without lists
 abbrev pub plain_of : Reply → Option PlainReply

@@ -67,7 +67,7 @@ Answers c h (Build now) reply = (m : FrameMap) × IsNextMap c h m × (reply ≡ 
 Answers c h (Skip now) reply = (start : ℕ) × IsFirstStart c (now + c.lead) start × (reply ≡ replies.Skipped start)
 Answers c h (Status sid) reply = MatchOption (life_of sid h) ⊥ (λ life. reply ≡ flow_status (flow_in_life sid life))
 Answers c h (Reserve usage slots) reply = reply ≡ replies.Reserved
-Answers c h (Header count ranging_start ranging_end data_start data_end) reply = reply ≡ replies.Noted
+Answers c h (Header header) reply = reply ≡ replies.Noted
 
 -- the reply may follow the history: the first refusal, or where there is none the answer
 abbrev pub IsStep : Config → List Entry → Call → Reply → Type 0

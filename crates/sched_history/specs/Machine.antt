@@ -70,7 +70,7 @@ TakesMemory c h (Build now) = Unit {0}
 TakesMemory c h (Skip now) = ⊥
 TakesMemory c h (Status sid) = ⊥
 TakesMemory c h (Reserve usage slots) = ⊥
-TakesMemory c h (Header count ranging_start ranging_end data_start data_end) = ⊥
+TakesMemory c h (Header header) = ⊥
 
 -- no refusal meets the call, and it takes memory
 pub record MayLackMemory (c : Config) (h : List Entry) (call : Call) : Type 0 where

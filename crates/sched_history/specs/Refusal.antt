@@ -105,6 +105,7 @@ refusal_of c h (Reserve usage slots) = first_of (
     refused_if (is_to_bad_sid usage) BadSid ∷
     refused_if (slots == 0 || nat_lt (c.frame - c.req_slots) slots) BadLength ∷
     refused_if (nat_le MAX_RESERVES (length (reserves_of h))) ReservesFull ∷ [])
-refusal_of c h (Header count ranging_start ranging_end data_start data_end) = refused_if
-    (is_wide ranging_start || is_wide ranging_end || is_wide data_start || is_wide data_end) BadBackoff
+refusal_of c h (Header header) = refused_if
+    (is_wide header.ranging_start || is_wide header.ranging_end || is_wide header.data_start
+    || is_wide header.data_end) BadBackoff
 refusal_of c h (Status sid) = first_of (refused_if (bad_sid sid) BadSid ∷ refused_if (not (is_live sid h)) NoFlow ∷ [])

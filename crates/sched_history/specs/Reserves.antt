@@ -35,18 +35,8 @@ reserve_by call reply = None
 
 -- the header that an accepted call sets
 abbrev pub header_by : Call → Reply → Option Header
-header_by (calls.Header count ranging_start ranging_end data_start data_end) replies.Noted = Some (record {
-  ucd_count = count;
-  ranging_start = ranging_start;
-  ranging_end = ranging_end;
-  data_start = data_start;
-  data_end = data_end;
-})
+header_by (calls.Header header) replies.Noted = Some header
 header_by call reply = None
-
--- the call that sets a header
-abbrev pub header_call : Header → Call
-header_call h = calls.Header h.ucd_count h.ranging_start h.ranging_end h.data_start h.data_end
 
 -- the header of the next MAP: the latest that was set, or the configuration's
 abbrev pub header_after : Config → List Entry → Header

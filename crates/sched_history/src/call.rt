@@ -1,7 +1,7 @@
 //! What is asked of the scheduler.
 
 use flow_book::FlowSpec;
-use map_build::Usage;
+use map_build::{Header, Usage};
 
 /// The most scripts, lists of calls, that are run at the same time.
 pub const MAX_SCRIPTS: usize = 16;
@@ -44,11 +44,5 @@ pub enum Call {
         slots: u32,
     },
     /// Sets the UCD count and the exponents of the backoff windows for every MAP from the next one on.
-    Header {
-        ucd_count: u8,
-        ranging_start: u8,
-        ranging_end: u8,
-        data_start: u8,
-        data_end: u8,
-    },
+    Header(Header),
 }

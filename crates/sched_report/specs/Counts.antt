@@ -51,7 +51,7 @@ is_reserve call = false
 
 -- the call sets the header of the MAPs that follow
 abbrev pub is_header : Call → Bool
-is_header (Header count ranging_start ranging_end data_start data_end) = true
+is_header (Header header) = true
 is_header call = false
 
 -- how many calls of a kind there are, whatever their replies

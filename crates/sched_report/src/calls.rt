@@ -62,7 +62,7 @@ impl Calls {
             Call::Admit(..) => self.admit += 1,
             Call::Ask { .. } => self.ask += 1,
             Call::Build { .. } => self.build += 1,
-            Call::Header { .. } => self.header += 1,
+            Call::Header(_) => self.header += 1,
             Call::Heard { .. } => self.heard += 1,
             Call::Remove(_) => self.remove += 1,
             Call::Reserve { .. } => self.reserve += 1,

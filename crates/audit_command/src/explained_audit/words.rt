@@ -3,7 +3,7 @@
 ghost use Rattle.sched_history.specs.Machine.{IsEncodable};
 
 use decode_command::put_table;
-use map_build::{FrameMap, Usage};
+use map_build::{FrameMap, Header, Usage};
 use sched_history::{Call, Entry, Reply, Unrecorded};
 use sched_lines::LineBuffer;
 use std::alloc::{AllocError, Global};
@@ -42,12 +42,14 @@ fn tell_reserve(words: &mut String, usage: Usage, slots: u32) -> Result<(), Allo
 }
 
 // A header: its UCD count, and the first and the last exponent of each backoff window.
-fn tell_header(
-    words: &mut String,
-    ucd_count: u8,
-    (ranging_start, ranging_end): (u8, u8),
-    (data_start, data_end): (u8, u8),
-) -> Result<(), AllocError> {
+fn tell_header(words: &mut String, header: Header) -> Result<(), AllocError> {
+    let Header {
+        ucd_count,
+        ranging_start,
+        ranging_end,
+        data_start,
+        data_end,
+    } = header;
     writeln!(
         words,
         "header with UCD count {ucd_count}, ranging backoff {ranging_start} to {ranging_end}, data backoff \
@@ -73,16 +75,7 @@ fn tell_call(words: &mut String, call: Call) -> Result<(), AllocError> {
         Call::Skip { now } => writeln!(words, "skip at {now}"),
         Call::Status(sid) => writeln!(words, "status of SID {sid}"),
         Call::Reserve { usage, slots } => tell_reserve(words, usage, slots),
-        Call::Header {
-            ucd_count,
-            ranging_start,
-            ranging_end,
-            data_start,
-            data_end,
-        } => {
-            let (ranging, data) = ((ranging_start, ranging_end), (data_start, data_end));
-            tell_header(words, ucd_count, ranging, data)
-        }
+        Call::Header(header) => tell_header(words, header),
     }
 }
 

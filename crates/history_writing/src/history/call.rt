@@ -179,19 +179,13 @@ pub fn put_call(out: &mut Writer, call: Call) -> Result<(), AllocError>
         Call::Skip { now } => put_named(out, "call", "skip", 0, &NOW, &[now]),
         Call::Status(sid) => put_named(out, "call", "status", 0, &SID, &[sid as u64]),
         Call::Reserve { usage, slots } => put_reserve(out, usage, slots),
-        Call::Header {
-            ucd_count,
-            ranging_start,
-            ranging_end,
-            data_start,
-            data_end,
-        } => {
+        Call::Header(header) => {
             let numbers = [
-                data_end as u64,
-                data_start as u64,
-                ranging_end as u64,
-                ranging_start as u64,
-                ucd_count as u64,
+                header.data_end as u64,
+                header.data_start as u64,
+                header.ranging_end as u64,
+                header.ranging_start as u64,
+                header.ucd_count as u64,
             ];
             put_named(out, "call", "header", 0, &HEADER, &numbers)
         }

@@ -21,7 +21,7 @@ turn_by-refused (calls.Build now) refusal sid = refl
 turn_by-refused (calls.Skip now) refusal sid = refl
 turn_by-refused (calls.Status other) refusal sid = refl
 turn_by-refused (calls.Reserve usage slots) refusal sid = refl
-turn_by-refused (calls.Header count ranging_start ranging_end data_start data_end) refusal sid = refl
+turn_by-refused (calls.Header header) refusal sid = refl
 
 asked_by-refused : (call : Call) (refusal : Refusal) (sid : ℕ) → asked_by sid call (replies.Refused refusal) ≡ 0
 asked_by-refused (calls.Admit other spec) refusal sid = refl
@@ -32,7 +32,7 @@ asked_by-refused (calls.Build now) refusal sid = refl
 asked_by-refused (calls.Skip now) refusal sid = refl
 asked_by-refused (calls.Status other) refusal sid = refl
 asked_by-refused (calls.Reserve usage slots) refusal sid = refl
-asked_by-refused (calls.Header count ranging_start ranging_end data_start data_end) refusal sid = refl
+asked_by-refused (calls.Header header) refusal sid = refl
 
 progress_by-refused : (call : Call) (refusal : Refusal) (receiver : ℕ)
     → progress_by receiver call (replies.Refused refusal) ≡ None
@@ -44,14 +44,14 @@ progress_by-refused (calls.Build now) refusal receiver = refl
 progress_by-refused (calls.Skip now) refusal receiver = refl
 progress_by-refused (calls.Status other) refusal receiver = refl
 progress_by-refused (calls.Reserve usage slots) refusal receiver = refl
-progress_by-refused (calls.Header count ranging_start ranging_end data_start data_end) refusal receiver = refl
+progress_by-refused (calls.Header header) refusal receiver = refl
 
 reserve_by-refused : (call : Call) (refusal : Refusal) → reserve_by call (replies.Refused refusal) ≡ None
 reserve_by-refused (calls.Reserve usage slots) refusal = refl
 reserve_by-refused call refusal = refl
 
 header_by-refused : (call : Call) (refusal : Refusal) → header_by call (replies.Refused refusal) ≡ None
-header_by-refused (calls.Header count ranging_start ranging_end data_start data_end) refusal = refl
+header_by-refused (calls.Header header) refusal = refl
 header_by-refused call refusal = refl
 
 -- nothing depends on a refusal

@@ -19,7 +19,7 @@ abbrev header : Header
 header = record { ucd_count = 7; ranging_start = 1; ranging_end = 5; data_start = 2; data_end = 15 }
 
 abbrev set : Entry
-set = entry 1 (calls.Header 7 1 5 2 15) Noted
+set = entry 1 (calls.Header header) Noted
 
 -- the MAPs after it have it
 abbrev next : FrameMap
@@ -38,15 +38,24 @@ the_next_payload_has_it : (next.wire.ucd_count ≡ 7) × (next.wire.ranging_star
     × (next.wire.data_start ≡ 2) × (next.wire.data_end ≡ 15)
 the_next_payload_has_it = (refl, refl, refl, refl, refl)
 
+-- a window that is wider than any may be
+abbrev wide : Header
+wide = record { ucd_count = 8; ranging_start = 0; ranging_end = 16; data_start = 0; data_end = 0 }
+
 -- a refused header sets nothing
 pub a_refused_header_sets_nothing :
-    header_after base (built ∷ set ∷ entry 2 (calls.Header 8 0 16 0 0) (Refused BadBackoff) ∷ []) ≡ header
+    header_after base (built ∷ set ∷ entry 2 (calls.Header wide) (Refused BadBackoff) ∷ []) ≡ header
 a_refused_header_sets_nothing = refl
 
 -- an exponent above 15 is refused
-pub an_exponent_above_fifteen_is_refused : IsStep base [] (calls.Header 8 0 0 0 16) (Refused BadBackoff)
+pub an_exponent_above_fifteen_is_refused :
+    IsStep base [] (calls.Header (record wide { ranging_end = 0; data_end = 16 })) (Refused BadBackoff)
 an_exponent_above_fifteen_is_refused = refl
 
+-- the greatest count and exponents
+abbrev greatest : Header
+greatest = record { ucd_count = 255; ranging_start = 15; ranging_end = 15; data_start = 15; data_end = 15 }
+
 -- every count and exponents up to 15 may be set
-pub the_greatest_header_is_noted : IsStep base [] (calls.Header 255 15 15 15 15) Noted
+pub the_greatest_header_is_noted : IsStep base [] (calls.Header greatest) Noted
 the_greatest_header_is_noted = refl

@@ -3,9 +3,11 @@ use Rattle.std.proofs.Common.{◌≡◌, ℕ, List, None, Some}
 use Rattle.minislots.specs.declared.config.Config.{Config}
 use Rattle.flow_book.specs.declared.spec.FlowSpec.TheVariants.{Unsolicited, Polled}
 use Rattle.periodic.specs.Placement.{NoPlacement}
+use Rattle.map_build.specs.declared.opportunity.Header.{Header}
 use Rattle.map_build.specs.declared.opportunity.Usage.{Usage}
 use Rattle.sched_history.specs.declared.call.Call.{Call}
-use Rattle.sched_history.specs.declared.call.Call.TheVariants.{Admit, Remove, Ask, Heard, Skip, Status, Reserve, Header}
+use Rattle.sched_history.specs.declared.call.Call.TheVariants as calls
+use Rattle.sched_history.specs.declared.call.Call.TheVariants.{Admit, Remove, Ask, Heard, Skip, Status, Reserve}
 use Rattle.sched_history.specs.declared.reply.Refusal.{Refusal}
 use Rattle.sched_history.specs.declared.reply.Reply.TheVariants.{Admitted, Taken, Flow, Refused}
 use Rattle.sched_history.specs.declared.reply.Entry.{Entry}
@@ -41,9 +43,8 @@ module _ (c : Config) (h : List Entry) where
   a_reserve_lacks_no_memory usage slots lacks = lacks.takes
 
   -- nor a header
-  pub a_header_lacks_no_memory : (count ranging_start ranging_end data_start data_end : ℕ)
-      → MayLackMemory c h (Header count ranging_start ranging_end data_start data_end) → ⊥
-  a_header_lacks_no_memory count ranging_start ranging_end data_start data_end lacks = lacks.takes
+  pub a_header_lacks_no_memory : (header : Header) → MayLackMemory c h (calls.Header header) → ⊥
+  a_header_lacks_no_memory header lacks = lacks.takes
 
   -- nor an admission of a periodic flow for which there is no place
   pub an_admission_without_a_place_lacks_no_memory : (sid size interval jitter grants : ℕ)

@@ -87,8 +87,7 @@ IsPlain-told c h (Skip now) r told answers =
     IsPlain-as r (replies.Skipped answers.0) answers.2 (plain.Skipped answers.0, refl)
 IsPlain-told c h (Status sid) r told answers = IsPlain-status sid (life_of sid h) r answers
 IsPlain-told c h (Reserve usage slots) r told answers = IsPlain-as r replies.Reserved answers (plain.Reserved, refl)
-IsPlain-told c h (Header count ranging_start ranging_end data_start data_end) r told answers =
-    IsPlain-as r replies.Noted answers (plain.Noted, refl)
+IsPlain-told c h (Header header) r told answers = IsPlain-as r replies.Noted answers (plain.Noted, refl)
 
 -- the answer is one
 pub told-one : (c : Config) (h : List Entry) (call : Call) (r r' : Reply) → is_told call ≡ true → Answers c h call r
@@ -104,8 +103,7 @@ told-one c h (Skip now) r r' told answers other =
     answers.2 ∙ ap (λ start. replies.Skipped start) (start-one c _ answers.0 other.0 answers.1 other.1) ∙ sym other.2
 told-one c h (Status sid) r r' told answers other = status-one sid (life_of sid h) r r' answers other
 told-one c h (Reserve usage slots) r r' told answers other = answers ∙ sym other
-told-one c h (Header count ranging_start ranging_end data_start data_end) r r' told answers other =
-    answers ∙ sym other
+told-one c h (Header header) r r' told answers other = answers ∙ sym other
 
 module _ (c : Config) (h : List Entry) (call : Call) (told : is_told call ≡ true) (answer reply : Reply)
     (answers : Answers c h call answer) where

@@ -21,7 +21,7 @@ use Rattle.sched_history.specs.declared.reply.Reply.{Reply}
 use Rattle.sched_history.specs.declared.reply.Reply.TheVariants as replies
 use Rattle.sched_history.specs.declared.reply.Entry.{Entry}
 use Rattle.sched_history.specs.Life.{life_of, flows_of}
-use Rattle.sched_history.specs.Reserves.{new_reserve, reserves_of, header_call}
+use Rattle.sched_history.specs.Reserves.{new_reserve, reserves_of}
 use Rattle.sched_history.specs.State.{IsStateAfter, IsQuiet}
 use Rattle.sched_history.proofs.lives.FlowsAfter.{flows_of-quiet, table_of-stays}
 use Rattle.sched_history.proofs.flows.FlowCalls.{flows_of-ask, table_of-ask, flows_of-remove, table_of-remove}
@@ -244,9 +244,9 @@ module _ (s : State) (h : List Entry) (is_after : IsStateAfter s h) (stamp : Sta
 
   -- after a header
   pub IsStateAfter-headed : (header : Header) → IsStateAfter (record s { header = header })
-      (h ++ record { stamp = stamp; call = header_call header; reply = replies.Noted } ∷ [])
+      (h ++ record { stamp = stamp; call = calls.Header header; reply = replies.Noted } ∷ [])
   IsStateAfter-headed header =
-      let e : Entry = entry (header_call header) replies.Noted in
+      let e : Entry = entry (calls.Header header) replies.Noted in
       record {
         lawful = is_after.lawful;
         book_config = is_after.book_config;

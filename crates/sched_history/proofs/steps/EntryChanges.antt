@@ -173,10 +173,9 @@ module _ (c : Config) (lawful : IsLawful c) (stamp : Stamp) (h : List Entry) whe
   answered (calls.Reserve usage slots) reply none answers =
       by_reply (calls.Reserve usage slots) reply replies.Reserved answers
       (quiet (calls.Reserve usage slots) replies.Reserved (λ sid. refl) (λ sid. refl) (λ sid. refl) refl refl)
-  answered (calls.Header count ranging_start ranging_end data_start data_end) reply none answers =
-      let call : Call = calls.Header count ranging_start ranging_end data_start data_end in
-      by_reply call reply replies.Noted answers
-      (quiet call replies.Noted (λ sid. refl) (λ sid. refl) (λ sid. refl) refl refl)
+  answered (calls.Header header) reply none answers =
+      by_reply (calls.Header header) reply replies.Noted answers
+      (quiet (calls.Header header) replies.Noted (λ sid. refl) (λ sid. refl) (λ sid. refl) refl refl)
 
   stepped : (call : Call) (reply : Reply) (o : Option Refusal) → refusal_of c h call ≡ o
       → MatchOption o (Answers c h call reply) (λ refusal. reply ≡ replies.Refused refusal)

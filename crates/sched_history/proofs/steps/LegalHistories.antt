@@ -119,8 +119,7 @@ change_by_answer c h (calls.Build now) reply answers = Builds answers.0 answers.
 change_by_answer c h (calls.Skip now) reply answers = Skips now answers.0 refl answers.1 answers.2
 change_by_answer c h (calls.Status sid) reply answers = Stays (still_status sid (life_of sid h) reply answers)
 change_by_answer c h (calls.Reserve usage slots) reply answers = Stays (subst IsStill (sym answers) (refl, refl))
-change_by_answer c h (calls.Header count ranging_start ranging_end data_start data_end) reply answers =
-    Stays (subst IsStill (sym answers) (refl, refl))
+change_by_answer c h (calls.Header header) reply answers = Stays (subst IsStill (sym answers) (refl, refl))
 
 change_by_match : (c : Config) (h : List Entry) (call : Call) (reply : Reply) (refusal : Option Refusal)
     → MatchOption refusal (Answers c h call reply) (λ r. reply ≡ replies.Refused r) → Change c h call reply

@@ -3,7 +3,6 @@
 ghost use Rattle.std.specs.Prelude.{◌≡◌, ◌+◌, List, false, true, IfOk, OnErr};
 ghost use Rattle.flow_book.specs.FlowSpec.{is_periodic};
 ghost use Rattle.sched_history.specs.declared.reply.Entry.{Entry};
-ghost use Rattle.sched_history.specs.Reserves.{header_call};
 ghost use Rattle.sched_history.specs.Time.{IsFirstStart};
 ghost use Rattle.sched_history.specs.State.{IsOpenTo, IsOpen, IsBuildAfter, AnswersOpen, TakesMemoryOpen, IsAnswered};
 
@@ -48,19 +47,7 @@ impl State {
             Call::Skip { now } => Ok(self.skip(now)),
             Call::Status(sid) => Ok(self.tell(sid)),
             Call::Reserve { usage, slots } => Ok(self.reserve(usage, slots)),
-            Call::Header {
-                ucd_count,
-                ranging_start,
-                ranging_end,
-                data_start,
-                data_end,
-            } => Ok(self.note_header(Header {
-                ucd_count,
-                ranging_start,
-                ranging_end,
-                data_start,
-                data_end,
-            })),
+            Call::Header(header) => Ok(self.note_header(header)),
         }
     }
 
@@ -143,8 +130,8 @@ impl State {
 
     // Notes the header of the next MAPs.
     fn note_header(&mut self, header: Header) -> Answer
-        requires { IsOpen self.old (header_call header) }
-        ensures { AnswersOpen self.old self.new (header_call header) result }
+        requires { IsOpen self.old (Call.Header header) }
+        ensures { AnswersOpen self.old self.new (Call.Header header) result }
     {
         self.header = header;
         Answer {

@@ -73,7 +73,7 @@ impl State {
             Call::Skip { now } => Reply::Skipped(self.start_after(now)),
             Call::Status(sid) => self.tell(sid).reply,
             Call::Reserve { .. } => Reply::Reserved,
-            Call::Header { .. } => Reply::Noted,
+            Call::Header(_) => Reply::Noted,
         }
     }
 

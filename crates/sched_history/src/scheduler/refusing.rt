@@ -12,7 +12,7 @@ use super::present::Present;
 use crate::call::Call;
 use crate::reply::Refusal;
 use flow_book::{FlowSpec, MAX_FLOWS};
-use map_build::Usage;
+use map_build::{Header, Usage};
 use periodic::MAX_PERIODIC_GRANTS;
 
 // The greatest SID of a flow.
@@ -47,20 +47,15 @@ pub(super) fn takes_requests(spec: FlowSpec) -> bool
     !matches!(spec, FlowSpec::Unsolicited { .. })
 }
 
-// The refusal of exponents of backoff windows.
-fn refuse_backoff(
-    ranging_start: u8,
-    ranging_end: u8,
-    data_start: u8,
-    data_end: u8,
-) -> Option<Refusal>
-    ensures { result ≡ refused_if (is_wide ranging_start || is_wide ranging_end
-        || is_wide data_start || is_wide data_end) Refusal.BadBackoff }
+// The refusal of a header's exponents.
+fn refuse_backoff(header: Header) -> Option<Refusal>
+    ensures { result ≡ refused_if (is_wide header.ranging_start || is_wide header.ranging_end
+        || is_wide header.data_start || is_wide header.data_end) Refusal.BadBackoff }
 {
-    if ranging_start > MOST_EXPONENT
-        || ranging_end > MOST_EXPONENT
-        || data_start > MOST_EXPONENT
-        || data_end > MOST_EXPONENT
+    if header.ranging_start > MOST_EXPONENT
+        || header.ranging_end > MOST_EXPONENT
+        || header.data_start > MOST_EXPONENT
+        || header.data_end > MOST_EXPONENT
     {
         Some(Refusal::BadBackoff)
     } else {
@@ -89,13 +84,7 @@ impl<'a> Present<'a> {
             Call::Build { now } => self.refuse_build(now),
             Call::Skip { now } => self.refuse_skip(now),
             Call::Reserve { usage, slots } => self.refuse_reserve(usage, slots),
-            Call::Header {
-                ranging_start,
-                ranging_end,
-                data_start,
-                data_end,
-                ..
-            } => refuse_backoff(ranging_start, ranging_end, data_start, data_end),
+            Call::Header(header) => refuse_backoff(header),
         }
     }
 
