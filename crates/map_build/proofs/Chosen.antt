@@ -1,4 +1,4 @@
--- What stands at the offset that a draft has reached: the first of the first rank that is not empty.
+-- What stands at the offset that a draft has reached: the first of the first class that is not empty.
 use Rattle.std.proofs.Common.{◌≡◌, ℕ, zero, suc, ◌+◌, ◌<◌, ◌≤◌, ◌⊎◌, Bool, true, false, List, [], ◌∷◌, length}
 use Rattle.std.proofs.Common.{Contains}
 use Rattle.std.proofs.Common.{◌==◌, Option, None, Some, inl, inr, refl, ap, ◌∙◌, subst, arith}

@@ -10,7 +10,7 @@ use Rattle.map_build.specs.declared.purpose.Allocation.{Allocation}
 use Rattle.map_build.specs.declared.purpose.Purpose.{Purpose}
 use Rattle.map_build.specs.declared.purpose.Purpose.TheVariants.{Poll, UnsolicitedGrant, Offer, DataGrant, Idle}
 use Rattle.map_build.specs.Purpose.{allocation_of}
-use Rattle.map_build.specs.Plan.{Demand, next_stop, grants_in, most_grants, IsOfRank}
+use Rattle.map_build.specs.Plan.{Demand, next_stop, grants_in, most_grants, IsOfClass}
 use Rattle.map_build.specs.Spots.{AreInFrame}
 use Rattle.map_build.specs.Walk.{AreTaken}
 use Rattle.map_build.proofs.FlowsAfter.{allocation}
@@ -19,7 +19,7 @@ use Rattle.map_build.proofs.Standings.{spot-within, spots-apart}
 
 -- one data grant more is at most the most
 pub grants-within : (c : Config) (d : Demand) (before : List Allocation) (offset slots : ℕ) (purpose : Purpose) →
-    IsOfRank c d before offset slots purpose → grants_in before ≤ most_grants d.waiting →
+    IsOfClass c d before offset slots purpose → grants_in before ≤ most_grants d.waiting →
     grants_in before + grants_in (allocation offset slots purpose ∷ []) ≤ most_grants d.waiting
 grants-within c d before offset slots (Poll sid) stands few = omega arith
 grants-within c d before offset slots (UnsolicitedGrant sid) stands few = omega arith
@@ -48,7 +48,7 @@ clear-room c spots a inside fits = (
 
 -- what stands there is clear of other spots
 pub clear-purpose : (c : Config) (d : Demand) (before : List Allocation) (offset slots : ℕ) (purpose : Purpose) →
-    AreInFrame c d.spots → offset ≤ c.frame → 0 < slots → IsOfRank c d before offset slots purpose →
+    AreInFrame c d.spots → offset ≤ c.frame → 0 < slots → IsOfClass c d before offset slots purpose →
     IsClear c d.spots (allocation offset slots purpose)
 clear-purpose c d before offset slots (Poll sid) are inside some stands =
     clear-spot c d.spots (record { sid = sid; poll = true; offset = offset; slots = slots }) are stands

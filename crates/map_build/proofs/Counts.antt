@@ -12,7 +12,7 @@ use Rattle.map_build.specs.declared.purpose.Allocation.{Allocation}
 use Rattle.map_build.specs.declared.purpose.Purpose.{Purpose}
 use Rattle.map_build.specs.declared.purpose.Purpose.TheVariants.{Poll, UnsolicitedGrant, Offer, DataGrant, Idle}
 use Rattle.map_build.specs.Purpose.{is_data_grant}
-use Rattle.map_build.specs.Plan.{Demand, next_stop, grants_in, end_of, most_grants, Stands, IsOfRank}
+use Rattle.map_build.specs.Plan.{Demand, next_stop, grants_in, end_of, most_grants, Stands, IsOfClass}
 use Rattle.map_build.proofs.FlowsAfter.{allocation}
 use Rattle.map_build.proofs.Offers.{unmet, unmet-most, unmet-push, unmet-fewer, unmet-test, place-below}
 use Rattle.map_build.proofs.Stops.{next_stop-again}
@@ -71,7 +71,7 @@ module _ (c : Config) (d : Demand) (overhead : 0 < c.overhead) where
 
   few-step : (idles : ℕ) (before : List Allocation) (offset slots : ℕ) (purpose : Purpose) (more : ℕ) → 0 < slots →
       grants_in before ≤ most_grants d.waiting →
-      IsVacant idles offset → IsOfRank c d before offset slots purpose →
+      IsVacant idles offset → IsOfClass c d before offset slots purpose →
       ((idles' : ℕ) → grants_in before + grants_in (allocation offset slots purpose ∷ []) ≤ most_grants d.waiting →
       IsVacant idles' (offset + slots) →
       IsFew idles' (offset + slots) (grants_in before + grants_in (allocation offset slots purpose ∷ []))

@@ -18,10 +18,10 @@ use Rattle.map_build.specs.declared.purpose.Allocation.{Allocation}
 use Rattle.map_build.specs.declared.purpose.Purpose.{Purpose}
 use Rattle.map_build.specs.declared.purpose.Purpose.TheVariants.{Poll, UnsolicitedGrant, Offer, DataGrant, Idle}
 use Rattle.map_build.specs.EachAfter.{EachAfter}
-use Rattle.map_build.specs.Purpose.{rank_of, ranks_before, place_of, allocation_of}
+use Rattle.map_build.specs.Purpose.{class_of, classes_before, place_of, allocation_of}
 use Rattle.map_build.specs.Opportunities.{MayWait, HasGap, MeetsFirst}
 use Rattle.map_build.specs.Plan.{Demand, next_stop, room_at, end_of, IsMetIn, MayMeet, NoneOf}
-use Rattle.map_build.specs.Plan.{IsOfRank, Stands, IsPlan}
+use Rattle.map_build.specs.Plan.{IsOfClass, Stands, IsPlan}
 use Rattle.map_build.specs.FrameMap.{AreMet, IsLawfulFrame}
 use Rattle.map_build.proofs.Chosen.{waiting-some}
 use Rattle.map_build.proofs.Clear.{contains-more, contains-later}
@@ -129,8 +129,8 @@ module _ (c : Config) (d : Demand) where
 
     -- so where it is not met yet it is what has the gap's first minislot
     stands-at-gap : (before : List Allocation) (offset slots : ℕ) (purpose : Purpose) →
-        IsOfRank c d before offset slots purpose →
-        AllByRecursion (NoneOf c d before offset) (ranks_before (rank_of purpose)) →
+        IsOfClass c d before offset slots purpose →
+        AllByRecursion (NoneOf c d before offset) (classes_before (class_of purpose)) →
         (IsMetIn before 0 → ⊥) → offset ≤ gap.from → gap.from < offset + slots →
         IsMetIn (before ++ allocation offset slots purpose ∷ []) 0
     stands-at-gap before offset slots (Poll sid) is first never le lt = absurd (no-spot _ is le lt)
@@ -194,7 +194,7 @@ module _ (c : Config) (d : Demand) where
 
     -- the opportunity that stands at a place is as long as the room
     offer-fits : (before : List Allocation) (offset slots place : ℕ) (purpose : Purpose) (o : Opportunity) →
-        IsOfRank c d before offset slots purpose → place_of purpose ≡ Some place → slice_get d.waiting place ≡ Some o →
+        IsOfClass c d before offset slots purpose → place_of purpose ≡ Some place → slice_get d.waiting place ≡ Some o →
         (o.slots ≡ slots) × (slots ≤ room_at c d.spots offset)
     offer-fits before offset slots place (Poll sid) o stands at waits = absurd (cc)
     offer-fits before offset slots place (UnsolicitedGrant sid) o stands at waits = absurd (cc)

@@ -10,8 +10,8 @@ use Rattle.periodic.specs.declared.placement.Spot.{Spot}
 use Rattle.map_build.specs.declared.purpose.Allocation.{Allocation}
 use Rattle.map_build.specs.declared.purpose.Purpose.{Purpose}
 use Rattle.map_build.specs.declared.purpose.Purpose.TheVariants.{Poll, UnsolicitedGrant, Offer, DataGrant, Idle}
-use Rattle.map_build.specs.Purpose.{Rank, Placed, Reserved, Requested, Left, rank_of, ranks_before, allocation_of}
-use Rattle.map_build.specs.Plan.{Demand, next_stop, NoneOf, IsOfRank, Stands}
+use Rattle.map_build.specs.Purpose.{Class, Placed, Reserved, Requested, Left, class_of, classes_before, allocation_of}
+use Rattle.map_build.specs.Plan.{Demand, next_stop, NoneOf, IsOfClass, Stands}
 use Rattle.map_build.specs.Spots.{IsInFrame, AreInFrame}
 use Rattle.map_build.specs.Left.{left_at, AreAhead, AreLeft}
 use Rattle.map_build.proofs.Clear.{IsClear, clear-purpose, contains-later}
@@ -68,15 +68,15 @@ all-weaker P Q (x ∷ xs) weaker all = (weaker x all.0, all-weaker P Q xs weaker
 
 module _ (c : Config) (d : Demand) (left : List Spot) (before : List Allocation) (offset : ℕ)
     (are : AreLeft c d.spots left offset) where
-  purpose-whole : (slots : ℕ) (purpose : Purpose) → IsOfRank c (with_spots left d) before offset slots purpose
-      → IsOfRank c d before offset slots purpose
+  purpose-whole : (slots : ℕ) (purpose : Purpose) → IsOfClass c (with_spots left d) before offset slots purpose
+      → IsOfClass c d before offset slots purpose
   purpose-whole slots (Poll sid) stands = are.some _ stands
   purpose-whole slots (UnsolicitedGrant sid) stands = are.some _ stands
   purpose-whole slots (Offer place usage) stands = rw (are.stops offset (omega arith)) stands
   purpose-whole slots (DataGrant sid bytes) stands = rw (are.stops offset (omega arith)) stands
   purpose-whole slots Idle stands = rw (are.stops offset (omega arith)) stands
 
-  none-whole : (r : Rank) → NoneOf c (with_spots left d) before offset r → NoneOf c d before offset r
+  none-whole : (r : Class) → NoneOf c (with_spots left d) before offset r → NoneOf c d before offset r
   none-whole Placed none = rw (are.stops offset (omega arith)) none
   none-whole Reserved none = rw (are.stops offset (omega arith)) none
   none-whole Requested none = rw (are.stops offset (omega arith)) none
@@ -90,7 +90,7 @@ stands-whole c d left before a are stands = record {
   follows = stands.follows;
   purpose = purpose-whole c d left before a.offset are a.slots a.purpose stands.purpose;
   first = all-weaker (NoneOf c (with_spots left d) before a.offset) (NoneOf c d before a.offset)
-      (ranks_before (rank_of a.purpose)) (none-whole c d left before a.offset are) stands.first;
+      (classes_before (class_of a.purpose)) (none-whole c d left before a.offset are) stands.first;
 }
 
 -- what stands there is clear of the spots that are left

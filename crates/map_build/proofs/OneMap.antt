@@ -1,4 +1,4 @@
--- The lawful MAP for what a frame has to serve is one: by rank, and in each rank there is one.
+-- The lawful MAP for what a frame has to serve is one: by class, and in each class there is one.
 use Rattle.std.proofs.Common.{◌≡◌, ℕ, zero, suc, ◌+◌, ◌<◌, ◌≤◌, true, false, ◌&&◌, ◌||◌, List, [], ◌∷◌, ◌++◌}
 use Rattle.std.proofs.Common.{length, Option, None, Some, refl, sym, ap, subst, ◌∙◌, inl, inr, append_assoc, arith}
 use Rattle.std.specs.Prelude.{nat_lt, nat_le, ◌==◌, min, slice_index_or, Contains}
@@ -20,9 +20,9 @@ use Rattle.map_build.specs.declared.purpose.Allocation.{Allocation}
 use Rattle.map_build.specs.declared.purpose.Purpose.{Purpose}
 use Rattle.map_build.specs.declared.purpose.Purpose.TheVariants.{Poll, UnsolicitedGrant, Offer, DataGrant, Idle}
 use Rattle.map_build.specs.EachAfter.{EachAfter}
-use Rattle.map_build.specs.Purpose.{Rank, Placed, Reserved, Requested, Left, rank_of, ranks_before, allocation_of}
+use Rattle.map_build.specs.Purpose.{Class, Placed, Reserved, Requested, Left, class_of, classes_before, allocation_of}
 use Rattle.map_build.specs.FrameMap.{map_of, IsLawfulMap}
-use Rattle.map_build.specs.Plan.{Demand, flows_after, next_stop, room_at, IsFirstToMeet, NoneOf, IsOfRank, end_of}
+use Rattle.map_build.specs.Plan.{Demand, flows_after, next_stop, room_at, IsFirstToMeet, NoneOf, IsOfClass, end_of}
 use Rattle.map_build.specs.Plan.{Stands, IsPlan}
 
 -- of two flows at most one is before the other, by ranks, last starts and SIDs
@@ -79,25 +79,25 @@ abbrev told : Opportunity → Option Opportunity → Opportunity
 told o None = o
 told o (Some p) = p
 
--- what may stand at an offset is of one rank, where of each the ranks before are empty
-one_rank : (N A : Rank → Type 0) → ((r : Rank) → A r → N r → ⊥) → (r s : Rank) → A r → A s →
-    AllByRecursion N (ranks_before r) → AllByRecursion N (ranks_before s) → r ≡ s
-one_rank N A apart Placed Placed a b before before' = refl
-one_rank N A apart Placed Reserved a b before before' = absurd (apart Placed a before'.0)
-one_rank N A apart Placed Requested a b before before' = absurd (apart Placed a before'.0)
-one_rank N A apart Placed Left a b before before' = absurd (apart Placed a before'.0)
-one_rank N A apart Reserved Placed a b before before' = absurd (apart Placed b before.0)
-one_rank N A apart Reserved Reserved a b before before' = refl
-one_rank N A apart Reserved Requested a b before before' = absurd (apart Reserved a before'.1.0)
-one_rank N A apart Reserved Left a b before before' = absurd (apart Reserved a before'.1.0)
-one_rank N A apart Requested Placed a b before before' = absurd (apart Placed b before.0)
-one_rank N A apart Requested Reserved a b before before' = absurd (apart Reserved b before.1.0)
-one_rank N A apart Requested Requested a b before before' = refl
-one_rank N A apart Requested Left a b before before' = absurd (apart Requested a before'.1.1.0)
-one_rank N A apart Left Placed a b before before' = absurd (apart Placed b before.0)
-one_rank N A apart Left Reserved a b before before' = absurd (apart Reserved b before.1.0)
-one_rank N A apart Left Requested a b before before' = absurd (apart Requested b before.1.1.0)
-one_rank N A apart Left Left a b before before' = refl
+-- what may stand at an offset is of one class, where of each the classes before are empty
+one_class : (N A : Class → Type 0) → ((r : Class) → A r → N r → ⊥) → (r s : Class) → A r → A s →
+    AllByRecursion N (classes_before r) → AllByRecursion N (classes_before s) → r ≡ s
+one_class N A apart Placed Placed a b before before' = refl
+one_class N A apart Placed Reserved a b before before' = absurd (apart Placed a before'.0)
+one_class N A apart Placed Requested a b before before' = absurd (apart Placed a before'.0)
+one_class N A apart Placed Left a b before before' = absurd (apart Placed a before'.0)
+one_class N A apart Reserved Placed a b before before' = absurd (apart Placed b before.0)
+one_class N A apart Reserved Reserved a b before before' = refl
+one_class N A apart Reserved Requested a b before before' = absurd (apart Reserved a before'.1.0)
+one_class N A apart Reserved Left a b before before' = absurd (apart Reserved a before'.1.0)
+one_class N A apart Requested Placed a b before before' = absurd (apart Placed b before.0)
+one_class N A apart Requested Reserved a b before before' = absurd (apart Reserved b before.1.0)
+one_class N A apart Requested Requested a b before before' = refl
+one_class N A apart Requested Left a b before before' = absurd (apart Requested a before'.1.1.0)
+one_class N A apart Left Placed a b before before' = absurd (apart Placed b before.0)
+one_class N A apart Left Reserved a b before before' = absurd (apart Reserved b before.1.0)
+one_class N A apart Left Requested a b before before' = absurd (apart Requested b before.1.1.0)
+one_class N A apart Left Left a b before before' = refl
 
 module _ (c : Config) (d : Demand) (overhead : 0 < c.overhead) (apart : BeginApart d.spots) where
   -- a spot leaves no room
@@ -107,33 +107,33 @@ module _ (c : Config) (d : Demand) (overhead : 0 < c.overhead) (apart : BeginApa
 
   -- the data grant of these bytes to this flow
   abbrev IsGrant : List Allocation → ℕ → ℕ → ℕ → ℕ → Type 0
-  IsGrant before offset slots sid bytes = IsOfRank c d before offset slots (DataGrant sid bytes)
+  IsGrant before offset slots sid bytes = IsOfClass c d before offset slots (DataGrant sid bytes)
 
-  -- what may stand of a rank
-  abbrev OfRank : List Allocation → ℕ → ℕ → Purpose → Rank → Type 0
-  OfRank before offset slots purpose Placed = (s : Spot) × Contains d.spots s × (s.offset ≡ offset) × (slots ≡ s.slots)
+  -- what may stand of a class
+  abbrev OfClass : List Allocation → ℕ → ℕ → Purpose → Class → Type 0
+  OfClass before offset slots purpose Placed = (s : Spot) × Contains d.spots s × (s.offset ≡ offset) × (slots ≡ s.slots)
       × (purpose ≡ (allocation_of s).purpose)
-  OfRank before offset slots purpose Reserved = (place : ℕ) × (o : Opportunity)
+  OfClass before offset slots purpose Reserved = (place : ℕ) × (o : Opportunity)
       × IsFirstToMeet d.waiting before (room_at c d.spots offset) place o × (slots ≡ o.slots)
       × (purpose ≡ Offer place o.usage)
-  OfRank before offset slots purpose Requested = (sid : ℕ) × (bytes : ℕ) × IsGrant before offset slots sid bytes
+  OfClass before offset slots purpose Requested = (sid : ℕ) × (bytes : ℕ) × IsGrant before offset slots sid bytes
       × (purpose ≡ DataGrant sid bytes)
-  OfRank before offset slots purpose Left = (slots ≡ room_at c d.spots offset) × (purpose ≡ Idle)
+  OfClass before offset slots purpose Left = (slots ≡ room_at c d.spots offset) × (purpose ≡ Idle)
 
-  -- each kind is of its rank
-  of_rank : (before : List Allocation) (offset slots : ℕ) (purpose : Purpose) →
-      IsOfRank c d before offset slots purpose → OfRank before offset slots purpose (rank_of purpose)
-  of_rank before offset slots (Poll sid) is =
+  -- each kind is of its class
+  of_class : (before : List Allocation) (offset slots : ℕ) (purpose : Purpose) →
+      IsOfClass c d before offset slots purpose → OfClass before offset slots purpose (class_of purpose)
+  of_class before offset slots (Poll sid) is =
       (record { sid = sid; poll = true; offset = offset; slots = slots }, is, refl, refl, refl)
-  of_rank before offset slots (UnsolicitedGrant sid) is =
+  of_class before offset slots (UnsolicitedGrant sid) is =
       (record { sid = sid; poll = false; offset = offset; slots = slots }, is, refl, refl, refl)
-  of_rank before offset slots (Offer place usage) is = (place, record { usage = usage; slots = slots }, is, refl, refl)
-  of_rank before offset slots (DataGrant sid bytes) is = (sid, bytes, is, refl)
-  of_rank before offset slots Idle is = (is, refl)
+  of_class before offset slots (Offer place usage) is = (place, record { usage = usage; slots = slots }, is, refl, refl)
+  of_class before offset slots (DataGrant sid bytes) is = (sid, bytes, is, refl)
+  of_class before offset slots Idle is = (is, refl)
 
-  -- where one may stand its rank is not empty
-  not_none : (before : List Allocation) (offset slots : ℕ) (purpose : Purpose) (r : Rank) →
-      OfRank before offset slots purpose r → NoneOf c d before offset r → ⊥
+  -- where one may stand its class is not empty
+  not_none : (before : List Allocation) (offset slots : ℕ) (purpose : Purpose) (r : Class) →
+      OfClass before offset slots purpose r → NoneOf c d before offset r → ⊥
   not_none before offset slots purpose Placed (s, has, here, long, is) none =
       omega (arith, spot_has_no_room s offset has here, none)
   not_none before offset slots purpose Reserved (place, o, first, long, is) none = none place o first.may
@@ -144,45 +144,46 @@ module _ (c : Config) (d : Demand) (overhead : 0 < c.overhead) (apart : BeginApa
   ]
   not_none before offset slots purpose Left is none = none
 
-  -- two of a rank are one
-  one_of_rank : (before : List Allocation) (offset slots slots' : ℕ) (purpose purpose' : Purpose) (r : Rank) →
-      OfRank before offset slots purpose r → OfRank before offset slots' purpose' r →
+  -- two of a class are one
+  one_of_class : (before : List Allocation) (offset slots slots' : ℕ) (purpose purpose' : Purpose) (r : Class) →
+      OfClass before offset slots purpose r → OfClass before offset slots' purpose' r →
       (slots ≡ slots') × (purpose ≡ purpose')
-  one_of_rank before offset slots slots' purpose purpose' Placed (s, has, here, long, is)
+  one_of_class before offset slots slots' purpose purpose' Placed (s, has, here, long, is)
       (t, has', here', long', is') =
       let one : s ≡ t = apart s t has has' (here ∙ sym here') in
       (long ∙ ap (λ u. u.slots) one ∙ sym long', is ∙ ap (λ u. (allocation_of u).purpose) one ∙ sym is')
-  one_of_rank before offset slots slots' purpose purpose' Reserved (place, o, first, long, is)
+  one_of_class before offset slots slots' purpose purpose' Reserved (place, o, first, long, is)
       (place', o', first', long', is') =
       let same : place ≡ place' = omega (arith, first.first place' o' first'.may, first'.first place o first.may) in
       let one : o ≡ o' = ap (told o) (sym first.may.waits ∙ ap (slice_get d.waiting) same ∙ first'.may.waits) in (
         long ∙ ap (λ p. p.slots) one ∙ sym long',
         is ∙ ap (λ n. Offer n o.usage) same ∙ ap (λ p. Offer place' p.usage) one ∙ sym is',
       )
-  one_of_rank before offset slots slots' purpose purpose' Requested (sid, bytes, g, is) (sid', bytes', h, is') =
+  one_of_class before offset slots slots' purpose purpose' Requested (sid, bytes, g, is) (sid', bytes', h, is') =
       let one = one_next c (flows_after d.start before d.flows) (d.start + offset) (room_at c d.spots offset) g.1 h.1
       g.3 h.3 in
       let amount = one_amount c h.1 (d.start + offset) (room_at c d.spots offset) bytes bytes' (rw one at g.4) h.4 in
       let same : sid ≡ sid' = sym g.2 ∙ ap (λ f. f.sid) one ∙ h.2 in
       (g.5 ∙ ap (slots_for c) amount ∙ sym h.5, is ∙ rw (same, amount) (sym is'))
-  one_of_rank before offset slots slots' purpose purpose' Left (long, is) (long', is') =
+  one_of_class before offset slots slots' purpose purpose' Left (long, is) (long', is') =
       (long ∙ sym long', is ∙ sym is')
 
-  -- something of a rank may stand
-  abbrev SomeOf : List Allocation → ℕ → Rank → Type 0
-  SomeOf before offset r = (slots : ℕ) × (purpose : Purpose) × OfRank before offset slots purpose r
+  -- something of a class may stand
+  abbrev SomeOf : List Allocation → ℕ → Class → Type 0
+  SomeOf before offset r = (slots : ℕ) × (purpose : Purpose) × OfClass before offset slots purpose r
 
   -- after the same allocations the same one stands
   same_next : (before : List Allocation) (a b : Allocation) → Stands c d before a → Stands c d before b → b ≡ a
   same_next before a b sa sb =
       let begins : b.offset ≡ a.offset = sb.follows ∙ sym sa.follows in
-      let is = of_rank before a.offset a.slots a.purpose sa.purpose in
-      let is' = of_rank before a.offset b.slots b.purpose (rw begins at sb.purpose) in
-      let rank : rank_of b.purpose ≡ rank_of a.purpose = one_rank (NoneOf c d before a.offset) (SomeOf before a.offset)
-      (λ r some none. not_none before a.offset some.0 some.1 r some.2 none) (rank_of b.purpose) (rank_of a.purpose)
+      let is = of_class before a.offset a.slots a.purpose sa.purpose in
+      let is' = of_class before a.offset b.slots b.purpose (rw begins at sb.purpose) in
+      let same_class : class_of b.purpose ≡ class_of a.purpose =
+      one_class (NoneOf c d before a.offset) (SomeOf before a.offset)
+      (λ r some none. not_none before a.offset some.0 some.1 r some.2 none) (class_of b.purpose) (class_of a.purpose)
       (b.slots, b.purpose, is') (a.slots, a.purpose, is) (rw begins at sb.first) sa.first in
-      let same = one_of_rank before a.offset b.slots a.slots b.purpose a.purpose (rank_of a.purpose)
-      (subst (OfRank before a.offset b.slots b.purpose) rank is') is in
+      let same = one_of_class before a.offset b.slots a.slots b.purpose a.purpose (class_of a.purpose)
+      (subst (OfClass before a.offset b.slots b.purpose) same_class is') is in
       same_allocation b a begins same.0 same.1
 
   -- after the same allocations the same ones fill the frame

@@ -20,9 +20,9 @@ use Rattle.map_build.specs.declared.purpose.Allocation.{Allocation}
 use Rattle.map_build.specs.declared.purpose.Purpose.{Purpose}
 use Rattle.map_build.specs.declared.purpose.Purpose.TheVariants.{Poll, UnsolicitedGrant, Offer, DataGrant, Idle}
 use Rattle.map_build.specs.EachAfter.{EachAfter}
-use Rattle.map_build.specs.Purpose.{Rank, Placed, Reserved, Requested, Left, rank_of, ranks_before, allocation_of}
+use Rattle.map_build.specs.Purpose.{Class, Placed, Reserved, Requested, Left, class_of, classes_before, allocation_of}
 use Rattle.map_build.specs.Plan.{Demand, demand_at, next_stop, room_at, flows_after, IsFirstToMeet, NoneToMeet}
-use Rattle.map_build.specs.Plan.{NoneOf, IsOfRank, Stands, IsPlan}
+use Rattle.map_build.specs.Plan.{NoneOf, IsOfClass, Stands, IsPlan}
 use Rattle.map_build.specs.FrameMap.{IsLawfulMap, IsLawfulFrame}
 use Rattle.map_build.specs.Spots.{IsInFrame, AreInFrame, HaveFlowSids}
 use Rattle.map_build.proofs.Left.{with_spots, all-weaker}
@@ -56,7 +56,7 @@ module _ (c : Config) (d : Demand) (others : List Spot) (there : AreAmong d.spot
       omega (arith, next_stop-among c d.spots others offset there, next_stop-among c others d.spots offset back)
 
   same-purpose : (before : List Allocation) (offset slots : ℕ) (purpose : Purpose) →
-      IsOfRank c d before offset slots purpose → IsOfRank c (with_spots others d) before offset slots purpose
+      IsOfClass c d before offset slots purpose → IsOfClass c (with_spots others d) before offset slots purpose
   same-purpose before offset slots (Poll sid) is = there _ is
   same-purpose before offset slots (UnsolicitedGrant sid) is = there _ is
   same-purpose before offset slots (Offer place usage) is =
@@ -72,7 +72,7 @@ module _ (c : Config) (d : Demand) (others : List Spot) (there : AreAmong d.spot
   )
   same-purpose before offset slots Idle is = is ∙ same-room offset
 
-  same-none : (before : List Allocation) (offset : ℕ) (r : Rank) → NoneOf c d before offset r →
+  same-none : (before : List Allocation) (offset : ℕ) (r : Class) → NoneOf c d before offset r →
       NoneOf c (with_spots others d) before offset r
   same-none before offset Placed none = subst (λ r. 0 < r) (same-room offset) none
   same-none before offset Reserved none = subst (λ r. NoneToMeet d.waiting before r) (same-room offset) none
@@ -92,7 +92,7 @@ module _ (c : Config) (d : Demand) (others : List Spot) (there : AreAmong d.spot
       follows = each.0.follows;
       purpose = same-purpose before a.offset a.slots a.purpose each.0.purpose;
       first = all-weaker (NoneOf c d before a.offset) (NoneOf c (with_spots others d) before a.offset)
-          (ranks_before (rank_of a.purpose)) (same-none before a.offset) each.0.first;
+          (classes_before (class_of a.purpose)) (same-none before a.offset) each.0.first;
     },
     same-each (before ++ a ∷ []) plan each.1,
   )

@@ -23,7 +23,7 @@ use Rattle.map_build.specs.declared.purpose.Purpose.{Purpose}
 use Rattle.map_build.specs.declared.purpose.Purpose.TheVariants.{Poll, UnsolicitedGrant, Offer, DataGrant, Idle}
 use Rattle.map_build.specs.Purpose.{kind_of, element_of, sid_for}
 use Rattle.map_build.specs.Opportunities.{HasStationSid, HaveStationSids}
-use Rattle.map_build.specs.Plan.{Demand, end_of, flows_after, Stands, IsOfRank}
+use Rattle.map_build.specs.Plan.{Demand, end_of, flows_after, Stands, IsOfClass}
 use Rattle.map_build.specs.UsageCodes.{short_iuc, long_iuc, data_iuc}
 use Rattle.map_build.specs.FrameMap.{pending_of, request_region, null_element, elements_of}
 
@@ -130,7 +130,7 @@ module _ (c : Config) (d : Demand) (sids : HaveSids d.flows) (places : HaveSpotS
     (stations : HaveStationSids d.waiting) where
   -- the SID of an allocation's element is in range
   kind_of-sid : (before : List Allocation) (offset slots : ℕ) (purpose : Purpose) →
-      IsOfRank c d before offset slots purpose → (kind_of c slots purpose).sid < 2 ^ 14
+      IsOfClass c d before offset slots purpose → (kind_of c slots purpose).sid < 2 ^ 14
   kind_of-sid before offset slots (Offer place usage) stands =
       sid_for-short usage (waiting-sid d.waiting place _ stations stands.may.waits)
   kind_of-sid before offset slots (Poll sid) stands =

@@ -15,7 +15,7 @@ use Rattle.map_build.specs.declared.purpose.Allocation.{Allocation}
 use Rattle.map_build.specs.declared.purpose.Purpose.{Purpose}
 use Rattle.map_build.specs.declared.purpose.Purpose.TheVariants.{Poll, UnsolicitedGrant, Offer, DataGrant, Idle}
 use Rattle.map_build.specs.EachAfter.{EachAfter}
-use Rattle.map_build.specs.Purpose.{Rank, Placed, Reserved, Requested, Left, rank_of, ranks_before}
+use Rattle.map_build.specs.Purpose.{Class, Placed, Reserved, Requested, Left, class_of, classes_before}
 use Rattle.map_build.specs.Purpose.{is_data_grant, place_of, grant_to, allocation_of}
 
 -- What a frame has to serve: the minislot at which it starts, the live flows before it, what polls and unsolicited
@@ -90,34 +90,34 @@ pub record IsFirstToMeet (waiting : List Opportunity) (before : List Allocation)
   pub may : MayMeet waiting before room place o
   pub first : (earlier : ℕ) (p : Opportunity) → MayMeet waiting before room earlier p → place ≤ earlier
 
--- nothing of this rank is to stand here, where these allocations stand before. What has its place in the cycle begins
+-- nothing of this class is to stand here, where these allocations stand before. What has its place in the cycle begins
 -- only where there is no room up to it.
-abbrev pub NoneOf : Config → Demand → List Allocation → ℕ → Rank → Type 0
+abbrev pub NoneOf : Config → Demand → List Allocation → ℕ → Class → Type 0
 NoneOf c d before offset Placed = 0 < room_at c d.spots offset
 NoneOf c d before offset Reserved = NoneToMeet d.waiting before (room_at c d.spots offset)
 NoneOf c d before offset Requested = (most_grants d.waiting ≤ grants_in before)
     ⊎ NoneEligible c (flows_after d.start before d.flows) (d.start + offset) (room_at c d.spots offset)
 NoneOf c d before offset Left = ⊥
 
--- an allocation of so many minislots for this purpose is the one of its rank here, where these stand before
-abbrev pub IsOfRank : Config → Demand → List Allocation → ℕ → ℕ → Purpose → Type 0
-IsOfRank c d before offset slots (Poll sid) = IsSpot d.spots sid true offset slots
-IsOfRank c d before offset slots (UnsolicitedGrant sid) = IsSpot d.spots sid false offset slots
-IsOfRank c d before offset slots (Offer place usage) =
+-- an allocation of so many minislots for this purpose is the one of its class here, where these stand before
+abbrev pub IsOfClass : Config → Demand → List Allocation → ℕ → ℕ → Purpose → Type 0
+IsOfClass c d before offset slots (Poll sid) = IsSpot d.spots sid true offset slots
+IsOfClass c d before offset slots (UnsolicitedGrant sid) = IsSpot d.spots sid false offset slots
+IsOfClass c d before offset slots (Offer place usage) =
     IsFirstToMeet d.waiting before (room_at c d.spots offset) place (record { usage = usage; slots = slots })
-IsOfRank c d before offset slots (DataGrant sid bytes) = (grants_in before < most_grants d.waiting)
+IsOfClass c d before offset slots (DataGrant sid bytes) = (grants_in before < most_grants d.waiting)
     × (f : LiveFlow) × (f.sid ≡ sid)
     × IsNext c (flows_after d.start before d.flows) (d.start + offset) (room_at c d.spots offset) f
     × IsAmount c f (d.start + offset) (room_at c d.spots offset) bytes × (slots ≡ slots_for c bytes)
-IsOfRank c d before offset slots Idle = slots ≡ room_at c d.spots offset
+IsOfClass c d before offset slots Idle = slots ≡ room_at c d.spots offset
 
--- the allocation may stand after these: it is not empty, begins where they end, is the one of its rank, and nothing of
--- a rank before its own is to stand there
+-- the allocation may stand after these: it is not empty, begins where they end, is the one of its class, and nothing of
+-- a class before its own is to stand there
 pub record Stands (c : Config) (d : Demand) (before : List Allocation) (a : Allocation) : Type 0 where
   pub some_slots : 0 < a.slots
   pub follows : a.offset ≡ end_of c before
-  pub purpose : IsOfRank c d before a.offset a.slots a.purpose
-  pub first : AllByRecursion (NoneOf c d before a.offset) (ranks_before (rank_of a.purpose))
+  pub purpose : IsOfClass c d before a.offset a.slots a.purpose
+  pub first : AllByRecursion (NoneOf c d before a.offset) (classes_before (class_of a.purpose))
 
 -- The allocations fill a frame, lawfully for what it has to serve
 pub record IsPlan (c : Config) (d : Demand) (plan : List Allocation) : Type 0 where

@@ -1,4 +1,4 @@
--- The kinds of allocations: what each is on the wire, and its rank. A kind more is one line in each of these tables.
+-- The kinds of allocations: what each is on the wire, and its class. A kind more is one line in each of these tables.
 use Rattle.std.specs.Prelude.{ℕ, ◌+◌, Bool, true, false, ◌==◌, List, [], ◌∷◌, Option, None, Some, if◌then◌else◌}
 use Rattle.minislots.specs.declared.config.Config.{Config}
 use Rattle.map_codec.specs.declared.element.Element.{Element}
@@ -35,31 +35,31 @@ kind_of c slots (Offer place usage) = record { sid = sid_for usage; iuc = iuc_fo
 kind_of c slots (DataGrant sid bytes) = record { sid = sid; iuc = data_iuc c slots; bytes = bytes }
 kind_of c slots Idle = record { sid = 0; iuc = long_iuc c; bytes = 0 }
 
--- who goes first where several could stand at an offset
-pub data Rank : Type 0 where
+-- the classes of allocations, in the order of who goes first where several could stand at an offset
+pub data Class : Type 0 where
   -- what has its place in the cycle
-  Placed : Rank
+  Placed : Class
   -- what was reserved
-  Reserved : Rank
+  Reserved : Class
   -- what was requested
-  Requested : Rank
+  Requested : Class
   -- the rest
-  Left : Rank
+  Left : Class
 
--- the rank of each kind
-abbrev pub rank_of : Purpose → Rank
-rank_of (Poll sid) = Placed
-rank_of (UnsolicitedGrant sid) = Placed
-rank_of (Offer place usage) = Reserved
-rank_of (DataGrant sid bytes) = Requested
-rank_of Idle = Left
+-- the class of each kind
+abbrev pub class_of : Purpose → Class
+class_of (Poll sid) = Placed
+class_of (UnsolicitedGrant sid) = Placed
+class_of (Offer place usage) = Reserved
+class_of (DataGrant sid bytes) = Requested
+class_of Idle = Left
 
--- the ranks that go before this one
-abbrev pub ranks_before : Rank → List Rank
-ranks_before Placed = []
-ranks_before Reserved = Placed ∷ []
-ranks_before Requested = Placed ∷ Reserved ∷ []
-ranks_before Left = Placed ∷ Reserved ∷ Requested ∷ []
+-- the classes that go before this one
+abbrev pub classes_before : Class → List Class
+classes_before Placed = []
+classes_before Reserved = Placed ∷ []
+classes_before Requested = Placed ∷ Reserved ∷ []
+classes_before Left = Placed ∷ Reserved ∷ Requested ∷ []
 
 -- whether it is a data grant
 abbrev pub is_data_grant : Purpose → Bool

@@ -37,7 +37,7 @@ impl Draft {
         Ok(())
     }
 
-    // What stands at the offset that is reached, by rank: the spot that begins there, else the first opportunity that
+    // What stands at the offset that is reached, by class: the spot that begins there, else the first opportunity that
     // waits and fits, else a data grant to the flow that is next, else an idle. The spots are those that are left.
     fn next(&mut self, spots: &[Spot], waiting: &[Opportunity]) -> Allocation
         requires placed { AreInFrame self.old.book.config spots.now }

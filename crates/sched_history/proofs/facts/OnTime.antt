@@ -21,7 +21,7 @@ use Rattle.map_build.specs.declared.purpose.Allocation.{Allocation}
 use Rattle.map_build.specs.declared.purpose.Purpose.{Purpose}
 use Rattle.map_build.specs.declared.purpose.Purpose.TheVariants.{Poll, UnsolicitedGrant, Offer, DataGrant, Idle}
 use Rattle.map_build.specs.Purpose.{broadcast, kind_of, element_of, bytes_in}
-use Rattle.map_build.specs.Plan.{Demand, flows_after, IsOfRank, Stands}
+use Rattle.map_build.specs.Plan.{Demand, flows_after, IsOfClass, Stands}
 use Rattle.map_build.specs.FrameMap.{request_region, null_element, pending_of, pending, map_of}
 use Rattle.sched_history.specs.declared.call.Call.{Call}
 use Rattle.sched_history.specs.declared.reply.Reply.{Reply}
@@ -117,7 +117,7 @@ module _ (c : Config) (d : Demand) (table : List Placed) (same : d.spots ≡ spo
 
   -- an allocation's element
   timely-element : (before : List Allocation) (offset slots : ℕ) (purpose : Purpose)
-      → IsOfRank c d before offset slots purpose
+      → IsOfClass c d before offset slots purpose
       → IsTimely c table d.start (element_for c offset slots purpose, (kind_of c slots purpose).bytes)
   timely-element before offset slots (Poll sid) stands periodic =
       timely-spot (record { sid = sid; poll = true; offset = offset; slots = slots })

@@ -12,7 +12,7 @@ use Rattle.map_build.specs.declared.purpose.Purpose.{Purpose}
 use Rattle.map_build.specs.declared.purpose.Purpose.TheVariants.{Poll, UnsolicitedGrant, Offer, DataGrant, Idle}
 use Rattle.map_build.specs.EachAfter.{EachAfter}
 use Rattle.map_build.specs.Purpose.{kind_of, grant_to, element_of, bytes_in}
-use Rattle.map_build.specs.Plan.{Demand, grants_to, flows_after, IsOfRank, Stands, IsPlan}
+use Rattle.map_build.specs.Plan.{Demand, grants_to, flows_after, IsOfClass, Stands, IsPlan}
 use Rattle.map_build.specs.FrameMap.{request_region, null_element, pending, map_of}
 use Rattle.sched_history.specs.Life.{grant_by, grants_of_map}
 use Rattle.sched_history.proofs.reserves.Offers.{element_for}
@@ -24,7 +24,7 @@ HasBytes purpose = Unit {0}
 
 module _ (c : Config) (d : Demand) where
   stands-HasBytes : (before : List Allocation) (offset slots : ℕ) (purpose : Purpose)
-      → IsOfRank c d before offset slots purpose → HasBytes purpose
+      → IsOfClass c d before offset slots purpose → HasBytes purpose
   stands-HasBytes before offset slots (DataGrant sid bytes) stands = stands.4.allowed.positive
   stands-HasBytes before offset slots purpose stands = tt
 

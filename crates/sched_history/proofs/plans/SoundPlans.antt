@@ -15,7 +15,7 @@ use Rattle.map_build.specs.declared.purpose.Purpose.{Purpose}
 use Rattle.map_build.specs.declared.purpose.Purpose.TheVariants.{DataGrant}
 use Rattle.map_build.specs.EachAfter.{EachAfter}
 use Rattle.map_build.specs.Purpose.{grant_to}
-use Rattle.map_build.specs.Plan.{Demand, flow_after, flows_after, room_at, IsOfRank, Stands}
+use Rattle.map_build.specs.Plan.{Demand, flow_after, flows_after, room_at, IsOfClass, Stands}
 use Rattle.sched_history.proofs.lists.Members.{IsImage, Contains-map}
 
 -- a flow is sound with a grant more of the amount
@@ -70,7 +70,7 @@ module _ (c : Config) (d : Demand) (f : LiveFlow)
 
   sound_grant : (before : List Allocation) (a : Allocation) (other bytes : ℕ) (same : Bool) → other == f.sid ≡ same
       → a.purpose ≡ DataGrant other bytes
-      → IsOfRank c d before a.offset a.slots (DataGrant other bytes)
+      → IsOfClass c d before a.offset a.slots (DataGrant other bytes)
       → IsSoundFlow c (flow_after start before f)
       → IsSoundFlow c (flow_after start (before ++ a ∷ []) f)
   sound_grant before a other bytes false test is stands sound =
@@ -89,7 +89,7 @@ module _ (c : Config) (d : Demand) (f : LiveFlow)
       (subst (λ g. IsAmount c g (start + a.offset) (room_at c d.spots a.offset) bytes) (sym them) stands.4))
 
   sound_more : (before : List Allocation) (a : Allocation) (purpose : Purpose) → a.purpose ≡ purpose
-      → IsOfRank c d before a.offset a.slots purpose → IsSoundFlow c (flow_after start before f)
+      → IsOfClass c d before a.offset a.slots purpose → IsSoundFlow c (flow_after start before f)
       → IsSoundFlow c (flow_after start (before ++ a ∷ []) f)
   sound_more before a (DataGrant sid bytes) is stands sound =
       sound_grant before a sid bytes (sid == f.sid) refl is stands sound

@@ -10,7 +10,7 @@ use Rattle.map_build.specs.declared.purpose.Purpose.{Purpose}
 use Rattle.map_build.specs.declared.purpose.Purpose.TheVariants.{Offer}
 use Rattle.map_build.specs.EachAfter.{EachAfter}
 use Rattle.map_build.specs.Purpose.{place_of}
-use Rattle.map_build.specs.Plan.{Demand, room_at, IsOfRank, Stands, IsPlan}
+use Rattle.map_build.specs.Plan.{Demand, room_at, IsOfClass, Stands, IsPlan}
 use Rattle.map_build.proofs.Offers.{is_met}
 use Rattle.sched_history.specs.declared.scheduler.reserves.Reserve.{Reserve}
 use Rattle.sched_history.specs.Reserves.{is_same, unmet_by, asked_for, waiting_in}
@@ -69,7 +69,7 @@ count_offer-cons o (Some p) os = count_alike-cons o p os
 
 module _ (c : Config) (d : Demand) (rs : List Reserve) (waits : d.waiting ≡ waiting_in rs) (o : Opportunity) where
   count-next : (before : List Allocation) (a : Allocation) (purpose : Purpose) → a.purpose ≡ purpose
-      → IsOfRank c d before a.offset a.slots purpose
+      → IsOfClass c d before a.offset a.slots purpose
       → count_alike o (asked_for (left_by (is_met before) rs))
       ≡ count_alike o (asked_for (left_by (is_met (before ++ a ∷ [])) rs)) + count_offer o (offer_by a.slots purpose)
   count-next before a (Offer place usage) is stands =

@@ -12,7 +12,7 @@ use Rattle.map_build.specs.declared.purpose.Purpose.{Purpose}
 use Rattle.map_build.specs.declared.purpose.Purpose.TheVariants.{Offer}
 use Rattle.map_build.specs.EachAfter.{EachAfter}
 use Rattle.map_build.specs.Purpose.{place_of}
-use Rattle.map_build.specs.Plan.{Demand, room_at, IsFirstToMeet, IsOfRank, Stands, IsPlan}
+use Rattle.map_build.specs.Plan.{Demand, room_at, IsFirstToMeet, IsOfClass, Stands, IsPlan}
 use Rattle.map_build.specs.FrameMap.{AreMet, elements_of}
 use Rattle.map_build.proofs.Offers.{is_met, is_met-met, met-is_met, unmet-test, met-only}
 use Rattle.sched_history.specs.declared.scheduler.reserves.Reserve.{Reserve}
@@ -89,7 +89,7 @@ module _ (c : Config) (d : Demand) (rs : List Reserve) (waits : d.waiting ≡ wa
       }
 
   left-next : (before : List Allocation) (a : Allocation) (purpose : Purpose) → a.purpose ≡ purpose
-      → IsOfRank c d before a.offset a.slots purpose
+      → IsOfClass c d before a.offset a.slots purpose
       → taken_by (offer_by a.slots purpose) (left_by (is_met before) rs) ≡ left_by (is_met (before ++ a ∷ [])) rs
   left-next before a (Offer place usage) is stands =
       without_first-left (is_met before) (is_met (before ++ a ∷ [])) rs place

@@ -11,7 +11,7 @@ use Rattle.map_build.specs.declared.purpose.Purpose.TheVariants.{Poll, Unsolicit
 use Rattle.map_build.specs.EachAfter.{EachAfter}
 use Rattle.map_build.specs.Purpose.{place_of}
 use Rattle.map_build.specs.Opportunities.{HasGap}
-use Rattle.map_build.specs.Plan.{Demand, IsMetIn, IsOfRank, Stands, IsPlan}
+use Rattle.map_build.specs.Plan.{Demand, IsMetIn, IsOfClass, Stands, IsPlan}
 use Rattle.map_build.proofs.FirstMet.{first-met, met-gap}
 use Rattle.map_build.proofs.SameSpots.{all-members}
 use Rattle.sched_history.proofs.lists.Members.{IsImage, Contains-later, Contains-filter_map}
@@ -52,7 +52,7 @@ Offered waiting slots purpose = (o : Opportunity) (place : ℕ) → place_of pur
 
 module _ (c : Config) (d : Demand) where
   waited-one : (before : List Allocation) (offset slots : ℕ) (purpose : Purpose)
-      → IsOfRank c d before offset slots purpose → Waited d.waiting slots purpose
+      → IsOfClass c d before offset slots purpose → Waited d.waiting slots purpose
   waited-one before offset slots (Offer place usage) stands o is = (place, refl, stands.may.waits ∙ is)
   waited-one before offset slots (Poll sid) stands o is = absurd cc
   waited-one before offset slots (UnsolicitedGrant sid) stands o is = absurd cc
@@ -60,7 +60,7 @@ module _ (c : Config) (d : Demand) where
   waited-one before offset slots Idle stands o is = absurd cc
 
   offered-one : (before : List Allocation) (offset slots : ℕ) (purpose : Purpose)
-      → IsOfRank c d before offset slots purpose → Offered d.waiting slots purpose
+      → IsOfClass c d before offset slots purpose → Offered d.waiting slots purpose
   offered-one before offset slots (Offer other usage) stands o place at waits =
       let same : other ≡ place = ap (λ (m : Option ℕ). unwrap_or m place) at in
       sym stands.may.waits ∙ ap (slice_get d.waiting) same ∙ waits

@@ -1,4 +1,4 @@
--- What stands next, by rank: a spot that begins here, an opportunity, a data grant, an idle up to the next stop.
+-- What stands next, by class: a spot that begins here, an opportunity, a data grant, an idle up to the next stop.
 use Rattle.std.proofs.Common.{◌≡◌, ◌-◌, ◌==◌, find, None, sym, ap, ◌∙◌, arith}
 use Rattle.minislots.proofs.Bounds.{bounds_of}
 use Rattle.map_build.specs.Plan.{next_stop}
