@@ -5,16 +5,17 @@ use Rattle.map_codec.specs.declared.element.Element.{Element}
 use Rattle.map_codec.specs.Element.{element_at}
 use Rattle.map_drawing.specs.Allocation.{front_length, allocation_at}
 use Rattle.map_drawing.specs.Rows.{HasSlot}
-use Rattle.map_drawing.specs.Usage.{usage_of}
-use Rattle.map_drawing.specs.declared.usage.Usage.{Usage}
-use Rattle.map_drawing.specs.declared.usage.Usage.TheVariants.{RequestRegion, Poll, RequestData, InitialMaintenance}
-use Rattle.map_drawing.specs.declared.usage.Usage.TheVariants.{StationMaintenance, ShortGrant, LongGrant, Idle, Null}
-use Rattle.map_drawing.specs.declared.usage.Usage.TheVariants.{DataAcknowledge, AdvancedShortGrant, AdvancedLongGrant}
-use Rattle.map_drawing.specs.declared.usage.Usage.TheVariants.{AdvancedUnsolicitedGrant, Reserved}
+use Rattle.map_drawing.specs.Usage.{element_usage}
+use Rattle.map_drawing.specs.declared.usage.ElementUsage.{ElementUsage}
+use Rattle.map_drawing.specs.declared.usage.ElementUsage.TheVariants.{RequestRegion, Poll, RequestData, DataAcknowledge}
+use Rattle.map_drawing.specs.declared.usage.ElementUsage.TheVariants.{InitialMaintenance, StationMaintenance}
+use Rattle.map_drawing.specs.declared.usage.ElementUsage.TheVariants.{ShortGrant, LongGrant, Idle, Null}
+use Rattle.map_drawing.specs.declared.usage.ElementUsage.TheVariants.{AdvancedShortGrant, AdvancedLongGrant}
+use Rattle.map_drawing.specs.declared.usage.ElementUsage.TheVariants.{AdvancedUnsolicitedGrant, Reserved}
 use Rattle.frame_picture.specs.declared.bar.Bar.{Bar}
 
 -- whether the usage code is one of a channel without Advanced PHY for all grants, unsolicited ones among them
-unfoldable pub is_plain_grant : Usage → Bool
+unfoldable pub is_plain_grant : ElementUsage → Bool
 is_plain_grant RequestRegion = false
 is_plain_grant Poll = false
 is_plain_grant RequestData = false
@@ -37,8 +38,8 @@ bar_with units es bytes i unsolicited =
     let a = allocation_at es i in
     record {
       allocation = a;
-      usage = usage_of a.sid a.iuc;
-      unsolicited = unsolicited && is_plain_grant (usage_of a.sid a.iuc);
+      usage = element_usage a.sid a.iuc;
+      unsolicited = unsolicited && is_plain_grant (element_usage a.sid a.iuc);
       x = units * a.offset;
       width = units * a.length;
       bytes = get_or bytes i 0;

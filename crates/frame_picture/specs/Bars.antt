@@ -2,11 +2,12 @@
 use Rattle.std.specs.Prelude.{ℕ, ◌+◌, Bool, true, false, nat_le, nat_lt, if◌then◌else◌, List, [], ◌++◌, codes}
 use Rattle.std.specs.Prelude.{flat_map}
 use Rattle.map_codec.specs.declared.element.Element.{Element}
-use Rattle.map_drawing.specs.declared.usage.Usage.{Usage}
-use Rattle.map_drawing.specs.declared.usage.Usage.TheVariants.{RequestRegion, Poll, RequestData, InitialMaintenance}
-use Rattle.map_drawing.specs.declared.usage.Usage.TheVariants.{StationMaintenance, ShortGrant, LongGrant, Idle, Null}
-use Rattle.map_drawing.specs.declared.usage.Usage.TheVariants.{DataAcknowledge, AdvancedShortGrant, AdvancedLongGrant}
-use Rattle.map_drawing.specs.declared.usage.Usage.TheVariants.{AdvancedUnsolicitedGrant, Reserved}
+use Rattle.map_drawing.specs.declared.usage.ElementUsage.{ElementUsage}
+use Rattle.map_drawing.specs.declared.usage.ElementUsage.TheVariants.{RequestRegion, Poll, RequestData, DataAcknowledge}
+use Rattle.map_drawing.specs.declared.usage.ElementUsage.TheVariants.{InitialMaintenance, StationMaintenance}
+use Rattle.map_drawing.specs.declared.usage.ElementUsage.TheVariants.{ShortGrant, LongGrant, Idle, Null}
+use Rattle.map_drawing.specs.declared.usage.ElementUsage.TheVariants.{AdvancedShortGrant, AdvancedLongGrant}
+use Rattle.map_drawing.specs.declared.usage.ElementUsage.TheVariants.{AdvancedUnsolicitedGrant, Reserved}
 use Rattle.map_drawing.specs.Usage.{words_of}
 use Rattle.frame_picture.specs.declared.bar.Bar.{Bar}
 use Rattle.frame_picture.specs.Labelled.{labelled}
@@ -14,7 +15,7 @@ use Rattle.frame_picture.specs.Shade.{shade_of}
 use Rattle.frame_picture.specs.Bar.{bars_of}
 
 -- the name of the colour and the pattern of a usage
-unfoldable pub usage_look : Usage → List ℕ
+unfoldable pub usage_look : ElementUsage → List ℕ
 usage_look RequestRegion = codes "region"
 usage_look Poll = codes "poll"
 usage_look RequestData = codes "other"
@@ -39,7 +40,7 @@ unfoldable pub origin_of : Bar → List ℕ
 origin_of b = if b.unsolicited then codes "unsolicited " else []
 
 -- a bar bears its SID and has its shade where that is not the one of all modems or of none
-unfoldable pub is_named : Usage → Bool
+unfoldable pub is_named : ElementUsage → Bool
 is_named RequestRegion = false
 is_named Poll = true
 is_named RequestData = true

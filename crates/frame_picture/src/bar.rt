@@ -4,7 +4,7 @@ ghost use Rattle.std.specs.Prelude.{◌≡◌, ◌+◌, ◌<◌, ◌≤◌, leng
 ghost use Rattle.frame_picture.specs.Bar.{bar_with, is_plain_grant, StandsAtItsSlots};
 
 use map_codec::Element;
-use map_drawing::{Allocation, Usage, allocation_at};
+use map_drawing::{Allocation, ElementUsage, allocation_at};
 
 /// What is drawn of an allocation.
 #[derive(Clone, Copy)]
@@ -12,7 +12,7 @@ pub struct Bar {
     /// The allocation.
     pub allocation: Allocation,
     /// What it is for, as the MAP tells it.
-    pub usage: Usage,
+    pub usage: ElementUsage,
     /// Whether it is a grant of an unsolicited flow where the MAP tells no more than that it is a short or a long one.
     pub unsolicited: bool,
     /// Where it begins: so many units from the start of its row.
@@ -25,10 +25,10 @@ pub struct Bar {
 
 // Whether the usage code is one of a channel without Advanced PHY for all grants, unsolicited ones among them.
 #[tactic(auto, unfolding(crate::specs::Bar::is_plain_grant))]
-fn is_plain_grant(usage: Usage) -> bool
+fn is_plain_grant(usage: ElementUsage) -> bool
     ensures { result ≡ is_plain_grant usage }
 {
-    matches!(usage, Usage::ShortGrant | Usage::LongGrant)
+    matches!(usage, ElementUsage::ShortGrant | ElementUsage::LongGrant)
 }
 
 /// The bar of the element at a place before another one, among the elements of a MAP with these byte counts, where the
@@ -39,7 +39,7 @@ pub fn bar_with(units: u32, elements: &[Element], bytes: &[u32], i: usize, unsol
     ensures { result ≡ bar_with units elements.now bytes.now i unsolicited }
 {
     let allocation = allocation_at(elements, i);
-    let usage = Usage::of(allocation.sid, allocation.iuc);
+    let usage = ElementUsage::of(allocation.sid, allocation.iuc);
     Bar {
         allocation,
         usage,

@@ -4,26 +4,26 @@ ghost use Rattle.std.specs.Prelude.{◌≡◌};
 ghost use Rattle.frame_picture.specs.Bars.{usage_look, look_of, origin_of, is_named, name_width};
 
 use crate::bar::Bar;
-use map_drawing::Usage;
+use map_drawing::ElementUsage;
 
 // The name of the colour and the pattern of a usage.
 #[tactic(auto, unfolding(crate::specs::Bars::usage_look))]
-fn usage_look(usage: Usage) -> &'static [u8]
+fn usage_look(usage: ElementUsage) -> &'static [u8]
     ensures { result.now ≡ usage_look usage }
 {
     match usage {
-        Usage::RequestRegion => b"region",
-        Usage::Poll => b"poll",
-        Usage::ShortGrant | Usage::AdvancedShortGrant => b"short",
-        Usage::LongGrant | Usage::AdvancedLongGrant => b"long",
-        Usage::AdvancedUnsolicitedGrant => b"unsolicited",
-        Usage::Idle => b"idle",
-        Usage::RequestData
-        | Usage::InitialMaintenance
-        | Usage::StationMaintenance
-        | Usage::Null
-        | Usage::DataAcknowledge
-        | Usage::Reserved => b"other",
+        ElementUsage::RequestRegion => b"region",
+        ElementUsage::Poll => b"poll",
+        ElementUsage::ShortGrant | ElementUsage::AdvancedShortGrant => b"short",
+        ElementUsage::LongGrant | ElementUsage::AdvancedLongGrant => b"long",
+        ElementUsage::AdvancedUnsolicitedGrant => b"unsolicited",
+        ElementUsage::Idle => b"idle",
+        ElementUsage::RequestData
+        | ElementUsage::InitialMaintenance
+        | ElementUsage::StationMaintenance
+        | ElementUsage::Null
+        | ElementUsage::DataAcknowledge
+        | ElementUsage::Reserved => b"other",
     }
 }
 
@@ -53,10 +53,10 @@ pub(crate) fn origin_of(bar: Bar) -> &'static [u8]
 
 // Whether a bar bears its SID and has its shade: it is not that of all modems or of none.
 #[tactic(auto, unfolding(crate::specs::Bars::is_named))]
-pub(crate) fn is_named(usage: Usage) -> bool
+pub(crate) fn is_named(usage: ElementUsage) -> bool
     ensures { result ≡ is_named usage }
 {
-    !matches!(usage, Usage::RequestRegion | Usage::Idle)
+    !matches!(usage, ElementUsage::RequestRegion | ElementUsage::Idle)
 }
 
 // How many units an SID takes in a bar.

@@ -2,12 +2,13 @@
 use Rattle.std.specs.Prelude.{ℕ, List, ◌∷◌, [], ◌++◌, codes, flat_map}
 use Rattle.std.specs.List.{range_with_len}
 use Rattle.map_codec.specs.declared.element.Element.{Element}
-use Rattle.map_drawing.specs.Usage.{usage_of, words_of}
-use Rattle.map_drawing.specs.declared.usage.Usage.{Usage}
-use Rattle.map_drawing.specs.declared.usage.Usage.TheVariants.{RequestRegion, Poll, RequestData, InitialMaintenance}
-use Rattle.map_drawing.specs.declared.usage.Usage.TheVariants.{StationMaintenance, ShortGrant, LongGrant, Idle, Null}
-use Rattle.map_drawing.specs.declared.usage.Usage.TheVariants.{DataAcknowledge, AdvancedShortGrant, AdvancedLongGrant}
-use Rattle.map_drawing.specs.declared.usage.Usage.TheVariants.{AdvancedUnsolicitedGrant, Reserved}
+use Rattle.map_drawing.specs.Usage.{element_usage, words_of}
+use Rattle.map_drawing.specs.declared.usage.ElementUsage.{ElementUsage}
+use Rattle.map_drawing.specs.declared.usage.ElementUsage.TheVariants.{RequestRegion, Poll, RequestData, DataAcknowledge}
+use Rattle.map_drawing.specs.declared.usage.ElementUsage.TheVariants.{InitialMaintenance, StationMaintenance}
+use Rattle.map_drawing.specs.declared.usage.ElementUsage.TheVariants.{ShortGrant, LongGrant, Idle, Null}
+use Rattle.map_drawing.specs.declared.usage.ElementUsage.TheVariants.{AdvancedShortGrant, AdvancedLongGrant}
+use Rattle.map_drawing.specs.declared.usage.ElementUsage.TheVariants.{AdvancedUnsolicitedGrant, Reserved}
 use Rattle.map_drawing.specs.declared.allocation.Allocation.{Allocation}
 use Rattle.map_drawing.specs.Allocation.{front_length, front_of, behind_of, frame_slots, allocation_at}
 use Rattle.map_drawing.specs.Text.{spaces, column}
@@ -19,7 +20,7 @@ legend_head = codes "    SID offset slots usage\n"
 
 -- the words of a usage, at the end of a line
 unfoldable pub usage_end : ℕ → ℕ → List ℕ
-usage_end sid iuc = words_of (usage_of sid iuc) ++ codes "\n"
+usage_end sid iuc = words_of (element_usage sid iuc) ++ codes "\n"
 
 -- the line of an allocation with a number: its letter, SID, offset, minislots and usage
 unfoldable pub allocation_line : ℕ → Allocation → List ℕ
@@ -32,7 +33,7 @@ abbrev pub allocation_lines : List Element → List ℕ
 allocation_lines es = flat_map (λ i. allocation_line i (allocation_at es i)) (range_with_len 0 (front_length es))
 
 -- what an element behind the Null is: a data grant to a modem is a pending one
-unfoldable pub state_of : Usage → List ℕ
+unfoldable pub state_of : ElementUsage → List ℕ
 state_of RequestRegion = codes "behind the frame: "
 state_of Poll = codes "behind the frame: "
 state_of RequestData = codes "behind the frame: "
@@ -51,7 +52,7 @@ state_of Reserved = codes "behind the frame: "
 -- the line of an element behind the Null: its SID, whether it is pending, and its usage
 unfoldable pub behind_line : Element → List ℕ
 behind_line e =
-    codes "  " ++ (column 5 e.sid ++ (spaces 13 ++ (state_of (usage_of e.sid e.iuc) ++ usage_end e.sid e.iuc)))
+    codes "  " ++ (column 5 e.sid ++ (spaces 13 ++ (state_of (element_usage e.sid e.iuc) ++ usage_end e.sid e.iuc)))
 
 -- the lines of the elements behind the Null
 abbrev pub behind_lines : List Element → List ℕ

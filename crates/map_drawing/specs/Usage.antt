@@ -5,16 +5,17 @@ use Rattle.map_codec.specs.declared.element.iuc.TheConstants.{STATION_MAINTENANC
 use Rattle.map_codec.specs.declared.element.iuc.TheConstants.{NULL, DATA_ACKNOWLEDGE, ADVANCED_SHORT_DATA_GRANT}
 use Rattle.map_codec.specs.declared.element.iuc.TheConstants.{ADVANCED_LONG_DATA_GRANT, ADVANCED_UNSOLICITED_GRANT}
 use Rattle.map_drawing.specs.declared.usage.TheConstants.{ALL_MODEMS}
-use Rattle.map_drawing.specs.declared.usage.Usage.{Usage}
-use Rattle.map_drawing.specs.declared.usage.Usage.TheVariants.{RequestRegion, Poll, RequestData, InitialMaintenance}
-use Rattle.map_drawing.specs.declared.usage.Usage.TheVariants.{StationMaintenance, ShortGrant, LongGrant, Idle, Null}
-use Rattle.map_drawing.specs.declared.usage.Usage.TheVariants.{DataAcknowledge, AdvancedShortGrant, AdvancedLongGrant}
-use Rattle.map_drawing.specs.declared.usage.Usage.TheVariants.{AdvancedUnsolicitedGrant, Reserved}
+use Rattle.map_drawing.specs.declared.usage.ElementUsage.{ElementUsage}
+use Rattle.map_drawing.specs.declared.usage.ElementUsage.TheVariants.{RequestRegion, Poll, RequestData, DataAcknowledge}
+use Rattle.map_drawing.specs.declared.usage.ElementUsage.TheVariants.{InitialMaintenance, StationMaintenance}
+use Rattle.map_drawing.specs.declared.usage.ElementUsage.TheVariants.{ShortGrant, LongGrant, Idle, Null}
+use Rattle.map_drawing.specs.declared.usage.ElementUsage.TheVariants.{AdvancedShortGrant, AdvancedLongGrant}
+use Rattle.map_drawing.specs.declared.usage.ElementUsage.TheVariants.{AdvancedUnsolicitedGrant, Reserved}
 
 -- what an element with this service identifier and interval usage code allocates: a request region that is not for
 -- all modems is a poll, a grant to none is idle
-unfoldable pub usage_of : ℕ → ℕ → Usage
-usage_of sid iuc =
+unfoldable pub element_usage : ℕ → ℕ → ElementUsage
+element_usage sid iuc =
     if iuc == REQUEST then if sid == ALL_MODEMS then RequestRegion else Poll
     else if iuc == REQUEST_DATA then RequestData
     else if iuc == INITIAL_MAINTENANCE then InitialMaintenance
@@ -29,7 +30,7 @@ usage_of sid iuc =
     else Reserved
 
 -- the words of a usage
-unfoldable pub words_of : Usage → List ℕ
+unfoldable pub words_of : ElementUsage → List ℕ
 words_of RequestRegion = codes "request region"
 words_of Poll = codes "poll"
 words_of RequestData = codes "request/data"

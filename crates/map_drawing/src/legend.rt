@@ -9,7 +9,7 @@ ghost use Rattle.map_drawing.specs.Legend.{behind_line, drawing_text};
 use crate::allocation::{Allocation, allocation_at, behind_of, frame_slots, front_len, front_of};
 use crate::rows::{letter_of, push_rows, slots_per_row};
 use crate::text::{push_column, push_spaces};
-use crate::usage::Usage;
+use crate::usage::ElementUsage;
 use map_codec::{Element, WireMap};
 use std::alloc::{AllocError, Global};
 
@@ -18,7 +18,7 @@ use std::alloc::{AllocError, Global};
 fn push_usage(text: &mut Vec<u8>, sid: u16, code: u8) -> Result<(), AllocError>
     ensures { OnOk result (text.new.items ≡ text.old.items ++ usage_end sid code) }
 {
-    text.extend_from_slice(Usage::of(sid, code).words())?;
+    text.extend_from_slice(ElementUsage::of(sid, code).words())?;
     text.extend_from_slice(b"\n")
 }
 
@@ -48,14 +48,14 @@ fn push_allocations(text: &mut Vec<u8>, elements: &[Element]) -> Result<(), Allo
 
 // What an element behind the Null is: a data grant to a modem is a pending one.
 #[tactic(auto, unfolding(crate::specs::Legend::state_of))]
-fn state_of(usage: Usage) -> &'static [u8]
+fn state_of(usage: ElementUsage) -> &'static [u8]
     ensures { result.now ≡ state_of usage }
 {
     match usage {
-        Usage::ShortGrant
-        | Usage::LongGrant
-        | Usage::AdvancedShortGrant
-        | Usage::AdvancedLongGrant => b"pending: ",
+        ElementUsage::ShortGrant
+        | ElementUsage::LongGrant
+        | ElementUsage::AdvancedShortGrant
+        | ElementUsage::AdvancedLongGrant => b"pending: ",
         _ => b"behind the frame: ",
     }
 }
@@ -68,7 +68,7 @@ fn push_behind(text: &mut Vec<u8>, element: &Element) -> Result<(), AllocError>
     text.extend_from_slice(b"  ")?;
     push_column(text, 5, u64::from(element.sid))?;
     push_spaces(text, 13)?;
-    text.extend_from_slice(state_of(Usage::of(element.sid, element.iuc)))?;
+    text.extend_from_slice(state_of(ElementUsage::of(element.sid, element.iuc)))?;
     push_usage(text, element.sid, element.iuc)
 }
 

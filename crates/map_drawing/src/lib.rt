@@ -12,4 +12,4 @@ mod usage;
 pub use allocation::{Allocation, allocation_at, front_len};
 pub use legend::draw_frame;
 pub use rows::every_drawing;
-pub use usage::{ALL_MODEMS, Usage};
+pub use usage::{ALL_MODEMS, ElementUsage};

@@ -1,7 +1,7 @@
 //! What an allocation is for, in words.
 
 ghost use Rattle.std.specs.Prelude.{◌≡◌};
-ghost use Rattle.map_drawing.specs.Usage.{usage_of, words_of};
+ghost use Rattle.map_drawing.specs.Usage.{element_usage, words_of};
 
 use map_codec::iuc;
 
@@ -11,7 +11,7 @@ pub const ALL_MODEMS: u16 = 0x3FFF;
 /// What an allocation is for: its interval usage code, where a request region of one modem is a poll, and a grant to
 /// no modem is idle.
 #[derive(Clone, Copy, Debug, PartialEq, Eq)]
-pub enum Usage {
+pub enum ElementUsage {
     /// All modems may ask.
     RequestRegion,
     /// One modem, or a group, may ask.
@@ -42,29 +42,29 @@ pub enum Usage {
     Reserved,
 }
 
-impl Usage {
+impl ElementUsage {
     /// What an element with this service identifier and interval usage code allocates.
-    #[tactic(auto, unfolding(crate::specs::Usage::usage_of))]
-    pub fn of(sid: u16, code: u8) -> Usage
-        ensures { result ≡ usage_of sid code }
+    #[tactic(auto, unfolding(crate::specs::Usage::element_usage))]
+    pub fn of(sid: u16, code: u8) -> ElementUsage
+        ensures { result ≡ element_usage sid code }
     {
         match code {
-            iuc::REQUEST if sid == ALL_MODEMS => Usage::RequestRegion,
-            iuc::REQUEST => Usage::Poll,
-            iuc::REQUEST_DATA => Usage::RequestData,
-            iuc::INITIAL_MAINTENANCE => Usage::InitialMaintenance,
-            iuc::STATION_MAINTENANCE => Usage::StationMaintenance,
-            iuc::SHORT_DATA_GRANT | iuc::LONG_DATA_GRANT if sid == 0 => Usage::Idle,
-            iuc::SHORT_DATA_GRANT => Usage::ShortGrant,
-            iuc::LONG_DATA_GRANT => Usage::LongGrant,
-            iuc::NULL => Usage::Null,
-            iuc::DATA_ACKNOWLEDGE => Usage::DataAcknowledge,
+            iuc::REQUEST if sid == ALL_MODEMS => ElementUsage::RequestRegion,
+            iuc::REQUEST => ElementUsage::Poll,
+            iuc::REQUEST_DATA => ElementUsage::RequestData,
+            iuc::INITIAL_MAINTENANCE => ElementUsage::InitialMaintenance,
+            iuc::STATION_MAINTENANCE => ElementUsage::StationMaintenance,
+            iuc::SHORT_DATA_GRANT | iuc::LONG_DATA_GRANT if sid == 0 => ElementUsage::Idle,
+            iuc::SHORT_DATA_GRANT => ElementUsage::ShortGrant,
+            iuc::LONG_DATA_GRANT => ElementUsage::LongGrant,
+            iuc::NULL => ElementUsage::Null,
+            iuc::DATA_ACKNOWLEDGE => ElementUsage::DataAcknowledge,
             iuc::ADVANCED_SHORT_DATA_GRANT | iuc::ADVANCED_LONG_DATA_GRANT if sid == 0 =>
-                Usage::Idle,
-            iuc::ADVANCED_SHORT_DATA_GRANT => Usage::AdvancedShortGrant,
-            iuc::ADVANCED_LONG_DATA_GRANT => Usage::AdvancedLongGrant,
-            iuc::ADVANCED_UNSOLICITED_GRANT => Usage::AdvancedUnsolicitedGrant,
-            _ => Usage::Reserved,
+                ElementUsage::Idle,
+            iuc::ADVANCED_SHORT_DATA_GRANT => ElementUsage::AdvancedShortGrant,
+            iuc::ADVANCED_LONG_DATA_GRANT => ElementUsage::AdvancedLongGrant,
+            iuc::ADVANCED_UNSOLICITED_GRANT => ElementUsage::AdvancedUnsolicitedGrant,
+            _ => ElementUsage::Reserved,
         }
     }
 
@@ -74,20 +74,20 @@ impl Usage {
         ensures { result.now ≡ words_of self }
     {
         match self {
-            Usage::RequestRegion => b"request region",
-            Usage::Poll => b"poll",
-            Usage::RequestData => b"request/data",
-            Usage::InitialMaintenance => b"initial maintenance",
-            Usage::StationMaintenance => b"station maintenance",
-            Usage::ShortGrant => b"short data grant",
-            Usage::LongGrant => b"long data grant",
-            Usage::Idle => b"idle",
-            Usage::Null => b"null",
-            Usage::DataAcknowledge => b"data acknowledge",
-            Usage::AdvancedShortGrant => b"advanced short data grant",
-            Usage::AdvancedLongGrant => b"advanced long data grant",
-            Usage::AdvancedUnsolicitedGrant => b"advanced unsolicited grant",
-            Usage::Reserved => b"reserved",
+            ElementUsage::RequestRegion => b"request region",
+            ElementUsage::Poll => b"poll",
+            ElementUsage::RequestData => b"request/data",
+            ElementUsage::InitialMaintenance => b"initial maintenance",
+            ElementUsage::StationMaintenance => b"station maintenance",
+            ElementUsage::ShortGrant => b"short data grant",
+            ElementUsage::LongGrant => b"long data grant",
+            ElementUsage::Idle => b"idle",
+            ElementUsage::Null => b"null",
+            ElementUsage::DataAcknowledge => b"data acknowledge",
+            ElementUsage::AdvancedShortGrant => b"advanced short data grant",
+            ElementUsage::AdvancedLongGrant => b"advanced long data grant",
+            ElementUsage::AdvancedUnsolicitedGrant => b"advanced unsolicited grant",
+            ElementUsage::Reserved => b"reserved",
         }
     }
 }

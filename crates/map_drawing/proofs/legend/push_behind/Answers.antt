@@ -1,7 +1,7 @@
 -- The parts of a line, one after the other.
 use Rattle.std.proofs.Common.{◌++◌, codes}
 use Rattle.map_drawing.specs.Text.{spaces, column}
-use Rattle.map_drawing.specs.Usage.{usage_of}
+use Rattle.map_drawing.specs.Usage.{element_usage}
 use Rattle.map_drawing.specs.Legend.{usage_end, state_of, behind_line}
 use Rattle.map_drawing.proofs.Ranges.{grown, where_ok}
 use Rattle.map_drawing.proofs.legend.push_behind.Goals as goal
@@ -16,7 +16,7 @@ returns c =
     let told = c.extend_from_slice-2.new.self.items in
     let ended = c.push_usage.new.text.items in
     let usage = usage_end element.sid element.iuc in
-    let words = state_of (usage_of element.sid element.iuc) in
+    let words = state_of (element_usage element.sid element.iuc) in
     let state = rw (c.state_of.ensures, c.of.ensures) at c.in_ok-extend_from_slice-2.ensures.items in
     let numbers = rw c.from.ensures at c.in_ok-push_column.ensures in
     where_ok c.push_usage.result (λ last.
