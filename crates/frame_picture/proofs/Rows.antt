@@ -16,11 +16,13 @@ use Rattle.map_codec.specs.WireMap.{IsWellFormed}
 use Rattle.map_codec.proofs.Spelling.{in_range_at}
 use Rattle.map_drawing.specs.Allocation.{front_length}
 use Rattle.map_build.specs.declared.frame_map.FrameMap.{FrameMap}
+use Rattle.sched_history.specs.declared.reply.TheConstants.{MAX_ENTRIES}
 use Rattle.sched_history.specs.declared.reply.Entry.{Entry}
 use Rattle.sched_history.specs.declared.reply.Reply.{Reply}
 use Rattle.sched_history.specs.declared.reply.Reply.TheVariants as replies
 use Rattle.sched_history.specs.History.{map_by}
 use Rattle.sched_history.specs.Machine.{IsEncodable}
+use Rattle.frame_picture.specs.declared.flows.TheConstants.{SIDS}
 use Rattle.frame_picture.specs.declared.layout.Scale.{Scale}
 use Rattle.frame_picture.specs.declared.span.Span.{Span}
 use Rattle.frame_picture.specs.declared.span.Place.{Place}
@@ -35,7 +37,7 @@ use Rattle.frame_picture.proofs.FrameLists.{frames_of-more, frames_in-before, fr
 use Rattle.frame_picture.proofs.FrameLists.{length-frames_in}
 
 -- the SIDs of a MAP are below 65536
-small_sid : (es : List Element) (i : ℕ) → AllByRecursion IsInRange es → (element_at es i).sid < 65536
+small_sid : (es : List Element) (i : ℕ) → AllByRecursion IsInRange es → (element_at es i).sid < SIDS
 small_sid es i fits =
     elim (cases_lt i (length es)) [
       | inl inside ↦ omega (arith, (in_range_at es i no_element fits inside).sid)
@@ -203,8 +205,8 @@ rows_more a b c scale span flows h i item number below item_is whole is tells be
     (entry_text scale (place_in span number) (λ sid. get_or flows sid false) item.reply) before one)
 
 -- a row whose number is at most a small one
-pub row_within : (o : Option Place) (n : ℕ) → n ≤ 16777216 → IfSome o (λ p. p.row ≤ n)
-    → IfSome o (λ p. p.row ≤ 16777216)
+pub row_within : (o : Option Place) (n : ℕ) → n ≤ MAX_ENTRIES → IfSome o (λ p. p.row ≤ n)
+    → IfSome o (λ p. p.row ≤ MAX_ENTRIES)
 row_within None n few near = tt
 row_within (Some p) n few near = omega (arith, few, near)
 

@@ -7,6 +7,7 @@ use Rattle.map_build.specs.declared.frame_map.FrameMap.{FrameMap}
 use Rattle.sched_history.specs.declared.reply.Entry.{Entry}
 use Rattle.sched_history.specs.History.{map_by}
 use Rattle.sched_history.specs.Life.{Life, life_of}
+use Rattle.frame_picture.specs.declared.flows.TheConstants.{SIDS}
 use Rattle.frame_picture.specs.declared.span.Span.{Span}
 use Rattle.frame_picture.specs.declared.span.Place.{Place}
 
@@ -27,7 +28,7 @@ is_unsolicited_after h sid = is_unsolicited_life (life_of sid h)
 
 -- a list says of each SID whether the flow that lives under it after a history is unsolicited
 abbrev pub TellsUnsolicited : List Bool → List Entry → Type 0
-TellsUnsolicited flows h = (sid : ℕ) → sid < 65536 → get_or flows sid false ≡ is_unsolicited_after h sid
+TellsUnsolicited flows h = (sid : ℕ) → sid < SIDS → get_or flows sid false ≡ is_unsolicited_after h sid
 
 -- a frame: its MAP, and the entries before the one that built it
 pub record Frame : Type 0 where

@@ -1,6 +1,7 @@
 //! The axes of a picture: the minislots of a frame, and the milliseconds that they take.
 
 ghost use Rattle.std.specs.Prelude.{◌≡◌, ◌<◌, ◌≤◌};
+ghost use Rattle.sched_history.specs.declared.reply.TheConstants.{MAX_ENTRIES};
 ghost use Rattle.frame_picture.specs.Axis.{tick_step, tick_text, ticks_text, axis_text, axes_text};
 ghost use Rattle.text_stream.specs.Writing.{Puts};
 
@@ -36,7 +37,7 @@ fn put_tick<W: Sink>(
     slot: u32,
 ) -> Result<(), TextFault>
     requires narrow { scale.units ≤ 1024 }
-    requires near { slot ≤ 102400 }
+    requires near { slot ≤ 1024 }
     ensures { Puts W.contents W.has_failed writer.old writer.new lines.old lines.new
         (tick_text scale depth slot) result }
 {
@@ -81,7 +82,7 @@ fn put_axis<W: Sink>(
 ) -> Result<(), TextFault>
     requires narrow { scale.units ≤ 1024 }
     requires short { scale.frame ≤ 1024 }
-    requires near { axis ≤ 16777216 }
+    requires near { axis ≤ MAX_ENTRIES }
     ensures { Puts W.contents W.has_failed writer.old writer.new lines.old lines.new
         (axis_text scale rows axis) result }
 {
@@ -106,7 +107,7 @@ pub(crate) fn put_axes<W: Sink>(
 ) -> Result<(), TextFault>
     requires narrow { scale.units ≤ 1024 }
     requires short { scale.frame ≤ 1024 }
-    requires few { rows ≤ 16777216 }
+    requires few { rows ≤ MAX_ENTRIES }
     ensures { Puts W.contents W.has_failed writer.old writer.new lines.old lines.new
         (axes_text scale rows) result }
 {

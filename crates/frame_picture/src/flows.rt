@@ -2,6 +2,7 @@
 
 ghost use Rattle.std.specs.Prelude.{◌≡◌, ◌<◌, ◌++◌, ◌∷◌, [], List};
 ghost use Rattle.sched_history.specs.declared.reply.Entry.{Entry};
+ghost use Rattle.frame_picture.specs.declared.flows.TheConstants.{SIDS};
 ghost use Rattle.frame_picture.specs.Frames.{is_unsolicited, TellsUnsolicited};
 ghost use Rattle.frame_picture.specs.Turns.{turn_of};
 
@@ -35,7 +36,7 @@ fn turn_of(entry: &Entry) -> Option<(u16, bool)>
 // The place of a SID among the flows.
 fn place_of(sid: u16) -> usize
     ensures value { result ≡ sid }
-    ensures small { result < 65536 }
+    ensures small { result < SIDS }
 {
     usize::from(sid)
 }

@@ -1,6 +1,7 @@
 //! The head of a picture: how its bars look, and what each look is for.
 
 ghost use Rattle.std.specs.Prelude.{◌≤◌};
+ghost use Rattle.sched_history.specs.declared.reply.TheConstants.{MAX_ENTRIES};
 ghost use Rattle.frame_picture.specs.Head.{style_text, request_patterns, short_pattern, other_patterns};
 ghost use Rattle.frame_picture.specs.Head.{usual_legend, other_legend, size_text, counts_text, head_text};
 ghost use Rattle.text_stream.specs.Writing.{Puts};
@@ -159,7 +160,7 @@ fn put_other_legend<W: Sink>(lines: &mut TextBuffer, writer: &mut W) -> Result<(
 // How large a picture of so many rows is.
 #[tactic(auto, unfolding(crate::specs::Head::size_text))]
 fn put_size<W: Sink>(lines: &mut TextBuffer, writer: &mut W, rows: u64) -> Result<(), TextFault>
-    requires { rows ≤ 16777216 }
+    requires { rows ≤ MAX_ENTRIES }
     ensures { Puts W.contents W.has_failed writer.old writer.new lines.old lines.new
         (size_text rows) result }
 {
@@ -204,7 +205,7 @@ pub(crate) fn put_head<W: Sink>(
     rows: u64,
     total: u64,
 ) -> Result<(), TextFault>
-    requires { rows ≤ 16777216 }
+    requires { rows ≤ MAX_ENTRIES }
     ensures { Puts W.contents W.has_failed writer.old writer.new lines.old lines.new
         (head_text scale rows total) result }
 {

@@ -1,6 +1,7 @@
 //! Where the parts of a picture stand.
 
 ghost use Rattle.std.specs.Prelude.{◌≡◌, ◌+◌, ◌*◌, ◌<◌, ◌≤◌};
+ghost use Rattle.sched_history.specs.declared.reply.TheConstants.{MAX_ENTRIES};
 ghost use Rattle.frame_picture.specs.Layout.{slot_units, scale_of, axes_of, axis_top, rows_under, row_top, depth_of};
 
 use minislots::Checked;
@@ -41,7 +42,7 @@ pub(crate) fn scale_of(config: &Checked) -> Scale
 
 // How many axes so many rows have: one at least.
 pub(crate) fn axes_of(rows: u64) -> u64
-    requires { rows ≤ 16777216 }
+    requires { rows ≤ MAX_ENTRIES }
     ensures { result ≡ axes_of rows }
 {
     rows.saturating_sub(1) / 40 + 1
@@ -49,7 +50,7 @@ pub(crate) fn axes_of(rows: u64) -> u64
 
 // Where the axis with this number begins.
 pub(crate) fn axis_top(axis: u64) -> u64
-    requires { axis ≤ 16777216 }
+    requires { axis ≤ MAX_ENTRIES }
     ensures { result ≡ axis_top axis }
 {
     34 + 1192 * axis
@@ -57,7 +58,7 @@ pub(crate) fn axis_top(axis: u64) -> u64
 
 // How many of so many rows stand under the axis with this number.
 pub(crate) fn rows_under(rows: u64, axis: u64) -> u64
-    requires { axis ≤ 16777216 }
+    requires { axis ≤ MAX_ENTRIES }
     ensures value { result ≡ rows_under rows axis }
     ensures most { result ≤ 40 }
 {
@@ -66,7 +67,7 @@ pub(crate) fn rows_under(rows: u64, axis: u64) -> u64
 
 // Where the row with this number begins.
 pub(crate) fn row_top(row: u64) -> u64
-    requires { row ≤ 16777216 }
+    requires { row ≤ MAX_ENTRIES }
     ensures { result ≡ row_top row }
 {
     106 + 28 * row + 72 * (row / 40)
@@ -74,7 +75,7 @@ pub(crate) fn row_top(row: u64) -> u64
 
 // How deep a picture of so many rows is.
 pub(crate) fn depth_of(rows: u64) -> u64
-    requires { rows ≤ 16777216 }
+    requires { rows ≤ MAX_ENTRIES }
     ensures { result ≡ depth_of rows }
 {
     42 + 28 * rows + 72 * axes_of(rows)

@@ -2,6 +2,7 @@
 
 ghost use Rattle.std.specs.Prelude.{◌≡◌, ◌+◌, ◌<◌, ◌≤◌, [], length, get_or, false, IfSome};
 ghost use Rattle.std.specs.List.{AllByRecursion};
+ghost use Rattle.sched_history.specs.declared.reply.TheConstants.{MAX_ENTRIES};
 ghost use Rattle.sched_history.specs.History.{map_by};
 ghost use Rattle.sched_history.specs.Machine.{IsEncodable};
 ghost use Rattle.frame_picture.specs.Frames.{frame_by, frames_of, frames_in};
@@ -51,7 +52,7 @@ fn put_entry<W: Sink>(
     flows: &Flows,
     entry: &Entry,
 ) -> Result<(), TextFault>
-    requires few { IfSome place (λ p. p.row ≤ 16777216) }
+    requires few { IfSome place (λ p. p.row ≤ MAX_ENTRIES) }
     requires narrow { scale.units ≤ 1024 }
     requires whole { IsEncodable entry.now.reply }
     ensures { Puts W.contents W.has_failed writer.old writer.new lines.old lines.new
@@ -74,7 +75,7 @@ fn put_rows<W: Sink>(
     span: Span,
     entries: &[Entry],
 ) -> Result<(), TextFault>
-    requires few { length entries.now ≤ 16777216 }
+    requires few { length entries.now ≤ MAX_ENTRIES }
     requires narrow { scale.units ≤ 1024 }
     requires whole { AllByRecursion (λ e. IsEncodable e.reply) entries.now }
     ensures { Puts W.contents W.has_failed writer.old writer.new lines.old lines.new
@@ -102,7 +103,7 @@ fn put_all<W: Sink>(
 ) -> Result<(), TextFault>
     requires short { scale.frame ≤ 1024 }
     requires narrow { scale.units ≤ 1024 }
-    requires few { length entries.now ≤ 16777216 }
+    requires few { length entries.now ≤ MAX_ENTRIES }
     requires whole { AllByRecursion (λ e. IsEncodable e.reply) entries.now }
     ensures { Puts W.contents W.has_failed writer.old writer.new lines.old lines.new
         (frames_text scale (length (frames_of entries.now)) span.from
@@ -125,7 +126,7 @@ pub fn put_picture<W: Sink>(
     span: Span,
     entries: &[Entry],
 ) -> Result<(), TextFault>
-    requires few { length entries.now ≤ 16777216 }
+    requires few { length entries.now ≤ MAX_ENTRIES }
     requires whole { AllByRecursion (λ e. IsEncodable e.reply) entries.now }
 
     // What was written is the picture, and nothing else.

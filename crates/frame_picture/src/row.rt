@@ -3,6 +3,7 @@
 ghost use Rattle.std.specs.Prelude.{◌≡◌, ◌≤◌, get_or, false};
 ghost use Rattle.map_codec.specs.Element.{nulls};
 ghost use Rattle.map_codec.specs.WireMap.{IsWellFormed};
+ghost use Rattle.sched_history.specs.declared.reply.TheConstants.{MAX_ENTRIES};
 ghost use Rattle.frame_picture.specs.Bars.{shade_text, box_text, title_text, name_text, bar_text, bars_text};
 ghost use Rattle.frame_picture.specs.Picture.{start_text, map_text};
 ghost use Rattle.text_stream.specs.Writing.{Puts};
@@ -127,7 +128,7 @@ fn put_start<W: Sink>(
     place: Place,
     start: u64,
 ) -> Result<(), TextFault>
-    requires few { place.row ≤ 16777216 }
+    requires few { place.row ≤ MAX_ENTRIES }
     ensures { Puts W.contents W.has_failed writer.old writer.new lines.old lines.new
         (start_text ticks place start) result }
 {
@@ -152,7 +153,7 @@ pub(crate) fn put_row<W: Sink>(
     flows: &Flows,
     map: &FrameMap,
 ) -> Result<(), TextFault>
-    requires few { place.row ≤ 16777216 }
+    requires few { place.row ≤ MAX_ENTRIES }
     requires narrow { scale.units ≤ 1024 }
     requires whole { IsWellFormed map.now.wire }
     ensures { Puts W.contents W.has_failed writer.old writer.new lines.old lines.new

@@ -1,6 +1,6 @@
 //! A frame in rows of characters, one for each minislot.
 
-ghost use Rattle.std.specs.Prelude.{◌≡◌, ◌+◌, ◌-◌, ◌*◌, ◌<◌, ◌≤◌, ◌++◌, OnOk};
+ghost use Rattle.std.specs.Prelude.{◌≡◌, ◌+◌, ◌-◌, ◌*◌, ◌^◌, ◌<◌, ◌≤◌, ◌++◌, OnOk};
 ghost use Rattle.map_drawing.specs.Rows.{letter_of, begun, character_at, characters, row_slots, row_text, rows_text};
 ghost use Rattle.map_drawing.specs.Rows.{ShowsEachOnce};
 
@@ -58,7 +58,7 @@ fn push_characters(
     from: usize,
     count: usize,
 ) -> Result<(), AllocError>
-    requires { from + count ≤ 65535 }
+    requires { from + count < 2 ^ 16 }
     ensures { OnOk result (text.new.items ≡ text.old.items ++ characters front.now from count) }
 {
     for i in 0..count {
@@ -94,7 +94,7 @@ pub(crate) fn push_rows(
     width: usize,
 ) -> Result<(), AllocError>
     requires some { 0 < width }
-    requires most { width ≤ 65535 }
+    requires most { width < 2 ^ 16 }
     ensures { OnOk result (text.new.items ≡ text.old.items ++ rows_text front.now slots width) }
 {
     for row in 0..(usize::from(slots) + (width - 1)) / width {

@@ -1,6 +1,8 @@
 -- The axes of the use of minislots: time to the right, minislots of a frame upwards.
 use Rattle.std.specs.Prelude.{ℕ, ◌*◌, ◌/◌, nat_le, Bool, if◌then◌else◌, List, [], ◌∷◌, ◌++◌, codes, flat_map}
 use Rattle.std.specs.List.{range_with_len}
+use Rattle.report_picture.specs.declared.axes.TheConstants.{TEN_SECONDS}
+use Rattle.report_picture.specs.declared.axis.TheConstants.{HEIGHT, WIDTH}
 use Rattle.report_picture.specs.declared.course.Course.{Course}
 use Rattle.report_picture.specs.Filled.{filled}
 use Rattle.report_picture.specs.Axis.{place, round_step}
@@ -12,7 +14,7 @@ quarters c = c.span * c.ticks * 25
 
 -- whether the axis is in seconds: from 10 of them on, and else in milliseconds
 abbrev pub is_in_seconds : Course → Bool
-is_in_seconds c = nat_le 40000000 (quarters c)
+is_in_seconds c = nat_le TEN_SECONDS (quarters c)
 
 -- so many quarters of a microsecond are a thousandth of the axis' unit
 abbrev pub thousandth : Course → ℕ
@@ -24,7 +26,7 @@ axis_end c = quarters c / thousandth c
 
 -- where so many of them stand, in tenths of a unit of the picture
 abbrev pub mark_place : Course → ℕ → ℕ
-mark_place c n = place 10240 (n * thousandth c) (quarters c)
+mark_place c n = place WIDTH (n * thousandth c) (quarters c)
 
 -- their mark
 unfoldable pub time_mark : Course → ℕ → List ℕ
@@ -55,7 +57,7 @@ unfoldable pub slots_tick : Course → ℕ → List ℕ
 slots_tick c n =
     if nat_le n c.frame then
     filled (codes "<path class='tick' d='M0-~h1024'/><text class='end' x='-8' y='-~' dy='4'>@</text>\n")
-    (place 3200 n c.frame ∷ place 3200 n c.frame ∷ n ∷ [])
+    (place HEIGHT n c.frame ∷ place HEIGHT n c.frame ∷ n ∷ [])
     else []
 
 -- the ticks of minislots

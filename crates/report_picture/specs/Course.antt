@@ -1,5 +1,6 @@
 -- Where the steps of a course stand in time.
 use Rattle.std.specs.Prelude.{ℕ, ◌+◌, ◌-◌, ◌*◌, ◌<◌, ◌≤◌, min, Option, None, Some}
+use Rattle.report_picture.specs.declared.axis.TheConstants.{HEIGHT, WIDTH}
 use Rattle.report_picture.specs.declared.course.Course.{Course}
 use Rattle.report_picture.specs.declared.over_time.Step.{Step}
 use Rattle.report_picture.specs.Axis.{place}
@@ -23,7 +24,7 @@ length_of c s = end_of c s.last - s.first
 
 -- how high so many minislots of a step stand, in tenths of a unit: 320 units stand for as many as it is long
 abbrev pub height_of : Course → Step → ℕ → ℕ
-height_of c s slots = place 3200 slots (length_of c s)
+height_of c s slots = place HEIGHT slots (length_of c s)
 
 -- how many minislots there are from where the first frame starts up to this one
 abbrev pub time_since : Course → ℕ → ℕ
@@ -32,17 +33,17 @@ time_since c minislot = minislot - c.from
 -- where a minislot stands, in tenths of a unit: 1024 units stand for the time from the start of the first frame to the
 -- end of the last one, frames that were left out among it
 abbrev pub time_place : Course → ℕ → ℕ
-time_place c minislot = place 10240 (time_since c minislot) c.span
+time_place c minislot = place WIDTH (time_since c minislot) c.span
 
 -- a number, or 0 where there is none
 abbrev pub or_zero : Option ℕ → ℕ
 or_zero None = 0
 or_zero (Some n) = n
 
--- A height, rounded down, is to 3200 what some minislots are to all
+-- A height, rounded down, is to the greatest what some minislots are to all
 pub record StandsFor (height slots all : ℕ) : Type 0 where
-  pub below : height * all ≤ 3200 * slots
-  pub above : 3200 * slots < (height + 1) * all
+  pub below : height * all ≤ HEIGHT * slots
+  pub above : HEIGHT * slots < (height + 1) * all
 
 -- minislots of a step stand as high as they are of those that it is long
 abbrev pub HeightsStand : Type 0

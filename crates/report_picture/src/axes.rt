@@ -7,10 +7,13 @@ ghost use Rattle.report_picture.specs.Axes.{time_mark, time_tick, time_ticks, un
 ghost use Rattle.report_picture.specs.Axes.{slots_tick, slots_ticks, part_ticks, axes_names, axes_text};
 ghost use Rattle.text_stream.specs.Writing.{Puts};
 
-use crate::axis::{place, round_step};
+use crate::axis::{HEIGHT, WIDTH, place, round_step};
 use crate::course::Course;
 use crate::filled::put_filled;
 use text_stream::{Sink, TextBuffer, TextFault};
+
+// Ten seconds, in quarters of a microsecond.
+const TEN_SECONDS: u128 = 40_000_000;
 
 // The time from the start of the first frame to the end of the last one, in quarters of a microsecond.
 fn quarters(course: Course) -> u128
@@ -24,7 +27,7 @@ fn quarters(course: Course) -> u128
 fn is_in_seconds(course: Course) -> bool
     ensures { result ≡ is_in_seconds course }
 {
-    quarters(course) >= 40_000_000
+    quarters(course) >= TEN_SECONDS
 }
 
 // So many quarters of a microsecond are a thousandth of the unit at the axis.
@@ -56,7 +59,7 @@ fn put_time_mark<W: Sink>(
     ensures { Puts W.contents W.has_failed writer.old writer.new lines.old lines.new
         (time_mark course number) result }
 {
-    let x = place(10240, number * thousandth(course), quarters(course));
+    let x = place(WIDTH, number * thousandth(course), quarters(course));
     put_filled(
         lines,
         writer,
@@ -143,7 +146,7 @@ fn put_slots_tick<W: Sink>(
     if number > frame {
         return Ok(());
     }
-    let y = place(3200, number, frame);
+    let y = place(HEIGHT, number, frame);
     put_filled(
         lines,
         writer,

@@ -1,6 +1,7 @@
 //! Places along an axis, and the round numbers at its ticks.
 
 ghost use Rattle.std.specs.Prelude.{◌≡◌, ◌*◌, ◌^◌, ◌<◌, ◌≤◌};
+ghost use Rattle.report_picture.specs.declared.axis.TheConstants.{WIDTH};
 ghost use Rattle.report_picture.specs.Axis.{place, first_enough, round_step, microseconds};
 
 /// The round numbers.
@@ -65,9 +66,15 @@ pub const ROUND: [u64; 58] = [
     10_000_000_000_000_000_000,
 ];
 
+/// How long the axis of time is, in tenths of a unit: no axis is longer.
+pub const WIDTH: u128 = 10240;
+
+/// How high the axis of minislots is, in tenths of a unit.
+pub const HEIGHT: u128 = 3200;
+
 /// The place of an amount on an axis that is so many units long and has the other amount at its end, rounded down.
 pub fn place(long: u128, amount: u128, full: u128) -> u128
-    requires short { long ≤ 10240 }
+    requires short { long ≤ WIDTH }
     requires small { amount < 2 ^ 112 }
     ensures value { result ≡ place long amount full }
 {

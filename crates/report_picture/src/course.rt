@@ -4,7 +4,7 @@ ghost use Rattle.std.specs.Prelude.{◌≡◌, ◌^◌, ◌<◌, ◌≤◌};
 ghost use Rattle.report_picture.specs.Course.{first_frame, frame_behind, end_of, length_of, height_of, time_since};
 ghost use Rattle.report_picture.specs.Course.{time_place, HeightsStand};
 
-use crate::axis::place;
+use crate::axis::{HEIGHT, WIDTH, place};
 use crate::over_time::Step;
 
 /// Frames, one after the other, and how they are put into steps.
@@ -63,7 +63,7 @@ pub fn height_of(course: Course, step: Step, slots: u128) -> u128
     requires few { slots < 2 ^ 100 }
     ensures { result ≡ height_of course step slots }
 {
-    place(3200, slots, length_of(course, step))
+    place(HEIGHT, slots, length_of(course, step))
 }
 
 // How many minislots there are from where the first frame starts up to this one.
@@ -81,7 +81,7 @@ pub(crate) fn time_place(course: Course, minislot: u128) -> u128
     requires { minislot < 2 ^ 80 }
     ensures { result ≡ time_place course minislot }
 {
-    place(10240, time_since(course, minislot), u128::from(course.span))
+    place(WIDTH, time_since(course, minislot), u128::from(course.span))
 }
 
 /// Minislots of a step stand as high as they are of those that it is long, to less than a tenth of a unit.

@@ -1,5 +1,5 @@
 -- The lives of flows by the rank in which they are served.
-use Rattle.std.specs.Prelude.{◌≡◌, ℕ, ◌*◌, ◌≤◌, ◌==◌, ◌&&◌, Bool, true, List, filter, flat_map, length, sum_by}
+use Rattle.std.specs.Prelude.{◌≡◌, ℕ, ◌-◌, ◌*◌, ◌≤◌, ◌==◌, ◌&&◌, Bool, true, List, filter, flat_map, length, sum_by}
 use Rattle.std.specs.Prelude.{Option, None, Some, min, max, ◌^◌}
 use Rattle.minislots.specs.declared.config.Config.{Config}
 use Rattle.flow_book.specs.declared.spec.FlowSpec.{FlowSpec}
@@ -78,8 +78,8 @@ pub record AreRankNumbers (c : Config) (n : RankNumbers) (lives : List PastLife)
 
 -- the sums are of no more than so many lives
 pub record AreFew (s : RankSums) (n : ℕ) : Type 0 where
-  pub asks : s.asks ≤ 18446744073709551615 * n
-  pub granted : s.granted ≤ 18446744073709551615 * n
-  pub waiting : s.waiting ≤ 18446744073709551615 * n
-  pub dropped : s.dropped ≤ 18446744073709551615 * n
+  pub asks : s.asks ≤ (2 ^ 64 - 1) * n
+  pub granted : s.granted ≤ (2 ^ 64 - 1) * n
+  pub waiting : s.waiting ≤ (2 ^ 64 - 1) * n
+  pub dropped : s.dropped ≤ (2 ^ 64 - 1) * n
   pub served : s.served ≤ 2 ^ 44 * n

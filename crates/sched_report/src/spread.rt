@@ -2,6 +2,7 @@
 
 ghost use Rattle.std.specs.Prelude.{◌≡◌, ◌+◌, ◌*◌, ◌^◌, ◌<◌, ◌≤◌, ◌∷◌, ◌++◌, [], List, ℕ, length, slice_index_or};
 ghost use Rattle.std.specs.Prelude.{IfOk, IfErr, OnOk, vec_len, vec_capacity};
+ghost use Rattle.sched_report.specs.declared.spread.TheConstants.{EXACT};
 ghost use Rattle.sched_report.specs.declared.spread.Step.{Step as Counted};
 ghost use Rattle.sched_report.specs.Spread.{IsNear};
 ghost use Rattle.sched_report.specs.Steps.{upto, AreStepsOf};
@@ -109,7 +110,7 @@ fn told_of(delay: u64) -> u64
 
 // The width of the step of a delay: a power of two, and no more than one part in 128 of it.
 fn width_at(delay: u64) -> u64
-    requires { 65536 < delay }
+    requires { EXACT < delay }
     ensures positive { 0 < result }
     ensures narrow { 128 * result ≤ delay }
 {

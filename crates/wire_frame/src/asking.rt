@@ -16,7 +16,7 @@ pub enum AskFault {
     /// It asks for no byte: the number is 0, or a burst of so many minislots is no longer than its overhead.
     #[error("the request asks for no byte")]
     Nothing,
-    /// It asks for more than 1048560 bytes.
+    /// It asks for more than [`MAX_ASK`] bytes.
     #[error("the request asks for more than 1048560 bytes")]
     TooMany,
 }
