@@ -52,7 +52,7 @@ pub struct PlainMap {
 }
 
 // The numbers of an element.
-fn plain(element: Element) -> PlainElement
+fn plain_element(element: Element) -> PlainElement
     ensures { result ≡ plain_element element }
 {
     PlainElement {
@@ -68,7 +68,7 @@ fn put_elements(elements: &[Element], out: &mut [PlainElement])
     ensures { out.new ≡ map plain_element elements.now ++ drop (length elements.now) out.old }
 {
     for (i, element) in elements.iter().enumerate() {
-        out[i] = plain(*element);
+        out[i] = plain_element(*element);
     }
 }
 

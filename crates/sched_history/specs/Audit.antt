@@ -5,8 +5,8 @@ use Rattle.minislots.specs.declared.config.Config.{Config}
 use Rattle.map_codec.specs.declared.wire_map.WireMap.{WireMap}
 use Rattle.flow_book.specs.FlowSpec.{is_periodic}
 use Rattle.sched_history.specs.declared.auditing.sameness.FixedFields.{FixedFields}
-use Rattle.sched_history.specs.declared.auditing.sameness.PlainReply.{PlainReply}
-use Rattle.sched_history.specs.declared.auditing.sameness.PlainReply.TheVariants as plain
+use Rattle.sched_history.specs.declared.auditing.sameness.FlatReply.{FlatReply}
+use Rattle.sched_history.specs.declared.auditing.sameness.FlatReply.TheVariants as flat
 use Rattle.sched_history.specs.declared.call.Call.{Call}
 use Rattle.sched_history.specs.declared.call.Call.TheVariants.{Admit, Remove, Ask, Heard, Build, Skip, Status}
 use Rattle.sched_history.specs.declared.call.Call.TheVariants.{Reserve, Header}
@@ -35,17 +35,17 @@ is_told (Reserve usage slots) = true
 is_told (Header header) = true
 
 -- a reply without lists
-abbrev pub plain_of : Reply → Option PlainReply
-plain_of (replies.Admitted None) = Some plain.Admitted
-plain_of (replies.Admitted (Some p)) = None
-plain_of replies.Removed = Some plain.Removed
-plain_of replies.Taken = Some plain.Taken
-plain_of replies.Noted = Some plain.Noted
-plain_of replies.Reserved = Some plain.Reserved
-plain_of (replies.Built m) = None
-plain_of (replies.Skipped next) = Some (plain.Skipped next)
-plain_of (replies.Flow asked granted outstanding) = Some (plain.Flow asked granted outstanding)
-plain_of (replies.Refused refusal) = Some (plain.Refused refusal)
+abbrev pub flat_of : Reply → Option FlatReply
+flat_of (replies.Admitted None) = Some flat.Admitted
+flat_of (replies.Admitted (Some p)) = None
+flat_of replies.Removed = Some flat.Removed
+flat_of replies.Taken = Some flat.Taken
+flat_of replies.Noted = Some flat.Noted
+flat_of replies.Reserved = Some flat.Reserved
+flat_of (replies.Built m) = None
+flat_of (replies.Skipped next) = Some (flat.Skipped next)
+flat_of (replies.Flow asked granted outstanding) = Some (flat.Flow asked granted outstanding)
+flat_of (replies.Refused refusal) = Some (flat.Refused refusal)
 
 -- the fixed fields of a payload
 abbrev pub fixed_fields : WireMap → FixedFields

@@ -1,7 +1,7 @@
 //! Whether two replies are the same.
 
 ghost use Rattle.std.specs.Prelude.{◌≡◌, ◌≢◌, true, false, IfSome, IfNone};
-ghost use Rattle.sched_history.specs.Audit.{plain_of, fixed_fields};
+ghost use Rattle.sched_history.specs.Audit.{flat_of, fixed_fields};
 
 use crate::reply::{Refusal, Reply};
 use map_build::FrameMap;
@@ -10,7 +10,7 @@ use periodic::Placement;
 
 // A reply without lists.
 #[derive(Clone, Copy, PartialEq, Eq)]
-pub(crate) enum PlainReply {
+pub(crate) enum FlatReply {
     Admitted,
     Removed,
     Taken,
@@ -36,29 +36,29 @@ pub(crate) struct FixedFields {
 }
 
 // The reply, where it has no lists.
-fn plain(reply: &Reply) -> Option<PlainReply>
-    ensures { result ≡ plain_of reply.now }
+fn flat_of(reply: &Reply) -> Option<FlatReply>
+    ensures { result ≡ flat_of reply.now }
 {
     match reply {
-        Reply::Admitted(None) => Some(PlainReply::Admitted),
+        Reply::Admitted(None) => Some(FlatReply::Admitted),
         Reply::Admitted(Some(_)) => None,
-        Reply::Removed => Some(PlainReply::Removed),
-        Reply::Taken => Some(PlainReply::Taken),
-        Reply::Noted => Some(PlainReply::Noted),
-        Reply::Reserved => Some(PlainReply::Reserved),
+        Reply::Removed => Some(FlatReply::Removed),
+        Reply::Taken => Some(FlatReply::Taken),
+        Reply::Noted => Some(FlatReply::Noted),
+        Reply::Reserved => Some(FlatReply::Reserved),
         Reply::Built(_) => None,
-        Reply::Skipped(next) => Some(PlainReply::Skipped(*next)),
+        Reply::Skipped(next) => Some(FlatReply::Skipped(*next)),
         Reply::Flow {
             asked,
             granted,
             outstanding,
-        } => Some(PlainReply::Flow(*asked, *granted, *outstanding)),
-        Reply::Refused(refusal) => Some(PlainReply::Refused(*refusal)),
+        } => Some(FlatReply::Flow(*asked, *granted, *outstanding)),
+        Reply::Refused(refusal) => Some(FlatReply::Refused(*refusal)),
     }
 }
 
 // Whether two replies without lists are the same.
-fn is_same_reply(reply: PlainReply, other: PlainReply) -> bool
+fn is_same_reply(reply: FlatReply, other: FlatReply) -> bool
     ensures same { result ≡ true → reply ≡ other }
     ensures apart { result ≡ false → reply ≢ other }
 {
@@ -66,14 +66,14 @@ fn is_same_reply(reply: PlainReply, other: PlainReply) -> bool
 }
 
 // Whether two replies have no lists and are the same, or both have lists.
-pub(crate) fn is_same_plain(reply: &Reply, other: &Reply) -> bool
-    ensures same { result ≡ true → plain_of reply.now ≡ plain_of other.now }
-    ensures apart { result ≡ false → plain_of reply.now ≢ plain_of other.now }
+pub(crate) fn is_same_flat(reply: &Reply, other: &Reply) -> bool
+    ensures same { result ≡ true → flat_of reply.now ≡ flat_of other.now }
+    ensures apart { result ≡ false → flat_of reply.now ≢ flat_of other.now }
 {
-    let Some(told) = plain(reply) else {
-        return plain(other).is_none();
+    let Some(told) = flat_of(reply) else {
+        return flat_of(other).is_none();
     };
-    let Some(same) = plain(other) else {
+    let Some(same) = flat_of(other) else {
         return false;
     };
     is_same_reply(told, same)

@@ -7,7 +7,7 @@ ghost use Rattle.sched_history.specs.Audit.{is_told};
 
 use super::refusing::is_periodic;
 use super::state::State;
-use crate::auditing::sameness::{is_refused, is_same_map, is_same_plain, map_in, placement_in};
+use crate::auditing::sameness::{is_refused, is_same_flat, is_same_map, map_in, placement_in};
 use crate::call::Call;
 use crate::reply::{Refusal, Reply};
 use flow_book::FlowSpec;
@@ -50,7 +50,7 @@ impl State {
         ensures err { OnErr result (self.new ≡ self.old) }
         ensures memory { OnErr result (TakesMemoryOpen self.old call) }
     {
-        if !is_same_plain(&self.told(call), reply) {
+        if !is_same_flat(&self.told(call), reply) {
             return Ok(false);
         }
         self.answer(alloc, call)?;

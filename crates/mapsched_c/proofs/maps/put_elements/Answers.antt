@@ -16,7 +16,7 @@ loop-i-preserved c =
     let more = stand_more plain_element es old c.loop-i.out c.loop-i.i none
     (omega arith) c.requires c.loop-i.invariant in
     subst (λ y. StandSoFar plain_element es old (slice_set c.loop-i.out c.loop-i.i y) (c.loop-i.i + 1))
-    (sym c.plain.ensures) more
+    (sym c.plain_element.ensures) more
 
 pub returns : goal.returns
 returns c = search (rules, stand_all)

@@ -15,7 +15,7 @@ returns-clause-follows c = λ is h opens.
     let same : c.in_ok-answer.field-0.reply ≡ c.args.reply.now =
     told-one s.config h call c.in_ok-answer.field-0.reply c.told.result c.requires.told answered.answers told
     ∙ told-same s.config h call c.requires.told c.told.result c.args.reply.now told
-    (c.if-not-is_same_plain.ensures.same refl) in
+    (c.if-not-is_same_flat.ensures.same refl) in
     record {
       config = answered.config;
       answers = subst (λ r. Answers s.config h call r) same answered.answers;
@@ -25,7 +25,7 @@ returns-clause-follows c = λ is h opens.
           (answered.is_after stamp);
     }
 
-pub returns-then-not-is_same_plain-clause-differs : goal.returns-then-not-is_same_plain-clause-differs
-returns-then-not-is_same_plain-clause-differs c = λ is h opens answers.
+pub returns-then-not-is_same_flat-clause-differs : goal.returns-then-not-is_same_flat-clause-differs
+returns-then-not-is_same_flat-clause-differs c = λ is h opens answers.
     told-apart c.args.self.now.config h c.args.call c.requires.told c.told.result c.args.reply.now
-    (c.told.ensures h opens) (c.if-not-is_same_plain.ensures.apart refl) answers
+    (c.told.ensures h opens) (c.if-not-is_same_flat.ensures.apart refl) answers
