@@ -10,6 +10,7 @@ mod quick_script;
 mod read;
 
 pub use call::call_of;
+pub use quick_call::{next_key, read_number, read_quick_call, read_text};
 pub use quick_line::read_quick_line;
-pub use quick_script::read_quick_script;
+pub use quick_script::{read_config, read_quick_script};
 pub use read::read_call;

@@ -19,8 +19,8 @@ use std::alloc::Global;
 // The most members of an object in which no other stands.
 const MOST_MEMBERS: usize = 21;
 
-// A key, or none at the brace that closes an object.
-pub(crate) fn next_key<'a>(reader: &mut Quick<'a>) -> Result<Option<&'a str>, Stop>
+/// Takes a key, or the brace that closes an object.
+pub fn next_key<'a>(reader: &mut Quick<'a>) -> Result<Option<&'a str>, Stop>
     ensures { IfOk result
         (λ k. read_key reader.old ≡ Some (option_map (λ s. s.now) k, reader.new)) }
 {
@@ -30,8 +30,8 @@ pub(crate) fn next_key<'a>(reader: &mut Quick<'a>) -> Result<Option<&'a str>, St
     Ok(key)
 }
 
-// A whole number.
-fn read_number(reader: &mut Quick<'_>) -> Result<u64, Stop>
+/// The whole number from 0 to 2^64 - 1 that comes next.
+pub fn read_number(reader: &mut Quick<'_>) -> Result<u64, Stop>
     ensures is { IfOk result (λ n. (depth : ℕ) → converted of_json (value depth reader.old)
         ≡ Some (number (unsigned n), reader.new)) }
     ensures shorter { OnOk result (length reader.new < length reader.old) }
@@ -42,8 +42,8 @@ fn read_number(reader: &mut Quick<'_>) -> Result<u64, Stop>
     Ok(number)
 }
 
-// A text.
-fn read_text<'a>(reader: &mut Quick<'a>) -> Result<&'a str, Stop>
+/// The text without an escape that comes next.
+pub fn read_text<'a>(reader: &mut Quick<'a>) -> Result<&'a str, Stop>
     ensures is { IfOk result (λ text. (depth : ℕ) → converted of_json (value depth reader.old)
         ≡ Some (string text.now, reader.new)) }
     ensures shorter { OnOk result (length reader.new < length reader.old) }
@@ -149,12 +149,9 @@ fn read_members<'a>(alloc: Global, reader: &mut Quick<'a>, depth: usize) -> Resu
     Ok(found)
 }
 
-/// The call that comes next, nested no deeper than this.
-pub(crate) fn read_quick_call(
-    alloc: Global,
-    reader: &mut Quick<'_>,
-    depth: usize,
-) -> Result<Call, Stop>
+/// The call in its usual spelling that comes next, nested no deeper than this. It has no member that no call has, so
+/// none is a configuration.
+pub fn read_quick_call(alloc: Global, reader: &mut Quick<'_>, depth: usize) -> Result<Call, Stop>
     ensures is { IfOk result (λ call. (d : Data)
         × (converted of_json (value depth reader.old) ≡ Some (d, reader.new))
         × (call_of d ≡ Some call) × (get (codes "config") d ≡ None)) }

@@ -38,8 +38,8 @@ fn read_calls(alloc: Global, reader: &mut Quick<'_>, depth: usize) -> Result<Vec
     Ok(calls)
 }
 
-// The configuration under its key.
-fn read_config(alloc: Global, reader: &mut Quick<'_>) -> Result<Config, Stop>
+/// The configuration of a document in its usual spelling, under its key that comes next.
+pub fn read_config(alloc: Global, reader: &mut Quick<'_>) -> Result<Config, Stop>
     ensures is { IfOk result (λ config. (s : List Token) × (d : Data)
         × (read_key reader.old ≡ Some (Some (codes "config"), s))
         × (converted of_json (value 126 s) ≡ Some (d, reader.new))
