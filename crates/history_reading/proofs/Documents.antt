@@ -15,7 +15,8 @@ use Rattle.history_reading.specs.Recorded.{entries_of, history_of, history_in}
 use Rattle.history_reading.specs.Replies.{entry_of}
 use Rattle.history_reading.specs.Usual.{recorded_text}
 
-abbrev IsEntry : Data → Entry → Type 0
+-- the value stands for the entry
+abbrev pub IsEntry : Data → Entry → Type 0
 IsEntry d entry = entry_of d ≡ Some entry
 
 -- entries that were all read

@@ -7,3 +7,4 @@ pub mod FewEntries
 pub mod Encodable
 pub mod HistoryOutcome
 pub mod RowsForms
+pub mod Spelled

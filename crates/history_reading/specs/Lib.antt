@@ -2,3 +2,4 @@ pub mod Refusals
 pub mod Replies
 pub mod Recorded
 pub mod Usual
+pub mod Spelled

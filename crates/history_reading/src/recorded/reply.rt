@@ -1,6 +1,8 @@
 //! One reply of a history.
 
-ghost use Rattle.std.specs.Prelude.{◌≡◌, IfOk, Some};
+ghost use Rattle.std.specs.Prelude.{◌≡◌, IfOk, Some, option_and_then};
+ghost use Rattle.std.specs.Result.{result_ok};
+ghost use Rattle.hex.specs.Hex.{decode_of};
 ghost use Rattle.history_reading.specs.Replies.{placed_reply, admitted_reply, map_of, map_at, map_reply, skipped_reply};
 ghost use Rattle.history_reading.specs.Replies.{flow_reply, u64_if, refused_reply, reply_of};
 
@@ -53,6 +55,18 @@ fn map_of(alloc: Global, bytes: &[u8]) -> Result<Option<WireMap>, AllocError>
     }
 }
 
+// The MAP of which this text is the payload in hexadecimal, digits of both cases.
+pub(crate) fn map_in(alloc: Global, digits: &str) -> Result<Option<WireMap>, AllocError>
+    ensures { IfOk result
+        (λ map. map ≡ option_and_then map_of (result_ok (decode_of digits.now))) }
+{
+    match hex::decode(alloc, digits) {
+        Ok(bytes) => map_of(alloc, &bytes),
+        Err(FromHexError::OutOfMemory) => Err(AllocError),
+        Err(_) => Ok(None),
+    }
+}
+
 // The MAP whose payload stands under this key in hexadecimal, digits of both cases.
 #[tactic(auto, unfolding(crate::specs::Replies::map_at))]
 fn map_at<T: Tree>(alloc: Global, value: &T, key: &str) -> Result<Option<WireMap>, AllocError>
@@ -61,11 +75,7 @@ fn map_at<T: Tree>(alloc: Global, value: &T, key: &str) -> Result<Option<WireMap
     let Some(digits) = text(value, key) else {
         return Ok(None);
     };
-    match hex::decode(alloc, digits) {
-        Ok(bytes) => map_of(alloc, &bytes),
-        Err(FromHexError::OutOfMemory) => Err(AllocError),
-        Err(_) => Ok(None),
-    }
+    map_in(alloc, digits)
 }
 
 #[tactic(auto, unfolding(crate::specs::Replies::map_reply))]
