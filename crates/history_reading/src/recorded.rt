@@ -7,6 +7,7 @@ ghost use Rattle.history_reading.specs.Recorded.{entries_of, history_of, history
 mod entry;
 mod numbers;
 mod quick_entry;
+mod quick_history;
 mod quick_member;
 mod quick_numbers;
 mod quick_reply;

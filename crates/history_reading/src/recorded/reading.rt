@@ -10,6 +10,7 @@ ghost use Rattle.history_reading.specs.Usual.{recorded_text};
 ghost use Rattle.text_stream.specs.Watched.{FailsBy};
 
 use super::entry::InHistory;
+use super::quick_history::read_quick_history;
 use super::{Recorded, history_of};
 use json_fields::{Stop, read_usual};
 use minislots::Checked;
@@ -17,8 +18,9 @@ use sched_history::Entry;
 use std::alloc::Global;
 use text_stream::{Source, TextFault, parse, read_all};
 
-// The history that a text stands for. One that is not in the usual form is read as a tree, which tells its fault.
-fn history_of_text(alloc: Global, bytes: &[u8]) -> Result<Recorded, TextFault>
+// The history that a text stands for, read from its tokens. One that is not in the usual form is read as a tree, which
+// tells its fault.
+fn history_of_tokens(alloc: Global, bytes: &[u8]) -> Result<Recorded, TextFault>
     ensures { Gives history_with result (recorded_text bytes.now) }
 {
     match read_usual::<InHistory, _>(alloc, bytes, "entries") {
@@ -28,6 +30,16 @@ fn history_of_text(alloc: Global, bytes: &[u8]) -> Result<Recorded, TextFault>
             let value = parse(alloc, bytes)?;
             history_of(alloc, &value)
         }
+    }
+}
+
+// The history that a text stands for. One in the usual spelling is read byte by byte, any other from its tokens.
+fn history_of_text(alloc: Global, bytes: &[u8]) -> Result<Recorded, TextFault>
+    ensures { Gives history_with result (recorded_text bytes.now) }
+{
+    match read_quick_history(alloc, bytes) {
+        Ok((config, entries)) => Ok(Recorded { config, entries }),
+        Err(_stop) => history_of_tokens(alloc, bytes),
     }
 }
 
