@@ -19,12 +19,6 @@ use Rattle.byte_tokens.specs.Left.{tokens_from, begins_at, closes_at}
 impossible : {P : Type 0} → false ≡ true → P
 impossible e = absurd (true≢false (sym e))
 
-over : (b : Before) → closes_at b ≡ true → tokens_from b [] ≡ []
-unfolding lex punctuate
-over Opening may = refl
-over Value may = refl
-over Comma may = impossible may
-
 module _ (t r : List ℕ) where
   -- where a value may begin, a brace opens an object
   pub object_opens : (b : Before) → begins_at b ≡ true → t ≡ 123 ∷ r
@@ -62,6 +56,21 @@ module _ (t r : List ℕ) where
   pub comma_passed : t ≡ 44 ∷ r → tokens_from Comma r ≡ tokens_from Value t
   unfolding lex punctuate
   comma_passed is = rw is refl
+
+  -- a space between tokens is none
+  pub space_passed : t ≡ 32 ∷ r → lex between r ≡ lex between t
+  unfolding lex
+  space_passed is = rw is refl
+
+-- a line feed at the end is no token
+pub line_feed_passed : (t r : List ℕ) → t ≡ 10 ∷ r → r ≡ [] → lex between t ≡ []
+unfolding lex
+line_feed_passed t r is end = rw is (rw end refl)
+
+-- at the end of a text is no lexeme
+pub none_at_end : (text : List ℕ) (at : ℕ) → at ≡ length text → lex between (drop at text) ≡ []
+unfolding lex
+none_at_end text at end = ap (λ i. lex between (drop i text)) end ∙ ap (lex between) (drop-length text)
 
 -- what stands in quotes, where no byte of it has an escape
 lex_quoted : (s r : List ℕ) → escape s ≡ s → lex between (34 ∷ (s ++ 34 ∷ r)) ≡ token (string s) ∷ lex between r
@@ -125,8 +134,9 @@ module _ (b : Before) (may : begins_at b ≡ true) (t : List ℕ) (c : ℕ) (q :
       number_first b (decimal n) (lex between (c ∷ q)) may t
       (ap (lex between) is ∙ lex-number (decimal n) (c ∷ q) (IsNumber-decimal n fits) (ends_number c q ended))
 
--- at the end of a text no token is left
-pub none_left : (b : Before) → closes_at b ≡ true → (text : List ℕ) (at : ℕ) → at ≡ length text
-    → tokens_from b (drop at text) ≡ []
-none_left b may text at end = ap (λ i. tokens_from b (drop i text)) end ∙ ap (tokens_from b) (drop-length text)
-    ∙ over b may
+-- where no lexeme is left, no token is
+pub none_left : (b : Before) → closes_at b ≡ true → (t : List ℕ) → lex between t ≡ [] → tokens_from b t ≡ []
+unfolding punctuate
+none_left Opening may t none = rw none refl
+none_left Value may t none = rw none refl
+none_left Comma may t none = impossible may

@@ -67,7 +67,20 @@ impl<'a> Model for Quick<'a> {
     ghost invariant = { λ a. a.at ≤ length a.text.now };
 }
 
-// The place behind a value, and behind the comma that may follow it.
+// The place behind a space, where one stands.
+fn behind_space(text: &[u8], at: usize) -> usize
+    requires { at ≤ length text.now }
+    ensures same { lex between (drop result text.now) ≡ lex between (drop at text.now) }
+    ensures within { result ≤ length text.now }
+{
+    if byte_at(text, at) == b' ' {
+        at + 1
+    } else {
+        at
+    }
+}
+
+// The place behind a value, and behind the comma and the space that may follow it.
 fn behind_value(text: &[u8], at: usize) -> (usize, Before)
     requires { at ≤ length text.now }
     ensures same { tokens_from result.1 (drop result.0 text.now)
@@ -75,10 +88,17 @@ fn behind_value(text: &[u8], at: usize) -> (usize, Before)
     ensures within { result.0 ≤ length text.now }
 {
     if byte_at(text, at) == b',' {
-        (at + 1, Before::Comma)
+        (behind_space(text, at + 1), Before::Comma)
     } else {
         (at, Before::Value)
     }
+}
+
+// Whether the text ends at a place, or with one line feed more.
+fn ends_at(text: &[u8], at: usize) -> bool
+    ensures { IsTrue result → lex between (drop at text.now) ≡ [] }
+{
+    at == text.len() || (byte_at(text, at) == b'\n' && at + 1 == text.len())
 }
 
 impl<'a> Quick<'a> {
@@ -153,10 +173,11 @@ impl<'a> Quick<'a> {
             return None;
         }
         let (found, at) = quoted(self.text, self.at)?;
-        if byte_at(self.text.as_bytes(), at) != b':' {
+        let text = self.text.as_bytes();
+        if byte_at(text, at) != b':' {
             return None;
         }
-        self.at = at + 1;
+        self.at = behind_space(text, at + 1);
         self.before = Before::Opening;
         Some(found)
     }
@@ -219,6 +240,6 @@ impl<'a> Quick<'a> {
     pub fn is_over(&self) -> bool
         ensures { IsTrue result → self.now ≡ [] }
     {
-        self.before.may_close() && self.at == self.text.len()
+        self.before.may_close() && ends_at(self.text.as_bytes(), self.at)
     }
 }

@@ -1,4 +1,5 @@
-//! A call of the usual spelling, read from its bytes: without spaces and escapes, and with no member that no call has.
+//! A call of the usual spelling, read from its bytes: without escapes, with no space but one behind a comma or a colon,
+//! and with no member that no call has.
 
 ghost use Rattle.std.specs.Prelude.{◌≡◌, ◌<◌, ℕ, codes, Some, None, IfOk, OnOk, length, option_map};
 ghost use Rattle.json.specs.Json.{value, members, read_key};

@@ -1,11 +1,14 @@
 -- At the end no token is left.
-use Rattle.std.proofs.Common.{sym, ◌∙◌}
-use Rattle.std.proofs.lemmas.Bool.{eqb-true}
+use Rattle.std.proofs.Common.{drop, sym, ap, ◌∙◌}
+use Rattle.json.specs.Lex.{between, lex}
 use Rattle.byte_tokens.proofs.Taken.{none_left}
 use Rattle.byte_tokens.proofs.quick.Quick.is_over.Goals as goal
 
 pub returns-then-may_close : goal.returns-then-may_close
 returns-then-may_close c end =
     let a = c.self.inside in
+    let text = a.text.now in
+    let same = c.as_bytes.ensures.value in
     let may = sym c.may_close.ensures ∙ c.if-may_close.true in
-    sym c.self.view_is ∙ none_left a.before may a.text.now a.at (eqb-true _ _ end)
+    sym c.self.view_is ∙ none_left a.before may (drop a.at text)
+    (ap (λ t. lex between (drop a.at t)) (sym same) ∙ c.ends_at.ensures end)
