@@ -3,10 +3,11 @@ use Rattle.std.proofs.Common.{◌≡◌, ◌+◌, ◌*◌, ◌-◌, ◌/◌, ◌
 use Rattle.std.proofs.Common.{length, take, drop, get_or}
 use Rattle.std.proofs.Common.{decimal, sym, ap, ◌∙◌, subst, arith, drop-cons, add-one, append_assoc}
 use Rattle.std.proofs.Common.{inl, inr}
-use Rattle.std.proofs.lemmas.List.{take_more, get_or-drop, drop-drop, take-append-drop, length-drop}
+use Rattle.std.proofs.lemmas.List.{take_more, get_or-drop, drop-drop, take-append-drop, length-drop, length-take-le, get_or-take}
 use Rattle.std.proofs.lemmas.Fmt.{decimal_step, decimal_digit}
+use Rattle.std.proofs.lemmas.Bool.{cases_lt}
 use Rattle.std.specs.Prelude.{◌⊎◌}
-use Rattle.std.proofs.lemmas.Grind.{flat_map-append}
+use Rattle.std.proofs.lemmas.Grind.{flat_map-append, same_number_lists}
 use Rattle.json.specs.Print.{escape, escape_byte}
 use Rattle.json.proofs.Printed.Strings.{escape_byte_plain}
 
@@ -91,3 +92,40 @@ pub some_byte : (c : ℕ) → (c ≡ 44) ⊎ ((c ≡ 125) ⊎ (c ≡ 93)) → 0 
 some_byte c (inl e) = omega (arith, e)
 some_byte c (inr (inl e)) = omega (arith, e)
 some_byte c (inr (inr e)) = omega (arith, e)
+
+module _ (P : ℕ → Type 0) (n k : ℕ) (within : k < n) (many : 4 ≤ n) (few : n ≤ 12)
+    (front : (k : ℕ) → k < 4 → P k) (back : (k : ℕ) → k < 4 → P (n - 4 + k))
+    (middle : 8 < n → (k : ℕ) → k < 4 → P (4 + k)) where
+  by_part : (k < 4) ⊎ (4 ≤ k) → (k < n - 4) ⊎ (n - 4 ≤ k) → P k
+  by_part (inl low) end = front k low
+  by_part (inr high) (inl before) =
+      let place : 4 + (k - 4) ≡ k = omega arith in
+      subst P place (middle (omega arith) (k - 4) (omega arith))
+  by_part (inr high) (inr end) =
+      let place : n - 4 + (k - (n - 4)) ≡ k = omega arith in
+      subst P place (back (k - (n - 4)) (omega arith))
+
+  -- three parts of four, which may overlap, cover 4 to 12
+  pub four_cover : P k
+  four_cover = by_part (cases_lt k 4) (cases_lt k (n - 4))
+
+-- a word whose bytes stand one by one at a place of a text stands there
+pub word_there : (text word : List ℕ) (at : ℕ) → at + length word ≤ length text
+    → ((k : ℕ) → k < length word → get_or text (at + k) 0 ≡ get_or word k 0)
+    → drop at text ≡ word ++ drop (at + length word) text
+word_there text word at within same =
+    let n = length word in
+    let xs = drop at text in
+    let count : length (take n xs) ≡ n = length-take-le n xs (rw length-drop (omega arith)) in
+    let front : take n xs ≡ word = same_number_lists (take n xs) word count
+    (λ k few. get_or-take n xs k 0 (omega (arith, few, count)) ∙ get_or-drop at text k 0 ∙ same k (omega (arith, few, count))) in
+    sym (take-append-drop n xs) ∙ (λ i. front i ++ drop-drop n at text i)
+
+-- a word that stands at a place of the bytes of a text stands there in the text
+pub word_first : (bytes text word spelled : List ℕ) (at : ℕ) → bytes ≡ text → word ≡ spelled
+    → drop at bytes ≡ word ++ drop (at + length word) bytes
+    → drop at text ≡ spelled ++ drop (at + length spelled) text
+word_first bytes text word spelled at same is here =
+    let found : drop at text ≡ word ++ drop (at + length word) text =
+    subst (λ t. drop at t ≡ word ++ drop (at + length word) t) same here in
+    subst (λ w. drop at text ≡ w ++ drop (at + length w) text) is found

@@ -1,6 +1,6 @@
 -- The tokens that a text begins with.
 use Rattle.std.proofs.Common.{◌≡◌, ◌^◌, ◌<◌, ℕ, true, false, true≢false, List, [], ◌∷◌, ◌++◌, decimal, refl, sym, ap}
-use Rattle.std.proofs.Common.{◌∙◌, inl, inr, length, drop}
+use Rattle.std.proofs.Common.{◌∙◌, inl, inr, length, drop, append_assoc}
 use Rattle.std.proofs.Math.Seq.{drop-length}
 use Rattle.std.specs.Prelude.{◌⊎◌}
 use Rattle.json.specs.Token.{begin_object, end_object, begin_array, end_array, key, string, number}
@@ -14,7 +14,8 @@ use Rattle.json.proofs.Printed.Numbers.{lex-number}
 use Rattle.json.proofs.Printed.Decimals.{IsNumber-decimal}
 use Rattle.byte_tokens.specs.declared.quick.Before.{Before}
 use Rattle.byte_tokens.specs.declared.quick.Before.TheVariants.{Opening, Value, Comma}
-use Rattle.byte_tokens.specs.Left.{tokens_from, begins_at, closes_at}
+use Rattle.byte_tokens.specs.Left.{tokens_from, begins_at, closes_at, EndsValue}
+use Rattle.byte_tokens.specs.Spelled.{spelled_key, spelled_text}
 
 impossible : {P : Type 0} → false ≡ true → P
 impossible e = absurd (true≢false (sym e))
@@ -133,6 +134,31 @@ module _ (b : Before) (may : begins_at b ≡ true) (t : List ℕ) (c : ℕ) (q :
   number_taken n fits is ended =
       number_first b (decimal n) (lex between (c ∷ q)) may t
       (ap (lex between) is ∙ lex-number (decimal n) (c ∷ q) (IsNumber-decimal n fits) (ends_number c q ended))
+
+module _ (t spelled name r : List ℕ) where
+  -- what stands first where a key in its quotes does
+  pub key_spelled : spelled ≡ spelled_key name → t ≡ spelled ++ r → t ≡ 34 ∷ (name ++ 34 ∷ (58 ∷ r))
+  key_spelled is first =
+      first ∙ ap (λ s. s ++ r) is ∙ ap (λ l. 34 ∷ l) (append_assoc name (34 ∷ 58 ∷ []) r)
+
+  -- what stands first where a text in its quotes does
+  pub text_spelled : spelled ≡ spelled_text name → t ≡ spelled ++ r → t ≡ 34 ∷ (name ++ 34 ∷ r)
+  text_spelled is first = first ∙ ap (λ s. s ++ r) is ∙ ap (λ l. 34 ∷ l) (append_assoc name (34 ∷ []) r)
+
+module _ (b : Before) (may : begins_at b ≡ true) (t r : List ℕ) where
+  -- a text, and behind it what ends a value
+  pub text_left : (s : List ℕ) → escape s ≡ s → t ≡ 34 ∷ (s ++ 34 ∷ r) → EndsValue r
+      → tokens_from b t ≡ string s ∷ punctuate after_value (lex between r)
+  text_left s same is ends =
+      text_taken b may t ends.0 ends.1 s same (is ∙ ap (λ l. 34 ∷ (s ++ 34 ∷ l)) ends.2) ends.3
+      ∙ ap (λ ts. string s ∷ punctuate after_value (lex between ts)) (sym ends.2)
+
+  -- a whole number, and behind it what ends a value
+  pub number_left : (n : ℕ) → n < 2 ^ 64 → t ≡ decimal n ++ r → EndsValue r
+      → tokens_from b t ≡ number (decimal n) ∷ punctuate after_value (lex between r)
+  number_left n fits is ends =
+      number_taken b may t ends.0 ends.1 n fits (is ∙ ap (λ l. decimal n ++ l) ends.2) ends.3
+      ∙ ap (λ ts. number (decimal n) ∷ punctuate after_value (lex between ts)) (sym ends.2)
 
 -- where no lexeme is left, no token is
 pub none_left : (b : Before) → closes_at b ≡ true → (t : List ℕ) → lex between t ≡ [] → tokens_from b t ≡ []

@@ -1,5 +1,5 @@
 -- The tokens from a place of a text on, by what stands before it.
-use Rattle.std.specs.Prelude.{ℕ, List, Bool, true, false}
+use Rattle.std.specs.Prelude.{◌≡◌, ◌⊎◌, ◌∷◌, ℕ, List, Bool, true, false}
 use Rattle.json.specs.Token.{Token}
 use Rattle.json.specs.Lex.{between, lex, fresh, after_value, after_comma, punctuate}
 use Rattle.byte_tokens.specs.declared.quick.Before.{Before}
@@ -22,3 +22,11 @@ abbrev pub closes_at : Before → Bool
 closes_at Opening = true
 closes_at Value = true
 closes_at Comma = false
+
+-- whether a byte ends a value: a comma, or a closing bracket
+abbrev pub IsEnd : ℕ → Type 0
+IsEnd c = (c ≡ 44) ⊎ ((c ≡ 125) ⊎ (c ≡ 93))
+
+-- what stands there ends a value
+abbrev pub EndsValue : List ℕ → Type 0
+EndsValue text = (c : ℕ) × (rest : List ℕ) × (text ≡ c ∷ rest) × IsEnd c

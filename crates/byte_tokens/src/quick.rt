@@ -1,14 +1,16 @@
 //! A reader of tokens.
 
 ghost use Rattle.std.specs.Prelude.{◌≡◌, ◌^◌, ◌<◌, ◌≤◌, ◌∷◌, [], Some, IsTrue, IfSome, option_map};
-ghost use Rattle.std.specs.Prelude.{decimal, length, drop};
+ghost use Rattle.std.specs.Prelude.{List, ℕ, decimal, length, drop};
+ghost use Rattle.json.specs.Print.{escape};
 ghost use Rattle.std.specs.Bool.{MatchBool};
 ghost use Rattle.json.specs.Token.{begin_object, end_object, begin_array, end_array, key, string, number};
 ghost use Rattle.json.specs.Lex.{tokens, between, lex, after_value, punctuate};
 ghost use Rattle.json.specs.Json.{read_key};
-ghost use Rattle.byte_tokens.specs.Left.{tokens_from, begins_at, closes_at};
+ghost use Rattle.byte_tokens.specs.Left.{tokens_from, begins_at, closes_at, EndsValue};
+ghost use Rattle.byte_tokens.specs.Spelled.{spelled_key, spelled_text};
 
-use super::spelled::{byte_at, ends_value, number_at, quoted};
+use super::spelled::{byte_at, number_at, quoted, stands_at};
 use std::marker::Model;
 
 // What stands before the place of a reader.
@@ -92,6 +94,24 @@ fn behind_value(text: &[u8], at: usize) -> (usize, Before)
     } else {
         (at, Before::Value)
     }
+}
+
+// The place behind a value, where what stands there ends it.
+fn ended_value(text: &[u8], at: usize) -> Option<(usize, Before)>
+    requires { at ≤ length text.now }
+    ensures ends { IfSome result (λ r. EndsValue (drop at text.now)) }
+    ensures same { IfSome result (λ r. tokens_from r.1 (drop r.0 text.now)
+        ≡ punctuate after_value (lex between (drop at text.now))) }
+    ensures within { IfSome result (λ r. r.0 ≤ length text.now) }
+{
+    let next = byte_at(text, at);
+    if next == b',' {
+        return Some((behind_space(text, at + 1), Before::Comma));
+    }
+    if next != b'}' && next != b']' {
+        return None;
+    }
+    Some((at, Before::Value))
 }
 
 // Whether the text ends at a place, or with one line feed more.
@@ -182,6 +202,42 @@ impl<'a> Quick<'a> {
         Some(found)
     }
 
+    /// Takes the key that is spelled so, in quotes and with its colon, if it is next. Where the spelling is known when it
+    /// is compiled, and has at most 12 bytes, this costs a few comparisons.
+    #[inline(always)]
+    pub fn take_spelled_key(&mut self, spelled: &str) -> bool
+        ensures { MatchBool result ((name : List ℕ) → escape name ≡ name
+            → spelled.now ≡ spelled_key name → self.old ≡ key name ∷ self.new)
+            (self.new ≡ self.old) }
+    {
+        let text = self.text.as_bytes();
+        if !self.before.may_begin() || !stands_at(text, self.at, spelled.as_bytes()) {
+            return false;
+        }
+        self.at = behind_space(text, self.at + spelled.len());
+        self.before = Before::Opening;
+        true
+    }
+
+    /// Takes the text that is spelled so, in quotes, if it is next, in the same way.
+    #[inline(always)]
+    pub fn take_spelled_text(&mut self, spelled: &str) -> bool
+        ensures { MatchBool result ((content : List ℕ) → escape content ≡ content
+            → spelled.now ≡ spelled_text content → self.old ≡ string content ∷ self.new)
+            (self.new ≡ self.old) }
+    {
+        let text = self.text.as_bytes();
+        if !self.before.may_begin() || !stands_at(text, self.at, spelled.as_bytes()) {
+            return false;
+        }
+        let Some((at, before)) = ended_value(text, self.at + spelled.len()) else {
+            return false;
+        };
+        self.at = at;
+        self.before = before;
+        true
+    }
+
     /// Takes a key, or the brace that closes an object.
     pub fn next_key(&mut self) -> Option<Option<&'a str>>
         ensures { IfSome result
@@ -203,16 +259,14 @@ impl<'a> Quick<'a> {
         }
         let (found, at) = quoted(self.text, self.at)?;
         let text = self.text.as_bytes();
-        if !ends_value(byte_at(text, at)) {
-            return None;
-        }
-        let (at, before) = behind_value(text, at);
+        let (at, before) = ended_value(text, at)?;
         self.at = at;
         self.before = before;
         Some(found)
     }
 
-    /// Takes a whole number from 0 to 2^64 - 1.
+    /// Takes a whole number from 0 to 2^64 - 1. Compiled once: a copy at each call would leave it fewer registers.
+    #[inline(never)]
     pub fn take_number(&mut self) -> Option<u64>
         ensures { IfSome result (λ n. (n < 2 ^ 64)
             × (self.old ≡ number (decimal n) ∷ self.new)) }
@@ -222,10 +276,7 @@ impl<'a> Quick<'a> {
         }
         let text = self.text.as_bytes();
         let (found, at) = number_at(text, self.at)?;
-        if !ends_value(byte_at(text, at)) {
-            return None;
-        }
-        let (at, before) = behind_value(text, at);
+        let (at, before) = ended_value(text, at)?;
         self.at = at;
         self.before = before;
         Some(found)
@@ -234,6 +285,16 @@ impl<'a> Quick<'a> {
     /// Whether a quote stands next. No clause says so: what is taken after it is right whatever it answers.
     pub fn is_quoted(&self) -> bool {
         byte_at(self.text.as_bytes(), self.at) == b'"'
+    }
+
+    /// The byte behind the next one: where a quote stands next, the first of what is quoted. No clause says so.
+    pub fn letter(&self) -> u8 {
+        let text = self.text.as_bytes();
+        if self.at < text.len() {
+            byte_at(text, self.at + 1)
+        } else {
+            0
+        }
     }
 
     /// Whether no token is left.

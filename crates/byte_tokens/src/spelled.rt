@@ -1,7 +1,7 @@
 //! What is spelled at a place of a text.
 
 ghost use Rattle.std.specs.Prelude.{◌≡◌, ◌+◌, ◌-◌, ◌^◌, ◌<◌, ◌≤◌, ◌⊎◌, ◌∷◌, ◌++◌, length, take};
-ghost use Rattle.std.specs.Prelude.{drop, decimal, IsTrue, IfSome};
+ghost use Rattle.std.specs.Prelude.{drop, decimal, get_or, ℕ, IsTrue, IfSome};
 ghost use Rattle.json.specs.Print.{escape};
 
 /// The byte at a place, or 0 at the end.
@@ -12,11 +12,33 @@ pub(crate) fn byte_at(text: &[u8], at: usize) -> u8
     if at < text.len() { text[at] } else { 0 }
 }
 
-/// Whether a byte stands behind a value: a comma, or a closing bracket.
-pub(crate) fn ends_value(c: u8) -> bool
-    ensures { IsTrue result → (c ≡ 44) ⊎ ((c ≡ 125) ⊎ (c ≡ 93)) }
+// Whether four bytes of a text are those of another.
+fn same_four(a: &[u8], i: usize, b: &[u8], j: usize) -> bool
+    requires a_fits { i + 4 ≤ length a.now }
+    requires b_fits { j + 4 ≤ length b.now }
+    ensures { IsTrue result
+        → (k : ℕ) → k < 4 → get_or a.now (i + k) 0 ≡ get_or b.now (j + k) 0 }
 {
-    c == b',' || c == b'}' || c == b']'
+    (a[i] == b[j]) & (a[i + 1] == b[j + 1]) & (a[i + 2] == b[j + 2]) & (a[i + 3] == b[j + 3])
+}
+
+/// Whether a word of 4 to 12 bytes stands at a place. Parts of four bytes, which may overlap, cover it, so that a word
+/// that is known is compared in two or three steps.
+#[inline(always)]
+pub(crate) fn stands_at(text: &[u8], at: usize, word: &[u8]) -> bool
+    requires { at ≤ length text.now }
+    ensures { IsTrue result → (at + length word.now ≤ length text.now)
+        × (drop at text.now ≡ word.now ++ drop (at + length word.now) text.now) }
+{
+    let count = word.len();
+    if count < 4 || count > 12 || text.len() - at < count {
+        return false;
+    }
+    let last = count - 4;
+    if !same_four(text, at, word, 0) || !same_four(text, at + last, word, last) {
+        return false;
+    }
+    count <= 8 || same_four(text, at + 4, word, 4)
 }
 
 // Whether a byte stands for itself in quotes, and is none that keys and names have seldom: a space or an exclamation

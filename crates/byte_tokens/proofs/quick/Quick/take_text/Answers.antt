@@ -1,10 +1,9 @@
 -- The value stands first, and behind it what ends it.
-use Rattle.std.proofs.Common.{◌≡◌, ◌+◌, ◌∷◌, ◌++◌, drop, refl, sym, ap, ◌∙◌, subst}
+use Rattle.std.proofs.Common.{◌≡◌, ◌∷◌, drop, sym, ap, ◌∙◌, subst}
 use Rattle.json.specs.Token.{string}
 use Rattle.json.specs.Lex.{between, lex, after_value, punctuate}
-use Rattle.byte_tokens.specs.Left.{tokens_from}
-use Rattle.byte_tokens.proofs.Bytes.{first, some_byte}
-use Rattle.byte_tokens.proofs.Taken.{text_taken}
+use Rattle.byte_tokens.specs.Left.{tokens_from, EndsValue}
+use Rattle.byte_tokens.proofs.Taken.{text_left}
 use Rattle.byte_tokens.proofs.quick.Quick.take_text.Goals as goal
 
 pub returns : goal.returns
@@ -13,17 +12,14 @@ returns c =
     let text = a.text.now in
     let s = c.in_ok-found.found.now in
     let at = c.in_ok-found.at in
-    let x = c.byte_at.result in
     let found = c.in_ok-found.ensures in
     let same = c.as_bytes-text.ensures.value in
-    let r = c.behind_value-at.result in
-    let ended = c.ends_value.ensures c.if-not-ends_value.false in
-    let rest = first c.as_bytes-text.result.now text at x x same refl c.byte_at.ensures.here (some_byte x ended) in
-    let left : tokens_from r.1 (drop r.0 text) ≡ punctuate after_value (lex between (drop at text)) =
-    subst (λ t. tokens_from r.1 (drop r.0 t) ≡ punctuate after_value (lex between (drop at t))) same
-    c.behind_value-at.ensures.same in
+    let r = c.in_ok-at in
+    let ends : EndsValue (drop at text) = subst (λ t. EndsValue (drop at t)) same r.ensures.ends in
+    let left : tokens_from r.before (drop r.at text) ≡ punctuate after_value (lex between (drop at text)) =
+    subst (λ t. tokens_from r.before (drop r.at t) ≡ punctuate after_value (lex between (drop at t))) same
+    r.ensures.same in
     sym c.self.view_is
-    ∙ text_taken a.before (sym c.may_begin.ensures ∙ c.if-not-may_begin.false) (drop a.at text) x (drop (at + 1) text)
-    s found.0 (found.2 ∙ ap (λ l. 34 ∷ (s ++ 34 ∷ l)) rest) ended
-    ∙ ap (λ ts. string s ∷ punctuate after_value (lex between ts)) (sym rest)
+    ∙ text_left a.before (sym c.may_begin.ensures ∙ c.if-not-may_begin.false) (drop a.at text) (drop at text) s found.0
+    found.2 ends
     ∙ ap (λ ts. string s ∷ ts) (sym left)
