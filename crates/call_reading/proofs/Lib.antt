@@ -1,3 +1,4 @@
 pub mod RowsForms
 pub mod Seen
 pub mod Quick
+pub mod Fields

@@ -2,6 +2,7 @@
 #![tactic(auto)]
 
 mod call;
+mod field;
 mod flow;
 mod found;
 mod quick_call;

@@ -8,8 +8,10 @@ ghost use Rattle.serde_json.specs.Find.{get};
 ghost use Rattle.serde_json.specs.Read.{of_json, of_members, converted};
 ghost use Rattle.json_fields.specs.Plain.{data_of, members_of};
 ghost use Rattle.call_reading.specs.Calls.{call_of};
+ghost use Rattle.call_reading.specs.Field.{key_of};
 ghost use Rattle.call_reading.specs.Seen.{seen_of, seen_in, seen_with};
 
+use super::field::{Field, next_field, read_name};
 use super::flow::flow_of;
 use super::found::{Found, made};
 use byte_tokens::Quick;
@@ -105,32 +107,31 @@ pub(crate) fn read_flat<'a>(
     Ok(Plain::Object(members))
 }
 
-// Reads the value under a key that a call has, and notes it.
+// Reads the value of a field, and notes it.
 fn read_member<'a>(
     alloc: Global,
     reader: &mut Quick<'a>,
     depth: usize,
-    key: &str,
+    field: Field,
     found: &mut Found<'a>,
 ) -> Result<(), Stop>
     ensures is { OnOk result ((d : Data)
         × (converted of_json (value depth reader.old) ≡ Some (d, reader.new))
-        × (seen_of found.new ≡ seen_with key.now d (seen_of found.old))) }
+        × (seen_of found.new ≡ seen_with (key_of field) d (seen_of found.old))) }
     ensures shorter { OnOk result (length reader.new < length reader.old) }
 {
-    match key {
-        "call" => found.name = Some(read_text(reader)?),
-        "sid" => found.sid = Some(read_number(reader)?),
-        "receiver" => found.receiver = Some(read_number(reader)?),
-        "bytes" => found.bytes = Some(read_number(reader)?),
-        "heard" => found.heard = Some(read_number(reader)?),
-        "now" => found.time = Some(read_number(reader)?),
-        "upto" => found.upto = Some(read_number(reader)?),
-        "flow" => {
+    match field {
+        Field::Name => found.name = Some(read_name(reader)?),
+        Field::Sid => found.sid = Some(read_number(reader)?),
+        Field::Receiver => found.receiver = Some(read_number(reader)?),
+        Field::Bytes => found.bytes = Some(read_number(reader)?),
+        Field::Heard => found.heard = Some(read_number(reader)?),
+        Field::Upto => found.upto = Some(read_number(reader)?),
+        Field::Time => found.time = Some(read_number(reader)?),
+        Field::Flow => {
             let value = read_flat(alloc, reader, depth)?;
             found.flow = flow_of(&value);
         }
-        _ => return Err(Stop::Unusual),
     }
     Ok(())
 }
@@ -144,8 +145,8 @@ fn read_members<'a>(alloc: Global, reader: &mut Quick<'a>, depth: usize) -> Resu
     ensures shorter { OnOk result (length reader.new < length reader.old) }
 {
     let mut found = Found::nothing();
-    'members: while let Some(key) = next_key(reader)? {
-        read_member(alloc, reader, depth, key, &mut found)?;
+    'members: while let Some(field) = next_field(reader)? {
+        read_member(alloc, reader, depth, field, &mut found)?;
     }
     Ok(found)
 }

@@ -1,0 +1,35 @@
+-- The keys that a call may have.
+use Rattle.std.proofs.Common.{◌≡◌, codes, refl}
+use Rattle.json.specs.Print.{escape, escape_byte}
+use Rattle.call_reading.specs.declared.field.Field.{Field}
+use Rattle.call_reading.specs.declared.field.Field.TheVariants.{Name, Sid, Receiver, Bytes, Heard, Upto, Time, Flow}
+use Rattle.call_reading.specs.Field.{key_of}
+
+-- no byte of a key has an escape
+pub plain_key : (field : Field) → escape (key_of field) ≡ key_of field
+unfolding escape_byte
+plain_key Name = refl
+plain_key Sid = refl
+plain_key Receiver = refl
+plain_key Bytes = refl
+plain_key Heard = refl
+plain_key Upto = refl
+plain_key Time = refl
+plain_key Flow = refl
+
+-- nor of a name of a call
+pub plain_ask : escape (codes "ask") ≡ codes "ask"
+unfolding escape_byte
+plain_ask = refl
+
+pub plain_build : escape (codes "build") ≡ codes "build"
+unfolding escape_byte
+plain_build = refl
+
+pub plain_heard : escape (codes "heard") ≡ codes "heard"
+unfolding escape_byte
+plain_heard = refl
+
+pub plain_status : escape (codes "status") ≡ codes "status"
+unfolding escape_byte
+plain_status = refl
