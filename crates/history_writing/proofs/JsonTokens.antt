@@ -67,3 +67,30 @@ pub wrapped : (before first second last members : List Token) → first ≡ befo
 wrapped before first second last members begun more ended =
     then_more before first last (Token.begin_object ∷ []) (members ++ Token.end_object ∷ []) begun
     (then_more first second last members (Token.end_object ∷ []) more ended)
+
+-- each list is the one before it and a part
+abbrev pub Grow : List Token → List (List Token) → List (List Token) → Type 0
+Grow old [] [] = Unit {0}
+Grow old [] (part ∷ parts) = ⊥
+Grow old (new ∷ news) [] = ⊥
+Grow old (new ∷ news) (part ∷ parts) = (new ≡ old ++ part) × Grow new news parts
+
+-- the last of the lists
+abbrev pub last_of : List Token → List (List Token) → List Token
+last_of old [] = old
+last_of old (new ∷ news) = last_of new news
+
+-- the parts, one behind the other
+abbrev pub joined : List (List Token) → List Token
+joined [] = []
+joined (part ∷ parts) = part ++ joined parts
+
+-- what was written part by part is what the parts make together
+pub in_turn : (old : List Token) (news parts : List (List Token)) → Grow old news parts
+    → last_of old news ≡ old ++ joined parts
+in_turn old [] [] grow = sym (append-nil old)
+in_turn old [] (part ∷ parts) grow = absurd grow
+in_turn old (new ∷ news) [] grow = absurd grow
+in_turn old (new ∷ news) (part ∷ parts) grow =
+    in_turn new news parts grow.1 ∙ ap (λ (known : List Token). known ++ joined parts) grow.0
+    ∙ append_assoc old part (joined parts)

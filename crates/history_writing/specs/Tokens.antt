@@ -1,5 +1,5 @@
 -- What is written of a JSON value, token by token.
-use Rattle.std.specs.Prelude.{ℕ, List, [], ◌∷◌, ◌++◌, take, drop, decimal}
+use Rattle.std.specs.Prelude.{ℕ, List, [], ◌∷◌, decimal}
 use Rattle.std.specs.Borrow.{Bor}
 use Rattle.json.specs.Token.{Token}
 use Rattle.json.specs.Tree.{json_tokens}
@@ -10,6 +10,10 @@ use Rattle.serde_json.specs.Written.{outline}
 abbrev pub tokens_of : Data → List Token
 tokens_of d = json_tokens (outline d)
 
+-- a whole number under a title
+abbrev pub numbered : List ℕ → ℕ → List Token
+numbered title n = Token.key title ∷ Token.number (decimal n) ∷ []
+
 -- whole numbers, each under the key of its place
 abbrev pub counted : List (Bor (List ℕ)) → List ℕ → List Token
 counted [] ns = []
@@ -19,8 +23,3 @@ counted (k ∷ ks) (n ∷ ns) = Token.key k.now ∷ Token.number (decimal n) ∷
 -- a name under a title
 abbrev pub titled : List ℕ → List ℕ → List Token
 titled title name = Token.key title ∷ Token.string name ∷ []
-
--- an object: so many whole numbers, a name under a title, and the other whole numbers
-abbrev pub named : List ℕ → List ℕ → ℕ → List (Bor (List ℕ)) → List ℕ → List Token
-named title name place ks ns = Token.begin_object ∷ (counted (take place ks) (take place ns)
-    ++ (titled title name ++ (counted (drop place ks) (drop place ns) ++ Token.end_object ∷ [])))

@@ -16,16 +16,13 @@ mod reply;
 
 use call::put_call;
 pub use config::put_config;
-use count::put_counts;
+use count::put_count;
 use json::Writer;
 use minislots::Config;
 use reply::put_reply;
 use sched_history::Entry;
 use std::alloc::{AllocError, Global};
 use text_stream::{Sink, TextFault, put};
-
-// The keys of a stamp.
-static STAMP: [&str; 2] = ["seat", "ticket"];
 
 /// Writes an entry: its call, its reply and its stamp. Nothing is said of which of its tokens are written where there
 /// is no memory for all.
@@ -40,8 +37,8 @@ pub fn put_entry(out: &mut Writer, entry: &Entry) -> Result<(), AllocError>
     put_call(out, entry.call)?;
     out.key("reply")?;
     put_reply(out, &entry.reply)?;
-    let numbers = [entry.stamp.seat as u64, entry.stamp.ticket];
-    put_counts(out, &STAMP, &numbers)?;
+    put_count(out, "seat", entry.stamp.seat as u64)?;
+    put_count(out, "ticket", entry.stamp.ticket)?;
     out.end_object()
 }
 

@@ -1,43 +1,18 @@
 //! Calls as JSON.
 
-ghost use Rattle.std.specs.Prelude.{◌≡◌, ◌++◌, OnOk};
+ghost use Rattle.std.specs.Prelude.{◌≡◌, ◌++◌, OnOk, codes};
+ghost use Rattle.serde_json.specs.Data.{string, object, no_members, member};
 ghost use Rattle.flow_book.specs.declared.spec.FlowSpec.TheVariants.{Unsolicited, Polled, BestEffort};
-ghost use Rattle.history_writing.specs.Json.{flow_data, call_data};
+ghost use Rattle.map_build.specs.declared.opportunity.Usage.TheVariants.{Initial, Station};
+ghost use Rattle.history_writing.specs.Json.{count, flow_data, call_data};
 ghost use Rattle.history_writing.specs.Tokens.{tokens_of};
 
-use super::count::{put_counts, put_name, put_named};
+use super::count::{put_count, put_name};
 use flow_book::FlowSpec;
 use json::Writer;
-use map_build::Usage;
+use map_build::{Header, Usage};
 use sched_history::Call;
 use std::alloc::AllocError;
-
-// The keys of what a flow or a call has beside its name.
-static UNSOLICITED: [&str; 4] = ["grants", "interval_us", "jitter_us", "size"];
-
-static POLLED: [&str; 4] = ["burst", "interval_us", "jitter_us", "rate"];
-
-static BEST_EFFORT: [&str; 3] = ["burst", "priority", "rate"];
-
-static SID: [&str; 1] = ["sid"];
-
-static ASK: [&str; 4] = ["bytes", "heard", "receiver", "sid"];
-
-static HEARD: [&str; 2] = ["receiver", "upto"];
-
-static NOW: [&str; 1] = ["now"];
-
-static SLOTS: [&str; 1] = ["slots"];
-
-static SID_AND_SLOTS: [&str; 2] = ["sid", "slots"];
-
-static HEADER: [&str; 5] = [
-    "data_end",
-    "data_start",
-    "ranging_end",
-    "ranging_start",
-    "ucd_count",
-];
 
 #[tactic(auto, unfolding(crate::specs::Json::flow_data))]
 fn put_unsolicited(
@@ -51,13 +26,13 @@ fn put_unsolicited(
         ++ tokens_of (flow_data (Unsolicited size interval_us jitter_us grants))) }
     ensures before { out.new.before ≡ out.old.before }
 {
-    let numbers = [
-        grants as u64,
-        interval_us as u64,
-        jitter_us as u64,
-        size as u64,
-    ];
-    put_named(out, "kind", "unsolicited", 3, &UNSOLICITED, &numbers)
+    out.begin_object()?;
+    put_count(out, "grants", grants as u64)?;
+    put_count(out, "interval_us", interval_us as u64)?;
+    put_count(out, "jitter_us", jitter_us as u64)?;
+    put_name(out, "kind", "unsolicited")?;
+    put_count(out, "size", size as u64)?;
+    out.end_object()
 }
 
 #[tactic(auto, unfolding(crate::specs::Json::flow_data))]
@@ -72,13 +47,13 @@ fn put_polled(
         ++ tokens_of (flow_data (Polled interval_us jitter_us rate burst))) }
     ensures before { out.new.before ≡ out.old.before }
 {
-    let numbers = [
-        burst as u64,
-        interval_us as u64,
-        jitter_us as u64,
-        rate as u64,
-    ];
-    put_named(out, "kind", "polled", 3, &POLLED, &numbers)
+    out.begin_object()?;
+    put_count(out, "burst", burst as u64)?;
+    put_count(out, "interval_us", interval_us as u64)?;
+    put_count(out, "jitter_us", jitter_us as u64)?;
+    put_name(out, "kind", "polled")?;
+    put_count(out, "rate", rate as u64)?;
+    out.end_object()
 }
 
 #[tactic(auto, unfolding(crate::specs::Json::flow_data))]
@@ -87,8 +62,12 @@ fn put_best_effort(out: &mut Writer, priority: u8, rate: u32, burst: u32) -> Res
         ≡ out.old.tokens ++ tokens_of (flow_data (BestEffort priority rate burst))) }
     ensures before { out.new.before ≡ out.old.before }
 {
-    let numbers = [burst as u64, priority as u64, rate as u64];
-    put_named(out, "kind", "best_effort", 1, &BEST_EFFORT, &numbers)
+    out.begin_object()?;
+    put_count(out, "burst", burst as u64)?;
+    put_name(out, "kind", "best_effort")?;
+    put_count(out, "priority", priority as u64)?;
+    put_count(out, "rate", rate as u64)?;
+    out.end_object()
 }
 
 // Writes the parameters of a flow, by its kind.
@@ -128,7 +107,34 @@ fn put_admit(out: &mut Writer, sid: u16, flow: FlowSpec) -> Result<(), AllocErro
     put_name(out, "call", "admit")?;
     out.key("flow")?;
     put_flow(out, flow)?;
-    put_counts(out, &SID, &[sid as u64])?;
+    put_count(out, "sid", sid as u64)?;
+    out.end_object()
+}
+
+#[tactic(auto, unfolding(crate::specs::Json::call_data))]
+fn put_initial(out: &mut Writer, slots: u32) -> Result<(), AllocError>
+    ensures ok { OnOk result (out.new.tokens
+        ≡ out.old.tokens ++ tokens_of (call_data (Call.Reserve Initial slots))) }
+    ensures before { out.new.before ≡ out.old.before }
+{
+    out.begin_object()?;
+    put_name(out, "call", "reserve")?;
+    put_count(out, "slots", slots as u64)?;
+    put_name(out, "usage", "initial")?;
+    out.end_object()
+}
+
+#[tactic(auto, unfolding(crate::specs::Json::call_data))]
+fn put_station(out: &mut Writer, station: u16, slots: u32) -> Result<(), AllocError>
+    ensures ok { OnOk result (out.new.tokens
+        ≡ out.old.tokens ++ tokens_of (call_data (Call.Reserve (Station station) slots))) }
+    ensures before { out.new.before ≡ out.old.before }
+{
+    out.begin_object()?;
+    put_name(out, "call", "reserve")?;
+    put_count(out, "sid", station as u64)?;
+    put_count(out, "slots", slots as u64)?;
+    put_name(out, "usage", "station")?;
     out.end_object()
 }
 
@@ -139,18 +145,73 @@ fn put_reserve(out: &mut Writer, usage: Usage, slots: u32) -> Result<(), AllocEr
         ≡ out.old.tokens ++ tokens_of (call_data (Call.Reserve usage slots))) }
     ensures before { out.new.before ≡ out.old.before }
 {
-    out.begin_object()?;
-    put_name(out, "call", "reserve")?;
     match usage {
-        Usage::Initial => {
-            put_counts(out, &SLOTS, &[slots as u64])?;
-            put_name(out, "usage", "initial")?;
-        }
-        Usage::Station(sid) => {
-            put_counts(out, &SID_AND_SLOTS, &[sid as u64, slots as u64])?;
-            put_name(out, "usage", "station")?;
-        }
+        Usage::Initial => put_initial(out, slots),
+        Usage::Station(sid) => put_station(out, sid, slots),
     }
+}
+
+#[tactic(auto, unfolding(crate::specs::Json::call_data))]
+fn put_ask(
+    out: &mut Writer,
+    receiver: u8,
+    sid: u16,
+    bytes: u32,
+    heard: u64,
+) -> Result<(), AllocError>
+    ensures ok { OnOk result (out.new.tokens
+        ≡ out.old.tokens ++ tokens_of (call_data (Call.Ask receiver sid bytes heard))) }
+    ensures before { out.new.before ≡ out.old.before }
+{
+    out.begin_object()?;
+    put_count(out, "bytes", bytes as u64)?;
+    put_name(out, "call", "ask")?;
+    put_count(out, "heard", heard)?;
+    put_count(out, "receiver", receiver as u64)?;
+    put_count(out, "sid", sid as u64)?;
+    out.end_object()
+}
+
+#[tactic(auto, unfolding(crate::specs::Json::call_data))]
+fn put_heard(out: &mut Writer, receiver: u8, upto: u64) -> Result<(), AllocError>
+    ensures ok { OnOk result (out.new.tokens
+        ≡ out.old.tokens ++ tokens_of (call_data (Call.Heard receiver upto))) }
+    ensures before { out.new.before ≡ out.old.before }
+{
+    out.begin_object()?;
+    put_name(out, "call", "heard")?;
+    put_count(out, "receiver", receiver as u64)?;
+    put_count(out, "upto", upto)?;
+    out.end_object()
+}
+
+// Writes a call that has this name and one whole number.
+#[inline(always)]
+fn put_numbered(out: &mut Writer, name: &str, key: &str, number: u64) -> Result<(), AllocError>
+    ensures ok { OnOk result (out.new.tokens
+        ≡ out.old.tokens ++ tokens_of (object (member (codes "call") (string name.now)
+        (member key.now (count number) no_members)))) }
+    ensures before { out.new.before ≡ out.old.before }
+{
+    out.begin_object()?;
+    put_name(out, "call", name)?;
+    put_count(out, key, number)?;
+    out.end_object()
+}
+
+#[tactic(auto, unfolding(crate::specs::Json::call_data))]
+fn put_header(out: &mut Writer, header: Header) -> Result<(), AllocError>
+    ensures ok { OnOk result
+        (out.new.tokens ≡ out.old.tokens ++ tokens_of (call_data (Call.Header header))) }
+    ensures before { out.new.before ≡ out.old.before }
+{
+    out.begin_object()?;
+    put_name(out, "call", "header")?;
+    put_count(out, "data_end", header.data_end as u64)?;
+    put_count(out, "data_start", header.data_start as u64)?;
+    put_count(out, "ranging_end", header.ranging_end as u64)?;
+    put_count(out, "ranging_start", header.ranging_start as u64)?;
+    put_count(out, "ucd_count", header.ucd_count as u64)?;
     out.end_object()
 }
 
@@ -162,32 +223,18 @@ pub fn put_call(out: &mut Writer, call: Call) -> Result<(), AllocError>
 {
     match call {
         Call::Admit(sid, flow) => put_admit(out, sid, flow),
-        Call::Remove(sid) => put_named(out, "call", "remove", 0, &SID, &[sid as u64]),
+        Call::Remove(sid) => put_numbered(out, "remove", "sid", sid as u64),
         Call::Ask {
             receiver,
             sid,
             bytes,
             heard,
-        } => {
-            let numbers = [bytes as u64, heard, receiver as u64, sid as u64];
-            put_named(out, "call", "ask", 1, &ASK, &numbers)
-        }
-        Call::Heard { receiver, upto } => {
-            put_named(out, "call", "heard", 0, &HEARD, &[receiver as u64, upto])
-        }
-        Call::Build { now } => put_named(out, "call", "build", 0, &NOW, &[now]),
-        Call::Skip { now } => put_named(out, "call", "skip", 0, &NOW, &[now]),
-        Call::Status(sid) => put_named(out, "call", "status", 0, &SID, &[sid as u64]),
+        } => put_ask(out, receiver, sid, bytes, heard),
+        Call::Heard { receiver, upto } => put_heard(out, receiver, upto),
+        Call::Build { now } => put_numbered(out, "build", "now", now),
+        Call::Skip { now } => put_numbered(out, "skip", "now", now),
+        Call::Status(sid) => put_numbered(out, "status", "sid", sid as u64),
         Call::Reserve { usage, slots } => put_reserve(out, usage, slots),
-        Call::Header(header) => {
-            let numbers = [
-                header.data_end as u64,
-                header.data_start as u64,
-                header.ranging_end as u64,
-                header.ranging_start as u64,
-                header.ucd_count as u64,
-            ];
-            put_named(out, "call", "header", 0, &HEADER, &numbers)
-        }
+        Call::Header(header) => put_header(out, header),
     }
 }

@@ -1,21 +1,49 @@
 //! Whole numbers and names as members of JSON objects, token by token.
 
-ghost use Rattle.std.specs.Prelude.{◌≡◌, ◌≤◌, ◌++◌, ◌∷◌, length, OnOk};
+ghost use Rattle.std.specs.Prelude.{◌≡◌, ◌++◌, ◌∷◌, length, OnOk};
 ghost use Rattle.json.specs.Token.{key};
 ghost use Rattle.history_writing.specs.Json.{count, counts};
-ghost use Rattle.history_writing.specs.Tokens.{tokens_of, counted, titled, named};
+ghost use Rattle.history_writing.specs.Tokens.{tokens_of, counted, numbered, titled};
 
 use itoa::Buffer;
 use json::Writer;
 use std::alloc::AllocError;
 
-// Writes a whole number.
+// Writes a whole number of any length.
+#[inline(never)]
+fn put_long_number(out: &mut Writer, number: u64) -> Result<(), AllocError>
+    ensures ok { OnOk result (out.new.tokens ≡ out.old.tokens ++ tokens_of (count number)) }
+    ensures before { out.new.before ≡ out.old.before }
+{
+    out.u64(number)
+}
+
+// Writes a whole number. Most have one digit or two: these are told apart, so that the compiler knows how many it
+// writes, and needs no loop and no buffer for them.
+#[inline(always)]
 fn put_number(out: &mut Writer, number: u64) -> Result<(), AllocError>
     ensures ok { OnOk result (out.new.tokens ≡ out.old.tokens ++ tokens_of (count number)) }
     ensures before { out.new.before ≡ out.old.before }
 {
     let mut buffer = Buffer::new();
-    out.number(buffer.format(number))
+    if number < 10 {
+        out.number(buffer.format(number as u8))
+    } else if number < 100 {
+        out.number(buffer.format(number as u16))
+    } else {
+        put_long_number(out, number)
+    }
+}
+
+/// Writes a whole number under this title. It becomes part of its callers, as does [`put_name`], so that the compiler
+/// knows the bytes of a title that stands in the code.
+#[inline(always)]
+pub fn put_count(out: &mut Writer, title: &str, number: u64) -> Result<(), AllocError>
+    ensures ok { OnOk result (out.new.tokens ≡ out.old.tokens ++ numbered title.now number) }
+    ensures before { out.new.before ≡ out.old.before }
+{
+    out.key(title)?;
+    put_number(out, number)
 }
 
 /// Writes whole numbers, each under the key at its place.
@@ -32,36 +60,13 @@ pub fn put_counts(out: &mut Writer, keys: &[&str], numbers: &[u64]) -> Result<()
 }
 
 /// Writes a name under this title.
+#[inline(always)]
 pub fn put_name(out: &mut Writer, title: &str, name: &str) -> Result<(), AllocError>
     ensures ok { OnOk result (out.new.tokens ≡ out.old.tokens ++ titled title.now name.now) }
     ensures before { out.new.before ≡ out.old.before }
 {
     out.key(title)?;
     out.string(name)
-}
-
-/// Writes an object: so many of the whole numbers, a name under this title, and the other numbers.
-pub fn put_named(
-    out: &mut Writer,
-    title: &str,
-    name: &str,
-    place: usize,
-    keys: &[&str],
-    numbers: &[u64],
-) -> Result<(), AllocError>
-    requires fits { place ≤ length keys.now }
-    requires same { length keys.now ≡ length numbers.now }
-    ensures ok { OnOk result (out.new.tokens
-        ≡ out.old.tokens ++ named title.now name.now place keys.now numbers.now) }
-    ensures before { out.new.before ≡ out.old.before }
-{
-    let (first_keys, last_keys) = keys.split_at(place);
-    let (first, last) = numbers.split_at(place);
-    out.begin_object()?;
-    put_counts(out, first_keys, first)?;
-    put_name(out, title, name)?;
-    put_counts(out, last_keys, last)?;
-    out.end_object()
 }
 
 /// Writes an array of offsets in a frame under this key.

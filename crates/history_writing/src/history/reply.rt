@@ -4,11 +4,11 @@ ghost use Rattle.std.specs.Prelude.{◌≡◌, ◌++◌, OnOk, codes};
 ghost use Rattle.hex.specs.Hex.{encode_lower};
 ghost use Rattle.map_codec.specs.WireMap.{IsWellFormed, spelling};
 ghost use Rattle.sched_history.specs.Machine.{IsEncodable};
-ghost use Rattle.sched_history.specs.declared.reply.Reply.TheVariants.{Flow};
+ghost use Rattle.sched_history.specs.declared.reply.Reply.TheVariants.{Skipped, Flow};
 ghost use Rattle.history_writing.specs.Json.{placed_data, map_data, plain_data, refused_data, reply_data};
 ghost use Rattle.history_writing.specs.Tokens.{tokens_of, titled};
 
-use super::count::{put_bytes, put_counts, put_name, put_named, put_offsets};
+use super::count::{put_bytes, put_count, put_name, put_offsets};
 use json::Writer;
 use map_build::FrameMap;
 use map_codec::{MAX_BYTES, WireMap, encode};
@@ -18,21 +18,6 @@ use sched_lines::{refusal_number, refusal_value, write_hex};
 use std::alloc::AllocError;
 use std::str;
 
-// The keys of the numbers that a reply has beside its kind.
-static REFERENCE: [&str; 1] = ["reference"];
-
-static ACK: [&str; 1] = ["ack"];
-
-static START: [&str; 1] = ["start"];
-
-static NUMBER: [&str; 1] = ["number"];
-
-static NUMBER_AND_VALUE: [&str; 2] = ["number", "value"];
-
-static NEXT: [&str; 1] = ["next"];
-
-static SUMS: [&str; 3] = ["asked", "granted", "outstanding"];
-
 #[tactic(auto, unfolding(crate::specs::Json::placed_data))]
 fn put_placed(out: &mut Writer, placement: &Placement) -> Result<(), AllocError>
     ensures ok { OnOk result
@@ -41,7 +26,7 @@ fn put_placed(out: &mut Writer, placement: &Placement) -> Result<(), AllocError>
 {
     out.begin_object()?;
     put_name(out, "kind", "admitted")?;
-    put_counts(out, &REFERENCE, &[placement.reference])?;
+    put_count(out, "reference", placement.reference)?;
     put_offsets(out, "starts", placement.starts.as_slice())?;
     out.end_object()
 }
@@ -73,11 +58,11 @@ fn put_map(out: &mut Writer, kind: &str, frame: &FrameMap) -> Result<(), AllocEr
     ensures before { out.new.before ≡ out.old.before }
 {
     out.begin_object()?;
-    put_counts(out, &ACK, &[frame.ack])?;
+    put_count(out, "ack", frame.ack)?;
     put_bytes(out, "bytes", frame.bytes.as_slice())?;
     put_hex(out, &frame.wire)?;
     put_name(out, "kind", kind)?;
-    put_counts(out, &START, &[frame.start])?;
+    put_count(out, "start", frame.start)?;
     out.end_object()
 }
 
@@ -87,22 +72,25 @@ fn put_refused(out: &mut Writer, number: u64, value: Option<u64>) -> Result<(), 
         (out.new.tokens ≡ out.old.tokens ++ tokens_of (refused_data number value)) }
     ensures before { out.new.before ≡ out.old.before }
 {
-    match value {
-        None => put_named(out, "kind", "refused", 0, &NUMBER, &[number]),
-        Some(value) => {
-            let numbers = [number, value];
-            put_named(out, "kind", "refused", 0, &NUMBER_AND_VALUE, &numbers)
-        }
+    out.begin_object()?;
+    put_name(out, "kind", "refused")?;
+    put_count(out, "number", number)?;
+    if let Some(value) = value {
+        put_count(out, "value", value)?;
     }
+    out.end_object()
 }
 
 // Writes a kind that says nothing more.
+#[inline(always)]
 #[tactic(auto, unfolding(crate::specs::Json::plain_data))]
 fn put_plain(out: &mut Writer, kind: &str) -> Result<(), AllocError>
     ensures ok { OnOk result (out.new.tokens ≡ out.old.tokens ++ tokens_of (plain_data kind.now)) }
     ensures before { out.new.before ≡ out.old.before }
 {
-    put_named(out, "kind", kind, 0, &[], &[])
+    out.begin_object()?;
+    put_name(out, "kind", kind)?;
+    out.end_object()
 }
 
 #[tactic(auto, unfolding(crate::specs::Json::reply_data))]
@@ -111,8 +99,24 @@ fn put_sums(out: &mut Writer, asked: u64, granted: u64, outstanding: u64) -> Res
         ≡ out.old.tokens ++ tokens_of (reply_data (Flow asked granted outstanding))) }
     ensures before { out.new.before ≡ out.old.before }
 {
-    let numbers = [asked, granted, outstanding];
-    put_named(out, "kind", "flow", 2, &SUMS, &numbers)
+    out.begin_object()?;
+    put_count(out, "asked", asked)?;
+    put_count(out, "granted", granted)?;
+    put_name(out, "kind", "flow")?;
+    put_count(out, "outstanding", outstanding)?;
+    out.end_object()
+}
+
+#[tactic(auto, unfolding(crate::specs::Json::reply_data))]
+fn put_skipped(out: &mut Writer, next: u64) -> Result<(), AllocError>
+    ensures ok { OnOk result
+        (out.new.tokens ≡ out.old.tokens ++ tokens_of (reply_data (Skipped next))) }
+    ensures before { out.new.before ≡ out.old.before }
+{
+    out.begin_object()?;
+    put_name(out, "kind", "skipped")?;
+    put_count(out, "next", next)?;
+    out.end_object()
 }
 
 /// Writes a reply, by its kind.
@@ -130,7 +134,7 @@ pub fn put_reply(out: &mut Writer, reply: &Reply) -> Result<(), AllocError>
         Reply::Noted => put_plain(out, "noted"),
         Reply::Reserved => put_plain(out, "reserved"),
         Reply::Built(frame) => put_map(out, "map", frame),
-        Reply::Skipped(next) => put_named(out, "kind", "skipped", 0, &NEXT, &[*next]),
+        Reply::Skipped(next) => put_skipped(out, *next),
         Reply::Flow {
             asked,
             granted,

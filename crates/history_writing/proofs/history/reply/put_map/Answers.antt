@@ -9,17 +9,17 @@ pub returns-clause-ok : goal.returns-clause-ok
 unfolding map_data
 returns-clause-ok c =
     let begun = c.begin_object.new.self.tokens in
-    let acked = c.put_counts.new.out.tokens in
+    let acked = c.put_count.new.out.tokens in
     let sized = c.put_bytes.new.out.tokens in
     let spelled = c.put_hex.new.out.tokens in
     let named = c.put_name.new.out.tokens in
-    let started = c.put_counts-2.new.out.tokens in
+    let started = c.put_count-2.new.out.tokens in
     let last = c.end_object.new.self.tokens in
     rw (sym c.as_slice.ensures)
     (where_ok c.end_object.result (λ ended.
     then_more c.args.out.now.tokens begun last _ _ c.in_ok-begin_object.ensures.ok
-    (then_more begun acked last _ _ c.in_ok-put_counts.ensures.ok
+    (then_more begun acked last _ _ c.in_ok-put_count.ensures.ok
     (then_more acked sized last _ _ c.in_ok-put_bytes.ensures.ok
     (then_more sized spelled last _ _ c.in_ok-put_hex.ensures.ok
     (then_more spelled named last _ _ c.in_ok-put_name.ensures.ok
-    (then_more named started last _ _ c.in_ok-put_counts-2.ensures.ok ended)))))) c.end_object.ensures.ok)
+    (then_more named started last _ _ c.in_ok-put_count-2.ensures.ok ended)))))) c.end_object.ensures.ok)

@@ -10,11 +10,11 @@ unfolding placed_data
 returns-clause-ok c =
     let begun = c.begin_object.new.self.tokens in
     let named = c.put_name.new.out.tokens in
-    let counted = c.put_counts.new.out.tokens in
+    let counted = c.put_count.new.out.tokens in
     let placed = c.put_offsets.new.out.tokens in
     let last = c.end_object.new.self.tokens in
     rw (sym c.as_slice.ensures) (where_ok c.end_object.result (λ ended.
     then_more c.args.out.now.tokens begun last _ _ c.in_ok-begin_object.ensures.ok
     (then_more begun named last _ _ c.in_ok-put_name.ensures.ok
-    (then_more named counted last _ _ c.in_ok-put_counts.ensures.ok
+    (then_more named counted last _ _ c.in_ok-put_count.ensures.ok
     (then_more counted placed last _ _ c.in_ok-put_offsets.ensures.ok ended)))) c.end_object.ensures.ok)
