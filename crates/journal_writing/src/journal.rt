@@ -83,14 +83,31 @@ pub fn add_entry(alloc: Global, text: &mut Vec<u8>, entry: &Entry) -> Result<(),
     added
 }
 
+// Puts the line of an entry behind a text. The line is made apart: a writer clears room ahead, the more the
+// longer its text is.
+fn extend_by_line(
+    alloc: Global,
+    text: &mut Vec<u8>,
+    line: &mut Vec<u8>,
+    entry: &Entry,
+) -> Result<(), AllocError>
+    requires { IsEncodable entry.now.reply }
+    ensures { OnOk result (text.new.items ≡ text.old.items ++ entry_line entry.now) }
+{
+    line.clear();
+    add_entry(alloc, line, entry)?;
+    text.extend_from_slice(line)
+}
+
 // The text of a journal.
 fn journal_text(alloc: Global, config: &Config, entries: &[Entry]) -> Result<Vec<u8>, AllocError>
     requires { AllByRecursion (λ e. IsEncodable e.reply) entries.now }
     ensures { IfOk result (λ text. text.items ≡ journal_text config.now entries.now) }
 {
     let mut text = opening_text(alloc, config)?;
+    let mut line = Vec::new(alloc);
     for entry in entries {
-        add_entry(alloc, &mut text, entry)?;
+        extend_by_line(alloc, &mut text, &mut line, entry)?;
     }
     Ok(text)
 }

@@ -26,7 +26,7 @@ loop-entry-preserved c =
     let at = c.loop-entry in
     lines-more c.args.entries.now at.entry-index c.entry-item.result c.entry-item.result
     (opening_line c.args.config.now) _ _ c.loop-entry-test.true c.entry-item.is at.invariant
-    c.in_ok-add_entry.ensures.ok
+    c.in_ok-extend_by_line.ensures
 
 pub returns : goal.returns
 returns c =
