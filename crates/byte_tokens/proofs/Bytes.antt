@@ -2,10 +2,11 @@
 use Rattle.std.proofs.Common.{◌≡◌, ◌+◌, ◌*◌, ◌-◌, ◌/◌, ◌%◌, ◌^◌, ◌<◌, ◌≤◌, ℕ, List, [], ◌∷◌, ◌++◌}
 use Rattle.std.proofs.Common.{length, take, drop, get_or}
 use Rattle.std.proofs.Common.{decimal, sym, ap, ◌∙◌, subst, arith, drop-cons, add-one, append_assoc}
-use Rattle.std.proofs.Common.{inl, inr}
+use Rattle.std.proofs.Common.{inl, inr, lit<}
 use Rattle.std.proofs.lemmas.List.{take_more, get_or-drop, drop-drop, take-append-drop, length-drop, length-take-le, get_or-take}
 use Rattle.std.proofs.lemmas.Fmt.{decimal_step, decimal_digit}
 use Rattle.std.proofs.lemmas.Bool.{cases_lt}
+use Rattle.std.proofs.Math.Nat.{pow-suc, pow-le-pow_right}
 use Rattle.std.specs.Prelude.{◌⊎◌}
 use Rattle.std.proofs.lemmas.Grind.{flat_map-append, same_number_lists}
 use Rattle.json.specs.Print.{escape, escape_byte}
@@ -49,19 +50,32 @@ decimal_more n d some digit fits =
     let last : (n * 10 + d) % 10 ≡ d = omega arith in
     decimal_step (n * 10 + d) (omega arith) fits ∙ (λ i. decimal (front i) ++ (48 + last i) ∷ [])
 
+-- with one digit more, a number of fewer digits than m has at most m
+pub fits_more : (n d k m : ℕ) → n < 10 ^ k → d < 10 → k < m → n * 10 + d < 10 ^ m
+fits_more n d k m below digit few =
+    let next : 10 ^ (k + 1) ≡ 10 ^ k * 10 = ap (λ i. 10 ^ i) (add-one k) ∙ pow-suc 10 k in
+    let count : k + 1 ≤ m = omega arith in
+    let most : 10 ^ (k + 1) ≤ 10 ^ m = pow-le-pow_right (lit< tt) count in
+    omega (arith, below, next, most)
+
+-- a digit behind a number is its last
+pub digit_behind : (n x : ℕ) (t r : List ℕ) → t ≡ x ∷ r → 0 < n → 48 ≤ x → x ≤ 57 → n * 10 + (x - 48) < 2 ^ 64
+    → decimal n ++ t ≡ decimal (n * 10 + (x - 48)) ++ r
+digit_behind n x t r is some low high fits =
+    let d = x - 48 in
+    let c : 48 + d ≡ x = omega arith in
+    let more = decimal_more n d some (omega arith) fits in
+    ap (λ l. decimal n ++ l) (is ∙ ap (λ x. x ∷ r) (sym c)) ∙ sym (append_assoc (decimal n) ((48 + d) ∷ []) r)
+    ∙ ap (λ l. l ++ r) (sym more)
+
 -- a number that is spelled up to a digit of a text is spelled, with that digit, up to the next place
 pub digit_more : (text : List ℕ) (from at n : ℕ) → at < length text → 0 < n → 48 ≤ get_or text at 0
     → get_or text at 0 ≤ 57 → n * 10 + (get_or text at 0 - 48) < 2 ^ 64
     → drop from text ≡ decimal n ++ drop at text
     → drop from text ≡ decimal (n * 10 + (get_or text at 0 - 48)) ++ drop (at + 1) text
 digit_more text from at n within some low high fits before =
-    let d = get_or text at 0 - 48 in
-    let c : 48 + d ≡ get_or text at 0 = omega arith in
-    let here : drop at text ≡ (48 + d) ∷ drop (at + 1) text =
-    next_byte text at within ∙ ap (λ x. x ∷ drop (at + 1) text) (sym c) in
-    let more = decimal_more n d some (omega arith) fits in
-    before ∙ ap (λ l. decimal n ++ l) here ∙ sym (append_assoc (decimal n) ((48 + d) ∷ []) (drop (at + 1) text))
-    ∙ ap (λ l. l ++ drop (at + 1) text) (sym more)
+    before ∙ digit_behind n (get_or text at 0) (drop at text) (drop (at + 1) text) (next_byte text at within) some low high
+    fits
 
 -- a first digit
 pub digit_first : (t r : List ℕ) (x : ℕ) → 48 ≤ x → x ≤ 57 → t ≡ x ∷ r → t ≡ decimal (x - 48) ++ r

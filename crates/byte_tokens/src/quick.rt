@@ -171,8 +171,8 @@ impl<'a> Quick<'a> {
         true
     }
 
-    // Takes the brace that closes an object, if it is next.
-    fn take_end_object(&mut self) -> bool
+    /// Takes the brace that closes an object, if it is next.
+    pub fn take_end_object(&mut self) -> bool
         ensures { MatchBool result (self.old ≡ end_object ∷ self.new) (self.new ≡ self.old) }
     {
         let text = self.text.as_bytes();

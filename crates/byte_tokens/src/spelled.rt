@@ -82,26 +82,58 @@ pub(crate) fn quoted<'a>(text: &'a str, at: usize) -> Option<(&'a str, usize)>
 // The greatest number to which a digit can be put.
 const MOST: u64 = 1_844_674_407_370_955_160;
 
+// How many digits a number may have of which it is known that it fits.
+const DIGITS: usize = 19;
+
+// Whether a byte is a digit.
+fn is_digit(c: u8) -> bool
+    ensures { IsTrue result → (48 ≤ c) × (c ≤ 57) }
+{
+    c >= b'0' && c <= b'9'
+}
+
+// A number that is spelled up to a place, with one digit more, where one stands there and the number fits.
+fn with_digit(text: &[u8], at: usize, number: u64) -> Option<(u64, usize)>
+    requires some { 0 < number }
+    requires within { at ≤ length text.now }
+    ensures { IfSome result (λ r. (r.1 ≤ length text.now) × (at ≤ r.1) × (r.0 < 2 ^ 64)
+        × (decimal number ++ drop at text.now ≡ decimal r.0 ++ drop r.1 text.now)) }
+{
+    let last = byte_at(text, at);
+    if !is_digit(last) {
+        return Some((number, at));
+    }
+    if number > MOST {
+        return None;
+    }
+    Some((number * 10 + (last - b'0') as u64, at + 1))
+}
+
 /// The whole number that is spelled at a place, and where its digits end.
 pub(crate) fn number_at(text: &[u8], from: usize) -> Option<(u64, usize)>
     ensures { IfSome result (λ r. (r.1 ≤ length text.now) × (from < r.1) × (r.0 < 2 ^ 64)
         × (drop from text.now ≡ decimal r.0 ++ drop r.1 text.now)) }
 {
     let first = byte_at(text, from);
-    if first < b'0' || first > b'9' {
+    if !is_digit(first) {
         return None;
     }
     if first == b'0' {
         return Some((0, from + 1));
     }
+    let most = if text.len() - from < DIGITS {
+        text.len()
+    } else {
+        from + DIGITS
+    };
     let mut number = (first - b'0') as u64;
     let mut at = from + 1;
-    'digits: while at < text.len() && text[at] >= b'0' && text[at] <= b'9' {
-        if number > MOST {
-            return None;
-        }
+    'digits: while at < most && is_digit(text[at]) {
         number = number * 10 + (text[at] - b'0') as u64;
         at += 1;
     }
-    Some((number, at))
+    if at - from < DIGITS {
+        return Some((number, at));
+    }
+    with_digit(text, at, number)
 }

@@ -74,6 +74,21 @@ fn known_field(reader: &mut Quick<'_>) -> Option<Field>
     }
 }
 
+// The field whose key comes next in another spelling, or none at the brace that closes an object.
+#[cold]
+fn other_field(reader: &mut Quick<'_>) -> Result<Option<Field>, Stop>
+    ensures { IfOk result
+        (λ field. read_key reader.old ≡ Some (option_map key_of field, reader.new)) }
+{
+    let Some(key) = next_key(reader)? else {
+        return Ok(None);
+    };
+    let Some(field) = field_of(key) else {
+        return Err(Stop::Unusual);
+    };
+    Ok(Some(field))
+}
+
 /// The field whose key comes next, or none at the brace that closes an object.
 pub(crate) fn next_field(reader: &mut Quick<'_>) -> Result<Option<Field>, Stop>
     ensures { IfOk result
@@ -82,13 +97,10 @@ pub(crate) fn next_field(reader: &mut Quick<'_>) -> Result<Option<Field>, Stop>
     if let Some(field) = known_field(reader) {
         return Ok(Some(field));
     }
-    let Some(key) = next_key(reader)? else {
+    if reader.take_end_object() {
         return Ok(None);
-    };
-    let Some(field) = field_of(key) else {
-        return Err(Stop::Unusual);
-    };
-    Ok(Some(field))
+    }
+    other_field(reader)
 }
 
 // The name of a call that comes next in its usual spelling.

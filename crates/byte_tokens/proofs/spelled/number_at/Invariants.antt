@@ -3,7 +3,8 @@ use Rattle.std.proofs.Common.{◌≡◌, ◌-◌, ◌<◌, ◌≤◌, ◌^◌, �
 use Rattle.byte_tokens.proofs.spelled.number_at.Given as goal
 
 abbrev pub invariant-digits : goal.invariant-digits
-invariant-digits l = (l.from < l.at) × (l.at ≤ length l.text) × (0 < l.number) × (l.number < 2 ^ 64)
+invariant-digits l = (l.from < l.at) × (l.at ≤ l.most) × (0 < l.number) × (l.number < 10 ^ (l.at - l.from))
+    × (l.number < 2 ^ 64) × (l.at < l.most → l.number < 1000000000000000000)
     × (drop l.from l.text ≡ decimal l.number ++ drop l.at l.text)
 
 abbrev pub decreases-digits : goal.decreases-digits
