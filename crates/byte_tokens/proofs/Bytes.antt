@@ -77,6 +77,27 @@ digit_more text from at n within some low high fits before =
     before ∙ digit_behind n (get_or text at 0) (drop at text) (drop (at + 1) text) (next_byte text at within) some low high
     fits
 
+-- one digit more of a number of at most 19
+pub digit_put : (text : List ℕ) (from at n : ℕ) → from < at → at < length text
+    → (48 ≤ get_or text at 0) × (get_or text at 0 ≤ 57) → at + 1 - from ≤ 19
+    → (0 < n) × (n < 10 ^ (at - from)) × (drop from text ≡ decimal n ++ drop at text)
+    → let m = (n * 10 % 2 ^ 64 + (get_or text at 0 - 48)) % 2 ^ 64 in
+    (0 < m) × (m < 10 ^ (at + 1 - from)) × (drop from text ≡ decimal m ++ drop (at + 1) text)
+digit_put text from at n before within digit few so_far =
+    let d = get_or text at 0 - 48 in
+    let k = at - from in
+    let low : d < 10 = omega (arith, digit.1) in
+    let next : at + 1 - from ≡ k + 1 = omega arith in
+    let more : n * 10 + d < 10 ^ (k + 1) = fits_more n d k (k + 1) so_far.1 low (omega arith) in
+    let most : n * 10 + d < 10 ^ 19 = fits_more n d k 19 so_far.1 low (omega arith) in
+    let fits : n * 10 + d < 2 ^ 64 = omega (arith, most) in
+    let same : n * 10 + d ≡ (n * 10 % 2 ^ 64 + d) % 2 ^ 64 = omega (arith, fits) in
+    subst (λ m. (0 < m) × (m < 10 ^ (at + 1 - from)) × (drop from text ≡ decimal m ++ drop (at + 1) text)) same (
+      omega (arith, so_far.0),
+      subst (λ i. n * 10 + d < 10 ^ i) (sym next) more,
+      digit_more text from at n within so_far.0 digit.0 digit.1 fits so_far.2,
+    )
+
 -- a first digit
 pub digit_first : (t r : List ℕ) (x : ℕ) → 48 ≤ x → x ≤ 57 → t ≡ x ∷ r → t ≡ decimal (x - 48) ++ r
 digit_first t r x low high is =

@@ -92,24 +92,31 @@ fn is_digit(c: u8) -> bool
     c >= b'0' && c <= b'9'
 }
 
-// A number that is spelled up to a place, with one digit more, where one stands there and the number fits.
-fn with_digit(text: &[u8], at: usize, number: u64) -> Option<(u64, usize)>
-    requires some { 0 < number }
-    requires within { at ≤ length text.now }
-    ensures { IfSome result (λ r. (r.1 ≤ length text.now) × (at ≤ r.1) × (r.0 < 2 ^ 64)
-        × (decimal number ++ drop at text.now ≡ decimal r.0 ++ drop r.1 text.now)) }
+// The whole number that is spelled at a place, each digit of which is put only where the number fits then, and where
+// its digits end.
+#[cold]
+fn long_number_at(text: &[u8], from: usize) -> Option<(u64, usize)>
+    ensures { IfSome result (λ r. (r.1 ≤ length text.now) × (from < r.1) × (r.0 < 2 ^ 64)
+        × (drop from text.now ≡ decimal r.0 ++ drop r.1 text.now)) }
 {
-    let last = byte_at(text, at);
-    if !is_digit(last) {
-        return Some((number, at));
-    }
-    if number > MOST {
+    let first = byte_at(text, from);
+    if !is_digit(first) || first == b'0' {
         return None;
     }
-    Some((number * 10 + (last - b'0') as u64, at + 1))
+    let mut number = (first - b'0') as u64;
+    let mut at = from + 1;
+    'digits: while at < text.len() && is_digit(text[at]) {
+        if number > MOST {
+            return None;
+        }
+        number = number * 10 + (text[at] - b'0') as u64;
+        at += 1;
+    }
+    Some((number, at))
 }
 
-/// The whole number that is spelled at a place, and where its digits end.
+/// The whole number that is spelled at a place, and where its digits end. No sum is tested in the loop: of few digits
+/// each fits, and many are read again.
 pub(crate) fn number_at(text: &[u8], from: usize) -> Option<(u64, usize)>
     ensures { IfSome result (λ r. (r.1 ≤ length text.now) × (from < r.1) × (r.0 < 2 ^ 64)
         × (drop from text.now ≡ decimal r.0 ++ drop r.1 text.now)) }
@@ -121,19 +128,16 @@ pub(crate) fn number_at(text: &[u8], from: usize) -> Option<(u64, usize)>
     if first == b'0' {
         return Some((0, from + 1));
     }
-    let most = if text.len() - from < DIGITS {
-        text.len()
-    } else {
-        from + DIGITS
-    };
     let mut number = (first - b'0') as u64;
     let mut at = from + 1;
-    'digits: while at < most && is_digit(text[at]) {
-        number = number * 10 + (text[at] - b'0') as u64;
+    'digits: while at < text.len() && is_digit(text[at]) {
+        number = number
+            .wrapping_mul(10)
+            .wrapping_add((text[at] - b'0') as u64);
         at += 1;
     }
-    if at - from < DIGITS {
-        return Some((number, at));
+    if at - from > DIGITS {
+        return long_number_at(text, from);
     }
-    with_digit(text, at, number)
+    Some((number, at))
 }

@@ -74,12 +74,16 @@ fn known_field(reader: &mut Quick<'_>) -> Option<Field>
     }
 }
 
-// The field whose key comes next in another spelling, or none at the brace that closes an object.
-#[cold]
+// The field whose key comes next in any spelling, or none at the brace that closes an object. Compiled apart, so that
+// the way of a key that is known stays short.
+#[inline(never)]
 fn other_field(reader: &mut Quick<'_>) -> Result<Option<Field>, Stop>
     ensures { IfOk result
         (λ field. read_key reader.old ≡ Some (option_map key_of field, reader.new)) }
 {
+    if reader.take_end_object() {
+        return Ok(None);
+    }
     let Some(key) = next_key(reader)? else {
         return Ok(None);
     };
@@ -96,9 +100,6 @@ pub(crate) fn next_field(reader: &mut Quick<'_>) -> Result<Option<Field>, Stop>
 {
     if let Some(field) = known_field(reader) {
         return Ok(Some(field));
-    }
-    if reader.take_end_object() {
-        return Ok(None);
     }
     other_field(reader)
 }

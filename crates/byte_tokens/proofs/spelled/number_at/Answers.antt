@@ -1,6 +1,6 @@
 -- The digits are those of the number.
-use Rattle.std.proofs.Common.{◌≡◌, ◌+◌, ◌*◌, ◌-◌, ◌^◌, ◌<◌, ◌∷◌, drop, get_or, lit<, sym, ap, ◌∙◌, subst, arith}
-use Rattle.byte_tokens.proofs.Bytes.{digit_first, digit_more, fits_more}
+use Rattle.std.proofs.Common.{◌≡◌, ◌+◌, ◌-◌, ◌^◌, ◌<◌, ◌∷◌, drop, lit<, sym, ap, ◌∙◌, subst, arith}
+use Rattle.byte_tokens.proofs.Bytes.{digit_first, digit_put}
 use Rattle.byte_tokens.proofs.spelled.number_at.Goals as goal
 
 pub returns-then-first-eq48 : goal.returns-then-first-eq48
@@ -23,14 +23,15 @@ digits-init c =
     let within = c.byte_at-first.ensures.within (omega (arith, digit.0)) in
     let here = c.byte_at-first.ensures.here (omega (arith, digit.0)) in
     let apart = c.if-first-eq48.false in
-    let one : from + 1 - from ≡ 1 = omega arith in (
+    let one : from + 1 - from ≡ 1 = omega arith in
+    let some : 0 < x - 48 = grind arith in (
       omega arith,
       omega (arith, within),
-      grind arith,
-      subst (λ i. x - 48 < 10 ^ i) (sym one) (omega (arith, digit.1)),
-      omega (arith, digit.1),
-      λ less. omega (arith, digit.1),
-      digit_first (drop from text) (drop (from + 1) text) x digit.0 digit.1 here,
+      λ few. (
+        some,
+        subst (λ i. x - 48 < 10 ^ i) (sym one) (omega (arith, digit.1)),
+        digit_first (drop from text) (drop (from + 1) text) x digit.0 digit.1 here,
+      ),
     )
 
 pub digits-preserved : goal.digits-preserved
@@ -38,20 +39,9 @@ digits-preserved c =
     let l = c.digits in
     let so_far = l.invariant in
     let text = c.args.text.now in
-    let n = l.number in
-    let x = get_or text l.at 0 in
-    let digit = c.is_digit-in-digits.ensures c.if-is_digit.true in
-    let low : x - 48 < 10 = omega (arith, digit.1) in
-    let k = l.at - c.args.from in
-    let next : l.at + 1 - c.args.from ≡ k + 1 = omega (arith, so_far.0) in
-    let more = fits_more n (x - 48) k (k + 1) so_far.3 low (omega arith) in
-    let most : n * 10 + (x - 48) < 10 ^ 19 = fits_more n (x - 48) k 19 so_far.3 low (omega (arith, c.digits-test.true)) in
-    let fits : n * 10 + (x - 48) < 2 ^ 64 = omega (arith, most) in (
+    let digit = c.is_digit-in-digits.ensures c.if-is_digit.true in (
       omega (arith, so_far.0),
       omega (arith, c.digits-test.true),
-      omega (arith, so_far.2),
-      subst (λ i. n * 10 + (x - 48) < 10 ^ i) (sym next) more,
-      fits,
-      λ less. fits_more n (x - 48) k 18 so_far.3 low (omega (arith, less, so_far.0)),
-      digit_more text c.args.from l.at n (omega (arith, c.digits-test.true)) so_far.2 digit.0 digit.1 fits so_far.6,
+      λ few. digit_put text c.args.from l.at l.number so_far.0 c.digits-test.true digit few
+          (so_far.2 (omega (arith, few, so_far.0))),
     )
