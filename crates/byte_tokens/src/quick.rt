@@ -10,7 +10,7 @@ ghost use Rattle.json.specs.Json.{read_key};
 ghost use Rattle.byte_tokens.specs.Left.{tokens_from, begins_at, closes_at, EndsValue};
 ghost use Rattle.byte_tokens.specs.Spelled.{spelled_key, spelled_text};
 
-use super::spelled::{byte_at, number_at, quoted, stands_at};
+use super::spelled::{byte_at, long_number_at, number_at, quoted, stands_at};
 use std::marker::Model;
 
 // What stands before the place of a reader.
@@ -265,6 +265,23 @@ impl<'a> Quick<'a> {
         Some(found)
     }
 
+    // Takes a whole number of any count of digits. A call of its own at the end, so that `take_number` needs no frame.
+    #[inline(never)]
+    fn take_long_number(&mut self) -> Option<u64>
+        ensures { IfSome result (λ n. (n < 2 ^ 64)
+            × (self.old ≡ number (decimal n) ∷ self.new)) }
+    {
+        if !self.before.may_begin() {
+            return None;
+        }
+        let text = self.text.as_bytes();
+        let (found, at) = long_number_at(text, self.at)?;
+        let (at, before) = ended_value(text, at)?;
+        self.at = at;
+        self.before = before;
+        Some(found)
+    }
+
     /// Takes a whole number from 0 to 2^64 - 1. Compiled once: a copy at each call would leave it fewer registers.
     #[inline(never)]
     pub fn take_number(&mut self) -> Option<u64>
@@ -275,7 +292,9 @@ impl<'a> Quick<'a> {
             return None;
         }
         let text = self.text.as_bytes();
-        let (found, at) = number_at(text, self.at)?;
+        let Some((found, at)) = number_at(text, self.at) else {
+            return self.take_long_number();
+        };
         let (at, before) = ended_value(text, at)?;
         self.at = at;
         self.before = before;

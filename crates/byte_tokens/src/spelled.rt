@@ -82,7 +82,7 @@ pub(crate) fn quoted<'a>(text: &'a str, at: usize) -> Option<(&'a str, usize)>
 // The greatest number to which a digit can be put.
 const MOST: u64 = 1_844_674_407_370_955_160;
 
-// How many digits a number may have of which it is known that it fits.
+// How many digits fit, whatever they are.
 const DIGITS: usize = 19;
 
 // Whether a byte is a digit.
@@ -92,10 +92,9 @@ fn is_digit(c: u8) -> bool
     c >= b'0' && c <= b'9'
 }
 
-// The whole number that is spelled at a place, each digit of which is put only where the number fits then, and where
-// its digits end.
-#[cold]
-fn long_number_at(text: &[u8], from: usize) -> Option<(u64, usize)>
+/// The whole number that is spelled at a place, each digit of which is put only where the number fits then, and where
+/// its digits end.
+pub(crate) fn long_number_at(text: &[u8], from: usize) -> Option<(u64, usize)>
     ensures { IfSome result (λ r. (r.1 ≤ length text.now) × (from < r.1) × (r.0 < 2 ^ 64)
         × (drop from text.now ≡ decimal r.0 ++ drop r.1 text.now)) }
 {
@@ -115,8 +114,8 @@ fn long_number_at(text: &[u8], from: usize) -> Option<(u64, usize)>
     Some((number, at))
 }
 
-/// The whole number that is spelled at a place, and where its digits end. No sum is tested in the loop: of few digits
-/// each fits, and many are read again.
+/// The whole number of at most 19 digits that is spelled at a place, and where its digits end. No sum is tested, since
+/// so many digits fit.
 pub(crate) fn number_at(text: &[u8], from: usize) -> Option<(u64, usize)>
     ensures { IfSome result (λ r. (r.1 ≤ length text.now) × (from < r.1) × (r.0 < 2 ^ 64)
         × (drop from text.now ≡ decimal r.0 ++ drop r.1 text.now)) }
@@ -137,7 +136,7 @@ pub(crate) fn number_at(text: &[u8], from: usize) -> Option<(u64, usize)>
         at += 1;
     }
     if at - from > DIGITS {
-        return long_number_at(text, from);
+        return None;
     }
     Some((number, at))
 }
