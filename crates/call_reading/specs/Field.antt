@@ -1,5 +1,10 @@
--- The keys that a call may have. Only private clauses cite it.
-use Rattle.std.specs.Prelude.{ℕ, List, codes}
+-- The keys that a call may have, and a member that is noted. Only private clauses cite it.
+use Rattle.std.specs.Prelude.{◌≡◌, ◌<◌, ℕ, List, length, codes, Some}
+use Rattle.json.specs.Token.{Token}
+use Rattle.json.specs.Json.{read_key, value}
+use Rattle.serde_json.specs.Data.{Data}
+use Rattle.serde_json.specs.Read.{of_json, converted}
+use Rattle.call_reading.specs.Seen.{Seen, seen_with}
 use Rattle.call_reading.specs.declared.field.Field.{Field}
 use Rattle.call_reading.specs.declared.field.Field.TheVariants.{Name, Sid, Receiver, Bytes, Heard, Upto, Time, Flow}
 
@@ -13,3 +18,9 @@ key_of Heard = codes "heard"
 key_of Upto = codes "upto"
 key_of Time = codes "now"
 key_of Flow = codes "flow"
+
+-- one member stands first, nested no deeper than this, and was noted
+abbrev pub NotesMember : ℕ → List Token → List Token → Seen → Seen → Type 0
+NotesMember depth ts r before after = (k : List ℕ) × (s : List Token) × (d : Data)
+    × (read_key ts ≡ Some (Some k, s)) × (converted of_json (value depth s) ≡ Some (d, r)) × (length r < length s)
+    × (after ≡ seen_with k d before)

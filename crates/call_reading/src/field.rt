@@ -56,8 +56,8 @@ fn field_if(reader: &mut Quick<'_>, spelled: &str, field: Field) -> Option<Field
     }
 }
 
-// The field whose key is next in its usual spelling. No two keys begin with the same letter.
-fn known_field(reader: &mut Quick<'_>) -> Option<Field>
+/// The field whose key is next in its usual spelling. No two keys begin with the same letter.
+pub(crate) fn known_field(reader: &mut Quick<'_>) -> Option<Field>
     ensures { MatchOption result (reader.new ≡ reader.old)
         (λ field. read_key reader.old ≡ Some (Some (key_of field), reader.new)) }
 {
@@ -74,10 +74,8 @@ fn known_field(reader: &mut Quick<'_>) -> Option<Field>
     }
 }
 
-// The field whose key comes next in any spelling, or none at the brace that closes an object. Compiled apart, so that
-// the way of a key that is known stays short.
-#[inline(never)]
-fn other_field(reader: &mut Quick<'_>) -> Result<Option<Field>, Stop>
+/// The field whose key comes next in any spelling, or none at the brace that closes an object.
+pub(crate) fn other_field(reader: &mut Quick<'_>) -> Result<Option<Field>, Stop>
     ensures { IfOk result
         (λ field. read_key reader.old ≡ Some (option_map key_of field, reader.new)) }
 {
@@ -91,17 +89,6 @@ fn other_field(reader: &mut Quick<'_>) -> Result<Option<Field>, Stop>
         return Err(Stop::Unusual);
     };
     Ok(Some(field))
-}
-
-/// The field whose key comes next, or none at the brace that closes an object.
-pub(crate) fn next_field(reader: &mut Quick<'_>) -> Result<Option<Field>, Stop>
-    ensures { IfOk result
-        (λ field. read_key reader.old ≡ Some (option_map key_of field, reader.new)) }
-{
-    if let Some(field) = known_field(reader) {
-        return Ok(Some(field));
-    }
-    other_field(reader)
 }
 
 // The name of a call that comes next in its usual spelling.

@@ -2,16 +2,17 @@
 //! and with no member that no call has.
 
 ghost use Rattle.std.specs.Prelude.{◌≡◌, ◌<◌, ℕ, codes, Some, None, IfOk, OnOk, length, option_map};
+ghost use Rattle.std.specs.Bool.{MatchBool};
 ghost use Rattle.json.specs.Json.{value, members, read_key};
 ghost use Rattle.serde_json.specs.Data.{Data, Members, no_members, number, unsigned, string};
 ghost use Rattle.serde_json.specs.Find.{get};
 ghost use Rattle.serde_json.specs.Read.{of_json, of_members, converted};
 ghost use Rattle.json_fields.specs.Plain.{data_of, members_of};
 ghost use Rattle.call_reading.specs.Calls.{call_of};
-ghost use Rattle.call_reading.specs.Field.{key_of};
+ghost use Rattle.call_reading.specs.Field.{key_of, NotesMember};
 ghost use Rattle.call_reading.specs.Seen.{seen_of, seen_in, seen_with};
 
-use super::field::{Field, next_field, read_name};
+use super::field::{Field, known_field, other_field, read_name};
 use super::flow::flow_of;
 use super::found::{Found, made};
 use byte_tokens::Quick;
@@ -108,6 +109,7 @@ pub(crate) fn read_flat<'a>(
 }
 
 // Reads the value of a field, and notes it.
+#[inline(always)]
 fn read_member<'a>(
     alloc: Global,
     reader: &mut Quick<'a>,
@@ -136,6 +138,44 @@ fn read_member<'a>(
     Ok(())
 }
 
+// Reads the next member, if there is one, its key in any spelling. Compiled apart, so that the way of a key that is
+// known stays short.
+#[inline(never)]
+fn read_other<'a>(
+    alloc: Global,
+    reader: &mut Quick<'a>,
+    depth: usize,
+    found: &mut Found<'a>,
+) -> Result<bool, Stop>
+    ensures { IfOk result (λ more. MatchBool more
+        (NotesMember depth reader.old reader.new (seen_of found.old) (seen_of found.new))
+        ((read_key reader.old ≡ Some (None, reader.new)) × (found.new ≡ found.old))) }
+{
+    let Some(field) = other_field(reader)? else {
+        return Ok(false);
+    };
+    read_member(alloc, reader, depth, field, found)?;
+    Ok(true)
+}
+
+// Reads the next member, if there is one.
+fn read_next<'a>(
+    alloc: Global,
+    reader: &mut Quick<'a>,
+    depth: usize,
+    found: &mut Found<'a>,
+) -> Result<bool, Stop>
+    ensures { IfOk result (λ more. MatchBool more
+        (NotesMember depth reader.old reader.new (seen_of found.old) (seen_of found.new))
+        ((read_key reader.old ≡ Some (None, reader.new)) × (found.new ≡ found.old))) }
+{
+    if let Some(field) = known_field(reader) {
+        read_member(alloc, reader, depth, field, found)?;
+        return Ok(true);
+    }
+    read_other(alloc, reader, depth, found)
+}
+
 // What the members of a call say, whose brace was taken, and the brace that closes it.
 fn read_members<'a>(alloc: Global, reader: &mut Quick<'a>, depth: usize) -> Result<Found<'a>, Stop>
     ensures are { IfOk result (λ found. (ms : Members)
@@ -145,9 +185,7 @@ fn read_members<'a>(alloc: Global, reader: &mut Quick<'a>, depth: usize) -> Resu
     ensures shorter { OnOk result (length reader.new < length reader.old) }
 {
     let mut found = Found::nothing();
-    'members: while let Some(field) = next_field(reader)? {
-        read_member(alloc, reader, depth, field, &mut found)?;
-    }
+    'members: while read_next(alloc, reader, depth, &mut found)? {}
     Ok(found)
 }
 
