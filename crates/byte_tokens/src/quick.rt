@@ -10,7 +10,7 @@ ghost use Rattle.json.specs.Json.{read_key};
 ghost use Rattle.byte_tokens.specs.Left.{tokens_from, begins_at, closes_at, EndsValue};
 ghost use Rattle.byte_tokens.specs.Spelled.{spelled_key, spelled_text};
 
-use super::spelled::{byte_at, long_number_at, number_at, quoted, stands_at};
+use super::spelled::{byte_at, long_number_at, number_at, quoted, quoted_word_at, stands_at};
 use std::marker::Model;
 
 // What stands before the place of a reader.
@@ -203,7 +203,7 @@ impl<'a> Quick<'a> {
     }
 
     /// Takes the key that is spelled so, in quotes and with its colon, if it is next. Where the spelling is known when it
-    /// is compiled, and has at most 12 bytes, this costs a few comparisons.
+    /// is compiled, and has at most 14 bytes, this costs a few comparisons.
     #[inline(always)]
     pub fn take_spelled_key(&mut self, spelled: &str) -> bool
         ensures { MatchBool result ((name : List ℕ) → escape name ≡ name
@@ -211,7 +211,7 @@ impl<'a> Quick<'a> {
             (self.new ≡ self.old) }
     {
         let text = self.text.as_bytes();
-        if !self.before.may_begin() || !stands_at(text, self.at, spelled.as_bytes()) {
+        if !self.before.may_begin() || !quoted_word_at(text, self.at, spelled.as_bytes()) {
             return false;
         }
         self.at = behind_space(text, self.at + spelled.len());
@@ -308,12 +308,7 @@ impl<'a> Quick<'a> {
 
     /// The byte behind the next one: where a quote stands next, the first of what is quoted. No clause says so.
     pub fn letter(&self) -> u8 {
-        let text = self.text.as_bytes();
-        if self.at < text.len() {
-            byte_at(text, self.at + 1)
-        } else {
-            0
-        }
+        byte_at(self.text.as_bytes(), self.at + 1)
     }
 
     /// Whether no token is left.

@@ -41,6 +41,24 @@ pub(crate) fn stands_at(text: &[u8], at: usize, word: &[u8]) -> bool
     count <= 8 || same_four(text, at + 4, word, 4)
 }
 
+/// Whether a word of 6 to 14 bytes stands at a place. Its first two bytes are compared one by one: where the second was
+/// looked at before, what is left to compare is in whole parts.
+#[inline(always)]
+pub(crate) fn quoted_word_at(text: &[u8], at: usize, word: &[u8]) -> bool
+    requires { at ≤ length text.now }
+    ensures { IsTrue result → (at + length word.now ≤ length text.now)
+        × (drop at text.now ≡ word.now ++ drop (at + length word.now) text.now) }
+{
+    let count = word.len();
+    if count < 6 || text.len() - at < count {
+        return false;
+    }
+    if text[at] != word[0] || text[at + 1] != word[1] {
+        return false;
+    }
+    stands_at(text, at + 2, &word[2..])
+}
+
 // Whether a byte stands for itself in quotes, and is none that keys and names have seldom: a space or an exclamation
 // mark.
 fn is_plain(c: u8) -> bool

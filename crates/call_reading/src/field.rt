@@ -79,9 +79,6 @@ pub(crate) fn other_field(reader: &mut Quick<'_>) -> Result<Option<Field>, Stop>
     ensures { IfOk result
         (λ field. read_key reader.old ≡ Some (option_map key_of field, reader.new)) }
 {
-    if reader.take_end_object() {
-        return Ok(None);
-    }
     let Some(key) = next_key(reader)? else {
         return Ok(None);
     };
@@ -112,6 +109,7 @@ fn known_name(reader: &mut Quick<'_>) -> Option<&'static str>
 }
 
 /// The name of a call, or another text.
+#[inline(always)]
 pub(crate) fn read_name<'a>(reader: &mut Quick<'a>) -> Result<&'a str, Stop>
     ensures is { IfOk result (λ name. (depth : ℕ) → converted of_json (value depth reader.old)
         ≡ Some (string name.now, reader.new)) }

@@ -173,6 +173,9 @@ fn read_next<'a>(
         read_member(alloc, reader, depth, field, found)?;
         return Ok(true);
     }
+    if reader.take_end_object() {
+        return Ok(false);
+    }
     read_other(alloc, reader, depth, found)
 }
 

@@ -16,7 +16,7 @@ returns c name same is =
     let as_word = c.as_bytes.ensures.value in
     let p = c.behind_space-self-inside.result in
     let stop = a.at + length c.args.spelled.now in
-    let found = c.stands_at.ensures c.if-not-stands_at.false in
+    let found = c.quoted_word_at.ensures c.if-not-quoted_word_at.false in
     let here = word_first bytes text word c.args.spelled.now a.at as_text as_word found.1 in
     let left : lex between (drop p text) ≡ lex between (drop stop text) =
     subst (λ t. lex between (drop p t) ≡ lex between (drop stop t)) as_text c.behind_space-self-inside.ensures.same in
