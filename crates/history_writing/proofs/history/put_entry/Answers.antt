@@ -12,8 +12,7 @@ returns-clause-ok c =
     let called = c.put_call.new.out.tokens in
     let reply = c.key-2.new.self.tokens in
     let replied = c.put_reply.new.out.tokens in
-    let seated = c.put_count.new.out.tokens in
-    let stamped = c.put_count-2.new.out.tokens in
+    let stamped = c.put_stamp.new.out.tokens in
     let last = c.end_object.new.self.tokens in
     where_ok c.end_object.result (λ ended.
     then_more c.args.out.now.tokens begun last _ _ c.in_ok-begin_object.ensures.ok
@@ -21,5 +20,4 @@ returns-clause-ok c =
     (then_more call called last _ _ c.in_ok-put_call.ensures.ok
     (then_more called reply last _ _ c.in_ok-key-2.ensures.ok
     (then_more reply replied last _ _ c.in_ok-put_reply.ensures.ok
-    (then_more replied seated last _ _ c.in_ok-put_count.ensures.ok
-    (then_more seated stamped last _ _ c.in_ok-put_count-2.ensures.ok ended))))))) c.end_object.ensures.ok
+    (then_more replied stamped last _ _ c.in_ok-put_stamp.ensures.ok ended)))))) c.end_object.ensures.ok
