@@ -2,6 +2,7 @@
 //! a comma or a colon.
 #![tactic(auto)]
 
+mod hexadecimal;
 mod quick;
 mod spelled;
 

@@ -1,16 +1,19 @@
 //! A reader of tokens.
 
 ghost use Rattle.std.specs.Prelude.{◌≡◌, ◌^◌, ◌<◌, ◌≤◌, ◌∷◌, [], Some, IsTrue, IfSome, option_map};
-ghost use Rattle.std.specs.Prelude.{List, ℕ, decimal, length, drop};
+ghost use Rattle.std.specs.Prelude.{List, ℕ, Ok, decimal, length, drop};
 ghost use Rattle.json.specs.Print.{escape};
 ghost use Rattle.std.specs.Bool.{MatchBool};
 ghost use Rattle.json.specs.Token.{begin_object, end_object, begin_array, end_array, key, string, number};
 ghost use Rattle.json.specs.Lex.{tokens, between, lex, after_value, punctuate};
 ghost use Rattle.json.specs.Json.{read_key};
+ghost use Rattle.hex.specs.Hex.{decode_of};
 ghost use Rattle.byte_tokens.specs.Left.{tokens_from, begins_at, closes_at, EndsValue};
 ghost use Rattle.byte_tokens.specs.Spelled.{spelled_key, spelled_text};
 
+use super::hexadecimal::hex_at;
 use super::spelled::{byte_at, long_number_at, number_at, quoted, quoted_word_at, stands_at};
+use std::alloc::Global;
 use std::marker::Model;
 
 // What stands before the place of a reader.
@@ -259,6 +262,23 @@ impl<'a> Quick<'a> {
         }
         let (found, at) = quoted(self.text, self.at)?;
         let text = self.text.as_bytes();
+        let (at, before) = ended_value(text, at)?;
+        self.at = at;
+        self.before = before;
+        Some(found)
+    }
+
+    /// Takes a text of hexadecimal digits of both cases, and tells the bytes that it spells. There is none where memory
+    /// runs out.
+    pub fn take_hex(&mut self, alloc: Global) -> Option<Vec<u8>>
+        ensures { IfSome result (λ bytes. (s : List ℕ) × (self.old ≡ string s ∷ self.new)
+            × (decode_of s ≡ Ok bytes.items)) }
+    {
+        if !self.before.may_begin() {
+            return None;
+        }
+        let text = self.text.as_bytes();
+        let (found, at) = hex_at(alloc, text, self.at)?;
         let (at, before) = ended_value(text, at)?;
         self.at = at;
         self.before = before;

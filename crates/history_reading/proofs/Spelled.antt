@@ -1,9 +1,8 @@
 -- Replies and entries that are read member by member, in the order in which they are written.
-use Rattle.std.proofs.Common.{◌≡◌, ℕ, ◌-◌, ◌<◌, ◌^◌, List, [], ◌∷◌, length, Option, Some, None, refl, ◌∙◌, arith}
+use Rattle.std.proofs.Common.{◌≡◌, ℕ, ◌-◌, ◌<◌, ◌^◌, List, [], ◌∷◌, length, Option, Some, None, Ok, refl, ◌∙◌, arith}
 use Rattle.std.proofs.Common.{lt-ltb, bytes_eq, true, ap, subst}
 use Rattle.std.proofs.lemmas.Slice.Eq.{bytes_eq-Decides}
 use Rattle.std.specs.Prelude.{codes, IfSome}
-use Rattle.std.specs.Result.{result_ok}
 use Rattle.hex.specs.Hex.{decode_of}
 use Rattle.json.specs.Token.{Token}
 use Rattle.json.specs.Json.{read_key, value}
@@ -17,7 +16,7 @@ use Rattle.sched_history.specs.declared.reply.Reply.{Reply}
 use Rattle.sched_history.specs.declared.reply.Reply.TheVariants.{Admitted, Removed, Taken, Noted, Built, Skipped, Flow}
 use Rattle.sched_history.specs.declared.reply.Reply.TheVariants.{Refused, Reserved}
 use Rattle.sched_history.specs.declared.reply.Refusal.{Refusal}
-use Rattle.json_fields.specs.Fields.{◌>>=◌, below, u32_at, u64_at, number_at, text_at}
+use Rattle.json_fields.specs.Fields.{below, u32_at, u64_at, number_at, text_at}
 use Rattle.json_fields.specs.Listed.{StandEach}
 use Rattle.json_fields.proofs.PlainValues.{member_read, members_over}
 use Rattle.call_reading.specs.Calls.{call_of}
@@ -103,14 +102,15 @@ kind_named kind name {depth = depth} {old = old} {new = new} same member =
     subst (λ k. IsMember depth (codes "kind") (string k) old new) ((bytes_eq-Decides kind name).0 same) member
 
 -- a MAP
-pub map_made : (ack start : ℕ) (ds : Items) (bytes digits : List ℕ) (wire : WireMap) → ack < 2 ^ 64 → start < 2 ^ 64
-    → numbers_of (2 ^ 32) ds ≡ Some bytes → (result_ok (decode_of digits) >>= map_of) ≡ Some wire
+pub map_made : (ack start : ℕ) (ds : Items) (bytes digits payload : List ℕ) (wire : WireMap) → ack < 2 ^ 64
+    → start < 2 ^ 64 → numbers_of (2 ^ 32) ds ≡ Some bytes → decode_of digits ≡ Ok payload → map_of payload ≡ Some wire
     → reply_of (object (put (codes "start") (count start) (put (codes "kind") (string (codes "map"))
     (put (codes "hex") (string digits) (put (codes "bytes") (array ds) (put (codes "ack") (count ack) no_members))))))
     ≡ Some (Built (record { start = start; ack = ack; wire = wire; bytes = bytes }))
 unfolding reply_of map_reply map_at numbers_at u64_at number_at text_at
-map_made ack start ds bytes digits wire ack_fits start_fits numbers payload =
-    rw (below-fits (2 ^ 64) start start_fits) (rw (below-fits (2 ^ 64) ack ack_fits) (rw payload (rw numbers refl)))
+map_made ack start ds bytes digits payload wire ack_fits start_fits numbers spelled is =
+    rw (below-fits (2 ^ 64) start start_fits) (rw (below-fits (2 ^ 64) ack ack_fits) (
+    rw spelled (rw is (rw numbers refl))))
 
 -- a flow's bytes
 pub flow_made : (asked granted outstanding : ℕ) → asked < 2 ^ 64 → granted < 2 ^ 64 → outstanding < 2 ^ 64

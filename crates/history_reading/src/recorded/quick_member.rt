@@ -1,6 +1,7 @@
 //! The members of an object in its usual spelling, one after the other in the order in which they are written.
 
-ghost use Rattle.std.specs.Prelude.{◌≡◌, ◌^◌, ◌<◌, ℕ, Some, None, IfOk, OnOk};
+ghost use Rattle.std.specs.Prelude.{◌≡◌, ◌^◌, ◌<◌, ℕ, List, Some, None, Ok, IfOk, OnOk};
+ghost use Rattle.hex.specs.Hex.{decode_of};
 ghost use Rattle.json.specs.Json.{read_key};
 ghost use Rattle.serde_json.specs.Data.{number, unsigned, string};
 ghost use Rattle.history_reading.specs.Spelled.{IsMember};
@@ -8,6 +9,7 @@ ghost use Rattle.history_reading.specs.Spelled.{IsMember};
 use byte_tokens::Quick;
 use call_reading::{next_key, read_number, read_text};
 use json_fields::Stop;
+use std::alloc::Global;
 
 /// Takes this key.
 pub(crate) fn take_key(reader: &mut Quick<'_>, name: &str) -> Result<(), Stop>
@@ -50,4 +52,21 @@ pub(crate) fn text_under<'a>(reader: &mut Quick<'a>, name: &str) -> Result<&'a s
     take_key(reader, name)?;
     let text = read_text(reader)?;
     Ok(text)
+}
+
+/// The bytes whose digits are the text under this key.
+pub(crate) fn bytes_under(
+    alloc: Global,
+    reader: &mut Quick<'_>,
+    name: &str,
+) -> Result<Vec<u8>, Stop>
+    ensures { IfOk result (λ bytes. (digits : List ℕ) × ((depth : ℕ)
+        → IsMember depth name.now (string digits) reader.old reader.new)
+        × (decode_of digits ≡ Ok bytes.items)) }
+{
+    take_key(reader, name)?;
+    let Some(bytes) = reader.take_hex(alloc) else {
+        return Err(Stop::Unusual);
+    };
+    Ok(bytes)
 }

@@ -8,10 +8,10 @@ ghost use Rattle.serde_json.specs.Read.{of_json, converted};
 ghost use Rattle.history_reading.specs.Replies.{reply_of};
 ghost use Rattle.history_reading.specs.Spelled.{with_value, AreMembers, MakesReply};
 
-use super::quick_member::{number_under, take_end, text_under};
+use super::quick_member::{bytes_under, number_under, take_end, text_under};
 use super::quick_numbers::{u16s_under, u32s_under};
 use super::refusal::refusal_with;
-use super::reply::map_in;
+use super::reply::map_of;
 use byte_tokens::Quick;
 use call_reading::{next_key, read_number, read_text};
 use json_fields::Stop;
@@ -26,14 +26,14 @@ fn read_map(alloc: Global, reader: &mut Quick<'_>, depth: usize, ack: u64) -> Re
         (put (codes "ack") (number (unsigned ack)) no_members) reply reader.old reader.new) }
 {
     let bytes = u32s_under(alloc, reader, depth, "bytes")?;
-    let digits = text_under(reader, "hex")?;
+    let payload = bytes_under(alloc, reader, "hex")?;
     let kind = text_under(reader, "kind")?;
     let start = number_under(reader, "start")?;
     take_end(reader)?;
     if kind != "map" {
         return Err(Stop::Unusual);
     }
-    let Some(wire) = map_in(alloc, digits)? else {
+    let Some(wire) = map_of(alloc, &payload)? else {
         return Err(Stop::Unusual);
     };
     Ok(Reply::Built(FrameMap {

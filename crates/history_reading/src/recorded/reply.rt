@@ -1,8 +1,6 @@
 //! One reply of a history.
 
-ghost use Rattle.std.specs.Prelude.{◌≡◌, IfOk, Some, option_and_then};
-ghost use Rattle.std.specs.Result.{result_ok};
-ghost use Rattle.hex.specs.Hex.{decode_of};
+ghost use Rattle.std.specs.Prelude.{◌≡◌, IfOk, Some};
 ghost use Rattle.history_reading.specs.Replies.{placed_reply, admitted_reply, map_of, map_at, map_reply, skipped_reply};
 ghost use Rattle.history_reading.specs.Replies.{flow_reply, u64_if, refused_reply, reply_of};
 
@@ -43,26 +41,14 @@ fn admitted_reply<T: Tree>(alloc: Global, value: &T) -> Result<Option<Reply>, Al
     }
 }
 
-// The MAP of which these bytes are the payload.
+/// The MAP of which these bytes are the payload.
 #[tactic(auto, unfolding(crate::specs::Replies::map_of))]
-fn map_of(alloc: Global, bytes: &[u8]) -> Result<Option<WireMap>, AllocError>
+pub(crate) fn map_of(alloc: Global, bytes: &[u8]) -> Result<Option<WireMap>, AllocError>
     ensures { IfOk result (λ map. map ≡ map_of bytes.now) }
 {
     match decode(alloc, bytes) {
         Ok(map) => Ok(Some(map)),
         Err(DecodeFault::Memory) => Err(AllocError),
-        Err(_) => Ok(None),
-    }
-}
-
-// The MAP of which this text is the payload in hexadecimal, digits of both cases.
-pub(crate) fn map_in(alloc: Global, digits: &str) -> Result<Option<WireMap>, AllocError>
-    ensures { IfOk result
-        (λ map. map ≡ option_and_then map_of (result_ok (decode_of digits.now))) }
-{
-    match hex::decode(alloc, digits) {
-        Ok(bytes) => map_of(alloc, &bytes),
-        Err(FromHexError::OutOfMemory) => Err(AllocError),
         Err(_) => Ok(None),
     }
 }
@@ -75,7 +61,11 @@ fn map_at<T: Tree>(alloc: Global, value: &T, key: &str) -> Result<Option<WireMap
     let Some(digits) = text(value, key) else {
         return Ok(None);
     };
-    map_in(alloc, digits)
+    match hex::decode(alloc, digits) {
+        Ok(bytes) => map_of(alloc, &bytes),
+        Err(FromHexError::OutOfMemory) => Err(AllocError),
+        Err(_) => Ok(None),
+    }
 }
 
 #[tactic(auto, unfolding(crate::specs::Replies::map_reply))]
