@@ -7,4 +7,5 @@ pub mod FewEntries
 pub mod Encodable
 pub mod HistoryOutcome
 pub mod RowsForms
+pub mod Keys
 pub mod Spelled

@@ -11,7 +11,7 @@ ghost use Rattle.call_reading.specs.Calls.{call_of};
 ghost use Rattle.history_reading.specs.Replies.{reply_of, entry_of};
 ghost use Rattle.history_reading.specs.Spelled.{IsMember};
 
-use super::quick_member::{number_under, take_end, take_key};
+use super::quick_member::{Key, number_under, take_end, take_key};
 use super::quick_reply::read_quick_reply;
 use byte_tokens::Quick;
 use call_reading::read_quick_call;
@@ -28,7 +28,7 @@ fn call_under(alloc: Global, reader: &mut Quick<'_>, depth: usize) -> Result<Cal
     ensures { IfOk result (λ call. (d : Data)
         × IsMember depth (codes "call") d reader.old reader.new × (call_of d ≡ Some call)) }
 {
-    take_key(reader, "call")?;
+    take_key(reader, Key::Call)?;
     let call = read_quick_call(alloc, reader, depth)?;
     Ok(call)
 }
@@ -38,7 +38,7 @@ fn reply_under(alloc: Global, reader: &mut Quick<'_>, depth: usize) -> Result<Re
     ensures { IfOk result (λ reply. (d : Data)
         × IsMember depth (codes "reply") d reader.old reader.new × (reply_of d ≡ Some reply)) }
 {
-    take_key(reader, "reply")?;
+    take_key(reader, Key::Reply)?;
     let reply = read_quick_reply(alloc, reader, depth)?;
     Ok(reply)
 }
@@ -48,7 +48,7 @@ fn seat_under(reader: &mut Quick<'_>) -> Result<u32, Stop>
     ensures { IfOk result (λ n. (n < 2 ^ 32) × ((depth : ℕ)
         → IsMember depth (codes "seat") (number (unsigned n)) reader.old reader.new)) }
 {
-    let number = number_under(reader, "seat")?;
+    let number = number_under(reader, Key::Seat)?;
     let Ok(seat) = u32::try_from(number) else {
         return Err(Stop::Unusual);
     };
@@ -72,7 +72,7 @@ pub(crate) fn read_quick_entry(
     let call = call_under(alloc, reader, depth - 1)?;
     let reply = reply_under(alloc, reader, depth - 1)?;
     let seat = seat_under(reader)?;
-    let ticket = number_under(reader, "ticket")?;
+    let ticket = number_under(reader, Key::Ticket)?;
     take_end(reader)?;
     let stamp = Stamp { seat, ticket };
     Ok(Entry { stamp, call, reply })

@@ -12,7 +12,7 @@ ghost use Rattle.json_fields.specs.Usual.{read_tokens};
 ghost use Rattle.history_reading.specs.Replies.{entry_of};
 
 use super::quick_entry::read_quick_entry;
-use super::quick_member::{take_end, take_key};
+use super::quick_member::{Key, take_end, take_key};
 use byte_tokens::Quick;
 use call_reading::read_config;
 use json_fields::Stop;
@@ -47,7 +47,7 @@ fn read_list(alloc: Global, reader: &mut Quick<'_>) -> Result<Vec<Entry>, Stop>
         × IsListOf (λ d entry. entry_of d ≡ Some entry) d entries.items) }
     ensures shorter { OnOk result (length reader.new < length reader.old) }
 {
-    take_key(reader, "entries")?;
+    take_key(reader, Key::Entries)?;
     if !reader.open_array() {
         return Err(Stop::Unusual);
     }

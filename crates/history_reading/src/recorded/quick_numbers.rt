@@ -7,9 +7,10 @@ ghost use Rattle.serde_json.specs.Read.{of_json, of_items, converted};
 ghost use Rattle.serde_json.specs.View.{items_of};
 ghost use Rattle.json_fields.specs.Listed.{StandEach};
 ghost use Rattle.history_reading.specs.Replies.{number_below, numbers_of};
+ghost use Rattle.history_reading.specs.Key.{key_of};
 ghost use Rattle.history_reading.specs.Spelled.{IsMember};
 
-use super::quick_member::take_key;
+use super::quick_member::{Key, take_key};
 use byte_tokens::Quick;
 use call_reading::read_number;
 use json_fields::Stop;
@@ -80,13 +81,13 @@ pub(crate) fn u16s_under(
     alloc: Global,
     reader: &mut Quick<'_>,
     depth: usize,
-    name: &str,
+    key: Key,
 ) -> Result<Vec<u16>, Stop>
     ensures { IfOk result (λ numbers. (ds : Items)
-        × IsMember depth name.now (array ds) reader.old reader.new
+        × IsMember depth (key_of key) (array ds) reader.old reader.new
         × (numbers_of (2 ^ 16) ds ≡ Some numbers.items)) }
 {
-    take_key(reader, name)?;
+    take_key(reader, key)?;
     if depth == 0 || !reader.open_array() {
         return Err(Stop::Unusual);
     }
@@ -99,13 +100,13 @@ pub(crate) fn u32s_under(
     alloc: Global,
     reader: &mut Quick<'_>,
     depth: usize,
-    name: &str,
+    key: Key,
 ) -> Result<Vec<u32>, Stop>
     ensures { IfOk result (λ numbers. (ds : Items)
-        × IsMember depth name.now (array ds) reader.old reader.new
+        × IsMember depth (key_of key) (array ds) reader.old reader.new
         × (numbers_of (2 ^ 32) ds ≡ Some numbers.items)) }
 {
-    take_key(reader, name)?;
+    take_key(reader, key)?;
     if depth == 0 || !reader.open_array() {
         return Err(Stop::Unusual);
     }

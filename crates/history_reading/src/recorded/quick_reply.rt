@@ -8,7 +8,7 @@ ghost use Rattle.serde_json.specs.Read.{of_json, converted};
 ghost use Rattle.history_reading.specs.Replies.{reply_of};
 ghost use Rattle.history_reading.specs.Spelled.{with_value, AreMembers, MakesReply};
 
-use super::quick_member::{bytes_under, number_under, take_end, text_under};
+use super::quick_member::{Key, bytes_under, number_under, take_end, text_under};
 use super::quick_numbers::{u16s_under, u32s_under};
 use super::refusal::refusal_with;
 use super::reply::map_of;
@@ -25,10 +25,10 @@ fn read_map(alloc: Global, reader: &mut Quick<'_>, depth: usize, ack: u64) -> Re
     ensures { IfOk result (λ reply. MakesReply depth
         (put (codes "ack") (number (unsigned ack)) no_members) reply reader.old reader.new) }
 {
-    let bytes = u32s_under(alloc, reader, depth, "bytes")?;
-    let payload = bytes_under(alloc, reader, "hex")?;
-    let kind = text_under(reader, "kind")?;
-    let start = number_under(reader, "start")?;
+    let bytes = u32s_under(alloc, reader, depth, Key::Bytes)?;
+    let payload = bytes_under(alloc, reader, Key::Hex)?;
+    let kind = text_under(reader, Key::Kind)?;
+    let start = number_under(reader, Key::Start)?;
     take_end(reader)?;
     if kind != "map" {
         return Err(Stop::Unusual);
@@ -49,9 +49,9 @@ fn read_flow(reader: &mut Quick<'_>, asked: u64) -> Result<Reply, Stop>
     ensures { IfOk result (λ reply. (depth : ℕ) → MakesReply depth
         (put (codes "asked") (number (unsigned asked)) no_members) reply reader.old reader.new) }
 {
-    let granted = number_under(reader, "granted")?;
-    let kind = text_under(reader, "kind")?;
-    let outstanding = number_under(reader, "outstanding")?;
+    let granted = number_under(reader, Key::Granted)?;
+    let kind = text_under(reader, Key::Kind)?;
+    let outstanding = number_under(reader, Key::Outstanding)?;
     take_end(reader)?;
     if kind != "flow" {
         return Err(Stop::Unusual);
@@ -74,7 +74,7 @@ fn read_placed(
         (put (codes "reference") (number (unsigned reference))
         (put (codes "kind") (string (codes "admitted")) no_members)) reply reader.old reader.new) }
 {
-    let starts = u16s_under(alloc, reader, depth, "starts")?;
+    let starts = u16s_under(alloc, reader, depth, Key::Starts)?;
     take_end(reader)?;
     Ok(Reply::Admitted(Some(Placement {
         reference,
@@ -103,7 +103,7 @@ fn read_skipped(reader: &mut Quick<'_>) -> Result<Reply, Stop>
     ensures { IfOk result (λ reply. (depth : ℕ) → MakesReply depth
         (put (codes "kind") (string (codes "skipped")) no_members) reply reader.old reader.new) }
 {
-    let next = number_under(reader, "next")?;
+    let next = number_under(reader, Key::Next)?;
     take_end(reader)?;
     Ok(Reply::Skipped(next))
 }
@@ -130,7 +130,7 @@ fn read_refused(reader: &mut Quick<'_>) -> Result<Reply, Stop>
     ensures { IfOk result (λ reply. (depth : ℕ) → MakesReply depth
         (put (codes "kind") (string (codes "refused")) no_members) reply reader.old reader.new) }
 {
-    let number = number_under(reader, "number")?;
+    let number = number_under(reader, Key::Number)?;
     let value = read_value(reader)?;
     let Some(refusal) = refusal_with(number, value) else {
         return Err(Stop::Unusual);

@@ -1,13 +1,11 @@
--- The key is the one that is wanted.
-use Rattle.std.proofs.Common.{◌≡◌, true, bytes_eq, Some, arith}
+-- The key stands first in its usual spelling.
+use Rattle.std.proofs.Common.{ap}
 use Rattle.json.specs.Json.{read_key}
-use Rattle.history_reading.proofs.Spelled.{key_named}
+use Rattle.history_reading.specs.Key.{key_of}
+use Rattle.history_reading.proofs.Keys.{plain_key}
 use Rattle.history_reading.proofs.recorded.quick_member.take_key.Goals as goal
 
-pub returns : goal.returns
-returns c =
-    let s = c.next_key.new.reader in
-    let k = c.in-Some.key.now in
-    let same : bytes_eq k c.args.name.now ≡ true = grind arith in
-    let key : read_key c.args.reader.now ≡ Some (Some k, s) = grind arith in
-    key_named k c.args.name.now c.args.reader.now s same key
+pub returns-then-take_spelled_key : goal.returns-then-take_spelled_key
+returns-then-take_spelled_key c =
+    let key = c.args.key in
+    ap read_key (c.if-take_spelled_key.ensures (key_of key) (plain_key key) c.spelled.ensures)
