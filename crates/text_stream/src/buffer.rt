@@ -1,20 +1,14 @@
 //! Text on its way to a writer.
 
 ghost use Rattle.std.specs.Prelude.{◌≡◌, ◌≤◌, [], length, OnOk};
-ghost use Rattle.text_stream.specs.declared.buffer.TheConstants.{ROOM};
+ghost use Rattle.text_stream.specs.declared.waiting.TheConstants.{ROOM};
 ghost use Rattle.text_stream.specs.Writing.{Puts, Writes};
 
 use crate::fault::TextFault;
 use crate::output::put;
+use crate::waiting::{ROOM, Waiting};
 use crate::watched::Sink;
-use arrayvec::ArrayVec;
 use std::marker::Model;
-
-/// The most bytes that wait to be written.
-const ROOM: usize = 8192;
-
-// Bytes that wait to be written.
-type Waiting = ArrayVec<u8, ROOM>;
 
 /// Text on its way to a writer: the pieces that wait to be written, 8192 bytes of whole pieces at most.
 #[derive(Drop)]
@@ -27,14 +21,14 @@ impl Model for TextBuffer {
 
     ghost Value = { List ℕ };
 
-    ghost view = { λ b. b.waiting.items };
+    ghost view = { λ b. b.waiting };
 }
 
 // Writes the bytes that wait.
 fn write_waiting<W: Sink>(waiting: &mut Waiting, writer: &mut W) -> Result<(), TextFault>
     ensures written { Writes W.contents W.has_failed writer.old writer.new
-        waiting.old.items result }
-    ensures empty { OnOk result (waiting.new.items ≡ []) }
+        waiting.old result }
+    ensures empty { OnOk result (waiting.new ≡ []) }
 {
     put(writer, waiting.as_slice())?;
     waiting.clear();
@@ -44,12 +38,12 @@ fn write_waiting<W: Sink>(waiting: &mut Waiting, writer: &mut W) -> Result<(), T
 // Puts a text behind those that wait, which are written first where there is no room for it.
 fn append<W: Sink>(waiting: &mut Waiting, writer: &mut W, text: &[u8]) -> Result<(), TextFault>
     requires { length text.now ≤ ROOM }
-    ensures { Puts W.contents W.has_failed writer.old writer.new waiting.old.items waiting.new.items
+    ensures { Puts W.contents W.has_failed writer.old writer.new waiting.old waiting.new
         text.now result }
 {
-    if waiting.try_extend_from_slice(text).is_err() {
+    if !waiting.try_extend(text) {
         write_waiting(waiting, writer)?;
-        let _fits = waiting.try_extend_from_slice(text);
+        let _fits = waiting.try_extend(text);
     }
     Ok(())
 }
@@ -60,7 +54,7 @@ impl TextBuffer {
         ensures { result ≡ [] }
     {
         TextBuffer {
-            waiting: ArrayVec::new(),
+            waiting: Waiting::new(),
         }
     }
 

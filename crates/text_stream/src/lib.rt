@@ -7,6 +7,7 @@ mod fault;
 mod input;
 mod output;
 mod run_fault;
+mod waiting;
 mod watched;
 
 pub use buffer::TextBuffer;
