@@ -22,8 +22,22 @@ fn same_four(a: &[u8], i: usize, b: &[u8], j: usize) -> bool
     (a[i] == b[j]) & (a[i + 1] == b[j + 1]) & (a[i + 2] == b[j + 2]) & (a[i + 3] == b[j + 3])
 }
 
-/// Whether a word of 4 to 12 bytes stands at a place. Parts of four bytes, which may overlap, cover it, so that a word
-/// that is known is compared in two or three steps.
+// Whether a word of 4 to 12 bytes stands at a place before the end. Parts of four bytes, which may overlap, cover it, so
+// that a word that is known is compared in two or three steps.
+#[inline(always)]
+fn same_parts(text: &[u8], at: usize, word: &[u8]) -> bool
+    requires few { (4 ≤ length word.now) × (length word.now ≤ 12) }
+    requires within { at + length word.now ≤ length text.now }
+    ensures { IsTrue result → drop at text.now ≡ word.now ++ drop (at + length word.now) text.now }
+{
+    let last = word.len() - 4;
+    if !same_four(text, at, word, 0) || !same_four(text, at + last, word, last) {
+        return false;
+    }
+    last <= 4 || same_four(text, at + 4, word, 4)
+}
+
+/// Whether a word of 4 to 12 bytes stands at a place.
 #[inline(always)]
 pub(crate) fn stands_at(text: &[u8], at: usize, word: &[u8]) -> bool
     requires { at ≤ length text.now }
@@ -34,11 +48,7 @@ pub(crate) fn stands_at(text: &[u8], at: usize, word: &[u8]) -> bool
     if count < 4 || count > 12 || text.len() - at < count {
         return false;
     }
-    let last = count - 4;
-    if !same_four(text, at, word, 0) || !same_four(text, at + last, word, last) {
-        return false;
-    }
-    count <= 8 || same_four(text, at + 4, word, 4)
+    same_parts(text, at, word)
 }
 
 /// Whether a word of 6 to 14 bytes stands at a place. Its first two bytes are compared one by one: where the second was
@@ -50,13 +60,13 @@ pub(crate) fn quoted_word_at(text: &[u8], at: usize, word: &[u8]) -> bool
         × (drop at text.now ≡ word.now ++ drop (at + length word.now) text.now) }
 {
     let count = word.len();
-    if count < 6 || text.len() - at < count {
+    if count < 6 || count > 14 || text.len() - at < count {
         return false;
     }
     if text[at] != word[0] || text[at + 1] != word[1] {
         return false;
     }
-    stands_at(text, at + 2, &word[2..])
+    same_parts(text, at + 2, &word[2..])
 }
 
 // Whether a byte stands for itself in quotes, and is none that keys and names have seldom: a space or an exclamation
