@@ -2,8 +2,23 @@
 use Rattle.std.proofs.Common.{◌≡◌, codes, refl}
 use Rattle.json.specs.Print.{escape, escape_byte}
 use Rattle.call_reading.specs.declared.field.Field.{Field}
+use Rattle.call_reading.specs.declared.field.RangingField.{RangingField}
 use Rattle.call_reading.specs.declared.field.Field.TheVariants.{Name, Sid, Receiver, Bytes, Heard, Upto, Time, Flow}
-use Rattle.call_reading.specs.Field.{key_of}
+use Rattle.call_reading.specs.declared.field.Field.TheVariants.{Ranging}
+use Rattle.call_reading.specs.declared.field.RangingField.TheVariants.{Usage, Slots, UcdCount}
+use Rattle.call_reading.specs.declared.field.RangingField.TheVariants.{RangingStart, RangingEnd, DataStart, DataEnd}
+use Rattle.call_reading.specs.Field.{ranging_key, key_of}
+
+-- no byte of a key of ranging has an escape
+plain_ranging_key : (field : RangingField) → escape (ranging_key field) ≡ ranging_key field
+unfolding escape_byte
+plain_ranging_key Usage = refl
+plain_ranging_key Slots = refl
+plain_ranging_key UcdCount = refl
+plain_ranging_key RangingStart = refl
+plain_ranging_key RangingEnd = refl
+plain_ranging_key DataStart = refl
+plain_ranging_key DataEnd = refl
 
 -- no byte of a key has an escape
 pub plain_key : (field : Field) → escape (key_of field) ≡ key_of field
@@ -16,6 +31,7 @@ plain_key Heard = refl
 plain_key Upto = refl
 plain_key Time = refl
 plain_key Flow = refl
+plain_key (Ranging field) = plain_ranging_key field
 
 -- nor of a name of a call
 pub plain_ask : escape (codes "ask") ≡ codes "ask"

@@ -1,5 +1,5 @@
 -- What the members of an object say as they are read one by one, and the call that they make.
-use Rattle.std.proofs.Common.{◌≡◌, ℕ, ◌||◌, Bool, true, false, cond, List, bytes_eq, Option, Some, None}
+use Rattle.std.proofs.Common.{◌≡◌, ℕ, ◌^◌, ◌||◌, Bool, true, false, cond, List, bytes_eq, Option, Some, None}
 use Rattle.std.proofs.Common.{option_and_then, refl, sym, ap, ◌∙◌, is_some, true≢false}
 use Rattle.std.proofs.lemmas.Slice.Eq.{bytes_eq-Decides}
 use Rattle.std.specs.Borrow.{Bor}
@@ -8,14 +8,15 @@ use Rattle.serde_json.specs.Data.{Data, number, unsigned, string, object, Member
 use Rattle.serde_json.specs.Find.{get_member, as_str}
 use Rattle.flow_book.specs.declared.spec.FlowSpec.{FlowSpec}
 use Rattle.sched_history.specs.declared.call.Call.{Call}
-use Rattle.sched_history.specs.declared.call.Call.TheVariants.{Admit}
-use Rattle.json_fields.specs.Fields.{◌>>=◌, u8_at, u16_at, u32_at, u64_at, number_at, text_at}
+use Rattle.sched_history.specs.declared.call.Call.TheVariants.{Admit, Header}
+use Rattle.json_fields.specs.Fields.{◌>>=◌, u8_at, u16_at, u32_at, u64_at, number_at, text_at, below}
 use Rattle.json_fields.proofs.PlainValues.{found_at}
 use Rattle.call_reading.specs.declared.found.Found.{Found}
 use Rattle.call_reading.specs.Calls.{flow_of, admit_call, remove_call, ask_call, heard_call, build_call, skip_call}
-use Rattle.call_reading.specs.Calls.{status_call, call_of}
-use Rattle.call_reading.specs.Seen.{whole_in, seen_in, seen_with, seen_of, seen_admit, seen_remove, seen_ask}
-use Rattle.call_reading.specs.Seen.{seen_heard, seen_build, seen_skip, seen_status, seen_call}
+use Rattle.call_reading.specs.Calls.{status_call, usage_of, reserve_call, header_call, call_of}
+use Rattle.call_reading.specs.Seen.{whole_in, byte_in, seen_in, seen_with, seen_of, seen_admit, seen_remove, seen_ask}
+use Rattle.call_reading.specs.Seen.{seen_heard, seen_build, seen_skip, seen_status, seen_usage, seen_reserve}
+use Rattle.call_reading.specs.Seen.{seen_header, seen_call}
 
 then_made : {B : Type 0} (b : Bool) (x : Data) (o : Option Data) (f : Data → Option B)
     → (cond b (Some x) o >>= f) ≡ (if b then f x else (o >>= f))
@@ -48,6 +49,13 @@ module _ (k : List ℕ) (d : Data) (ms : Members) where
     upto = under (codes "upto") whole_in i;
     time = under (codes "now") whole_in i;
     flow = under (codes "flow") flow_of i;
+    usage = under (codes "usage") as_str i;
+    slots = under (codes "slots") whole_in i;
+    ucd_count = under (codes "ucd_count") byte_in i;
+    ranging_start = under (codes "ranging_start") byte_in i;
+    ranging_end = under (codes "ranging_end") byte_in i;
+    data_start = under (codes "data_start") byte_in i;
+    data_end = under (codes "data_end") byte_in i;
     opening = opens i;
   }
 
@@ -101,10 +109,14 @@ module _ (k : List ℕ) (f : Found) where
   pub other_with : (d : Data) → bytes_eq k (codes "call") ≡ false → bytes_eq k (codes "sid") ≡ false
       → bytes_eq k (codes "receiver") ≡ false → bytes_eq k (codes "bytes") ≡ false
       → bytes_eq k (codes "heard") ≡ false → bytes_eq k (codes "upto") ≡ false → bytes_eq k (codes "now") ≡ false
-      → bytes_eq k (codes "flow") ≡ false → bytes_eq k (codes "config") ≡ false
+      → bytes_eq k (codes "flow") ≡ false → bytes_eq k (codes "usage") ≡ false → bytes_eq k (codes "slots") ≡ false
+      → bytes_eq k (codes "ucd_count") ≡ false → bytes_eq k (codes "ranging_start") ≡ false
+      → bytes_eq k (codes "ranging_end") ≡ false → bytes_eq k (codes "data_start") ≡ false
+      → bytes_eq k (codes "data_end") ≡ false → bytes_eq k (codes "config") ≡ false
       → seen_of f ≡ seen_with k d (seen_of f)
-  other_with d call sid receiver bytes heard upto time flow config =
-      rw (call, sid, receiver, bytes, heard, upto, time, flow, config) refl
+  other_with d call sid receiver bytes heard upto time flow usage slots count first last start end config =
+      rw (call, sid, receiver, bytes, heard, upto, time, flow) (
+      rw (usage, slots, count, first, last, start, end, config) refl)
 
 -- ---- the call
 
@@ -137,10 +149,35 @@ module _ (ms : Members) where
       (λ sid. after (get_member (codes "flow") ms) flow_of (λ flow. Some (Admit sid flow)) i)
       (u16_at (codes "sid") (object ms))
 
+  byte : (k : List ℕ) → u8_at k (object ms) ≡ (get_member k ms >>= byte_in)
+  unfolding u8_at number_at
+  byte k = after (get_member k ms) whole_in (below (2 ^ 8))
+
+  heads : header_call (object ms) ≡ seen_header (seen_in ms)
+  unfolding seen_header header_call
+  heads = λ i. option_and_then
+      (λ count. option_and_then
+      (λ ranging_start. option_and_then
+      (λ ranging_end. option_and_then
+      (λ data_start. option_and_then
+      (λ data_end. Some (Header (record {
+        ucd_count = count;
+        ranging_start = ranging_start;
+        ranging_end = ranging_end;
+        data_start = data_start;
+        data_end = data_end;
+      })))
+      (byte (codes "data_end") i))
+      (byte (codes "data_start") i))
+      (byte (codes "ranging_end") i))
+      (byte (codes "ranging_start") i))
+      (byte (codes "ucd_count") i)
+
   -- the call that the members make is the one that the object stands for
   pub seen_call_is : Gives (seen_call (seen_in ms)) (call_of (object ms))
-  unfolding seen_call seen_remove seen_ask seen_heard seen_build seen_skip seen_status call_of remove_call ask_call
-      heard_call build_call skip_call status_call u8_at u16_at u32_at u64_at number_at text_at
+  unfolding seen_call seen_remove seen_ask seen_heard seen_build seen_skip seen_status seen_usage seen_reserve call_of
+      remove_call ask_call heard_call build_call skip_call status_call usage_of reserve_call u8_at u16_at u32_at u64_at
+      number_at text_at
   seen_call_is = named (text_at (codes "call") (object ms))
       (λ name. where_else (bytes_eq name (codes "admit")) (λ call e. sym admits ∙ e)
       (where_else (bytes_eq name (codes "remove")) (as_it_is (remove_call (object ms)))
@@ -149,7 +186,9 @@ module _ (ms : Members) where
       (where_else (bytes_eq name (codes "build")) (as_it_is (build_call (object ms)))
       (where_else (bytes_eq name (codes "skip")) (as_it_is (skip_call (object ms)))
       (where_else (bytes_eq name (codes "status")) (as_it_is (status_call (object ms)))
-      (λ call e. absurd (true≢false (sym (ap (λ o. is_some o) e)))))))))))
+      (where_else (bytes_eq name (codes "reserve")) (as_it_is (reserve_call (object ms)))
+      (where_else (bytes_eq name (codes "header")) (λ call e. heads ∙ e)
+      (λ call e. absurd (true≢false (sym (ap (λ o. is_some o) e)))))))))))))
 
   none_of : (o : Option Data) → false ≡ is_some o → o ≡ None
   none_of None e = refl

@@ -6,7 +6,21 @@ use Rattle.serde_json.specs.Data.{Data}
 use Rattle.serde_json.specs.Read.{of_json, converted}
 use Rattle.call_reading.specs.Seen.{Seen, seen_with}
 use Rattle.call_reading.specs.declared.field.Field.{Field}
+use Rattle.call_reading.specs.declared.field.RangingField.{RangingField}
 use Rattle.call_reading.specs.declared.field.Field.TheVariants.{Name, Sid, Receiver, Bytes, Heard, Upto, Time, Flow}
+use Rattle.call_reading.specs.declared.field.Field.TheVariants.{Ranging}
+use Rattle.call_reading.specs.declared.field.RangingField.TheVariants.{Usage, Slots, UcdCount}
+use Rattle.call_reading.specs.declared.field.RangingField.TheVariants.{RangingStart, RangingEnd, DataStart, DataEnd}
+
+-- the key of a field of ranging
+abbrev pub ranging_key : RangingField → List ℕ
+ranging_key Usage = codes "usage"
+ranging_key Slots = codes "slots"
+ranging_key UcdCount = codes "ucd_count"
+ranging_key RangingStart = codes "ranging_start"
+ranging_key RangingEnd = codes "ranging_end"
+ranging_key DataStart = codes "data_start"
+ranging_key DataEnd = codes "data_end"
 
 -- the key of a field
 abbrev pub key_of : Field → List ℕ
@@ -18,6 +32,7 @@ key_of Heard = codes "heard"
 key_of Upto = codes "upto"
 key_of Time = codes "now"
 key_of Flow = codes "flow"
+key_of (Ranging field) = ranging_key field
 
 -- one member stands first, nested no deeper than this, and was noted
 abbrev pub NotesMember : ℕ → List Token → List Token → Seen → Seen → Type 0

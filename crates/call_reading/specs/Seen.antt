@@ -1,13 +1,17 @@
 -- What the members of an object say of a call, member by member. Only private clauses cite it.
-use Rattle.std.specs.Prelude.{ℕ, ◌^◌, ◌||◌, Bool, false, List, if◌then◌else◌, codes, bytes_eq, Option, Some, None}
+use Rattle.std.specs.Prelude.{◌≡◌, ℕ, ◌^◌, ◌||◌, Bool, false, List, if◌then◌else◌, codes, bytes_eq, Option, Some, None}
 use Rattle.std.specs.Prelude.{option_map, is_some}
 use Rattle.serde_json.specs.Data.{Data, Members}
 use Rattle.serde_json.specs.Find.{get_member, as_str, as_number, as_u64}
 use Rattle.flow_book.specs.declared.spec.FlowSpec.{FlowSpec}
 use Rattle.sched_history.specs.declared.call.Call.{Call}
 use Rattle.sched_history.specs.declared.call.Call.TheVariants.{Admit, Remove, Ask, Heard, Build, Skip, Status}
+use Rattle.sched_history.specs.declared.call.Call.TheVariants.{Reserve, Header}
+use Rattle.map_build.specs.declared.opportunity.Usage.{Usage}
+use Rattle.map_build.specs.declared.opportunity.Usage.TheVariants.{Initial, Station}
 use Rattle.json_fields.specs.Fields.{◌>>=◌, below}
 use Rattle.call_reading.specs.declared.found.Found.{Found}
+use Rattle.call_reading.specs.declared.found.Ranging.{Ranging}
 use Rattle.call_reading.specs.Calls.{flow_of}
 
 -- what stands under each key that a call may have, and whether there is a configuration
@@ -20,11 +24,22 @@ pub record Seen : Type 0 where
   pub upto : Option ℕ
   pub time : Option ℕ
   pub flow : Option FlowSpec
+  pub usage : Option (List ℕ)
+  pub slots : Option ℕ
+  pub ucd_count : Option ℕ
+  pub ranging_start : Option ℕ
+  pub ranging_end : Option ℕ
+  pub data_start : Option ℕ
+  pub data_end : Option ℕ
   pub opening : Bool
 
 -- the whole number that a value is
 abbrev pub whole_in : Data → Option ℕ
 whole_in d = as_number d >>= as_u64
+
+-- the whole number below 256 that a value is
+abbrev pub byte_in : Data → Option ℕ
+byte_in d = whole_in d >>= below (2 ^ 8)
 
 -- what these members say
 abbrev pub seen_in : Members → Seen
@@ -37,6 +52,13 @@ seen_in ms = record {
   upto = get_member (codes "upto") ms >>= whole_in;
   time = get_member (codes "now") ms >>= whole_in;
   flow = get_member (codes "flow") ms >>= flow_of;
+  usage = get_member (codes "usage") ms >>= as_str;
+  slots = get_member (codes "slots") ms >>= whole_in;
+  ucd_count = get_member (codes "ucd_count") ms >>= byte_in;
+  ranging_start = get_member (codes "ranging_start") ms >>= byte_in;
+  ranging_end = get_member (codes "ranging_end") ms >>= byte_in;
+  data_start = get_member (codes "data_start") ms >>= byte_in;
+  data_end = get_member (codes "data_end") ms >>= byte_in;
   opening = is_some (get_member (codes "config") ms);
 }
 
@@ -51,6 +73,13 @@ seen_with k d s = record {
   upto = if bytes_eq k (codes "upto") then whole_in d else s.upto;
   time = if bytes_eq k (codes "now") then whole_in d else s.time;
   flow = if bytes_eq k (codes "flow") then flow_of d else s.flow;
+  usage = if bytes_eq k (codes "usage") then as_str d else s.usage;
+  slots = if bytes_eq k (codes "slots") then whole_in d else s.slots;
+  ucd_count = if bytes_eq k (codes "ucd_count") then byte_in d else s.ucd_count;
+  ranging_start = if bytes_eq k (codes "ranging_start") then byte_in d else s.ranging_start;
+  ranging_end = if bytes_eq k (codes "ranging_end") then byte_in d else s.ranging_end;
+  data_start = if bytes_eq k (codes "data_start") then byte_in d else s.data_start;
+  data_end = if bytes_eq k (codes "data_end") then byte_in d else s.data_end;
   opening = bytes_eq k (codes "config") || s.opening;
 }
 
@@ -65,8 +94,28 @@ nothing = record {
   upto = None;
   time = None;
   flow = None;
+  usage = None;
+  slots = None;
+  ucd_count = None;
+  ranging_start = None;
+  ranging_end = None;
+  data_start = None;
+  data_end = None;
   opening = false;
 }
+
+-- what was found of ranging, where something was
+abbrev pub ranging_in : Option Ranging → Ranging
+ranging_in None = record {
+  usage = None;
+  slots = None;
+  ucd_count = None;
+  ranging_start = None;
+  ranging_end = None;
+  data_start = None;
+  data_end = None;
+}
+ranging_in (Some ranging) = ranging
 
 -- what was found, where no configuration was
 abbrev pub seen_of : Found → Seen
@@ -79,8 +128,20 @@ seen_of f = record {
   upto = f.upto;
   time = f.time;
   flow = f.flow;
+  usage = option_map (λ s. s.now) (ranging_in f.ranging).usage;
+  slots = (ranging_in f.ranging).slots;
+  ucd_count = (ranging_in f.ranging).ucd_count;
+  ranging_start = (ranging_in f.ranging).ranging_start;
+  ranging_end = (ranging_in f.ranging).ranging_end;
+  data_start = (ranging_in f.ranging).data_start;
+  data_end = (ranging_in f.ranging).data_end;
   opening = false;
 }
+
+-- what was found of ranging differs by a value under this key
+abbrev pub IsNoted : List ℕ → Data → Ranging → Ranging → Type 0
+IsNoted k d old new = (f : Found)
+    → seen_of (record f { ranging = Some new }) ≡ seen_with k d (seen_of (record f { ranging = Some old }))
 
 -- an admission
 unfoldable pub seen_admit : Seen → Option Call
@@ -129,6 +190,37 @@ seen_status s = do
   sid ← s.sid >>= below (2 ^ 16)
   Some (Status sid)
 
+-- whom an opportunity is for
+unfoldable pub seen_usage : Seen → Option Usage
+seen_usage s = do
+  usage ← s.usage
+  if bytes_eq usage (codes "initial") then Some Initial
+      else (if bytes_eq usage (codes "station") then (s.sid >>= below (2 ^ 16) >>= (λ sid. Some (Station sid)))
+      else None)
+
+-- a Reserve
+unfoldable pub seen_reserve : Seen → Option Call
+seen_reserve s = do
+  usage ← seen_usage s
+  slots ← s.slots >>= below (2 ^ 32)
+  Some (Reserve usage slots)
+
+-- a header
+unfoldable pub seen_header : Seen → Option Call
+seen_header s = do
+  count ← s.ucd_count
+  ranging_start ← s.ranging_start
+  ranging_end ← s.ranging_end
+  data_start ← s.data_start
+  data_end ← s.data_end
+  Some (Header (record {
+    ucd_count = count;
+    ranging_start = ranging_start;
+    ranging_end = ranging_end;
+    data_start = data_start;
+    data_end = data_end;
+  }))
+
 -- the call, by its name
 unfoldable pub seen_call : Seen → Option Call
 seen_call s = do
@@ -140,4 +232,6 @@ seen_call s = do
       else (if bytes_eq name (codes "build") then seen_build s
       else (if bytes_eq name (codes "skip") then seen_skip s
       else (if bytes_eq name (codes "status") then seen_status s
-      else None))))))
+      else (if bytes_eq name (codes "reserve") then seen_reserve s
+      else (if bytes_eq name (codes "header") then seen_header s
+      else None))))))))

@@ -6,11 +6,23 @@ ghost use Rattle.json.specs.Token as token;
 ghost use Rattle.serde_json.specs.Data.{string};
 ghost use Rattle.serde_json.specs.Read.{of_json, converted};
 ghost use Rattle.byte_tokens.specs.Spelled.{spelled_key};
-ghost use Rattle.call_reading.specs.Field.{key_of};
+ghost use Rattle.call_reading.specs.Field.{ranging_key, key_of};
 
 use super::quick_call::{next_key, read_text};
 use byte_tokens::Quick;
 use json_fields::Stop;
+
+/// What stands under a key that only a call of ranging may have.
+#[derive(Clone, Copy)]
+pub(crate) enum RangingField {
+    Usage,
+    Slots,
+    UcdCount,
+    RangingStart,
+    RangingEnd,
+    DataStart,
+    DataEnd,
+}
 
 /// What stands under a key that a call may have.
 #[derive(Clone, Copy)]
@@ -23,6 +35,23 @@ pub(crate) enum Field {
     Upto,
     Time,
     Flow,
+    Ranging(RangingField),
+}
+
+// The field of a key that only a call of ranging may have.
+fn ranging_field_of(key: &str) -> Option<RangingField>
+    ensures { IfSome result (λ field. key.now ≡ ranging_key field) }
+{
+    match key {
+        "usage" => Some(RangingField::Usage),
+        "slots" => Some(RangingField::Slots),
+        "ucd_count" => Some(RangingField::UcdCount),
+        "ranging_start" => Some(RangingField::RangingStart),
+        "ranging_end" => Some(RangingField::RangingEnd),
+        "data_start" => Some(RangingField::DataStart),
+        "data_end" => Some(RangingField::DataEnd),
+        _ => None,
+    }
 }
 
 // The field of a key.
@@ -38,7 +67,7 @@ fn field_of(key: &str) -> Option<Field>
         "upto" => Some(Field::Upto),
         "now" => Some(Field::Time),
         "flow" => Some(Field::Flow),
-        _ => None,
+        _ => Some(Field::Ranging(ranging_field_of(key)?)),
     }
 }
 
@@ -56,7 +85,8 @@ fn field_if(reader: &mut Quick<'_>, spelled: &str, field: Field) -> Option<Field
     }
 }
 
-/// The field whose key is next in its usual spelling. No two keys begin with the same letter.
+/// The field whose key is next in its usual spelling. No two of these keys begin with the same letter; those of ranging
+/// are seldom.
 pub(crate) fn known_field(reader: &mut Quick<'_>) -> Option<Field>
     ensures { MatchOption result (reader.new ≡ reader.old)
         (λ field. read_key reader.old ≡ Some (Some (key_of field), reader.new)) }

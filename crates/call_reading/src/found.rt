@@ -3,12 +3,27 @@
 ghost use Rattle.std.specs.Prelude.{◌≡◌, ◌^◌, option_and_then};
 ghost use Rattle.json_fields.specs.Fields.{below};
 ghost use Rattle.call_reading.specs.Seen.{nothing, seen_of, seen_admit, seen_remove, seen_ask, seen_heard, seen_build};
-ghost use Rattle.call_reading.specs.Seen.{seen_skip, seen_status, seen_call};
+ghost use Rattle.call_reading.specs.Seen.{seen_skip, seen_status, seen_usage, seen_reserve, seen_header, seen_call};
+ghost use Rattle.call_reading.specs.Seen.{ranging_in};
 
 use flow_book::FlowSpec;
+use map_build::{Header, Usage};
 use sched_history::Call;
 
-/// What was found under each key that a call may have: the last of equal keys.
+/// What was found under each key that only a call of ranging may have. A number that is too great is none.
+#[derive(Clone, Copy)]
+pub(crate) struct Ranging<'a> {
+    pub(crate) usage: Option<&'a str>,
+    pub(crate) slots: Option<u64>,
+    pub(crate) ucd_count: Option<u8>,
+    pub(crate) ranging_start: Option<u8>,
+    pub(crate) ranging_end: Option<u8>,
+    pub(crate) data_start: Option<u8>,
+    pub(crate) data_end: Option<u8>,
+}
+
+/// What was found under each key that a call may have: the last of equal keys. The keys of ranging stand apart, so that
+/// the other calls, which are most, pay little for them.
 #[derive(Clone, Copy)]
 pub(crate) struct Found<'a> {
     pub(crate) name: Option<&'a str>,
@@ -19,6 +34,7 @@ pub(crate) struct Found<'a> {
     pub(crate) upto: Option<u64>,
     pub(crate) time: Option<u64>,
     pub(crate) flow: Option<FlowSpec>,
+    pub(crate) ranging: Option<Ranging<'a>>,
 }
 
 impl<'a> Found<'a> {
@@ -34,12 +50,31 @@ impl<'a> Found<'a> {
             upto: None,
             time: None,
             flow: None,
+            ranging: None,
+        }
+    }
+
+    /// What was found of ranging so far.
+    pub(crate) fn ranging_so_far(&self) -> Ranging<'a>
+        ensures { result ≡ ranging_in self.now.ranging }
+    {
+        if let Some(ranging) = self.ranging {
+            return ranging;
+        }
+        Ranging {
+            usage: None,
+            slots: None,
+            ucd_count: None,
+            ranging_start: None,
+            ranging_end: None,
+            data_start: None,
+            data_end: None,
         }
     }
 }
 
-// The number, where it fits.
-fn to_u8(number: Option<u64>) -> Option<u8>
+/// The number, where it fits.
+pub(crate) fn to_u8(number: Option<u64>) -> Option<u8>
     ensures { result ≡ option_and_then (below (2 ^ 8)) number }
 {
     u8::try_from(number?).ok()
@@ -138,6 +173,42 @@ fn status(found: &Found<'_>) -> Option<Call>
     Some(Call::Status(to_u16(found.sid)?))
 }
 
+// Whom an opportunity is for: a SID stands beside it where it is for one modem.
+#[tactic(auto, unfolding(crate::specs::Seen::seen_usage))]
+fn usage(found: &Found<'_>) -> Option<Usage>
+    ensures { result ≡ seen_usage (seen_of found.now) }
+{
+    match found.ranging_so_far().usage? {
+        "initial" => Some(Usage::Initial),
+        "station" => Some(Usage::Station(to_u16(found.sid)?)),
+        _ => None,
+    }
+}
+
+#[tactic(auto, unfolding(crate::specs::Seen::seen_reserve))]
+fn reserve(found: &Found<'_>) -> Option<Call>
+    ensures { result ≡ seen_reserve (seen_of found.now) }
+{
+    let (Some(usage), Some(slots)) = (usage(found), to_u32(found.ranging_so_far().slots)) else {
+        return None;
+    };
+    Some(Call::Reserve { usage, slots })
+}
+
+#[tactic(auto, unfolding(crate::specs::Seen::seen_header))]
+fn header(found: &Found<'_>) -> Option<Call>
+    ensures { result ≡ seen_header (seen_of found.now) }
+{
+    let ranging = found.ranging_so_far();
+    Some(Call::Header(Header {
+        ucd_count: ranging.ucd_count?,
+        ranging_start: ranging.ranging_start?,
+        ranging_end: ranging.ranging_end?,
+        data_start: ranging.data_start?,
+        data_end: ranging.data_end?,
+    }))
+}
+
 /// The call that the members make, by its name.
 #[tactic(auto, unfolding(crate::specs::Seen::seen_call))]
 pub(crate) fn made(found: &Found<'_>) -> Option<Call>
@@ -151,6 +222,8 @@ pub(crate) fn made(found: &Found<'_>) -> Option<Call>
         "build" => build(found),
         "skip" => skip(found),
         "status" => status(found),
+        "reserve" => reserve(found),
+        "header" => header(found),
         _ => None,
     }
 }

@@ -9,12 +9,12 @@ ghost use Rattle.serde_json.specs.Find.{get};
 ghost use Rattle.serde_json.specs.Read.{of_json, of_members, converted};
 ghost use Rattle.json_fields.specs.Plain.{data_of, members_of};
 ghost use Rattle.call_reading.specs.Calls.{call_of};
-ghost use Rattle.call_reading.specs.Field.{key_of, NotesMember};
-ghost use Rattle.call_reading.specs.Seen.{seen_of, seen_in, seen_with};
+ghost use Rattle.call_reading.specs.Field.{ranging_key, key_of, NotesMember};
+ghost use Rattle.call_reading.specs.Seen.{seen_of, seen_in, seen_with, IsNoted};
 
-use super::field::{Field, known_field, other_field, read_name};
+use super::field::{Field, RangingField, known_field, other_field, read_name};
 use super::flow::flow_of;
-use super::found::{Found, made};
+use super::found::{Found, Ranging, made, to_u8};
 use byte_tokens::Quick;
 use json_fields::{Plain, Stop};
 use sched_history::Call;
@@ -108,6 +108,47 @@ pub(crate) fn read_flat<'a>(
     Ok(Plain::Object(members))
 }
 
+// Reads the value of a field of ranging, and notes it.
+fn read_ranging_value<'a>(
+    reader: &mut Quick<'a>,
+    field: RangingField,
+    ranging: &mut Ranging<'a>,
+) -> Result<(), Stop>
+    ensures is { OnOk result ((d : Data)
+        × ((depth : ℕ) → converted of_json (value depth reader.old) ≡ Some (d, reader.new))
+        × IsNoted (ranging_key field) d ranging.old ranging.new) }
+    ensures shorter { OnOk result (length reader.new < length reader.old) }
+{
+    match field {
+        RangingField::Usage => ranging.usage = Some(read_text(reader)?),
+        RangingField::Slots => ranging.slots = Some(read_number(reader)?),
+        RangingField::UcdCount => ranging.ucd_count = to_u8(Some(read_number(reader)?)),
+        RangingField::RangingStart => ranging.ranging_start = to_u8(Some(read_number(reader)?)),
+        RangingField::RangingEnd => ranging.ranging_end = to_u8(Some(read_number(reader)?)),
+        RangingField::DataStart => ranging.data_start = to_u8(Some(read_number(reader)?)),
+        RangingField::DataEnd => ranging.data_end = to_u8(Some(read_number(reader)?)),
+    }
+    Ok(())
+}
+
+// Reads the value of a field of ranging, and notes it among the others. Compiled once, apart: most calls have none.
+#[inline(never)]
+fn read_ranging_member<'a>(
+    reader: &mut Quick<'a>,
+    field: RangingField,
+    found: &mut Found<'a>,
+) -> Result<(), Stop>
+    ensures is { OnOk result ((d : Data)
+        × ((depth : ℕ) → converted of_json (value depth reader.old) ≡ Some (d, reader.new))
+        × (seen_of found.new ≡ seen_with (ranging_key field) d (seen_of found.old))) }
+    ensures shorter { OnOk result (length reader.new < length reader.old) }
+{
+    let mut ranging = found.ranging_so_far();
+    read_ranging_value(reader, field, &mut ranging)?;
+    found.ranging = Some(ranging);
+    Ok(())
+}
+
 // Reads the value of a field, and notes it.
 #[inline(always)]
 fn read_member<'a>(
@@ -134,6 +175,7 @@ fn read_member<'a>(
             let value = read_flat(alloc, reader, depth)?;
             found.flow = flow_of(&value);
         }
+        Field::Ranging(field) => read_ranging_member(reader, field, found)?,
     }
     Ok(())
 }

@@ -15,7 +15,8 @@ use json_fields::{Stop, read_number, read_plain, read_text, skip_plain};
 use sched_history::Call;
 use std::alloc::Global;
 
-// Reads the value under a key, and notes it where a call may have it. None stands under `config`.
+// Reads the value under a key, and notes it where a call may have it. None stands under `config`, nor under a key that
+// only a call of ranging has.
 fn read_member<'a>(
     alloc: Global,
     reader: &mut Reader<'a>,
@@ -40,6 +41,8 @@ fn read_member<'a>(
             let value = read_plain(alloc, reader, depth)?;
             found.flow = flow_of(&value);
         }
+        "usage" | "slots" | "ucd_count" | "ranging_start" => return Err(Stop::Unusual),
+        "ranging_end" | "data_start" | "data_end" => return Err(Stop::Unusual),
         "config" => return Err(Stop::Unusual),
         _ => skip_plain(reader, depth)?,
     }

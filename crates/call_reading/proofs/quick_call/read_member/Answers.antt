@@ -37,3 +37,9 @@ pub returns-in_ok-read_number-in-Time-clause-is : goal.returns-in_ok-read_number
 returns-in_ok-read_number-in-Time-clause-is c =
     let n = c.in_ok-read_number-in-Time.field-0 in
     (number (unsigned n), c.in_ok-read_number-in-Time.ensures.is c.args.depth, rw c.in-Time.is refl)
+
+pub returns-in_ok-read_ranging_member-in-Ranging-clause-is :
+    goal.returns-in_ok-read_ranging_member-in-Ranging-clause-is
+returns-in_ok-read_ranging_member-in-Ranging-clause-is c =
+    let read = c.in_ok-read_ranging_member-in-Ranging.ensures.is in
+    (read.0, read.1 c.args.depth, rw c.in-Ranging.is read.2)
