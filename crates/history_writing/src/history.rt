@@ -24,7 +24,7 @@ use sched_history::Entry;
 use std::alloc::{AllocError, Global};
 use text_stream::{Sink, TextFault, put};
 
-// Writes the members of a stamp. It stands apart from the entry, so that the compiler counts it as often done.
+// Writes the members of a stamp: apart from the entry, at whose end the compiler takes them for rarely written.
 fn put_stamp(out: &mut Writer, stamp: Stamp) -> Result<(), AllocError>
     ensures ok { OnOk result (out.new.tokens ≡ out.old.tokens
         ++ (numbered (codes "seat") stamp.seat ++ numbered (codes "ticket") stamp.ticket)) }

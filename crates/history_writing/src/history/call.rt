@@ -186,7 +186,6 @@ fn put_heard(out: &mut Writer, receiver: u8, upto: u64) -> Result<(), AllocError
 }
 
 // Writes a call that has this name and one whole number.
-#[inline(always)]
 fn put_numbered(out: &mut Writer, name: &str, key: &str, number: u64) -> Result<(), AllocError>
     ensures ok { OnOk result (out.new.tokens
         ≡ out.old.tokens ++ tokens_of (object (member (codes "call") (string name.now)
@@ -197,42 +196,6 @@ fn put_numbered(out: &mut Writer, name: &str, key: &str, number: u64) -> Result<
     put_name(out, "call", name)?;
     put_count(out, key, number)?;
     out.end_object()
-}
-
-#[tactic(auto, unfolding(crate::specs::Json::call_data))]
-fn put_remove(out: &mut Writer, sid: u16) -> Result<(), AllocError>
-    ensures ok { OnOk result
-        (out.new.tokens ≡ out.old.tokens ++ tokens_of (call_data (Call.Remove sid))) }
-    ensures before { out.new.before ≡ out.old.before }
-{
-    put_numbered(out, "remove", "sid", sid as u64)
-}
-
-#[tactic(auto, unfolding(crate::specs::Json::call_data))]
-fn put_build(out: &mut Writer, now: u64) -> Result<(), AllocError>
-    ensures ok { OnOk result
-        (out.new.tokens ≡ out.old.tokens ++ tokens_of (call_data (Call.Build now))) }
-    ensures before { out.new.before ≡ out.old.before }
-{
-    put_numbered(out, "build", "now", now)
-}
-
-#[tactic(auto, unfolding(crate::specs::Json::call_data))]
-fn put_skip(out: &mut Writer, now: u64) -> Result<(), AllocError>
-    ensures ok { OnOk result
-        (out.new.tokens ≡ out.old.tokens ++ tokens_of (call_data (Call.Skip now))) }
-    ensures before { out.new.before ≡ out.old.before }
-{
-    put_numbered(out, "skip", "now", now)
-}
-
-#[tactic(auto, unfolding(crate::specs::Json::call_data))]
-fn put_status(out: &mut Writer, sid: u16) -> Result<(), AllocError>
-    ensures ok { OnOk result
-        (out.new.tokens ≡ out.old.tokens ++ tokens_of (call_data (Call.Status sid))) }
-    ensures before { out.new.before ≡ out.old.before }
-{
-    put_numbered(out, "status", "sid", sid as u64)
 }
 
 #[tactic(auto, unfolding(crate::specs::Json::call_data))]
@@ -259,7 +222,7 @@ pub fn put_call(out: &mut Writer, call: Call) -> Result<(), AllocError>
 {
     match call {
         Call::Admit(sid, flow) => put_admit(out, sid, flow),
-        Call::Remove(sid) => put_remove(out, sid),
+        Call::Remove(sid) => put_numbered(out, "remove", "sid", sid as u64),
         Call::Ask {
             receiver,
             sid,
@@ -267,9 +230,9 @@ pub fn put_call(out: &mut Writer, call: Call) -> Result<(), AllocError>
             heard,
         } => put_ask(out, receiver, sid, bytes, heard),
         Call::Heard { receiver, upto } => put_heard(out, receiver, upto),
-        Call::Build { now } => put_build(out, now),
-        Call::Skip { now } => put_skip(out, now),
-        Call::Status(sid) => put_status(out, sid),
+        Call::Build { now } => put_numbered(out, "build", "now", now),
+        Call::Skip { now } => put_numbered(out, "skip", "now", now),
+        Call::Status(sid) => put_numbered(out, "status", "sid", sid as u64),
         Call::Reserve { usage, slots } => put_reserve(out, usage, slots),
         Call::Header(header) => put_header(out, header),
     }

@@ -82,7 +82,6 @@ fn put_refused(out: &mut Writer, number: u64, value: Option<u64>) -> Result<(), 
 }
 
 // Writes a kind that says nothing more.
-#[inline(always)]
 #[tactic(auto, unfolding(crate::specs::Json::plain_data))]
 fn put_plain(out: &mut Writer, kind: &str) -> Result<(), AllocError>
     ensures ok { OnOk result (out.new.tokens ≡ out.old.tokens ++ tokens_of (plain_data kind.now)) }
