@@ -1,4 +1,4 @@
-//! One reply of a history in its usual spelling, read from its bytes: its members stand in ascending order, with no other
+//! One reply of a history in its usual spelling, read from its bytes: its members stand in ascending order, with none
 //! between them.
 
 ghost use Rattle.std.specs.Prelude.{◌≡◌, ◌^◌, ◌<◌, ℕ, codes, Some, IfOk, IfSome, length};
