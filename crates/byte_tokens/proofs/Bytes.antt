@@ -3,7 +3,8 @@ use Rattle.std.proofs.Common.{◌≡◌, ◌+◌, ◌*◌, ◌-◌, ◌/◌, ◌
 use Rattle.std.proofs.Common.{length, take, drop, get_or}
 use Rattle.std.proofs.Common.{decimal, sym, ap, ◌∙◌, subst, arith, drop-cons, add-one, append_assoc}
 use Rattle.std.proofs.Common.{inl, inr, lit<}
-use Rattle.std.proofs.lemmas.List.{take_more, get_or-drop, drop-drop, take-append-drop, length-drop, length-take-le, get_or-take}
+use Rattle.std.proofs.lemmas.List.{take_more, get_or-drop, drop-drop, take-append-drop, length-drop, length-take-le}
+use Rattle.std.proofs.lemmas.List.{get_or-take}
 use Rattle.std.proofs.lemmas.Fmt.{decimal_step, decimal_digit}
 use Rattle.std.proofs.lemmas.Bool.{cases_lt}
 use Rattle.std.proofs.Math.Nat.{pow-suc, pow-le-pow_right}
@@ -74,8 +75,8 @@ pub digit_more : (text : List ℕ) (from at n : ℕ) → at < length text → 0 
     → drop from text ≡ decimal n ++ drop at text
     → drop from text ≡ decimal (n * 10 + (get_or text at 0 - 48)) ++ drop (at + 1) text
 digit_more text from at n within some low high fits before =
-    before ∙ digit_behind n (get_or text at 0) (drop at text) (drop (at + 1) text) (next_byte text at within) some low high
-    fits
+    before ∙ digit_behind n (get_or text at 0) (drop at text) (drop (at + 1) text) (next_byte text at within) some low
+    high fits
 
 -- one digit more of a number of at most 19
 pub digit_put : (text : List ℕ) (from at n : ℕ) → from < at → at < length text
@@ -153,7 +154,8 @@ word_there text word at within same =
     let xs = drop at text in
     let count : length (take n xs) ≡ n = length-take-le n xs (rw length-drop (omega arith)) in
     let front : take n xs ≡ word = same_number_lists (take n xs) word count
-    (λ k few. get_or-take n xs k 0 (omega (arith, few, count)) ∙ get_or-drop at text k 0 ∙ same k (omega (arith, few, count))) in
+    (λ k few. get_or-take n xs k 0 (omega (arith, few, count)) ∙ get_or-drop at text k 0
+    ∙ same k (omega (arith, few, count))) in
     sym (take-append-drop n xs) ∙ (λ i. front i ++ drop-drop n at text i)
 
 -- a word that stands at a place of the bytes of a text stands there in the text

@@ -15,8 +15,8 @@ digit_low x digit = grind arith
 -- a digit is no quote, no backslash and no control
 digit_plain : (x : ℕ) → IsDigit x → escape_byte x ≡ x ∷ []
 digit_plain x digit =
-    escape_byte_plain x (λ e. true≢false (sym digit ∙ ap is_hex_digit e)) (λ e. true≢false (sym digit ∙ ap is_hex_digit e))
-    (digit_low x digit)
+    escape_byte_plain x (λ e. true≢false (sym digit ∙ ap is_hex_digit e))
+    (λ e. true≢false (sym digit ∙ ap is_hex_digit e)) (digit_low x digit)
 
 -- digits have no escape
 pub digits_plain : (s : List ℕ) → AllPass is_hex_digit s → escape s ≡ s

@@ -205,8 +205,8 @@ impl<'a> Quick<'a> {
         Some(found)
     }
 
-    /// Takes the key that is spelled so, in quotes and with its colon, if it is next. Where the spelling is known when it
-    /// is compiled, and has at most 14 bytes, this costs a few comparisons.
+    /// Takes the key that is spelled so, in quotes and with its colon, if it is next. Where the spelling is known when
+    /// it is compiled, and has at most 14 bytes, this costs a few comparisons.
     #[inline(always)]
     pub fn take_spelled_key(&mut self, spelled: &str) -> bool
         ensures { MatchBool result ((name : List ℕ) → escape name ≡ name

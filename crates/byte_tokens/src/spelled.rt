@@ -22,8 +22,8 @@ fn same_four(a: &[u8], i: usize, b: &[u8], j: usize) -> bool
     (a[i] == b[j]) & (a[i + 1] == b[j + 1]) & (a[i + 2] == b[j + 2]) & (a[i + 3] == b[j + 3])
 }
 
-// Whether a word of 4 to 12 bytes stands at a place before the end. Parts of four bytes, which may overlap, cover it, so
-// that a word that is known is compared in two or three steps.
+// Whether a word of 4 to 12 bytes stands at a place before the end. Parts of four bytes, which may overlap, cover it,
+// so that a word that is known is compared in two or three steps.
 #[inline(always)]
 fn same_parts(text: &[u8], at: usize, word: &[u8]) -> bool
     requires few { (4 ≤ length word.now) × (length word.now ≤ 12) }

@@ -33,19 +33,22 @@ plain_key Time = refl
 plain_key Flow = refl
 plain_key (Ranging field) = plain_ranging_key field
 
--- nor of a name of a call
+-- nor of the name of a request
 pub plain_ask : escape (codes "ask") ≡ codes "ask"
 unfolding escape_byte
 plain_ask = refl
 
+-- nor of the name of a build
 pub plain_build : escape (codes "build") ≡ codes "build"
 unfolding escape_byte
 plain_build = refl
 
+-- nor of the name of progress
 pub plain_heard : escape (codes "heard") ≡ codes "heard"
 unfolding escape_byte
 plain_heard = refl
 
+-- nor of the name of a status
 pub plain_status : escape (codes "status") ≡ codes "status"
 unfolding escape_byte
 plain_status = refl

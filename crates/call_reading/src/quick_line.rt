@@ -27,8 +27,8 @@ fn read_alone(alloc: Global, reader: &mut Quick<'_>) -> Result<Call, Stop>
     Ok(call)
 }
 
-/// The call that a text is in its usual spelling, with no space but one behind a comma or a colon, and no escape. It has
-/// no member that no call has, so none is a configuration. Any other text is not read.
+/// The call that a text is in its usual spelling, with no space but one behind a comma or a colon, and no escape. It
+/// has no member that no call has, so none is a configuration. Any other text is not read.
 pub fn read_quick_line(alloc: Global, bytes: &[u8]) -> Result<Call, Stop>
     ensures { IfOk result (λ call. (d : Data) × (value_of bytes.now ≡ Ok d) × StandsAlone d call) }
 {

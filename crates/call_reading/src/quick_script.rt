@@ -101,8 +101,8 @@ fn read_document(alloc: Global, reader: &mut Quick<'_>) -> Result<(Config, Vec<C
 }
 
 /// The configuration and the calls of a script in its usual spelling: its configuration stands first, then its calls,
-/// with no space but one behind a comma or a colon, no escape and no other member, and a line feed may end it. Any other
-/// text is not read, nor is one where memory runs out.
+/// with no space but one behind a comma or a colon, no escape and no other member, and a line feed may end it. Any
+/// other text is not read, nor is one where memory runs out.
 pub fn read_quick_script(alloc: Global, bytes: &[u8]) -> Result<(Config, Vec<Call>), Stop>
     ensures { IfOk result (λ r. (d : Data) × (value_of bytes.now ≡ Ok d)
         × IsDocument (λ d calls. IsListOf (λ d call. call_of d ≡ Some call) d calls.items)

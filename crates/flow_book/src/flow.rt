@@ -226,7 +226,8 @@ impl Flow {
         ensures live { live self.new
             ≡ with_grant (record { start = start; bytes = bytes }) (live self.old) }
         ensures room { (room_in self.new).grants + 1 ≡ (room_in self.old).grants }
-        ensures sums { (c : Config) → self.old.granted ≡ granted (live self.old) → KnowsTurn self.old
+        ensures sums { (c : Config)
+            → self.old.granted ≡ granted (live self.old) → KnowsTurn self.old
             → StandsFor c (rate_of self.old.spec) (burst_of self.old.spec) self.old.bucket
             (self.old.grants.items ++ record { start = start; bytes = bytes } ∷ [])
             → KeepsSums c self.new }

@@ -156,18 +156,22 @@ pub plain_made : (kind name : List ℕ) (reply : Reply) → bytes_eq kind name �
     → reply_of (object (of_kind name)) ≡ Some reply → reply_of (object (of_kind kind)) ≡ Some reply
 plain_made kind name reply same is = rw ((bytes_eq-Decides kind name).0 same) is
 
+-- a flow that was removed
 pub removed_made : reply_of (object (of_kind (codes "removed"))) ≡ Some Removed
 unfolding reply_of text_at
 removed_made = refl
 
+-- a request that was taken
 pub taken_made : reply_of (object (of_kind (codes "taken"))) ≡ Some Taken
 unfolding reply_of text_at
 taken_made = refl
 
+-- progress that was noted
 pub noted_made : reply_of (object (of_kind (codes "noted"))) ≡ Some Noted
 unfolding reply_of text_at
 noted_made = refl
 
+-- an opportunity that was reserved
 pub reserved_made : reply_of (object (of_kind (codes "reserved"))) ≡ Some Reserved
 unfolding reply_of text_at
 reserved_made = refl

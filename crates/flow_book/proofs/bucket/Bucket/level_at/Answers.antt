@@ -6,7 +6,8 @@ use Rattle.flow_book.proofs.bucket.Bucket.level_at.Goals as goal
 
 pub returns-clause-least : goal.returns-clause-least
 returns-clause-least c = λ channel rate burst grants stands started.
-    let value : c.from.result ≡ level_of c.args.self.now c.args.slot = omega (arith, c.level.ensures, c.from.ensures) in (
+    let value : c.from.result ≡ level_of c.args.self.now c.args.slot =
+    omega (arith, c.level.ensures, c.from.ensures) in (
       (λ limited. rw value (stands.level limited c.args.slot started)),
       (λ none. value ∙ nothing-unlimited channel rate burst c.args.self.now grants stands c.args.slot none),
     )

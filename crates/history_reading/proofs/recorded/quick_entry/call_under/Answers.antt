@@ -11,6 +11,7 @@ returns c =
     let key : read_key ts ≡ Some (Some (codes "call"), s) = grind arith in
     let is = c.in_ok-call.ensures.is in (
       is.0,
-      member_of c.args.depth (codes "call") is.0 ts s c.read_quick_call.new.reader key is.1 c.in_ok-call.ensures.shorter,
+      member_of c.args.depth (codes "call") is.0 ts s c.read_quick_call.new.reader key is.1
+          c.in_ok-call.ensures.shorter,
       is.2,
     )

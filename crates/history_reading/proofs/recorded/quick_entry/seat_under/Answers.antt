@@ -9,6 +9,7 @@ pub returns : goal.returns
 returns c =
     let same : c.in_ok-number.number ≡ c.in-Ok.seat = grind arith in (
       omega arith,
-      λ depth. subst (λ n. IsMember depth (codes "seat") (number (unsigned n)) c.args.reader.now c.number_under.new.reader)
+      λ depth. subst
+          (λ n. IsMember depth (codes "seat") (number (unsigned n)) c.args.reader.now c.number_under.new.reader)
           same (c.in_ok-number.ensures.1 depth),
     )

@@ -19,8 +19,8 @@ returns c =
     let one = c.in_ok-config.ensures.is in
     let two = c.in_ok-entries.ensures.is in
     let ms = put (codes "entries") two.1 (put (codes "config") one.1 no_members) in
-    let all = two_members s one.0 c.read_config.new.reader two.0 v r (codes "config") (codes "entries") one.1 two.1 one.2
-    one.3 c.in_ok-config.ensures.shorter two.2 two.3 c.in_ok-entries.ensures.shorter end in (
+    let all = two_members s one.0 c.read_config.new.reader two.0 v r (codes "config") (codes "entries") one.1 two.1
+    one.2 one.3 c.in_ok-config.ensures.shorter two.2 two.3 c.in_ok-entries.ensures.shorter end in (
       object ms,
       document_read ts s ms is (all ∙ ap (λ r. Some (ms, r)) over),
       record { config_is = one.4; listed = two.1; listed_is = refl; stands = two.4 },

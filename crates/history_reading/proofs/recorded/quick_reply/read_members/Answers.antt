@@ -16,7 +16,8 @@ returns-in_ok-reply-in-kind c =
     let rest = c.in_ok-reply-in-kind.ensures in
     record {
       all = _;
-      are = members_then (member_of c.args.depth (codes "kind") (string c.in_ok-kind-in-kind.kind.now) ts s c.read_text.new.reader
+      are = members_then (member_of c.args.depth (codes "kind") (string c.in_ok-kind-in-kind.kind.now) ts s
+          c.read_text.new.reader
           (key_named k (codes "kind") ts s same key) (read.is c.args.depth) read.shorter) rest.are;
       makes = rest.makes;
     }
@@ -32,7 +33,8 @@ returns-in_ok-reply-in-ack c =
     let rest = c.in_ok-reply-in-ack.ensures in
     record {
       all = _;
-      are = members_then (member_of c.args.depth (codes "ack") (number (unsigned c.in_ok-ack-in-ack.ack)) ts s c.read_number.new.reader
+      are = members_then (member_of c.args.depth (codes "ack") (number (unsigned c.in_ok-ack-in-ack.ack)) ts s
+          c.read_number.new.reader
           (key_named k (codes "ack") ts s same key) (read.is c.args.depth) read.shorter) rest.are;
       makes = rest.makes;
     }
@@ -48,7 +50,8 @@ returns-in_ok-reply-in-asked c =
     let rest = c.in_ok-reply-in-asked.ensures c.args.depth in
     record {
       all = _;
-      are = members_then (member_of c.args.depth (codes "asked") (number (unsigned c.in_ok-asked-in-asked.asked)) ts s c.read_number-in-asked.new.reader
+      are = members_then (member_of c.args.depth (codes "asked") (number (unsigned c.in_ok-asked-in-asked.asked)) ts s
+          c.read_number-in-asked.new.reader
           (key_named k (codes "asked") ts s same key) (read.is c.args.depth) read.shorter) rest.are;
       makes = rest.makes;
     }
