@@ -38,7 +38,8 @@ fn before(bits: &Bits, behind: u64, start: u64, most: u16) -> u64
     u64::from(most)
 }
 
-// A bound of the free minislots in a row, with those from `start` to before `end` now free, where it was `most`.
+// A bound of the free minislots in a row, with those from `start` to before `end` now free, where it was `most`. One of
+// the frame's length says nothing yet.
 fn widened(bits: &Bits, config: &Checked, start: u64, end: u64, most: u16) -> u16
     requires end { start ≤ end }
     requires end_most { end < 2 ^ 32 }
@@ -47,10 +48,14 @@ fn widened(bits: &Bits, config: &Checked, start: u64, end: u64, most: u16) -> u1
         → HaveAtMost config.now old most → HaveAtMost config.now bits.now.words result }
 {
     let frame = u64::from(config.frame());
+    let known = u64::from(most);
+    if known >= frame {
+        return most;
+    }
     let reached = before(bits, u64::from(config.req_slots()), start, most);
     let taken = bits.next_taken(end.min(1024)).min(frame);
     let widest = reached + taken.saturating_sub(start);
-    widest.max(u64::from(most)).min(1024) as u16
+    widest.max(known).min(1024) as u16
 }
 
 // Marks the minislots from `start` to before `end` as taken, or as free, and keeps the bound.

@@ -5,6 +5,10 @@ use Rattle.periodic.specs.Rows.{HaveAtMost}
 use Rattle.periodic.proofs.Bounding.{freed-bounded}
 use Rattle.periodic.proofs.widest.widened.Goals as goal
 
+pub returns-then-known-frame : goal.returns-then-known-frame
+returns-then-known-frame c = λ old outer bounded start slots after within clear.
+    omega (arith, within, c.if-known-frame.true, c.from-known.ensures, c.from-frame.ensures, c.frame.ensures.value)
+
 pub returns : goal.returns
 returns c = λ old outer bounded.
     let config = c.args.config.now in
@@ -18,8 +22,8 @@ returns c = λ old outer bounded.
     let more : c.saturating_sub.result ≡ min next config.frame - start =
     c.saturating_sub.ensures ∙ ap (λ n. n - start) taken in
     let wide : c.max.result ≡ max (reached + (min next config.frame - start)) c.args.most =
-    c.max.ensures ∙ ap (λ n. max (reached + n) c.from-2.result) more
-    ∙ ap (max (reached + (min next config.frame - start))) c.from-2.ensures in
+    c.max.ensures ∙ ap (λ n. max (reached + n) c.from-known.result) more
+    ∙ ap (max (reached + (min next config.frame - start))) c.from-known.ensures in
     let whole : c.min-2.result ≡ min (max (reached + (min next config.frame - start)) c.args.most) 1024 =
     c.min-2.ensures ∙ ap (λ n. min n 1024) wide in
     subst (HaveAtMost config words) (sym whole)
