@@ -34,7 +34,7 @@ abbrev pub HaveAtMost : Config → List ℕ → ℕ → Type 0
 HaveAtMost c words most = (start slots : ℕ) → c.req_slots ≤ start → start + slots ≤ c.frame
     → IsClear words start slots → slots ≤ most
 
--- nor in each frame of the cycle
+-- these are such numbers for the frames of the cycle
 abbrev pub AreBounds : Config → List Bits → List ℕ → Type 0
 AreBounds c rows most = (place : ℕ) → place < c.cycle → HaveAtMost c (row_at c rows place) (get_or most place 0)
 
