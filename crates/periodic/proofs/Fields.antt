@@ -19,10 +19,9 @@ use Rattle.periodic.specs.Fields.{placed_of, KeepsTimes, IsSoundFlow, AreSoundFl
 use Rattle.periodic.proofs.Frames.{spots-few}
 
 -- the flows of a sound table are sound
-pub sound-flows : (c : Config) (flows : List PlacedFlow) (rows : List Bits) (grants : ℕ)
-    → AreSoundFields c flows rows grants
-    → AreSoundFlows c flows
-sound-flows c flows rows grants are = record {
+pub sound-flows : (c : Config) (flows : List PlacedFlow) (rows : List Bits) (most : List ℕ)
+    (grants : ℕ) → AreSoundFields c flows rows most grants → AreSoundFlows c flows
+sound-flows c flows rows most grants are = record {
   each = are.sound.each;
   times = are.times;
   most = are.sound.most;

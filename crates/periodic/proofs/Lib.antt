@@ -24,3 +24,4 @@ pub mod Summed
 pub mod Seeking
 pub mod Marking
 pub mod Standing
+pub mod Bounding

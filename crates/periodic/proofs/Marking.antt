@@ -1,17 +1,28 @@
 -- The bits of a flow's spots are marked, frame after frame.
 use Rattle.std.proofs.Common.{◌≡◌, refl, sym, ◌∙◌, subst, ℕ, ◌+◌, ◌%◌, ◌<◌, ◌≤◌, ◌⊎◌, List, [], ◌∷◌, ◌++◌}
-use Rattle.std.proofs.Common.{length, get_or, set, inl, inr, arith}
+use Rattle.std.proofs.Common.{length, get_or, set, replicate, inl, inr, arith}
 use Rattle.std.proofs.lemmas.Bool.{cases_lt}
 use Rattle.std.proofs.lemmas.Grind.{get_or-set_at}
-use Rattle.std.proofs.lemmas.List.{get_or-set_other, length-set}
+use Rattle.std.proofs.lemmas.List.{get_or-set_other, get_or-replicate, length-set, length-replicate}
 use Rattle.minislots.specs.declared.config.Config.{Config}
 use Rattle.periodic.specs.declared.bits.Bits.{Bits}
 use Rattle.periodic.specs.declared.placement.Spot.{Spot}
 use Rattle.periodic.specs.Bits.{bit_of}
 use Rattle.periodic.specs.Placement.{Placed, spots_of}
-use Rattle.periodic.specs.Rows.{no_bits, row_at, IsOutside, HasBits, AreMarked, AreMarkedTo}
+use Rattle.periodic.specs.Rows.{no_bits, row_at, IsOutside, HasBits, AreRowsOf, AreMarked, AreMarkedTo}
 use Rattle.periodic.proofs.Frames.{spots_of-place}
 use Rattle.periodic.proofs.Joined.{all-append, all-left, all-right, all-weaker}
+
+-- rows of free minislots tell of no flow
+pub none-told : (c : Config) (row : Bits) (n : ℕ) → n ≡ c.cycle → 0 < c.cycle → ((m : ℕ) → bit_of row.words m ≡ 0)
+    → AreRowsOf c [] (replicate n row)
+none-told c row n long some free = record {
+  long = length-replicate n row ∙ long;
+  each = λ k. record {
+    free = λ m lt clear. tt;
+    clear = λ m lt out. rw (row_at, get_or-replicate n (k % c.cycle) row no_bits (omega (arith, long))) (free m);
+  };
+}
 
 -- nothing is marked yet
 pub none-marked : (bit : ℕ) (words : List ℕ) → AreMarked [] bit words words

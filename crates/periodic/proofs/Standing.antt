@@ -18,7 +18,7 @@ use Rattle.periodic.specs.declared.bits.Bits.{Bits}
 use Rattle.periodic.specs.declared.spots.PlacedFlow.{PlacedFlow}
 use Rattle.periodic.specs.Placement.{Placed, spots_of}
 use Rattle.periodic.specs.Table.{placed_grants, IsPlaced, placed_at, with_placed, without, AreSound}
-use Rattle.periodic.specs.Rows.{row_at, AreMarked}
+use Rattle.periodic.specs.Rows.{row_at, AreMarked, AreBounds}
 use Rattle.periodic.specs.Fields.{placed_of, placement_at, KeepsTimes, AreSoundFields}
 use Rattle.periodic.proofs.Occupied.{tells-with}
 use Rattle.periodic.proofs.Vacated.{tells-without}
@@ -93,13 +93,14 @@ marked-for c k bit g f given rows new is same marked =
     (subst (λ bs. AreMarked (spots_of c k (placed_of g)) bit (row_at c bs k) (row_at c new k)) same marked)
 
 module _ (c : Config) (items new : List PlacedFlow) (rows marked : List Bits) (f : Placed)
-    (before grants : ℕ) (are : AreSoundFields c items rows before) (long : length marked ≡ c.cycle) where
+    (most bounds : List ℕ) (before grants : ℕ) (are : AreSoundFields c items rows most before)
+    (long : length marked ≡ c.cycle) (bounded : AreBounds c marked bounds) where
   -- with one flow more, whose minislots are marked as taken, the fields are sound
   pub fields-with : map placed_of new ≡ with_placed f (map placed_of items)
       → AreSound c (with_placed f (map placed_of items))
       → AllByRecursion (KeepsTimes c) new
       → ((k : ℕ) → AreMarked (spots_of c k f) 1 (row_at c rows k) (row_at c marked k))
-      → grants ≡ placed_grants (with_placed f (map placed_of items)) → AreSoundFields c new marked grants
+      → grants ≡ placed_grants (with_placed f (map placed_of items)) → AreSoundFields c new marked bounds grants
   fields-with is sound times marks sum = record {
     sound = rw is sound;
     times = times;
@@ -108,6 +109,7 @@ module _ (c : Config) (items new : List PlacedFlow) (rows marked : List Bits) (f
       each = λ k. rw is (tells-with c k f (map placed_of items) (row_at c rows k) (row_at c marked k) (are.told.each k)
           (marks k));
     };
+    bounded = bounded;
     summed = rw is sum;
   }
 
@@ -116,7 +118,7 @@ module _ (c : Config) (items new : List PlacedFlow) (rows marked : List Bits) (f
       → find (λ g. g.sid == sid) (map placed_of items) ≡ Some f
       → AllByRecursion (KeepsTimes c) new
       → ((k : ℕ) → AreMarked (spots_of c k f) 0 (row_at c rows k) (row_at c marked k))
-      → grants ≡ placed_grants (without sid (map placed_of items)) → AreSoundFields c new marked grants
+      → grants ≡ placed_grants (without sid (map placed_of items)) → AreSoundFields c new marked bounds grants
   fields-without sid is found times marks sum = record {
     sound = rw is (sound-filter c (λ g. not (g.sid == sid)) (map placed_of items) are.sound);
     times = times;
@@ -125,5 +127,6 @@ module _ (c : Config) (items new : List PlacedFlow) (rows marked : List Bits) (f
       each = λ k. rw is (tells-without c k sid f (map placed_of items) (row_at c rows k) (row_at c marked k) found
           are.sound.ascending (are.sound.apart k) (are.told.each k) (marks k));
     };
+    bounded = bounded;
     summed = rw is sum;
   }

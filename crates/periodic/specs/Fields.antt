@@ -10,7 +10,7 @@ use Rattle.periodic.specs.declared.bits.Bits.{Bits}
 use Rattle.periodic.specs.declared.spots.PlacedFlow.{PlacedFlow}
 use Rattle.periodic.specs.Placement.{Placed, phase_of}
 use Rattle.periodic.specs.Table.{placed_grants, IsSoundPlaced, AreSound}
-use Rattle.periodic.specs.Rows.{AreRowsOf}
+use Rattle.periodic.specs.Rows.{AreRowsOf, AreBounds}
 
 -- the placement of this reference and these starts
 abbrev pub placement_at : ℕ → List ℕ → Placement
@@ -44,8 +44,10 @@ pub record AreSoundFlows (c : Config) (flows : List PlacedFlow) : Type 0 where
   pub most : placed_grants (placed_in flows) ≤ MAX_PERIODIC_GRANTS
 
 -- What is true of the fields of every table
-pub record AreSoundFields (c : Config) (flows : List PlacedFlow) (rows : List Bits) (grants : ℕ) : Type 0 where
+pub record AreSoundFields (c : Config) (flows : List PlacedFlow) (rows : List Bits) (most : List ℕ) (grants : ℕ)
+    : Type 0 where
   pub sound : AreSound c (placed_in flows)
   pub times : AllByRecursion (KeepsTimes c) flows
   pub told : AreRowsOf c (placed_in flows) rows
+  pub bounded : AreBounds c rows most
   pub summed : grants ≡ placed_grants (placed_in flows)

@@ -4,7 +4,7 @@ use Rattle.std.specs.List.{AllByRecursion}
 use Rattle.minislots.specs.declared.config.Config.{Config}
 use Rattle.periodic.specs.declared.bits.Bits.{Bits}
 use Rattle.periodic.specs.declared.placement.Spot.{Spot}
-use Rattle.periodic.specs.Bits.{bit_of}
+use Rattle.periodic.specs.Bits.{bit_of, IsClear}
 use Rattle.periodic.specs.Placement.{Placed, spots_of, spots_in, AreFree}
 
 -- a row of no words
@@ -28,6 +28,15 @@ pub record TellsOf (spots : List Spot) (words : List ℕ) : Type 0 where
 pub record AreRowsOf (c : Config) (placed : List Placed) (rows : List Bits) : Type 0 where
   pub long : length rows ≡ c.cycle
   pub each : (k : ℕ) → TellsOf (spots_in c k placed) (row_at c rows k)
+
+-- in this frame no more free minislots than these stand in a row behind the request region
+abbrev pub HaveAtMost : Config → List ℕ → ℕ → Type 0
+HaveAtMost c words most = (start slots : ℕ) → c.req_slots ≤ start → start + slots ≤ c.frame
+    → IsClear words start slots → slots ≤ most
+
+-- these are such numbers for the frames of the cycle
+abbrev pub AreBounds : Config → List Bits → List ℕ → Type 0
+AreBounds c rows most = (place : ℕ) → place < c.cycle → HaveAtMost c (row_at c rows place) (get_or most place 0)
 
 -- the bits of the spot's minislots are this
 abbrev pub HasBits : ℕ → List ℕ → Spot → Type 0

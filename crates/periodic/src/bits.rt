@@ -93,8 +93,12 @@ impl Bits {
         ensures none_before { (m : ℕ) → from ≤ m → m < result → bit_of self.now.words m ≡ 0 }
         ensures is { result < 1024 → bit_of self.now.words result ≡ 1 }
     {
-        for place in from / 64..WORDS {
-            if let Some(taken) = first_set(self.words[place as usize], place, from) {
+        let first = (from / 64).min(WORDS - 1);
+        if let Some(taken) = first_set(self.words[first as usize], first, from) {
+            return taken;
+        }
+        for place in first + 1..WORDS {
+            if let Some(taken) = first_set(self.words[place as usize], place, 0) {
                 return taken;
             }
         }
@@ -109,8 +113,12 @@ impl Bits {
         ensures none_before { (m : ℕ) → from ≤ m → m < result → bit_of self.now.words m ≡ 1 }
         ensures is { result < 1024 → bit_of self.now.words result ≡ 0 }
     {
-        for place in from / 64..WORDS {
-            if let Some(free) = first_clear(self.words[place as usize], place, from) {
+        let first = (from / 64).min(WORDS - 1);
+        if let Some(free) = first_clear(self.words[first as usize], first, from) {
+            return free;
+        }
+        for place in first + 1..WORDS {
+            if let Some(free) = first_clear(self.words[place as usize], place, 0) {
                 return free;
             }
         }

@@ -8,6 +8,7 @@ mod row;
 mod search;
 mod spots;
 mod table;
+mod widest;
 
 pub use placement::{PlaceFault, Placement, Spot, Starts};
 pub use table::Table;

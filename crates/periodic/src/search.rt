@@ -8,7 +8,7 @@ ghost use Rattle.flow_book.specs.FlowSpec.{is_periodic, first_fault};
 ghost use Rattle.periodic.specs.declared.TheConstants.{MAX_STARTS};
 ghost use Rattle.periodic.specs.Placement.{Placed, NoPlacement};
 ghost use Rattle.periodic.specs.Table.{AreSound};
-ghost use Rattle.periodic.specs.Rows.{AreRowsOf};
+ghost use Rattle.periodic.specs.Rows.{AreRowsOf, AreBounds};
 ghost use Rattle.periodic.specs.Choice.{IsChosen};
 ghost use Rattle.periodic.specs.Search.{CanBeSought, IsWantedOf, IsFreeStart, IsNextStart, AreFirstIn, HasStartsAt};
 ghost use Rattle.periodic.specs.Search.{IsNextOffset};
@@ -19,6 +19,7 @@ use crate::MAX_STARTS;
 use crate::bits::Bits;
 use crate::row::Row;
 use crate::spots::{grants, interval, jitter, slots};
+use crate::widest::Widest;
 use flow_book::FlowSpec;
 use minislots::Checked;
 
@@ -191,22 +192,53 @@ fn found_at(
     None
 }
 
-// The first lawful starts at the least offset of the least phase.
-fn first_found(rows: &[Bits], config: &Checked, wanted: Wanted) -> Option<Found>
+// Keeps the bound that follows where a frame of this phase has no room for a grant: of the first such frame.
+fn learn(rows: &[Bits], widest: &mut Widest, config: &Checked, wanted: Wanted, phase: u64)
     requires long { length rows.now ≡ config.now.cycle }
     requires sought { CanBeSought config.now wanted }
+    requires phase { phase < wanted.interval }
+    requires bounded { AreBounds config.now rows.now widest.old.most }
+    ensures { AreBounds config.now rows.now widest.new.most }
+{
+    let frame = u64::from(config.frame());
+    let behind = u64::from(config.req_slots());
+    for index in 0..u64::from(config.cycle()) / wanted.interval {
+        let place = (phase + index * wanted.interval) as usize;
+        let Some(_) = next_start(&rows[place], frame, wanted.slots, behind) else {
+            widest.most[place] = (wanted.slots - 1) as u16;
+            return;
+        };
+    }
+}
+
+// The first lawful starts at the least offset of the least phase. A phase with a frame that is known to have no room
+// is turned away without a look at its bits.
+fn first_found(
+    rows: &[Bits],
+    widest: &mut Widest,
+    config: &Checked,
+    wanted: Wanted,
+) -> Option<Found>
+    requires long { length rows.now ≡ config.now.cycle }
+    requires sought { CanBeSought config.now wanted }
+    requires bounded { AreBounds config.now rows.now widest.old.most }
     ensures found { IfSome result (IsFirstFound config.now rows.now wanted) }
     ensures most { IfSome result (λ found. found.row.count ≤ MAX_STARTS) }
     ensures absent { IfNone result (NonePhase config.now rows.now wanted wanted.interval) }
+    ensures bounded { AreBounds config.now rows.now widest.new.most }
 {
     let mut row = Row {
         starts: [0; MAX_STARTS],
         count: 0,
     };
     for phase in 0..wanted.interval {
+        if widest.lacks(config, wanted, phase) {
+            continue;
+        }
         if let Some(found) = found_at(rows, config, wanted, phase, &mut row) {
             return Some(found);
         }
+        learn(rows, widest, config, wanted, phase);
     }
     None
 }
@@ -228,8 +260,15 @@ fn first_nominal(config: &Checked, interval: u64, next: u64, phase: u64, offset:
 
 // The lawful placement of the least phase, then the least offset, then the least starts in each frame, beside the
 // flows whose minislots these rows have.
-pub(crate) fn choose(rows: &[Bits], config: &Checked, spec: &FlowSpec, next: u64) -> Option<Chosen>
+pub(crate) fn choose(
+    rows: &[Bits],
+    widest: &mut Widest,
+    config: &Checked,
+    spec: &FlowSpec,
+    next: u64,
+) -> Option<Chosen>
     requires long { length rows.now ≡ config.now.cycle }
+    requires bounded { AreBounds config.now rows.now widest.old.most }
     requires periodic { is_periodic spec.now ≡ true }
     requires no_fault { first_fault config.now spec.now ≡ None }
     requires aligned { next % config.now.frame ≡ 0 }
@@ -240,9 +279,10 @@ pub(crate) fn choose(rows: &[Bits], config: &Checked, spec: &FlowSpec, next: u64
     ensures count { IfSome result (λ chosen. chosen.row.count ≤ MAX_STARTS) }
     ensures absent { (placed : List Placed) → AreSound config.now placed → AreRowsOf config.now
         placed rows.now → IfNone result (NoPlacement config.now placed spec.now next) }
+    ensures bounded { AreBounds config.now rows.now widest.new.most }
 {
     let wanted = wanted_of(config, spec);
-    let Some(found) = first_found(rows, config, wanted) else {
+    let Some(found) = first_found(rows, widest, config, wanted) else {
         return None;
     };
     let reference = first_nominal(config, wanted.interval, next, found.phase, found.offset);

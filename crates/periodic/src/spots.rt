@@ -9,13 +9,14 @@ ghost use Rattle.flow_book.specs.FlowSpec.{grants_of, first_fault};
 ghost use Rattle.periodic.specs.declared.TheConstants.{MAX_PERIODIC_GRANTS};
 ghost use Rattle.periodic.specs.Placement.{starts_in, spot_at, spots_of, spots_in};
 ghost use Rattle.periodic.specs.Bits.{bit_for};
-ghost use Rattle.periodic.specs.Rows.{row_at, AreMarked};
+ghost use Rattle.periodic.specs.Rows.{row_at, AreMarked, HaveAtMost, AreBounds};
 ghost use Rattle.periodic.specs.Table.{placed_at};
 ghost use Rattle.periodic.specs.Fields.{placed_of, placed_in, KeepsTimes, IsSoundFlow, AreSoundFlows};
 
 use crate::MAX_PERIODIC_GRANTS;
 use crate::bits::Bits;
 use crate::placement::{Placement, Spot};
+use crate::widest::{self, Widest};
 use flow_book::FlowSpec;
 use minislots::Checked;
 
@@ -166,15 +167,20 @@ impl PlacedFlow {
         next
     }
 
-    // Marks what the flow takes of the frame at this place as taken, or as free.
-    fn mark(&self, place: u64, bits: &mut Bits, taken: bool)
+    // Marks what the flow takes of the frame at this place as taken, or as free, and keeps the frame's bound.
+    fn mark(&self, place: u64, config: &Checked, bits: &mut Bits, most: &mut u16, taken: bool)
         requires sound { (c : Config) × IsSoundFlow c self.now × (place < c.cycle) }
-        ensures { (c : Config) → IsSoundFlow c self.now → place < c.cycle → AreMarked (spots_of c
-            place (placed_of self.now)) (bit_for taken) bits.old.words bits.new.words }
+        requires lawful { IsLawful config.now }
+        requires bounded { HaveAtMost config.now bits.old.words most.old }
+        ensures marked { (c : Config) → IsSoundFlow c self.now → place < c.cycle
+            → AreMarked (spots_of c place (placed_of self.now)) (bit_for taken) bits.old.words
+            bits.new.words }
+        ensures bounded { HaveAtMost config.now bits.new.words most.new }
     {
         for start in self.starts(place) {
             let start = u64::from(*start);
-            bits.mark(start, start + u64::from(self.slots), taken);
+            let end = start + u64::from(self.slots);
+            widest::mark(bits, most, config, start, end, taken);
         }
     }
 }
@@ -200,16 +206,25 @@ pub(crate) fn fill(
     count
 }
 
-// Marks what a flow takes of each frame of the cycle as taken, or as free.
-pub(crate) fn mark(rows: &mut [Bits], config: &Checked, flow: &PlacedFlow, taken: bool)
+// Marks what a flow takes of each frame of the cycle as taken, or as free, and keeps the frames' bounds.
+pub(crate) fn mark(
+    rows: &mut [Bits],
+    widest: &mut Widest,
+    config: &Checked,
+    flow: &PlacedFlow,
+    taken: bool,
+)
     requires sound { IsSoundFlow config.now flow.now }
     requires long { length rows.old ≡ config.now.cycle }
+    requires bounded { AreBounds config.now rows.old widest.old.most }
     ensures long { length rows.new ≡ config.now.cycle }
     ensures marked { (k : ℕ) → AreMarked (spots_of config.now k (placed_of flow.now))
         (bit_for taken) (row_at config.now rows.old k) (row_at config.now rows.new k) }
+    ensures bounded { AreBounds config.now rows.new widest.new.most }
 {
     for place in 0..u64::from(config.cycle()) {
-        flow.mark(place, &mut rows[place as usize], taken);
+        let row = place as usize;
+        flow.mark(place, config, &mut rows[row], &mut widest.most[row], taken);
     }
 }
 

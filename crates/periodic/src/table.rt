@@ -19,6 +19,7 @@ use crate::bits::Bits;
 use crate::placement::{PlaceFault, Placement, Spot, Starts};
 use crate::search::{Chosen, choose};
 use crate::spots::{PlacedFlow, fill, mark, sort};
+use crate::widest::Widest;
 use flow_book::FlowSpec;
 use minislots::Checked;
 use std::alloc::{AllocError, Global};
@@ -32,6 +33,8 @@ pub struct Table {
     flows: Vec<PlacedFlow>,
     // What the flows take of each frame of the cycle.
     rows: Vec<Bits>,
+    // How many free minislots stand in a row there at most.
+    widest: Widest,
     // Their grants per interval.
     grants: usize,
 }
@@ -46,7 +49,8 @@ impl Model for Table {
 
     ghost view = { λ t. record { config = t.config; placed = map placed_of t.flows.items } };
 
-    ghost invariant = { λ t. AreSoundFields t.config t.flows.items t.rows.items t.grants };
+    ghost invariant = { λ t. AreSoundFields t.config t.flows.items t.rows.items
+        t.widest.most t.grants };
 }
 
 impl Table {
@@ -61,6 +65,7 @@ impl Table {
             config,
             flows: Vec::new(alloc),
             rows,
+            widest: Widest::open(),
             grants: 0,
         })
     }
@@ -184,7 +189,13 @@ impl Table {
         let Some(place) = place_of(&self.flows, sid) else {
             return;
         };
-        mark(&mut self.rows, &self.config, &self.flows[place], false);
+        mark(
+            &mut self.rows,
+            &mut self.widest,
+            &self.config,
+            &self.flows[place],
+            false,
+        );
         self.grants -= self.flows[place].grants;
         self.flows.retain(|flow| flow.sid != sid);
     }
@@ -208,17 +219,18 @@ impl Table {
     }
 
     // The placement that is taken for these parameters from `next` on, if there is one.
-    fn chosen(&self, spec: &FlowSpec, next: u64) -> Option<Chosen>
+    fn chosen(&mut self, spec: &FlowSpec, next: u64) -> Option<Chosen>
         requires periodic { is_periodic spec.now ≡ true }
-        requires no_fault { first_fault self.now.config spec.now ≡ None }
-        requires aligned { next % self.now.config.frame ≡ 0 }
+        requires no_fault { first_fault self.old.config spec.now ≡ None }
+        requires aligned { next % self.old.config.frame ≡ 0 }
         requires most { next ≤ 2 ^ 61 }
         ensures chosen { IfSome result (λ chosen.
-            IsChosen self.now.config self.now.placed spec.now next (chosen_placement chosen)) }
+            IsChosen self.old.config self.old.placed spec.now next (chosen_placement chosen)) }
         ensures count { IfSome result (λ chosen. chosen.row.count ≤ MAX_STARTS) }
-        ensures absent { IfNone result (NoPlacement self.now.config self.now.placed spec.now next) }
+        ensures absent { IfNone result (NoPlacement self.old.config self.old.placed spec.now next) }
+        ensures same { self.new ≡ self.old }
     {
-        choose(&self.rows, &self.config, spec, next)
+        choose(&self.rows, &mut self.widest, &self.config, spec, next)
     }
 
     // Whether the placement is lawful for these parameters from `next` on, beside those that stand.
@@ -266,7 +278,13 @@ impl Table {
         let flow = PlacedFlow::at(&self.config, sid, spec, placement);
         let grants = flow.grants;
         self.flows.insert(place, flow)?;
-        mark(&mut self.rows, &self.config, &self.flows[place], true);
+        mark(
+            &mut self.rows,
+            &mut self.widest,
+            &self.config,
+            &self.flows[place],
+            true,
+        );
         self.grants += grants;
         Ok(Placement {
             reference,

@@ -12,6 +12,9 @@ use Rattle.periodic.proofs.table.Table.add.Goals as goal
 pub at-flow-requires-clause-no_fault : goal.at-flow-requires-clause-no_fault
 at-flow-requires-clause-no_fault c = rw (← c.self.view_is) at c.requires.no_fault
 
+pub mark-requires-clause-bounded : goal.mark-requires-clause-bounded
+mark-requires-clause-bounded c = rw c.deref_mut.ensures.value c.self.invariant.bounded
+
 pub mark-requires-clause-sound : goal.mark-requires-clause-sound
 mark-requires-clause-sound c =
     let a = c.args in
@@ -84,7 +87,8 @@ invariant_of-self-2 c =
     omega (arith, c.mark.ensures.long, c.self.invariant.told.long, inside.rows.ok.0) in
     rw (take_at c.mark.new.rows _ inside.rows.len long)
     (fields-with inside.config inside.flows.items c.insert.new.self.items inside.rows.items c.mark.new.rows added
-    inside.grants (inside.grants + c.at-flow.result.grants) c.self.invariant c.mark.ensures.long (inserted c)
+    inside.widest.most c.mark.new.widest.most inside.grants (inside.grants + c.at-flow.result.grants) c.self.invariant
+    c.mark.ensures.long c.mark.ensures.bounded (inserted c)
     (sound-with inside.config placed a.sid a.spec lawful.0 (placement_at a.reference a.starts.now)
     c.at-flow.ensures.times.lawful c.requires.sid_positive c.requires.sid_most c.requires.periodic
     (rw (← c.self.view_is) at c.requires.no_fault)

@@ -12,8 +12,8 @@ pub fill-count-requires : goal.fill-count-requires
 fill-count-requires c =
     record {
       sound = rw c.deref.ensures.value
-          (sound-flows c.self.inside.config c.self.inside.flows.items c.self.inside.rows.items c.self.inside.grants
-          c.self.invariant);
+          (sound-flows c.self.inside.config c.self.inside.flows.items c.self.inside.rows.items
+          c.self.inside.widest.most c.self.inside.grants c.self.invariant);
     }
 
 -- the front of the array is the frame

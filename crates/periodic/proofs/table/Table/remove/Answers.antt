@@ -36,6 +36,9 @@ returns-in_default c =
     rw c.deref.ensures.value at (sym c.place_of.ensures ∙ c.in_default.is) in
     absurd (has-place c.args.sid c.self.inside.flows.items (rw (← c.self.view_is) at c.requires) none)
 
+pub mark-requires-clause-bounded : goal.mark-requires-clause-bounded
+mark-requires-clause-bounded c = rw c.deref_mut.ensures.value c.self.invariant.bounded
+
 pub mark-requires-clause-sound : goal.mark-requires-clause-sound
 mark-requires-clause-sound c =
     let items = c.self.inside.flows.items in
@@ -65,7 +68,8 @@ invariant_of-self c =
     omega (arith, c.mark.ensures.long, c.self.invariant.told.long, inside.rows.ok.0) in
     rw (take_at c.mark.new.rows _ inside.rows.len long)
     (fields-without inside.config inside.flows.items c.retain.new.self.items inside.rows.items c.mark.new.rows
-    (placed_of flow) inside.grants (inside.grants - c.index-2.result.now.grants) c.self.invariant c.mark.ensures.long
+    (placed_of flow) inside.widest.most c.mark.new.widest.most inside.grants
+    (inside.grants - c.index-2.result.now.grants) c.self.invariant c.mark.ensures.long c.mark.ensures.bounded
     c.args.sid (left c)
     (flow-found c.args.sid inside.flows.items c.in-Some.place flow stands c.index.ensures) (times c)
     (λ k. marked-for inside.config k 0 flow (placed_of flow) c.deref_mut.result.now inside.rows.items c.mark.new.rows
