@@ -46,7 +46,9 @@ impl LineBuffer {
         }
     }
 
-    // Puts the line of a MAP behind those that wait.
+    // Puts the line of a MAP behind those that wait. It and `put_apart` stay functions of their own, so that short
+    // lines save no registers for them.
+    #[inline(never)]
     fn put_map<W: Sink>(&mut self, writer: &mut W, map: &WireMap) -> Result<(), TextFault>
         requires { IsWellFormed map.now }
         ensures { Puts W.contents W.has_failed writer.old writer.new self.old self.new
@@ -57,6 +59,7 @@ impl LineBuffer {
     }
 
     // Puts the line of any answer behind those that wait: it is made apart first.
+    #[inline(never)]
     fn put_apart<W: Sink>(
         &mut self,
         writer: &mut W,
