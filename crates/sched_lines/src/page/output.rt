@@ -23,7 +23,8 @@ impl Page {
     #[inline]
     fn make_room<W: Sink>(&mut self, writer: &mut W, more: usize) -> Result<(), TextFault>
         requires { more ≤ ROOM }
-        ensures same { Puts W.contents W.has_failed writer.old writer.new self.old self.new [] result }
+        ensures same { Puts W.contents W.has_failed writer.old writer.new self.old self.new
+            [] result }
         ensures room { OnOk result (length self.new + more ≤ ROOM) }
     {
         if self.has_room(more) {

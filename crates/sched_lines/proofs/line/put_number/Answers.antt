@@ -1,5 +1,6 @@
 -- A space, and the digits, of which there are at most twenty.
-use Rattle.std.proofs.Common.{◌≡◌, ◌+◌, ◌-◌, ◌≤◌, length, decimal, arith, take, drop, ◌∷◌, slice_set, append-nil, take_all, length-drop, length-set, refl, ◌∙◌}
+use Rattle.std.proofs.Common.{◌≡◌, ◌+◌, ◌-◌, ◌≤◌, ◌∷◌, length, decimal, take, drop, slice_set, refl, ◌∙◌, arith}
+use Rattle.std.proofs.Common.{append-nil, take_all, length-drop, length-set}
 use Rattle.std.proofs.lemmas.List.{drop-set}
 use Rattle.sched_lines.specs.Line.{number_text}
 use Rattle.sched_lines.proofs.Numerals.{length-decimal}
@@ -9,10 +10,12 @@ pub write_digits-start-requires : goal.write_digits-start-requires
 write_digits-start-requires g c = (omega (arith, length-decimal c.args.number c.ranges.number.fits), omega arith)
 
 pub overflow_sub-text : goal.overflow_sub-text
-overflow_sub-text g c = omega (arith, length-decimal c.args.number c.ranges.number.fits, c.write_digits-start.ensures.start)
+overflow_sub-text g c =
+    omega (arith, length-decimal c.args.number c.ranges.number.fits, c.write_digits-start.ensures.start)
 
 pub overflow_sub-start : goal.overflow_sub-start
-overflow_sub-start g c = omega (arith, length-decimal c.args.number c.ranges.number.fits, c.write_digits-start.ensures.start)
+overflow_sub-start g c =
+    omega (arith, length-decimal c.args.number c.ranges.number.fits, c.write_digits-start.ensures.start)
 
 pub returns : goal.returns
 unfolding number_text
