@@ -1,5 +1,5 @@
 -- The digits of hexadecimal, computed.
-use Rattle.std.proofs.Common.{◌≡◌, ℕ, zero, suc, ◌+◌, ◌-◌, ◌<◌, ◌≤◌, ◌==◌, ◌&&◌, Bool, true, false}
+use Rattle.std.proofs.Common.{◌≡◌, ℕ, zero, suc, ◌+◌, ◌-◌, ◌<◌, ◌≤◌, ◌==◌, ◌&&◌, Bool, true}
 use Rattle.std.proofs.Common.{slice_index, refl, arith}
 use Rattle.std.proofs.Common.{inl, inr}
 use Rattle.std.specs.Str.{IsAscii}

@@ -4,3 +4,4 @@ pub mod Made
 pub mod Leaving
 pub mod Fitting
 pub mod Digits
+pub mod Numerals

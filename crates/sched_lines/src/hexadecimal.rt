@@ -11,11 +11,8 @@ fn digit(number: u8) -> u8
     requires { number < 16 }
     ensures { result ≡ slice_index lower_digits number }
 {
-    if number < 10 {
-        number + b'0'
-    } else {
-        number + (b'a' - 10)
-    }
+    let letter = if number < 10 { 0 } else { b'a' - 10 - b'0' };
+    number + b'0' + letter
 }
 
 /// Writes the lower-case hexadecimal of bytes: two digits for each, that of its high four bits first.

@@ -8,6 +8,7 @@ mod line;
 mod lines;
 mod meaning;
 mod named;
+mod page;
 mod unrecorded;
 
 pub use call::make_call;

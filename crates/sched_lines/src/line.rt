@@ -11,7 +11,7 @@ ghost use Rattle.text_stream.specs.Writing.{Writes};
 
 use crate::hexadecimal::write_hex;
 use flow_book::FlowFault;
-use itoa::Buffer;
+use itoa::write_digits;
 use map_codec::{MAX_BYTES, WireMap, encode};
 use periodic::Placement;
 use sched_history::{Refusal, Reply, Unrecorded};
@@ -22,9 +22,10 @@ use text_stream::{Sink, TextFault, put};
 pub fn put_number<W: Sink>(writer: &mut W, number: u64) -> Result<(), TextFault>
     ensures { Writes W.contents W.has_failed writer.old writer.new (number_text number) result }
 {
-    let mut buffer = Buffer::new();
-    put(writer, b" ")?;
-    put(writer, buffer.format(number).as_bytes())
+    let mut text = [0u8; 21];
+    let start = write_digits(number, &mut text, 21);
+    text[start - 1] = b' ';
+    put(writer, &text[start - 1..])
 }
 
 // Numbers, each after a space.

@@ -1,26 +1,29 @@
 //! The lines of a run on their way to a writer.
 
-ghost use Rattle.std.specs.Prelude.{◌≡◌, [], OnOk};
+ghost use Rattle.std.specs.Prelude.{◌≡◌, ◌∷◌, ◌++◌, [], OnOk, codes};
+ghost use Rattle.hex.specs.Hex.{encode_lower};
+ghost use Rattle.map_codec.specs.WireMap.{IsWellFormed, spelling};
 ghost use Rattle.text_stream.specs.Writing.{Puts, Writes};
 ghost use Rattle.sched_lines.specs.Line.{line_of, HasLine};
 
 mod explained;
 
 use crate::line;
+use crate::page::{Page, ROOM};
 use arrayvec::ArrayVec;
+use map_codec::{MAX_BYTES, WireMap, encode};
 use sched_history::{Reply, Unrecorded};
 use std::marker::Model;
-use text_stream::{Sink, TextBuffer, TextFault};
-
-/// The most bytes of a line that waits to be written.
-const LINE_ROOM: usize = 8192;
+use text_stream::{Sink, TextFault};
 
 /// Lines on their way to a writer: those that wait to be written, whole lines of 8192 bytes in all at most.
 #[derive(Drop)]
 pub struct LineBuffer {
-    waiting: TextBuffer,
-    // The line that comes next.
-    line: ArrayVec<u8, LINE_ROOM>,
+    waiting: Page,
+    // The line that comes next, where it is made apart.
+    line: ArrayVec<u8, ROOM>,
+    // The payload of the MAP that came last.
+    payload: [u8; MAX_BYTES],
 }
 
 impl Model for LineBuffer {
@@ -37,14 +40,27 @@ impl LineBuffer {
         ensures { result ≡ [] }
     {
         LineBuffer {
-            waiting: TextBuffer::new(),
+            waiting: Page::new(),
             line: ArrayVec::new(),
+            payload: [0; MAX_BYTES],
         }
     }
 
-    /// Puts the line of an answer behind those that wait. Where there is no room for it, those are written
-    /// first; a line that is longer than the buffer is then written too.
-    pub fn put_line<W: Sink>(
+    // Puts the line of a MAP behind those that wait. It and `put_apart` stay functions of their own, so that short
+    // lines save no registers for them.
+    #[inline(never)]
+    fn put_map<W: Sink>(&mut self, writer: &mut W, map: &WireMap) -> Result<(), TextFault>
+        requires { IsWellFormed map.now }
+        ensures { Puts W.contents W.has_failed writer.old writer.new self.old self.new
+            (codes "map " ++ (encode_lower (spelling map.now) ++ 10 ∷ [])) result }
+    {
+        let len = encode(map, &mut self.payload);
+        self.waiting.put_map(writer, &self.payload[..len])
+    }
+
+    // Puts the line of any answer behind those that wait: it is made apart first.
+    #[inline(never)]
+    fn put_apart<W: Sink>(
         &mut self,
         writer: &mut W,
         answer: &Result<Reply, Unrecorded>,
@@ -59,6 +75,27 @@ impl LineBuffer {
         }
         self.write_out(writer)?;
         line::put_line(writer, answer)
+    }
+
+    /// Puts the line of an answer behind those that wait. Where there is no room for it, those are written
+    /// first; a line that is longer than the buffer is then written too.
+    #[tactic(auto, unfolding(crate::specs::Line::line_of))]
+    pub fn put_line<W: Sink>(
+        &mut self,
+        writer: &mut W,
+        answer: &Result<Reply, Unrecorded>,
+    ) -> Result<(), TextFault>
+        requires { HasLine answer.now }
+        ensures { Puts W.contents W.has_failed writer.old writer.new self.old self.new
+            (line_of answer.now) result }
+    {
+        if self.waiting.push_line(answer) {
+            return Ok(());
+        }
+        match answer {
+            Ok(Reply::Built(map)) => self.put_map(writer, &map.wire),
+            _ => self.put_apart(writer, answer),
+        }
     }
 
     /// Writes the lines that wait.

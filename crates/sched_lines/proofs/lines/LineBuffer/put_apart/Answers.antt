@@ -1,7 +1,7 @@
 -- A line that is longer than the buffer is written behind those that waited.
 use Rattle.std.proofs.Common.{◌∙◌, sym}
 use Rattle.text_stream.proofs.Written.{where_written, Appends-past}
-use Rattle.sched_lines.proofs.lines.LineBuffer.put_line.Goals as goal
+use Rattle.sched_lines.proofs.lines.LineBuffer.put_apart.Goals as goal
 
 pub returns : goal.returns
 returns g c =
