@@ -135,8 +135,10 @@ impl Bucket {
         requires { self.now.since ≤ slot }
         ensures { result ≡ (most_of self.now slot bytes == bytes) }
     {
-        let level = self.level(slot);
-        self.per_slot == 0 || PARTS * u64::from(bytes) <= level
+        if self.per_slot == 0 {
+            return true;
+        }
+        PARTS * u64::from(bytes) <= self.level(slot)
     }
 }
 
