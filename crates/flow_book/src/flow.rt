@@ -74,7 +74,7 @@ impl Clone for Flow {
             asked: self.asked,
             granted: self.granted,
             turn: self.turn,
-            bucket: self.bucket,
+            bucket: self.bucket.again(),
             grants: GrantList::with_room(&self.grants, &0),
         })
     }
