@@ -14,8 +14,8 @@ returns-clause-sums c = λ channel sum knows stands.
     omega (arith, sum, c.from.ensures) in
     let items = c.and-self.ensures.0 in
     let last = ap last_start items ∙ last-more f.grants.items (record { start = c.args.start; bytes = c.args.bytes }) in
-    let turn : IsTurn (rank_of f.spec) (Some c.args.start) f.sid c.turn_of-self.result =
-    rw c.rank.ensures at c.turn_of-self.ensures in
+    let turn : IsTurn (rank_of f.spec) (Some c.args.start) f.sid c.turn_after-self.result =
+    c.turn_after-self.ensures (rank_of f.spec) f.sid (last_start f.grants.items) knows.1 in
     record {
       granted = bytes ∙ sym (ap bytes_of items ∙ bytes-added f.grants.items c.args.start c.args.bytes);
       turn = (knows.0, rw last turn);
