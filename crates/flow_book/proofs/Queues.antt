@@ -1,10 +1,11 @@
 -- The queue of the flows that wait, as flows are put into it and taken out.
 use Rattle.std.proofs.Common.{◌≡◌, ◌≢◌, refl, sym, ap, ◌∙◌, subst, ℕ, zero, suc, ◌<◌, ◌==◌, ◌⊎◌, inl, inr, false}
 use Rattle.std.proofs.Common.{nat_lt, List, [], ◌∷◌, find, length, get_or, remove, slice_get}
-use Rattle.std.proofs.Common.{Some, None, option_map, Bool, true, position, set, ◌≤◌, arith}
+use Rattle.std.proofs.Common.{Option, Some, None, option_map, Bool, true, position, set, ◌≤◌, arith}
 use Rattle.std.specs.List.{AllByRecursion, position_or_len}
 use Rattle.std.proofs.lemmas.Grind.{common_steps}
 use Rattle.std.proofs.lemmas.List.Quantifiers.{position-Some}
+use Rattle.std.proofs.lemmas.List.{length-set, get_or-set_same}
 use Rattle.std.proofs.lemmas.List.Sums.{fails_before_first}
 use Rattle.std.proofs.lemmas.Bool.{cond_both, cases_eq, cases_lt}
 use Rattle.std.proofs.lemmas.Bool.Decides.{nat_tests}
@@ -98,6 +99,13 @@ module _ (items : List Flow) where
   pub at-within : (w : Waiting) → IsAt items w → w.place < length items
   at-within w at = some-within items w.place (w.turn, w.wants) at
 
+  -- there is a flow at its place
+  pub flow-at : (w : Waiting) (o : Option Flow) → slice_get items w.place ≡ o → IsAt items w
+      → (f : Flow) × (slice_get items w.place ≡ Some f)
+  flow-at w None e at =
+      let no : option_map entry_of None ≡ Some (w.turn, w.wants) = ap (option_map entry_of) (sym e) ∙ at in absurd (cc)
+  flow-at w (Some f) e at = (f, e)
+
   entry-at : (w : Waiting) (f : Flow) → IsAt items w → slice_get items w.place ≡ Some f
       → entry_of f ≡ (w.turn, w.wants)
   entry-at w f at found = same-some (entry_of f) (w.turn, w.wants) (ap (option_map entry_of) (sym found) ∙ at)
@@ -185,6 +193,15 @@ same-but (f ∷ items) zero e zero differ = absurd (differ refl)
 same-but (f ∷ items) zero e (suc other) differ = refl
 same-but (f ∷ items) (suc place) e zero differ = refl
 same-but (f ∷ items) (suc place) e (suc other) differ = same-but items place e other (λ same. differ (ap suc same))
+
+-- a flow that is put at a place has there what is told of it
+pub stands-at : (items : List Flow) (w : Waiting) (place : ℕ) (e : Flow) → place < length items → w.turn ≡ e.turn
+    → w.wants ≡ outstanding (live e) → w.place ≡ place → IsAt (set items place e) w
+stands-at items w place e lt turn wants at =
+    let here : slice_get (set items place e) place ≡ Some e =
+    slice_get-get_or (set items place e) place e (omega (arith, length-set items place e))
+    ∙ ap Some (get_or-set_same items place e e lt) in
+    rw (at, turn, wants, here) refl
 
 none-found : (turn : ℕ) (queue : List Waiting) → AllByRecursion (λ v. v.turn ≢ turn) queue
     → find (λ v. v.turn == turn) queue ≡ None

@@ -14,6 +14,7 @@ ghost use Rattle.flow_book.specs.Book.{with_asked};
 use crate::flow::{Flow, Served, first_eligible, reserve_each};
 use crate::queue::{
     Waiting, copy_of, first_in_turn, follow, follow_from, leave, make_room, make_way, queue_of,
+    waiting_of,
 };
 use crate::spec::FlowSpec;
 use minislots::Checked;
@@ -269,8 +270,10 @@ impl Book {
             → other ≢ s.sid → room_of other self.new.rooms ≡ room_of other self.old.rooms) }
     {
         let (place, index) = self.next_place(start, room)?;
-        let served = self.flows[place].serve(&self.config, start, room);
-        self.is_queued = follow_from(&mut self.queue, self.is_queued, &self.flows, place, index);
+        let flow = &mut self.flows[place];
+        let served = flow.serve(&self.config, start, room);
+        let waiting = waiting_of(flow, place);
+        self.is_queued = follow_from(&mut self.queue, self.is_queued, &self.flows, waiting, index);
         Some(served)
     }
 

@@ -198,6 +198,7 @@ impl Flow {
             ≡ with_grant (record { start = start; bytes = result.bytes }) (live self.old) }
         ensures space { (room_in self.new).grants + 1 ≡ (room_in self.old).grants }
         ensures sums { KeepsSums config.now self.new }
+        ensures within { granted (live self.new) ≤ self.new.asked }
     {
         let limit = self.limit(config, room);
         let bytes = self.bucket.take_most(start, limit);

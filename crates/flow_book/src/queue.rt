@@ -6,11 +6,11 @@ ghost use Rattle.std.specs.Prelude.{IsSomeAnd, MatchOption, slice_get};
 ghost use Rattle.std.specs.List.{AllByRecursion, position_or_len};
 ghost use Rattle.minislots.specs.declared.config.Config.{Config};
 ghost use Rattle.flow_book.specs.declared.flow.Flow.{Flow};
-ghost use Rattle.flow_book.specs.Flows.{outstanding};
+ghost use Rattle.flow_book.specs.Flows.{granted, outstanding};
 ghost use Rattle.flow_book.specs.Choice.{HasStartedBy, IsNext, NoneEligible};
 ghost use Rattle.flow_book.specs.Entry.{live, IsBook};
 ghost use Rattle.flow_book.specs.Sids.{AscendBy, put_in};
-ghost use Rattle.flow_book.specs.Queue.{IsQueue, IsQueueAmong, IsMoved, AreSameBut, moved_up, moved_down};
+ghost use Rattle.flow_book.specs.Queue.{IsAt, IsQueue, IsQueueAmong, IsMoved, AreSameBut, moved_up, moved_down};
 
 use crate::flow::Flow;
 use minislots::Checked;
@@ -152,27 +152,39 @@ fn put_again(queue: &mut Vec<Waiting>, flows: &[Flow], place: usize) -> Result<(
     Ok(())
 }
 
-// Moves the flow at this place of a book, which has changed, back to its turn where it stands here in the queue, still
-// waits, and its turn is no earlier. Else nothing changes, and the answer is false.
-fn sink(queue: &mut [Waiting], flows: &[Flow], place: usize, index: usize) -> bool
-    requires book { (c : Config) × IsBook c flows.now }
-    requires within { place < length flows.now }
-    requires queue { (before : List Flow)
-        × AreSameBut place before flows.now × IsQueue before queue.old }
-    ensures moved { result ≡ true → IsQueue flows.now queue.new }
+// What the queue has of the flow at this place.
+pub(crate) fn waiting_of(flow: &Flow, place: usize) -> Waiting
+    requires sum { flow.now.granted ≡ granted (live flow.now) }
+    requires within { granted (live flow.now) ≤ flow.now.asked }
+    ensures turn { result.turn ≡ flow.now.turn }
+    ensures wants { result.wants ≡ outstanding (live flow.now) }
+    ensures place { result.place ≡ place }
+{
+    Waiting {
+        turn: flow.turn,
+        wants: flow.outstanding(),
+        place,
+    }
+}
+
+// Moves one whose flow has changed back to its turn where it stands here in the queue, still waits, and its turn is no
+// earlier. Else nothing changes, and the answer is false.
+fn sink(queue: &mut [Waiting], waiting: Waiting, index: usize) -> bool
+    requires { AscendBy (λ w. w.turn) queue.old }
+    ensures moved { result ≡ true → (before items : List Flow) (c : Config)
+        → IsBook c items → IsAt items waiting → AreSameBut waiting.place before items
+        → IsQueue before queue.old → IsQueue items queue.new }
     ensures same { result ≡ false → queue.new ≡ queue.old }
     ensures len { length queue.new ≡ length queue.old }
 {
-    let flow = &flows[place];
-    let wants = flow.outstanding();
-    let turn = flow.turn;
+    let Waiting { turn, wants, place } = waiting;
     if wants == 0 || index >= queue.len() {
         return false;
     }
     if queue[index].place != place || turn < queue[index].turn {
         return false;
     }
-    move_back(queue, index, Waiting { turn, wants, place });
+    move_back(queue, index, waiting);
     true
 }
 
@@ -268,22 +280,22 @@ pub(crate) fn follow(
     is_queued && put_again(queue, flows, place).is_ok()
 }
 
-// The same, where the flow most likely stands here in the queue.
+// The same, of one that most likely stands here in the queue.
 pub(crate) fn follow_from(
     queue: &mut Vec<Waiting>,
     is_queued: bool,
     flows: &[Flow],
-    place: usize,
+    waiting: Waiting,
     index: usize,
 ) -> bool
     requires book { (c : Config) × IsBook c flows.now }
-    requires within { place < length flows.now }
+    requires at { IsAt flows.now waiting }
     requires queue { is_queued ≡ true → (before : List Flow)
-        × AreSameBut place before flows.now × IsQueue before queue.old.items }
+        × AreSameBut waiting.place before flows.now × IsQueue before queue.old.items }
     ensures { result ≡ true → IsQueue flows.now queue.new.items }
 {
-    if is_queued && sink(queue, flows, place, index) {
+    if is_queued && sink(queue, waiting, index) {
         return true;
     }
-    follow(queue, is_queued, flows, place)
+    follow(queue, is_queued, flows, waiting.place)
 }
