@@ -125,10 +125,14 @@ impl Bucket {
             return limit;
         }
         let level = self.level(slot);
-        let bytes = bytes_of(level, limit);
-        self.level = level - PARTS * u64::from(bytes);
+        let most = PARTS * u64::from(limit);
         self.since = slot;
-        bytes
+        if most <= level {
+            self.level = level - most;
+            return limit;
+        }
+        self.level = level % PARTS;
+        bytes_of(level, limit)
     }
 
     // The most bytes, up to the limit, of a grant that starts at this minislot.

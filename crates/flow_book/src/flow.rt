@@ -53,16 +53,16 @@ const RANKS: u128 = TURNS * SIDS;
 // A live flow.
 #[derive(Drop)]
 pub(crate) struct Flow {
-    pub(crate) sid: u16,
-    pub(crate) spec: FlowSpec,
+    // Its turn among the flows that may be served: the least is served first.
+    pub(crate) turn: u128,
     // The bytes of all requests.
     pub(crate) asked: u64,
     // The bytes of all data grants.
     granted: u64,
-    // Its turn among the flows that may be served: the least is served first.
-    pub(crate) turn: u128,
     // What the data grants leave under the rate ceiling.
     bucket: Bucket,
+    pub(crate) spec: FlowSpec,
+    pub(crate) sid: u16,
     // The data grants, in order, for contracts alone.
     pub(crate) grants: GrantList,
 }
