@@ -19,7 +19,7 @@ use Rattle.flow_book.specs.Choice.{last_start}
 use Rattle.flow_book.specs.Flows.{outstanding}
 use Rattle.flow_book.specs.Entry.{live, IsBook, KeepsSums, KnowsTurn}
 use Rattle.flow_book.specs.Sids.{AscendBy, put_in}
-use Rattle.flow_book.specs.Queue.{entry_of, IsAt, IsIn, IsQueue, IsQueueAmong, AreSameBut}
+use Rattle.flow_book.specs.Queue.{entry_of, IsAt, IsIn, IsQueue, IsQueueAmong, AreSameBut, Stands, StandsBefore}
 use Rattle.flow_book.proofs.Insertion.{all-put_in, ascends-put_in}
 use Rattle.flow_book.proofs.Searches.{below}
 use Rattle.flow_book.proofs.Turns.{turn-sid}
@@ -120,6 +120,18 @@ module _ (items : List Flow) where
   wants-at w f at found = ap (λ (e : ℕ × ℕ). e.1) (entry-at w f at found)
 
   -- at one place there is one turn
+  -- where a flow stands in the queue its turn stands too
+  pub stands-before : (queue : List Waiting) (index : ℕ) (w : Waiting) (f : Flow) → IsQueue items queue
+      → Stands queue index w.place → slice_get items w.place ≡ Some f → f.turn ≤ w.turn → StandsBefore queue index w
+  stands-before queue index w f is stands found late = record {
+    stands = stands;
+    earlier = λ d.
+        let at : IsAt items (get_or queue index d) =
+        All-from_recursion (IsAt items) queue is.each index d stands.within in
+        let turn = turn-at (get_or queue index d) f at (ap (slice_get items) (stands.here d) ∙ found) in
+        omega (arith, turn, late);
+  }
+
   same-turn : (v w : Waiting) → IsAt items v → IsAt items w → v.place ≡ w.place → v.turn ≡ w.turn
   same-turn v w at at' same =
       ap (λ (e : ℕ × ℕ). e.0) (same-some (v.turn, v.wants) (w.turn, w.wants)

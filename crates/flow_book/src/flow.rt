@@ -199,6 +199,7 @@ impl Flow {
         ensures space { (room_in self.new).grants + 1 ≡ (room_in self.old).grants }
         ensures sums { KeepsSums config.now self.new }
         ensures within { granted (live self.new) ≤ self.new.asked }
+        ensures later { self.old.turn ≤ self.new.turn }
     {
         let limit = self.limit(config, room);
         let bytes = self.bucket.take_most(start, limit);
@@ -234,6 +235,8 @@ impl Flow {
             → StandsFor c (rate_of self.old.spec) (burst_of self.old.spec) self.old.bucket
             (self.old.grants.items ++ record { start = start; bytes = bytes } ∷ [])
             → KeepsSums c self.new }
+        ensures later { KnowsTurn self.old → HaveStartedBy start self.old.grants.items
+            → self.old.turn ≤ self.new.turn }
     {
         self.granted += u64::from(bytes);
         self.turn = turn_after(self.turn, start);
@@ -294,8 +297,10 @@ fn turn_of(rank: u8, sid: u16) -> u128
 
 // The turn of a flow that had this one, after a data grant that starts there: of the same rank and SID.
 fn turn_after(turn: u128, start: u64) -> u128
-    ensures { (rank sid : ℕ) (last : Option ℕ)
+    ensures after { (rank sid : ℕ) (last : Option ℕ)
         → IsTurn rank last sid turn → IsTurn rank (Some start) sid result }
+    ensures later { (rank sid : ℕ) (last : Option ℕ)
+        → IsTurn rank last sid turn → IfSome last (λ m. m ≤ start) → turn ≤ result }
 {
     turn / RANKS * RANKS + (u128::from(start) + 1) * SIDS + turn % SIDS
 }

@@ -2,7 +2,7 @@
 
 ghost use Rattle.std.specs.Prelude.{◌==◌, nat_lt, position, true, false, ◌+◌, ◌^◌, insert};
 ghost use Rattle.std.specs.Prelude.{ℕ, ◌≡◌, ◌≢◌, ◌<◌, ◌≤◌, List, remove, slice_index_or, map, length, OnOk, IfOk};
-ghost use Rattle.std.specs.Prelude.{IsSomeAnd, MatchOption, slice_get};
+ghost use Rattle.std.specs.Prelude.{IsSomeAnd, IfSome, MatchOption, slice_get};
 ghost use Rattle.std.specs.List.{AllByRecursion, position_or_len};
 ghost use Rattle.minislots.specs.declared.config.Config.{Config};
 ghost use Rattle.flow_book.specs.declared.flow.Flow.{Flow};
@@ -10,7 +10,7 @@ ghost use Rattle.flow_book.specs.Flows.{granted, outstanding};
 ghost use Rattle.flow_book.specs.Choice.{HasStartedBy, IsNext, NoneEligible};
 ghost use Rattle.flow_book.specs.Entry.{live, IsBook};
 ghost use Rattle.flow_book.specs.Sids.{AscendBy, put_in};
-ghost use Rattle.flow_book.specs.Queue.{IsAt, IsQueue, IsQueueAmong, IsMoved, AreSameBut, moved_up, moved_down};
+ghost use Rattle.flow_book.specs.Queue.{IsAt, IsQueue, IsQueueAmong, IsMoved, AreSameBut, Stands, StandsBefore, moved_up, moved_down};
 
 use crate::flow::Flow;
 use minislots::Checked;
@@ -82,9 +82,10 @@ pub(crate) fn first_in_turn(
     requires book { IsBook config.now flows.now }
     requires queue { IsQueue flows.now queue.now }
     requires started { AllByRecursion (HasStartedBy start) (map live flows.now) }
-    ensures { MatchOption result (NoneEligible config.now (map live flows.now) start room)
+    ensures next { MatchOption result (NoneEligible config.now (map live flows.now) start room)
         (λ found. IsSomeAnd (slice_get (map live flows.now) found.0)
         (IsNext config.now (map live flows.now) start room)) }
+    ensures stands { IfSome result (λ found. Stands queue.now found.1 found.0) }
 {
     let quantum = u64::from(config.quantum());
     let fits = config.bytes_in(room);
@@ -165,27 +166,6 @@ pub(crate) fn waiting_of(flow: &Flow, place: usize) -> Waiting
         wants: flow.outstanding(),
         place,
     }
-}
-
-// Moves one whose flow has changed back to its turn where it stands here in the queue, still waits, and its turn is no
-// earlier. Else nothing changes, and the answer is false.
-fn sink(queue: &mut [Waiting], waiting: Waiting, index: usize) -> bool
-    requires { AscendBy (λ w. w.turn) queue.old }
-    ensures moved { result ≡ true → (before items : List Flow) (c : Config)
-        → IsBook c items → IsAt items waiting → AreSameBut waiting.place before items
-        → IsQueue before queue.old → IsQueue items queue.new }
-    ensures same { result ≡ false → queue.new ≡ queue.old }
-    ensures len { length queue.new ≡ length queue.old }
-{
-    let Waiting { turn, wants, place } = waiting;
-    if wants == 0 || index >= queue.len() {
-        return false;
-    }
-    if queue[index].place != place || turn < queue[index].turn {
-        return false;
-    }
-    move_back(queue, index, waiting);
-    true
 }
 
 // Takes the flow at this place out of the queue, where it is in it.
@@ -280,7 +260,7 @@ pub(crate) fn follow(
     is_queued && put_again(queue, flows, place).is_ok()
 }
 
-// The same, of one that most likely stands here in the queue.
+// The same, of one that stood here in the queue, at a turn no later.
 pub(crate) fn follow_from(
     queue: &mut Vec<Waiting>,
     is_queued: bool,
@@ -292,9 +272,11 @@ pub(crate) fn follow_from(
     requires at { IsAt flows.now waiting }
     requires queue { is_queued ≡ true → (before : List Flow)
         × AreSameBut waiting.place before flows.now × IsQueue before queue.old.items }
+    requires stands { is_queued ≡ true → StandsBefore queue.old.items index waiting }
     ensures { result ≡ true → IsQueue flows.now queue.new.items }
 {
-    if is_queued && sink(queue, waiting, index) {
+    if is_queued && waiting.wants > 0 {
+        move_back(queue, index, waiting);
         return true;
     }
     follow(queue, is_queued, flows, waiting.place)

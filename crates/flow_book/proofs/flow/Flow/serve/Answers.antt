@@ -43,3 +43,6 @@ returns-clause-sums c =
     c.note.ensures.sums c.args.config.now c.requires.sums.granted c.requires.sums.turn
     (c.take_most-bytes.ensures.taken c.args.config.now (rate_of f.spec) (burst_of f.spec) f.grants.items
     c.requires.sums.bucket c.requires.started)
+
+pub returns-clause-later : goal.returns-clause-later
+returns-clause-later c = c.note.ensures.later c.requires.sums.turn c.requires.started
