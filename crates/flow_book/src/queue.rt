@@ -10,7 +10,8 @@ ghost use Rattle.flow_book.specs.Flows.{granted, outstanding};
 ghost use Rattle.flow_book.specs.Choice.{HasStartedBy, IsNext, NoneEligible};
 ghost use Rattle.flow_book.specs.Entry.{live, IsBook};
 ghost use Rattle.flow_book.specs.Sids.{AscendBy, put_in};
-ghost use Rattle.flow_book.specs.Queue.{IsAt, IsQueue, IsQueueAmong, IsMoved, AreSameBut, Stands, StandsBefore, moved_up, moved_down};
+ghost use Rattle.flow_book.specs.Queue.{IsAt, IsQueue, IsQueueAmong, IsMoved, AreSameBut};
+ghost use Rattle.flow_book.specs.Queue.{Stands, StandsBefore, moved_up, moved_down};
 
 use crate::flow::Flow;
 use minislots::Checked;

@@ -1,5 +1,5 @@
 -- It moves back from where it stands to behind those of turns no later.
-use Rattle.std.proofs.Common.{◌≡◌, ◌≢◌, ◌∙◌, refl, sym, ap, subst, length, remove, get_or, slice_get, arith}
+use Rattle.std.proofs.Common.{◌≡◌, ◌≢◌, refl, sym, ap, subst, length, remove, slice_get, arith}
 use Rattle.std.proofs.lemmas.Bool.{cases_eq}
 use Rattle.std.proofs.lemmas.List.{take_at}
 use Rattle.flow_book.specs.declared.queue.Waiting.{Waiting}
