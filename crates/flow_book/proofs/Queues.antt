@@ -1,10 +1,11 @@
 -- The queue of the flows that wait, as flows are put into it and taken out.
 use Rattle.std.proofs.Common.{◌≡◌, ◌≢◌, refl, sym, ap, ◌∙◌, subst, ℕ, zero, suc, ◌<◌, ◌==◌, ◌⊎◌, inl, inr, false}
 use Rattle.std.proofs.Common.{nat_lt, List, [], ◌∷◌, find, length, get_or, remove, slice_get}
-use Rattle.std.proofs.Common.{Some, None, option_map, Bool, true, position, set, ◌≤◌, arith}
+use Rattle.std.proofs.Common.{Option, Some, None, option_map, Bool, true, position, set, ◌≤◌, arith}
 use Rattle.std.specs.List.{AllByRecursion, position_or_len}
 use Rattle.std.proofs.lemmas.Grind.{common_steps}
 use Rattle.std.proofs.lemmas.List.Quantifiers.{position-Some}
+use Rattle.std.proofs.lemmas.List.{length-set, get_or-set_same}
 use Rattle.std.proofs.lemmas.List.Sums.{fails_before_first}
 use Rattle.std.proofs.lemmas.Bool.{cond_both, cases_eq, cases_lt}
 use Rattle.std.proofs.lemmas.Bool.Decides.{nat_tests}
@@ -18,7 +19,7 @@ use Rattle.flow_book.specs.Choice.{last_start}
 use Rattle.flow_book.specs.Flows.{outstanding}
 use Rattle.flow_book.specs.Entry.{live, IsBook, KeepsSums, KnowsTurn}
 use Rattle.flow_book.specs.Sids.{AscendBy, put_in}
-use Rattle.flow_book.specs.Queue.{entry_of, IsAt, IsIn, IsQueue, IsQueueAmong, AreSameBut}
+use Rattle.flow_book.specs.Queue.{entry_of, IsAt, IsIn, IsQueue, IsQueueAmong, AreSameBut, Stands, StandsBefore}
 use Rattle.flow_book.proofs.Insertion.{all-put_in, ascends-put_in}
 use Rattle.flow_book.proofs.Searches.{below}
 use Rattle.flow_book.proofs.Turns.{turn-sid}
@@ -98,6 +99,13 @@ module _ (items : List Flow) where
   pub at-within : (w : Waiting) → IsAt items w → w.place < length items
   at-within w at = some-within items w.place (w.turn, w.wants) at
 
+  -- there is a flow at its place
+  pub flow-at : (w : Waiting) (o : Option Flow) → slice_get items w.place ≡ o → IsAt items w
+      → (f : Flow) × (slice_get items w.place ≡ Some f)
+  flow-at w None e at =
+      let no : option_map entry_of None ≡ Some (w.turn, w.wants) = ap (option_map entry_of) (sym e) ∙ at in absurd (cc)
+  flow-at w (Some f) e at = (f, e)
+
   entry-at : (w : Waiting) (f : Flow) → IsAt items w → slice_get items w.place ≡ Some f
       → entry_of f ≡ (w.turn, w.wants)
   entry-at w f at found = same-some (entry_of f) (w.turn, w.wants) (ap (option_map entry_of) (sym found) ∙ at)
@@ -112,6 +120,18 @@ module _ (items : List Flow) where
   wants-at w f at found = ap (λ (e : ℕ × ℕ). e.1) (entry-at w f at found)
 
   -- at one place there is one turn
+  -- where a flow stands in the queue its turn stands too
+  pub stands-before : (queue : List Waiting) (index : ℕ) (w : Waiting) (f : Flow) → IsQueue items queue
+      → Stands queue index w.place → slice_get items w.place ≡ Some f → f.turn ≤ w.turn → StandsBefore queue index w
+  stands-before queue index w f is stands found late = record {
+    stands = stands;
+    earlier = λ d.
+        let at : IsAt items (get_or queue index d) =
+        All-from_recursion (IsAt items) queue is.each index d stands.within in
+        let turn = turn-at (get_or queue index d) f at (ap (slice_get items) (stands.here d) ∙ found) in
+        omega (arith, turn, late);
+  }
+
   same-turn : (v w : Waiting) → IsAt items v → IsAt items w → v.place ≡ w.place → v.turn ≡ w.turn
   same-turn v w at at' same =
       ap (λ (e : ℕ × ℕ). e.0) (same-some (v.turn, v.wants) (w.turn, w.wants)
@@ -185,6 +205,15 @@ same-but (f ∷ items) zero e zero differ = absurd (differ refl)
 same-but (f ∷ items) zero e (suc other) differ = refl
 same-but (f ∷ items) (suc place) e zero differ = refl
 same-but (f ∷ items) (suc place) e (suc other) differ = same-but items place e other (λ same. differ (ap suc same))
+
+-- a flow that is put at a place has there what is told of it
+pub stands-at : (items : List Flow) (w : Waiting) (place : ℕ) (e : Flow) → place < length items → w.turn ≡ e.turn
+    → w.wants ≡ outstanding (live e) → w.place ≡ place → IsAt (set items place e) w
+stands-at items w place e lt turn wants at =
+    let here : slice_get (set items place e) place ≡ Some e =
+    slice_get-get_or (set items place e) place e (omega (arith, length-set items place e))
+    ∙ ap Some (get_or-set_same items place e e lt) in
+    rw (at, turn, wants, here) refl
 
 none-found : (turn : ℕ) (queue : List Waiting) → AllByRecursion (λ v. v.turn ≢ turn) queue
     → find (λ v. v.turn == turn) queue ≡ None

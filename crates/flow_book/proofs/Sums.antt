@@ -1,12 +1,14 @@
 -- What flows keep beside their grants stays theirs.
 use Rattle.std.proofs.Common.{◌≡◌, refl, sym, ap, ◌∙◌, ℕ, zero, suc, ◌+◌, ◌<◌, ◌==◌, List, [], ◌∷◌, ◌++◌, map, Some}
-use Rattle.std.proofs.Common.{length, get_or, set}
+use Rattle.std.proofs.Common.{◌≤◌, length, get_or, set}
 use Rattle.std.specs.List.{AllByRecursion, AllZip, insert}
+use Rattle.std.specs.Option.{IfSome}
 use Rattle.std.proofs.lemmas.List.Elements.{All-from_recursion}
 use Rattle.std.proofs.lemmas.List.Sums.{sum_by-append}
 use Rattle.minislots.specs.declared.config.Config.{Config}
 use Rattle.flow_book.specs.declared.flow.Flow.{Flow}
 use Rattle.flow_book.specs.declared.flow.Grant.{Grant}
+use Rattle.flow_book.specs.Bucket.{HaveStartedBy}
 use Rattle.flow_book.specs.Flows.{LiveFlow, bytes_of, with_grant}
 use Rattle.flow_book.specs.Choice.{last_start, MayGrant, KeepsWith}
 use Rattle.flow_book.specs.Entry.{live, IsSoundFlow, KeepsSums, IsCopy, IsBook}
@@ -19,6 +21,13 @@ pub last-more : (grants : List Grant) (g : Grant) → last_start (grants ++ g �
 last-more [] g = refl
 last-more (h ∷ []) g = refl
 last-more (h ∷ k ∷ grants) g = last-more (k ∷ grants) g
+
+-- the last of grants that have started has
+pub last-started : (slot : ℕ) (grants : List Grant) → HaveStartedBy slot grants
+    → IfSome (last_start grants) (λ m. m ≤ slot)
+last-started slot [] all = tt
+last-started slot (g ∷ []) all = all.0
+last-started slot (g ∷ h ∷ grants) all = last-started slot (h ∷ grants) all.1
 
 -- and its bytes are added
 pub bytes-added : (grants : List Grant) (start n : ℕ) → bytes_of (grants ++ one_more start n) ≡ bytes_of grants + n

@@ -1,5 +1,6 @@
 -- The number of a flow's turn stands for its rank, the start of its last grant, and its SID.
-use Rattle.std.proofs.Common.{◌≡◌, ℕ, ◌<◌, ◌≤◌, nat_lt, Option, None, Some, true, arith}
+use Rattle.std.proofs.Common.{◌≡◌, ℕ, ◌+◌, ◌*◌, ◌/◌, ◌%◌, ◌^◌, ◌<◌, ◌≤◌, nat_lt, Option, None, Some, true, arith}
+use Rattle.std.specs.Option.{IfSome}
 use Rattle.std.proofs.lemmas.Bool.Decides.{nat_tests}
 use Rattle.flow_book.specs.Entry.{IsTurn}
 use Rattle.flow_book.proofs.Order.{goes_first}
@@ -28,3 +29,15 @@ turn-sid r s None None x y t e f = omega (arith, e.0, e.1, f.0, f.1)
 turn-sid r s None (Some n) x y t e f = omega (arith, e.0, e.1, f.0, f.2)
 turn-sid r s (Some m) None x y t e f = omega (arith, e.0, e.2, f.0, f.1)
 turn-sid r s (Some m) (Some n) x y t e f = omega (arith, e.0, e.2, f.0, f.2)
+
+-- after a grant a flow has the turn of its start, in the same rank and of the same SID
+pub turn-after : (r : ℕ) (a : Option ℕ) (x t start n : ℕ) → start < 2 ^ 64 → IsTurn r a x t
+    → n ≡ t / 2 ^ 81 * 2 ^ 81 + (start + 1) * 2 ^ 16 + t % 2 ^ 16 → IsTurn r (Some start) x n
+turn-after r None x t start n early e is = (e.0, early, omega (arith, e.0, e.1, is))
+turn-after r (Some m) x t start n early e is = (e.0, early, omega (arith, e.0, e.1, e.2, is))
+
+-- which is no earlier where its last grant starts no later
+pub turn-later : (r : ℕ) (a : Option ℕ) (x t start n : ℕ) → IsTurn r a x t → IfSome a (λ m. m ≤ start)
+    → n ≡ t / 2 ^ 81 * 2 ^ 81 + (start + 1) * 2 ^ 16 + t % 2 ^ 16 → t ≤ n
+turn-later r None x t start n e late is = omega (arith, e.0, e.1, is)
+turn-later r (Some m) x t start n e late is = omega (arith, e.0, e.1, e.2, late, is)

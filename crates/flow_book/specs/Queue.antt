@@ -1,6 +1,6 @@
 -- The flows that wait for bytes, in the order in which they are served.
 use Rattle.std.specs.Prelude.{◌≡◌, ◌≢◌, ℕ, ◌<◌, ◌⊎◌, Bool, true, List, [], ◌∷◌, Some, option_map, slice_get}
-use Rattle.std.specs.Prelude.{◌+◌, ◌-◌, nat_le, nat_lt, if◌then◌else◌}
+use Rattle.std.specs.Prelude.{◌+◌, ◌-◌, ◌≤◌, nat_le, nat_lt, if◌then◌else◌, length, slice_index_or}
 use Rattle.std.specs.List.{AllByRecursion}
 use Rattle.minislots.specs.declared.config.Config.{Config}
 use Rattle.flow_book.specs.declared.flow.Flow.{Flow}
@@ -39,6 +39,16 @@ pub record IsMoved (items : List Flow) (w : Waiting) (queue : List Waiting) : Ty
   pub others : List Waiting
   pub among : IsQueueAmong items (λ other. other ≢ w.place) others
   pub is : queue ≡ put_in (λ v. v.turn) w others
+
+-- the flow at this place among the flows stands here in the queue
+pub record Stands (queue : List Waiting) (index place : ℕ) : Type 0 where
+  pub within : index < length queue
+  pub here : (d : Waiting) → (slice_index_or queue index d).place ≡ place
+
+-- one of the same place stands here in the queue, of a turn no later
+pub record StandsBefore (queue : List Waiting) (index : ℕ) (w : Waiting) : Type 0 where
+  pub stands : Stands queue index w.place
+  pub earlier : (d : Waiting) → (slice_index_or queue index d).turn ≤ w.turn
 
 -- its place is one more where a flow was put in at this place or before it
 abbrev pub moved_up : ℕ → Waiting → Waiting

@@ -1,19 +1,21 @@
 //! The live flows of a channel, in order of SID.
 
 ghost use Rattle.std.specs.Prelude.{◌≡◌, ◌≢◌, ℕ, ◌+◌, ◌<◌, ◌≤◌, ◌^◌, ◌==◌, [], length, IfOk, OnOk, OnErr, IfSome};
-ghost use Rattle.std.specs.Prelude.{IsSomeAnd, MatchOption, map, option_map, slice_get, nat_lt, position};
+ghost use Rattle.std.specs.Prelude.{IsSomeAnd, MatchOption, map, option_map, slice_get, nat_lt, position, true, Some};
 ghost use Rattle.std.specs.List.{AllByRecursion};
 ghost use Rattle.minislots.specs.Units.{slots_for};
 ghost use Rattle.flow_book.specs.Flows.{flow_of, outstanding, with_grant};
 ghost use Rattle.flow_book.specs.Choice.{MayGrant, IsMost, IsAmount, IsNext, IsNextSid, NoneEligible};
 ghost use Rattle.flow_book.specs.Choice.{HasStartedBy};
-ghost use Rattle.flow_book.specs.Entry.{live, IsSoundFlow, KeepsSums};
+ghost use Rattle.flow_book.specs.Entry.{live, IsSoundFlow, IsBook, KeepsSums};
+ghost use Rattle.flow_book.specs.Queue.{IsQueue, Stands};
 ghost use Rattle.flow_book.specs.Book.{IsLive, Ascend, KeepsRoom, room_of, new_flow, with_flow, without, changed};
 ghost use Rattle.flow_book.specs.Book.{with_asked};
 
 use crate::flow::{Flow, Served, first_eligible, reserve_each};
 use crate::queue::{
     Waiting, copy_of, first_in_turn, follow, follow_from, leave, make_room, make_way, queue_of,
+    waiting_of,
 };
 use crate::spec::FlowSpec;
 use minislots::Checked;
@@ -55,6 +57,45 @@ fn place_in(flows: &[Flow], sid: u16) -> Option<usize>
     ensures { result ≡ position (λ f. f.sid == sid) flows.now }
 {
     flows.binary_search_by_key(&sid, |flow| flow.sid).ok()
+}
+
+// The place of the live flow with this SID.
+fn place_of(flows: &[Flow], sid: u16) -> usize
+    requires ascending { Ascend (map live flows.now) }
+    requires live { IsLive sid (map live flows.now) }
+    ensures { position (λ f. f.sid == sid) (map live flows.now) ≡ Some result }
+{
+    match place_in(flows, sid) {
+        Some(place) => place,
+        None => unreachable!(),
+    }
+}
+
+// The place of the flow that the data grant of [`Book::eligible`] goes to, and where it stands in the queue if that is
+// known.
+fn next_place(
+    queue: &[Waiting],
+    is_queued: bool,
+    flows: &[Flow],
+    config: &Checked,
+    start: u64,
+    room: u32,
+) -> Option<(usize, usize)>
+    requires book { IsBook config.now flows.now }
+    requires queue { is_queued ≡ true → IsQueue flows.now queue.now }
+    requires started { AllByRecursion (HasStartedBy start) (map live flows.now) }
+    ensures next { MatchOption result (NoneEligible config.now (map live flows.now) start room)
+        (λ found. IsSomeAnd (slice_get (map live flows.now) found.0)
+        (IsNext config.now (map live flows.now) start room)) }
+    ensures stands { is_queued ≡ true → IfSome result (λ found. Stands queue.now found.1 found.0) }
+{
+    if is_queued {
+        return first_in_turn(queue, flows, config, start, room);
+    }
+    match first_eligible(flows, config, start, room) {
+        Some(flow) => Some((place_of(flows, flow.sid), 0)),
+        None => None,
+    }
 }
 
 // The place of the first flow with a higher SID.
@@ -205,7 +246,9 @@ impl Book {
         requires { AllByRecursion (HasStartedBy start) self.now.flows }
         ensures { IsNextSid self.now.config start room self.now.flows result }
     {
-        match self.next_place(start, room) {
+        let queue = &self.queue;
+        let flows = &self.flows;
+        match next_place(queue, self.is_queued, flows, &self.config, start, room) {
             Some((place, _)) => Some(self.sid_at(place)),
             None => None,
         }
@@ -268,9 +311,13 @@ impl Book {
         ensures other_room { IfSome result (λ s. (other : ℕ)
             → other ≢ s.sid → room_of other self.new.rooms ≡ room_of other self.old.rooms) }
     {
-        let (place, index) = self.next_place(start, room)?;
-        let served = self.flows[place].serve(&self.config, start, room);
-        self.is_queued = follow_from(&mut self.queue, self.is_queued, &self.flows, place, index);
+        let queue = &self.queue;
+        let flows = &self.flows;
+        let (place, index) = next_place(queue, self.is_queued, flows, &self.config, start, room)?;
+        let flow = &mut self.flows[place];
+        let served = flow.serve(&self.config, start, room);
+        let waiting = waiting_of(flow, place);
+        self.is_queued = follow_from(&mut self.queue, self.is_queued, &self.flows, waiting, index);
         Some(served)
     }
 
@@ -288,23 +335,6 @@ impl Book {
         })
     }
 
-    // The place of the flow that the data grant of [`Book::eligible`] goes to, and where it stands in the queue if that
-    // is known.
-    fn next_place(&self, start: u64, room: u32) -> Option<(usize, usize)>
-        requires { AllByRecursion (HasStartedBy start) self.now.flows }
-        ensures { MatchOption result (NoneEligible self.now.config self.now.flows start room)
-            (λ found. IsSomeAnd (slice_get self.now.flows found.0)
-            (IsNext self.now.config self.now.flows start room)) }
-    {
-        if self.is_queued {
-            return first_in_turn(&self.queue, &self.flows, &self.config, start, room);
-        }
-        match first_eligible(&self.flows, &self.config, start, room) {
-            Some(flow) => Some((self.place(flow.sid), 0)),
-            None => None,
-        }
-    }
-
     // The live flow with this SID.
     fn at(&self, sid: u16) -> &Flow
         requires { IsLive sid self.now.flows }
@@ -320,9 +350,6 @@ impl Book {
         requires { IsLive sid self.now.flows }
         ensures { position (λ f. f.sid == sid) self.now.flows ≡ Some result }
     {
-        match place_in(&self.flows, sid) {
-            Some(place) => place,
-            None => unreachable!(),
-        }
+        place_of(&self.flows, sid)
     }
 }

@@ -57,6 +57,18 @@ impl Bucket {
         }
     }
 
+    // The same bucket again, field by field: it is copied with no stop in memory between.
+    pub(crate) fn again(&self) -> Bucket
+        ensures { result ≡ self.now }
+    {
+        Bucket {
+            per_slot: self.per_slot,
+            full: self.full,
+            level: self.level,
+            since: self.since,
+        }
+    }
+
     /// What there is at minislot `slot`, in 1/1280000 bytes: the least that a window of the grants leaves,
     /// and 0 where there is no ceiling. The grants start at or before `slot`.
     pub fn level_at(&self, slot: u64) -> u128
@@ -113,10 +125,14 @@ impl Bucket {
             return limit;
         }
         let level = self.level(slot);
-        let bytes = bytes_of(level, limit);
-        self.level = level - PARTS * u64::from(bytes);
+        let most = PARTS * u64::from(limit);
         self.since = slot;
-        bytes
+        if most <= level {
+            self.level = level - most;
+            return limit;
+        }
+        self.level = level % PARTS;
+        bytes_of(level, limit)
     }
 
     // The most bytes, up to the limit, of a grant that starts at this minislot.
@@ -135,8 +151,12 @@ impl Bucket {
         requires { self.now.since ≤ slot }
         ensures { result ≡ (most_of self.now slot bytes == bytes) }
     {
-        let level = self.level(slot);
-        self.per_slot == 0 || PARTS * u64::from(bytes) <= level
+        let wanted = PARTS * u64::from(bytes);
+        if self.per_slot == 0 || wanted <= self.level {
+            return true;
+        }
+        wanted <= self.full
+            && u128::from(wanted - self.level) <= brought(slot - self.since, self.per_slot)
     }
 }
 

@@ -1,7 +1,7 @@
 //! One live flow: what it asked, and what its data grants come to.
 
 ghost use Rattle.std.specs.Prelude.{◌≡◌, ℕ, ◌+◌, ◌-◌, ◌<◌, ◌≤◌, map, length, slice_index_or, IsTrue};
-ghost use Rattle.std.specs.Prelude.{◌↔◌, None, true, nat_lt, ◌&&◌, MatchOption, IfSome, option_map};
+ghost use Rattle.std.specs.Prelude.{◌↔◌, Option, None, Some, true, nat_lt, ◌&&◌, MatchOption, IfSome, option_map};
 ghost use Rattle.std.specs.Prelude.{option_copied, min, ◌++◌, ◌∷◌, []};
 ghost use Rattle.std.specs.List.{AllByRecursion};
 ghost use Rattle.minislots.specs.declared.config.Config.{Config};
@@ -47,19 +47,22 @@ const TURNS: u128 = 1 << 65;
 // The SIDs of a turn.
 const SIDS: u128 = 1 << 16;
 
+// The turns of all SIDs of a rank.
+const RANKS: u128 = TURNS * SIDS;
+
 // A live flow.
 #[derive(Drop)]
 pub(crate) struct Flow {
-    pub(crate) sid: u16,
-    pub(crate) spec: FlowSpec,
+    // Its turn among the flows that may be served: the least is served first.
+    pub(crate) turn: u128,
     // The bytes of all requests.
     pub(crate) asked: u64,
     // The bytes of all data grants.
     granted: u64,
-    // Its turn among the flows that may be served: the least is served first.
-    pub(crate) turn: u128,
     // What the data grants leave under the rate ceiling.
     bucket: Bucket,
+    pub(crate) spec: FlowSpec,
+    pub(crate) sid: u16,
     // The data grants, in order, for contracts alone.
     pub(crate) grants: GrantList,
 }
@@ -74,7 +77,7 @@ impl Clone for Flow {
             asked: self.asked,
             granted: self.granted,
             turn: self.turn,
-            bucket: self.bucket,
+            bucket: self.bucket.again(),
             grants: GrantList::with_room(&self.grants, &0),
         })
     }
@@ -91,7 +94,7 @@ impl Flow {
             spec,
             asked: 0,
             granted: 0,
-            turn: turn_of(spec.rank(), None, sid),
+            turn: turn_of(spec.rank(), sid),
             bucket: Bucket::open(config, spec.rate(), spec.burst()),
             grants: GrantList::none(),
         }
@@ -195,6 +198,8 @@ impl Flow {
             ≡ with_grant (record { start = start; bytes = result.bytes }) (live self.old) }
         ensures space { (room_in self.new).grants + 1 ≡ (room_in self.old).grants }
         ensures sums { KeepsSums config.now self.new }
+        ensures within { granted (live self.new) ≤ self.new.asked }
+        ensures later { self.old.turn ≤ self.new.turn }
     {
         let limit = self.limit(config, room);
         let bytes = self.bucket.take_most(start, limit);
@@ -231,9 +236,11 @@ impl Flow {
             → StandsFor c (rate_of self.old.spec) (burst_of self.old.spec) self.old.bucket
             (self.old.grants.items ++ record { start = start; bytes = bytes } ∷ [])
             → KeepsSums c self.new }
+        ensures later { KnowsTurn self.old → HaveStartedBy start self.old.grants.items
+            → self.old.turn ≤ self.new.turn }
     {
         self.granted += u64::from(bytes);
-        self.turn = turn_of(self.spec.rank(), Some(start), self.sid);
+        self.turn = turn_after(self.turn, start);
         self.grants = GrantList::and(&self.grants, &Grant { start, bytes });
     }
 }
@@ -282,13 +289,19 @@ fn both(a: bool, b: bool) -> bool
     a & b
 }
 
-// The turn of a flow of this rank, whose last data grant starts there.
-fn turn_of(rank: u8, last: Option<u64>, sid: u16) -> u128
-    ensures { IsTurn rank last sid result }
+// The turn of a flow of this rank that has no data grant yet.
+fn turn_of(rank: u8, sid: u16) -> u128
+    ensures { IsTurn rank None sid result }
 {
-    let starts = match last {
-        Some(start) => u128::from(start) + 1,
-        None => 0,
-    };
-    (u128::from(u8::MAX - rank) * TURNS + starts) * SIDS + u128::from(sid)
+    u128::from(u8::MAX - rank) * TURNS * SIDS + u128::from(sid)
+}
+
+// The turn of a flow that had this one, after a data grant that starts there: of the same rank and SID.
+fn turn_after(turn: u128, start: u64) -> u128
+    ensures after { (rank sid : ℕ) (last : Option ℕ)
+        → IsTurn rank last sid turn → IsTurn rank (Some start) sid result }
+    ensures later { (rank sid : ℕ) (last : Option ℕ)
+        → IsTurn rank last sid turn → IfSome last (λ m. m ≤ start) → turn ≤ result }
+{
+    turn / RANKS * RANKS + (u128::from(start) + 1) * SIDS + turn % SIDS
 }

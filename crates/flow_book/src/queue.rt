@@ -2,15 +2,16 @@
 
 ghost use Rattle.std.specs.Prelude.{◌==◌, nat_lt, position, true, false, ◌+◌, ◌^◌, insert};
 ghost use Rattle.std.specs.Prelude.{ℕ, ◌≡◌, ◌≢◌, ◌<◌, ◌≤◌, List, remove, slice_index_or, map, length, OnOk, IfOk};
-ghost use Rattle.std.specs.Prelude.{IsSomeAnd, MatchOption, slice_get};
+ghost use Rattle.std.specs.Prelude.{IsSomeAnd, IfSome, MatchOption, slice_get};
 ghost use Rattle.std.specs.List.{AllByRecursion, position_or_len};
 ghost use Rattle.minislots.specs.declared.config.Config.{Config};
 ghost use Rattle.flow_book.specs.declared.flow.Flow.{Flow};
-ghost use Rattle.flow_book.specs.Flows.{outstanding};
+ghost use Rattle.flow_book.specs.Flows.{granted, outstanding};
 ghost use Rattle.flow_book.specs.Choice.{HasStartedBy, IsNext, NoneEligible};
 ghost use Rattle.flow_book.specs.Entry.{live, IsBook};
 ghost use Rattle.flow_book.specs.Sids.{AscendBy, put_in};
-ghost use Rattle.flow_book.specs.Queue.{IsQueue, IsQueueAmong, IsMoved, AreSameBut, moved_up, moved_down};
+ghost use Rattle.flow_book.specs.Queue.{IsAt, IsQueue, IsQueueAmong, IsMoved, AreSameBut};
+ghost use Rattle.flow_book.specs.Queue.{Stands, StandsBefore, moved_up, moved_down};
 
 use crate::flow::Flow;
 use minislots::Checked;
@@ -82,9 +83,10 @@ pub(crate) fn first_in_turn(
     requires book { IsBook config.now flows.now }
     requires queue { IsQueue flows.now queue.now }
     requires started { AllByRecursion (HasStartedBy start) (map live flows.now) }
-    ensures { MatchOption result (NoneEligible config.now (map live flows.now) start room)
+    ensures next { MatchOption result (NoneEligible config.now (map live flows.now) start room)
         (λ found. IsSomeAnd (slice_get (map live flows.now) found.0)
         (IsNext config.now (map live flows.now) start room)) }
+    ensures stands { IfSome result (λ found. Stands queue.now found.1 found.0) }
 {
     let quantum = u64::from(config.quantum());
     let fits = config.bytes_in(room);
@@ -152,28 +154,19 @@ fn put_again(queue: &mut Vec<Waiting>, flows: &[Flow], place: usize) -> Result<(
     Ok(())
 }
 
-// Moves the flow at this place of a book, which has changed, back to its turn where it stands here in the queue, still
-// waits, and its turn is no earlier. Else nothing changes, and the answer is false.
-fn sink(queue: &mut [Waiting], flows: &[Flow], place: usize, index: usize) -> bool
-    requires book { (c : Config) × IsBook c flows.now }
-    requires within { place < length flows.now }
-    requires queue { (before : List Flow)
-        × AreSameBut place before flows.now × IsQueue before queue.old }
-    ensures moved { result ≡ true → IsQueue flows.now queue.new }
-    ensures same { result ≡ false → queue.new ≡ queue.old }
-    ensures len { length queue.new ≡ length queue.old }
+// What the queue has of the flow at this place.
+pub(crate) fn waiting_of(flow: &Flow, place: usize) -> Waiting
+    requires sum { flow.now.granted ≡ granted (live flow.now) }
+    requires within { granted (live flow.now) ≤ flow.now.asked }
+    ensures turn { result.turn ≡ flow.now.turn }
+    ensures wants { result.wants ≡ outstanding (live flow.now) }
+    ensures place { result.place ≡ place }
 {
-    let flow = &flows[place];
-    let wants = flow.outstanding();
-    let turn = flow.turn;
-    if wants == 0 || index >= queue.len() {
-        return false;
+    Waiting {
+        turn: flow.turn,
+        wants: flow.outstanding(),
+        place,
     }
-    if queue[index].place != place || turn < queue[index].turn {
-        return false;
-    }
-    move_back(queue, index, Waiting { turn, wants, place });
-    true
 }
 
 // Takes the flow at this place out of the queue, where it is in it.
@@ -268,22 +261,24 @@ pub(crate) fn follow(
     is_queued && put_again(queue, flows, place).is_ok()
 }
 
-// The same, where the flow most likely stands here in the queue.
+// The same, of one that stood here in the queue, at a turn no later.
 pub(crate) fn follow_from(
     queue: &mut Vec<Waiting>,
     is_queued: bool,
     flows: &[Flow],
-    place: usize,
+    waiting: Waiting,
     index: usize,
 ) -> bool
     requires book { (c : Config) × IsBook c flows.now }
-    requires within { place < length flows.now }
+    requires at { IsAt flows.now waiting }
     requires queue { is_queued ≡ true → (before : List Flow)
-        × AreSameBut place before flows.now × IsQueue before queue.old.items }
+        × AreSameBut waiting.place before flows.now × IsQueue before queue.old.items }
+    requires stands { is_queued ≡ true → StandsBefore queue.old.items index waiting }
     ensures { result ≡ true → IsQueue flows.now queue.new.items }
 {
-    if is_queued && sink(queue, flows, place, index) {
+    if is_queued && waiting.wants > 0 {
+        move_back(queue, index, waiting);
         return true;
     }
-    follow(queue, is_queued, flows, place)
+    follow(queue, is_queued, flows, waiting.place)
 }

@@ -10,6 +10,7 @@ ghost use Rattle.periodic.specs.declared.placement.Spot.{Spot};
 ghost use Rattle.map_build.specs.declared.TheConstants.{MAX_DATA_GRANTS, MAX_WAITING};
 ghost use Rattle.map_build.specs.declared.opportunity.Opportunity.{Opportunity};
 ghost use Rattle.map_build.specs.Plan.{demand_at};
+ghost use Rattle.map_build.specs.UsageCodes.{long_iuc};
 ghost use Rattle.map_build.specs.FrameMap.{map_with};
 ghost use Rattle.map_build.specs.Spots.{AreInFrame};
 ghost use Rattle.map_build.specs.Draft.{Puts, PutsAllocation, PutsPending, Ends};
@@ -125,16 +126,18 @@ impl Draft {
         requires { self.old.offset ≡ self.old.book.config.frame }
         ensures { OnOk result (PutsPending self.old.book.flows self.old self.new) }
     {
+        let iuc = long_iuc(self.book.config());
         for place in 0..self.book.len() {
-            self.put_pending_of(place)?;
+            self.put_pending_of(place, iuc)?;
         }
         Ok(())
     }
 
-    // The pending grant of the flow at this place, if it has bytes outstanding.
-    fn put_pending_of(&mut self, place: usize) -> Result<(), AllocError>
+    // The pending grant of the flow at this place, of the usage code of such grants, if it has bytes outstanding.
+    fn put_pending_of(&mut self, place: usize, iuc: u8) -> Result<(), AllocError>
         requires inside { place < length self.old.book.flows }
         requires end { self.old.offset ≡ self.old.book.config.frame }
+        requires code { iuc ≡ long_iuc self.old.book.config }
         ensures { OnOk result (IfSome (slice_get self.old.book.flows place)
             (λ f. PutsPending (f ∷ []) self.old self.new)) }
     {
@@ -142,7 +145,6 @@ impl Draft {
             return Ok(());
         }
         let sid = self.book.sid_at(place);
-        let iuc = long_iuc(self.book.config());
         self.put(sid, iuc, 0)?;
         Ok(())
     }

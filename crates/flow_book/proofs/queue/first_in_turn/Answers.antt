@@ -3,7 +3,7 @@ use Rattle.std.proofs.Common.{◌≡◌, ℕ, ◌+◌, ◌<◌, refl, sym, ap, �
 use Rattle.std.proofs.Common.{slice_get}
 use Rattle.std.proofs.Common.{List, Some, true, false, arith}
 use Rattle.std.specs.List.{AllByRecursion}
-use Rattle.std.proofs.lemmas.List.{take_more, drop_more, take-append-drop, take_all}
+use Rattle.std.proofs.lemmas.List.{get_or_default, take_more, drop_more, take-append-drop, take_all}
 use Rattle.std.proofs.lemmas.List.Elements.{All-from_recursion}
 use Rattle.std.proofs.lemmas.Option.{slice_get_read, slice_get-map}
 use Rattle.flow_book.specs.declared.flow.Flow.{Flow}
@@ -60,8 +60,17 @@ may_take-requires c =
     c.args.start
     (started c.args.config.now items queue c.args.start i f c.requires.book c.requires.queue lt at c.requires.started)
 
-pub returns-then-may_take : goal.returns-then-may_take
-returns-then-may_take c =
+pub returns-then-may_take-clause-stands : goal.returns-then-may_take-clause-stands
+returns-then-may_take-clause-stands c =
+    let queue = c.args.queue.now in
+    let i = c.loop-index.index in
+    record {
+      within = c.loop-index-test.true;
+      here = λ d. ap (λ (w : Waiting). w.place) (get_or_default queue i d nobody c.loop-index-test.true);
+    }
+
+pub returns-then-may_take-clause-next : goal.returns-then-may_take-clause-next
+returns-then-may_take-clause-next c =
     let channel = c.args.config.now in
     let items = c.args.flows.now in
     let queue = c.args.queue.now in
@@ -119,8 +128,8 @@ loop-index-preserved c =
     subst (AllByRecursion P) (sym (take_more queue i nobody lt))
     (all-push P (take i queue) w c.loop-index.invariant passed)
 
-pub returns : goal.returns
-returns c =
+pub returns-clause-next : goal.returns-clause-next
+returns-clause-next c =
     let queue = c.args.queue.now in
     let P = IsPassed c.args.config.now c.args.start c.args.room c.args.flows.now in
     let all : take c.loop-index.index queue ≡ queue = take_all _ _

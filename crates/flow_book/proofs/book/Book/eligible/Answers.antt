@@ -2,4 +2,5 @@
 use Rattle.flow_book.proofs.book.Book.eligible.Goals as goal
 
 pub returns-in-Some : goal.returns-in-Some
-returns-in-Some c = rw c.sid_at.ensures.found c.in-Some.ensures
+returns-in-Some c =
+    rw c.sid_at.ensures.found (rw (← c.self.view_is) (rw c.deref-2.ensures.value at c.in-Some.ensures.next))

@@ -4,7 +4,7 @@ use Rattle.flow_book.specs.FlowSpec.{rank_of}
 use Rattle.flow_book.specs.Flows.{bytes_of}
 use Rattle.flow_book.specs.Choice.{last_start}
 use Rattle.flow_book.specs.Entry.{IsTurn}
-use Rattle.flow_book.proofs.Sums.{last-more, bytes-added}
+use Rattle.flow_book.proofs.Sums.{last-more, last-started, bytes-added}
 use Rattle.flow_book.proofs.flow.Flow.note.Goals as goal
 
 pub returns-clause-sums : goal.returns-clause-sums
@@ -14,10 +14,16 @@ returns-clause-sums c = λ channel sum knows stands.
     omega (arith, sum, c.from.ensures) in
     let items = c.and-self.ensures.0 in
     let last = ap last_start items ∙ last-more f.grants.items (record { start = c.args.start; bytes = c.args.bytes }) in
-    let turn : IsTurn (rank_of f.spec) (Some c.args.start) f.sid c.turn_of-self.result =
-    rw c.rank.ensures at c.turn_of-self.ensures in
+    let turn : IsTurn (rank_of f.spec) (Some c.args.start) f.sid c.turn_after-self.result =
+    c.turn_after-self.ensures.after (rank_of f.spec) f.sid (last_start f.grants.items) knows.1 in
     record {
       granted = bytes ∙ sym (ap bytes_of items ∙ bytes-added f.grants.items c.args.start c.args.bytes);
       turn = (knows.0, rw last turn);
       bucket = rw items stands;
     }
+
+pub returns-clause-later : goal.returns-clause-later
+returns-clause-later c = λ knows started.
+    let f = c.args.self.now in
+    c.turn_after-self.ensures.later (rank_of f.spec) f.sid (last_start f.grants.items) knows.1
+    (last-started c.args.start f.grants.items started)

@@ -1,8 +1,10 @@
 -- The most that it may have is its amount: it was asked, and keeps the ceiling.
-use Rattle.std.proofs.Common.{arith}
+use Rattle.std.proofs.Common.{◌≤◌, sym, subst, arith}
 use Rattle.flow_book.specs.FlowSpec.{rate_of, burst_of}
+use Rattle.flow_book.specs.Flows.{LiveFlow, granted}
 use Rattle.flow_book.specs.Entry.{live}
 use Rattle.flow_book.proofs.Amounts.{amount-of_most, most-in-bucket}
+use Rattle.flow_book.proofs.Changes.{granted-sound}
 use Rattle.flow_book.proofs.flow.Flow.serve.Goals as goal
 
 pub take_most-bytes-requires : goal.take_most-bytes-requires
@@ -27,9 +29,20 @@ returns-clause-amount c =
     amount-of_most c.args.config.now c.limit-limit.ensures.lawful c.args.start c.args.room f c.take_most-bytes.result
     c.requires.may most
 
+pub returns-clause-within : goal.returns-clause-within
+returns-clause-within c =
+    let f = live c.args.self.now in
+    let amount = returns-clause-amount c in
+    subst (λ (g : LiveFlow). granted g ≤ g.asked) (sym c.note.ensures.live)
+    (granted-sound c.args.config.now c.args.start c.take_most-bytes.result c.args.room f c.requires.sound
+    amount.allowed).within
+
 pub returns-clause-sums : goal.returns-clause-sums
 returns-clause-sums c =
     let f = c.args.self.now in
     c.note.ensures.sums c.args.config.now c.requires.sums.granted c.requires.sums.turn
     (c.take_most-bytes.ensures.taken c.args.config.now (rate_of f.spec) (burst_of f.spec) f.grants.items
     c.requires.sums.bucket c.requires.started)
+
+pub returns-clause-later : goal.returns-clause-later
+returns-clause-later c = c.note.ensures.later c.requires.sums.turn c.requires.started

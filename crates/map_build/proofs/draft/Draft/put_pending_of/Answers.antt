@@ -11,5 +11,5 @@ returns-then-outstanding_at-eq0 c =
 pub returns : goal.returns
 returns c =
     PutsPending-some c.sid_at-sid.result c.outstanding_at.result c.args.self.now c.put.new.self c.requires.end
-    (omega arith) (rw (c.long_iuc-iuc.ensures, c.config.ensures.value) at c.in_ok-put.ensures)
+    (omega arith) (rw c.requires.code at c.in_ok-put.ensures)
     (slice_get c.args.self.now.book.flows c.args.place) c.sid_at-sid.ensures.value c.outstanding_at.ensures
