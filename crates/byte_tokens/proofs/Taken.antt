@@ -3,18 +3,19 @@ use Rattle.std.proofs.Common.{◌≡◌, ◌^◌, ◌<◌, ℕ, true, false, tru
 use Rattle.std.proofs.Common.{◌∙◌, inl, inr, length, drop, append_assoc}
 use Rattle.std.proofs.Math.Seq.{drop-length}
 use Rattle.std.specs.Prelude.{◌⊎◌}
-use Rattle.json.specs.Token.{begin_object, end_object, begin_array, end_array, key, string, number}
+use Rattle.json.specs.Token.{Token, begin_object, end_object, begin_array, end_array, key, string, number}
 use Rattle.json.specs.Word.{ends_word}
 use Rattle.json.specs.Print.{escape}
 use Rattle.json.specs.Text.{content, plain}
 use Rattle.json.specs.Lex.{Lexeme, token, colon, string_token, lex, between, in_string, begins_colon, punctuate}
-use Rattle.json.specs.Lex.{after_value, fresh}
+use Rattle.json.specs.Lex.{after_value, after_comma, fresh}
 use Rattle.json.proofs.Printed.Strings.{content-escape, lex-escape}
 use Rattle.json.proofs.Printed.Numbers.{lex-number}
 use Rattle.json.proofs.Printed.Decimals.{IsNumber-decimal}
 use Rattle.byte_tokens.specs.declared.quick.Before.{Before}
 use Rattle.byte_tokens.specs.declared.quick.Before.TheVariants.{Opening, Value, Comma}
 use Rattle.byte_tokens.specs.Left.{tokens_from, begins_at, closes_at, EndsValue}
+use Rattle.byte_tokens.specs.Listed.{number_tokens}
 use Rattle.byte_tokens.specs.Spelled.{spelled_key, spelled_text}
 
 impossible : {P : Type 0} → false ≡ true → P
@@ -166,3 +167,29 @@ unfolding punctuate
 none_left Opening may t none = rw none refl
 none_left Value may t none = rw none refl
 none_left Comma may t none = impossible may
+
+-- one number more
+pub number_more : (ns : List ℕ) (n : ℕ) (ts : List Token)
+    → number_tokens ns ++ number (decimal n) ∷ ts ≡ number_tokens (ns ++ n ∷ []) ++ ts
+unfolding number_tokens
+number_more [] n ts = refl
+number_more (m ∷ ns) n ts = ap (λ l. number (decimal m) ∷ l) (number_more ns n ts)
+
+-- the first number of a list
+pub one_number : (b : Before) → begins_at b ≡ true → (t r ns : List ℕ) (n : ℕ) → n < 2 ^ 64 → ns ≡ n ∷ []
+    → t ≡ decimal n ++ r → EndsValue r → tokens_from b t ≡ number_tokens ns ++ tokens_from Value r
+unfolding number_tokens
+one_number b may t r ns n fits one is ends =
+    number_left b may t r n fits is ends ∙ ap (λ l. number_tokens l ++ tokens_from Value r) (sym one)
+
+-- behind a comma, and the space that may follow it, one number more of a list
+pub next_number : (b : Before) (whole t r s q ns more : List ℕ) (n : ℕ)
+    → tokens_from b whole ≡ number_tokens ns ++ tokens_from Value t
+    → t ≡ 44 ∷ r → lex between s ≡ lex between r → n < 2 ^ 64 → more ≡ ns ++ n ∷ []
+    → s ≡ decimal n ++ q → EndsValue q → tokens_from b whole ≡ number_tokens more ++ tokens_from Value q
+next_number b whole t r s q ns more n before comma space fits one is ends =
+    before
+    ∙ ap (λ ts. number_tokens ns ++ ts)
+    (sym (comma_passed t r comma) ∙ sym (ap (punctuate after_comma) space) ∙ number_left Comma refl s q n fits is ends)
+    ∙ number_more ns n (tokens_from Value q)
+    ∙ ap (λ l. number_tokens l ++ tokens_from Value q) (sym one)

@@ -1,2 +1,4 @@
 pub mod Left
 pub mod Spelled
+pub mod Hexadecimal
+pub mod Listed

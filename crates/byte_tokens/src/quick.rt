@@ -1,6 +1,6 @@
 //! A reader of tokens.
 
-ghost use Rattle.std.specs.Prelude.{◌≡◌, ◌^◌, ◌<◌, ◌≤◌, ◌∷◌, [], Some, IsTrue, IfSome, option_map};
+ghost use Rattle.std.specs.Prelude.{◌≡◌, ◌^◌, ◌<◌, ◌≤◌, ◌∷◌, ◌++◌, [], true, Some, IsTrue, IfSome, option_map};
 ghost use Rattle.std.specs.Prelude.{List, ℕ, Ok, decimal, length, drop};
 ghost use Rattle.json.specs.Print.{escape};
 ghost use Rattle.std.specs.Bool.{MatchBool};
@@ -8,7 +8,9 @@ ghost use Rattle.json.specs.Token.{begin_object, end_object, begin_array, end_ar
 ghost use Rattle.json.specs.Lex.{tokens, between, lex, after_value, punctuate};
 ghost use Rattle.json.specs.Json.{read_key};
 ghost use Rattle.hex.specs.Hex.{decode_of};
+ghost use Rattle.byte_tokens.specs.declared.quick.Before.{Before};
 ghost use Rattle.byte_tokens.specs.Left.{tokens_from, begins_at, closes_at, EndsValue};
+ghost use Rattle.byte_tokens.specs.Listed.{number_tokens};
 ghost use Rattle.byte_tokens.specs.Spelled.{spelled_key, spelled_text};
 
 use super::hexadecimal::hex_at;
@@ -76,7 +78,7 @@ impl<'a> Model for Quick<'a> {
 fn behind_space(text: &[u8], at: usize) -> usize
     requires { at ≤ length text.now }
     ensures same { lex between (drop result text.now) ≡ lex between (drop at text.now) }
-    ensures within { result ≤ length text.now }
+    ensures within { (at ≤ result) × (result ≤ length text.now) }
 {
     if byte_at(text, at) == b' ' {
         at + 1
@@ -115,6 +117,42 @@ fn ended_value(text: &[u8], at: usize) -> Option<(usize, Before)>
         return None;
     }
     Some((at, Before::Value))
+}
+
+// Puts the number below 2^32 that is spelled at a place behind others, and tells where its digits end.
+fn push_number(text: &[u8], from: usize, numbers: &mut Vec<u32>) -> Option<usize>
+    ensures { IfSome result (λ at. (n : ℕ) × (n < 2 ^ 64) × (from < at) × (at ≤ length text.now)
+        × (numbers.new.items ≡ numbers.old.items ++ n ∷ [])
+        × (drop from text.now ≡ decimal n ++ drop at text.now)) }
+{
+    let (number, at) = number_at(text, from)?;
+    let Ok(fits) = u32::try_from(number) else {
+        return None;
+    };
+    let Ok(()) = numbers.push(fits) else {
+        return None;
+    };
+    Some(at)
+}
+
+// How many numbers of a list have room before it grows.
+const ROOM: usize = 64;
+
+// The numbers below 2^32 of a list, each but the first behind a comma, and where the digits of the last end.
+fn numbers_at(alloc: Global, text: &[u8], from: usize) -> Option<(Vec<u32>, usize)>
+    ensures within { IfSome result (λ r. r.1 ≤ length text.now) }
+    ensures are { IfSome result (λ r. (b : Before) → begins_at b ≡ true
+        → EndsValue (drop r.1 text.now) → tokens_from b (drop from text.now)
+        ≡ number_tokens r.0.items ++ tokens_from Before.Value (drop r.1 text.now)) }
+{
+    let Ok(mut numbers) = Vec::with_capacity(alloc, ROOM) else {
+        return None;
+    };
+    let mut at = push_number(text, from, &mut numbers)?;
+    'more: while byte_at(text, at) == b',' {
+        at = push_number(text, behind_space(text, at + 1), &mut numbers)?;
+    }
+    Some((numbers, at))
 }
 
 // Whether the text ends at a place, or with one line feed more.
@@ -319,6 +357,26 @@ impl<'a> Quick<'a> {
         self.at = at;
         self.before = before;
         Some(found)
+    }
+
+    /// Takes whole numbers below 2^32, one or more, and the bracket that closes their array. There are none where
+    /// memory runs out.
+    pub fn take_u32s(&mut self, alloc: Global) -> Option<Vec<u32>>
+        ensures { IfSome result (λ numbers.
+            self.old ≡ number_tokens numbers.items ++ end_array ∷ self.new) }
+    {
+        if !self.before.may_begin() {
+            return None;
+        }
+        let text = self.text.as_bytes();
+        let (numbers, at) = numbers_at(alloc, text, self.at)?;
+        if byte_at(text, at) != b']' {
+            return None;
+        }
+        let (at, before) = behind_value(text, at + 1);
+        self.at = at;
+        self.before = before;
+        Some(numbers)
     }
 
     /// Whether a quote stands next. No clause says so: what is taken after it is right whatever it answers.

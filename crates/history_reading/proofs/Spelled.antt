@@ -1,14 +1,16 @@
 -- Replies and entries that are read member by member, in the order in which they are written.
 use Rattle.std.proofs.Common.{◌≡◌, ℕ, ◌-◌, ◌<◌, ◌^◌, List, [], ◌∷◌, length, Option, Some, None, Ok, refl, ◌∙◌, arith}
-use Rattle.std.proofs.Common.{lt-ltb, bytes_eq, true, ap, subst}
+use Rattle.std.proofs.Common.{lt-ltb, bytes_eq, true, sym, ap, subst, suc, ◌++◌, decimal, slice_index, add-one}
+use Rattle.std.proofs.lemmas.List.{append_assoc, append-nil}
 use Rattle.std.proofs.lemmas.Slice.Eq.{bytes_eq-Decides}
 use Rattle.std.specs.Prelude.{codes, IfSome}
 use Rattle.hex.specs.Hex.{decode_of}
 use Rattle.json.specs.Token.{Token}
-use Rattle.json.specs.Json.{read_key, value}
+use Rattle.json.specs.Json.{read_key, value, items, after_end_array}
 use Rattle.json.proofs.Grammar.{read_key-shorter}
 use Rattle.serde_json.specs.Data.{Data, number, unsigned, string, array, object, Items, Members, no_members, put}
-use Rattle.serde_json.specs.Read.{of_json, converted}
+use Rattle.serde_json.specs.Read.{of_json, of_items, converted}
+use Rattle.serde_json.proofs.Numbers.{number_of-decimal}
 use Rattle.serde_json.specs.View.{items_of}
 use Rattle.map_codec.specs.declared.wire_map.WireMap.{WireMap}
 use Rattle.sched_history.specs.declared.call.Call.{Call}
@@ -18,7 +20,11 @@ use Rattle.sched_history.specs.declared.reply.Reply.TheVariants.{Refused, Reserv
 use Rattle.sched_history.specs.declared.reply.Refusal.{Refusal}
 use Rattle.json_fields.specs.Fields.{below, u32_at, u64_at, number_at, text_at}
 use Rattle.json_fields.specs.Listed.{StandEach}
-use Rattle.json_fields.proofs.PlainValues.{member_read, members_over}
+use Rattle.byte_tokens.specs.Listed.{number_tokens}
+use Rattle.json_fields.proofs.Items.{ItemsLeft, ItemsLeft-more, items_over}
+use Rattle.json_fields.proofs.PlainValues.{member_read, members_over, unsigned_read}
+use Rattle.json_fields.proofs.Things.{StandEach-push}
+use Rattle.call_reading.proofs.Quick.{goes_on}
 use Rattle.call_reading.specs.Calls.{call_of}
 use Rattle.history_reading.specs.Refusals.{refusal_with}
 use Rattle.history_reading.specs.Replies.{number_below, numbers_of, numbers_at, placed_reply, admitted_reply, map_of}
@@ -88,6 +94,35 @@ numbers_made limit [] [] each = refl
 numbers_made limit [] (n ∷ ns) each = absurd each
 numbers_made limit (d ∷ ds) [] each = absurd each
 numbers_made limit (d ∷ ds) (n ∷ ns) each = rw each.0 (rw (numbers_made limit ds ns each.1) refl)
+
+-- what follows items that were read, when numbers do and then the bracket behind them
+pub numbers_follow : (depth : ℕ) (whole ts r : List Token) (ds : List Data) (past ns : List ℕ)
+    → ItemsLeft (value depth) whole ds ts → StandEach (IsBelow (2 ^ 32)) ds past
+    → ((i : ℕ) → slice_index ns i < 2 ^ 32) → ts ≡ number_tokens ns ++ Token.end_array ∷ r
+    → (all : List Data) × (converted of_items (items (value depth) (length whole) whole) ≡ Some (items_of all, r))
+    × StandEach (IsBelow (2 ^ 32)) all (past ++ ns)
+unfolding number_tokens
+numbers_follow depth whole ts r ds past [] left each fits is = (
+  ds,
+  items_over (value depth) whole ts r ds left (ap after_end_array is),
+  subst (StandEach (IsBelow (2 ^ 32)) ds) (sym (append-nil past)) each,
+)
+numbers_follow depth whole ts r ds past (n ∷ ns) left each fits is =
+    let rest = number_tokens ns ++ Token.end_array ∷ r in
+    let one : n < 2 ^ 32 = fits 0 in
+    let reads : converted of_json (value depth ts) ≡ Some (count n, rest) =
+    unsigned_read depth ts rest (decimal n) n is (number_of-decimal n (omega arith)) in
+    let shorter : length rest < length ts = omega (arith, ap length is, add-one (length rest)) in
+    let more = ds ++ count n ∷ [] in
+    let next = numbers_follow depth whole rest r more (past ++ n ∷ []) ns
+    (ItemsLeft-more (value depth) whole ts rest ds left more (count n) (goes_on depth ts (count n) rest reads) reads
+    shorter refl)
+    (StandEach-push (IsBelow (2 ^ 32)) ds past (count n) n each (number_made (2 ^ 32) n one))
+    (λ i. fits (suc i)) refl in (
+      next.0,
+      next.1,
+      subst (StandEach (IsBelow (2 ^ 32)) next.0) (append_assoc past (n ∷ []) ns) next.2,
+    )
 
 -- ---- replies
 

@@ -1,6 +1,6 @@
 //! Arrays of whole numbers in their usual spelling.
 
-ghost use Rattle.std.specs.Prelude.{◌≡◌, ◌^◌, ◌<◌, ℕ, List, Some, IfOk, OnOk, length};
+ghost use Rattle.std.specs.Prelude.{◌≡◌, ◌^◌, ◌<◌, ℕ, List, Some, IfOk, OnOk, length, slice_index};
 ghost use Rattle.json.specs.Json.{value, items};
 ghost use Rattle.serde_json.specs.Data.{Data, Items, array};
 ghost use Rattle.serde_json.specs.Read.{of_json, of_items, converted};
@@ -30,20 +30,6 @@ fn read_u16(reader: &mut Quick<'_>) -> Result<u16, Stop>
     Ok(fits)
 }
 
-// A whole number that fits.
-fn read_u32(reader: &mut Quick<'_>) -> Result<u32, Stop>
-    ensures is { IfOk result (λ n. (d : Data)
-        × ((depth : ℕ) → converted of_json (value depth reader.old) ≡ Some (d, reader.new))
-        × (number_below (2 ^ 32) d ≡ Some n)) }
-    ensures shorter { OnOk result (length reader.new < length reader.old) }
-{
-    let number = read_number(reader)?;
-    let Ok(fits) = u32::try_from(number) else {
-        return Err(Stop::Unusual);
-    };
-    Ok(fits)
-}
-
 // The numbers of an array whose bracket was taken, and the bracket that closes it.
 fn read_u16s(alloc: Global, reader: &mut Quick<'_>, depth: usize) -> Result<Vec<u16>, Stop>
     ensures are { IfOk result (λ numbers. (ds : List Data)
@@ -60,6 +46,12 @@ fn read_u16s(alloc: Global, reader: &mut Quick<'_>, depth: usize) -> Result<Vec<
     Ok(numbers)
 }
 
+// Does nothing: it tells the proof of its caller what the type says of each number.
+#[inline(always)]
+fn tell_fit(numbers: &[u32])
+    ensures { (i : ℕ) → slice_index numbers.now i < 2 ^ 32 }
+{}
+
 // The numbers of an array whose bracket was taken, and the bracket that closes it.
 fn read_u32s(alloc: Global, reader: &mut Quick<'_>, depth: usize) -> Result<Vec<u32>, Stop>
     ensures are { IfOk result (λ numbers. (ds : List Data)
@@ -68,11 +60,13 @@ fn read_u32s(alloc: Global, reader: &mut Quick<'_>, depth: usize) -> Result<Vec<
         × StandEach (λ d n. number_below (2 ^ 32) d ≡ Some n) ds numbers.items) }
     ensures shorter { OnOk result (length reader.new < length reader.old) }
 {
-    let mut numbers = Vec::new(alloc);
-    'items: while !reader.take_end_array() {
-        let number = read_u32(reader)?;
-        numbers.push(number)?;
+    if reader.take_end_array() {
+        return Ok(Vec::new(alloc));
     }
+    let Some(numbers) = reader.take_u32s(alloc) else {
+        return Err(Stop::Unusual);
+    };
+    tell_fit(&numbers);
     Ok(numbers)
 }
 

@@ -26,9 +26,9 @@ returns c =
     ∙ (λ i. quote i ∷ drop (stop + 1) (whole i))
     ∙ ap (λ l. 34 ∷ l) (drop-drop (stop + 1) (at + 1) text)
     ∙ ap (λ k. 34 ∷ drop k text) (omega arith) in
-    let digits = c.in-Ok.ensures.ok in (
+    let digits = c.in_ok-bytes.ensures in (
       s,
-      digits_plain s (decode_of-ok s c.in-Ok.bytes.items digits).1,
+      digits_plain s (decode_of-ok s c.in_ok-bytes.bytes.items digits).1,
       digits,
       omega (arith, within, ap length whole, length-drop (at + 1) text),
       here ∙ ap (λ l. 34 ∷ l) (sym whole ∙ sym (take-append-drop stop behind) ∙ ap (λ l. s ++ l) next),

@@ -1,54 +1,29 @@
--- Each turn takes a number from the items that are left.
-use Rattle.std.proofs.Common.{◌≡◌, ◌^◌, ◌<◌, [], ◌∷◌, ◌++◌, length, Some, sym, ap, refl, arith, subst, add-one}
+-- The numbers are the items of the array, up to its bracket.
+use Rattle.std.proofs.Common.{◌≡◌, ◌∷◌, ◌++◌, ◌^◌, ◌<◌, ℕ, [], refl, sym, ap, subst, slice_index, arith}
 use Rattle.json.specs.Token.{Token}
 use Rattle.json.specs.Json.{after_end_array, value}
-use Rattle.serde_json.specs.Read.{of_json, converted}
+use Rattle.byte_tokens.specs.Listed.{number_tokens}
 use Rattle.json_fields.specs.Listed.{StandEach}
-use Rattle.json_fields.proofs.Items.{ItemsLeft-none, ItemsLeft-more, items_over}
-use Rattle.json_fields.proofs.Things.{StandEach-push}
-use Rattle.call_reading.proofs.Quick.{goes_on}
-use Rattle.history_reading.proofs.Spelled.{IsBelow}
+use Rattle.json_fields.proofs.Items.{ItemsLeft-none, items_over}
+use Rattle.history_reading.proofs.Spelled.{IsBelow, numbers_follow}
 use Rattle.history_reading.proofs.recorded.quick_numbers.read_u32s.Goals as goal
 
-pub items-init : goal.items-init
-items-init c = (
-  [],
-  ItemsLeft-none (value c.args.depth) c.args.reader.now [] refl,
-  subst (StandEach (IsBelow (2 ^ 32)) []) (sym c.new-numbers.ensures.items) tt,
-  omega arith,
-)
-
-pub items-preserved : goal.items-preserved
-items-preserved c =
-    let l = c.items in
-    let ds = l.invariant.0 in
-    let same : c.take_end_array.new.self ≡ l.reader = grind arith in
-    let r = c.read_u32.new.reader in
-    let turn = c.in_ok-number.ensures.is in
-    let reads : converted of_json (value c.args.depth l.reader) ≡ Some (turn.0, r) =
-    rw (← same) (turn.1 c.args.depth) in
-    let shorter : length r < length l.reader = rw (← same) c.in_ok-number.ensures.shorter in
-    let all = ds ++ turn.0 ∷ [] in (
-      all,
-      ItemsLeft-more (value c.args.depth) c.args.reader.now l.reader r ds l.invariant.1 all turn.0
-          (goes_on c.args.depth l.reader turn.0 r reads) reads shorter refl,
-      subst (StandEach (IsBelow (2 ^ 32)) all) (sym c.in_ok-push.ensures.items)
-          (StandEach-push (IsBelow (2 ^ 32)) ds l.numbers.items turn.0 c.in_ok-number.number l.invariant.2 turn.2),
-      omega (arith, l.invariant.3),
+pub returns-then-take_end_array-clause-are : goal.returns-then-take_end_array-clause-are
+returns-then-take_end_array-clause-are c =
+    let ts = c.args.reader.now in
+    let ended : ts ≡ Token.end_array ∷ c.take_end_array.new.self = c.if-take_end_array.ensures in (
+      [],
+      items_over (value c.args.depth) ts ts c.take_end_array.new.self []
+          (ItemsLeft-none (value c.args.depth) ts [] refl) (ap after_end_array ended),
+      subst (StandEach (IsBelow (2 ^ 32)) []) (sym c.new.ensures.items) tt,
     )
 
-pub returns : goal.returns
-returns c =
-    let l = c.items in
-    let ended : l.reader ≡ Token.end_array ∷ c.take_end_array.new.self = grind arith in
-    let end : after_end_array l.reader ≡ Some c.take_end_array.new.self = ap after_end_array ended in
-    let count = ap length ended in
-    record {
-      are = (
-        l.invariant.0,
-        items_over (value c.args.depth) c.args.reader.now l.reader c.take_end_array.new.self l.invariant.0 l.invariant.1
-            end,
-        l.invariant.2,
-      );
-      shorter = omega (arith, l.invariant.3, count, add-one (length c.take_end_array.new.self));
-    }
+pub returns-clause-are : goal.returns-clause-are
+returns-clause-are c =
+    let ts = c.args.reader.now in
+    let r = c.take_u32s.new.self in
+    let ns = c.in-Some.numbers.items in
+    let is : ts ≡ number_tokens ns ++ Token.end_array ∷ r = grind arith in
+    let fits : (i : ℕ) → slice_index ns i < 2 ^ 32 =
+    subst (λ l. (i : ℕ) → slice_index l i < 2 ^ 32) c.deref.ensures.value c.tell_fit.ensures in
+    numbers_follow c.args.depth ts ts r [] [] ns (ItemsLeft-none (value c.args.depth) ts [] refl) tt fits is
