@@ -334,7 +334,7 @@ impl<'a> Quick<'a> {
         Some(found)
     }
 
-    /// Takes a whole number in the same way, quickly where it has eight digits or more, as the numbers of minislots have.
+    /// Takes a whole number in the same way, quickly where it has eight digits or more, as counts of minislots have.
     #[inline(never)]
     pub fn take_wide_number(&mut self) -> Option<u64>
         ensures { IfSome result (λ n. (n < 2 ^ 64)

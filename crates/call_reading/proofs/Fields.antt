@@ -46,6 +46,10 @@ pub plain_heard : escape (codes "heard") ≡ codes "heard"
 unfolding escape_byte
 plain_heard = refl
 
+pub plain_remove : escape (codes "remove") ≡ codes "remove"
+unfolding escape_byte
+plain_remove = refl
+
 pub plain_status : escape (codes "status") ≡ codes "status"
 unfolding escape_byte
 plain_status = refl

@@ -8,6 +8,6 @@ returns c =
     let so_far = c.requires.so_far in (
       omega (arith, so_far.0),
       omega (arith, c.requires.within),
-      λ few. digit_put c.args.text.now c.args.from c.args.at c.args.number so_far.0 c.requires.within c.requires.digit few
-          (so_far.2 (omega (arith, few, so_far.0))),
+      λ few. digit_put c.args.text.now c.args.from c.args.at c.args.number so_far.0 c.requires.within c.requires.digit
+          few (so_far.2 (omega (arith, few, so_far.0))),
     )
