@@ -113,6 +113,7 @@ fn admit(found: &Found<'_>) -> Option<Call>
 
 /// The removal that the members make.
 #[tactic(auto, unfolding(crate::specs::Seen::seen_remove))]
+#[inline(always)]
 pub(crate) fn remove(found: &Found<'_>) -> Option<Call>
     ensures { result ≡ seen_remove (seen_of found.now) }
 {
@@ -121,6 +122,7 @@ pub(crate) fn remove(found: &Found<'_>) -> Option<Call>
 
 /// The request that the members make.
 #[tactic(auto, unfolding(crate::specs::Seen::seen_ask))]
+#[inline(always)]
 pub(crate) fn ask(found: &Found<'_>) -> Option<Call>
     ensures { result ≡ seen_ask (seen_of found.now) }
 {
@@ -142,6 +144,7 @@ pub(crate) fn ask(found: &Found<'_>) -> Option<Call>
 
 /// The progress of a receiver that the members make.
 #[tactic(auto, unfolding(crate::specs::Seen::seen_heard))]
+#[inline(always)]
 pub(crate) fn heard(found: &Found<'_>) -> Option<Call>
     ensures { result ≡ seen_heard (seen_of found.now) }
 {
@@ -153,6 +156,7 @@ pub(crate) fn heard(found: &Found<'_>) -> Option<Call>
 
 /// The build that the members make.
 #[tactic(auto, unfolding(crate::specs::Seen::seen_build))]
+#[inline(always)]
 pub(crate) fn build(found: &Found<'_>) -> Option<Call>
     ensures { result ≡ seen_build (seen_of found.now) }
 {
@@ -172,6 +176,7 @@ fn skip(found: &Found<'_>) -> Option<Call>
 
 /// The question for a flow's bytes that the members make.
 #[tactic(auto, unfolding(crate::specs::Seen::seen_status))]
+#[inline(always)]
 pub(crate) fn status(found: &Found<'_>) -> Option<Call>
     ensures { result ≡ seen_status (seen_of found.now) }
 {
