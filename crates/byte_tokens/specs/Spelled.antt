@@ -1,5 +1,5 @@
 -- What stands in quotes as it is.
-use Rattle.std.specs.Prelude.{ℕ, List, [], ◌∷◌, ◌++◌}
+use Rattle.std.specs.Prelude.{◌≡◌, ◌-◌, ◌^◌, ◌<◌, ◌≤◌, ℕ, List, [], ◌∷◌, ◌++◌, length, drop, decimal}
 
 -- a text in its quotes
 abbrev pub spelled_text : List ℕ → List ℕ
@@ -8,3 +8,8 @@ spelled_text content = 34 ∷ (content ++ (34 ∷ []))
 -- a key in its quotes, with its colon
 abbrev pub spelled_key : List ℕ → List ℕ
 spelled_key name = 34 ∷ (name ++ (34 ∷ 58 ∷ []))
+
+-- the digits between two places, where they are few, are those of the number
+abbrev pub Spells : List ℕ → ℕ → ℕ → ℕ → Type 0
+Spells text from at n = (from < at) × (at ≤ length text)
+    × (at - from ≤ 19 → (0 < n) × (n < 10 ^ (at - from)) × (drop from text ≡ decimal n ++ drop at text))

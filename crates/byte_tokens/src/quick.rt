@@ -14,7 +14,9 @@ ghost use Rattle.byte_tokens.specs.Listed.{number_tokens};
 ghost use Rattle.byte_tokens.specs.Spelled.{spelled_key, spelled_text};
 
 use super::hexadecimal::hex_at;
-use super::spelled::{byte_at, long_number_at, number_at, quoted, quoted_word_at, stands_at};
+use super::spelled::{
+    byte_at, long_number_at, number_at, quoted, quoted_word_at, stands_at, wide_number_at,
+};
 use std::alloc::Global;
 use std::marker::Model;
 
@@ -171,6 +173,17 @@ impl<'a> Quick<'a> {
             text,
             at: 0,
             before: Before::Opening,
+        }
+    }
+
+    /// Another reader of the tokens that are left, for what may have to be read once more.
+    pub fn again(&self) -> Quick<'a>
+        ensures { result ≡ self.now }
+    {
+        Quick {
+            text: self.text,
+            at: self.at,
+            before: self.before,
         }
     }
 
@@ -351,6 +364,25 @@ impl<'a> Quick<'a> {
         }
         let text = self.text.as_bytes();
         let Some((found, at)) = number_at(text, self.at) else {
+            return self.take_long_number();
+        };
+        let (at, before) = ended_value(text, at)?;
+        self.at = at;
+        self.before = before;
+        Some(found)
+    }
+
+    /// Takes a whole number in the same way, quickly where it has eight digits or more, as counts of minislots have.
+    #[inline(never)]
+    pub fn take_wide_number(&mut self) -> Option<u64>
+        ensures { IfSome result (λ n. (n < 2 ^ 64)
+            × (self.old ≡ number (decimal n) ∷ self.new)) }
+    {
+        if !self.before.may_begin() {
+            return None;
+        }
+        let text = self.text.as_bytes();
+        let Some((found, at)) = wide_number_at(text, self.at) else {
             return self.take_long_number();
         };
         let (at, before) = ended_value(text, at)?;

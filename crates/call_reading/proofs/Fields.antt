@@ -48,6 +48,11 @@ pub plain_heard : escape (codes "heard") ≡ codes "heard"
 unfolding escape_byte
 plain_heard = refl
 
+-- nor of the name of a removal
+pub plain_remove : escape (codes "remove") ≡ codes "remove"
+unfolding escape_byte
+plain_remove = refl
+
 -- nor of the name of a status
 pub plain_status : escape (codes "status") ≡ codes "status"
 unfolding escape_byte

@@ -194,6 +194,10 @@ module _ (ms : Members) where
   none_of None e = refl
   none_of (Some d) e = absurd (true≢false (sym e))
 
+  -- where they open nothing, there is no configuration
+  pub none_opens : false ≡ (seen_in ms).opening → get_member (codes "config") ms ≡ None
+  none_opens e = none_of (get_member (codes "config") ms) e
+
   -- where none opens, there is no configuration
   pub no_configuration : (f : Found) → seen_of f ≡ seen_in ms → get_member (codes "config") ms ≡ None
   no_configuration f e = none_of (get_member (codes "config") ms) (ap (λ s. s.opening) e)

@@ -111,15 +111,19 @@ fn admit(found: &Found<'_>) -> Option<Call>
     Some(Call::Admit(sid, flow))
 }
 
+/// The removal that the members make.
 #[tactic(auto, unfolding(crate::specs::Seen::seen_remove))]
-fn remove(found: &Found<'_>) -> Option<Call>
+#[inline(always)]
+pub(crate) fn remove(found: &Found<'_>) -> Option<Call>
     ensures { result ≡ seen_remove (seen_of found.now) }
 {
     Some(Call::Remove(to_u16(found.sid)?))
 }
 
+/// The request that the members make.
 #[tactic(auto, unfolding(crate::specs::Seen::seen_ask))]
-fn ask(found: &Found<'_>) -> Option<Call>
+#[inline(always)]
+pub(crate) fn ask(found: &Found<'_>) -> Option<Call>
     ensures { result ≡ seen_ask (seen_of found.now) }
 {
     let (Some(receiver), Some(sid), Some(bytes), Some(heard)) = (
@@ -138,8 +142,10 @@ fn ask(found: &Found<'_>) -> Option<Call>
     })
 }
 
+/// The progress of a receiver that the members make.
 #[tactic(auto, unfolding(crate::specs::Seen::seen_heard))]
-fn heard(found: &Found<'_>) -> Option<Call>
+#[inline(always)]
+pub(crate) fn heard(found: &Found<'_>) -> Option<Call>
     ensures { result ≡ seen_heard (seen_of found.now) }
 {
     let (Some(receiver), Some(upto)) = (to_u8(found.receiver), to_u64(found.upto)) else {
@@ -148,8 +154,10 @@ fn heard(found: &Found<'_>) -> Option<Call>
     Some(Call::Heard { receiver, upto })
 }
 
+/// The build that the members make.
 #[tactic(auto, unfolding(crate::specs::Seen::seen_build))]
-fn build(found: &Found<'_>) -> Option<Call>
+#[inline(always)]
+pub(crate) fn build(found: &Found<'_>) -> Option<Call>
     ensures { result ≡ seen_build (seen_of found.now) }
 {
     Some(Call::Build {
@@ -166,8 +174,10 @@ fn skip(found: &Found<'_>) -> Option<Call>
     })
 }
 
+/// The question for a flow's bytes that the members make.
 #[tactic(auto, unfolding(crate::specs::Seen::seen_status))]
-fn status(found: &Found<'_>) -> Option<Call>
+#[inline(always)]
+pub(crate) fn status(found: &Found<'_>) -> Option<Call>
     ensures { result ≡ seen_status (seen_of found.now) }
 {
     Some(Call::Status(to_u16(found.sid)?))

@@ -9,6 +9,7 @@ mod quick_call;
 mod quick_line;
 mod quick_script;
 mod read;
+mod usual_call;
 
 pub use call::call_of;
 pub use quick_call::{next_key, read_number, read_quick_call, read_text};

@@ -10,11 +10,13 @@ ghost use Rattle.serde_json.specs.Read.{of_json, of_members, converted};
 ghost use Rattle.json_fields.specs.Plain.{data_of, members_of};
 ghost use Rattle.call_reading.specs.Calls.{call_of};
 ghost use Rattle.call_reading.specs.Field.{ranging_key, key_of, NotesMember};
-ghost use Rattle.call_reading.specs.Seen.{seen_of, seen_in, seen_with, IsNoted};
+ghost use Rattle.call_reading.specs.Seen.{seen_of, seen_in, seen_with, nothing, IsNoted};
+ghost use Rattle.call_reading.specs.Made.{SaysMembers, MakesCall};
 
 use super::field::{Field, RangingField, known_field, other_field, read_name};
 use super::flow::flow_of;
 use super::found::{Found, Ranging, made, to_u8};
+use super::usual_call::usual_call;
 use byte_tokens::Quick;
 use json_fields::{Plain, Stop};
 use sched_history::Call;
@@ -222,16 +224,32 @@ fn read_next<'a>(
 }
 
 // What the members of a call say, whose brace was taken, and the brace that closes it.
-fn read_members<'a>(alloc: Global, reader: &mut Quick<'a>, depth: usize) -> Result<Found<'a>, Stop>
-    ensures are { IfOk result (λ found. (ms : Members)
-        × (converted (λ ms. of_members ms no_members)
-        (members (value depth) (length reader.old) reader.old) ≡ Some (ms, reader.new))
-        × (seen_of found ≡ seen_in ms)) }
-    ensures shorter { OnOk result (length reader.new < length reader.old) }
+fn read_members<'a>(
+    alloc: Global,
+    reader: &mut Quick<'a>,
+    depth: usize,
+    found: &mut Found<'a>,
+) -> Result<(), Stop>
+    requires { seen_of found.old ≡ nothing }
+    ensures { OnOk result ((ms : Members)
+        × SaysMembers depth reader.old reader.new ms × (seen_of found.new ≡ seen_in ms)) }
+{
+    'members: while read_next(alloc, reader, depth, found)? {}
+    Ok(())
+}
+
+// The call whose brace was taken, its members in any order. Compiled apart, so that the way of the usual calls stays
+// short.
+#[inline(never)]
+fn read_any_call(alloc: Global, reader: &mut Quick<'_>, depth: usize) -> Result<Call, Stop>
+    ensures { IfOk result (λ call. MakesCall depth reader.old reader.new call) }
 {
     let mut found = Found::nothing();
-    'members: while read_next(alloc, reader, depth, &mut found)? {}
-    Ok(found)
+    read_members(alloc, reader, depth, &mut found)?;
+    let Some(call) = made(&found) else {
+        return Err(Stop::Unusual);
+    };
+    Ok(call)
 }
 
 /// The call in its usual spelling that comes next, nested no deeper than this. It has no member that no call has, so
@@ -245,9 +263,11 @@ pub fn read_quick_call(alloc: Global, reader: &mut Quick<'_>, depth: usize) -> R
     if depth == 0 || !reader.open_object() {
         return Err(Stop::Unusual);
     }
-    let found = read_members(alloc, reader, depth - 1)?;
-    let Some(call) = made(&found) else {
-        return Err(Stop::Unusual);
-    };
+    let mut attempt = reader.again();
+    if let Some(call) = usual_call(&mut attempt) {
+        *reader = attempt;
+        return Ok(call);
+    }
+    let call = read_any_call(alloc, reader, depth - 1)?;
     Ok(call)
 }

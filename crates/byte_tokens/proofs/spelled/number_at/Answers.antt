@@ -1,6 +1,6 @@
--- The digits are those of the number.
+-- The first digit is that of the number.
 use Rattle.std.proofs.Common.{◌≡◌, ◌+◌, ◌-◌, ◌^◌, ◌<◌, ◌∷◌, drop, lit<, sym, ap, ◌∙◌, subst, arith}
-use Rattle.byte_tokens.proofs.Bytes.{digit_first, digit_put}
+use Rattle.byte_tokens.proofs.Bytes.{digit_first}
 use Rattle.byte_tokens.proofs.spelled.number_at.Goals as goal
 
 pub returns-then-first-eq48 : goal.returns-then-first-eq48
@@ -14,8 +14,8 @@ returns-then-first-eq48 c =
     let digit = digit_first (drop c.args.from text) (drop (c.args.from + 1) text) 48 (omega arith) (omega arith) is in
     (omega arith, omega arith, lit< tt, digit)
 
-pub digits-init : goal.digits-init
-digits-init c =
+pub digits_behind-requires : goal.digits_behind-requires
+digits_behind-requires c =
     let x = c.byte_at-first.result in
     let text = c.args.text.now in
     let from = c.args.from in
@@ -32,16 +32,4 @@ digits-init c =
         subst (λ i. x - 48 < 10 ^ i) (sym one) (omega (arith, digit.1)),
         digit_first (drop from text) (drop (from + 1) text) x digit.0 digit.1 here,
       ),
-    )
-
-pub digits-preserved : goal.digits-preserved
-digits-preserved c =
-    let l = c.digits in
-    let so_far = l.invariant in
-    let text = c.args.text.now in
-    let digit = c.is_digit-in-digits.ensures c.if-is_digit.true in (
-      omega (arith, so_far.0),
-      omega (arith, c.digits-test.true),
-      λ few. digit_put text c.args.from l.at l.number so_far.0 c.digits-test.true digit few
-          (so_far.2 (omega (arith, few, so_far.0))),
     )
