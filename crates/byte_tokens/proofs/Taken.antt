@@ -12,8 +12,8 @@ use Rattle.json.specs.Lex.{after_value, after_comma, fresh}
 use Rattle.json.proofs.Printed.Strings.{content-escape, lex-escape}
 use Rattle.json.proofs.Printed.Numbers.{lex-number}
 use Rattle.json.proofs.Printed.Decimals.{IsNumber-decimal}
-use Rattle.byte_tokens.specs.declared.quick.Before.{Before}
-use Rattle.byte_tokens.specs.declared.quick.Before.TheVariants.{Opening, Value, Comma}
+use Rattle.byte_tokens.specs.declared.between.Before.{Before}
+use Rattle.byte_tokens.specs.declared.between.Before.TheVariants.{Opening, Value, Comma}
 use Rattle.byte_tokens.specs.Left.{tokens_from, begins_at, closes_at, EndsValue}
 use Rattle.byte_tokens.specs.Listed.{number_tokens}
 use Rattle.byte_tokens.specs.Spelled.{spelled_key, spelled_text}

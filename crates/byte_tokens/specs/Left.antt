@@ -2,8 +2,8 @@
 use Rattle.std.specs.Prelude.{◌≡◌, ◌⊎◌, ◌∷◌, ℕ, List, Bool, true, false}
 use Rattle.json.specs.Token.{Token}
 use Rattle.json.specs.Lex.{between, lex, fresh, after_value, after_comma, punctuate}
-use Rattle.byte_tokens.specs.declared.quick.Before.{Before}
-use Rattle.byte_tokens.specs.declared.quick.Before.TheVariants.{Opening, Value, Comma}
+use Rattle.byte_tokens.specs.declared.between.Before.{Before}
+use Rattle.byte_tokens.specs.declared.between.Before.TheVariants.{Opening, Value, Comma}
 
 -- the tokens that are left
 abbrev pub tokens_from : Before → List ℕ → List Token

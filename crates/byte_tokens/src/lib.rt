@@ -2,7 +2,10 @@
 //! behind a comma or a colon.
 #![tactic(auto)]
 
+mod between;
 mod hexadecimal;
+mod listed;
+mod numbers;
 mod quick;
 mod spelled;
 

@@ -8,50 +8,18 @@ ghost use Rattle.json.specs.Token.{begin_object, end_object, begin_array, end_ar
 ghost use Rattle.json.specs.Lex.{tokens, between, lex, after_value, punctuate};
 ghost use Rattle.json.specs.Json.{read_key};
 ghost use Rattle.hex.specs.Hex.{decode_of};
-ghost use Rattle.byte_tokens.specs.declared.quick.Before.{Before};
+ghost use Rattle.byte_tokens.specs.declared.between.Before.{Before};
 ghost use Rattle.byte_tokens.specs.Left.{tokens_from, begins_at, closes_at, EndsValue};
 ghost use Rattle.byte_tokens.specs.Listed.{number_tokens};
 ghost use Rattle.byte_tokens.specs.Spelled.{spelled_key, spelled_text};
 
+use super::between::{Before, behind_space, behind_value, ended_value, ends_at};
 use super::hexadecimal::hex_at;
-use super::spelled::{
-    byte_at, long_number_at, number_at, quoted, quoted_word_at, stands_at, wide_number_at,
-};
+use super::listed::numbers_at;
+use super::numbers::{long_number_at, number_at, wide_number_at};
+use super::spelled::{byte_at, quoted, quoted_word_at, stands_at};
 use std::alloc::Global;
 use std::marker::Model;
-
-// What stands before the place of a reader.
-#[derive(Clone, Copy)]
-enum Before {
-    // An opening bracket, a key, or nothing.
-    Opening,
-    // A value.
-    Value,
-    // A comma.
-    Comma,
-}
-
-impl Before {
-    fn may_begin(self) -> bool
-        ensures { result ≡ begins_at self }
-    {
-        match self {
-            Before::Opening => true,
-            Before::Value => false,
-            Before::Comma => true,
-        }
-    }
-
-    fn may_close(self) -> bool
-        ensures { result ≡ closes_at self }
-    {
-        match self {
-            Before::Opening => true,
-            Before::Value => true,
-            Before::Comma => false,
-        }
-    }
-}
 
 /// A reader of the tokens of a text. Where it takes no token, there may be one in another spelling, or none. A clause
 /// sees the tokens that are left.
@@ -74,94 +42,6 @@ impl<'a> Model for Quick<'a> {
     ghost view = { λ a. tokens_from a.before (drop a.at a.text.now) };
 
     ghost invariant = { λ a. a.at ≤ length a.text.now };
-}
-
-// The place behind a space, where one stands.
-fn behind_space(text: &[u8], at: usize) -> usize
-    requires { at ≤ length text.now }
-    ensures same { lex between (drop result text.now) ≡ lex between (drop at text.now) }
-    ensures within { (at ≤ result) × (result ≤ length text.now) }
-{
-    if byte_at(text, at) == b' ' {
-        at + 1
-    } else {
-        at
-    }
-}
-
-// The place behind a value, and behind the comma and the space that may follow it.
-fn behind_value(text: &[u8], at: usize) -> (usize, Before)
-    requires { at ≤ length text.now }
-    ensures same { tokens_from result.1 (drop result.0 text.now)
-        ≡ punctuate after_value (lex between (drop at text.now)) }
-    ensures within { result.0 ≤ length text.now }
-{
-    if byte_at(text, at) == b',' {
-        (behind_space(text, at + 1), Before::Comma)
-    } else {
-        (at, Before::Value)
-    }
-}
-
-// The place behind a value, where what stands there ends it.
-fn ended_value(text: &[u8], at: usize) -> Option<(usize, Before)>
-    requires { at ≤ length text.now }
-    ensures ends { IfSome result (λ r. EndsValue (drop at text.now)) }
-    ensures same { IfSome result (λ r. tokens_from r.1 (drop r.0 text.now)
-        ≡ punctuate after_value (lex between (drop at text.now))) }
-    ensures within { IfSome result (λ r. r.0 ≤ length text.now) }
-{
-    let next = byte_at(text, at);
-    if next == b',' {
-        return Some((behind_space(text, at + 1), Before::Comma));
-    }
-    if next != b'}' && next != b']' {
-        return None;
-    }
-    Some((at, Before::Value))
-}
-
-// Puts the number below 2^32 that is spelled at a place behind others, and tells where its digits end.
-fn push_number(text: &[u8], from: usize, numbers: &mut Vec<u32>) -> Option<usize>
-    ensures { IfSome result (λ at. (n : ℕ) × (n < 2 ^ 64) × (from < at) × (at ≤ length text.now)
-        × (numbers.new.items ≡ numbers.old.items ++ n ∷ [])
-        × (drop from text.now ≡ decimal n ++ drop at text.now)) }
-{
-    let (number, at) = number_at(text, from)?;
-    let Ok(fits) = u32::try_from(number) else {
-        return None;
-    };
-    let Ok(()) = numbers.push(fits) else {
-        return None;
-    };
-    Some(at)
-}
-
-// How many numbers of a list have room before it grows.
-const ROOM: usize = 64;
-
-// The numbers below 2^32 of a list, each but the first behind a comma, and where the digits of the last end.
-fn numbers_at(alloc: Global, text: &[u8], from: usize) -> Option<(Vec<u32>, usize)>
-    ensures within { IfSome result (λ r. r.1 ≤ length text.now) }
-    ensures are { IfSome result (λ r. (b : Before) → begins_at b ≡ true
-        → EndsValue (drop r.1 text.now) → tokens_from b (drop from text.now)
-        ≡ number_tokens r.0.items ++ tokens_from Before.Value (drop r.1 text.now)) }
-{
-    let Ok(mut numbers) = Vec::with_capacity(alloc, ROOM) else {
-        return None;
-    };
-    let mut at = push_number(text, from, &mut numbers)?;
-    'more: while byte_at(text, at) == b',' {
-        at = push_number(text, behind_space(text, at + 1), &mut numbers)?;
-    }
-    Some((numbers, at))
-}
-
-// Whether the text ends at a place, or with one line feed more.
-fn ends_at(text: &[u8], at: usize) -> bool
-    ensures { IsTrue result → lex between (drop at text.now) ≡ [] }
-{
-    at == text.len() || (byte_at(text, at) == b'\n' && at + 1 == text.len())
 }
 
 impl<'a> Quick<'a> {

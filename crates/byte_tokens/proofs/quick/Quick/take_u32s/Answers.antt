@@ -1,7 +1,7 @@
 -- The numbers stand first, and behind them the bracket.
 use Rattle.std.proofs.Common.{◌≡◌, ◌+◌, ◌∷◌, ◌++◌, drop, refl, inr, sym, ap, ◌∙◌, subst, arith}
 use Rattle.json.specs.Token.{end_array}
-use Rattle.byte_tokens.specs.declared.quick.Before.TheVariants.{Value}
+use Rattle.byte_tokens.specs.declared.between.Before.TheVariants.{Value}
 use Rattle.byte_tokens.specs.Left.{tokens_from, EndsValue}
 use Rattle.byte_tokens.specs.Listed.{number_tokens}
 use Rattle.byte_tokens.proofs.Bytes.{first}

@@ -3,7 +3,7 @@ use Rattle.std.proofs.Common.{◌≡◌, ◌+◌, [], ◌∷◌, ◌++◌, drop,
 use Rattle.byte_tokens.specs.Left.{EndsValue}
 use Rattle.byte_tokens.proofs.Bytes.{first}
 use Rattle.byte_tokens.proofs.Taken.{one_number, next_number}
-use Rattle.byte_tokens.proofs.quick.numbers_at.Goals as goal
+use Rattle.byte_tokens.proofs.listed.numbers_at.Goals as goal
 
 pub more-init : goal.more-init
 more-init c =

@@ -3,7 +3,7 @@ use Rattle.std.proofs.Common.{refl, ◌+◌, drop, ap, ◌∙◌, arith}
 use Rattle.json.specs.Lex.{after_comma, punctuate}
 use Rattle.byte_tokens.proofs.Bytes.{first}
 use Rattle.byte_tokens.proofs.Taken.{comma_passed}
-use Rattle.byte_tokens.proofs.quick.ended_value.Goals as goal
+use Rattle.byte_tokens.proofs.between.ended_value.Goals as goal
 
 pub returns-then-next-eq44-clause-same : goal.returns-then-next-eq44-clause-same
 returns-then-next-eq44-clause-same c =

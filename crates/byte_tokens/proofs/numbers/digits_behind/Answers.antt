@@ -1,7 +1,7 @@
 -- The digits are those of the number.
 use Rattle.std.proofs.Common.{arith}
 use Rattle.byte_tokens.proofs.Bytes.{digit_put}
-use Rattle.byte_tokens.proofs.spelled.digits_behind.Goals as goal
+use Rattle.byte_tokens.proofs.numbers.digits_behind.Goals as goal
 
 pub digits-preserved : goal.digits-preserved
 digits-preserved c =

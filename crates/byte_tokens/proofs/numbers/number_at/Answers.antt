@@ -1,7 +1,7 @@
 -- The first digit is that of the number.
 use Rattle.std.proofs.Common.{◌≡◌, ◌+◌, ◌-◌, ◌^◌, ◌<◌, ◌∷◌, drop, lit<, sym, ap, ◌∙◌, subst, arith}
 use Rattle.byte_tokens.proofs.Bytes.{digit_first}
-use Rattle.byte_tokens.proofs.spelled.number_at.Goals as goal
+use Rattle.byte_tokens.proofs.numbers.number_at.Goals as goal
 
 pub returns-then-first-eq48 : goal.returns-then-first-eq48
 returns-then-first-eq48 c =

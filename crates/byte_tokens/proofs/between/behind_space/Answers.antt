@@ -2,7 +2,7 @@
 use Rattle.std.proofs.Common.{refl, ◌+◌, drop, arith}
 use Rattle.byte_tokens.proofs.Bytes.{first}
 use Rattle.byte_tokens.proofs.Taken.{space_passed}
-use Rattle.byte_tokens.proofs.quick.behind_space.Goals as goal
+use Rattle.byte_tokens.proofs.between.behind_space.Goals as goal
 
 pub returns-then-byte_at-eq32-clause-same : goal.returns-then-byte_at-eq32-clause-same
 returns-then-byte_at-eq32-clause-same c =

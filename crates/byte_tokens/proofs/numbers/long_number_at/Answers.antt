@@ -1,7 +1,7 @@
 -- The digits are those of the number.
 use Rattle.std.proofs.Common.{◌+◌, ◌*◌, ◌-◌, ◌^◌, ◌<◌, drop, get_or, arith}
 use Rattle.byte_tokens.proofs.Bytes.{digit_first, digit_more}
-use Rattle.byte_tokens.proofs.spelled.long_number_at.Goals as goal
+use Rattle.byte_tokens.proofs.numbers.long_number_at.Goals as goal
 
 pub digits-init : goal.digits-init
 digits-init c =

@@ -1,7 +1,7 @@
 -- The first digit is that of the number.
 use Rattle.std.proofs.Common.{◌≡◌, ◌+◌, ◌-◌, ◌^◌, ◌<◌, ◌≤◌, drop, get_or, sym, subst, arith}
 use Rattle.byte_tokens.proofs.Bytes.{digit_first, next_byte}
-use Rattle.byte_tokens.proofs.spelled.eight_at.Goals as goal
+use Rattle.byte_tokens.proofs.numbers.eight_at.Goals as goal
 
 pub put_digit-two-requires-clause-so_far : goal.put_digit-two-requires-clause-so_far
 put_digit-two-requires-clause-so_far c =

@@ -4,7 +4,7 @@ use Rattle.std.proofs.Math.Seq.{drop-length}
 use Rattle.std.proofs.lemmas.Bool.{eqb-true}
 use Rattle.byte_tokens.proofs.Bytes.{first}
 use Rattle.byte_tokens.proofs.Taken.{line_feed_passed, none_at_end}
-use Rattle.byte_tokens.proofs.quick.ends_at.Goals as goal
+use Rattle.byte_tokens.proofs.between.ends_at.Goals as goal
 
 pub returns-then-at-text : goal.returns-then-at-text
 returns-then-at-text c end = none_at_end c.args.text.now c.args.at (eqb-true _ _ end)

@@ -1,10 +1,10 @@
 -- The numbers so far stand before what is left.
 use Rattle.std.proofs.Common.{◌≡◌, ◌-◌, ◌≤◌, ◌++◌, true, length, drop}
-use Rattle.byte_tokens.specs.declared.quick.Before.{Before}
-use Rattle.byte_tokens.specs.declared.quick.Before.TheVariants.{Value}
+use Rattle.byte_tokens.specs.declared.between.Before.{Before}
+use Rattle.byte_tokens.specs.declared.between.Before.TheVariants.{Value}
 use Rattle.byte_tokens.specs.Left.{tokens_from, begins_at, EndsValue}
 use Rattle.byte_tokens.specs.Listed.{number_tokens}
-use Rattle.byte_tokens.proofs.quick.numbers_at.Given as goal
+use Rattle.byte_tokens.proofs.listed.numbers_at.Given as goal
 
 abbrev pub invariant-more : goal.invariant-more
 invariant-more l = (l.at ≤ length l.text)

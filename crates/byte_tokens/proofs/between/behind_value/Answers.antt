@@ -3,7 +3,7 @@ use Rattle.std.proofs.Common.{refl, ◌+◌, drop, ap, ◌∙◌, arith}
 use Rattle.json.specs.Lex.{after_comma, punctuate}
 use Rattle.byte_tokens.proofs.Bytes.{first}
 use Rattle.byte_tokens.proofs.Taken.{comma_passed}
-use Rattle.byte_tokens.proofs.quick.behind_value.Goals as goal
+use Rattle.byte_tokens.proofs.between.behind_value.Goals as goal
 
 pub returns-then-byte_at-eq44-clause-same : goal.returns-then-byte_at-eq44-clause-same
 returns-then-byte_at-eq44-clause-same c =

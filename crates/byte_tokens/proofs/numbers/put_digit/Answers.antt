@@ -1,7 +1,7 @@
 -- One digit more.
 use Rattle.std.proofs.Common.{arith}
 use Rattle.byte_tokens.proofs.Bytes.{digit_put}
-use Rattle.byte_tokens.proofs.spelled.put_digit.Goals as goal
+use Rattle.byte_tokens.proofs.numbers.put_digit.Goals as goal
 
 pub returns : goal.returns
 returns c =
