@@ -8,7 +8,8 @@ use Rattle.sched_report.proofs.lives.count_at.Goals as goal
 pub returns-then-place-lives : goal.returns-then-place-lives
 returns-then-place-lives c = λ k.
     HaveMore-set k (λ (sid : ℕ). []) (λ (spec : FlowSpec) (sid : ℕ). unsolicited_at spec sid c.args.allocation)
-    c.args.lives.now c.place_under-place.result c.index-lives-place.result c.count_grant.new.self (omega (arith, c.if-place-lives.true))
+    c.args.lives.now c.place_under-place.result c.index-lives-place.result c.count_grant.new.self
+    (omega (arith, c.if-place-lives.true))
     (c.count_grant.ensures k) (λ i t below apart alive. refl)
     (λ i t below apart alive. no_unsolicited-apart c.args.places.now c.args.lives.now c.requires.live i t below alive
     c.args.allocation (λ at. apart (at ∙ sym c.place_under-place.ensures)))

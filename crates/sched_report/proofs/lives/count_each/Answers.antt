@@ -23,7 +23,8 @@ pub count_at-requires-clause-live : goal.count_at-requires-clause-live
 count_at-requires-clause-live c =
     HaveMore-live c.requires.front.0 (λ (sid : ℕ). [])
     (λ (spec : FlowSpec) (sid : ℕ).
-    count_by (is_unsolicited_to spec sid) (first_allocations c.args.elements.now c.loop-i.i)) c.args.lives.now c.loop-i.lives c.loop-i.auto.lives
+    count_by (is_unsolicited_to spec sid) (first_allocations c.args.elements.now c.loop-i.i)) c.args.lives.now
+    c.loop-i.lives c.loop-i.auto.lives
     (c.loop-i.invariant.more c.requires.front.0) c.args.places.now c.requires.live
 
 pub count_at-requires-clause-few : goal.count_at-requires-clause-few
@@ -49,7 +50,8 @@ loop-i-preserved c = record {
   more = λ k.
       HaveMore-then k (λ (sid : ℕ). [])
       (λ (spec : FlowSpec) (sid : ℕ).
-      count_by (is_unsolicited_to spec sid) (first_allocations c.args.elements.now c.loop-i.i)) c.args.lives.now c.loop-i.lives c.loop-i.auto.lives (c.loop-i.invariant.more k)
+      count_by (is_unsolicited_to spec sid) (first_allocations c.args.elements.now c.loop-i.i)) c.args.lives.now
+      c.loop-i.lives c.loop-i.auto.lives (c.loop-i.invariant.more k)
       (λ (sid : ℕ). []) (λ (sid : ℕ). [])
       (λ (spec : FlowSpec) (sid : ℕ). unsolicited_at spec sid (allocation_at c.args.elements.now c.loop-i.i))
       (λ (spec : FlowSpec) (sid : ℕ).

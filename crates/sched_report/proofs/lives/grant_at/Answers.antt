@@ -10,7 +10,8 @@ pub returns-then-place-lives : goal.returns-then-place-lives
 returns-then-place-lives c =
     HaveMore-set c.args.config.now
     (λ (sid : ℕ). cons_option (grant_by sid c.args.start (c.args.element, c.args.bytes)) [])
-    (λ (spec : FlowSpec) (sid : ℕ). 0) c.args.lives.now c.place_under-place.result c.index-lives-place.result c.grant.new.self
+    (λ (spec : FlowSpec) (sid : ℕ). 0) c.args.lives.now c.place_under-place.result
+    c.index-lives-place.result c.grant.new.self
     (omega (arith, c.if-place-lives.true)) c.grant.ensures
     (λ k t below apart alive. no_grant-apart c.args.places.now c.args.lives.now c.requires.live k t below alive
     c.args.start c.args.bytes c.args.element (λ at. apart (at ∙ sym c.place_under-place.ensures)))

@@ -36,7 +36,8 @@ returns-in-Built-clause-lives c = λ ls are may.
 pub returns-in-Built-clause-live : goal.returns-in-Built-clause-live
 returns-in-Built-clause-live c =
     HaveMore-live c.args.config.now (λ (sid : ℕ). grants_of_map sid c.in-Built.map)
-    (λ (spec : FlowSpec) (sid : ℕ). unsolicited_of_map spec sid c.in-Built.map) c.args.lives.now c.note_map.new.lives c.note_map.auto.lives c.note_map.ensures
+    (λ (spec : FlowSpec) (sid : ℕ). unsolicited_of_map spec sid c.in-Built.map) c.args.lives.now c.note_map.new.lives
+    c.note_map.auto.lives c.note_map.ensures
     c.args.places.now c.requires.live
 
 pub note_named-requires-clause-may : goal.note_named-requires-clause-may
