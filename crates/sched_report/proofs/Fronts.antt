@@ -77,10 +77,3 @@ module _ (c : Config) (s now : Service) (sid start : ℕ) (es : List Element) (b
       first_grants-≤ sid start es bs (i + 1),
     );
   }
-
-  -- and with it what is kept is that of one element more
-  pub IsServiceOf-next : (requests : List Request) (grants : List Grant)
-      → IsServiceOf c now requests ((grants ++ first_grants sid start es bs i)
-      ++ cons_option (grant_by sid start (get_or es i d, get_or bs i n)) [])
-      → IsServiceOf c now requests (grants ++ first_grants sid start es bs (i + 1))
-  IsServiceOf-next requests grants is = subst (IsServiceOf c now requests) (next_grants grants) is

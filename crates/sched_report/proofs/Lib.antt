@@ -17,6 +17,7 @@ pub mod LifeTold
 pub mod LivesEach
 pub mod LivesGoing
 pub mod Naming
+pub mod GrantedLaws
 pub mod LiveNow
 pub mod RanksTold
 pub mod RowsPercentiles

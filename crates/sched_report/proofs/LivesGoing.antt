@@ -1,43 +1,27 @@
--- The places of the lives that go on, where a life changes, one is added, or a place is left out.
-use Rattle.std.proofs.Common.{◌≡◌, ℕ, zero, suc, ◌+◌, ◌-◌, ◌<◌, ◌≤◌, ◌⊎◌, Bool, true, false, List, [], ◌∷◌, ◌++◌}
-use Rattle.std.proofs.Common.{length, get_or, set, Option, None, Some, refl, sym, ap, ◌∙◌, subst, inl, inr}
+-- The places of the lives that go on, where lives change or one is added.
+use Rattle.std.proofs.Common.{◌≡◌, ℕ, ◌<◌, ◌==◌, Bool, true, false, List, [], ◌∷◌, ◌++◌, map}
+use Rattle.std.proofs.Common.{length, get_or, set, None, Some, refl, sym, ap, ◌∙◌, subst, inl, inr}
 use Rattle.std.proofs.Common.{if◌then◌else◌, arith}
-use Rattle.std.specs.List.{remove}
-use Rattle.std.proofs.lemmas.Bool.{cases_eq, cases_lt}
+use Rattle.std.specs.Prelude.{is_some}
+use Rattle.std.proofs.lemmas.Bool.{cases_eq, cases_lt, cases_Bool, eq-eqb}
 use Rattle.std.proofs.lemmas.List.{length_push, length-set, get_or-set_same, get_or-set_other}
-use Rattle.std.proofs.lemmas.List.{get_or_append_left, get_or_at}
-use Rattle.std.proofs.lemmas.List.Edits.{length-remove, get_or-remove_below, get_or-remove_above}
+use Rattle.std.proofs.lemmas.List.{get_or_append_left, get_or_push, get_or-map, length-map}
+use Rattle.minislots.specs.declared.config.Config.{Config}
+use Rattle.sched_history.specs.declared.call.Call.{Call}
+use Rattle.sched_history.specs.declared.call.Call.TheVariants as calls
+use Rattle.sched_history.specs.declared.reply.Reply.{Reply}
+use Rattle.sched_history.specs.declared.reply.Reply.TheVariants as replies
 use Rattle.sched_history.specs.declared.reply.Entry.{Entry}
+use Rattle.sched_history.specs.Life.{Begins, turn_by}
+use Rattle.sched_history.specs.Time.{next_after}
 use Rattle.sched_report.specs.declared.life.LifeTally.{LifeTally}
-use Rattle.sched_report.specs.Lives.{PastLife, is_turn, with_entry}
-use Rattle.sched_report.specs.Live.{AreLive}
-
--- a place is among some, or it is not
-none_behind : (x : ℕ) (xs : List ℕ) (k : ℕ) → (x ≡ k → ⊥)
-    → ((i : ℕ) → i < length xs → get_or xs i 0 ≡ k → ⊥)
-    → (i : ℕ) → i < length (x ∷ xs) → get_or (x ∷ xs) i 0 ≡ k → ⊥
-none_behind x xs k apart none zero below same = apart same
-none_behind x xs k apart none (suc i) below same = none i (omega (arith, below)) same
-
--- the place of a number in a list, or that it is not in it
-pub found_or_not : (live : List ℕ) (k : ℕ) → ((i : ℕ) × (i < length live) × (get_or live i 0 ≡ k))
-    ⊎ ((i : ℕ) → i < length live → get_or live i 0 ≡ k → ⊥)
-found_or_not [] k = inr (λ i below same. absurd (omega (arith, below)))
-found_or_not (x ∷ xs) k =
-    elim (cases_eq x k) [
-      | inl same ↦ inl (0, omega arith, same)
-      | inr apart ↦
-          elim (found_or_not xs k) [
-            | inl found ↦ inl (suc found.0, omega (arith, found.1), found.2)
-            | inr none ↦ inr (none_behind x xs k apart none)
-          ]
-    ]
-
--- a life of which an end is told has ended, and no entry is noted of it
-pub ended_by : (ended : Bool) (n : ℕ) (o : Option ℕ) → o ≡ (if ended then Some n else None) → (o ≡ None → ⊥)
-    → ended ≡ true
-ended_by true n o is never = refl
-ended_by false n o is never = absurd (never is)
+use Rattle.sched_report.specs.declared.lives.Opening.{Opening}
+use Rattle.sched_report.specs.Lives.{PastLife, is_turn, opening_by, with_entry}
+use Rattle.sched_report.specs.Live.{AreLive, IsAlone}
+use Rattle.sched_report.specs.Told.{IsLifeOf, MayNote}
+use Rattle.sched_report.specs.ToldLives.{AreLives, MayNoteEach}
+use Rattle.sched_report.proofs.LifeNotes.{not_ended}
+use Rattle.sched_report.proofs.LivesEach.{no_life}
 
 -- a life that has ended stays as it is with one entry more
 pub with_entry-ended : (e : Entry) (life : PastLife) → life.ended ≡ true → with_entry e life ≡ life
@@ -45,115 +29,121 @@ with_entry-ended e life ended =
     ap (λ b. if b then life else if is_turn life.sid e then record life { ended = true }
     else record life { since = life.since ++ e ∷ [] }) ended
 
-module _ (live : List ℕ) (ts : List LifeTally) (are : AreLive live ts) where
-  -- a life changes, and one of which an end was told stays so
-  pub AreLive-set : (p : ℕ) (old new : LifeTally) → p < length ts
-      → (new.to ≡ None → (get_or ts p old).to ≡ None) → AreLive live (set ts p new)
-  AreLive-set p old new inside still = record {
-    ascends = are.ascends;
-    inside = λ i below. omega (arith, are.inside i below, length-set ts p new);
-    all = λ k t below alive. elim (cases_eq k p) [
-      | inl same ↦
-          let here : new.to ≡ None =
-          ap (λ (u : LifeTally). u.to) (sym (get_or-set_same ts p new t inside))
-          ∙ subst (λ k. (get_or (set ts p new) k t).to ≡ None) same alive in
-          are.all k old (omega (arith, below, length-set ts p new))
-          (subst (λ k. (get_or ts k old).to ≡ None) (sym same) (still here))
+-- of three lives with one SID any has it
+chosen-sid : (a b : Bool) (x y z : PastLife) (sid : ℕ) → x.sid ≡ sid → y.sid ≡ sid → z.sid ≡ sid
+    → (if a then x else if b then y else z).sid ≡ sid
+chosen-sid true b x y z sid p q r = p
+chosen-sid false true x y z sid p q r = q
+chosen-sid false false x y z sid p q r = r
+
+-- its SID stays
+with_entry-sid : (e : Entry) (life : PastLife) → (with_entry e life).sid ≡ life.sid
+with_entry-sid e life =
+    chosen-sid life.ended (is_turn life.sid e) life (record life { ended = true })
+    (record life { since = life.since ++ e ∷ [] }) life.sid refl refl refl
+
+-- an admission is a turn of its SID
+opening_turn : (sid : ℕ) (call : Call) (reply : Reply) (o : Opening) → opening_by call reply ≡ Some o → sid ≡ o.sid
+    → is_some (turn_by sid call reply) ≡ true
+opening_turn sid (calls.Admit other spec) (replies.Admitted placement) o is same =
+    let opened : record { sid = other; spec = spec } ≡ o = cc in
+    let here : (other == sid) ≡ true = eq-eqb other sid (ap (λ (o : Opening). o.sid) opened ∙ sym same) in
+    ap (λ b. is_some (if b then Some (Begins (record { spec = spec; placement = placement })) else None)) here
+opening_turn sid call reply o is same = absurd (cc)
+
+-- so it ends the life that its SID had
+opening-ends : (e : Entry) (life : PastLife) (o : Opening) → opening_by e.call e.reply ≡ Some o → life.sid ≡ o.sid
+    → (with_entry e life).ended ≡ true
+opening-ends e life o is same =
+    elim (cases_Bool life.ended) [
+      | inl ended ↦ ap (λ (l : PastLife). l.ended) (with_entry-ended e life ended) ∙ ended
+      | inr alive ↦
+          ap (λ b. (if b then life else if is_turn life.sid e then record life { ended = true }
+          else record life { since = life.since ++ e ∷ [] }).ended) alive
+          ∙ ap (λ b. (if b then record life { ended = true }
+          else record life { since = life.since ++ e ∷ [] }).ended) (opening_turn life.sid e.call e.reply o is same)
+    ]
+
+-- and no life goes on under it
+pub alone-after : (c : Config) (ts : List LifeTally) (ls : List PastLife) (e : Entry)
+    → AreLives c ts (map (with_entry e) ls) → IsAlone e.call e.reply ts
+alone-after c ts ls e are o is k t below alive same =
+    let life : PastLife = get_or ls k no_life in
+    let now : PastLife = with_entry e life in
+    let in_lives : k < length ls = omega (arith, below, are.long, length-map ls (with_entry e)) in
+    let told : IsLifeOf c (get_or ts k t) now =
+    subst (IsLifeOf c (get_or ts k t)) (get_or-map (with_entry e) ls k no_life no_life in_lives)
+    (are.each k t no_life below) in
+    let ended : now.ended ≡ true =
+    opening-ends e life o is (sym (with_entry-sid e life) ∙ sym told.sid ∙ same) in
+    let goes_on : now.ended ≡ false =
+    not_ended now.ended (next_after c (now.upto ++ now.since)) (get_or ts k t).to told.to (ap is_some alive) in
+    let both : true ≡ false = sym ended ∙ goes_on in absurd cc
+
+-- lives change, each into one that is told of its life with the entry
+pub AreLives-map : (c : Config) (old new : List LifeTally) (ls : List PastLife) (slot : ℕ) (e : Entry)
+    → AreLives c old ls → MayNoteEach c ls slot e → length new ≡ length old
+    → ((k : ℕ) (t : LifeTally) (life : PastLife) → k < length old → IsLifeOf c (get_or old k t) life
+    → MayNote c life slot e → IsLifeOf c (get_or new k t) (with_entry e life))
+    → AreLives c new (map (with_entry e) ls)
+AreLives-map c old new ls slot e are may long step = record {
+  long = long ∙ are.long ∙ sym (length-map ls (with_entry e));
+  each = λ k t life below.
+      let within : k < length old = omega (arith, below, long) in
+      let in_lives : k < length ls = omega (arith, within, are.long) in
+      subst (IsLifeOf c (get_or new k t)) (sym (get_or-map (with_entry e) ls k life life in_lives))
+      (step k t (get_or ls k life) within (are.each k t life within) (may k life in_lives));
+}
+
+module _ (places : List ℕ) (ts : List LifeTally) (are : AreLive places ts) where
+  -- lives change, and each keeps its SID, and its end where it has one
+  pub AreLive-still : (new : List LifeTally) → length new ≡ length ts
+      → ((k : ℕ) (t : LifeTally) → k < length ts → (get_or new k t).sid ≡ (get_or ts k t).sid)
+      → ((k : ℕ) (t : LifeTally) → k < length ts → (get_or new k t).to ≡ None → (get_or ts k t).to ≡ None)
+      → AreLive places new
+  AreLive-still new long same still = record {
+    long = are.long;
+    each = λ k t below alive.
+        let within : k < length ts = omega (arith, below, long) in
+        ap (λ (sid : ℕ). get_or places sid 0) (same k t within) ∙ are.each k t within (still k t within alive);
+  }
+
+  -- one of them does
+  pub AreLive-set : (p : ℕ) (old new : LifeTally) → p < length ts → new.sid ≡ (get_or ts p old).sid
+      → (new.to ≡ None → (get_or ts p old).to ≡ None) → AreLive places (set ts p new)
+  AreLive-set p old new inside same still = record {
+    long = are.long;
+    each = λ k t below alive. elim (cases_eq k p) [
+      | inl at ↦
+          let here : get_or (set ts p new) k t ≡ new =
+          ap (λ k. get_or (set ts p new) k t) at ∙ get_or-set_same ts p new t inside in
+          ap (λ (u : LifeTally). get_or places u.sid 0) here ∙ ap (λ (sid : ℕ). get_or places sid 0) same
+          ∙ are.each p old inside (still (ap (λ (u : LifeTally). u.to) (sym here) ∙ alive)) ∙ sym at
       | inr apart ↦
-          are.all k t (omega (arith, below, length-set ts p new))
-          (ap (λ (u : LifeTally). u.to) (sym (get_or-set_other ts p k new t apart)) ∙ alive)
+          let there = get_or-set_other ts p k new t apart in
+          ap (λ (u : LifeTally). get_or places u.sid 0) there
+          ∙ are.each k t (omega (arith, below, length-set ts p new))
+          (ap (λ (u : LifeTally). u.to) (sym there) ∙ alive)
     ];
   }
 
-  -- one is added, with its place
-  pub AreLive-push : (new : LifeTally) → AreLive (live ++ length ts ∷ []) (ts ++ new ∷ [])
-  AreLive-push new =
-      let left = λ (i : ℕ) (below : i < length live). get_or_append_left live (length ts ∷ []) 0 i below in
-      let last : get_or (live ++ length ts ∷ []) (length live) 0 ≡ length ts =
-      get_or_at live (length ts) [] 0 (length live) refl in
-      record {
-        ascends = λ i j before below. elim (cases_lt j (length live)) [
-          | inl old ↦
-              omega (arith, left i (omega (arith, before, old)), left j old, are.ascends i j before old)
-          | inr now ↦
-              let end : j ≡ length live = omega (arith, now, below, length_push live (length ts)) in
-              omega (
-                arith,
-                left i (omega (arith, before, end)),
-                are.inside i (omega (arith, before, end)),
-                ap (λ j. get_or (live ++ length ts ∷ []) j 0) end,
-                last,
-              )
-        ];
-        inside = λ i below. elim (cases_lt i (length live)) [
-          | inl old ↦ omega (arith, left i old, are.inside i old, length_push ts new)
-          | inr now ↦
-              let end : i ≡ length live = omega (arith, now, below, length_push live (length ts)) in
-              omega (arith, ap (λ i. get_or (live ++ length ts ∷ []) i 0) end, last, length_push ts new)
-        ];
-        all = λ k t below alive. elim (cases_lt k (length ts)) [
-          | inl old ↦
-              let found = are.all k t old
-              (ap (λ (u : LifeTally). u.to) (sym (get_or_append_left ts (new ∷ []) t k old)) ∙ alive) in
-              (found.0, omega (arith, found.1, length_push live (length ts)), left found.0 found.1 ∙ found.2)
-          | inr now ↦
-              let end : k ≡ length ts = omega (arith, now, below, length_push ts new) in
-              (length live, omega (arith, length_push live (length ts)), last ∙ sym end)
-        ];
-      }
-
-  -- the place of a life that has ended is left out
-  pub AreLive-remove : (i : ℕ) → i < length live → ((t : LifeTally) → (get_or ts (get_or live i 0) t).to ≡ None → ⊥)
-      → AreLive (remove live i) ts
-  AreLive-remove i within ended =
-      let low = λ (k : ℕ) (before : k < i). get_or-remove_below live i 0 k before within in
-      let high = λ (k : ℕ) (behind : i ≤ k). get_or-remove_above live i 0 k behind within in
-      let long : length (remove live i) + 1 ≡ length live = length-remove live i within in
-      record {
-        ascends = λ a b before below. elim (cases_lt b i) [
-          | inl early ↦
-              omega (
-                arith,
-                low a (omega (arith, before, early)),
-                low b early,
-                are.ascends a b before (omega (arith, below, long)),
-              )
-          | inr late ↦
-              elim (cases_lt a i) [
-                | inl first ↦
-                    omega (
-                      arith,
-                      low a first,
-                      high b late,
-                      are.ascends a (b + 1) (omega (arith, before)) (omega (arith, below, long)),
-                    )
-                | inr both ↦
-                    omega (
-                      arith,
-                      high a both,
-                      high b late,
-                      are.ascends (a + 1) (b + 1) (omega (arith, before)) (omega (arith, below, long)),
-                    )
-              ]
-        ];
-        inside = λ k below. elim (cases_lt k i) [
-          | inl early ↦ omega (arith, low k early, are.inside k (omega (arith, below, long)))
-          | inr late ↦ omega (arith, high k late, are.inside (k + 1) (omega (arith, below, long)))
-        ];
-        all = λ k t below alive.
-            let found = are.all k t below alive in
-            let other : found.0 ≡ i → ⊥ = λ same.
-            ended t (subst (λ k. (get_or ts k t).to ≡ None)
-            (sym found.2 ∙ ap (λ i. get_or live i 0) same) alive) in
-            elim (cases_lt found.0 i) [
-              | inl early ↦ (found.0, omega (arith, early, within, long), low found.0 early ∙ found.2)
-              | inr late ↦
-                  let past : i < found.0 = omega (arith, late, other) in
-                  let j : ℕ = found.0 - 1 in
-                  let next : j + 1 ≡ found.0 = omega (arith, past) in (
-                    j,
-                    omega (arith, next, found.1, long),
-                    high j (omega (arith, past, next)) ∙ ap (λ i. get_or live i 0) next ∙ found.2,
-                  )
-            ];
-      }
+  -- one is added under a SID under which none goes on
+  pub AreLive-push : (new : LifeTally) (sid place : ℕ) → new.sid ≡ sid → place ≡ length ts → sid < 65536
+      → ((k : ℕ) (t : LifeTally) → k < length ts → (get_or ts k t).to ≡ None → (get_or ts k t).sid ≡ sid → ⊥)
+      → AreLive (set places sid place) (ts ++ new ∷ [])
+  AreLive-push new sid place is at small alone = record {
+    long = length-set places sid place ∙ are.long;
+    each = λ k t below alive. elim (cases_lt k (length ts)) [
+      | inl old ↦
+          let left = get_or_append_left ts (new ∷ []) t k old in
+          let goes_on : (get_or ts k t).to ≡ None = ap (λ (u : LifeTally). u.to) (sym left) ∙ alive in
+          ap (λ (u : LifeTally). get_or (set places sid place) u.sid 0) left
+          ∙ get_or-set_other places sid (get_or ts k t).sid place 0 (alone k t old goes_on)
+          ∙ are.each k t old goes_on
+      | inr now ↦
+          let end : length ts ≡ k = omega (arith, now, below, length_push ts new) in
+          ap (λ (u : LifeTally). get_or (set places sid place) u.sid 0) (get_or_push ts new t k end)
+          ∙ ap (λ (s : ℕ). get_or (set places sid place) s 0) is
+          ∙ get_or-set_same places sid place 0 (omega (arith, small, are.long)) ∙ at ∙ end
+    ];
+  }

@@ -34,6 +34,7 @@ use Rattle.sched_report.specs.declared.service.Request.{Request}
 use Rattle.sched_report.specs.Delays.{bytes_asked}
 use Rattle.sched_report.specs.Lives.{PastLife, is_turn, request_by, requests_in}
 use Rattle.sched_report.specs.Told.{MayNote}
+use Rattle.sched_report.specs.ToldLives.{HasOrderlyMap}
 use Rattle.sched_report.proofs.Frames.{next_start-most}
 use Rattle.sched_report.proofs.LegalLives.{IsLifeIn, no_turn}
 
@@ -151,6 +152,14 @@ module _ (c : Config) (lawful : IsLawful c) (h : List Entry) (legal : IsLegal c 
         omega (arith, few, asked_in-requests life.sid now.since, length_push h e, short),
       )
 
+  -- its MAP, where it has one, starts in reach and is in order
+  pub orderly_map : HasOrderlyMap c e.reply
+  orderly_map m built =
+      let next = IsNextMap-from_step c h e.call m (subst (λ r. IsStep c h e.call r) built step) in (
+        omega (arith, next_start-most c lawful h m legal next),
+        next_orderly c lawful h m legal next,
+      )
+
   -- the entry may follow the life
   pub may_note : (life : PastLife) → IsLifeIn h life → MayNote c life (next_after c h) e
   may_note life is = record {
@@ -159,11 +168,6 @@ module _ (c : Config) (lawful : IsLawful c) (h : List Entry) (legal : IsLegal c 
     next = λ alive. ap (next_after c) (sym (is.whole alive));
     some = λ r asks. positive c h life.sid e.call e.reply r step asks;
     within = granted_within life is;
-    start = λ m built. omega (
-      arith,
-      next_start-most c lawful h m legal
-          (IsNextMap-from_step c h e.call m (subst (λ r. IsStep c h e.call r) built step)),
-    );
-    orderly = λ m built. next_orderly c lawful h m legal
-        (IsNextMap-from_step c h e.call m (subst (λ r. IsStep c h e.call r) built step));
+    start = λ m built. (orderly_map m built).0;
+    orderly = λ m built. (orderly_map m built).1;
   }

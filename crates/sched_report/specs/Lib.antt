@@ -14,4 +14,5 @@ pub mod RanksTold
 pub mod Told
 pub mod Named
 pub mod Live
+pub mod Granted
 pub mod ToldLives

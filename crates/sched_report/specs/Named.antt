@@ -1,11 +1,11 @@
--- Which SIDs an entry names, and what it does to the flows of the others: nothing.
-use Rattle.std.specs.Prelude.{◌≡◌, ℕ, ◌%◌, Bool, false, List, [], slice_index_or, Option, None, Some}
+-- Which SID an entry without a MAP names, and what it does to the flows of the others: nothing.
+use Rattle.std.specs.Prelude.{◌≡◌, ℕ, [], Option, None, Some}
 use Rattle.flow_book.specs.declared.spec.FlowSpec.{FlowSpec}
+use Rattle.map_build.specs.declared.frame_map.FrameMap.{FrameMap}
 use Rattle.sched_history.specs.declared.call.Call.{Call}
 use Rattle.sched_history.specs.declared.call.Call.TheVariants as calls
 use Rattle.sched_history.specs.declared.reply.Reply.{Reply}
 use Rattle.sched_history.specs.declared.reply.Reply.TheVariants as replies
-use Rattle.sched_history.specs.declared.reply.Entry.{Entry}
 use Rattle.sched_history.specs.Life.{turn_by, grants_by}
 use Rattle.sched_report.specs.Lives.{request_by}
 use Rattle.sched_report.specs.Said.{unsolicited_by}
@@ -24,10 +24,6 @@ pub record IsUnnamed (sid : ℕ) (call : Call) (reply : Reply) : Type 0 where
   pub ungranted : grants_by sid reply ≡ []
   pub unsolicited : (spec : FlowSpec) → unsolicited_by spec sid reply ≡ 0
 
--- whether a SID is marked: those that differ by a multiple of 256 share a mark
-abbrev pub is_marked : List Bool → ℕ → Bool
-is_marked marks sid = slice_index_or marks (sid % 256) false
-
--- an entry does nothing to a flow whose SID is not marked
-abbrev pub TellsNamed : List Bool → Entry → Type 0
-TellsNamed marks e = (sid : ℕ) → is_marked marks sid ≡ false → IsUnnamed sid e.call e.reply
+-- the reply has no MAP
+abbrev pub HasNoMap : Reply → Type 0
+HasNoMap reply = (m : FrameMap) → reply ≡ replies.Built m → ⊥

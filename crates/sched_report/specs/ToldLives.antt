@@ -1,12 +1,15 @@
 -- What is told of all lives of a history.
-use Rattle.std.specs.Prelude.{◌≡◌, ℕ, ◌<◌, ◌⊎◌, List, ◌++◌, length, slice_index_or}
+use Rattle.std.specs.Prelude.{◌≡◌, ℕ, ◌<◌, ◌^◌, ◌⊎◌, List, ◌++◌, length, slice_index_or}
 use Rattle.minislots.specs.declared.config.Config.{Config}
 use Rattle.minislots.specs.Config.{IsLawful}
+use Rattle.map_build.specs.declared.frame_map.FrameMap.{FrameMap}
 use Rattle.sched_history.specs.declared.call.Call.{Call}
 use Rattle.sched_history.specs.declared.reply.Reply.{Reply}
+use Rattle.sched_history.specs.declared.reply.Reply.TheVariants.{Built}
 use Rattle.sched_history.specs.declared.reply.Entry.{Entry}
 use Rattle.sched_history.specs.declared.reply.TheConstants.{MAX_WHOLE_HISTORY}
 use Rattle.sched_history.specs.Life.{grants_since}
+use Rattle.sched_history.specs.Facts.{IsOrderly}
 use Rattle.sched_history.specs.History.{IsStep, IsLegal}
 use Rattle.sched_history.specs.Machine.{MayLackMemory}
 use Rattle.sched_history.specs.Time.{next_after}
@@ -28,6 +31,10 @@ pub record AreLives (c : Config) (ts : List LifeTally) (lives : List PastLife) :
 abbrev pub MayNoteEach : Config → List PastLife → ℕ → Entry → Type 0
 MayNoteEach c lives slot e =
     (k : ℕ) (life : PastLife) → k < length lives → MayNote c (slice_index_or lives k life) slot e
+
+-- the MAP of a reply, where it has one, starts in reach and is in order
+abbrev pub HasOrderlyMap : Config → Reply → Type 0
+HasOrderlyMap c reply = (m : FrameMap) → reply ≡ Built m → (m.start < 2 ^ 62) × IsOrderly c m
 
 -- a report keeps something of the entry: it begins a life, or is a request
 abbrev pub AddsToReport : Call → Reply → Type 0

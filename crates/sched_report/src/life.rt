@@ -1,14 +1,12 @@
 //! One life of a flow: what it asked and was granted, and from when to when it lived.
 
-ghost use Rattle.std.specs.Prelude.{◌≡◌, ◌<◌, ◌≤◌, ◌^◌, ◌++◌, [], List, length, count_by, false};
+ghost use Rattle.std.specs.Prelude.{◌≡◌, ◌+◌, ◌<◌, ◌≤◌, ◌^◌, ◌++◌, [], List, false};
 ghost use Rattle.std.specs.Prelude.{None, Some, is_some, IfSome, OnOk};
-ghost use Rattle.std.specs.List.{cons_option, filter_map, zip};
+ghost use Rattle.std.specs.List.{cons_option};
 ghost use Rattle.minislots.specs.declared.config.Config.{Config};
-ghost use Rattle.map_codec.specs.Element.{nulls};
-ghost use Rattle.map_drawing.specs.Allocation.{allocations_of};
 ghost use Rattle.flow_book.specs.declared.flow.Grant.{Grant as DataGrant};
 ghost use Rattle.sched_history.specs.declared.reply.Entry.{Entry as Recorded};
-ghost use Rattle.sched_history.specs.Life.{grant_by, grants_of_map, grants_since};
+ghost use Rattle.sched_history.specs.Life.{grant_by, grants_since};
 ghost use Rattle.sched_history.specs.Time.{next_after};
 ghost use Rattle.sched_report.specs.declared.service.Request.{Request as Asked};
 ghost use Rattle.sched_report.specs.Served.{IsServiceOf};
@@ -16,20 +14,19 @@ ghost use Rattle.sched_report.specs.Delays.{AreSums};
 ghost use Rattle.sched_report.specs.Lives.{PastLife, is_turn, request_by, requests_in, with_entry};
 ghost use Rattle.sched_report.specs.Ranks.{is_of_rank, is_chosen};
 ghost use Rattle.sched_report.specs.Said.{delays_in, priority_of, granted_in, waiting_in, dropped_in};
-ghost use Rattle.sched_report.specs.Named.{TellsNamed};
+ghost use Rattle.sched_report.specs.Named.{HasNoMap};
+ghost use Rattle.sched_report.specs.Granted.{HasMore, is_unsolicited_to, unsolicited_at};
 ghost use Rattle.sched_report.specs.Steps.{CountsUpto};
-ghost use Rattle.sched_report.specs.Said.{is_grant_to, unsolicited_of_map};
+ghost use Rattle.sched_report.specs.Said.{is_grant_to};
 ghost use Rattle.sched_report.specs.Told.{IsLifeOf, MayNote, MayGrantAll, HasRoomFor};
 ghost use Rattle.sched_report.specs.ToldLives.{AreLifeNumbers};
 
-use crate::named::{Marks, is_marked};
 use crate::percentiles::percentile;
 use crate::service::{Request, Service, Sums};
 use crate::slots::Use;
 use flow_book::{FlowSpec, Grant};
-use map_build::FrameMap;
 use map_codec::Element;
-use map_drawing::{Allocation, allocation_at, front_len};
+use map_drawing::Allocation;
 use minislots::Checked;
 use sched_history::{Call, Entry, Reply};
 use std::alloc::{AllocError, Global};
@@ -85,9 +82,10 @@ pub(crate) struct LifeTally {
 impl LifeTally {
     // That of a life that begins in front of the frame that starts there.
     pub(crate) fn begin(alloc: Global, sid: u16, spec: FlowSpec, from: u64) -> LifeTally
-        ensures { (c : Config) (upto : List Recorded) → from ≡ next_after c upto
+        ensures life { (c : Config) (upto : List Recorded) → from ≡ next_after c upto
             → IsLifeOf c result
             (record { sid = sid; spec = spec; upto = upto; since = []; ended = false }) }
+        ensures sid { result.sid ≡ sid }
     {
         LifeTally {
             sid,
@@ -192,32 +190,8 @@ impl LifeTally {
         }
     }
 
-    // Whether it has ended.
-    pub(crate) fn has_ended(&self) -> bool
-        ensures { result ≡ is_some self.now.to }
-    {
-        self.to.is_some()
-    }
-
-    // Takes memory for the request that an entry is, where it is one of this SID, which is among those that it names.
-    // What is told stays.
-    pub(crate) fn reserve_named(&mut self, entry: &Entry, marks: &Marks) -> Result<(), AllocError>
-        requires { TellsNamed marks.now entry.now }
-        ensures ok { OnOk result
-            ((r : Asked) → request_by self.new.sid entry.now.call entry.now.reply ≡ Some r
-            → HasRoomFor self.new) }
-        ensures same { (c : Config) (life : PastLife) → IsLifeOf c self.old life
-            → IsLifeOf c self.new life }
-        ensures unmoved { self.new ≡ record self.old { service = self.new.service } }
-    {
-        if !is_marked(marks, self.sid) {
-            return Ok(());
-        }
-        self.reserve_for(entry)
-    }
-
-    // The same, whatever SIDs it names.
-    fn reserve_for(&mut self, entry: &Entry) -> Result<(), AllocError>
+    // Takes memory for the request that an entry is, where it is one of this SID. What is told stays.
+    pub(crate) fn reserve_for(&mut self, entry: &Entry) -> Result<(), AllocError>
         ensures ok { OnOk result
             ((r : Asked) → request_by self.new.sid entry.now.call entry.now.reply ≡ Some r
             → HasRoomFor self.new) }
@@ -231,37 +205,18 @@ impl LifeTally {
         self.service.reserve()
     }
 
-    // Goes on with one entry more, before which the next frame starts there. One that does not name this SID changes
-    // nothing.
-    pub(crate) fn note_named(&mut self, config: &Checked, next: u64, entry: &Entry, marks: &Marks)
-        requires may { (life : PastLife) × IsLifeOf config.now self.old life
-            × MayNote config.now life next entry.now }
+    // Goes on with one entry more that has no MAP, before which the next frame starts there.
+    pub(crate) fn note(&mut self, next: u64, entry: &Entry)
+        requires may { (c : Config) × (life : PastLife) × IsLifeOf c self.old life
+            × MayNote c life next entry.now }
         requires room { self.old.to ≡ None → (r : Asked)
             → request_by self.old.sid entry.now.call entry.now.reply ≡ Some r
             → HasRoomFor self.old }
-        requires marks { TellsNamed marks.now entry.now }
-        ensures life { (life : PastLife) → IsLifeOf config.now self.old life
-            → MayNote config.now life next entry.now
-            → IsLifeOf config.now self.new (with_entry entry.now life) }
+        requires unbuilt { HasNoMap entry.now.reply }
+        ensures life { (c : Config) (life : PastLife) → IsLifeOf c self.old life
+            → MayNote c life next entry.now → IsLifeOf c self.new (with_entry entry.now life) }
         ensures alive { self.new.to ≡ None → self.old.to ≡ None }
-    {
-        if !is_marked(marks, self.sid) {
-            return;
-        }
-        self.note(config, next, entry);
-    }
-
-    // The same, whatever SIDs it names.
-    fn note(&mut self, config: &Checked, next: u64, entry: &Entry)
-        requires may { (life : PastLife) × IsLifeOf config.now self.old life
-            × MayNote config.now life next entry.now }
-        requires room { self.old.to ≡ None → (r : Asked)
-            → request_by self.old.sid entry.now.call entry.now.reply ≡ Some r
-            → HasRoomFor self.old }
-        ensures life { (life : PastLife) → IsLifeOf config.now self.old life
-            → MayNote config.now life next entry.now
-            → IsLifeOf config.now self.new (with_entry entry.now life) }
-        ensures alive { self.new.to ≡ None → self.old.to ≡ None }
+        ensures sid { self.new.sid ≡ self.old.sid }
     {
         if self.to.is_some() {
             return;
@@ -272,12 +227,36 @@ impl LifeTally {
         }
         if let Some(request) = request_of(self.sid, entry) {
             self.service.ask(request);
+        }
+    }
+
+    // Counts an element with this byte count, in a MAP that starts there, where it is a data grant to this life.
+    pub(crate) fn grant(&mut self, config: &Checked, start: u64, element: Element, bytes: u32)
+        requires start { start < 2 ^ 62 }
+        requires granted { self.old.to ≡ None → MayGrantAll config.now self.old.service
+            (cons_option (grant_by self.old.sid start (element, bytes)) []) }
+        ensures { HasMore config.now (cons_option (grant_by self.old.sid start (element, bytes)) [])
+            0 self.old self.new }
+    {
+        if self.to.is_some() {
             return;
         }
-        if let Reply::Built(map) = &entry.reply {
-            self.unsolicited += u128::from(unsolicited_of_map(self.spec, self.sid, map));
-            grant_map(&mut self.service, config, self.sid, map);
+        grant_element(&mut self.service, config, self.sid, start, element, bytes);
+    }
+
+    // Counts an allocation, where it is an unsolicited grant to this life.
+    pub(crate) fn count_grant(&mut self, allocation: Allocation)
+        requires { self.old.to ≡ None → self.old.unsolicited + 1 ≤ 2 ^ 100 }
+        ensures { (c : Config) → HasMore c []
+            (unsolicited_at self.old.spec self.old.sid allocation) self.old self.new }
+    {
+        if !is_unsolicited_to(self.spec, self.sid, allocation) {
+            return;
         }
+        if self.to.is_some() {
+            return;
+        }
+        self.unsolicited += 1;
     }
 }
 
@@ -302,31 +281,14 @@ fn is_of_rank(spec: FlowSpec, rank: u8) -> bool
     }
 }
 
-// How many unsolicited grants a MAP has to a flow with these parameters: none to one that is not unsolicited.
-fn unsolicited_of_map(spec: FlowSpec, sid: u16, map: &FrameMap) -> u64
-    requires one_null { nulls map.now.wire.elements ≡ 1 }
-    ensures value { result ≡ unsolicited_of_map spec sid map.now }
-    ensures few { result ≤ length map.now.wire.elements }
+// Whether an allocation is an unsolicited grant to a flow with these parameters, which lives under this SID.
+fn is_unsolicited_to(spec: FlowSpec, sid: u16, allocation: Allocation) -> bool
+    ensures { result ≡ is_unsolicited_to spec sid allocation }
 {
     match spec {
-        FlowSpec::Unsolicited { .. } => grants_to(sid, map.wire.elements.as_slice()),
-        _ => 0,
+        FlowSpec::Unsolicited { .. } => is_grant_to(sid, allocation),
+        _ => false,
     }
-}
-
-// How many unsolicited grants elements have to the unsolicited flow that lives under this SID.
-fn grants_to(sid: u16, elements: &[Element]) -> u64
-    requires one_null { nulls elements.now ≡ 1 }
-    ensures value { result ≡ count_by (is_grant_to sid) (allocations_of elements.now) }
-    ensures few { result ≤ length elements.now }
-{
-    let mut count = 0;
-    for i in 0..front_len(elements) {
-        if is_grant_to(sid, allocation_at(elements, i)) {
-            count += 1;
-        }
-    }
-    count
 }
 
 // Whether an allocation is an unsolicited grant to the unsolicited flow that lives under this SID.
@@ -400,45 +362,4 @@ fn grant_element(
         Some(grant) => service.grant(config, grant),
         None => {}
     }
-}
-
-// Counts the elements with these byte counts that are data grants to this SID, in a MAP that starts there.
-fn grant_each(
-    service: &mut Service,
-    config: &Checked,
-    sid: u16,
-    start: u64,
-    elements: &[Element],
-    counts: &[u32],
-)
-    requires start { start < 2 ^ 62 }
-    requires granted { MayGrantAll config.now service.old
-        (filter_map (grant_by sid start) (zip elements.now counts.now)) }
-    ensures { (requests : List Asked) (grants : List DataGrant)
-        → IsServiceOf config.now service.old requests grants
-        → IsServiceOf config.now service.new requests
-        (grants ++ filter_map (grant_by sid start) (zip elements.now counts.now)) }
-{
-    for i in 0..elements.len().min(counts.len()) {
-        grant_element(service, config, sid, start, elements[i], counts[i]);
-    }
-}
-
-// Counts the data grants of a MAP to this SID.
-fn grant_map(service: &mut Service, config: &Checked, sid: u16, map: &FrameMap)
-    requires start { map.now.start < 2 ^ 62 }
-    requires granted { MayGrantAll config.now service.old (grants_of_map sid map.now) }
-    ensures { (requests : List Asked) (grants : List DataGrant)
-        → IsServiceOf config.now service.old requests grants
-        → IsServiceOf config.now service.new requests (grants ++ grants_of_map sid map.now) }
-{
-    let elements = map.wire.elements.as_slice();
-    grant_each(
-        service,
-        config,
-        sid,
-        map.start,
-        elements,
-        map.bytes.as_slice(),
-    );
 }

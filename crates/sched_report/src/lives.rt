@@ -1,19 +1,28 @@
 //! The lives of all flows of a history, in the order of their admissions.
 
-ghost use Rattle.std.specs.Prelude.{◌≡◌, ◌<◌, ◌^◌, ◌++◌, ◌∷◌, [], List, map, length, None, slice_index, slice_index_or};
-ghost use Rattle.std.specs.Prelude.{IfSome, OnOk, OnErr, vec_len, vec_capacity};
+ghost use Rattle.std.specs.Prelude.{◌≡◌, ◌<◌, ◌^◌, ◌++◌, ◌∷◌, [], List, map, length, count_by, slice_index, slice_set};
+ghost use Rattle.std.specs.Prelude.{OnOk, OnErr, vec_len, vec_capacity};
+ghost use Rattle.std.specs.List.{cons_option, filter_map, zip};
 ghost use Rattle.minislots.specs.declared.config.Config.{Config};
+ghost use Rattle.map_drawing.specs.Allocation.{allocations_of};
 ghost use Rattle.sched_history.specs.declared.reply.Entry.{Entry as Recorded};
+ghost use Rattle.sched_history.specs.Facts.{IsOrderly, HasFront};
+ghost use Rattle.sched_history.specs.Life.{grant_by, grants_of_map};
 ghost use Rattle.sched_history.specs.Time.{next_after};
-ghost use Rattle.sched_report.specs.declared.life.LifeTally.{LifeTally as Tally};
-ghost use Rattle.sched_report.specs.Live.{AreLive, HaveRoomFor};
+ghost use Rattle.sched_report.specs.Granted.{HaveMore, MayGrantEach, MayCountEach, is_unsolicited_to, unsolicited_at};
+ghost use Rattle.sched_report.specs.Live.{AreLive, HaveRoomFor, IsAlone};
 ghost use Rattle.sched_report.specs.Lives.{PastLife, opening_by, life_begun, lives_of, with_entry};
 ghost use Rattle.sched_report.specs.Lives.{IsRequest, IsOpening};
-ghost use Rattle.sched_report.specs.ToldLives.{AreLives, MayNoteEach, AddsToReport, MayFollow};
+ghost use Rattle.sched_report.specs.Named.{HasNoMap};
+ghost use Rattle.sched_report.specs.Said.{unsolicited_of_map};
+ghost use Rattle.sched_report.specs.ToldLives.{AreLives, MayNoteEach, HasOrderlyMap, AddsToReport, MayFollow};
 
 use crate::life::LifeTally;
-use crate::named::marks_of;
+use crate::named::named_by;
 use flow_book::FlowSpec;
+use map_build::FrameMap;
+use map_codec::Element;
+use map_drawing::{Allocation, allocation_at, front_len};
 use minislots::Checked;
 use sched_history::{Call, Entry, Reply};
 use std::alloc::{AllocError, Global};
@@ -25,29 +34,160 @@ pub(crate) struct Opening {
     spec: FlowSpec,
 }
 
+// The place that a table has for a SID.
+fn place_under(places: &[usize], sid: u16) -> usize
+    requires { length places.now ≡ 65536 }
+    ensures { result ≡ slice_index places.now sid }
+{
+    places[usize::from(sid)]
+}
+
+// Notes the place of the life that goes on under a SID.
+fn note_place(places: &mut [usize], sid: u16, place: usize)
+    requires { length places.old ≡ 65536 }
+    ensures { places.new ≡ slice_set places.old sid place }
+{
+    places[usize::from(sid)] = place;
+}
+
 // Takes memory for the request that an entry is, in the life that goes on and asks it. What is told stays.
 pub(crate) fn reserve_each(
     lives: &mut [LifeTally],
-    live: &[usize],
+    places: &[usize],
     entry: &Entry,
 ) -> Result<(), AllocError>
-    requires { AreLive live.now lives.old }
+    requires { AreLive places.now lives.old }
     ensures ok { OnOk result (HaveRoomFor entry.now.call entry.now.reply lives.new) }
     ensures same { (c : Config) (ls : List PastLife) → AreLives c lives.old ls
         → AreLives c lives.new ls }
-    ensures live { AreLive live.now lives.new }
+    ensures live { AreLive places.now lives.new }
 {
-    let marks = marks_of(entry);
-    for place in live {
-        lives[*place].reserve_named(entry, &marks)?;
+    let Some(sid) = named_by(entry) else {
+        return Ok(());
+    };
+    let place = place_under(places, sid);
+    if place >= lives.len() {
+        return Ok(());
     }
-    Ok(())
+    lives[place].reserve_for(entry)
+}
+
+// Counts an element with this byte count, in a MAP that starts there, in the life to which it is a data grant.
+fn grant_at(
+    lives: &mut [LifeTally],
+    places: &[usize],
+    config: &Checked,
+    start: u64,
+    element: Element,
+    bytes: u32,
+)
+    requires start { start < 2 ^ 62 }
+    requires live { AreLive places.now lives.old }
+    requires granted { MayGrantEach config.now
+        (λ sid. cons_option (grant_by sid start (element, bytes)) []) lives.old }
+    ensures { HaveMore config.now (λ sid. cons_option (grant_by sid start (element, bytes)) [])
+        (λ spec sid. 0) lives.old lives.new }
+{
+    if bytes == 0 {
+        return;
+    }
+    let place = place_under(places, element.sid);
+    if place < lives.len() {
+        lives[place].grant(config, start, element, bytes);
+    }
+}
+
+// Counts the elements with these byte counts, in a MAP that starts there, in the lives to which they are data grants.
+fn grant_each(
+    lives: &mut [LifeTally],
+    places: &[usize],
+    config: &Checked,
+    start: u64,
+    elements: &[Element],
+    counts: &[u32],
+)
+    requires start { start < 2 ^ 62 }
+    requires live { AreLive places.now lives.old }
+    requires granted { MayGrantEach config.now
+        (λ sid. filter_map (grant_by sid start) (zip elements.now counts.now)) lives.old }
+    ensures { HaveMore config.now
+        (λ sid. filter_map (grant_by sid start) (zip elements.now counts.now))
+        (λ spec sid. 0) lives.old lives.new }
+{
+    for i in 0..elements.len().min(counts.len()) {
+        grant_at(lives, places, config, start, elements[i], counts[i]);
+    }
+}
+
+// Counts an allocation in the life to which it is an unsolicited grant.
+fn count_at(lives: &mut [LifeTally], places: &[usize], allocation: Allocation)
+    requires live { AreLive places.now lives.old }
+    requires few { MayCountEach 1 lives.old }
+    ensures { (c : Config) → HaveMore c (λ sid. [])
+        (λ spec sid. unsolicited_at spec sid allocation) lives.old lives.new }
+{
+    let place = place_under(places, allocation.sid);
+    if place < lives.len() {
+        lives[place].count_grant(allocation);
+    }
+}
+
+// Counts the allocations of elements in the lives to which they are unsolicited grants.
+fn count_each(lives: &mut [LifeTally], places: &[usize], elements: &[Element])
+    requires front { (c : Config) × HasFront c elements.now }
+    requires live { AreLive places.now lives.old }
+    requires few { MayCountEach (length elements.now) lives.old }
+    ensures { (c : Config) → HaveMore c (λ sid. [])
+        (λ spec sid. count_by (is_unsolicited_to spec sid) (allocations_of elements.now))
+        lives.old lives.new }
+{
+    for i in 0..front_len(elements) {
+        count_at(lives, places, allocation_at(elements, i));
+    }
+}
+
+// Counts the grants of a MAP, of both kinds.
+fn note_map(lives: &mut [LifeTally], places: &[usize], config: &Checked, map: &FrameMap)
+    requires start { map.now.start < 2 ^ 62 }
+    requires orderly { IsOrderly config.now map.now }
+    requires live { AreLive places.now lives.old }
+    requires few { MayCountEach (length map.now.wire.elements) lives.old }
+    requires granted { MayGrantEach config.now (λ sid. grants_of_map sid map.now) lives.old }
+    ensures { HaveMore config.now (λ sid. grants_of_map sid map.now)
+        (λ spec sid. unsolicited_of_map spec sid map.now) lives.old lives.new }
+{
+    let elements = map.wire.elements.as_slice();
+    let counts = map.bytes.as_slice();
+    grant_each(lives, places, config, map.start, elements, counts);
+    count_each(lives, places, elements);
+}
+
+// Goes on with an entry that has no MAP.
+fn note_named(lives: &mut [LifeTally], places: &[usize], next: u64, entry: &Entry)
+    requires may { (c : Config) × (ls : List PastLife) × AreLives c lives.old ls
+        × MayNoteEach c ls next entry.now }
+    requires room { IsRequest entry.now.call entry.now.reply
+        → HaveRoomFor entry.now.call entry.now.reply lives.old }
+    requires live { AreLive places.now lives.old }
+    requires unbuilt { HasNoMap entry.now.reply }
+    ensures lives { (c : Config) (ls : List PastLife) → AreLives c lives.old ls
+        → MayNoteEach c ls next entry.now
+        → AreLives c lives.new (map (with_entry entry.now) ls) }
+    ensures live { AreLive places.now lives.new }
+{
+    let Some(sid) = named_by(entry) else {
+        return;
+    };
+    let place = place_under(places, sid);
+    if place < lives.len() {
+        lives[place].note(next, entry);
+    }
 }
 
 // Goes on with one entry more, before which the next frame starts there.
 pub(crate) fn note_each(
     lives: &mut [LifeTally],
-    live: &[usize],
+    places: &[usize],
     config: &Checked,
     next: u64,
     entry: &Entry,
@@ -56,76 +196,64 @@ pub(crate) fn note_each(
         × MayNoteEach config.now ls next entry.now }
     requires room { IsRequest entry.now.call entry.now.reply
         → HaveRoomFor entry.now.call entry.now.reply lives.old }
-    requires live { AreLive live.now lives.old }
+    requires live { AreLive places.now lives.old }
+    requires orderly { HasOrderlyMap config.now entry.now.reply }
     ensures lives { (ls : List PastLife) → AreLives config.now lives.old ls
         → MayNoteEach config.now ls next entry.now
         → AreLives config.now lives.new (map (with_entry entry.now) ls) }
-    ensures live { AreLive live.now lives.new }
+    ensures live { AreLive places.now lives.new }
 {
-    let marks = marks_of(entry);
-    for place in live {
-        lives[*place].note_named(config, next, entry, &marks);
+    match &entry.reply {
+        Reply::Built(map) => note_map(lives, places, config, map),
+        _ => note_named(lives, places, next, entry),
     }
 }
 
 // Takes memory for what an entry adds: a life, or a request of one. What is told stays.
 pub(crate) fn reserve_for(
     lives: &mut Vec<LifeTally>,
-    live: &mut Vec<usize>,
+    places: &[usize],
     entry: &Entry,
 ) -> Result<(), AllocError>
-    requires { AreLive live.old.items lives.old.items }
+    requires { AreLive places.now lives.old.items }
     ensures requests { OnOk result (IsRequest entry.now.call entry.now.reply →
         HaveRoomFor entry.now.call entry.now.reply lives.new.items) }
     ensures lives { OnOk result (IsOpening entry.now.call entry.now.reply →
         vec_len lives.new < vec_capacity lives.new) }
-    ensures places { OnOk result (IsOpening entry.now.call entry.now.reply →
-        vec_len live.new < vec_capacity live.new) }
     ensures same { (c : Config) (ls : List PastLife) → AreLives c lives.old.items ls
         → AreLives c lives.new.items ls }
-    ensures live { AreLive live.new.items lives.new.items }
+    ensures live { AreLive places.now lives.new.items }
     ensures err { OnErr result (AddsToReport entry.now.call entry.now.reply) }
 {
     match (entry.call, &entry.reply) {
-        (Call::Ask { .. }, Reply::Taken) => reserve_each(lives, live, entry),
-        (Call::Admit(..), Reply::Admitted(_)) => reserve_life(lives, live),
+        (Call::Ask { .. }, Reply::Taken) => reserve_each(lives, places, entry),
+        (Call::Admit(..), Reply::Admitted(_)) => lives.reserve(1),
         _ => Ok(()),
     }
 }
 
-// Takes memory for one life more.
-fn reserve_life(lives: &mut Vec<LifeTally>, live: &mut Vec<usize>) -> Result<(), AllocError>
-    ensures lives { OnOk result (vec_len lives.new < vec_capacity lives.new) }
-    ensures places { OnOk result (vec_len live.new < vec_capacity live.new) }
-    ensures same { lives.new.items ≡ lives.old.items }
-    ensures live { live.new.items ≡ live.old.items }
-{
-    lives.reserve(1)?;
-    live.reserve(1)
-}
-
-// Begins the life of a flow that an entry admits, in front of the frame that starts there.
+// Begins the life of a flow that an entry admits, in front of the frame that starts there. No other goes on under its
+// SID.
 pub(crate) fn begin_life(
     lives: &mut Vec<LifeTally>,
-    live: &mut Vec<usize>,
+    places: &mut [usize],
     alloc: Global,
     from: u64,
     entry: &Entry,
 )
     requires lives { IsOpening entry.now.call entry.now.reply
         → vec_len lives.old < vec_capacity lives.old }
-    requires places { IsOpening entry.now.call entry.now.reply
-        → vec_len live.old < vec_capacity live.old }
-    requires live { AreLive live.old.items lives.old.items }
+    requires live { AreLive places.old lives.old.items }
+    requires alone { IsAlone entry.now.call entry.now.reply lives.old.items }
     ensures lives { (c : Config) (h : List Recorded) (ls : List PastLife)
         → from ≡ next_after c (h ++ entry.now ∷ [])
         → AreLives c lives.old.items ls
         → AreLives c lives.new.items
         (ls ++ life_begun (h ++ entry.now ∷ []) (opening_by entry.now.call entry.now.reply) []) }
-    ensures live { AreLive live.new.items lives.new.items }
+    ensures live { AreLive places.new lives.new.items }
 {
     if let Some(opening) = opening_of(entry) {
-        live.push_reserved(lives.len());
+        note_place(places, opening.sid, lives.len());
         lives.push_reserved(LifeTally::begin(alloc, opening.sid, opening.spec, from));
     }
 }
@@ -137,34 +265,6 @@ fn opening_of(entry: &Entry) -> Option<Opening>
     match (entry.call, &entry.reply) {
         (Call::Admit(sid, spec), Reply::Admitted(_)) => Some(Opening { sid, spec }),
         _ => None,
-    }
-}
-
-// The first of the places whose life has ended.
-fn ended_place(lives: &[LifeTally], live: &[usize]) -> Option<usize>
-    requires { AreLive live.now lives.now }
-    ensures inside { IfSome result (λ i. i < length live.now) }
-    ensures ended { IfSome result (λ i. (t : Tally)
-        → (slice_index_or lives.now (slice_index live.now i) t).to ≡ None → ⊥) }
-{
-    for i in 0..live.len() {
-        if lives[live[i]].has_ended() {
-            return Some(i);
-        }
-    }
-    None
-}
-
-// Leaves out the place of a life that has ended, where an entry may be its end.
-fn leave_out(lives: &[LifeTally], live: &mut Vec<usize>, entry: &Entry)
-    requires { AreLive live.old.items lives.now }
-    ensures { AreLive live.new.items lives.now }
-{
-    let Reply::Removed = entry.reply else {
-        return;
-    };
-    if let Some(i) = ended_place(lives, live) {
-        let _ = live.remove(i);
     }
 }
 
@@ -185,7 +285,7 @@ pub(crate) fn next_with(next: u64, config: &Checked, entry: &Entry) -> u64
 // where it starts then.
 pub(crate) fn follow(
     lives: &mut Vec<LifeTally>,
-    live: &mut Vec<usize>,
+    places: &mut [usize],
     config: &Checked,
     alloc: Global,
     next: u64,
@@ -196,18 +296,15 @@ pub(crate) fn follow(
         → HaveRoomFor entry.now.call entry.now.reply lives.old.items }
     requires opening { IsOpening entry.now.call entry.now.reply
         → vec_len lives.old < vec_capacity lives.old }
-    requires places { IsOpening entry.now.call entry.now.reply
-        → vec_len live.old < vec_capacity live.old }
-    requires live { AreLive live.old.items lives.old.items }
+    requires live { AreLive places.old lives.old.items }
     ensures lives { (h : List Recorded) → MayFollow config.now h lives.old.items next entry.now
         → AreLives config.now lives.new.items (lives_of (h ++ entry.now ∷ [])) }
-    ensures live { AreLive live.new.items lives.new.items }
+    ensures live { AreLive places.new lives.new.items }
     ensures next { (h : List Recorded) → MayFollow config.now h lives.old.items next entry.now
         → result ≡ next_after config.now (h ++ entry.now ∷ []) }
 {
-    note_each(lives, live, config, next, entry);
+    note_each(lives, places, config, next, entry);
     let after = next_with(next, config, entry);
-    begin_life(lives, live, alloc, after, entry);
-    leave_out(lives, live, entry);
+    begin_life(lives, places, alloc, after, entry);
     after
 }

@@ -21,6 +21,9 @@ use sched_history::{Auditor, Entry, JudgeFault, MAX_WHOLE_HISTORY};
 use std::alloc::{AllocError, Global};
 use std::marker::Model;
 
+// How many SIDs there are.
+const SIDS: usize = 65536;
+
 /// Takes a history entry by entry, and tells its numbers. Each entry is judged as by an [`Auditor`], and is counted
 /// where its reply may follow those before it. No entry is kept, so however many are taken, the memory is that of the
 /// auditor, of the flows that lived and of the requests that wait. Contracts see the configuration and the entries that
@@ -37,8 +40,8 @@ pub struct Reporter {
     totals: Totals,
     refused: [u64; REFUSALS],
     lives: Vec<LifeTally>,
-    // The places of those that go on, which alone an entry is shown to.
-    live: Vec<usize>,
+    // Where the life that goes on under each SID stands, which alone an entry of the SID is shown to.
+    places: Vec<usize>,
 }
 
 impl Model for Reporter {
@@ -51,7 +54,7 @@ impl Model for Reporter {
     ghost view = { λ r. r.auditor };
 
     ghost invariant = { λ r.
-        IsReport r.config r.auditor r.flows r.totals r.refused r.next r.lives.items r.live.items };
+        IsReport r.config r.auditor r.flows r.totals r.refused r.next r.lives.items r.places.items };
 }
 
 impl Reporter {
@@ -68,7 +71,7 @@ impl Reporter {
             totals: Totals::none(),
             refused: [0; REFUSALS],
             lives: Vec::new(alloc),
-            live: Vec::new(alloc),
+            places: vec![in alloc; 0; SIDS]?,
         })
     }
 
@@ -95,7 +98,7 @@ impl Reporter {
         if self.auditor.taken() >= MAX_WHOLE_HISTORY {
             return Err(JudgeFault::Full);
         }
-        match reserve_for(&mut self.lives, &mut self.live, entry) {
+        match reserve_for(&mut self.lives, &self.places, entry) {
             Ok(()) => {}
             Err(_) => return Err(JudgeFault::Memory),
         }
@@ -105,7 +108,7 @@ impl Reporter {
         note(&mut self.flows, entry);
         self.next = follow(
             &mut self.lives,
-            &mut self.live,
+            &mut self.places,
             &self.config,
             self.alloc,
             self.next,

@@ -1,12 +1,14 @@
 -- Each life goes on, and one may begin.
-use Rattle.std.proofs.Common.{ℕ, List, map, sym, ◌∙◌, subst, arith}
+use Rattle.std.proofs.Common.{List, map, sym, ◌∙◌, subst, arith}
 use Rattle.std.proofs.lemmas.List.{with_items_is}
 use Rattle.sched_history.proofs.steps.LegalBounds.{next_after-most}
 use Rattle.sched_report.specs.declared.life.LifeTally.{LifeTally}
-use Rattle.sched_report.specs.Live.{AreLive}
+use Rattle.sched_report.specs.Live.{AreLive, IsAlone}
 use Rattle.sched_report.specs.Lives.{PastLife, lives_of, with_entry}
 use Rattle.sched_report.specs.ToldLives.{AreLives, MayNoteEach}
 use Rattle.sched_report.proofs.LivesEach.{may_note_each}
+use Rattle.sched_report.proofs.LivesGoing.{alone-after}
+use Rattle.sched_report.proofs.MayNotes.{orderly_map}
 use Rattle.sched_report.proofs.PastLives.{lives_of-push}
 use Rattle.sched_report.proofs.lives.follow.Goals as goal
 
@@ -45,6 +47,29 @@ returns-clause-lives c = λ h m.
 
 pub note_each-requires-clause-live : goal.note_each-requires-clause-live
 note_each-requires-clause-live c =
-    subst (λ (places : List ℕ). AreLive places c.deref_mut.result.now) (sym c.deref.ensures.value)
-    (subst (λ (ts : List LifeTally). AreLive c.args.live.now.items ts) (sym c.deref_mut.ensures.value)
-    c.requires.live)
+    subst (λ (ts : List LifeTally). AreLive c.args.places.now ts) (sym c.deref_mut.ensures.value) c.requires.live
+
+pub note_each-requires-clause-orderly : goal.note_each-requires-clause-orderly
+note_each-requires-clause-orderly c =
+    let m = c.requires.may.1 in
+    orderly_map c.args.config.now m.lawful c.requires.may.0 m.legal c.args.entry.now m.step m.short
+
+pub begin_life-requires-clause-alone : goal.begin_life-requires-clause-alone
+begin_life-requires-clause-alone c =
+    let k = c.args.config.now in
+    let h = c.requires.may.0 in
+    let m = c.requires.may.1 in
+    let e = c.args.entry.now in
+    let old : AreLives k c.deref_mut.result.now (lives_of h) =
+    subst (λ (ts : List LifeTally). AreLives k ts (lives_of h)) (sym c.deref_mut.ensures.value) m.lives in
+    let may : MayNoteEach k (lives_of h) c.args.next e =
+    subst (λ s. MayNoteEach k (lives_of h) s e) (sym m.next) (may_note_each k m.lawful h m.legal e m.step m.short) in
+    subst (IsAlone e.call e.reply)
+    (sym (with_items_is c.args.lives.now c.note_each.new.lives (c.note_each.auto.lives ∙ c.deref_mut.ensures.len)))
+    (alone-after k c.note_each.new.lives (lives_of h) e (c.note_each.ensures.lives (lives_of h) old may))
+
+pub begin_life-requires-clause-live : goal.begin_life-requires-clause-live
+begin_life-requires-clause-live c =
+    subst (AreLive c.args.places.now)
+    (sym (with_items_is c.args.lives.now c.note_each.new.lives (c.note_each.auto.lives ∙ c.deref_mut.ensures.len)))
+    c.note_each.ensures.live

@@ -1,5 +1,5 @@
 -- What is told of the lives stays.
-use Rattle.std.proofs.Common.{ℕ, List, sym, ◌∙◌, subst}
+use Rattle.std.proofs.Common.{List, sym, ◌∙◌, subst}
 use Rattle.std.proofs.lemmas.Result.{on_ok_weaker}
 use Rattle.std.proofs.lemmas.List.{with_items_is}
 use Rattle.sched_report.specs.declared.life.LifeTally.{LifeTally}
@@ -17,16 +17,14 @@ returns-in-Ask-Taken-clause-same c = λ k ls are.
 
 pub reserve_each-requires : goal.reserve_each-requires
 reserve_each-requires c =
-    subst (λ (places : List ℕ). AreLive places c.deref_mut.result.now) (sym c.deref.ensures.value)
-    (subst (λ (ts : List LifeTally). AreLive c.args.live.now.items ts) (sym c.deref_mut.ensures.value) c.requires)
+    subst (λ (ts : List LifeTally). AreLive c.args.places.now ts) (sym c.deref_mut.ensures.value) c.requires
 
 pub returns-in-Ask-Taken-clause-live : goal.returns-in-Ask-Taken-clause-live
 returns-in-Ask-Taken-clause-live c =
-    subst (λ (ts : List LifeTally). AreLive c.args.live.now.items ts)
+    subst (λ (ts : List LifeTally). AreLive c.args.places.now ts)
     (sym (with_items_is c.args.lives.now c.reserve_each.new.lives
     (c.reserve_each.auto.lives ∙ c.deref_mut.ensures.len)))
-    (subst (λ (places : List ℕ). AreLive places c.reserve_each.new.lives) c.deref.ensures.value
-    c.reserve_each.ensures.live)
+    c.reserve_each.ensures.live
 
 pub returns-in-Ask-Taken-clause-requests : goal.returns-in-Ask-Taken-clause-requests
 returns-in-Ask-Taken-clause-requests c =

@@ -2,8 +2,8 @@
 use Rattle.std.proofs.Common.{refl, arith}
 use Rattle.sched_report.proofs.life.LifeTally.begin.Goals as goal
 
-pub returns : goal.returns
-returns c = λ config upto from. record {
+pub returns-clause-life : goal.returns-clause-life
+returns-clause-life c = λ config upto from. record {
   sid = refl;
   spec = refl;
   from = from;

@@ -8,9 +8,9 @@ use Rattle.sched_report.proofs.reporter.Reporter.open.Goals as goal
 pub invariant_of-result : goal.invariant_of-result
 invariant_of-result c =
     let none : length c.new.result.items ≡ 0 = ap length c.new.ensures.items in
-    let empty : length c.new-2.result.items ≡ 0 = ap length c.new-2.ensures.items in
     subst (λ (p : Past).
-    IsReport c.args.config p c.no_flows.result c.none.result _ c.start.result c.new.result.items c.new-2.result.items)
+    IsReport c.args.config p c.no_flows.result c.none.result _ c.start.result c.new.result.items
+    c.in_ok-vec.field-0.items)
     (sym c.in_ok-open.ensures)
     (record {
       config = refl;
@@ -22,8 +22,7 @@ invariant_of-result c =
       next = omega (arith, c.start.ensures.value);
       lives = record { long = none; each = λ k t life below. absurd (omega (arith, below, none)) };
       live = record {
-        ascends = λ i j before below. absurd (omega (arith, below, empty));
-        inside = λ i below. absurd (omega (arith, below, empty));
-        all = λ k t below alive. absurd (omega (arith, below, none));
+        long = omega (arith, c.in_ok-vec.field-0.ok.0, c.in_ok-vec.ensures.len);
+        each = λ k t below alive. absurd (omega (arith, below, none));
       };
     })

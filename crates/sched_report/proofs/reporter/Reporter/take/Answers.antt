@@ -1,5 +1,7 @@
 -- An entry that is taken is counted.
-use Rattle.std.proofs.Common.{◌<◌, [], length, inl, inr, sym, subst}
+use Rattle.std.proofs.Common.{◌<◌, ℕ, List, [], length, inl, inr, sym, ◌∙◌, subst}
+use Rattle.std.specs.Vec.{with_items}
+use Rattle.std.proofs.lemmas.List.{with_items_is}
 use Rattle.std.proofs.lemmas.Bool.{cases_lt}
 use Rattle.minislots.specs.declared.config.Config.{Config}
 use Rattle.map_build.proofs.EachAfterLaws.{EachAfter-push}
@@ -8,6 +10,7 @@ use Rattle.sched_history.specs.History.{IsStep}
 use Rattle.sched_history.specs.Machine.{Past}
 use Rattle.sched_report.specs.Counted.{IsCounted}
 use Rattle.sched_report.specs.Reported.{IsReport}
+use Rattle.sched_report.specs.Live.{AreLive}
 use Rattle.sched_report.specs.Lives.{lives_of}
 use Rattle.sched_report.specs.ToldLives.{MayFollow}
 use Rattle.sched_report.proofs.reporter.Reporter.take.Goals as goal
@@ -56,7 +59,8 @@ invariant_of-self-2 c =
       lives = c.reserve_for.ensures.same k (lives_of h) i.lives;
     } in
     subst (λ (p : Past). IsReport k p c.note.new.flows c.add.new.self c.count_refusal.new.counts
-    c.follow-self-inside.result c.follow-self-inside.new.lives.items c.follow-self-inside.new.live.items)
+    c.follow-self-inside.result c.follow-self-inside.new.lives.items
+    (with_items c.self.inside.places c.follow-self-inside.new.places).items)
     (sym c.in_ok-judge.ensures.taken)
     (record {
       config = i.config;
@@ -67,7 +71,10 @@ invariant_of-self-2 c =
       lawful = i.lawful;
       next = c.follow-self-inside.ensures.next h follows;
       lives = c.follow-self-inside.ensures.lives h follows;
-      live = c.follow-self-inside.ensures.live;
+      live = subst (λ (places : List ℕ). AreLive places c.follow-self-inside.new.lives.items)
+          (sym (with_items_is c.self.inside.places c.follow-self-inside.new.places
+          (c.follow-self-inside.auto.places ∙ c.deref_mut.ensures.len)))
+          c.follow-self-inside.ensures.live;
     })
 
 pub invariant_of-self : goal.invariant_of-self
@@ -82,7 +89,8 @@ invariant_of-self c =
       lawful = i.lawful;
       next = i.next;
       lives = c.reserve_for.ensures.same c.self.inside.config (lives_of c.self.inside.auditor.history) i.lives;
-      live = c.reserve_for.ensures.live;
+      live = subst (λ (places : List ℕ). AreLive places c.reserve_for.new.lives.items) c.deref.ensures.value
+          c.reserve_for.ensures.live;
     }
 
 pub invariant_of-self-in_err-judge : goal.invariant_of-self-in_err-judge
@@ -90,7 +98,7 @@ invariant_of-self-in_err-judge c =
     let i = c.self.invariant in
     let s = c.self.inside in
     subst (λ (p : Past). IsReport s.config p s.flows s.totals s.refused s.next c.reserve_for.new.lives.items
-    c.reserve_for.new.live.items)
+    s.places.items)
     (sym c.in_err-judge.ensures.err)
     (record {
       config = i.config;
@@ -101,5 +109,6 @@ invariant_of-self-in_err-judge c =
       lawful = i.lawful;
       next = i.next;
       lives = c.reserve_for.ensures.same s.config (lives_of s.auditor.history) i.lives;
-      live = c.reserve_for.ensures.live;
+      live = subst (λ (places : List ℕ). AreLive places c.reserve_for.new.lives.items) c.deref.ensures.value
+          c.reserve_for.ensures.live;
     })
