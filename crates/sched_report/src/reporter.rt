@@ -54,7 +54,8 @@ impl Model for Reporter {
     ghost view = { λ r. r.auditor };
 
     ghost invariant = { λ r.
-        IsReport r.config r.auditor r.flows r.totals r.refused r.next r.lives.items r.places.items };
+        IsReport r.config r.auditor r.flows r.totals r.refused r.next r.lives.items
+        r.places.items };
 }
 
 impl Reporter {

@@ -97,6 +97,7 @@ impl Page {
             self.push_many(number);
         }
     }
+
     /// Puts numbers behind the bytes, each after a space.
     pub(crate) fn push_numbers(&mut self, numbers: &[u16])
         requires { length self.old + 21 * length numbers.now ≤ ROOM }

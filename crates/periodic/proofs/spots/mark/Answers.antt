@@ -44,7 +44,8 @@ loop-place-preserved c =
           (get_or_default rows place _ no_bits within) (c.mark.ensures.marked config c.requires.sound below));
       long = length-set c.loop-place.widest.most place c.mark.new.most ∙ inv.long;
       bounded = row-set config rows c.loop-place.widest.most inv.bounded place c.mark.new.most
-          (omega (arith, inv.long, below, (bounds_of _ c.cycle.ensures.lawful).cycle_most)) c.mark.new.bits inv.marked.long below c.mark.ensures.bounded;
+          (omega (arith, inv.long, below, (bounds_of _ c.cycle.ensures.lawful).cycle_most)) c.mark.new.bits
+          inv.marked.long below c.mark.ensures.bounded;
     }
 
 pub returns-clause-marked : goal.returns-clause-marked
