@@ -10,7 +10,8 @@ invariant_of-result c =
       sound = search rules;
       times = search rules;
       told = rw (rows, c.new.ensures.items) (none-told c.args.config c.free.result c.cycle-cycle.result
-          c.cycle-cycle.ensures.value (omega (arith, c.cycle-cycle.ensures.positive, c.cycle-cycle.ensures.value)) c.free.ensures);
+          c.cycle-cycle.ensures.value
+          (omega (arith, c.cycle-cycle.ensures.positive, c.cycle-cycle.ensures.value)) c.free.ensures);
       bounded = c.open.ensures c.args.config c.in_ok-rows.rows.items c.cycle-cycle.ensures.lawful;
       summed = search rules;
     }
