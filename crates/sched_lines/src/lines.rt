@@ -22,8 +22,6 @@ pub struct LineBuffer {
     waiting: Page,
     // The line that comes next, where it is made apart.
     line: ArrayVec<u8, ROOM>,
-    // The payload of the MAP that came last.
-    payload: [u8; MAX_BYTES],
 }
 
 impl Model for LineBuffer {
@@ -42,7 +40,6 @@ impl LineBuffer {
         LineBuffer {
             waiting: Page::new(),
             line: ArrayVec::new(),
-            payload: [0; MAX_BYTES],
         }
     }
 
@@ -54,8 +51,9 @@ impl LineBuffer {
         ensures { Puts W.contents W.has_failed writer.old writer.new self.old self.new
             (codes "map " ++ (encode_lower (spelling map.now) ++ 10 ∷ [])) result }
     {
-        let len = encode(map, &mut self.payload);
-        self.waiting.put_map(writer, &self.payload[..len])
+        let mut payload = [0u8; MAX_BYTES];
+        let len = encode(map, &mut payload);
+        self.waiting.put_map(writer, &payload[..len])
     }
 
     // Puts the line of any answer behind those that wait: it is made apart first.
