@@ -26,8 +26,8 @@ const SIDS: usize = 65536;
 
 /// Takes a history entry by entry, and tells its numbers. Each entry is judged as by an [`Auditor`], and is counted
 /// where its reply may follow those before it. No entry is kept, so however many are taken, the memory is that of the
-/// auditor, of a table of all SIDs, of the flows that lived and of the requests that wait. Contracts see the configuration and the entries that
-/// were taken, which are legal.
+/// auditor, of a table of all SIDs, of the flows that lived and of the requests that wait. Contracts see the
+/// configuration and the entries that were taken, which are legal.
 #[derive(Drop)]
 pub struct Reporter {
     config: Checked,
