@@ -4,7 +4,7 @@
  * makes the calls again, in the order of the history, has to get the same replies. Prints how many entries there are.
  */
 #define _POSIX_C_SOURCE 200809L
-#include <mapsched.h>
+#include "base_configuration.h"
 #include <pthread.h>
 #include <sched.h>
 #include <stdio.h>
@@ -13,22 +13,7 @@
 
 enum { THREADS = 16, CALLS = 200, FIRST_SID = 100 };
 
-static const struct mapsched_config config = {.ticks = 4,
-                                              .bytes_per_slot = 16,
-                                              .overhead = 2,
-                                              .frame = 40,
-                                              .cycle = 20,
-                                              .req_slots = 4,
-                                              .poll_slots = 2,
-                                              .lead = 40,
-                                              .short_max = 8,
-                                              .quantum = 64,
-                                              .grant_cap = 2000,
-                                              .calls = THREADS * CALLS,
-                                              .start = 800,
-                                              .receivers = 1,
-                                              .channel = 3,
-                                              .ucd_count = 1};
+static const struct mapsched_config config = BASE_CONFIGURATION(THREADS * CALLS);
 
 static void fail(const char *what, size_t place) {
   fprintf(stderr, "%s: %zu\n", what, place);

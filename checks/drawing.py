@@ -1,8 +1,6 @@
 """Scripts that are drawn call by call, where the plain scheduler (plain.py) stands, so that they meet what a run can
 meet; and the text of their histories."""
 
-import json
-
 from plain import HEADING, LAST_CLOCK, MOST_BYTES, Scheduler, line_of
 
 
@@ -220,7 +218,3 @@ def as_written(entries):
         if flow.get("kind") == "unsolicited":
             entry = {**entry, "call": {**entry["call"], "flow": {"grants": 1, **flow}}}
         yield entry
-
-
-def compact(value):
-    return json.dumps(value, sort_keys=True, separators=(",", ":"))

@@ -3,7 +3,7 @@
  * changed, and the call is made once more. Prints `whole` at the end, or `out of memory` where it ran out again. The
  * calls for opportunities and headers never do.
  */
-#include <mapsched.h>
+#include "base_configuration.h"
 #include <stddef.h>
 #include <stdio.h>
 #include <stdlib.h>
@@ -38,22 +38,7 @@ static struct {
   uint8_t text[4096], payload[MAPSCHED_MAX_BYTES];
 } now, before;
 
-static const struct mapsched_config config = {.ticks = 4,
-                                              .bytes_per_slot = 16,
-                                              .overhead = 2,
-                                              .frame = 40,
-                                              .cycle = 20,
-                                              .req_slots = 4,
-                                              .poll_slots = 2,
-                                              .lead = 40,
-                                              .short_max = 8,
-                                              .quantum = 64,
-                                              .grant_cap = 2000,
-                                              .calls = 10,
-                                              .start = 800,
-                                              .receivers = 1,
-                                              .channel = 3,
-                                              .ucd_count = 1};
+static const struct mapsched_config config = BASE_CONFIGURATION(10);
 static const struct mapsched_stamp stamp = {.ticket = 0, .seat = 0};
 static const struct mapsched_call voice = {.kind = MAPSCHED_ADMIT,
                                            .flow = MAPSCHED_UNSOLICITED,

@@ -1,9 +1,15 @@
 """The toolchain's prover and compiler, called over libraries that were proved in some folder, as `rt ci` calls it."""
 
+import functools
+import glob
 import os
 import subprocess
+import tomllib
 
 HERE = os.path.dirname(os.path.dirname(os.path.realpath(__file__)))
+# The static library for C, where `rt lib` or checks/static_library made it in this tree.
+LIBRARY = f"{HERE}/crates/mapsched_c/out/libmapsched_c.a"
+WARNINGS = ["-Wall", "-Wextra", "-Werror"]
 
 
 def read(path):
@@ -11,12 +17,21 @@ def read(path):
         return it.read()
 
 
-def run(folder, *words):
+def tables():
+    """What stands in the tables of the repository, under its names there."""
+    found = {}
+    for path in sorted(glob.glob(f"{HERE}/tables/*.toml")):
+        found |= tomllib.loads(read(path))
+    return found
+
+
+def run(folder, *words, **more):
     """Runs a command in a folder, with what it says in one text."""
     how = {"cwd": folder, "stdin": subprocess.DEVNULL, "stdout": subprocess.PIPE, "stderr": subprocess.STDOUT}
-    return subprocess.run(words, encoding="utf-8", errors="replace", **how)
+    return subprocess.run(words, encoding="utf-8", errors="replace", **how, **more)
 
 
+@functools.cache
 def path():
     """The folder of the toolchain."""
     return os.path.dirname(run(HERE, "rt", "doc").stdout.strip())
@@ -38,12 +53,18 @@ def below_of(crate, stands_on):
     return {below for it in stands_on.get(crate, []) if it in stands_on for below in [it, *below_of(it, stands_on)]}
 
 
+def build_of_c(compiler, source, library, made, *flags):
+    """Builds the program of a source over the static library."""
+    words = [compiler, "-std=c11", *WARNINGS, "-O2", *flags, f"-I{HERE}/include", f"{HERE}/{source}", library]
+    return run(HERE, *words, f"{path()}/c/liblibc_c.a", "-pthread", "-o", made)
+
+
 def program_of_c(name, library, folder):
     """The program of a source in this folder, over the static library, made in that folder."""
-    made, libraries = f"{folder}/{name}", [library, f"{path()}/c/liblibc_c.a"]
-    words = ["-std=c11", "-Wall", "-Wextra", "-Werror", "-O2", f"-I{HERE}/include", "-o", made]
-    subprocess.run([os.environ.get("CC", "gcc"), *words, f"{HERE}/checks/{name}.c", *libraries], check=True)
-    return made
+    ran = build_of_c(os.environ.get("CC", "gcc"), f"checks/{name}.c", os.path.abspath(library), f"{folder}/{name}")
+    print(ran.stdout, end="", flush=True)
+    ran.check_returncode()
+    return f"{folder}/{name}"
 
 
 def words_over(built, kit, name, *own):

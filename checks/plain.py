@@ -4,6 +4,8 @@ is slow, and says what the program has to say."""
 
 import itertools
 
+from texts import MISSING
+
 ALL_MODEMS, BROADCAST_IUC, INITIAL, STATION, NULL = 0x3FFF, 1, 3, 4, 7
 MOST_FLOWS, MOST_PERIODIC, MOST_GRANTS = 64, 40, 93
 MOST_BYTES, LAST_CLOCK, AHEAD = 1048560, 2**60, 4096
@@ -62,7 +64,7 @@ class Scheduler:
     """The scheduler of a configuration, which is a lawful one. Each call gives the reply as a history has it."""
 
     def __init__(self, config):
-        self.config = {"phy": 0, **config}
+        self.config = {**MISSING, **config}
         self.frame, self.next = config["frame"], config["start"]
         self.progress = [config["start"]] * config["receivers"]
         self.flows, self.entries, self.reserves, self.maps = {}, [], [], 0

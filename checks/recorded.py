@@ -9,7 +9,7 @@ import subprocess
 import tempfile
 
 from plain import line_of
-from texts import HERE
+from texts import HERE, compact
 
 NO_END = 10**9
 
@@ -24,7 +24,6 @@ def script(name):
 
 
 PLAIN_RUNS = script("plain_runs")
-compact = PLAIN_RUNS.compact
 
 
 class Talk:

@@ -16,7 +16,7 @@ extern long syscall(long number, ...);
 extern int *__errno_location(void);
 extern void *dlsym(void *handle, const char *name);
 
-enum { READ = 0, WRITE = 1, PREAD = 17, FLOCK = 73, FDATASYNC = 75, FTRUNCATE = 77, OPENAT = 257, STATX = 332 };
+enum { READ = 0, WRITE = 1, PREAD = 17, FLOCK = 73, FSYNC = 74, FDATASYNC = 75, FTRUNCATE = 77, OPENAT = 257, STATX = 332 };
 enum { INPUT = 0, OUTPUT = 1, ERRORS = 2, MARKS = 3, IO_ERROR = 5, NO_MEMORY = 12 };
 
 // What was counted so far: of reads and writes, those of the standard streams, of calls those on other files.
@@ -109,6 +109,8 @@ int statx(int file, const char *path, int how, unsigned mask, void *found) {
 int flock(int file, int how) { return call(file, FLOCK, file, how, 0, 0, 0); }
 
 int ftruncate(int file, long size) { return call(file, FTRUNCATE, file, size, 0, 0, 0); }
+
+int fsync(int file) { return call(file, FSYNC, file, 0, 0, 0, 0); }
 
 int fdatasync(int file) { return call(file, FDATASYNC, file, 0, 0, 0, 0); }
 

@@ -1,11 +1,18 @@
-"""Scripts, histories and scripts of storms as texts, and the built program that is run on them. The base configuration,
-whose keys ascend, the forms of calls, which have a place for each number of a row, and the tables are in checks/rows."""
+"""Scripts, histories and scripts of storms as texts; commands as they are run, and how many ended as they have to. The
+base configuration, whose keys ascend, the forms of calls, which have a place for each number of a row, and the tables
+are in checks/rows."""
 
+import json
 import os
 import re
 import subprocess
+import sys
+
+from kit import tables
 
 HERE = os.path.dirname(os.path.dirname(os.path.realpath(__file__)))
+# A run that has not ended after so many seconds hangs: a storm in which a seat waits for ever does.
+LIMIT = 300
 FAULTS = re.compile(r"input failed|input too long|not json|bad script at \d+|bad config \d+")
 
 
@@ -32,10 +39,39 @@ RUNS = [PLAIN, SEVERAL, RANGING, *CROWDS]
 REPLIES, BUILD = table("a_history_with_each_reply"), table("a_history_of_one_build")
 CALLS = read("checks/rows/calls_of_each_name")
 
+# The payload of the first MAP under the base configuration, its whole frame, its table and its drawing.
+PAYLOAD = "03010300000003200000032000000000fffc4000000180040001c028"
+FRAME = f"c2000034d68901e02f0000010200000000010022000003010300{PAYLOAD}c286f0a5"
+TABLE = dict(it.split("\n", 1) for it in table("tables_of_payloads").split("\n\n"))[PAYLOAD] + "\n"
+LEGEND = """    SID offset slots usage
+A 16383      0     4 request region
+B     0      4    36 idle
+"""
+DRAWING = f"    0 {'A' * 4}{'B' * 36}\n{LEGEND}"
+
 
 def edited(text, old, new):
     assert old in text, f"no such part: {old}"
     return text.replace(old, new, 1)
+
+
+def compact(value):
+    """A value as the program writes it."""
+    return json.dumps(value, sort_keys=True, separators=(",", ":"))
+
+
+# What a text that lacks a field of the configuration means.
+MISSING = {it["name"]: it["missing"] for it in tables()["field"] if "missing" in it}
+
+
+def whole(config):
+    """A configuration with all fields, as a history has it."""
+    return compact({**MISSING, **json.loads(config)})
+
+
+def maps_in_readme():
+    """The MAPs that README prints, a line each."""
+    return "".join(f"{it}\n" for it in re.findall(r"^    map (.*)$", read("README.md"), re.M))
 
 
 def config_of(table):
@@ -86,8 +122,22 @@ def history_of(config, blocks):
         f'{{"call":{call},"reply":{reply},"seat":0,"ticket":{ticket}}}'
         for ticket, (call, reply) in enumerate(blocks_of(blocks))
     ]
-    config = config if '"phy":' in config else edited(config, '"poll_slots"', '"phy":0,"poll_slots"')
-    return f'{{"config":{config},"entries":[{",".join(entries)}]}}\n'
+    return f'{{"config":{whole(config)},"entries":[{",".join(entries)}]}}\n'
+
+
+def journal_of(history):
+    """The journal of a history, which is a text."""
+    told = json.loads(history)
+    return "".join(f"{compact(line)}\n" for line in ({"config": told["config"]}, *told["entries"]))
+
+
+def explained(answer, meanings, seen):
+    """The line of an answer with what it means behind it, where it is a refusal."""
+    number, value = answer.split(" ")[1], answer.split(" ")[-1]
+    has_minislot = len(answer.split(" ")) == 3 and number != "3"
+    key = f"refused {number} #" if has_minislot else answer
+    seen.add(key)
+    return f"{answer}  # {meanings[key].replace('#', value)}"
 
 
 VOICE = '{"call":"admit","flow":{"interval_us":10000,"jitter_us":800,"kind":"unsolicited","size":200},"sid":5}'
@@ -101,29 +151,73 @@ def voice(reference, starts, sid=5, grants=None):
     return f'{call}\n{{"kind":"admitted","reference":{reference},"starts":[{starts}]}}'
 
 
-class Program:
-    """The program, and how many of its runs ended as they have to."""
+def ended(command, given="", **how):
+    """The exit status of a command, what it writes, and the first line of what it says. It is given this text, but
+    where it has another standard input; one that cannot be started has the status that a shell gives it, and one that
+    hangs ends the check."""
+    if "stdin" not in how:
+        how["input"] = given.encode() if isinstance(given, str) else given
+    how = {"stdout": subprocess.PIPE, "stderr": subprocess.PIPE, "timeout": LIMIT, **how}
+    try:
+        ran = subprocess.run(command, **how)
+    except OSError as error:
+        return 127, "", str(error)
+    except subprocess.TimeoutExpired:
+        print(f"FAILED: {' '.join(map(str, command))}: no end after {LIMIT} seconds: {str(given)[:400]}")
+        print("0 passed, 1 failed")
+        sys.exit(1)
+    return ran.returncode, (ran.stdout or b"").decode(), ran.stderr.decode().partition("\n")[0]
 
-    def __init__(self, path):
-        self.path, self.passed, self.failed = path, 0, 0
 
-    def run(self, words, given):
-        """The exit status of a run, what it writes, and the first line of what it says."""
-        given = given.encode() if isinstance(given, str) else given
-        ran = subprocess.run([self.path, *words], input=given, capture_output=True)
-        return ran.returncode, ran.stdout.decode(), ran.stderr.decode().partition("\n")[0]
+class Tally:
+    """How many of the things that were tried went as they have to."""
+
+    def __init__(self):
+        self.passed = self.failed = 0
 
     def count(self, what, found, *lawful):
-        """Compares the end of a run with its lawful ends."""
+        """Compares what is found, as the end of a run, with what is lawful."""
         if found in lawful:
             self.passed += 1
         else:
             self.failed += 1
             print(f"FAILED: {what[:400]}: {str(found)[:400]}, not {str(lawful[0])[:400]}")
 
-    def wants(self, words, given, status, output, error=""):
+    def ends(self, command, given, status, output, error="", **how):
+        """A command ends with this status, and writes and says this."""
+        self.count(f"{' '.join(command)}: {given[:400]}", ended(command, given, **how), (status, output, error))
+
+    def works(self, what, ran):
+        """A command that ran (kit.py) has succeeded."""
+        self.count(what, ran.returncode == 0 or ran.stdout[-400:], True)
+
+    def told(self):
+        """Prints the last line of a check, and gives the exit status."""
+        print(f"{self.passed} passed, {self.failed} failed")
+        return 1 if self.failed else 0
+
+
+# The commands that only the program with all of them has.
+LATER = {"draw", "audit", "report", "storm", "check", "live"}
+
+
+class Program(Tally):
+    """The program, and how many of its runs ended as they have to. Beside it may stand the program that is built first,
+    of which the same is wanted where it has the command."""
+
+    def __init__(self, path, first=None):
+        super().__init__()
+        self.path, self.first = path, first
+
+    def run(self, words, given="", **how):
+        """The exit status of a run, what it writes, and the first line of what it says."""
+        return ended([self.path, *words], given, **how)
+
+    def wants(self, words, given, status, output, error="", **how):
         """A run ends with this status, and writes and says this."""
-        self.count(f"{' '.join(words)}: {given}", self.run(words, given), (status, output, error))
+        self.ends([self.path, *words], given, status, output, error, **how)
+        if self.first and not LATER.intersection(words[:1]):
+            self.ends([self.first, *words], given, status, output, error, **how)
 
     def has_line(self, words, given, line, *, name=""):
         """A text has this fault, or it is read: a script that is run, or a history that is judged."""
@@ -135,13 +229,12 @@ class Program:
             self.count(f"{' '.join(words)}: {name or given}", is_read, True)
 
 
-def run_all(checks, path=f"{HERE}/crates/mapsched/out/mapsched"):
+def run_all(checks, path=f"{HERE}/crates/mapsched/out/mapsched", first=None):
     """Makes these checks of the program, or else of what the gate built, counts its runs, and gives the exit status."""
-    program = Program(os.path.realpath(path))
+    program = Program(os.path.realpath(path), first and os.path.realpath(first))
     os.environ.pop("COLUMNS", None)
     for check in checks:
         before = program.passed + program.failed
         check(program)
         print(f"{program.passed + program.failed - before} {check.__name__}", flush=True)
-    print(f"{program.passed} passed, {program.failed} failed")
-    return 1 if program.failed else 0
+    return program.told()

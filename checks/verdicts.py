@@ -235,10 +235,14 @@ class Verdicts:
 
 
 def draw(found, seed):
-    """Draws a tenth of the wrong bodies whose verdicts are kept, which are tried all the same: others for each seed."""
-    kept = [(name, it) for name, verdicts in found.items() for it in verdicts.edits if not verdicts.why[it]]
-    for name, it in sorted(kept, key=lambda it: digest(seed, it))[: -(-len(kept) // 10)]:
-        found[name].why[it] = "drawn"
+    """Draws a tenth of the wrong bodies whose verdicts are kept, which are tried all the same: others for each seed.
+    They are those of a few crates, since the first check in each crate reads all that is below it."""
+    kept = {name: [it for it in verdicts.edits if not verdicts.why[it]] for name, verdicts in found.items()}
+    wanted = -(-sum(map(len, kept.values())) // 10)
+    for name in sorted(kept, key=lambda it: digest(seed, it)):
+        drawn = sorted(kept[name], key=lambda it: digest(seed, it))[:wanted]
+        found[name].why.update(dict.fromkeys(drawn, "drawn"))
+        wanted -= len(drawn)
 
 
 def seed():

@@ -48,11 +48,14 @@ extern "C" {
 #define MAPSCHED_MAX_TEXT_BYTES 16777216
 
 /* How many fields of a configuration can be wrong, and faults a payload, the numbers of a MAP and a request have. */
+/* checks/tables: counts begin */
 #define MAPSCHED_CONFIG_FIELDS 19
 #define MAPSCHED_PAYLOAD_FAULTS 7
 #define MAPSCHED_MAP_FAULTS 5
 #define MAPSCHED_REQUEST_FAULTS 4
+/* checks/tables: counts end */
 
+/* checks/tables: statuses begin */
 enum mapsched_status {
   MAPSCHED_OK = 0,
   MAPSCHED_EMPTY = 1,         /* the handle has no scheduler */
@@ -75,20 +78,24 @@ enum mapsched_status {
   MAPSCHED_HANDED_OVER = 18,  /* an entry, or one of a history, is no longer kept: it was let go */
   MAPSCHED_NO_TURN = 19,      /* the worker is not in its turn */
   MAPSCHED_KEEPS_ALL = 20,    /* the scheduler of the workplace keeps its whole history: nothing was let go */
-  MAPSCHED_BAD_CONFIG = 100,  /* and the number of the first wrong field: 101 to 119, in the order of README's table */
-  MAPSCHED_BAD_PAYLOAD = 200, /* and the number of the first fault: 201 to 207, in the order of README's list */
+  MAPSCHED_BAD_CONFIG = 100,  /* and the number of the first wrong field: 101 to 119, by docs/REFERENCE.md */
+  MAPSCHED_BAD_PAYLOAD = 200, /* and the number of the first fault: 201 to 207, by docs/REFERENCE.md */
   MAPSCHED_BAD_MAP = 300,     /* and the number of the first fault of numbers that are no MAP: 301 to 305 */
   MAPSCHED_BAD_REQUEST = 400  /* and the number of the first fault of bytes that are no request frame: 401 to 404 */
 };
+/* checks/tables: statuses end */
 
-/* The configuration of a channel. README's table has the values that are lawful. */
+/* The configuration of a channel. docs/REFERENCE.md has the values that are lawful. */
+/* checks/tables: configuration begin */
 struct mapsched_config {
   uint32_t ticks, bytes_per_slot, overhead, frame, cycle, req_slots, poll_slots, lead, short_max, quantum, grant_cap;
   uint32_t calls;
   uint64_t start;
   uint8_t receivers, ranging_start, ranging_end, data_start, data_end, channel, ucd_count, phy;
 };
+/* checks/tables: configuration end */
 
+/* checks/tables: kinds begin */
 enum mapsched_call_kind {
   MAPSCHED_ADMIT = 0,
   MAPSCHED_REMOVE = 1,
@@ -102,14 +109,18 @@ enum mapsched_call_kind {
 };
 
 enum mapsched_flow_kind { MAPSCHED_UNSOLICITED = 0, MAPSCHED_POLLED = 1, MAPSCHED_BEST_EFFORT = 2 };
+/* checks/tables: kinds end */
 
 /* Whom an opportunity to range is for: all modems that join the channel, or one that is known by its SID. */
+/* checks/tables: usages begin */
 enum mapsched_usage { MAPSCHED_INITIAL = 0, MAPSCHED_STATION = 1 };
+/* checks/tables: usages end */
 
 /*
  * A call by its kind. A kind reads only its own numbers; in a history the others are 0. Where two names share a place,
  * the second is that of an opportunity or a header.
  */
+/* checks/tables: call begin */
 struct mapsched_call {
   uint32_t kind; /* enum mapsched_call_kind */
   union {
@@ -138,6 +149,7 @@ struct mapsched_call {
   };
   uint8_t data_start, data_end;
 };
+/* checks/tables: call end */
 
 /* Who made a call: a seat and its ticket, which are recorded as they are handed in. */
 struct mapsched_stamp {
@@ -145,6 +157,7 @@ struct mapsched_stamp {
   uint32_t seat;
 };
 
+/* checks/tables: replies begin */
 enum mapsched_reply_kind {
   MAPSCHED_ADMITTED = 0, /* a best effort flow */
   MAPSCHED_PLACED = 1,   /* a periodic flow: value is its first nominal minislot, starts its starts */
@@ -154,9 +167,10 @@ enum mapsched_reply_kind {
   MAPSCHED_BUILT = 5,    /* value is the start of the frame, payload the MAP */
   MAPSCHED_SKIPPED = 6,  /* value is the start of the next frame */
   MAPSCHED_BYTES = 7,    /* asked, granted, outstanding */
-  MAPSCHED_REFUSED = 8,  /* refusal is its number in README's table, value its value or 0 */
+  MAPSCHED_REFUSED = 8,  /* refusal is its number in docs/REFERENCE.md, value its value or 0 */
   MAPSCHED_RESERVED = 9  /* the opportunity waits for a MAP */
 };
+/* checks/tables: replies end */
 
 /* A reply by its kind. Numbers that the kind has not are 0; starts and payload keep what stood behind their end. */
 struct mapsched_reply {
@@ -344,21 +358,25 @@ uint32_t mapsched_close_workers(struct mapsched_worker *worker, struct mapsched_
 
 /* What a status says, in English. */
 static inline const char *mapsched_status_text(uint32_t status) {
-  static const char *const texts[] = {"ok",           "no scheduler",    "a scheduler already", "no such call",
-                                      "history full", "out of memory",   "no such entry",       "no room",
-                                      "illegal",      "text too long",   "not json",            "no history",
-                                      "no ticket",    "not served",      "has a ticket",        "no seat",
-                                      "workers left", "seats",           "not kept",            "no turn",
-                                      "keeps all"};
-  static const char *const fields[] = {"ticks",         "bytes_per_slot", "overhead",   "frame",     "cycle",
-                                       "req_slots",     "poll_slots",     "lead",       "short_max", "quantum",
-                                       "grant_cap",     "receivers",      "calls",      "start",     "ranging_start",
-                                       "ranging_end",   "data_start",     "data_end",   "phy"};
-  static const char *const faults[] = {"too short",  "too many elements", "wrong length", "an expansion",
-                                       "a descent", "no null",           "a second null"};
-  static const char *const map_faults[] = {"too many elements", "out of range", "a descent", "no null",
-                                           "a second null"};
+  /* checks/tables: texts begin */
+  static const char *const texts[] = {
+      "ok", "no scheduler", "a scheduler already", "no such call", "history full", "out of memory", "no such entry",
+      "no room", "illegal", "text too long", "not json", "no history", "no ticket", "not served", "has a ticket",
+      "no seat", "workers left", "seats", "not kept", "no turn", "keeps all",
+  };
+  static const char *const fields[] = {
+      "ticks", "bytes_per_slot", "overhead", "frame", "cycle", "req_slots", "poll_slots", "lead", "short_max",
+      "quantum", "grant_cap", "receivers", "calls", "start", "ranging_start", "ranging_end", "data_start", "data_end",
+      "phy",
+  };
+  static const char *const faults[] = {
+      "too short", "too many elements", "wrong length", "an expansion", "a descent", "no null", "a second null",
+  };
+  static const char *const map_faults[] = {
+      "too many elements", "out of range", "a descent", "no null", "a second null",
+  };
   static const char *const request_faults[] = {"length", "kind", "sid", "hcs"};
+  /* checks/tables: texts end */
   if (status <= MAPSCHED_KEEPS_ALL) return texts[status];
   if (status > MAPSCHED_BAD_CONFIG && status <= MAPSCHED_BAD_CONFIG + MAPSCHED_CONFIG_FIELDS)
     return fields[status - MAPSCHED_BAD_CONFIG - 1];

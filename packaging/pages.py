@@ -86,8 +86,8 @@ def program_page(program, version, date):
     parts += [".SH COMMANDS\n"]
     parts += [command_section(program, name) for name, _ in commands]
     parts += [".SH EXIT STATUS\n", verbatim(rest.partition("\n\n")[0].partition("\n")[2])]
-    parts += [".SH FILES\n", table([("/usr/share/doc/mapsched/README.md", "fields, calls, lines and refusals")])]
-    parts += [table([("/usr/share/doc/mapsched/examples", "scripts")])]
+    files = [("docs/REFERENCE.md", "fields, calls, lines and refusals"), ("examples", "scripts")]
+    parts += [".SH FILES\n", table([(f"/usr/share/doc/mapsched/{it}", about) for it, about in files])]
     return "".join([*parts, ".SH SEE ALSO\n.BR mapsched.h (3)\n"])
 
 
@@ -123,12 +123,13 @@ def functions_of(header):
 
 def header_page(header, version, date):
     """mapsched.h(3)"""
+    header = header.replace(" docs/", " /usr/share/doc/libmapsched-dev/")
     first = re.sub(r"\n \* ?", "\n", re.search(r"/\*(.*?)\*/", header, re.S)[1]).strip()
     about, _, rest = first.removeprefix("mapsched: ").partition("\n\n")
     parts = [title("MAPSCHED.H", 3, date, version, "Library Functions")]
     parts += [".SH NAME\nmapsched.h \\- the upstream scheduler of a cable modem termination system\n", ".SH SYNOPSIS\n"]
     parts += [verbatim("#include <mapsched.h>\n\ncc program.c $(pkg-config --cflags --libs mapsched)")]
-    about = about[0].upper() + about[1:].replace("docs/C.md", "/usr/share/doc/libmapsched-dev/C.md")
+    about = about[0].upper() + about[1:]
     parts += [".SH DESCRIPTION\n", paragraphs(f"{about}\n\n{rest}")]
     blocks = [*blocks_of(header)]
     for section in ("CONSTANTS", "STATUSES", "TYPES", "FUNCTIONS"):

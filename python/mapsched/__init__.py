@@ -11,8 +11,10 @@ and gives replies, which are values too, refusals among them; what is not record
 docs/PYTHON.md has a whole example. Units: minislots, bytes, microseconds, bits per second.
 """
 
+# checks/tables: imports begin
 from .calls import Admit, Ask, BestEffort, Build, Call, Config, Flow, Header, Heard, Polled, Remove, Reserve, Skip
 from .calls import Status, Unsolicited, call_of
+# checks/tables: imports end
 from .faults import BadConfig, BadMap, BadPayload, Closed, Fault, HandedOver, HistoryFull, NoHistory, OutOfMemory
 from .maps import Element, Map, decode, encode
 from .replies import Admitted, Built, FlowBytes, Noted, Placed, Refusal, Refused, Removed, Reply, Reserved, Skipped
@@ -21,6 +23,7 @@ from .scheduler import Entry, Illegal, Legal, Scheduler, audit, check
 
 __version__ = "0.2.0"
 
+# checks/tables: exports begin
 __all__ = [
     "Admit", "Admitted", "Ask", "BadConfig", "BadMap", "BadPayload", "BestEffort", "Build", "Built", "Call", "Closed",
     "Config", "Element", "Entry", "Fault", "Flow", "FlowBytes", "HandedOver", "Header", "Heard", "HistoryFull",
@@ -28,3 +31,4 @@ __all__ = [
     "Removed", "Reply", "Reserve", "Reserved", "Scheduler", "Skip", "Skipped", "Status", "Taken", "Unsolicited",
     "audit", "call_of", "check", "decode", "encode",
 ]
+# checks/tables: exports end

@@ -1,4 +1,5 @@
-"""What a scheduler is told: the configuration of its channel, flows and calls. README has what values are lawful."""
+"""What a scheduler is told: the configuration of its channel, flows and calls. docs/REFERENCE.md has the lawful
+values."""
 
 from __future__ import annotations
 
@@ -12,6 +13,7 @@ from .library import CallNumbers, ConfigNumbers, fill
 class Config:
     """The configuration of a channel, with the names that a script has: `Config(**script["config"])`."""
 
+    # checks/tables: fields begin
     ticks: int
     bytes_per_slot: int
     overhead: int
@@ -33,12 +35,14 @@ class Config:
     channel: int
     ucd_count: int
     phy: int = 0
+    # checks/tables: fields end
 
     def numbers(self) -> ConfigNumbers:
         """The struct for the library; ValueError where a value does not fit."""
         return fill(ConfigNumbers(), **asdict(self))
 
 
+# checks/tables: flows and calls begin
 @dataclass(frozen=True)
 class Unsolicited:
     """A flow with grants of `size` bytes in each interval, and no requests."""
@@ -147,15 +151,20 @@ class Header:
 
 
 Call = Union[Admit, Remove, Ask, Heard, Build, Skip, Status, Reserve, Header]
+# checks/tables: flows and calls end
 
+# checks/tables: names begin
 # By the numbers of the header, and by the names in a script.
-_CALLS = {"admit": Admit, "remove": Remove, "ask": Ask, "heard": Heard, "build": Build, "skip": Skip, "status": Status}
-_CALLS |= {"reserve": Reserve, "header": Header}
-_USAGES = ["initial", "station"]
+_CALLS = {
+    "admit": Admit, "remove": Remove, "ask": Ask, "heard": Heard, "build": Build, "skip": Skip, "status": Status,
+    "reserve": Reserve, "header": Header,
+}
 _FLOWS = {"unsolicited": Unsolicited, "polled": Polled, "best_effort": BestEffort}
-_CALL_TYPES, _FLOW_TYPES = list(_CALLS.values()), list(_FLOWS.values())
+_USAGES = ["initial", "station"]
 # The members that the struct has as `minislot`.
 _MINISLOTS = {"heard", "upto", "now"}
+# checks/tables: names end
+_CALL_TYPES, _FLOW_TYPES = list(_CALLS.values()), list(_FLOWS.values())
 
 
 def call_of(members: Mapping[str, Any]) -> Call:
@@ -176,8 +185,8 @@ def numbers_of(call: Call) -> CallNumbers:
     if type(call) not in _CALL_TYPES:
         raise TypeError(f"{call!r} is no call")
     values = _values(call)
-    flow = values.pop("flow", None)
-    if isinstance(call, Admit):
+    if "flow" in values:
+        flow = values["flow"]
         if type(flow) not in _FLOW_TYPES:
             raise TypeError(f"{flow!r} is no flow")
         values |= {"flow": _FLOW_TYPES.index(type(flow)), **_values(flow)}
@@ -192,10 +201,10 @@ def numbers_of(call: Call) -> CallNumbers:
 def from_numbers(numbers: CallNumbers) -> Call:
     """The call of a struct that the library wrote."""
     kind = _CALL_TYPES[numbers.kind]
-    if kind is Admit:
+    values = {it.name: getattr(numbers, "minislot" if it.name in _MINISLOTS else it.name) for it in fields(kind)}
+    if "flow" in values:
         flow = _FLOW_TYPES[numbers.flow]
-        return Admit(numbers.sid, flow(*(getattr(numbers, it.name) for it in fields(flow))))
-    if kind is Reserve:
-        return Reserve(_USAGES[numbers.usage], numbers.slots, numbers.sid)
-    names = ("minislot" if it.name in _MINISLOTS else it.name for it in fields(kind))
-    return kind(*(getattr(numbers, name) for name in names))
+        values["flow"] = flow(*(getattr(numbers, it.name) for it in fields(flow)))
+    if "usage" in values:
+        values["usage"] = _USAGES[numbers.usage]
+    return kind(**values)

@@ -4,12 +4,14 @@ from __future__ import annotations
 
 from typing import Optional
 
-_FIELDS = (
-    "ticks bytes_per_slot overhead frame cycle req_slots poll_slots lead short_max quantum grant_cap receivers calls "
-    "start ranging_start ranging_end data_start data_end phy"
-).split()
+# checks/tables: texts begin
+_FIELDS = [
+    "ticks", "bytes_per_slot", "overhead", "frame", "cycle", "req_slots", "poll_slots", "lead", "short_max", "quantum",
+    "grant_cap", "receivers", "calls", "start", "ranging_start", "ranging_end", "data_start", "data_end", "phy",
+]
 _PAYLOAD = ["too short", "too many elements", "wrong length", "an expansion", "a descent", "no null", "a second null"]
 _MAP = ["too many elements", "out of range", "a descent", "no null", "a second null"]
+# checks/tables: texts end
 
 
 class Fault(Exception):
@@ -37,7 +39,7 @@ class OutOfMemory(Fault, MemoryError):
 
 
 class BadConfig(Fault, ValueError):
-    """`number` is that of the first wrong field in README's table, `field` its name."""
+    """`number` is that of the first wrong field in docs/REFERENCE.md, `field` its name."""
 
     def __init__(self, status: int, number: int) -> None:
         self.number, self.field = number, _FIELDS[number - 1]
@@ -53,7 +55,7 @@ class NoHistory(Fault, ValueError):
 
 
 class BadPayload(Fault, ValueError):
-    """`number` is the fault of a payload in README's list, `element` where it is, from 0, where one is told."""
+    """`number` is the fault of a payload in docs/REFERENCE.md, `element` where it is, from 0, where one is told."""
 
     def __init__(self, status: int, number: int, element: Optional[int]) -> None:
         self.number, self.element = number, element

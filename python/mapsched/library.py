@@ -14,6 +14,7 @@ SONAME = "libmapsched.so.0.2"
 class ConfigNumbers(Structure):
     """struct mapsched_config"""
 
+    # checks/tables: configuration begin
     _fields_ = [
         *((name, c_uint32) for name in ("ticks", "bytes_per_slot", "overhead", "frame", "cycle", "req_slots")),
         *((name, c_uint32) for name in ("poll_slots", "lead", "short_max", "quantum", "grant_cap", "calls")),
@@ -21,8 +22,10 @@ class ConfigNumbers(Structure):
         *((name, c_uint8) for name in ("receivers", "ranging_start", "ranging_end", "data_start", "data_end")),
         *((name, c_uint8) for name in ("channel", "ucd_count", "phy")),
     ]
+    # checks/tables: configuration end
 
 
+# checks/tables: call begin
 class _FlowOrUsage(Union):
     _fields_ = [("flow", c_uint32), ("usage", c_uint32)]
 
@@ -31,15 +34,15 @@ class _SizeOrSlots(Union):
     _fields_ = [("size", c_uint32), ("slots", c_uint32)]
 
 
-class _ReceiverOrCount(Union):
+class _ReceiverOrUcdCount(Union):
     _fields_ = [("receiver", c_uint8), ("ucd_count", c_uint8)]
 
 
-class _PriorityOrStart(Union):
+class _PriorityOrRangingStart(Union):
     _fields_ = [("priority", c_uint8), ("ranging_start", c_uint8)]
 
 
-class _GrantsOrEnd(Union):
+class _GrantsOrRangingEnd(Union):
     _fields_ = [("grants", c_uint8), ("ranging_end", c_uint8)]
 
 
@@ -48,13 +51,19 @@ class CallNumbers(Structure):
 
     _anonymous_ = ["_flow", "_size", "_receiver", "_priority", "_grants"]
     _fields_ = [
-        ("kind", c_uint32), ("_flow", _FlowOrUsage), ("_size", _SizeOrSlots),
-        *((name, c_uint32) for name in ("interval_us", "jitter_us", "rate", "burst", "bytes")),
+        ("kind", c_uint32),
+        ("_flow", _FlowOrUsage),
+        ("_size", _SizeOrSlots),
+        *((name, c_uint32) for name in ("interval_us", "jitter_us", "rate", "burst")),
+        ("bytes", c_uint32),
         ("minislot", c_uint64),
         ("sid", c_uint16),
-        ("_receiver", _ReceiverOrCount), ("_priority", _PriorityOrStart), ("_grants", _GrantsOrEnd),
+        ("_receiver", _ReceiverOrUcdCount),
+        ("_priority", _PriorityOrRangingStart),
+        ("_grants", _GrantsOrRangingEnd),
         *((name, c_uint8) for name in ("data_start", "data_end")),
     ]
+# checks/tables: call end
 
 
 class StampNumbers(Structure):

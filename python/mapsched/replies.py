@@ -10,8 +10,9 @@ from .library import ReplyNumbers
 
 
 class Refusal(IntEnum):
-    """Why a call is refused, by its number in README's table."""
+    """Why a call is refused, by its number in docs/REFERENCE.md."""
 
+    # checks/tables: refusals begin
     NO_SUCH_SID = 1
     LIVE_ALREADY = 2
     BAD_PARAMETERS = 3
@@ -32,9 +33,12 @@ class Refusal(IntEnum):
     BAD_LENGTH = 18
     TOO_MANY_RESERVES = 19
     BAD_BACKOFF = 20
+    # checks/tables: refusals end
 
 
+# checks/tables: values begin
 _WITH_VALUE = {3, 11, 12, 13, 15, 16, 17}
+# checks/tables: values end
 
 
 @dataclass(frozen=True)
@@ -115,7 +119,8 @@ class FlowBytes:
 
 @dataclass(frozen=True)
 class Refused:
-    """A refused call, which changed nothing. README's table tells which refusals have a value, and what it is."""
+    """A refused call, which changed nothing. docs/REFERENCE.md tells which refusals have a value, and
+    what it is."""
 
     refusal: Refusal
     value: Optional[int] = None

@@ -4,6 +4,7 @@ import importlib.machinery
 import importlib.util
 import json
 import os
+import re
 import sys
 
 HERE = os.path.dirname(os.path.dirname(os.path.dirname(os.path.realpath(__file__))))
@@ -38,13 +39,8 @@ def run(script):
         return [*lines_of(scheduler, script["calls"])], scheduler.history_text()
 
 
-def readme_rows(heading):
-    """The rows of the first table of README behind a heading, each as its cells."""
-    text = texts.read("README.md").partition(f"\n## {heading}\n")[2]
-    rows = []
-    for line in text.splitlines():
-        if line.startswith("|"):
-            rows.append([it.strip() for it in line.strip("|").split("|")])
-        elif rows:
-            break
-    return rows[2:]
+def reference_rows(heading, table=0):
+    """The rows of a table of docs/REFERENCE.md behind a heading, each as its cells: of the first one, or so many on."""
+    text = texts.read("docs/REFERENCE.md").partition(f"\n## {heading}\n")[2]
+    lines = re.findall(r"(?:^\|.*\n)+", text, re.M)[table].splitlines()
+    return [[it.strip() for it in line.strip("|").split("|")] for line in lines[2:]]

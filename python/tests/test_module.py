@@ -153,7 +153,7 @@ class Module(unittest.TestCase):
 
     def test_the_lines_are_those_of_what_is_kept(self):
         with Scheduler(CONFIG) as scheduler:
-            self.assertEqual(json.loads(scheduler.opening()), {"config": {**json.loads(texts.CONFIG), "phy": 0}})
+            self.assertEqual(json.loads(scheduler.opening()), {"config": json.loads(texts.whole(texts.CONFIG))})
             self.assertEqual(scheduler.lines(), "")
             for place in range(3):
                 scheduler.call(Build(760 + 40 * place))

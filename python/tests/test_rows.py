@@ -1,9 +1,12 @@
-"""Each row of README's tables, and of the tables of the checks."""
+"""README's script, each row of the tables of docs/REFERENCE.md, and of the tables of the checks."""
 
 import dataclasses
 import json
 import re
+import subprocess
+import sys
 import unittest
+from typing import get_args
 
 import mapsched
 from mapsched import BadConfig, BadPayload, Config, Illegal, Legal, NoHistory, Refusal, Scheduler
@@ -14,21 +17,27 @@ from .tables import texts
 CONFIG = json.loads(texts.CONFIG)
 
 
-class Readme(unittest.TestCase):
+class Documents(unittest.TestCase):
     def test_the_script_prints_its_lines(self):
         lines, history = tables.run(texts.read("examples/two_maps.json"))
         wanted = re.search(r"\n((?:    (?:map [0-9a-f]+|admitted|taken)\n)+)", texts.read("README.md"))[1]
         self.assertEqual(lines, [line.strip() for line in wanted.splitlines()])
         self.assertEqual(mapsched.audit(history), Legal(4))
 
+    def test_the_lines_of_readme_print_the_first_map(self):
+        lines = re.search(r"```python\n(.*?)```", texts.read("README.md"), re.S)[1]
+        program = [sys.executable, "-c", lines.replace("examples/", f"{tables.HERE}/examples/")]
+        said = subprocess.run(program, check=True, stdout=subprocess.PIPE, encoding="utf-8").stdout
+        self.assertIn(f"    map {said}", texts.read("README.md"))
+
     def test_each_field_is_one_of_the_configuration(self):
         numbered = {}
-        for numbers, names, *_ in tables.readme_rows("The configuration"):
+        for numbers, names, *_ in tables.reference_rows("The configuration"):
             names = re.findall(r"`(\w+)`", names)
             numbered |= {name: number for name, number in zip(names, re.findall(r"\d+", numbers))}
             for name in names:
                 self.assertIn(name, {it.name for it in dataclasses.fields(Config)})
-        self.assertEqual(len(numbered), 19)
+        self.assertEqual([*numbered], mapsched.faults._FIELDS)
         wrong = {row.split('"')[-2]: fault for row, fault in texts.rows("fields_of_a_configuration") if "bad" in fault}
         self.assertEqual(wrong, {name: f"bad config {number}" for name, number in numbered.items()})
 
@@ -46,17 +55,18 @@ class Readme(unittest.TestCase):
                     self.assertEqual(f"bad config {raised.exception.number}", wanted)
                     self.assertIn(f'"{raised.exception.field}":', row)
 
-    def test_each_call_is_one_of_the_module(self):
+    def test_each_call_and_flow_is_one_of_the_module(self):
         members = {}
-        for name, cell, _ in tables.readme_rows("Calls and lines"):
-            kind = getattr(mapsched, name.strip("`").title())
-            members[kind] = [it.name for it in dataclasses.fields(kind)]
-            self.assertEqual(re.findall(r"`(\w+)`", cell)[: len(members[kind])], members[kind])
-        self.assertEqual(len(members), 9)
+        for place in (0, 1):
+            for name, cell, _ in tables.reference_rows("Calls and lines", place):
+                kind = getattr(mapsched, name.strip("`").title().replace("_", ""))
+                members[kind] = [it.name for it in dataclasses.fields(kind)]
+                self.assertEqual(re.findall(r"`(\w+)`", cell), members[kind])
+        self.assertEqual({*members}, {*get_args(mapsched.Call), *get_args(mapsched.Flow)})
 
     def test_each_refusal_is_met(self):
-        table = texts.read("README.md").partition("| No | Refusal")[2].partition("\n\n")[0]
-        self.assertEqual({int(it) for it in re.findall(r"\| (\d+) \| ", table)}, {int(it) for it in Refusal})
+        numbers = [int(number) for number, *_ in tables.reference_rows("Refusals")]
+        self.assertEqual(numbers, [int(it) for it in Refusal])
         met = set()
         scripts = [json.loads(texts.script_in(run)) for runs in texts.RUNS for run in runs.split("\n\n")]
         for number in range(20):

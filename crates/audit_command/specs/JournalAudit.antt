@@ -1,8 +1,8 @@
 -- What the audit of a journal reads and writes.
-use Rattle.std.specs.Prelude.{◌≡◌, ℕ, List, [], length, codes, Option}
+use Rattle.std.specs.Prelude.{ℕ, List, [], length, codes, Option}
 use Rattle.std.specs.Io.KnownBytes.{Appends}
 use Rattle.minislots.specs.declared.config.Config.{Config as Configuration}
-use Rattle.sched_history.specs.declared.reply.Entry.{Entry}
+use Rattle.sched_calls.specs.declared.reply.Entry.{Entry}
 use Rattle.sched_lines.specs.Line.{number_line}
 use Rattle.text_stream.specs.declared.run_fault.RunFault.{RunFault}
 use Rattle.text_stream.specs.declared.fault.TextFault.TheVariants.{Input, TooLong, NotJson, Shape, Config, Memory}

@@ -1,3 +1,2 @@
 pub mod Verdict
-pub mod ExplainedAudit
 pub mod JournalAudit

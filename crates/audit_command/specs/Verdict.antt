@@ -1,8 +1,8 @@
 -- What an audit reads and writes.
-use Rattle.std.specs.Prelude.{◌≡◌, ◌↔◌, ℕ, Bool, true, false, List, length, codes, Option, Ok}
+use Rattle.std.specs.Prelude.{◌≡◌, ◌↔◌, ◌++◌, ℕ, Bool, true, false, List, [], length, codes, Option, Ok}
 use Rattle.std.specs.Io.KnownBytes.{Appends}
 use Rattle.minislots.specs.declared.config.Config.{Config as Configuration}
-use Rattle.sched_history.specs.declared.reply.Entry.{Entry}
+use Rattle.sched_calls.specs.declared.reply.Entry.{Entry}
 use Rattle.sched_history.specs.History.{IsLegal}
 use Rattle.sched_history.specs.Audit.{IsFirstIllegal}
 use Rattle.history_reading.specs.Recorded.{History, GivesHistory, StopsHistory}
@@ -29,14 +29,23 @@ abbrev pub verdict_line : Verdict → List ℕ
 verdict_line (Legal n) = number_line (codes "legal") n
 verdict_line (Illegal i) = number_line (codes "illegal") i
 
--- the reader's bytes are a history, and the line of the verdict on it was written, and nothing else; the answer is
--- whether it is legal
-pub record Audited (unread left written_before written_after : Option (List ℕ)) (legal : Bool) : Type 0 where
+-- behind the verdict on a legal history there are no words, and behind another one only where they are asked for
+abbrev pub IsQuiet : Bool → Verdict → List ℕ → Type 0
+IsQuiet false verdict words = words ≡ []
+IsQuiet true (Legal n) words = words ≡ []
+IsQuiet true (Illegal i) words = Unit {0}
+
+-- the reader's bytes are a history, and the line of the verdict on it was written, with words behind it where they are
+-- asked for and it is illegal, and nothing else; the answer is whether it is legal
+pub record Audited (explained : Bool) (unread left written_before written_after : Option (List ℕ)) (legal : Bool)
+    : Type 0 where
   pub history : History
   pub read : GivesHistory unread left (Ok history)
   pub verdict : Verdict
   pub verdict_is : IsVerdict history.config history.entries verdict
-  pub written : Appends written_before written_after (verdict_line verdict)
+  pub words : List ℕ
+  pub quiet : IsQuiet explained verdict words
+  pub written : Appends written_before written_after (verdict_line verdict ++ words)
   pub legal_is : (legal ≡ true) ↔ IsLegal history.config history.entries
 
 -- why an audit ends: there is no history, or a write was tried after a whole one was read; where

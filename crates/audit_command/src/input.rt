@@ -2,8 +2,8 @@
 //! nothing is left to flush.
 
 use crate::audit::run_audit;
-use crate::explained_audit::run_audit_explained;
 use crate::journal::{JournalEnd, run_audit_journal};
+use journal_entries::EntriesEnd;
 use std::io;
 use text_stream::{RunFault, Watched};
 
@@ -14,17 +14,7 @@ pub fn audit_input(
 ) -> Result<bool, RunFault> {
     let mut reader = Watched::new(rt.reader());
     let mut writer = Watched::new(io::writer(rt));
-    if is_explained {
-        return run_audit_explained(rt.alloc(), &mut reader, &mut writer);
-    }
-    run_audit(rt.alloc(), &mut reader, &mut writer)
-}
-
-// Tells on standard error how many bytes stand behind the last newline, where there are any.
-fn tell_torn(rt: &impl Eprint, torn: u64) {
-    if torn > 0 {
-        let _ = rt.eprintln(format_args!("torn {torn}"));
-    }
+    run_audit(rt.alloc(), &mut reader, &mut writer, is_explained)
 }
 
 /// The command `audit` on a journal: how it ends. What is torn, and which line is bad, is told on standard error.
@@ -35,11 +25,10 @@ pub fn audit_journal_input(
     let mut writer = Watched::new(io::writer(rt));
     let end = run_audit_journal(rt.alloc(), &mut reader, &mut writer)?;
     match end {
-        JournalEnd::Legal(torn) => tell_torn(rt, torn),
+        JournalEnd::Legal(torn) => EntriesEnd::Legal(torn).tell(rt),
+        // What is illegal stands on standard output.
         JournalEnd::Illegal => {}
-        JournalEnd::Bad(line) => {
-            let _ = rt.eprintln(format_args!("bad journal at {line}"));
-        }
+        JournalEnd::Bad(line) => EntriesEnd::Bad(line).tell(rt),
     }
     Ok(end)
 }

@@ -7,6 +7,5 @@ mod input;
 mod journal;
 
 pub use audit::run_audit;
-pub use explained_audit::run_audit_explained;
 pub use input::{audit_input, audit_journal_input};
 pub use journal::{JournalEnd, run_audit_journal};

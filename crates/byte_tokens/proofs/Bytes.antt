@@ -123,12 +123,6 @@ at_stop text from stop r le is =
     let rest : drop n (drop from text) ≡ 34 ∷ r = drop-drop n from text ∙ ap (λ i. drop i text) place ∙ is in
     sym (take-append-drop n (drop from text)) ∙ ap (λ l. take n (drop from text) ++ l) rest
 
--- a byte that ends a value is not 0
-pub some_byte : (c : ℕ) → (c ≡ 44) ⊎ ((c ≡ 125) ⊎ (c ≡ 93)) → 0 < c
-some_byte c (inl e) = omega (arith, e)
-some_byte c (inr (inl e)) = omega (arith, e)
-some_byte c (inr (inr e)) = omega (arith, e)
-
 module _ (P : ℕ → Type 0) (n k : ℕ) (within : k < n) (many : 4 ≤ n) (few : n ≤ 12)
     (front : (k : ℕ) → k < 4 → P k) (back : (k : ℕ) → k < 4 → P (n - 4 + k))
     (middle : 8 < n → (k : ℕ) → k < 4 → P (4 + k)) where

@@ -2,19 +2,18 @@
 use Rattle.std.proofs.Common.{◌≡◌, ◌^◌, ◌<◌, ℕ, true, false, true≢false, List, [], ◌∷◌, ◌++◌, decimal, refl, sym, ap}
 use Rattle.std.proofs.Common.{◌∙◌, inl, inr, length, drop, append_assoc}
 use Rattle.std.proofs.Math.Seq.{drop-length}
-use Rattle.std.specs.Prelude.{◌⊎◌}
 use Rattle.json.specs.Token.{Token, begin_object, end_object, begin_array, end_array, key, string, number}
 use Rattle.json.specs.Word.{ends_word}
 use Rattle.json.specs.Print.{escape}
 use Rattle.json.specs.Text.{content, plain}
 use Rattle.json.specs.Lex.{Lexeme, token, colon, string_token, lex, between, in_string, begins_colon, punctuate}
-use Rattle.json.specs.Lex.{after_value, after_comma, fresh}
+use Rattle.json.specs.Lex.{after_value, fresh}
 use Rattle.json.proofs.Printed.Strings.{content-escape, lex-escape}
 use Rattle.json.proofs.Printed.Numbers.{lex-number}
 use Rattle.json.proofs.Printed.Decimals.{IsNumber-decimal}
 use Rattle.byte_tokens.specs.declared.between.Before.{Before}
 use Rattle.byte_tokens.specs.declared.between.Before.TheVariants.{Opening, Value, Comma}
-use Rattle.byte_tokens.specs.Left.{tokens_from, begins_at, closes_at, EndsValue}
+use Rattle.byte_tokens.specs.Left.{tokens_from, begins_at, closes_at, IsEnd, IsSpace, EndsValue}
 use Rattle.byte_tokens.specs.Listed.{number_tokens}
 use Rattle.byte_tokens.specs.Spelled.{spelled_key, spelled_text}
 
@@ -59,15 +58,27 @@ module _ (t r : List ℕ) where
   unfolding lex punctuate
   comma_passed is = rw is refl
 
-  -- a space between tokens is none
-  pub space_passed : t ≡ 32 ∷ r → lex between r ≡ lex between t
+  -- white space between tokens is none
+  pub space_passed : (c : ℕ) → IsSpace c → t ≡ c ∷ r → lex between r ≡ lex between t
   unfolding lex
-  space_passed is = rw is refl
+  space_passed c (inl e) is = rw is (rw e refl)
+  space_passed c (inr (inl e)) is = rw is (rw e refl)
+  space_passed c (inr (inr (inl e))) is = rw is (rw e refl)
+  space_passed c (inr (inr (inr e))) is = rw is (rw e refl)
 
--- a line feed at the end is no token
-pub line_feed_passed : (t r : List ℕ) → t ≡ 10 ∷ r → r ≡ [] → lex between t ≡ []
-unfolding lex
-line_feed_passed t r is end = rw is (rw end refl)
+  -- white space ends a number
+  pub space_ends : (c : ℕ) → IsSpace c → t ≡ c ∷ r → ends_word t ≡ true
+  space_ends c (inl e) is = rw is (rw e refl)
+  space_ends c (inr (inl e)) is = rw is (rw e refl)
+  space_ends c (inr (inr (inl e))) is = rw is (rw e refl)
+  space_ends c (inr (inr (inr e))) is = rw is (rw e refl)
+
+  -- a comma or a closing bracket ends a value
+  pub ends_value : (c : ℕ) → IsEnd c → t ≡ c ∷ r → EndsValue t
+  unfolding lex
+  ends_value c (inl e) is = rw is (rw e (refl, refl))
+  ends_value c (inr (inl e)) is = rw is (rw e (refl, refl))
+  ends_value c (inr (inr e)) is = rw is (rw e (refl, refl))
 
 -- at the end of a text is no lexeme
 pub none_at_end : (text : List ℕ) (at : ℕ) → at ≡ length text → lex between (drop at text) ≡ []
@@ -81,18 +92,6 @@ lex_quoted s r same =
     let whole : s ++ 34 ∷ r ≡ escape s ++ 34 ∷ r = ap (λ l. l ++ 34 ∷ r) (sym same) in
     (λ i. token (string_token (content plain (whole i))) ∷ lex in_string (whole i))
     ∙ (λ i. token (string_token (content-escape s r i)) ∷ lex-escape s r i)
-
--- behind a value stands no colon
-ends_text : (c : ℕ) (q : List ℕ) → (c ≡ 44) ⊎ ((c ≡ 125) ⊎ (c ≡ 93)) → begins_colon (lex between (c ∷ q)) ≡ false
-unfolding lex
-ends_text c q (inl e) = rw e refl
-ends_text c q (inr (inl e)) = rw e refl
-ends_text c q (inr (inr e)) = rw e refl
-
-ends_number : (c : ℕ) (q : List ℕ) → (c ≡ 44) ⊎ ((c ≡ 125) ⊎ (c ≡ 93)) → ends_word (c ∷ q) ≡ true
-ends_number c q (inl e) = rw e refl
-ends_number c q (inr (inl e)) = rw e refl
-ends_number c q (inr (inr e)) = rw e refl
 
 string_first : (b : Before) (s : List ℕ) (ls : List Lexeme) → begins_at b ≡ true → begins_colon ls ≡ false
     → (t : List ℕ) → lex between t ≡ token (string s) ∷ ls → tokens_from b t ≡ string s ∷ punctuate after_value ls
@@ -115,27 +114,6 @@ number_first Opening s ls may t is = rw is refl
 number_first Value s ls may t is = impossible may
 number_first Comma s ls may t is = rw is refl
 
-module _ (b : Before) (may : begins_at b ≡ true) (t : List ℕ) (c : ℕ) (q : List ℕ) where
-  -- a text, and behind it what ends a value
-  pub text_taken : (s : List ℕ) → escape s ≡ s → t ≡ 34 ∷ (s ++ 34 ∷ (c ∷ q)) → (c ≡ 44) ⊎ ((c ≡ 125) ⊎ (c ≡ 93))
-      → tokens_from b t ≡ string s ∷ tokens_from Value (c ∷ q)
-  text_taken s same is ended =
-      string_first b s (lex between (c ∷ q)) may (ends_text c q ended) t
-      (ap (lex between) is ∙ lex_quoted s (c ∷ q) same)
-
-  -- a key with its colon
-  pub key_taken : (s : List ℕ) → escape s ≡ s → t ≡ 34 ∷ (s ++ 34 ∷ (58 ∷ q))
-      → tokens_from b t ≡ key s ∷ tokens_from Opening q
-  unfolding lex
-  key_taken s same is = key_first b s (lex between q) may t (ap (lex between) is ∙ lex_quoted s (58 ∷ q) same)
-
-  -- a whole number, and behind it what ends a value
-  pub number_taken : (n : ℕ) → n < 2 ^ 64 → t ≡ decimal n ++ c ∷ q → (c ≡ 44) ⊎ ((c ≡ 125) ⊎ (c ≡ 93))
-      → tokens_from b t ≡ number (decimal n) ∷ tokens_from Value (c ∷ q)
-  number_taken n fits is ended =
-      number_first b (decimal n) (lex between (c ∷ q)) may t
-      (ap (lex between) is ∙ lex-number (decimal n) (c ∷ q) (IsNumber-decimal n fits) (ends_number c q ended))
-
 module _ (t spelled name r : List ℕ) where
   -- what stands first where a key in its quotes does
   pub key_spelled : spelled ≡ spelled_key name → t ≡ spelled ++ r → t ≡ 34 ∷ (name ++ 34 ∷ (58 ∷ r))
@@ -146,20 +124,30 @@ module _ (t spelled name r : List ℕ) where
   pub text_spelled : spelled ≡ spelled_text name → t ≡ spelled ++ r → t ≡ 34 ∷ (name ++ 34 ∷ r)
   text_spelled is first = first ∙ ap (λ s. s ++ r) is ∙ ap (λ l. 34 ∷ l) (append_assoc name (34 ∷ []) r)
 
+colon_first : (q r : List ℕ) → lex between q ≡ lex between (58 ∷ r) → lex between q ≡ colon ∷ lex between r
+unfolding lex
+colon_first q r same = same
+
 module _ (b : Before) (may : begins_at b ≡ true) (t r : List ℕ) where
   -- a text, and behind it what ends a value
   pub text_left : (s : List ℕ) → escape s ≡ s → t ≡ 34 ∷ (s ++ 34 ∷ r) → EndsValue r
       → tokens_from b t ≡ string s ∷ punctuate after_value (lex between r)
   text_left s same is ends =
-      text_taken b may t ends.0 ends.1 s same (is ∙ ap (λ l. 34 ∷ (s ++ 34 ∷ l)) ends.2) ends.3
-      ∙ ap (λ ts. string s ∷ punctuate after_value (lex between ts)) (sym ends.2)
+      string_first b s (lex between r) may ends.1 t (ap (lex between) is ∙ lex_quoted s r same)
+
+  -- a key, and behind it its colon
+  pub key_left : (s q : List ℕ) → escape s ≡ s → t ≡ 34 ∷ (s ++ 34 ∷ q) → lex between q ≡ lex between (58 ∷ r)
+      → tokens_from b t ≡ key s ∷ punctuate fresh (lex between r)
+  key_left s q same is behind =
+      key_first b s (lex between r) may t
+      (ap (lex between) is ∙ lex_quoted s q same ∙ ap (λ ls. token (string s) ∷ ls) (colon_first q r behind))
 
   -- a whole number, and behind it what ends a value
   pub number_left : (n : ℕ) → n < 2 ^ 64 → t ≡ decimal n ++ r → EndsValue r
       → tokens_from b t ≡ number (decimal n) ∷ punctuate after_value (lex between r)
   number_left n fits is ends =
-      number_taken b may t ends.0 ends.1 n fits (is ∙ ap (λ l. decimal n ++ l) ends.2) ends.3
-      ∙ ap (λ ts. number (decimal n) ∷ punctuate after_value (lex between ts)) (sym ends.2)
+      number_first b (decimal n) (lex between r) may t
+      (ap (lex between) is ∙ lex-number (decimal n) r (IsNumber-decimal n fits) ends.0)
 
 -- where no lexeme is left, no token is
 pub none_left : (b : Before) → closes_at b ≡ true → (t : List ℕ) → lex between t ≡ [] → tokens_from b t ≡ []
@@ -174,22 +162,3 @@ pub number_more : (ns : List ℕ) (n : ℕ) (ts : List Token)
 unfolding number_tokens
 number_more [] n ts = refl
 number_more (m ∷ ns) n ts = ap (λ l. number (decimal m) ∷ l) (number_more ns n ts)
-
--- the first number of a list
-pub one_number : (b : Before) → begins_at b ≡ true → (t r ns : List ℕ) (n : ℕ) → n < 2 ^ 64 → ns ≡ n ∷ []
-    → t ≡ decimal n ++ r → EndsValue r → tokens_from b t ≡ number_tokens ns ++ tokens_from Value r
-unfolding number_tokens
-one_number b may t r ns n fits one is ends =
-    number_left b may t r n fits is ends ∙ ap (λ l. number_tokens l ++ tokens_from Value r) (sym one)
-
--- behind a comma, and the space that may follow it, one number more of a list
-pub next_number : (b : Before) (whole t r s q ns more : List ℕ) (n : ℕ)
-    → tokens_from b whole ≡ number_tokens ns ++ tokens_from Value t
-    → t ≡ 44 ∷ r → lex between s ≡ lex between r → n < 2 ^ 64 → more ≡ ns ++ n ∷ []
-    → s ≡ decimal n ++ q → EndsValue q → tokens_from b whole ≡ number_tokens more ++ tokens_from Value q
-next_number b whole t r s q ns more n before comma space fits one is ends =
-    before
-    ∙ ap (λ ts. number_tokens ns ++ ts)
-    (sym (comma_passed t r comma) ∙ sym (ap (punctuate after_comma) space) ∙ number_left Comma refl s q n fits is ends)
-    ∙ number_more ns n (tokens_from Value q)
-    ∙ ap (λ l. number_tokens l ++ tokens_from Value q) (sym one)

@@ -1,7 +1,8 @@
 -- The tokens from a place of a text on, by what stands before it.
-use Rattle.std.specs.Prelude.{◌≡◌, ◌⊎◌, ◌∷◌, ℕ, List, Bool, true, false}
+use Rattle.std.specs.Prelude.{◌≡◌, ◌⊎◌, ℕ, List, Bool, true, false}
 use Rattle.json.specs.Token.{Token}
-use Rattle.json.specs.Lex.{between, lex, fresh, after_value, after_comma, punctuate}
+use Rattle.json.specs.Lex.{between, lex, fresh, after_value, after_comma, punctuate, begins_colon}
+use Rattle.json.specs.Word.{ends_word}
 use Rattle.byte_tokens.specs.declared.between.Before.{Before}
 use Rattle.byte_tokens.specs.declared.between.Before.TheVariants.{Opening, Value, Comma}
 
@@ -27,6 +28,10 @@ closes_at Comma = false
 abbrev pub IsEnd : ℕ → Type 0
 IsEnd c = (c ≡ 44) ⊎ ((c ≡ 125) ⊎ (c ≡ 93))
 
--- what stands there ends a value
+-- whether a byte is white space
+abbrev pub IsSpace : ℕ → Type 0
+IsSpace c = (c ≡ 32) ⊎ ((c ≡ 9) ⊎ ((c ≡ 10) ⊎ (c ≡ 13)))
+
+-- what stands there ends a value, and makes no key of it
 abbrev pub EndsValue : List ℕ → Type 0
-EndsValue text = (c : ℕ) × (rest : List ℕ) × (text ≡ c ∷ rest) × IsEnd c
+EndsValue text = (ends_word text ≡ true) × (begins_colon (lex between text) ≡ false)

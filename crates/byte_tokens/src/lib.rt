@@ -1,5 +1,5 @@
-//! The tokens of a JSON text in its usual spelling, read byte by byte: without escapes, and with no space but one
-//! behind a comma or a colon.
+//! The tokens of a JSON text in its usual spelling, read byte by byte: without escapes, and with any white space
+//! between them.
 #![tactic(auto)]
 
 mod between;

@@ -13,7 +13,7 @@ ghost use Rattle.byte_tokens.specs.Left.{tokens_from, begins_at, closes_at, Ends
 ghost use Rattle.byte_tokens.specs.Listed.{number_tokens};
 ghost use Rattle.byte_tokens.specs.Spelled.{spelled_key, spelled_text};
 
-use super::between::{Before, behind_space, behind_value, ended_value, ends_at};
+use super::between::{Before, behind_gap, behind_space, behind_value, ended_value};
 use super::hexadecimal::hex_at;
 use super::listed::numbers_at;
 use super::numbers::{long_number_at, number_at, wide_number_at};
@@ -21,8 +21,8 @@ use super::spelled::{byte_at, quoted, quoted_word_at, stands_at};
 use std::alloc::Global;
 use std::marker::Model;
 
-/// A reader of the tokens of a text. Where it takes no token, there may be one in another spelling, or none. A clause
-/// sees the tokens that are left.
+/// A reader of the tokens of a text, with any white space between them. Where it takes no token, there may be one in
+/// another spelling, or none. A clause sees the tokens that are left.
 #[derive(Drop)]
 pub struct Quick<'a> {
     text: &'a str,
@@ -51,7 +51,7 @@ impl<'a> Quick<'a> {
     {
         Quick {
             text,
-            at: 0,
+            at: behind_gap(text.as_bytes(), 0),
             before: Before::Opening,
         }
     }
@@ -71,10 +71,11 @@ impl<'a> Quick<'a> {
     pub fn open_object(&mut self) -> bool
         ensures { IsTrue result → self.old ≡ begin_object ∷ self.new }
     {
-        if !self.before.may_begin() || byte_at(self.text.as_bytes(), self.at) != b'{' {
+        let text = self.text.as_bytes();
+        if !self.before.may_begin() || byte_at(text, self.at) != b'{' {
             return false;
         }
-        self.at += 1;
+        self.at = behind_gap(text, self.at + 1);
         self.before = Before::Opening;
         true
     }
@@ -83,15 +84,17 @@ impl<'a> Quick<'a> {
     pub fn open_array(&mut self) -> bool
         ensures { IsTrue result → self.old ≡ begin_array ∷ self.new }
     {
-        if !self.before.may_begin() || byte_at(self.text.as_bytes(), self.at) != b'[' {
+        let text = self.text.as_bytes();
+        if !self.before.may_begin() || byte_at(text, self.at) != b'[' {
             return false;
         }
-        self.at += 1;
+        self.at = behind_gap(text, self.at + 1);
         self.before = Before::Opening;
         true
     }
 
     /// Takes the bracket that closes an array, if it is next.
+    #[inline(always)]
     pub fn take_end_array(&mut self) -> bool
         ensures { MatchBool result (self.old ≡ end_array ∷ self.new) (self.new ≡ self.old) }
     {
@@ -106,6 +109,7 @@ impl<'a> Quick<'a> {
     }
 
     /// Takes the brace that closes an object, if it is next.
+    #[inline(always)]
     pub fn take_end_object(&mut self) -> bool
         ensures { MatchBool result (self.old ≡ end_object ∷ self.new) (self.new ≡ self.old) }
     {
@@ -126,8 +130,9 @@ impl<'a> Quick<'a> {
         if !self.before.may_begin() {
             return None;
         }
-        let (found, at) = quoted(self.text, self.at)?;
+        let (found, end) = quoted(self.text, self.at)?;
         let text = self.text.as_bytes();
+        let at = behind_gap(text, end);
         if byte_at(text, at) != b':' {
             return None;
         }
@@ -281,8 +286,8 @@ impl<'a> Quick<'a> {
             return None;
         }
         let text = self.text.as_bytes();
-        let (numbers, at) = numbers_at(alloc, text, self.at)?;
-        if byte_at(text, at) != b']' {
+        let (numbers, at, before) = numbers_at(alloc, text, self.at)?;
+        if !before.may_close() || byte_at(text, at) != b']' {
             return None;
         }
         let (at, before) = behind_value(text, at + 1);
@@ -305,6 +310,6 @@ impl<'a> Quick<'a> {
     pub fn is_over(&self) -> bool
         ensures { IsTrue result → self.now ≡ [] }
     {
-        self.before.may_close() && ends_at(self.text.as_bytes(), self.at)
+        self.before.may_close() && self.at == self.text.as_bytes().len()
     }
 }

@@ -1,3 +1,4 @@
+pub mod Bits
 pub mod Moved
 pub mod Steps
 pub mod Trays

@@ -9,7 +9,7 @@ use lib.ListN.{get_elem?}
 use Rattle.atomic_table.specs.Table.{State, stepped, keeps}
 use Rattle.atomic_table.proofs.Lists.{at_set, at_snoc, set_again}
 use Rattle.call_queue.specs.declared.board.Doing.{Doing}
-use Rattle.call_queue.specs.declared.board.Doing.TheVariants.{Nothing, Claims, Waits, Serves}
+use Rattle.call_queue.specs.declared.board.Doing.TheVariants.{Nothing, Claims, Waits, Serves, Tells}
 use Rattle.call_queue.specs.declared.board.View.{View}
 use Rattle.call_queue.specs.declared.slip.Slip.{Slip}
 use Rattle.call_queue.specs.Spot.{Spot, vacant, claimed, waiting, taken, answered, IsWord, Knows, IsHome, Stands}
@@ -26,6 +26,7 @@ module _ {L : Type 0} where
   claim_known id j Claims n k = absurd k
   claim_known id j (Waits l) n k = absurd k
   claim_known id j (Serves l) n k = absurd k
+  claim_known id j Tells n k = tt
 
   -- what the token that has the tray to itself knows is not known by others
   pub claimed_known : (id k : ℕ) (after : Spot L) → k ≡ id → OthersKnow id (claimed k) after
@@ -33,6 +34,7 @@ module _ {L : Type 0} where
   claimed_known id k after same j Claims n c = absurd (n (sym c ∙ same))
   claimed_known id k after same j (Waits l) n c = absurd c
   claimed_known id k after same j (Serves l) n c = absurd c
+  claimed_known id k after same j Tells n c = tt
 
   -- the token that left something takes it back
   pub withdraw_known : (id k : ℕ) (l : L) → k ≡ id → OthersKnow id (waiting k l) (claimed id)
@@ -40,6 +42,7 @@ module _ {L : Type 0} where
   withdraw_known id k l same j Claims n c = absurd c
   withdraw_known id k l same j (Waits x) n c = absurd (n (sym c.0 ∙ same))
   withdraw_known id k l same j (Serves x) n c = absurd c
+  withdraw_known id k l same j Tells n c = tt
 
   -- the token that left something takes the answer
   pub take_back_known : (id k : ℕ) (l : L) → k ≡ id → OthersKnow id (answered k l) (claimed id)
@@ -47,6 +50,7 @@ module _ {L : Type 0} where
   take_back_known id k l same j Claims n c = absurd c
   take_back_known id k l same j (Waits x) n c = absurd (n (sym c.0 ∙ same))
   take_back_known id k l same j (Serves x) n c = absurd c
+  take_back_known id k l same j Tells n c = tt
 
   -- a token takes up what was left
   pub take_up_known : (id k : ℕ) (l : L) → OthersKnow id (waiting k l) (taken k l id)
@@ -54,6 +58,7 @@ module _ {L : Type 0} where
   take_up_known id k l j Claims n c = absurd c
   take_up_known id k l j (Waits x) n c = c
   take_up_known id k l j (Serves x) n c = absurd c
+  take_up_known id k l j Tells n c = tt
 
   -- and answers it
   pub answer_known : (id k m : ℕ) (l : L) → m ≡ id → OthersKnow id (taken k l m) (answered k l)
@@ -61,6 +66,7 @@ module _ {L : Type 0} where
   answer_known id k m l same j Claims n c = absurd c
   answer_known id k m l same j (Waits x) n c = c
   answer_known id k m l same j (Serves x) n c = absurd (n (sym c.0 ∙ same))
+  answer_known id k m l same j Tells n c = tt
 
   -- or puts it back
   pub put_back_known : (id k m : ℕ) (l : L) → m ≡ id → OthersKnow id (taken k l m) (waiting k l)
@@ -68,15 +74,7 @@ module _ {L : Type 0} where
   put_back_known id k m l same j Claims n c = absurd c
   put_back_known id k m l same j (Waits x) n c = c
   put_back_known id k m l same j (Serves x) n c = absurd (n (sym c.0 ∙ same))
-
--- a step that keeps the word and the view changes nothing
-pub unchanged : {S V : Type 0} (s : State S V) (id : ℕ) (c : List (ℕ × S)) (v : V) → get_elem? s.views id ≡ some v
-    → stepped s 0 (slice_index s.words 0) id c v keeps ≡ s
-unchanged s id c v at = λ i. record {
-  words = set-get_or s.words 0 0 i;
-  homes = s.homes;
-  views = set_again s.views id v at i;
-}
+  put_back_known id k m l same j Tells n c = tt
 
 module _ {A L B : Type 0} (fits : A → L → Type 0) (answers : L → B → Type 0) (about : A) where
   -- a tray after a step of one token

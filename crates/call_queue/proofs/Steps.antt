@@ -8,17 +8,17 @@ use prog.Atomic.{either}
 use Rattle.atomic_table.specs.Table.{State, Act, Valid, stepped, keeps, takes, gives, carried_after}
 use Rattle.atomic_table.specs.Table.{Allows, Enters, rest}
 use Rattle.atomic_table.proofs.Lists.{exchanged}
-use Rattle.call_queue.specs.declared.board.Doing.TheVariants.{Nothing, Claims, Waits, Serves}
+use Rattle.call_queue.specs.declared.board.Doing.TheVariants.{Nothing, Claims, Waits, Serves, Tells}
 use Rattle.call_queue.specs.declared.board.TheConstants.{VACANT, CLAIMED, WAITING, TAKEN, ANSWERED, CALLED}
 use Rattle.call_queue.specs.declared.board.View.{View}
 use Rattle.call_queue.specs.declared.slip.Slip.{Slip}
 use Rattle.call_queue.specs.declared.slip.Slip.TheVariants.{Left, Back}
 use Rattle.call_queue.specs.Spot.{Spot, vacant, claimed, waiting, taken, answered, HasClaimed, HasLeft, HasTaken, Knows}
 use Rattle.call_queue.specs.Spot.{Stands, Ruled, idle_view}
-use Rattle.call_queue.specs.Plays.{doing_view, Token, TrayStep, Stays, Claimed, PutsDown, Parts, Withdraws, TakesUp}
-use Rattle.call_queue.specs.Plays.{TakesBack}
+use Rattle.call_queue.specs.Plays.{doing_view, missed_view, Token, TrayStep, Stays, Claimed, PutsDown, Parts, HasTold}
+use Rattle.call_queue.specs.Plays.{CallsUp, Withdraws, TakesUp, TakesBack}
 use Rattle.call_queue.proofs.Moved.{claim_known, claimed_known, withdraw_known, take_back_known, take_up_known}
-use Rattle.call_queue.proofs.Moved.{answer_known, put_back_known, unchanged, moved, arrived}
+use Rattle.call_queue.proofs.Moved.{answer_known, put_back_known, moved, arrived}
 
 -- a token that has one slot has no other
 pub alone_taken : {S : Type 0} (c : List (ℕ × S)) (x : ℕ × S) → c ≡ x ∷ [] → c ≡ x ∷ rest c
@@ -53,18 +53,32 @@ module _ {A L B : Type 0} (fits : A → L → Type 0) (answers : L → B → Typ
   arrives slots st s (spot, r) deep small = (idle_view about, (spot, arrived fits answers about spot s r), refl)
 
   -- a compare-exchange, by whether it finds what it expects
-  exchanges : (s : State (Option (Slip L B)) (View A L)) → Ruled fits answers about s → (id : ℕ) (v : View A L)
-      (c : List (ℕ × Option (Slip L B))) → get_elem? s.views id ≡ some v → (old new : ℕ)
-      (told : ℕ → Token A L B → Type 0)
+  exchanges : (s : State (Option (Slip L B)) (View A L)) (id : ℕ) (v : View A L)
+      (c : List (ℕ × Option (Slip L B))) (old new : ℕ) (told : ℕ → Token A L B → Type 0)
       → (slice_index s.words 0 ≡ old → Steps s id (v, c) new (told (slice_index s.words 0)))
-      → (slice_index s.words 0 ≢ old → told (slice_index s.words 0) (v, c))
+      → (slice_index s.words 0 ≢ old → Steps s id (v, c) (slice_index s.words 0) (told (slice_index s.words 0)))
       → Steps s id (v, c) (either (slice_index s.words 0 == old) new (slice_index s.words 0))
       (told (slice_index s.words 0))
-  exchanges s rule id v c at old new told hit miss = exchanged (slice_index s.words 0) old new
-      (λ (n : ℕ). Steps s id (v, c) n (told (slice_index s.words 0))) hit
-      (λ ne. (v, keeps, tt, subst (Ruled fits answers about) (sym (unchanged s id c v at)) rule, miss ne))
+  exchanges s id v c old new told hit miss = exchanged (slice_index s.words 0) old new
+      (λ (n : ℕ). Steps s id (v, c) n (told (slice_index s.words 0))) hit miss
 
   module _ (s : State (Option (Slip L B)) (View A L)) (id : ℕ) (v : View A L) (at : get_elem? s.views id ≡ some v) where
+    -- a token leaves the tray as it is, and has another view of it
+    stays : (c : List (ℕ × Option (Slip L B))) (w : View A L) (spot : Spot L) → Stands fits answers about spot s
+        → (w.about ≡ about) × Knows id w.doing spot → (told : Token A L B → Type 0) → told (w, c)
+        → Steps s id (v, c) (slice_index s.words 0) told
+    stays c w spot r knows told it = (
+      w,
+      keeps,
+      tt,
+      (
+        spot,
+        moved fits answers about spot spot s r id (slice_index s.words 0) s.homes w r.word r.home knows
+            (λ j d n known. known),
+      ),
+      it,
+    )
+
     -- a token finds the tray vacant
     claim_hit : (c : List (ℕ × Option (Slip L B))) (st : TrayStep L B) (spot : Spot L)
         → Stands fits answers about spot s → slice_index s.words 0 ≡ VACANT
@@ -173,19 +187,19 @@ module _ {A L B : Type 0} (fits : A → L → Type 0) (answers : L → B → Typ
     -- whoever left what lies there is to take it back
     call_up_hit : (c : List (ℕ × Option (Slip L B))) (st : TrayStep L B) (spot : Spot L)
         → Stands fits answers about spot s → slice_index s.words 0 ≡ WAITING
-        → Steps s id (v, c) CALLED (Stays st (v, c) (slice_index s.words 0))
+        → Steps s id (v, c) CALLED (CallsUp st (v, c) (slice_index s.words 0))
     call_up_hit c st vacant r e = let w = r.word in absurd (omega arith)
     call_up_hit c st (claimed k) r e = let w = r.word in absurd (omega arith)
     call_up_hit c st (waiting k l) r e = (
-      v,
+      doing_view v Tells,
       keeps,
       tt,
       (
         waiting k l,
-        moved fits answers about (waiting k l) (waiting k l) s r id CALLED s.homes v (inr refl) r.home
-            (r.views id v at) (λ j d n known. known),
+        moved fits answers about (waiting k l) (waiting k l) s r id CALLED s.homes (doing_view v Tells) (inr refl)
+            r.home ((r.views id v at).0, tt) (λ j d n known. known),
       ),
-      refl,
+      λ _ _. refl,
     )
     call_up_hit c st (taken k l m) r e = let w = r.word in absurd (omega arith)
     call_up_hit c st (answered k l) r e = let w = r.word in absurd (omega arith)
@@ -244,7 +258,7 @@ module _ {A L B : Type 0} (fits : A → L → Type 0) (answers : L → B → Typ
     -- a token that took something up answers it
     answer_at : (x : L) (b : B) → answers x b → v.doing ≡ Serves x → (st : TrayStep L B) (spot : Spot L)
         → Stands fits answers about spot s
-        → Steps s id (v, (0, Some (Back b)) ∷ []) ANSWERED (Parts st (v, (0, Some (Back b)) ∷ []) ANSWERED)
+        → Steps s id (v, (0, Some (Back b)) ∷ []) ANSWERED (HasTold st (v, (0, Some (Back b)) ∷ []) ANSWERED)
     answer_at x b good serves st vacant r = absurd (subst (λ d. Knows id d vacant) serves (r.views id v at).1)
     answer_at x b good serves st (claimed k) r =
         absurd (subst (λ d. Knows id d (claimed k)) serves (r.views id v at).1)
@@ -252,28 +266,28 @@ module _ {A L B : Type 0} (fits : A → L → Type 0) (answers : L → B → Typ
         absurd (subst (λ d. Knows id d (waiting k l)) serves (r.views id v at).1)
     answer_at x b good serves st (taken k l m) r =
         let known : HasTaken id x (taken k l m) = subst (λ d. Knows id d (taken k l m)) serves (r.views id v at).1 in (
-          doing_view v Nothing,
+          doing_view v Tells,
           gives,
           tt,
           (
             answered k l,
             moved fits answers about (taken k l m) (answered k l) s r id ANSWERED
-                (set s.homes 0 (some (Some (Back b)))) (doing_view v Nothing) refl (
+                (set s.homes 0 (some (Some (Back b)))) (doing_view v Tells) refl (
                   b,
                   ap (λ hs. set hs 0 (some (Some (Back b)))) r.home.0,
                   subst (λ (y : L). answers y b) (sym known.1) good,
                 )
                 ((r.views id v at).0, tt) (answer_known id k m l known.0),
           ),
-          refl,
+          ((λ _. refl), (λ _. refl)),
         )
     answer_at x b good serves st (answered k l) r =
         absurd (subst (λ d. Knows id d (answered k l)) serves (r.views id v at).1)
 
-    -- or puts it back
+    -- or puts it back, and calls up whoever left it
     put_back_at : (x : L) → v.doing ≡ Serves x → (st : TrayStep L B) (spot : Spot L)
         → Stands fits answers about spot s
-        → Steps s id (v, (0, Some (Left x)) ∷ []) WAITING (Parts st (v, (0, Some (Left x)) ∷ []) WAITING)
+        → Steps s id (v, (0, Some (Left x)) ∷ []) CALLED (HasTold st (v, (0, Some (Left x)) ∷ []) CALLED)
     put_back_at x serves st vacant r = absurd (subst (λ d. Knows id d vacant) serves (r.views id v at).1)
     put_back_at x serves st (claimed k) r =
         absurd (subst (λ d. Knows id d (claimed k)) serves (r.views id v at).1)
@@ -281,20 +295,20 @@ module _ {A L B : Type 0} (fits : A → L → Type 0) (answers : L → B → Typ
         absurd (subst (λ d. Knows id d (waiting k l)) serves (r.views id v at).1)
     put_back_at x serves st (taken k l m) r =
         let known : HasTaken id x (taken k l m) = subst (λ d. Knows id d (taken k l m)) serves (r.views id v at).1 in (
-          doing_view v Nothing,
+          doing_view v Tells,
           gives,
           tt,
           (
             waiting k l,
-            moved fits answers about (taken k l m) (waiting k l) s r id WAITING
-                (set s.homes 0 (some (Some (Left x)))) (doing_view v Nothing) (inl refl) (
+            moved fits answers about (taken k l m) (waiting k l) s r id CALLED
+                (set s.homes 0 (some (Some (Left x)))) (doing_view v Tells) (inr refl) (
                   ap (λ hs. set hs 0 (some (Some (Left x)))) r.home.0
                       ∙ ap (λ (y : L). some (Some (Left y)) ∷ []) (sym known.1),
                   r.home.1,
                 )
                 ((r.views id v at).0, tt) (put_back_known id k m l known.0),
           ),
-          refl,
+          ((λ _. refl), (λ _. refl)),
         )
     put_back_at x serves st (answered k l) r =
         absurd (subst (λ d. Knows id d (answered k l)) serves (r.views id v at).1)
@@ -302,40 +316,48 @@ module _ {A L B : Type 0} (fits : A → L → Type 0) (answers : L → B → Typ
   -- what the table asks of a token that claims the tray
   pub claims : (slots id : ℕ) (v : View A L) (c : List (ℕ × Option (Slip L B))) (st : TrayStep L B)
       → Allows (Ruled fits answers about) slots id (v, c) 0 (λ n. either (n == VACANT) CLAIMED n) (Claimed st (v, c))
-  claims slots id v c st s (spot, r) deep at small = exchanges s (spot, r) id v c at VACANT CLAIMED (Claimed st (v, c))
-      (claim_hit s id v at c st spot r) (λ ne. ((λ e. absurd (ne e)), (λ _. refl)))
+  claims slots id v c st s (spot, r) deep at small = exchanges s id v c VACANT CLAIMED (Claimed st (v, c))
+      (claim_hit s id v at c st spot r)
+      (λ ne. stays s id v at c v spot r (r.views id v at) (Claimed st (v, c) (slice_index s.words 0))
+      ((λ e. absurd (ne e)), (λ _. refl)))
 
   -- of one that takes the answer
   pub takes_back : (slots id : ℕ) (v : View A L) (c : List (ℕ × Option (Slip L B))) (st : TrayStep L B) (x : L)
       → v.doing ≡ Waits x
       → Allows (Ruled fits answers about) slots id (v, c) 0 (λ n. either (n == ANSWERED) CLAIMED n)
       (TakesBack answers st (v, c))
-  takes_back slots id v c st x waits s (spot, r) deep at small = exchanges s (spot, r) id v c at ANSWERED CLAIMED
-      (TakesBack answers st (v, c))
-      (take_back_hit s id v at c st x waits spot r) (λ ne y is. ((λ e. absurd (ne e)), (λ _. refl)))
+  takes_back slots id v c st x waits s (spot, r) deep at small = exchanges s id v c ANSWERED CLAIMED
+      (TakesBack answers st (v, c)) (take_back_hit s id v at c st x waits spot r)
+      (λ ne. stays s id v at c (missed_view v ANSWERED) spot r (r.views id v at)
+      (TakesBack answers st (v, c) (slice_index s.words 0)) (λ y is. ((λ e. absurd (ne e)), (λ _. refl))))
 
   -- of one that takes back what it left
   pub withdraws : (slots id : ℕ) (v : View A L) (c : List (ℕ × Option (Slip L B))) (st : TrayStep L B) (x : L)
       → v.doing ≡ Waits x → (st.first ≡ WAITING) ⊎ (st.first ≡ CALLED)
       → Allows (Ruled fits answers about) slots id (v, c) 0 (λ n. either (n == st.first) CLAIMED n)
       (Withdraws st (v, c))
-  withdraws slots id v c st x waits old s (spot, r) deep at small = exchanges s (spot, r) id v c at st.first CLAIMED
-      (Withdraws st (v, c))
-      (withdraw_hit s id v at c st x waits old spot r) (λ ne y is. ((λ e. absurd (ne e)), (λ _. refl)))
+  withdraws slots id v c st x waits old s (spot, r) deep at small = exchanges s id v c st.first CLAIMED
+      (Withdraws st (v, c)) (withdraw_hit s id v at c st x waits old spot r)
+      (λ ne. stays s id v at c (missed_view v st.first) spot r (r.views id v at)
+      (Withdraws st (v, c) (slice_index s.words 0)) (λ y is. ((λ e. absurd (ne e)), (λ _. refl))))
 
   -- of one that takes up what was left
   pub takes_up : (slots id : ℕ) (v : View A L) (c : List (ℕ × Option (Slip L B))) (st : TrayStep L B)
       → Allows (Ruled fits answers about) slots id (v, c) 0 (λ n. either (n == WAITING) TAKEN n)
       (TakesUp fits st (v, c))
-  takes_up slots id v c st s (spot, r) deep at small = exchanges s (spot, r) id v c at WAITING TAKEN
-      (TakesUp fits st (v, c))
-      (take_up_hit s id v at c st spot r) (λ ne. ((λ e. absurd (ne e)), (λ _. refl)))
+  takes_up slots id v c st s (spot, r) deep at small = exchanges s id v c WAITING TAKEN
+      (TakesUp fits st (v, c)) (take_up_hit s id v at c st spot r)
+      (λ ne. stays s id v at c (missed_view v WAITING) spot r (r.views id v at)
+      (TakesUp fits st (v, c) (slice_index s.words 0)) ((λ e. absurd (ne e)), (λ _. refl)))
 
   -- of one after which whoever left something is to take it back
   pub calls_up : (slots id : ℕ) (v : View A L) (c : List (ℕ × Option (Slip L B))) (st : TrayStep L B)
-      → Allows (Ruled fits answers about) slots id (v, c) 0 (λ n. either (n == WAITING) CALLED n) (Stays st (v, c))
-  calls_up slots id v c st s (spot, r) deep at small = exchanges s (spot, r) id v c at WAITING CALLED
-      (Stays st (v, c)) (call_up_hit s id v at c st spot r) (λ ne. refl)
+      → Allows (Ruled fits answers about) slots id (v, c) 0 (λ n. either (n == WAITING) CALLED n)
+      (CallsUp st (v, c))
+  calls_up slots id v c st s (spot, r) deep at small = exchanges s id v c WAITING CALLED
+      (CallsUp st (v, c)) (call_up_hit s id v at c st spot r)
+      (λ ne. stays s id v at c (doing_view v Tells) spot r ((r.views id v at).0, tt)
+      (CallsUp st (v, c) (slice_index s.words 0)) (λ _ _. refl))
 
   -- of one that leaves this
   pub puts_down : (slots id : ℕ) (m : Token A L B) (st : TrayStep L B) (x : L) → fits about x → m.0.doing ≡ Claims
@@ -357,17 +379,17 @@ module _ {A L B : Type 0} (fits : A → L → Type 0) (answers : L → B → Typ
   -- of one that answers what it took up
   pub gives_answer : (slots id : ℕ) (m : Token A L B) (st : TrayStep L B) (x : L) (b : B) → answers x b
       → m.0.doing ≡ Serves x → m.1 ≡ (0, Some (Back b)) ∷ []
-      → Allows (Ruled fits answers about) slots id m 0 (λ _. ANSWERED) (λ _. Parts st m ANSWERED)
+      → Allows (Ruled fits answers about) slots id m 0 (λ _. ANSWERED) (λ _. HasTold st m ANSWERED)
   gives_answer slots id (v, c) st x b good has is = subst
       (λ (d : List (ℕ × Option (Slip L B))). Allows (Ruled fits answers about) slots id (v, d) 0 (λ _. ANSWERED)
-      (λ _. Parts st (v, d) ANSWERED)) (sym is)
+      (λ _. HasTold st (v, d) ANSWERED)) (sym is)
       (λ s h deep at small. answer_at s id v at x b good has st h.0 h.1)
 
-  -- of one that puts it back
+  -- of one that puts it back, and calls up whoever left it
   pub puts_back : (slots id : ℕ) (m : Token A L B) (st : TrayStep L B) (x : L) → m.0.doing ≡ Serves x
       → m.1 ≡ (0, Some (Left x)) ∷ []
-      → Allows (Ruled fits answers about) slots id m 0 (λ _. WAITING) (λ _. Parts st m WAITING)
+      → Allows (Ruled fits answers about) slots id m 0 (λ _. CALLED) (λ _. HasTold st m CALLED)
   puts_back slots id (v, c) st x has is = subst
-      (λ (d : List (ℕ × Option (Slip L B))). Allows (Ruled fits answers about) slots id (v, d) 0 (λ _. WAITING)
-      (λ _. Parts st (v, d) WAITING)) (sym is)
+      (λ (d : List (ℕ × Option (Slip L B))). Allows (Ruled fits answers about) slots id (v, d) 0 (λ _. CALLED)
+      (λ _. HasTold st (v, d) CALLED)) (sym is)
       (λ s h deep at small. put_back_at s id v at x has st h.0 h.1)

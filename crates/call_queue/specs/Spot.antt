@@ -6,7 +6,7 @@ use mathlib.Core.Option.{some, none}
 use lib.ListN.{get_elem?}
 use Rattle.atomic_table.specs.Table.{State}
 use Rattle.call_queue.specs.declared.board.Doing.{Doing}
-use Rattle.call_queue.specs.declared.board.Doing.TheVariants.{Nothing, Claims, Waits, Serves}
+use Rattle.call_queue.specs.declared.board.Doing.TheVariants.{Nothing, Claims, Waits, Serves, Tells}
 use Rattle.call_queue.specs.declared.board.TheConstants.{VACANT, CLAIMED, WAITING, TAKEN, ANSWERED, CALLED}
 use Rattle.call_queue.specs.declared.board.View.{View}
 use Rattle.call_queue.specs.declared.slip.Slip.{Slip}
@@ -59,10 +59,11 @@ Knows id Nothing spot = Unit {0}
 Knows id Claims spot = HasClaimed id spot
 Knows id (Waits l) spot = HasLeft id l spot
 Knows id (Serves l) spot = HasTaken id l spot
+Knows id Tells spot = Unit {0}
 
 -- the view of a token that does nothing
 abbrev pub idle_view : {A L : Type 0} → A → View A L
-idle_view about = record { about = about; doing = Nothing }
+idle_view about = record { about = about; doing = Nothing; missed = [] }
 
 module _ {A L B : Type 0} (fits : A → L → Type 0) (answers : L → B → Type 0) (about : A) where
   -- the slot of a tray in this state: what was left fits, and what answers it does

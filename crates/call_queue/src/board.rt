@@ -3,6 +3,7 @@ use crate::deal::Deal;
 use crate::slip::Kept;
 use atomic_table::{Seat, Shared, Table, TableRule};
 use std::alloc::Global;
+use std::collections::LinkedList;
 use std::marker::PhantomData;
 
 /// What a token does. No value of it is made.
@@ -14,6 +15,8 @@ pub enum Doing<L> {
     Waits(L),
     /// It took this up, and is to answer it.
     Serves(L),
+    /// It has told whoever left something to act, who may sleep.
+    Tells,
 }
 
 /// What a token knows. No value of it is made.
@@ -22,6 +25,8 @@ pub struct View<A, L> {
     pub about: A,
     /// What the token does there.
     pub doing: Doing<L>,
+    /// What it looked for in the word and did not find, the last first.
+    pub missed: LinkedList<u64>,
 }
 
 /// How many words the table has: two cache lines, so that trays do not share one.

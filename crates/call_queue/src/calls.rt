@@ -1,13 +1,15 @@
 //! The calls at a queue. Whoever holds makes its own call, leaves, and goes on with those that were left with the next
 //! tickets.
-ghost use Rattle.std.specs.Prelude.{◌≡◌, ◌+◌, IfOk, IfErr};
+ghost use Rattle.std.specs.Prelude.{◌≡◌, ◌+◌, ◌%◌, ◌^◌, Some, IfOk, IfErr, IfSome};
 ghost use Rattle.ticket_lock.specs.Calls.{Draws, Enters, MayLeave, Leaves};
 ghost use Rattle.call_queue.specs.Turns.{IsHanded, EndsTurn, TakesTurn, CallsInTurn};
 
 use crate::calling::Calling;
 use crate::queue::CallQueue;
+use crate::signs::{Behind, Raised};
 use crate::tray::Tray;
 use crate::turns::Turns;
+use crate::waiting::Waiting;
 use std::sync::Wait;
 use ticket_lock::{Held, Journal, Seat, Ticket};
 
@@ -44,12 +46,25 @@ impl<T: Journal, C: Calling<T>> CallQueue<T, C> {
         requires kept { MayLeave T.stamp T.head T.entries held value }
         ensures left { Leaves T.stamp T.head T.entries held value result }
     {
-        let after = held.stamp().ticket.wrapping_add(1);
-        let left = self.lock.leave(held, value);
-        if let Some(number) = self.signs.shown(after) {
-            self.call_up(number, after);
+        let (left, behind) = self.serve(held, value);
+        if let Some(shown) = self.signs.shown(behind) {
+            self.call_up(shown);
         }
         left
+    }
+
+    // Gives the value back and serves the next ticket, which may have been left.
+    #[inline(always)]
+    pub(crate) fn serve(&self, held: Held<T>, value: T) -> (Seat<T>, Behind)
+        requires own { held.lock ≡ self.now }
+        requires kept { MayLeave T.stamp T.head T.entries held value }
+        ensures left { Leaves T.stamp T.head T.entries held value result.0 }
+        ensures behind { result.1.ticket ≡ (held.ticket + 1) % 2 ^ 64 }
+    {
+        let after = held.stamp().ticket.wrapping_add(1);
+        let left = self.lock.leave(held, value);
+        let behind = Behind::of(&left, after);
+        (left, behind)
     }
 
     /// Gives the value back and serves the next ticket, as `leave` does. Then it makes the calls that were left with
@@ -60,10 +75,9 @@ impl<T: Journal, C: Calling<T>> CallQueue<T, C> {
         requires kept { MayLeave T.stamp T.head T.entries held value }
         ensures left { Leaves T.stamp T.head T.entries held value result }
     {
-        let after = held.stamp().ticket.wrapping_add(1);
-        let back = self.lock.leave(held, value);
-        if let Some(number) = self.signs.shown(after) {
-            self.go_on(rt, number, after);
+        let (back, behind) = self.serve(held, value);
+        if let Some(shown) = self.signs.shown(behind) {
+            self.go_on(rt, shown);
         }
         back
     }
@@ -126,40 +140,63 @@ impl<T: Journal, C: Calling<T>> CallQueue<T, C> {
         let Some(tray) = self.free_tray(number) else {
             return self.take_turn(rt, ticket, call);
         };
-        if !self.signs.put_up(ticket.number(), number) {
+        let Some(raised) = self.signs.put_up(&ticket, number) else {
             return self.take_turn(rt, ticket, call);
-        }
-        match self.lock.try_enter(ticket) {
-            Ok((held, value)) => self.turn_and_go_on(rt, held, value, call),
-            Err(ticket) => self.wait_at(rt, tray, ticket, call),
+        };
+        let looked = self.lock.try_enter(ticket);
+        match looked {
+            Ok((held, value)) => {
+                raised.is_served(&held);
+                self.turn_and_go_on(rt, held, value, call)
+            }
+            Err(ticket) => self.wait_at(rt, tray, raised, (ticket, call)),
         }
     }
 
     // Leaves the ticket with the call on this tray, and waits until the turn was taken, or takes it. Its sign was put
-    // up.
+    // up, and then the ticket was looked at once more.
     fn wait_at<R: Wait>(
         &self,
         rt: &R,
         tray: &Tray<Turns<T, C>>,
-        ticket: Ticket<T>,
-        call: C::Call,
+        raised: Raised<T>,
+        left: (Ticket<T>, C::Call),
     ) -> (Seat<T>, C::Reply)
-        requires own { ticket.lock ≡ self.now }
+        requires own { left.0.lock ≡ self.now }
         requires tray { tray.now.about.value ≡ self.now }
-        ensures turn { TakesTurn T.stamp T.head T.entries C.made call result.1 ticket result.0 }
+        requires looked { left.0 ≡ record raised.at.value { looks = raised.at.value.looks + 1 } }
+        ensures turn { TakesTurn T.stamp T.head T.entries C.made left.1 result.1 left.0 result.0 }
     {
-        let residue = ticket.number();
-        match tray.leave((ticket, call)) {
-            Ok(waiting) => {
-                if self.signs.shown(residue).is_none() {
-                    tray.call_up();
-                }
-                match tray.wait(rt, waiting) {
-                    Ok(back) => back,
-                    Err((ticket, call)) => self.take_turn(rt, ticket, call),
-                }
+        match tray.leave(left) {
+            Ok(waiting) => match self.wait_seen(rt, tray, raised, waiting) {
+                Ok(back) => back,
+                Err((ticket, call)) => self.take_turn(rt, ticket, call),
+            },
+            Err((ticket, call)) => {
+                let (held, value) = self.lock.enter(rt, ticket);
+                raised.is_served(&held);
+                self.turn_and_go_on(rt, held, value, call)
             }
-            Err((ticket, call)) => self.take_turn(rt, ticket, call),
+        }
+    }
+
+    // Waits until what was left is answered, or to be taken back. Where its sign is down by now, no holder looks for
+    // it: it is taken back at once, if nobody has taken it up.
+    fn wait_seen<R: Wait>(
+        &self,
+        rt: &R,
+        tray: &Tray<Turns<T, C>>,
+        raised: Raised<T>,
+        waiting: Waiting<Turns<T, C>>,
+    ) -> Result<(Seat<T>, C::Reply), (Ticket<T>, C::Call)>
+        requires own { waiting.tray ≡ tray.now }
+        ensures answered { IfOk result (λ b. IfSome waiting.left
+            (λ l. TakesTurn T.stamp T.head T.entries C.made l.1 b.1 l.0 b.0)) }
+        ensures left { IfErr result (λ l. waiting.left ≡ Some l) }
+    {
+        match self.signs.ask(raised, waiting) {
+            Ok(unseen) => tray.wait(rt, unseen),
+            Err(seen) => tray.withdraw_or_wait(rt, seen),
         }
     }
 

@@ -13,9 +13,12 @@ mod slip;
 mod tray;
 mod turns;
 mod waiting;
+mod waking;
 
 pub use calling::Calling;
 pub use deal::Deal;
 pub use queue::CallQueue;
-pub use tray::{Serving, Tray, Waiting};
+pub use tray::{Missed, Serving, Tray};
 pub use turns::Turns;
+pub use waiting::Waiting;
+pub use waking::WakeDue;

@@ -1,12 +1,16 @@
 //! How a holder goes on: it makes the calls that were left with the next tickets, at most 64 of them, each by the seat
 //! that left it and in the order of the tickets.
-ghost use Rattle.std.specs.Prelude.{◌≡◌, ◌+◌, ◌%◌, ◌^◌, Some, IfSome};
+ghost use Rattle.std.specs.Prelude.{◌≡◌, ◌+◌, ◌%◌, ◌^◌, IfSome};
+ghost use Rattle.std.specs.Int.RustNames.{bit_or};
+ghost use Rattle.call_queue.specs.Tokens.{IsTaken};
 ghost use Rattle.call_queue.specs.Turns.{IsHanded, EndsTurn};
 
 use crate::calling::Calling;
 use crate::queue::CallQueue;
+use crate::signs::{Behind, Shown};
 use crate::tray::{Serving, Tray};
 use crate::turns::Turns;
+use crate::waking::WakesDue;
 use std::sync::Wait;
 use ticket_lock::{Held, Journal, Seat, Ticket};
 
@@ -26,15 +30,22 @@ impl<T: Journal, C: Calling<T>> CallQueue<T, C> {
     // Makes a call by the seat that holds, and leaves. Calls of seats that waited are made here, with a handle of
     // another type than theirs: so the compiler has two functions, and each is put into the one place that calls it.
     #[inline(never)]
-    fn turn<R: Wait>(&self, rt: &R, held: Held<T>, value: T, call: C::Call) -> (Seat<T>, C::Reply)
+    fn turn<R: Wait>(
+        &self,
+        rt: &R,
+        held: Held<T>,
+        value: T,
+        call: C::Call,
+    ) -> (Seat<T>, C::Reply, Behind)
         requires own { held.lock ≡ self.now }
         requires handed { IsHanded T.head T.entries held value }
         ensures ended { EndsTurn T.stamp T.head T.entries C.made call result.1 held value result.0 }
+        ensures behind { result.2.ticket ≡ (held.ticket + 1) % 2 ^ 64 }
     {
         let mut value = value;
         let reply = C::make(&rt, &held, &mut value, call);
-        let seat = self.lock.leave(held, value);
-        (seat, reply)
+        let (seat, behind) = self.serve(held, value);
+        (seat, reply, behind)
     }
 
     // Makes a call by the seat that holds, which had to wait, and leaves. Then it makes those that were left behind it.
@@ -49,52 +60,67 @@ impl<T: Journal, C: Calling<T>> CallQueue<T, C> {
         requires handed { IsHanded T.head T.entries held value }
         ensures ended { EndsTurn T.stamp T.head T.entries C.made call result.1 held value result.0 }
     {
-        let after = held.stamp().ticket.wrapping_add(1);
-        let back = self.turn(rt, held, value, call);
-        if let Some(number) = self.signs.shown(after) {
-            self.go_on(rt, number, after);
+        let (back, reply, behind) = self.turn(rt, held, value, call);
+        if let Some(shown) = self.signs.shown(behind) {
+            self.go_on(rt, shown);
         }
-        back
+        (back, reply)
     }
 
-    // Makes the call of the seat with this number, whose sign is up for this ticket, which is served, and those behind
-    // it. If the call was not left yet, its seat makes it by itself.
+    // Makes the call of the seat whose sign is up for a ticket that is served, and those behind it. If the call was not
+    // left yet, its seat makes it by itself.
     #[inline(never)]
-    pub(crate) fn go_on<R: Wait>(&self, rt: &R, number: u32, ticket: u64) {
-        if let Some(taken) = self.take_or_call_up(number, ticket) {
+    pub(crate) fn go_on<R: Wait>(&self, rt: &R, shown: Shown) {
+        if let Some(taken) = self.take_or_call_up(shown) {
             self.call_for_others(rt, taken);
         }
     }
 
-    // Takes up what the seat with this number left, if that is this ticket, which is served, or calls that seat up.
-    fn take_or_call_up(&self, number: u32, ticket: u64) -> Option<Taken<'_, T, C>>
+    // Takes up what the seat that put up this sign left, if that is its ticket, which is served, or calls that seat up.
+    fn take_or_call_up(&self, shown: Shown) -> Option<Taken<'_, T, C>>
         ensures taken { IfSome result (λ t. (t.ticket.lock ≡ self.now)
-            × (t.serving ≡ record { tray = t.tray.now; left = Some (t.ticket, t.call) })) }
-        ensures next { IfSome result (λ t. t.ticket.ticket % 2 ^ 64 ≡ ticket) }
+            × IsTaken t.serving t.tray.now (t.ticket, t.call)) }
+        ensures next { IfSome result (λ t. t.ticket.ticket % 2 ^ 64 ≡ shown.ticket) }
     {
-        match self.take_up(number, ticket) {
-            Some(taken) => Some(taken),
-            None => {
-                self.call_up(number, ticket);
+        let Some(tray) = self.tray(shown.number()) else {
+            self.signs.take_down(shown);
+            return None;
+        };
+        match tray.take_up() {
+            Ok((left, serving)) => self.keep_or_put_back(shown, tray, left, serving),
+            Err(missed) => {
+                self.signs.take_down(shown);
+                let due = tray.call_up_missed(missed);
+                tray.wake(due);
                 None
             }
         }
     }
 
-    // Takes up what the seat with this number left, if that is this ticket, which is served. If not, that seat is to be
-    // called up: what it left with a later ticket is put back, and a holder may have looked for it meanwhile.
-    fn take_up(&self, number: u32, ticket: u64) -> Option<Taken<'_, T, C>>
+    // Keeps what was taken up, if that is the ticket of this sign. If not, that seat is called up: a holder may have
+    // looked meanwhile for what it left with a later ticket.
+    fn keep_or_put_back<'a>(
+        &'a self,
+        shown: Shown,
+        tray: &'a Tray<Turns<T, C>>,
+        left: (Ticket<T>, C::Call),
+        serving: Serving<Turns<T, C>>,
+    ) -> Option<Taken<'a, T, C>>
+        requires own { left.0.lock ≡ self.now }
+        requires taken { IsTaken serving tray.now left }
         ensures taken { IfSome result (λ t. (t.ticket.lock ≡ self.now)
-            × (t.serving ≡ record { tray = t.tray.now; left = Some (t.ticket, t.call) })) }
-        ensures next { IfSome result (λ t. t.ticket.ticket % 2 ^ 64 ≡ ticket) }
+            × IsTaken t.serving t.tray.now (t.ticket, t.call)) }
+        ensures next { IfSome result (λ t. t.ticket.ticket % 2 ^ 64 ≡ shown.ticket) }
     {
-        let tray = self.tray(number)?;
-        let (left, serving) = tray.take_up()?;
-        if left.0.number() != ticket {
-            tray.put_back(serving, left);
+        let (ticket, call) = left;
+        let number = shown.number();
+        if ticket.number() != shown.ticket() {
+            self.signs.take_down(shown);
+            let due = tray.put_back(serving, (ticket, call));
+            tray.wake(due);
             return None;
         }
-        let (ticket, call) = left;
+        shown.is_taken_up(&serving);
         Some(Taken {
             tray,
             number,
@@ -104,19 +130,19 @@ impl<T: Journal, C: Calling<T>> CallQueue<T, C> {
         })
     }
 
-    // Has the seat with this number, whose sign was up for this ticket, which is served, take its turn by itself.
-    pub(crate) fn call_up(&self, number: u32, ticket: u64) {
-        self.signs.take_down(ticket, number);
+    // Has the seat that put up this sign, whose ticket is served, take its turn by itself.
+    pub(crate) fn call_up(&self, shown: Shown) {
+        let number = shown.number();
+        self.signs.take_down(shown);
         if let Some(tray) = self.tray(number) {
-            tray.call_up();
-            tray.wake();
+            let due = tray.call_up();
+            tray.wake(due);
         }
     }
 
     // Puts back what was taken up, whose ticket is served: its seat goes on by itself.
     fn give_back(&self, taken: Taken<'_, T, C>)
-        requires taken { taken.serving
-            ≡ record { tray = taken.tray.now; left = Some (taken.ticket, taken.call) } }
+        requires taken { IsTaken taken.serving taken.tray.now (taken.ticket, taken.call) }
     {
         let Taken {
             tray,
@@ -125,67 +151,68 @@ impl<T: Journal, C: Calling<T>> CallQueue<T, C> {
             call,
             serving,
         } = taken;
-        tray.put_back(serving, (ticket, call));
-        tray.call_up();
-        tray.wake();
+        let due = tray.put_back(serving, (ticket, call));
+        tray.wake(due);
     }
 
-    // Makes the call that was taken up, whose ticket is served, by its own seat, and answers it. What was left with the
-    // next ticket, if it was.
-    fn make_next<'a, R: Wait>(&'a self, rt: &R, taken: Taken<'a, T, C>) -> Option<Taken<'a, T, C>>
+    // Makes the call that was taken up, whose ticket is served, by its own seat, and answers it: its wake is due then.
+    // What was left with the next ticket, if it was.
+    fn make_next<'a, R: Wait>(
+        &'a self,
+        rt: &R,
+        taken: Taken<'a, T, C>,
+        wakes: &mut WakesDue,
+    ) -> Option<Taken<'a, T, C>>
         requires own { taken.ticket.lock ≡ self.now }
-        requires taken { taken.serving
-            ≡ record { tray = taken.tray.now; left = Some (taken.ticket, taken.call) } }
+        requires taken { IsTaken taken.serving taken.tray.now (taken.ticket, taken.call) }
         ensures taken { IfSome result (λ t. (t.ticket.lock ≡ self.now)
-            × (t.serving ≡ record { tray = t.tray.now; left = Some (t.ticket, t.call) })) }
+            × IsTaken t.serving t.tray.now (t.ticket, t.call)) }
         ensures next { IfSome result (λ t.
-            t.ticket.ticket % 2 ^ 64 ≡ (taken.entry.ticket.ticket % 2 ^ 64 + 1) % 2 ^ 64) }
+            t.ticket.ticket % 2 ^ 64 ≡ (taken.entry.ticket.ticket + 1) % 2 ^ 64) }
+        ensures due { wakes.new.seats ≡ bit_or wakes.old.seats (2 ^ (taken.entry.number % 64)) }
     {
         let Taken {
             tray,
-            number: _,
+            number,
             ticket,
             call,
             serving,
         } = taken;
-        let after = ticket.number().wrapping_add(1);
         let (held, value) = self.lock.enter(rt, ticket);
-        let (seat, reply) = self.turn(rt, held, value, call);
-        tray.answer(serving, (seat, reply));
-        let number = self.signs.shown(after)?;
-        self.take_or_call_up(number, after)
+        let (seat, reply, behind) = self.turn(rt, held, value, call);
+        let due = tray.answer(serving, (seat, reply));
+        wakes.add(due, number);
+        let shown = self.signs.shown(behind)?;
+        self.take_or_call_up(shown)
     }
 
     // Makes the calls that were left with the next tickets, at most so many, and then wakes those who sleep.
     fn call_for_others<'a, R: Wait>(&'a self, rt: &R, first: Taken<'a, T, C>)
         requires own { first.ticket.lock ≡ self.now }
-        requires taken { first.serving
-            ≡ record { tray = first.tray.now; left = Some (first.ticket, first.call) } }
+        requires taken { IsTaken first.serving first.tray.now (first.ticket, first.call) }
     {
         let mut taken = first;
-        let mut answered = 0;
+        let mut wakes = WakesDue::none();
         for _ in 0..MOST_CALLS {
-            answered |= 1 << (taken.number % 64);
-            match self.make_next(rt, taken) {
+            match self.make_next(rt, taken, &mut wakes) {
                 Some(next) => taken = next,
                 None => {
-                    self.wake(answered);
+                    self.wake(wakes);
                     return;
                 }
             }
         }
         self.give_back(taken);
-        self.wake(answered);
+        self.wake(wakes);
     }
 
-    // Wakes those of these seats who sleep. Bit i is that of seat i.
-    fn wake(&self, seats: u64) {
-        let mut seats = seats;
-        for _ in 0..seats.count_ones() {
-            if let Some(tray) = self.tray(seats.trailing_zeros()) {
-                tray.wake();
-            }
-            seats &= seats.wrapping_sub(1);
+    // Wakes each of these seats, if it sleeps.
+    fn wake(&self, wakes: WakesDue) {
+        let mut wakes = wakes;
+        while !wakes.is_none() {
+            let waking = wakes.take();
+            self.rouse(waking);
         }
+        wakes.end();
     }
 }

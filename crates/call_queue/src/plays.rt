@@ -5,8 +5,7 @@ use crate::slip::Kept;
 use atomic_table::Play;
 use std::marker::PhantomData;
 
-/// A step that changes nothing of the token: a load by a new one, or a compare-exchange after which whoever left
-/// something is to take it back.
+/// A load by a new token, which does nothing yet.
 pub struct Stay;
 
 impl<A, L, B> Play<Option<Kept<L, B>>, View<A, L>> for Stay {
@@ -40,6 +39,24 @@ impl<A, L, B> Play<Option<Kept<L, B>>, View<A, L>> for Part {
     ghost use Rattle.call_queue.specs.Plays.{Parts};
 
     ghost then = { Parts };
+}
+
+/// A store by which a token gives the slot back, and tells whoever left something to act: it is answered, or called up.
+pub struct Tell;
+
+impl<A, L, B> Play<Option<Kept<L, B>>, View<A, L>> for Tell {
+    ghost use Rattle.call_queue.specs.Plays.{HasTold};
+
+    ghost then = { HasTold };
+}
+
+/// A compare-exchange after which whoever left something, if it was not taken up, is to take it back.
+pub struct CallUp;
+
+impl<A, L, B> Play<Option<Kept<L, B>>, View<A, L>> for CallUp {
+    ghost use Rattle.call_queue.specs.Plays.{CallsUp};
+
+    ghost then = { CallsUp };
 }
 
 /// A compare-exchange by which a token that left something takes that back.

@@ -7,7 +7,7 @@ use Rattle.json.proofs.Grammar.{read_key-shorter}
 use Rattle.serde_json.specs.Data.{Data, Members, no_members, object, put, string, number, unsigned}
 use Rattle.serde_json.specs.Find.{get}
 use Rattle.serde_json.specs.Read.{of_json, converted}
-use Rattle.sched_history.specs.declared.call.Call.{Call}
+use Rattle.sched_calls.specs.declared.call.Call.{Call}
 use Rattle.json_fields.proofs.PlainValues.{member_read, members_over, object_read, string_read, unsigned_read}
 use Rattle.serde_json.proofs.Numbers.{number_of-decimal}
 use Rattle.call_reading.specs.Calls.{call_of}

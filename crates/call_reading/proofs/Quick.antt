@@ -7,14 +7,8 @@ use Rattle.json.specs.Json.{read_key, after_end_array, members, value}
 use Rattle.json.proofs.Grammar.{value_is}
 use Rattle.serde_json.specs.Data.{Data, no_members, put}
 use Rattle.serde_json.specs.Read.{of_json, of_members, converted}
-use Rattle.sched_history.specs.declared.call.Call.{Call}
 use Rattle.json_fields.proofs.PlainValues.{member_read, members_over, read_as}
 use Rattle.json_fields.specs.Usual.{read_tokens}
-use Rattle.call_reading.specs.Calls.{call_of}
-
--- the value stands for the call
-abbrev pub StandFor : Data → Call → Type 0
-StandFor d call = call_of d ≡ Some call
 
 abbrev IsThere : {A : Type 0} → Option A → Type 0
 IsThere None = ⊥

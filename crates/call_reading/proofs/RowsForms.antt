@@ -1,8 +1,8 @@
 -- The readers of a flow and of a call take the objects of their forms and no others.
 use Rattle.std.proofs.Common.{◌≡◌, ℕ, ◌-◌, ◌^◌, true, is_some, codes, List, take, drop, Some, None, refl}
 use Rattle.serde_json.specs.Data.{Data, null, object, number, unsigned, string, Members, put, no_members}
-use Rattle.map_build.specs.declared.opportunity.Usage.TheVariants.{Initial, Station}
-use Rattle.sched_history.specs.declared.call.Call.TheVariants.{Reserve}
+use Rattle.sched_calls.specs.declared.opportunity.Usage.TheVariants.{Initial, Station}
+use Rattle.sched_calls.specs.declared.call.Call.TheVariants.{Reserve}
 use Rattle.json_fields.specs.declared.forms.Sort.{Sort}
 use Rattle.json_fields.specs.declared.forms.TheConstants.{CALLS, FLOWS}
 use Rattle.json_fields.specs.Fields.{u8_or, u8_at, u16_at, u32_at, u64_at, number_at, text_at}

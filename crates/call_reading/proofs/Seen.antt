@@ -6,9 +6,9 @@ use Rattle.std.specs.Borrow.{Bor}
 use Rattle.std.specs.Prelude.{codes, if◌then◌else◌}
 use Rattle.serde_json.specs.Data.{Data, number, unsigned, string, object, Members, put}
 use Rattle.serde_json.specs.Find.{get_member, as_str}
-use Rattle.flow_book.specs.declared.spec.FlowSpec.{FlowSpec}
-use Rattle.sched_history.specs.declared.call.Call.{Call}
-use Rattle.sched_history.specs.declared.call.Call.TheVariants.{Admit, Header}
+use Rattle.sched_calls.specs.declared.spec.FlowSpec.{FlowSpec}
+use Rattle.sched_calls.specs.declared.call.Call.{Call}
+use Rattle.sched_calls.specs.declared.call.Call.TheVariants.{Admit, Header}
 use Rattle.json_fields.specs.Fields.{◌>>=◌, u8_at, u16_at, u32_at, u64_at, number_at, text_at, below}
 use Rattle.json_fields.proofs.PlainValues.{found_at}
 use Rattle.call_reading.specs.declared.found.Found.{Found}

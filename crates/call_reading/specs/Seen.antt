@@ -3,12 +3,12 @@ use Rattle.std.specs.Prelude.{◌≡◌, ℕ, ◌^◌, ◌||◌, Bool, false, Li
 use Rattle.std.specs.Prelude.{option_map, is_some}
 use Rattle.serde_json.specs.Data.{Data, Members}
 use Rattle.serde_json.specs.Find.{get_member, as_str, as_number, as_u64}
-use Rattle.flow_book.specs.declared.spec.FlowSpec.{FlowSpec}
-use Rattle.sched_history.specs.declared.call.Call.{Call}
-use Rattle.sched_history.specs.declared.call.Call.TheVariants.{Admit, Remove, Ask, Heard, Build, Skip, Status}
-use Rattle.sched_history.specs.declared.call.Call.TheVariants.{Reserve, Header}
-use Rattle.map_build.specs.declared.opportunity.Usage.{Usage}
-use Rattle.map_build.specs.declared.opportunity.Usage.TheVariants.{Initial, Station}
+use Rattle.sched_calls.specs.declared.spec.FlowSpec.{FlowSpec}
+use Rattle.sched_calls.specs.declared.call.Call.{Call}
+use Rattle.sched_calls.specs.declared.call.Call.TheVariants.{Admit, Remove, Ask, Heard, Build, Skip, Status}
+use Rattle.sched_calls.specs.declared.call.Call.TheVariants.{Reserve, Header}
+use Rattle.sched_calls.specs.declared.opportunity.Usage.{Usage}
+use Rattle.sched_calls.specs.declared.opportunity.Usage.TheVariants.{Initial, Station}
 use Rattle.json_fields.specs.Fields.{◌>>=◌, below}
 use Rattle.call_reading.specs.declared.found.Found.{Found}
 use Rattle.call_reading.specs.declared.found.Ranging.{Ranging}

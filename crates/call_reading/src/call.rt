@@ -6,8 +6,7 @@ ghost use Rattle.call_reading.specs.Calls.{status_call, usage_of, reserve_call, 
 
 use super::flow::flow_of;
 use json_fields::{Tree, member, number_u8, number_u16, number_u32, number_u64, text};
-use map_build::{Header, Usage};
-use sched_history::Call;
+use sched_calls::{Call, Header, Usage};
 
 #[tactic(auto, unfolding(crate::specs::Calls::admit_call))]
 fn admit_call<T: Tree>(value: &T) -> Option<Call>

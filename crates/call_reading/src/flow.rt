@@ -3,8 +3,8 @@
 ghost use Rattle.std.specs.Prelude.{◌≡◌};
 ghost use Rattle.call_reading.specs.Calls.{unsolicited_of, polled_of, best_effort_of, flow_of};
 
-use flow_book::FlowSpec;
 use json_fields::{Tree, number_u8, number_u8_or, number_u32, text};
+use sched_calls::FlowSpec;
 
 // The grants in an interval are one where the key is missing.
 #[tactic(auto, unfolding(crate::specs::Calls::unsolicited_of))]

@@ -6,9 +6,7 @@ ghost use Rattle.call_reading.specs.Seen.{nothing, seen_of, seen_admit, seen_rem
 ghost use Rattle.call_reading.specs.Seen.{seen_skip, seen_status, seen_usage, seen_reserve, seen_header, seen_call};
 ghost use Rattle.call_reading.specs.Seen.{ranging_in};
 
-use flow_book::FlowSpec;
-use map_build::{Header, Usage};
-use sched_history::Call;
+use sched_calls::{Call, FlowSpec, Header, Usage};
 
 /// What was found under each key that only a call of ranging may have. A number that is too great is none.
 #[derive(Clone, Copy)]

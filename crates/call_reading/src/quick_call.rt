@@ -1,5 +1,4 @@
-//! A call of the usual spelling, read from its bytes: without escapes, with no space but one behind a comma or a colon,
-//! and with no member that no call has.
+//! A call of the usual spelling, read from its bytes: without escapes, and with no member that no call has.
 
 ghost use Rattle.std.specs.Prelude.{◌≡◌, ◌<◌, ℕ, codes, Some, None, IfOk, OnOk, length, option_map};
 ghost use Rattle.std.specs.Bool.{MatchBool};
@@ -19,7 +18,7 @@ use super::found::{Found, Ranging, made, to_u8};
 use super::usual_call::usual_call;
 use byte_tokens::Quick;
 use json_fields::{Plain, Stop};
-use sched_history::Call;
+use sched_calls::Call;
 use std::alloc::Global;
 
 // The most members of an object in which no other stands.

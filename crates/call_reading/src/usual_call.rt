@@ -12,7 +12,7 @@ ghost use Rattle.call_reading.specs.Made.{MakesCall};
 use super::field::Field;
 use super::found::{Found, ask, build, heard, remove, status};
 use byte_tokens::Quick;
-use sched_history::Call;
+use sched_calls::Call;
 
 // The number of the field whose key is spelled so, if it is next.
 #[inline(always)]

@@ -1,3 +1,5 @@
+pub mod HistoryTold
+mod FaultFound
 mod Failing
 mod Fronts
 mod FirstLines

@@ -6,7 +6,7 @@ use Rattle.std.specs.Prelude.{◌⊎◌, if◌then◌else◌}
 use Rattle.std.proofs.lemmas.Bool.{cases_lt}
 use Rattle.std.proofs.lemmas.List.{append-nil, take_all, take-append-le}
 use Rattle.std.proofs.lemmas.List.Elements.{filter-append}
-use Rattle.sched_history.specs.declared.call.Call.{Call}
+use Rattle.sched_calls.specs.declared.call.Call.{Call}
 use Rattle.line_stream.specs.declared.Told.{Told}
 use Rattle.line_stream.specs.Told.{AtHand, HasEnded, TellsNext}
 use Rattle.live_command.specs.declared.fault.LineFault.{LineFault}

@@ -5,7 +5,7 @@ use Rattle.text_stream.specs.declared.fault.TextFault.TheVariants.{Input, Memory
 use Rattle.text_stream.specs.declared.run_fault.RunFault.{RunFault}
 use Rattle.text_stream.specs.declared.run_fault.RunFault.TheVariants.{Text}
 use Rattle.journal_entries.specs.End.{StopsCommand}
-use Rattle.sched_check.specs.Check.{Checks, StopsCheck}
+use Rattle.check_lines.specs.Document.{Checks, StopsCheck}
 use Rattle.check_lines.specs.declared.kind.FileKind.{FileKind}
 use Rattle.check_lines.specs.declared.kind.FileKind.TheVariants as kind
 use Rattle.check_lines.specs.declared.verdict.Verdict.{Verdict}

@@ -1,4 +1,9 @@
 pub mod Front
+pub mod DocumentKind
+pub mod Found
+pub mod Finding
+pub mod Document
+pub mod Report
 pub mod Kind
 pub mod Bad
 pub mod Text

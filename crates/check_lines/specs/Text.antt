@@ -2,7 +2,7 @@
 use Rattle.std.specs.Prelude.{ℕ, ◌-◌, ◌==◌, nat_le, if◌then◌else◌, List, [], ◌∷◌, ◌++◌, codes, Option, None, Some}
 use Rattle.text_stream.specs.declared.fault.TextFault.{TextFault}
 use Rattle.sched_lines.specs.Line.{number_text, number_line}
-use Rattle.sched_check.specs.Found.{fault_text}
+use Rattle.check_lines.specs.Found.{fault_text}
 use Rattle.journal_entries.specs.declared.end.EntriesEnd.{EntriesEnd}
 use Rattle.journal_entries.specs.declared.end.EntriesEnd.TheVariants.{Legal, Illegal, Bad}
 use Rattle.live_command.specs.Spoken.{fault_words}

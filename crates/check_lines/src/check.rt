@@ -7,8 +7,9 @@ ghost use Rattle.check_lines.specs.Front.{unread_of, failed_of};
 ghost use Rattle.check_lines.specs.Check.{ChecksDocument, ChecksAsJournal, ChecksAs, StopsAs, ChecksAny, StopsAny};
 ghost use Rattle.check_lines.specs.Live.{ChecksLive, StopsLive, TextOfLive};
 ghost use Rattle.journal_entries.specs.End.{StopsCommand};
-ghost use Rattle.sched_check.specs.Check.{StopsCheck};
+ghost use Rattle.check_lines.specs.Document.{StopsCheck};
 
+use crate::document::run_check;
 use crate::front::Front;
 use crate::journal::{JournalReport, read_journal};
 use crate::kind::{FileKind, kind_of_front};
@@ -17,11 +18,11 @@ use crate::text::{put_faulty, put_journal, put_talk};
 use crate::verdict::Verdict;
 use crate::words::words_on_front;
 use journal_entries::EntriesEnd;
-use sched_check::run_check;
 use std::alloc::{AllocError, Global};
 use text_stream::{RunFault, Sink, Source, TextFault};
 
 // The check of a document.
+#[inline(never)]
 fn check_document<R: Source, W: Sink>(
     alloc: Global,
     reader: &mut R,
@@ -51,6 +52,7 @@ fn words_of(alloc: Global, report: JournalReport, front: &[u8]) -> Result<String
 }
 
 // The check of a journal.
+#[inline(never)]
 fn check_journal<R: Source, W: Sink>(
     alloc: Global,
     reader: &mut Front<R>,
@@ -89,6 +91,7 @@ fn put_live<W: Sink>(writer: &mut W, report: &LiveReport) -> Result<(), TextFaul
 }
 
 // The check of the input of a conversation.
+#[inline(never)]
 fn check_live<R: Source, W: Sink>(
     alloc: Global,
     reader: &mut R,

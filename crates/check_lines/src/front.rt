@@ -41,6 +41,7 @@ impl<R: Source> Front<R> {
     }
 
     /// Reads on until 196608 bytes are at hand, or all where there are fewer; they are given again.
+    #[inline(never)]
     pub(crate) fn look(&mut self) -> Result<(), TextFault>
         ensures same { OnOk result
             (Keeps (unread_of R.remaining self.old) (unread_of R.remaining self.new)) }

@@ -2,6 +2,7 @@
 //! nothing is left to flush.
 
 use crate::check::run_check_any;
+use crate::document::run_check;
 use crate::front::Front;
 use crate::verdict::Verdict;
 use std::io;
@@ -12,6 +13,15 @@ pub fn check_any_input(rt: &(impl Input + Print + AllocGlobal)) -> Result<Verdic
     run_check_any(
         rt.alloc(),
         &mut Front::new(rt.alloc(), Watched::new(rt.reader())),
+        &mut Watched::new(io::writer(rt)),
+    )
+}
+
+/// The command `check` on a document: the fault by which the command for such a file would end, if any.
+pub fn check_input(rt: &(impl Input + Print + AllocGlobal)) -> Result<Option<RunFault>, RunFault> {
+    run_check(
+        rt.alloc(),
+        &mut Watched::new(rt.reader()),
         &mut Watched::new(io::writer(rt)),
     )
 }

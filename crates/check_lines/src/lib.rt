@@ -1,8 +1,12 @@
-//! What the program finds in any file that it is to read: in a document, as the check of a document does, and in a
-//! journal or in the lines of a conversation, which are read one by one, with the number of each line that is wrong.
+//! What the program finds in any file that it is to read: in a document, a script, the script of a storm or a history,
+//! the fault that the command for it would end by, or what it has, and words on it; and in a journal or in the lines of
+//! a conversation, which are read one by one, the number of each line that is wrong.
 #![tactic(auto)]
 
 mod check;
+mod document;
+mod document_kind;
+mod finding;
 mod front;
 mod input;
 mod journal;
@@ -10,11 +14,13 @@ mod kind;
 mod lines;
 mod live;
 mod opening;
+mod report;
 mod text;
 mod verdict;
 mod words;
 
 pub use check::run_check_any;
+pub use document::run_check;
 pub use front::Front;
-pub use input::check_any_input;
+pub use input::{check_any_input, check_input};
 pub use verdict::Verdict;

@@ -157,7 +157,7 @@ pub(crate) fn read_live<R: Source>(alloc: Global, reader: &mut R) -> Result<Live
     ensures failed { FailsBy TextFault.Input result
         (R.has_failed reader.old) (R.has_failed reader.new) }
 {
-    let mut lines = Lines::new();
+    let mut lines = Lines::new(alloc)?;
     let mut scratch = Scratch::new(alloc);
     match read_opening(alloc, &mut scratch, &mut lines, reader) {
         Ok(Opening::Lawful(number)) => {

@@ -6,10 +6,10 @@ ghost use Rattle.check_lines.specs.Text.{text_line, torn_text, good_text, legal_
 ghost use Rattle.check_lines.specs.Text.{place_text, opening_text};
 ghost use Rattle.check_lines.specs.Text.{bad_line_text, bad_text, more_text, talk_text};
 
+use crate::document::put_fault;
 use crate::live::MOST;
 use journal_entries::EntriesEnd;
 use live_command::LineFault;
-use sched_check::put_fault;
 use sched_lines::{put_named, put_number};
 use text_stream::{Sink, TextFault, put};
 

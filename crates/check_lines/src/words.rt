@@ -89,7 +89,7 @@ pub(crate) fn words_on_illegal(alloc: Global, place: u64) -> Result<String, Allo
 
 /// The words on a journal whose first bytes begin with no lawful configuration.
 pub(crate) fn words_on_front(alloc: Global, front: &[u8]) -> Result<String, AllocError> {
-    let (mut lines, mut reader) = (Lines::new(), front);
+    let (mut lines, mut reader) = (Lines::new(alloc)?, front);
     match lines.next_whole(&mut reader) {
         Ok(Whole::Line) if !is_spoken(lines.line()) => words_on_no_entry(alloc, 0, Some(b"")),
         Ok(Whole::Line) => words_on_config(alloc, 1, lines.line()),

@@ -11,33 +11,32 @@ pub const STATUSES: &str = "Exit statuses:
   3  the input is wrong: `input failed`, `input too long` (above 16777216 bytes),
      `not json`, `bad script at N` (0: the document or its configuration, else
      the call or entry, from 1), `bad config N` (the field's number in README.md);
-     `mapsched check` tells where the fault is, and what was expected there
+     `mapsched check` shows where the fault is, and what was expected there
   4  the machine failed: `out of memory`, `output failed`, `no thread`; the journal
      of `live` failed, or is in use
 
-`mapsched help COMMAND` tells what a command reads and prints, with an example.";
+`mapsched help COMMAND` shows what a command reads and prints, with an example.";
 
 /// The command that runs a script.
-pub const RUN: &str =
-    r#"Reads from standard input, in JSON: {"config": {..}, "calls": [..]}. README.md
-has the fields of the configuration and of each call.
+pub const RUN: &str = r#"Reads from standard input, in JSON: {"config": {..}, "calls": [..]}.
+docs/REFERENCE.md has the fields of the configuration and of each call.
 
 Prints a line for each call, in order: `admitted` (and the places of a periodic
 flow), `removed`, `taken`, `noted`, `map` and the payload in hexadecimal,
 `skipped` and the start of the next frame, `flow` and the bytes asked, granted
 and outstanding; `refused`, a number and a value; or `history full` or `out of
 memory`, where the call was not recorded. With --explain the meaning of a refusal
-stands behind it:
+follows it:
   refused 12 800  # too far: the next frame starts at 800, and what is heard lies
   before it
-With --history calls that were not recorded are left out, and standard error tells
-how many; so they are with --journal, which prints the same history in lines: the
-first is {"config": {..}}, and each later one an entry. With --frames behind `map`
-stands the whole MAC management message, from the address 02:00:00:00:00:01, in place
-of its payload.
+With --history calls that were not recorded are left out, and standard error says
+how many; the same holds for --journal, which prints the same history in lines: the
+first is {"config": {..}}, and each later one an entry. With --frames `map` is
+followed by the whole MAC management message, from the address 02:00:00:00:00:01,
+in place of its payload.
 
 Exit statuses: 0, or 2 for the command line, 3 for the input, 4 for the machine.
-Where a script is bad, `mapsched check` tells where, and what was expected there.
+Where a script is bad, `mapsched check` shows where, and what was expected there.
 
 Example:
   ./mapsched run < examples/two_maps.json"#;
@@ -49,15 +48,15 @@ pub const PCAP: &str =
 Writes a capture in the classic form of pcap with nanoseconds, link type DOCSIS
 (143): put it into a file, and open that in Wireshark. It has the MAC management
 message of each MAP, at the time at which its frame starts, counted from minislot 0.
-Standard error tells how many calls were not recorded.
+Standard error says how many calls were not recorded.
 
 --mac 02:00:00:00:00:01 is the sender's address, six bytes in hexadecimal.
 
 With --journal it reads a journal as `run --journal` prints it, of any length, line
-by line, and judges each entry as `audit` does. The capture ends at the first line
-that is wrong, behind what stands before it, and standard error tells of it:
-`illegal` and the entry, or `bad journal at` and the line, counted from 0; so it
-tells of bytes behind the last newline, which count for nothing: `torn` and how many.
+by line, and judges each entry as `audit` does. The capture ends before the first
+line that is wrong, and standard error names it: `illegal` and the entry, or
+`bad journal at` and the line, counted from 0. Bytes after the last newline are
+ignored: standard error says `torn` and how many.
 
 Exit statuses: 0, 1 an illegal journal, 2 for the command line, 3 for the input, 4
 for the machine.
@@ -67,11 +66,11 @@ Example:
 
 /// The command that shows a payload.
 pub const DECODE: &str =
-    "Reads one word: the payload behind the MAC management header, digits of both
-cases.
+    "Reads one word: the payload after the MAC management header, in hexadecimal digits
+of either case.
 
 Prints the channel, the times and a line for each element: SID, usage code,
-offset in minislots, usage. A text that is no payload has one line: `fault hex`,
+offset in minislots, usage. A text that is no payload gives one line: `fault hex`,
 or `fault` and a number (1 short, 2 above 240 elements, 3 wrong length, 4 an
 expansion, 5 offsets that descend, 6 no Null, 7 a second Null), for 4, 5 and 7
 with the element, counted from 0. With --explain a second line says what it means.
@@ -89,7 +88,7 @@ Usage codes (IUC):
   3  initial: initial maintenance
   4  station: station maintenance
   5  short: short data grant
-  6  long: long data grant; to SID 0, idle; behind the Null, pending
+  6  long: long data grant; to SID 0, idle; after the Null, pending
   7  null: the end of the frame
   8  data_ack: data acknowledge
   9  aphy_short: advanced PHY, short data grant
@@ -112,7 +111,7 @@ script; `unrecorded` and how many were not; `maps` and how many the history has;
 last `audit legal`, the verdict on the history.
 
 Exit statuses: 0, or 2 for the command line, 3 for the input, 4 for the machine.
-Where a script is bad, `mapsched check` tells where, and what was expected there.
+Where a script is bad, `mapsched check` shows where, and what was expected there.
 
 Example:
   ./mapsched storm < examples/two_workers.json"#;
@@ -123,19 +122,18 @@ pub const AUDIT: &str =
 {"config": {..}, "entries": [{"seat", "ticket", "call": {..}, "reply": {..}}, ..]}.
 Whoever wrote it, each reply is tried against all that may follow the entries
 before it. With --journal it reads a journal as `run --journal` prints it, of any
-length, line by line: bytes behind the last newline count for nothing, and `torn`
-and their number stand on standard error.
+length, line by line: bytes after the last newline are ignored, and standard
+error says `torn` and how many.
 
 Prints `legal` and the number of entries, or `illegal` and the first entry that
-no lawful scheduler could have answered, counted from 0. With --explain there
-stand behind `illegal` the call of that entry, what was expected, and what was
-found: a MAP with the 64 bits of its times, its table and the bytes that it
-grants. A > marks the first line that differs, before the elements and from them
+no lawful scheduler could have answered, counted from 0. With --explain the call
+of that entry follows `illegal`, then what was expected, and what was found: a MAP
+with the 64 bits of its times, its table and the bytes that it grants. A > marks the first line that differs, before the elements and from them
 on. Of lawful placements one is shown.
 
 Exit statuses: 0 legal, 1 illegal, 2 for the command line, 3 for the input (of a
 journal `bad journal at N`, the line, counted from 0), 4 for the machine. Where a
-history is bad, `mapsched check` tells where.
+history is bad, `mapsched check` shows where.
 
 Example:
   ./mapsched audit < examples/two_maps_history.json"#;
@@ -145,21 +143,21 @@ pub const REPORT: &str =
     r#"Reads from standard input, in JSON, a history as `run --history` prints it, and
 audits it as `audit` does: of an illegal one it prints what `audit` prints.
 
-Prints how the channel did: what its minislots were for, the calls and the
+Reports on the channel: what its minislots were for, the calls and the
 refusals by their number; for each rank and each life of a flow the requests, how
-many wait, how many were dropped since the flow was removed, and how long those
+many wait, how many were dropped because the flow was removed, and how long those
 took that were served, from where each was heard to the end of the grant with
 which its last byte was granted. Delays are in milliseconds, rates in bits per
-second; a number without room is told in thousands (k), millions (M) and so on,
-and - stands for none. Of more than 30 lives those stand there that asked most;
-with --all there are all, in the order of their admissions. With --json the same
-numbers stand in one line of JSON, with delays in minislots; with --svg a picture
-of them in SVG, the use of minislots over time and the delays by rank.
+second; a number without room is printed in thousands (k), millions (M) and so on,
+and - means none. Of more than 30 lives it prints those that asked most; with --all
+it prints all, in the order of their admissions. With --json it prints the same
+numbers in one line of JSON, with delays in minislots; with --svg a picture of them,
+the use of minislots over time and the delays by rank.
 docs/REPORT.md has each number in a line.
 
 With --journal it reads a journal as `run --journal` prints it, of any length, line
-by line, and reports on it as on that history: standard error tells of bytes behind
-the last newline, which count for nothing (`torn` and how many), and of a line that
+by line, and reports on it as on that history: standard error names bytes after
+the last newline, which are ignored (`torn` and how many), and a line that
 is no entry (`bad journal at` and the line, counted from 0; nothing is printed).
 
 Exit statuses: 0, or 1 illegal, 2 for the command line, 3 for the input, 4 for the
@@ -172,19 +170,19 @@ Example:
 pub const CHECK: &str =
     r#"Reads from standard input a script, the script of a storm or a history: by its
 member `calls`, `scripts` or `entries`; or a journal or the lines for `live`, of
-any length: by the line behind the configuration.
+any length: by the line after the configuration.
 
 Prints one line, `good script`, `good script of a storm` or `good history`, or
 the fault by which `run`, `storm` or `audit` would end; then where the fault is
 and what is expected there, or what the file has; and the keys that nobody reads.
-Whether calls are refused, `run --explain` tells, and whether a history is legal,
-`audit`.
+`run --explain` shows whether calls are refused, and `audit` whether a history is
+legal.
 
-For a journal it prints `good journal`, or what `audit --journal` tells, and which
+For a journal it prints `good journal`, or what `audit --journal` prints, and which
 line is wrong; for the lines of `live`, `good live input` or how many of them would
 be answered `bad line`, and which these are. Lines are counted from 1.
 
-Exit statuses: 0 good, or lines for `live` behind a good configuration, 1 for an
+Exit statuses: 0 good, or lines for `live` after a good configuration, 1 for an
 illegal journal, 2 for the command line, 3 for the input, 4 for the machine.
 
 Example:
@@ -193,28 +191,28 @@ Example:
 /// The command that draws the frames of a run.
 pub const DRAW: &str =
     r#"Reads from standard input what `run` reads: {"config": {..}, "calls": [..]}; or
-else the history that `run --history` printed, which is drawn as it stands.
+else the history that `run --history` printed, which is drawn as it is.
 
 Prints one picture in SVG: put it into a file, and open that in a browser. Each
 MAP of the run has a row: before it the number of its frame, counted from 0, and
 the minislot and the millisecond at which the frame starts; in it a box for each
-allocation, from its offset on and as wide as it is long. Above each 40 rows stand
+allocation, from its offset on and as wide as it is long. Above each 40 rows are
 the minislots and milliseconds of a frame, and what the colours and patterns are
 for. A grant to an unsolicited flow is drawn as such on every channel. The boxes of
 a SID have a shade of their own: those of 64 SIDs in a row are all different. The
-SID stands on a box where there is room, and pointing at it shows the SID, the
+SID is on a box where there is room, and pointing at the box shows the SID, the
 usage, the offset and the length in minislots, and how many bytes of requests it
 grants (0 where it grants none).
 
 --from 100 --count 40 draws the frames 100 to 139 alone, with their own numbers.
 
 With --journal it reads a journal as `run --journal` prints it, of up to 16777216
-entries, and draws those before the first line that is wrong, of which standard error
-tells as with `pcap --journal`.
+entries, and draws those before the first line that is wrong, which standard error
+names as with `pcap --journal`.
 
 Exit statuses: 0, 1 an illegal journal, 2 for the command line, 3 for the input, 4
 for the machine.
-Nothing is printed where memory runs out.
+Nothing is printed if memory runs out.
 
 Example:
   ./mapsched draw < examples/all_kinds.json"#;
@@ -222,22 +220,22 @@ Example:
 /// The command that is talked to.
 pub const LIVE: &str =
     r#"Reads from standard input line by line: first {"config": {..}}, then a call in
-each line, as they stand in the `calls` of a script. Lines of white space alone are
-passed, and there is no limit to their number.
+each line, as in the `calls` of a script. Lines of white space alone are skipped.
+There is no limit to the number of lines.
 
-Prints for each call the line that `run` prints, and before it waits for more input
-all that it has to say: who writes one call and waits for its answer gets it. A
-line that is no call changes nothing, and has one of these for an answer:
+Prints for each call the line that `run` prints, and prints all answers before
+it waits for more input: who writes one call and waits for its answer gets it. A
+line that is no call changes nothing, and one of these is its answer:
   bad line long    it has more than 65536 bytes
   bad line json    it is not JSON
   bad line shape   it is JSON, but no call
-`calls` of the configuration is no end: what was recorded is let go. With --explain the
-meaning of a refusal stands behind it, and with --frames the whole frame of a MAP behind
-`map`, as `run` has them.
+`calls` of the configuration does not end it: what was recorded is let go. With
+--explain the meaning of a refusal follows it, and with --frames the whole frame of a
+MAP follows `map`, as in `run`.
 
-With --journal each call is recorded in FILE before its answer is written, and a file
-that has a journal already is gone on with: then the first line may be left out.
-Standard error tells `resumed` and how many entries there were, and `cut` and how
+With --journal each call is recorded in FILE before its answer is written, and a
+journal that is in FILE already is continued: then the first line may be left out.
+Standard error says `resumed` and how many entries there were, and `cut` and how
 many bytes of a torn line at the end. With --sync an answer is written only when its
 entry has reached the device.
 

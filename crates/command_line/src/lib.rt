@@ -1,6 +1,7 @@
 //! The command line of the program: its commands, their options and what the help says of them.
 #![tactic(auto)]
 
+mod ends;
 mod help;
 
 ghost use Rattle.std.specs.Prelude.{◌≡◌, ◌∷◌, [], IfOk, false, codes};
@@ -8,6 +9,7 @@ ghost use Rattle.command_line.specs.Taken.{IsCommand};
 
 use clap::builder::ValueParser;
 use clap::{Arg, ArgAction, Command};
+pub use ends::{done, exit_of, explain, fail, matches_of, refuse, words_of};
 use std::alloc::{AllocError, Global};
 
 // A command, and what its help says before and behind its words.
@@ -40,7 +42,7 @@ fn run_explain_option<'a>(alloc: Global) -> Result<Arg<'a>, AllocError>
     ensures named { IfOk result (λ r. r.id.now ≡ codes "explain") }
     ensures local { IfOk result (λ r. r.global ≡ false) }
 {
-    flag(alloc, "explain", "Tells behind each refusal what it means")
+    flag(alloc, "explain", "Says after each refusal what it means")
         .conflicts_with("history")?
         .conflicts_with("journal")
 }
@@ -139,7 +141,7 @@ fn decode_command<'a>(alloc: Global) -> Result<Command<'a>, AllocError>
         "draw",
         "Draws the frame too, a character for each minislot",
     );
-    let explain = flag(alloc, "explain", "Tells behind a fault what it means");
+    let explain = flag(alloc, "explain", "Says after a fault what it means");
     let frame = flag(
         alloc,
         "frame",
@@ -164,7 +166,7 @@ fn audit_command<'a>(alloc: Global) -> Result<Command<'a>, AllocError>
     let explain = flag(
         alloc,
         "explain",
-        "Tells what was expected at the first illegal entry",
+        "Says what was expected at the first illegal entry",
     );
     command(alloc, "audit", about, help::AUDIT)
         .arg(explain)?
@@ -196,7 +198,7 @@ fn report_command<'a>(alloc: Global) -> Result<Command<'a>, AllocError>
 fn check_command<'a>(alloc: Global) -> Command<'a>
     ensures { IsCommand result (codes "check") [] [] }
 {
-    let about = "Reads a file from standard input and tells what is wrong in it, or what it has";
+    let about = "Reads a file from standard input and says what is wrong in it, or what it has";
     command(alloc, "check", about, help::CHECK)
 }
 
@@ -265,7 +267,7 @@ fn live_journal_option<'a>(alloc: Global) -> Arg<'a>
     ensures local { result.global ≡ false }
 {
     let journal = Arg::new(alloc, "journal").long("journal");
-    let help = "Records the calls in a journal, and goes on with the one that is there";
+    let help = "Records the calls in a journal, and continues the one that is there";
     journal.value_name("FILE").help(help)
 }
 
@@ -284,7 +286,7 @@ fn live_command<'a>(alloc: Global) -> Result<Command<'a>, AllocError>
         (codes "explain" ∷ codes "frames" ∷ codes "journal" ∷ codes "sync" ∷ []) []) }
 {
     let about = "Reads calls line by line and answers each before it waits for the next";
-    let explain = flag(alloc, "explain", "Tells behind each refusal what it means");
+    let explain = flag(alloc, "explain", "Says after each refusal what it means");
     command(alloc, "live", about, help::LIVE)
         .arg(explain)?
         .arg(live_frames_option(alloc)?)?

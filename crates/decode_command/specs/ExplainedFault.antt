@@ -1,5 +1,5 @@
 -- What is written of a text that is no payload, with what its fault means.
-use Rattle.std.specs.Prelude.{◌≡◌, ℕ, List, [], ◌++◌, codes, Option, Some, None, MatchResult}
+use Rattle.std.specs.Prelude.{◌≡◌, ℕ, Bool, true, false, List, [], ◌++◌, codes, Option, Some, None, MatchResult}
 use Rattle.std.specs.Io.KnownBytes.{Appends}
 use Rattle.hex.specs.Hex.{decode_of}
 use Rattle.hex.specs.declared.error.FromHexError.{FromHexError}
@@ -53,14 +53,24 @@ explained_fault fault = fault_line fault ++ counted (fault_words fault) (index_o
 unfoldable pub explained_hex : FromHexError → List ℕ
 explained_hex fault = not_hex_line ++ counted (hex_words fault) (digit_of fault)
 
--- the bytes have a fault, and what was written is its line and what it means
-pub record PutsExplained (bytes : List ℕ) (old new : Option (List ℕ)) : Type 0 where
+-- the line of a fault, and what it means where that is asked for
+abbrev pub fault_text : Bool → DecodeFault → List ℕ
+fault_text true fault = explained_fault fault
+fault_text false fault = fault_line fault
+
+-- the line of a text that is not hexadecimal, and what is wrong with it where that is asked for
+abbrev pub hex_text : Bool → FromHexError → List ℕ
+hex_text true fault = explained_hex fault
+hex_text false fault = not_hex_line
+
+-- the bytes have a fault, and what was written is its line, and what it means where that is asked for
+pub record PutsFault (explained : Bool) (bytes : List ℕ) (old new : Option (List ℕ)) : Type 0 where
   pub fault : DecodeFault
   pub is_fault : fault_of bytes ≡ Some fault
-  pub written : Appends old new (explained_fault fault)
+  pub written : Appends old new (fault_text explained fault)
 
--- the text is hexadecimal of bytes with a fault, or it is not hexadecimal, and what was written is the line of that and
--- what it means
-abbrev pub ShowsExplained : List ℕ → Option (List ℕ) → Option (List ℕ) → Type 0
-ShowsExplained text old new =
-    MatchResult (decode_of text) (λ bytes. PutsExplained bytes old new) (λ e. Appends old new (explained_hex e))
+-- the text is hexadecimal of bytes with a fault, or it is not hexadecimal, and what was written is the line of that,
+-- and what it means where that is asked for
+abbrev pub ShowsFault : Bool → List ℕ → Option (List ℕ) → Option (List ℕ) → Type 0
+ShowsFault explained text old new = MatchResult (decode_of text) (λ bytes. PutsFault explained bytes old new)
+    (λ e. Appends old new (hex_text explained e))

@@ -15,7 +15,8 @@ use Rattle.wire_frame.specs.declared.heard.MapFrameFault.TheVariants as maps
 use Rattle.wire_frame.specs.Request.{IsRequestFrame, IsRequestFault, has_length}
 use Rattle.wire_frame.specs.MapFrame.{IsMapFrame}
 use Rattle.wire_frame.specs.Heard.{IsMapFrameFault}
-use Rattle.decode_command.specs.Table.{labelled, shown_text, not_hex_line, PutsFault}
+use Rattle.decode_command.specs.Table.{labelled, shown_text, not_hex_line}
+use Rattle.decode_command.specs.ExplainedFault.{PutsFault}
 
 -- a kind, a SID and a number, each behind a space
 unfoldable pub kind_line : List ℕ → ℕ → ℕ → List ℕ
@@ -104,7 +105,7 @@ pub record PutsPayloadFault (bytes : List ℕ) (old new : Option (List ℕ)) : T
   pub six : length address ≡ 6
   pub payload : List ℕ
   pub frame : IsMapFrame address payload bytes
-  pub faulty : PutsFault payload old new
+  pub faulty : PutsFault false payload old new
 
 -- the bytes are no frame that is shown, and what was written is the first fault
 abbrev pub PutsFrameFault : List ℕ → Option (List ℕ) → Option (List ℕ) → Type 0

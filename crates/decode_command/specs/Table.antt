@@ -1,6 +1,6 @@
 -- The table of a MAP, and the line of a fault: what is shown of a text.
 use Rattle.std.specs.Prelude.{◌≡◌, ℕ, ◌-◌, ◌==◌, if◌then◌else◌, List, [], ◌++◌, length, replicate, codes, decimal}
-use Rattle.std.specs.Prelude.{Option, Some, None, MatchResult, IsOkAnd}
+use Rattle.std.specs.Prelude.{Option, Some, None, IsOkAnd}
 use Rattle.std.specs.List.{flat_map}
 use Rattle.std.specs.Io.KnownBytes.{Appends}
 use Rattle.hex.specs.Hex.{decode_of}
@@ -14,7 +14,6 @@ use Rattle.map_codec.specs.declared.fault.DecodeFault.TheVariants.{Short, TooMan
 use Rattle.map_codec.specs.declared.fault.DecodeFault.TheVariants.{NoNull, SecondNull, Memory}
 use Rattle.map_codec.specs.declared.wire_map.WireMap.{WireMap}
 use Rattle.map_codec.specs.WireMap.{spelling, IsWellFormed, IsPayload}
-use Rattle.map_codec.specs.DecodeFault.{fault_of}
 use Rattle.map_drawing.specs.Legend.{drawing_text}
 
 -- a label and a number in decimal
@@ -125,18 +124,6 @@ pub record PutsMap (columns : Option ℕ) (bytes : List ℕ) (old new : Option (
   pub spelled : bytes ≡ spelling map
   pub written : Appends old new (shown_text columns map)
 
--- the bytes have a fault, and what was written is the fault's line
-pub record PutsFault (bytes : List ℕ) (old new : Option (List ℕ)) : Type 0 where
-  pub fault : DecodeFault
-  pub is_fault : fault_of bytes ≡ Some fault
-  pub written : Appends old new (fault_line fault)
-
 -- the text is hexadecimal of a MAP's spelling, and what was written is what is shown of it
 abbrev pub ShowsMap : Option ℕ → List ℕ → Option (List ℕ) → Option (List ℕ) → Type 0
 ShowsMap columns text old new = IsOkAnd (decode_of text) (λ bytes. PutsMap columns bytes old new)
-
--- the text is hexadecimal of bytes with a fault, and what was written is the fault's line; or it is
--- not hexadecimal, and what was written says so
-abbrev pub ShowsFault : List ℕ → Option (List ℕ) → Option (List ℕ) → Type 0
-ShowsFault text old new =
-    MatchResult (decode_of text) (λ bytes. PutsFault bytes old new) (λ _. Appends old new not_hex_line)

@@ -1,19 +1,14 @@
-//! The table of a MAP, or a fault with what it means, for a text in hexadecimal.
+//! What is wrong with a text that is no payload, with what it means where that is asked for.
 
-ghost use Rattle.std.specs.Prelude.{◌≡◌, ◌↔◌, ◌⊎◌, IfOk, IfErr, IsTrue};
-ghost use Rattle.std.specs.Bool.{MatchBool};
-ghost use Rattle.map_codec.specs.WireMap.{IsPayload};
+ghost use Rattle.std.specs.Prelude.{◌≡◌};
 ghost use Rattle.text_stream.specs.Writing.{Writes};
-ghost use Rattle.text_stream.specs.RunFault.{TellsFailedWrite};
-ghost use Rattle.decode_command.specs.Table.{IsHexOfPayload, PutsMap, ShowsMap};
 ghost use Rattle.decode_command.specs.ExplainedFault.{fault_words, hex_words, digit_of, behind_words, counted};
-ghost use Rattle.decode_command.specs.ExplainedFault.{explained_fault, explained_hex, PutsExplained, ShowsExplained};
+ghost use Rattle.decode_command.specs.ExplainedFault.{explained_fault, explained_hex, fault_text, hex_text};
 
-use crate::table::{index_of, put_fault, put_labelled, put_map};
+use crate::table::{index_of, put_fault, put_labelled};
 use hex::FromHexError;
-use map_codec::{DecodeFault, decode};
-use std::alloc::Global;
-use text_stream::{RunFault, Sink, TextFault, put};
+use map_codec::DecodeFault;
+use text_stream::{Sink, TextFault, put};
 
 // What a fault of a payload means. Where it names an element, the place of that follows.
 fn fault_words(fault: DecodeFault) -> &'static [u8]
@@ -98,66 +93,32 @@ fn put_explained_hex<W: Sink>(writer: &mut W, fault: FromHexError) -> Result<(),
     put_counted(writer, hex_words(fault), digit_of(fault))
 }
 
-// What is shown of bytes: the MAP that they spell, or their fault and what it means.
-fn put_decoded<W: Sink>(
-    alloc: Global,
-    bytes: &[u8],
-    columns: Option<u16>,
+// The line of a fault, and what it means where that is asked for.
+pub(crate) fn put_fault_text<W: Sink>(
     writer: &mut W,
-) -> Result<bool, RunFault>
-    ensures exact { IfOk result (λ is_payload. IsTrue is_payload ↔ IsPayload bytes.now) }
-    ensures shown { IfOk result (λ is_payload. MatchBool is_payload
-        (PutsMap columns bytes.now (W.contents writer.old) (W.contents writer.new))
-        (PutsExplained bytes.now (W.contents writer.old) (W.contents writer.new))) }
-    ensures err { IfErr result
-        (λ e. (e ≡ RunFault.Text TextFault.Memory) ⊎ (e ≡ RunFault.Text TextFault.Output)) }
-    ensures failed { TellsFailedWrite result (W.has_failed writer.old) (W.has_failed writer.new) }
-    ensures quiet { IfErr result
-        (λ e. e ≡ RunFault.Text TextFault.Memory → writer.new ≡ writer.old) }
+    fault: DecodeFault,
+    is_explained: bool,
+) -> Result<(), TextFault>
+    ensures { Writes W.contents W.has_failed writer.old writer.new
+        (fault_text is_explained fault) result }
 {
-    match decode(alloc, bytes) {
-        Ok(map) => {
-            put_map(alloc, &map, columns, writer)?;
-            Ok(true)
-        }
-        Err(DecodeFault::Memory) => Err(RunFault::Text(TextFault::Memory)),
-        Err(fault) => {
-            put_explained(writer, fault)?;
-            Ok(false)
-        }
+    if is_explained {
+        return put_explained(writer, fault);
     }
+    put_fault(writer, fault)
 }
 
-/// Shows a text as [`decode_text`](crate::decode_text) does, with the same answers and faults; but behind the line of a
-/// fault stands one that says what it means, and where.
-pub fn decode_explained<W: Sink>(
-    alloc: Global,
-    text: &str,
-    columns: Option<u16>,
+// The line of a text that is not hexadecimal, and what is wrong with it where that is asked for.
+pub(crate) fn put_hex_text<W: Sink>(
     writer: &mut W,
-) -> Result<bool, RunFault>
-    // True is answered exactly where the text is hexadecimal of a payload.
-    ensures exact { IfOk result (λ is_payload. IsTrue is_payload ↔ IsHexOfPayload text.now) }
-
-    // What was written is the payload's table, with its drawing where that is asked for, or the fault's line and what
-    // it means, and nothing else.
-    ensures shown { IfOk result (λ is_payload. MatchBool is_payload
-        (ShowsMap columns text.now (W.contents writer.old) (W.contents writer.new))
-        (ShowsExplained text.now (W.contents writer.old) (W.contents writer.new))) }
-
-    // No other fault ends it; out of memory only before anything is written.
-    ensures err { IfErr result
-        (λ e. (e ≡ RunFault.Text TextFault.Memory) ⊎ (e ≡ RunFault.Text TextFault.Output)) }
-    ensures failed { TellsFailedWrite result (W.has_failed writer.old) (W.has_failed writer.new) }
-    ensures quiet { IfErr result
-        (λ e. e ≡ RunFault.Text TextFault.Memory → writer.new ≡ writer.old) }
+    fault: FromHexError,
+    is_explained: bool,
+) -> Result<(), TextFault>
+    ensures { Writes W.contents W.has_failed writer.old writer.new
+        (hex_text is_explained fault) result }
 {
-    match hex::decode(alloc, text) {
-        Ok(bytes) => put_decoded(alloc, &bytes, columns, writer),
-        Err(FromHexError::OutOfMemory) => Err(RunFault::Text(TextFault::Memory)),
-        Err(fault) => {
-            put_explained_hex(writer, fault)?;
-            Ok(false)
-        }
+    if is_explained {
+        return put_explained_hex(writer, fault);
     }
+    put(writer, b"fault hex\n")
 }

@@ -9,7 +9,8 @@ ghost use Rattle.map_codec.specs.WireMap.{IsPayload, IsWellFormed};
 ghost use Rattle.wire_frame.specs.Request.{has_length};
 ghost use Rattle.text_stream.specs.Writing.{Writes};
 ghost use Rattle.text_stream.specs.RunFault.{TellsFailedWrite};
-ghost use Rattle.decode_command.specs.Table.{shown_text, PutsFault};
+ghost use Rattle.decode_command.specs.Table.{shown_text};
+ghost use Rattle.decode_command.specs.ExplainedFault.{PutsFault};
 ghost use Rattle.decode_command.specs.Frame.{kind_line, request_line, byte_text, address_text, map_frame_line};
 ghost use Rattle.decode_command.specs.Frame.{request_fault_number, map_frame_fault_number, frame_fault_line};
 ghost use Rattle.decode_command.specs.Frame.{PutsFrame, PutsFrameFault, PutsMapFrame, PutsCarried};
@@ -160,7 +161,7 @@ fn put_carried<W: Sink>(
     ensures shown { IfOk result (λ is_payload. MatchBool is_payload
         (PutsCarried columns frame.now.address frame.now.payload.now
         (W.contents writer.old) (W.contents writer.new))
-        (PutsFault frame.now.payload.now (W.contents writer.old) (W.contents writer.new))) }
+        (PutsFault false frame.now.payload.now (W.contents writer.old) (W.contents writer.new))) }
     ensures err { IfErr result
         (λ e. (e ≡ RunFault.Text TextFault.Memory) ⊎ (e ≡ RunFault.Text TextFault.Output)) }
     ensures failed { TellsFailedWrite result (W.has_failed writer.old) (W.has_failed writer.new) }

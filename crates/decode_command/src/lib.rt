@@ -6,7 +6,6 @@ mod frame;
 mod shown;
 mod table;
 
-pub use explained_fault::decode_explained;
 pub use frame::decode_frame;
 pub use shown::{show_frame, show_text};
 pub use table::{decode_text, put_table};

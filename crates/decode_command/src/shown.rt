@@ -1,7 +1,6 @@
 //! The command over what the program has: standard output, which is written with no buffer, so that nothing is left to
 //! flush, and the environment.
 
-use crate::explained_fault::decode_explained;
 use crate::frame::decode_frame;
 use crate::table::decode_text;
 use std::io;
@@ -45,8 +44,5 @@ pub fn show_text(
 ) -> Result<bool, RunFault> {
     let columns = columns_of(rt, is_drawn, columns);
     let mut writer = Watched::new(io::writer(rt));
-    if is_explained {
-        return decode_explained(rt.alloc(), text, columns, &mut writer);
-    }
-    decode_text(rt.alloc(), text, columns, &mut writer)
+    decode_text(rt.alloc(), text, columns, is_explained, &mut writer)
 }

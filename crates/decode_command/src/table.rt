@@ -9,8 +9,10 @@ ghost use Rattle.text_stream.specs.RunFault.{TellsFailedWrite};
 ghost use Rattle.decode_command.specs.Table.{labelled, backoff_text, at_right, column, name_of, number_of, index_of};
 ghost use Rattle.decode_command.specs.Table.{counts_line, times_line, element_line, element_lines};
 ghost use Rattle.decode_command.specs.Table.{table_text, shown_text, fault_line};
-ghost use Rattle.decode_command.specs.Table.{IsHexOfPayload, PutsMap, PutsFault, ShowsMap, ShowsFault};
+ghost use Rattle.decode_command.specs.Table.{IsHexOfPayload, PutsMap, ShowsMap};
+ghost use Rattle.decode_command.specs.ExplainedFault.{PutsFault, ShowsFault};
 
+use crate::explained_fault::{put_fault_text, put_hex_text};
 use hex::FromHexError;
 use itoa::Buffer;
 use map_codec::{DecodeFault, Element, WireMap, decode, iuc};
@@ -215,17 +217,18 @@ pub(crate) fn put_map<W: Sink>(
     Ok(())
 }
 
-// What is shown of bytes: the MAP that they spell, or the line of their fault.
+// What is shown of bytes: the MAP that they spell, or the line of their fault and what it means if that is asked for.
 fn put_decoded<W: Sink>(
     alloc: Global,
     bytes: &[u8],
     columns: Option<u16>,
+    is_explained: bool,
     writer: &mut W,
 ) -> Result<bool, RunFault>
     ensures exact { IfOk result (λ is_payload. IsTrue is_payload ↔ IsPayload bytes.now) }
     ensures shown { IfOk result (λ is_payload. MatchBool is_payload
         (PutsMap columns bytes.now (W.contents writer.old) (W.contents writer.new))
-        (PutsFault bytes.now (W.contents writer.old) (W.contents writer.new))) }
+        (PutsFault is_explained bytes.now (W.contents writer.old) (W.contents writer.new))) }
     ensures err { IfErr result
         (λ e. (e ≡ RunFault.Text TextFault.Memory) ⊎ (e ≡ RunFault.Text TextFault.Output)) }
     ensures failed { TellsFailedWrite result (W.has_failed writer.old) (W.has_failed writer.new) }
@@ -240,7 +243,7 @@ fn put_decoded<W: Sink>(
         }
         Err(DecodeFault::Memory) => Err(RunFault::Text(TextFault::Memory)),
         Err(fault) => {
-            put_fault(writer, fault)?;
+            put_fault_text(writer, fault, is_explained)?;
             Ok(false)
         }
     }
@@ -249,22 +252,24 @@ fn put_decoded<W: Sink>(
 /// Reads a text as hexadecimal, digits of both cases, and writes the table of the MAP payload that
 /// it is, and behind it the drawing of its frame where one in so many columns is asked for, answering true; or
 /// the one line of what is wrong with it, answering false: `fault hex`, or `fault`, the number of the payload's
-/// fault, and the element that the fault names where it names one. Its faults are that memory runs out, before anything
-/// is written, and a failed write.
+/// fault, and the element that the fault names where it names one. Where that is asked for, behind it stands a line
+/// that says what it means, and where. Its faults are that memory runs out, before anything is written, and a failed
+/// write.
 pub fn decode_text<W: Sink>(
     alloc: Global,
     text: &str,
     columns: Option<u16>,
+    is_explained: bool,
     writer: &mut W,
 ) -> Result<bool, RunFault>
     // True is answered exactly where the text is hexadecimal of a payload.
     ensures exact { IfOk result (λ is_payload. IsTrue is_payload ↔ IsHexOfPayload text.now) }
 
-    // What was written is the payload's table, with its drawing where that is asked for, or the fault's line, and
-    // nothing else.
+    // What was written is the payload's table, with its drawing where that is asked for, or the fault's line, with what
+    // it means where that is asked for, and nothing else.
     ensures shown { IfOk result (λ is_payload. MatchBool is_payload
         (ShowsMap columns text.now (W.contents writer.old) (W.contents writer.new))
-        (ShowsFault text.now (W.contents writer.old) (W.contents writer.new))) }
+        (ShowsFault is_explained text.now (W.contents writer.old) (W.contents writer.new))) }
 
     // No other fault ends it; out of memory only before anything is written, and not where the
     // digits are odd in number.
@@ -276,10 +281,10 @@ pub fn decode_text<W: Sink>(
     ensures odd { length text.now % 2 ≡ 1 → IfErr result (λ e. e ≡ RunFault.Text TextFault.Output) }
 {
     match hex::decode(alloc, text) {
-        Ok(bytes) => put_decoded(alloc, &bytes, columns, writer),
+        Ok(bytes) => put_decoded(alloc, &bytes, columns, is_explained, writer),
         Err(FromHexError::OutOfMemory) => Err(RunFault::Text(TextFault::Memory)),
-        Err(_) => {
-            put(writer, b"fault hex\n")?;
+        Err(fault) => {
+            put_hex_text(writer, fault, is_explained)?;
             Ok(false)
         }
     }

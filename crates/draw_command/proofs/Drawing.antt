@@ -1,16 +1,16 @@
 -- How far a drawing of a run has come.
 use Rattle.std.proofs.Common.{◌≡◌, ℕ, ◌+◌, ◌<◌, false, List, [], ◌∷◌, ◌++◌, length, get_or, take, Option, ap}
 use Rattle.std.specs.Io.KnownBytes.{Appends}
-use Rattle.sched_history.specs.declared.call.Call.{Call}
+use Rattle.sched_calls.specs.declared.call.Call.{Call}
 use Rattle.sched_history.specs.Machine.{Machine}
-use Rattle.sched_lines.specs.Line.{Answer}
+use Rattle.sched_calls.specs.Reply.{Answer}
 use Rattle.frame_picture.specs.declared.span.Span.{Span}
 use Rattle.frame_picture.specs.Picture.{picture_text}
-use Rattle.sched_lines.specs.Answer.{MakesCall}
+use Rattle.sched_history.specs.Answer.{MakesCall}
 use Rattle.draw_command.specs.Drawing.{lacks_memory, MakesWhole, DrawsLeaving}
 use Rattle.sched_lines.proofs.Fitting.{all-push}
-use Rattle.sched_lines.proofs.Leaving.{MakesCalls-count}
-use Rattle.sched_lines.proofs.Made.{MakesCalls-push, MakesCalls-legal}
+use Rattle.sched_history.proofs.runs.Leaving.{MakesCalls-count}
+use Rattle.sched_history.proofs.runs.Made.{MakesCalls-push, MakesCalls-legal}
 
 -- one call more, for which there was memory
 pub MakesWhole-push : (old mid new : Machine) (calls : List Call) (i : ℕ) (d : Call) (answer : Answer)

@@ -3,16 +3,16 @@ use Rattle.std.specs.Prelude.{◌≡◌, ℕ, ◌+◌, Bool, true, false, List, 
 use Rattle.std.specs.List.{AllByRecursion}
 use Rattle.std.specs.Io.KnownBytes.{Appends}
 use Rattle.minislots.specs.declared.config.Config.{Config}
-use Rattle.sched_history.specs.declared.call.Call.{Call}
-use Rattle.sched_history.specs.declared.reply.Unrecorded.TheVariants.{HistoryFull, Memory}
+use Rattle.sched_calls.specs.declared.call.Call.{Call}
+use Rattle.sched_calls.specs.declared.reply.Unrecorded.TheVariants.{HistoryFull, Memory}
 use Rattle.sched_history.specs.History.{IsLegal}
 use Rattle.sched_history.specs.Machine.{Machine}
 use Rattle.script_reading.specs.Script.{Scenario}
 use Rattle.script_reading.specs.Outcome.{StandsFor}
-use Rattle.sched_lines.specs.Line.{Answer}
+use Rattle.sched_calls.specs.Reply.{Answer}
 use Rattle.frame_picture.specs.declared.span.Span.{Span}
 use Rattle.frame_picture.specs.Picture.{picture_text}
-use Rattle.sched_lines.specs.Answer.{MayGetEach, recorded_entries, MakesCalls}
+use Rattle.sched_history.specs.Answer.{MayGetEach, recorded_entries, MakesCalls}
 
 -- there was no memory for the call with this answer
 abbrev pub lacks_memory : Answer → Bool

@@ -2,14 +2,13 @@
 
 ghost use Rattle.std.specs.Prelude.{◌≡◌, ◌≢◌, ◌⊎◌, [], IfOk, OnOk, IfErr};
 ghost use Rattle.script_reading.specs.Stops.{Stops};
-ghost use Rattle.draw_command.specs.Drawing.{lacks_memory, MakesWhole, DrawsLeaving, Drawn, DrawnLeaving};
+ghost use Rattle.draw_command.specs.Drawing.{lacks_memory, MakesWhole, DrawsLeaving, DrawnLeaving};
 ghost use Rattle.text_stream.specs.Watched.{FailsBy};
 ghost use Rattle.text_stream.specs.RunFault.{TellsFailedRead, TellsFailedWrite, WritesLast};
 
 use frame_picture::{Span, put_picture};
 use minislots::Checked;
-use sched_history::{Call, Reply, Scheduler, Unrecorded};
-use sched_lines::{count_unrecorded, make_call};
+use sched_history::{Call, Reply, Scheduler, Unrecorded, count_unrecorded, make_call};
 use script_reading::read_script;
 use std::alloc::Global;
 use text_stream::{RunFault, Sink, Source, TextFault};
@@ -64,8 +63,11 @@ fn draw_calls<W: Sink>(
     Ok(count_unrecorded(scheduler, calls))
 }
 
-/// Draws a script as [`draw_script`] does, and answers how many of its calls were not recorded.
-pub fn draw_counting<R: Source, W: Sink>(
+/// Reads a script, a configuration and calls in JSON, to the reader's end, makes its calls as a run does, and writes
+/// the picture of the frames in this span in SVG: a row for each MAP in their order, and in it a bar for each of its
+/// allocations. Where a call found no memory there is no picture. Nothing is written before another fault than one of
+/// output. Answers how many calls were not recorded.
+pub fn draw_script<R: Source, W: Sink>(
     alloc: Global,
     reader: &mut R,
     span: Span,
@@ -92,32 +94,4 @@ pub fn draw_counting<R: Source, W: Sink>(
     };
     let unrecorded = draw_calls(&mut scheduler, &config, &calls, span, writer)?;
     Ok(unrecorded)
-}
-
-/// Reads a script, a configuration and calls in JSON, to the reader's end, makes its calls as a run does, and writes
-/// the picture of the frames in this span in SVG: a row for each MAP in their order, and in it a bar for each of its
-/// allocations. Where a call found no memory there is no picture. Nothing is written before another fault than one of
-/// output.
-pub fn draw_script<R: Source, W: Sink>(
-    alloc: Global,
-    reader: &mut R,
-    span: Span,
-    writer: &mut W,
-) -> Result<(), RunFault>
-    // What was written is the picture of the run's frames in the span, and nothing else.
-    ensures ok { OnOk result (Drawn span (R.remaining reader.old) (R.remaining reader.new)
-        (W.contents writer.old) (W.contents writer.new)) }
-
-    // Each fault comes under its own condition, the first one in their order.
-    ensures stops { IfErr result (Stops (R.remaining reader.old) (R.remaining reader.new)) }
-    ensures quiet { WritesLast result writer.old writer.new }
-
-    // A failed read or write is told where one has failed, and where all went well none did.
-    ensures failed_read { TellsFailedRead result
-        (R.has_failed reader.old) (R.has_failed reader.new) }
-    ensures failed_write { TellsFailedWrite result
-        (W.has_failed writer.old) (W.has_failed writer.new) }
-{
-    draw_counting(alloc, reader, span, writer)?;
-    Ok(())
 }

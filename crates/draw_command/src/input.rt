@@ -1,7 +1,7 @@
 //! The command over what the program has: standard input and standard output, which is written with no buffer, so that
 //! nothing is left to flush.
 
-use crate::draw::draw_counting;
+use crate::draw::draw_script;
 use crate::journal::draw_journal;
 use crate::recorded::draw_history;
 use frame_picture::Span;
@@ -16,18 +16,18 @@ pub fn draw_input(
     rt: &(impl Input + Print + Eprint + AllocGlobal),
     from: u64,
     count: u64,
-) -> Result<bool, RunFault> {
+) -> Result<(), RunFault> {
     let span = Span { from, count };
     let text = read_all(rt.alloc(), &mut Watched::new(rt.reader()))?;
     let mut writer = Watched::new(io::writer(rt));
-    match draw_counting(rt.alloc(), &mut text.as_slice(), span, &mut writer) {
+    match draw_script(rt.alloc(), &mut text.as_slice(), span, &mut writer) {
         Ok(unrecorded) => tell_unrecorded(rt, unrecorded),
         Err(RunFault::Text(TextFault::Shape(0))) => {
             draw_history(rt.alloc(), &mut text.as_slice(), span, &mut writer)?;
         }
         Err(fault) => return Err(fault),
     }
-    Ok(true)
+    Ok(())
 }
 
 /// The command `draw` on a journal: how it ends, which is told on standard error where it is torn, illegal or bad.

@@ -2,7 +2,7 @@
 
 ghost use Rattle.std.specs.Prelude.{◌≡◌, ◌≤◌, [], List, ℕ, Option, length, IfOk, IfErr};
 ghost use Rattle.std.specs.List.{AllByRecursion};
-ghost use Rattle.sched_history.specs.Machine.{IsEncodable};
+ghost use Rattle.sched_calls.specs.Reply.{IsEncodable};
 ghost use Rattle.text_stream.specs.Watched.{FailsBy};
 ghost use Rattle.text_stream.specs.RunFault.{TellsFailedRead, TellsFailedWrite, WritesLast};
 ghost use Rattle.journal_entries.specs.Next.{HasGiven};

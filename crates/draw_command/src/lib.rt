@@ -7,7 +7,7 @@ mod input;
 mod journal;
 mod recorded;
 
-pub use draw::{draw_counting, draw_script};
+pub use draw::draw_script;
 pub use input::{draw_input, draw_journal_input};
 pub use journal::{MAX_DRAWN, draw_journal};
 pub use recorded::draw_history;

@@ -7,7 +7,7 @@ use Rattle.minislots.specs.Config.{IsLawful, HasBounds}
 use Rattle.minislots.specs.Units.{slots_for, bytes_in}
 use Rattle.minislots.proofs.Bounds.{bounds_of}
 use Rattle.minislots.proofs.UnitLaws.{fits_bytes, fits_slots}
-use Rattle.flow_book.specs.FlowSpec.{takes_requests, rate_of, burst_of}
+use Rattle.sched_calls.specs.FlowSpec.{takes_requests, rate_of, burst_of}
 use Rattle.flow_book.specs.Flows.{LiveFlow, outstanding}
 use Rattle.flow_book.specs.Choice.{KeepsWith, MayGrant, IsAmount, IsMost, IsEligible}
 use Rattle.flow_book.specs.Bucket.{BucketView, HaveStartedBy, StandsFor, most_of}

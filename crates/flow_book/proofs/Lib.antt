@@ -1,9 +1,7 @@
 pub mod Admission
 pub mod Amounts
-pub mod Base
 pub mod Buckets
 pub mod Changes
-pub mod Faults
 pub mod FirstGrant
 pub mod Insertion
 pub mod Levels
@@ -16,7 +14,6 @@ pub mod Rooms
 pub mod RowsBucket
 pub mod RowsCeiling
 pub mod RowsChoice
-pub mod RowsFaults
 pub mod NextServed
 pub mod Serving
 pub mod Shifts

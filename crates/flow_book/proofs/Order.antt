@@ -5,7 +5,7 @@ use Rattle.std.specs.List.{AllByRecursion}
 use Rattle.std.proofs.lemmas.Bool.Decides.{nat_tests}
 use Rattle.std.proofs.lemmas.List.Elements.{All-from_recursion, Contains-append_left, Contains-push}
 use Rattle.minislots.specs.declared.config.Config.{Config}
-use Rattle.flow_book.specs.FlowSpec.{rank_of}
+use Rattle.sched_calls.specs.FlowSpec.{rank_of}
 use Rattle.flow_book.specs.Flows.{LiveFlow}
 use Rattle.flow_book.specs.Choice.{last_start, is_earlier, is_as_early, is_before, IsEligible, IsNextOf}
 use Rattle.flow_book.specs.Book.{Ascend}

@@ -14,7 +14,7 @@ use Rattle.std.proofs.lemmas.Option.{slice_get_within, slice_get-get_or}
 use Rattle.minislots.specs.declared.config.Config.{Config}
 use Rattle.flow_book.specs.declared.flow.Flow.{Flow}
 use Rattle.flow_book.specs.declared.queue.Waiting.{Waiting}
-use Rattle.flow_book.specs.FlowSpec.{rank_of}
+use Rattle.sched_calls.specs.FlowSpec.{rank_of}
 use Rattle.flow_book.specs.Choice.{last_start}
 use Rattle.flow_book.specs.Flows.{outstanding}
 use Rattle.flow_book.specs.Entry.{live, IsBook, KeepsSums, KnowsTurn}

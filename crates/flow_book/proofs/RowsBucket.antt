@@ -4,7 +4,7 @@ use Rattle.flow_book.specs.declared.flow.Grant.{Grant}
 use Rattle.flow_book.specs.Flows.{bytes_of}
 use Rattle.flow_book.specs.Ceiling.{start_of}
 use Rattle.flow_book.specs.Bucket.{BucketView, level_of, IsLevel, most_of}
-use Rattle.flow_book.proofs.Base.{base}
+use Rattle.sched_calls.proofs.Base.{base}
 use Rattle.flow_book.proofs.RowsCeiling.{grant}
 
 -- the bucket that had so much at a minislot

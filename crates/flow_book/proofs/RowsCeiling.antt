@@ -1,11 +1,11 @@
 -- Worked examples of data grants under a rate ceiling.
 use Rattle.std.proofs.Common.{ℕ, zero, suc, ◌+◌, ◌*◌, ◌<◌, ◌≤◌, List, [], ◌∷◌, refl, inl, lit<, lit≤, arith}
-use Rattle.flow_book.specs.declared.spec.FlowSpec.TheVariants.{Polled, BestEffort}
+use Rattle.sched_calls.specs.declared.spec.FlowSpec.TheVariants.{Polled, BestEffort}
 use Rattle.flow_book.specs.declared.flow.Grant.{Grant}
 use Rattle.flow_book.specs.Flows.{LiveFlow, bytes_of}
 use Rattle.flow_book.specs.Ceiling.{window, start_of}
 use Rattle.flow_book.specs.Choice.{MayTake, MayGrant, IsAmount, IsEligible, IsNext}
-use Rattle.flow_book.proofs.Base.{base}
+use Rattle.sched_calls.proofs.Base.{base}
 
 -- a flow of 64000 bits in a second and bursts of 1600 bytes that asked 3000 bytes, with these grants
 abbrev pub under_ceiling : List Grant → LiveFlow

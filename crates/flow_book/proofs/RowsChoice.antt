@@ -1,9 +1,9 @@
 -- Worked examples of which flow is served first.
 use Rattle.std.proofs.Common.{[], ◌∷◌, refl, ap, inl, inr, lit<, lit≤, arith}
-use Rattle.flow_book.specs.declared.spec.FlowSpec.TheVariants.{Polled, BestEffort}
+use Rattle.sched_calls.specs.declared.spec.FlowSpec.TheVariants.{Polled, BestEffort}
 use Rattle.flow_book.specs.Flows.{LiveFlow}
 use Rattle.flow_book.specs.Choice.{IsEligible, IsNext}
-use Rattle.flow_book.proofs.Base.{base}
+use Rattle.sched_calls.proofs.Base.{base}
 use Rattle.flow_book.proofs.Unlimited.{IsEligible-unlimited}
 
 -- a flow of priority 1 with 544 bytes to be granted

@@ -10,7 +10,7 @@ use Rattle.std.proofs.lemmas.List.{length-map}
 use Rattle.minislots.specs.declared.config.Config.{Config}
 use Rattle.flow_book.specs.declared.flow.Flow.{Flow}
 use Rattle.flow_book.specs.declared.queue.Waiting.{Waiting}
-use Rattle.flow_book.specs.FlowSpec.{rank_of, takes_requests}
+use Rattle.sched_calls.specs.FlowSpec.{rank_of, takes_requests}
 use Rattle.minislots.specs.Config.{IsLawful}
 use Rattle.minislots.specs.Units.{bytes_in}
 use Rattle.minislots.proofs.Bounds.{bounds_of}

@@ -3,7 +3,7 @@ use Rattle.std.proofs.Common.{◌≡◌, ℕ, ◌<◌, ◌≤◌, true, arith}
 use Rattle.std.specs.Prelude.{min}
 use Rattle.minislots.specs.declared.config.Config.{Config}
 use Rattle.minislots.specs.Units.{slots_for}
-use Rattle.flow_book.specs.FlowSpec.{takes_requests, rate_of}
+use Rattle.sched_calls.specs.FlowSpec.{takes_requests, rate_of}
 use Rattle.flow_book.specs.Flows.{LiveFlow, outstanding}
 use Rattle.flow_book.specs.Choice.{MayTake, MayGrant, IsEligible}
 

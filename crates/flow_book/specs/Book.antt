@@ -1,7 +1,7 @@
 -- What contracts see of a book: the live flows, and beside them the room for their grants.
 use Rattle.std.specs.Prelude.{ℕ, ◌+◌, ◌≤◌, ◌==◌, List, [], map, find, option_map, unwrap_or, IsSome, if◌then◌else◌}
 use Rattle.minislots.specs.declared.config.Config.{Config}
-use Rattle.flow_book.specs.declared.spec.FlowSpec.{FlowSpec}
+use Rattle.sched_calls.specs.declared.spec.FlowSpec.{FlowSpec}
 use Rattle.flow_book.specs.Flows.{LiveFlow, flow_of}
 use Rattle.flow_book.specs.Sids.{AscendBy, put_in, taken_out}
 

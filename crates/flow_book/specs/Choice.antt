@@ -4,7 +4,7 @@ use Rattle.std.specs.Prelude.{◌++◌, Contains, Option, None, Some, IsSomeAnd}
 use Rattle.std.specs.List.{AllByRecursion}
 use Rattle.minislots.specs.declared.config.Config.{Config}
 use Rattle.minislots.specs.Units.{slots_for}
-use Rattle.flow_book.specs.FlowSpec.{takes_requests, rank_of, rate_of, burst_of}
+use Rattle.sched_calls.specs.FlowSpec.{takes_requests, rank_of, rate_of, burst_of}
 use Rattle.flow_book.specs.declared.flow.Grant.{Grant}
 use Rattle.flow_book.specs.Flows.{LiveFlow, outstanding, flow_of}
 use Rattle.flow_book.specs.Ceiling.{KeepsCeiling}

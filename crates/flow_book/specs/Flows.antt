@@ -1,6 +1,6 @@
 -- The live flows, each with what it asked and was granted.
 use Rattle.std.specs.Prelude.{ℕ, ◌-◌, ◌==◌, List, [], ◌∷◌, ◌++◌, sum_by, find, Option}
-use Rattle.flow_book.specs.declared.spec.FlowSpec.{FlowSpec}
+use Rattle.sched_calls.specs.declared.spec.FlowSpec.{FlowSpec}
 use Rattle.flow_book.specs.declared.flow.Grant.{Grant}
 
 -- a live flow: its SID and parameters, the bytes that it asked, and its data grants in order

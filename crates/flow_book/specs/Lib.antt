@@ -1,6 +1,6 @@
 pub use Rattle.minislots.specs.Config
 pub use Rattle.minislots.specs.Units
-pub mod FlowSpec
+pub use Rattle.sched_calls.specs.FlowSpec
 pub mod Flows
 pub mod Granted
 pub mod Ceiling

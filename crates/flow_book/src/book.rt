@@ -17,8 +17,8 @@ use crate::queue::{
     Waiting, copy_of, first_in_turn, follow, follow_from, leave, make_room, make_way, queue_of,
     waiting_of,
 };
-use crate::spec::FlowSpec;
 use minislots::Checked;
+use sched_calls::FlowSpec;
 use std::alloc::{AllocError, Global};
 use std::marker::Model;
 

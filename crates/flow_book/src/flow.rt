@@ -7,11 +7,11 @@ ghost use Rattle.std.specs.List.{AllByRecursion};
 ghost use Rattle.minislots.specs.declared.config.Config.{Config};
 ghost use Rattle.minislots.specs.Config.{IsLawful};
 ghost use Rattle.minislots.specs.Units.{bytes_in};
-ghost use Rattle.flow_book.specs.FlowSpec.{rate_of, burst_of};
+ghost use Rattle.sched_calls.specs.FlowSpec.{rate_of, burst_of};
 ghost use Rattle.flow_book.specs.Flows.{granted, outstanding, with_grant};
 ghost use Rattle.flow_book.specs.Choice.{is_before, IsEligible, IsAmount, IsMost, KeepsWith};
 ghost use Rattle.flow_book.specs.Choice.{IsNextOf, HasStartedBy};
-ghost use Rattle.flow_book.specs.FlowSpec.{takes_requests};
+ghost use Rattle.sched_calls.specs.FlowSpec.{takes_requests};
 ghost use Rattle.flow_book.specs.Bucket.{HaveStartedBy, StandsFor, most_of};
 ghost use Rattle.flow_book.specs.Entry.{live, room_in, IsSoundFlow, IsSoundBook, IsCopy, IsTurn, KnowsTurn, KeepsSums};
 ghost use Rattle.flow_book.specs.Book.{KeepsRoom, new_flow};
@@ -19,8 +19,8 @@ ghost use Rattle.flow_book.specs.declared.flow.Flow.{Flow};
 
 use crate::bucket::Bucket;
 use crate::granted::GrantList;
-use crate::spec::FlowSpec;
 use minislots::Checked;
+use sched_calls::FlowSpec;
 use std::alloc::AllocError;
 
 /// A data grant of a flow: the minislot at which it starts, and its bytes.

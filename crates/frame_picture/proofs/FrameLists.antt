@@ -4,8 +4,8 @@ use Rattle.std.proofs.Common.{Option, None, Some, refl, sym, ap, ◌∙◌, arit
 use Rattle.std.specs.Prelude.{min}
 use Rattle.std.proofs.lemmas.List.{take_more, length-take, length-take-le, length-drop, take_all, take-append-le}
 use Rattle.std.proofs.lemmas.List.{drop-append-le, drop_all}
-use Rattle.map_build.specs.declared.frame_map.FrameMap.{FrameMap}
-use Rattle.sched_history.specs.declared.reply.Entry.{Entry}
+use Rattle.sched_calls.specs.declared.frame_map.FrameMap.{FrameMap}
+use Rattle.sched_calls.specs.declared.reply.Entry.{Entry}
 use Rattle.sched_history.specs.History.{map_by}
 use Rattle.frame_picture.specs.declared.span.Span.{Span}
 use Rattle.frame_picture.specs.Frames.{Frame, frame_by, frames_after, frames_of, frames_in}

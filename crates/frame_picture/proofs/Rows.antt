@@ -15,13 +15,13 @@ use Rattle.map_codec.specs.Element.{no_element}
 use Rattle.map_codec.specs.WireMap.{IsWellFormed}
 use Rattle.map_codec.proofs.Spelling.{in_range_at}
 use Rattle.map_drawing.specs.Allocation.{front_length}
-use Rattle.map_build.specs.declared.frame_map.FrameMap.{FrameMap}
-use Rattle.sched_history.specs.declared.reply.TheConstants.{MAX_ENTRIES}
-use Rattle.sched_history.specs.declared.reply.Entry.{Entry}
-use Rattle.sched_history.specs.declared.reply.Reply.{Reply}
-use Rattle.sched_history.specs.declared.reply.Reply.TheVariants as replies
+use Rattle.sched_calls.specs.declared.frame_map.FrameMap.{FrameMap}
+use Rattle.sched_calls.specs.declared.reply.TheConstants.{MAX_ENTRIES}
+use Rattle.sched_calls.specs.declared.reply.Entry.{Entry}
+use Rattle.sched_calls.specs.declared.reply.Reply.{Reply}
+use Rattle.sched_calls.specs.declared.reply.Reply.TheVariants as replies
 use Rattle.sched_history.specs.History.{map_by}
-use Rattle.sched_history.specs.Machine.{IsEncodable}
+use Rattle.sched_calls.specs.Reply.{IsEncodable}
 use Rattle.frame_picture.specs.declared.flows.TheConstants.{SIDS}
 use Rattle.frame_picture.specs.declared.layout.Scale.{Scale}
 use Rattle.frame_picture.specs.declared.span.Span.{Span}

@@ -1,9 +1,9 @@
 -- The picture of a history's frames.
 use Rattle.std.specs.Prelude.{ℕ, ◌+◌, Bool, List, [], ◌∷◌, ◌++◌, length, codes, Option, None, Some}
 use Rattle.minislots.specs.declared.config.Config.{Config}
-use Rattle.map_build.specs.declared.frame_map.FrameMap.{FrameMap}
-use Rattle.sched_history.specs.declared.reply.Entry.{Entry}
-use Rattle.sched_history.specs.declared.reply.Reply.{Reply}
+use Rattle.sched_calls.specs.declared.frame_map.FrameMap.{FrameMap}
+use Rattle.sched_calls.specs.declared.reply.Entry.{Entry}
+use Rattle.sched_calls.specs.declared.reply.Reply.{Reply}
 use Rattle.sched_history.specs.History.{map_by}
 use Rattle.frame_picture.specs.declared.layout.Scale.{Scale}
 use Rattle.frame_picture.specs.declared.span.Span.{Span}

@@ -1,7 +1,7 @@
 //! The axes of a picture: the minislots of a frame, and the milliseconds that they take.
 
 ghost use Rattle.std.specs.Prelude.{◌≡◌, ◌<◌, ◌≤◌};
-ghost use Rattle.sched_history.specs.declared.reply.TheConstants.{MAX_ENTRIES};
+ghost use Rattle.sched_calls.specs.declared.reply.TheConstants.{MAX_ENTRIES};
 ghost use Rattle.frame_picture.specs.Axis.{tick_step, tick_text, ticks_text, axis_text, axes_text};
 ghost use Rattle.text_stream.specs.Writing.{Puts};
 

@@ -1,7 +1,7 @@
 //! Which flows are unsolicited, along a history.
 
 ghost use Rattle.std.specs.Prelude.{◌≡◌, ◌<◌, ◌++◌, ◌∷◌, [], List};
-ghost use Rattle.sched_history.specs.declared.reply.Entry.{Entry};
+ghost use Rattle.sched_calls.specs.declared.reply.Entry.{Entry};
 ghost use Rattle.frame_picture.specs.declared.flows.TheConstants.{SIDS};
 ghost use Rattle.frame_picture.specs.Frames.{is_unsolicited, TellsUnsolicited};
 ghost use Rattle.frame_picture.specs.Turns.{turn_of};

@@ -1,7 +1,7 @@
 //! The head of a picture: how its bars look, and what each look is for.
 
 ghost use Rattle.std.specs.Prelude.{◌≤◌};
-ghost use Rattle.sched_history.specs.declared.reply.TheConstants.{MAX_ENTRIES};
+ghost use Rattle.sched_calls.specs.declared.reply.TheConstants.{MAX_ENTRIES};
 ghost use Rattle.frame_picture.specs.Head.{style_text, request_patterns, short_pattern, other_patterns};
 ghost use Rattle.frame_picture.specs.Head.{usual_legend, other_legend, size_text, counts_text, head_text};
 ghost use Rattle.text_stream.specs.Writing.{Puts};

@@ -1,7 +1,7 @@
 //! Where the parts of a picture stand.
 
 ghost use Rattle.std.specs.Prelude.{◌≡◌, ◌+◌, ◌*◌, ◌<◌, ◌≤◌};
-ghost use Rattle.sched_history.specs.declared.reply.TheConstants.{MAX_ENTRIES};
+ghost use Rattle.sched_calls.specs.declared.reply.TheConstants.{MAX_ENTRIES};
 ghost use Rattle.frame_picture.specs.Layout.{slot_units, scale_of, axes_of, axis_top, rows_under, row_top, depth_of};
 
 use minislots::Checked;

@@ -2,9 +2,9 @@
 
 ghost use Rattle.std.specs.Prelude.{◌≡◌, ◌+◌, ◌<◌, ◌≤◌, [], length, get_or, false, IfSome};
 ghost use Rattle.std.specs.List.{AllByRecursion};
-ghost use Rattle.sched_history.specs.declared.reply.TheConstants.{MAX_ENTRIES};
+ghost use Rattle.sched_calls.specs.declared.reply.TheConstants.{MAX_ENTRIES};
 ghost use Rattle.sched_history.specs.History.{map_by};
-ghost use Rattle.sched_history.specs.Machine.{IsEncodable};
+ghost use Rattle.sched_calls.specs.Reply.{IsEncodable};
 ghost use Rattle.frame_picture.specs.Frames.{frame_by, frames_of, frames_in};
 ghost use Rattle.frame_picture.specs.Layout.{scale_of};
 ghost use Rattle.frame_picture.specs.Picture.{entry_text, rows_text, frames_text, picture_text};

@@ -3,7 +3,7 @@
 ghost use Rattle.std.specs.Prelude.{◌≡◌, ◌≤◌, get_or, false};
 ghost use Rattle.map_codec.specs.Element.{nulls};
 ghost use Rattle.map_codec.specs.WireMap.{IsWellFormed};
-ghost use Rattle.sched_history.specs.declared.reply.TheConstants.{MAX_ENTRIES};
+ghost use Rattle.sched_calls.specs.declared.reply.TheConstants.{MAX_ENTRIES};
 ghost use Rattle.frame_picture.specs.Bars.{shade_text, box_text, title_text, name_text, bar_text, bars_text};
 ghost use Rattle.frame_picture.specs.Picture.{start_text, map_text};
 ghost use Rattle.text_stream.specs.Writing.{Puts};

@@ -6,7 +6,7 @@ use Rattle.serde_json.specs.Find.{as_array}
 use Rattle.serde_json.specs.View.{items_of}
 use Rattle.minislots.specs.Config.{first_wrong}
 use Rattle.minislots.specs.declared.config.Config.{Config}
-use Rattle.sched_history.specs.declared.reply.Entry.{Entry}
+use Rattle.sched_calls.specs.declared.reply.Entry.{Entry}
 use Rattle.text_stream.specs.Input.{value_of}
 use Rattle.text_stream.specs.Outcome.{◌>>=◌, unless_wrong}
 use Rattle.text_stream.proofs.Outcome.{then_tested}

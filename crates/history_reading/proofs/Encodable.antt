@@ -14,10 +14,10 @@ use Rattle.map_codec.specs.declared.wire_map.WireMap.{WireMap}
 use Rattle.map_codec.specs.WireMap.{IsWellFormed}
 use Rattle.minislots.specs.declared.config.ConfigFault.{ConfigFault}
 use Rattle.minislots.specs.Config.{first_wrong}
-use Rattle.sched_history.specs.Machine.{IsEncodable}
-use Rattle.sched_history.specs.declared.reply.Reply.{Reply}
-use Rattle.sched_history.specs.declared.reply.Reply.TheVariants.{Admitted, Removed, Taken, Noted, Reserved}
-use Rattle.sched_history.specs.declared.reply.Entry.{Entry}
+use Rattle.sched_calls.specs.Reply.{IsEncodable}
+use Rattle.sched_calls.specs.declared.reply.Reply.{Reply}
+use Rattle.sched_calls.specs.declared.reply.Reply.TheVariants.{Admitted, Removed, Taken, Noted, Reserved}
+use Rattle.sched_calls.specs.declared.reply.Entry.{Entry}
 use Rattle.text_stream.specs.declared.fault.TextFault.{TextFault}
 use Rattle.text_stream.specs.declared.fault.TextFault.TheVariants.{Shape}
 use Rattle.json_fields.specs.Fields.{◌>>=◌, u32_at, u64_at, text_at, config_of}

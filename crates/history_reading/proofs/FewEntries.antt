@@ -12,7 +12,7 @@ use Rattle.serde_json.specs.Find.{get, get_member, as_array}
 use Rattle.serde_json.specs.Read.{read}
 use Rattle.minislots.specs.declared.config.ConfigFault.{ConfigFault}
 use Rattle.minislots.specs.Config.{first_wrong}
-use Rattle.sched_history.specs.declared.reply.TheConstants.{MAX_ENTRIES}
+use Rattle.sched_calls.specs.declared.reply.TheConstants.{MAX_ENTRIES}
 use Rattle.text_stream.specs.declared.input.TheConstants.{MAX_INPUT}
 use Rattle.text_stream.specs.declared.fault.TextFault.{TextFault}
 use Rattle.text_stream.specs.declared.fault.TextFault.TheVariants.{NotJson, Shape}

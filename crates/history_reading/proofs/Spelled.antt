@@ -13,11 +13,11 @@ use Rattle.serde_json.specs.Read.{of_json, of_items, converted}
 use Rattle.serde_json.proofs.Numbers.{number_of-decimal}
 use Rattle.serde_json.specs.View.{items_of}
 use Rattle.map_codec.specs.declared.wire_map.WireMap.{WireMap}
-use Rattle.sched_history.specs.declared.call.Call.{Call}
-use Rattle.sched_history.specs.declared.reply.Reply.{Reply}
-use Rattle.sched_history.specs.declared.reply.Reply.TheVariants.{Admitted, Removed, Taken, Noted, Built, Skipped, Flow}
-use Rattle.sched_history.specs.declared.reply.Reply.TheVariants.{Refused, Reserved}
-use Rattle.sched_history.specs.declared.reply.Refusal.{Refusal}
+use Rattle.sched_calls.specs.declared.call.Call.{Call}
+use Rattle.sched_calls.specs.declared.reply.Reply.{Reply}
+use Rattle.sched_calls.specs.declared.reply.Reply.TheVariants.{Admitted, Removed, Taken, Noted, Built, Skipped, Flow}
+use Rattle.sched_calls.specs.declared.reply.Reply.TheVariants.{Refused, Reserved}
+use Rattle.sched_calls.specs.declared.reply.Refusal.{Refusal}
 use Rattle.json_fields.specs.Fields.{below, u32_at, u64_at, number_at, text_at}
 use Rattle.json_fields.specs.Listed.{StandEach}
 use Rattle.byte_tokens.specs.Listed.{number_tokens}

@@ -5,7 +5,7 @@ use Rattle.json.specs.Token.{Token}
 use Rattle.json.specs.Json.{read_key, members, value}
 use Rattle.serde_json.specs.Data.{Data, number, unsigned, object, Members, put}
 use Rattle.serde_json.specs.Read.{of_json, of_members, converted}
-use Rattle.sched_history.specs.declared.reply.Reply.{Reply}
+use Rattle.sched_calls.specs.declared.reply.Reply.{Reply}
 use Rattle.history_reading.specs.Replies.{reply_of}
 
 -- a member was read, this value under this key: the tokens that are left are fewer

@@ -7,7 +7,6 @@ ghost use Rattle.history_reading.specs.Recorded.{entries_of, history_of, history
 mod entry;
 mod numbers;
 mod quick_entry;
-mod quick_history;
 mod quick_member;
 mod quick_numbers;
 mod quick_reply;
@@ -20,7 +19,7 @@ use entry::entry_of;
 use json_fields::{config_in, member};
 use minislots::Config;
 pub use reading::read_history;
-use sched_history::Entry;
+use sched_calls::Entry;
 use serde_json::Value;
 pub use single::entry_in;
 use std::alloc::Global;

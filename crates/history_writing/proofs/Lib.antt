@@ -1,3 +1,4 @@
 pub mod JsonTokens
 pub mod RowsHistory
 pub mod JsonNumbers
+pub mod RowsJournal

@@ -4,11 +4,11 @@ use Rattle.std.specs.Fmt.{digits}
 use Rattle.hex.proofs.OnLiterals.{hex_on_literals}
 use Rattle.serde_json.proofs.OnLiterals.{serde_json_on_literals}
 use Rattle.map_codec.specs.WireMap.{header, spelling}
-use Rattle.flow_book.proofs.Base.{base}
-use Rattle.map_build.proofs.RowsMaps.{first_map}
-use Rattle.sched_history.specs.declared.call.Call.TheVariants.{Build}
-use Rattle.sched_history.specs.declared.reply.Reply.TheVariants.{Built}
-use Rattle.sched_history.specs.declared.reply.Entry.{Entry}
+use Rattle.sched_calls.proofs.Base.{base}
+use Rattle.sched_calls.proofs.BaseMaps.{first_map}
+use Rattle.sched_calls.specs.declared.call.Call.TheVariants.{Build}
+use Rattle.sched_calls.specs.declared.reply.Reply.TheVariants.{Built}
+use Rattle.sched_calls.specs.declared.reply.Entry.{Entry}
 use Rattle.history_writing.specs.Json.{counts, call_data, map_data, reply_data}
 use Rattle.history_writing.specs.HistoryText.{config_data, entry_data, entries_data, history_data, history_text}
 

@@ -2,3 +2,4 @@ pub mod Json
 pub mod Tokens
 pub mod HistoryText
 pub mod Fits
+pub mod Journal

@@ -1,10 +1,11 @@
 //! The text of a history.
 
-ghost use Rattle.std.specs.Prelude.{◌≡◌, ◌≢◌, ◌++◌, IfOk, OnOk, IfErr, ◌⊎◌, codes};
+ghost use Rattle.std.specs.Prelude.{◌≡◌, ◌≢◌, ◌<◌, ◌^◌, ◌++◌, IfOk, OnOk, IfErr, ◌⊎◌, codes};
 ghost use Rattle.std.specs.List.{AllByRecursion};
 ghost use Rattle.std.specs.Io.KnownBytes.{Appends};
 ghost use Rattle.json.specs.Token.{key};
-ghost use Rattle.sched_history.specs.Machine.{IsEncodable};
+ghost use Rattle.sched_calls.specs.Reply.{IsEncodable};
+ghost use Rattle.history_writing.specs.Fits.{EntryFits};
 ghost use Rattle.history_writing.specs.HistoryText.{entry_data, entries_data, history_data, history_text};
 ghost use Rattle.history_writing.specs.Tokens.{tokens_of, numbered};
 ghost use Rattle.text_stream.specs.Watched.{FailsBy};
@@ -15,12 +16,12 @@ mod count;
 mod reply;
 
 use call::put_call;
-pub use config::put_config;
+pub(crate) use config::put_config;
 use count::put_count;
 use json::Writer;
 use minislots::{Config, Stamp};
 use reply::put_reply;
-use sched_history::Entry;
+use sched_calls::Entry;
 use std::alloc::{AllocError, Global};
 use text_stream::{Sink, TextFault, put};
 
@@ -29,6 +30,7 @@ fn put_stamp(out: &mut Writer, stamp: Stamp) -> Result<(), AllocError>
     ensures ok { OnOk result (out.new.tokens ≡ out.old.tokens
         ++ (numbered (codes "seat") stamp.seat ++ numbered (codes "ticket") stamp.ticket)) }
     ensures before { out.new.before ≡ out.old.before }
+    ensures fits { (stamp.seat < 2 ^ 32) × (stamp.ticket < 2 ^ 64) }
 {
     put_count(out, "seat", stamp.seat as u64)?;
     put_count(out, "ticket", stamp.ticket)
@@ -37,10 +39,11 @@ fn put_stamp(out: &mut Writer, stamp: Stamp) -> Result<(), AllocError>
 /// Writes an entry: its call, its reply and its stamp. Nothing is said of which of its tokens are written where there
 /// is no memory for all.
 #[tactic(auto, unfolding(crate::specs::HistoryText::entry_data))]
-pub fn put_entry(out: &mut Writer, entry: &Entry) -> Result<(), AllocError>
+pub(crate) fn put_entry(out: &mut Writer, entry: &Entry) -> Result<(), AllocError>
     requires { IsEncodable entry.now.reply }
     ensures ok { OnOk result (out.new.tokens ≡ out.old.tokens ++ tokens_of (entry_data entry.now)) }
     ensures before { out.new.before ≡ out.old.before }
+    ensures fits { OnOk result (EntryFits entry.now) }
 {
     out.begin_object()?;
     out.key("call")?;
@@ -58,6 +61,7 @@ fn put_entries(out: &mut Writer, entries: &[Entry]) -> Result<(), AllocError>
     ensures ok { OnOk result
         (out.new.tokens ≡ out.old.tokens ++ tokens_of (entries_data entries.now)) }
     ensures before { out.new.before ≡ out.old.before }
+    ensures fits { OnOk result (AllByRecursion EntryFits entries.now) }
 {
     out.begin_array()?;
     for entry in entries {
@@ -73,6 +77,7 @@ fn put_members(out: &mut Writer, config: &Config, entries: &[Entry]) -> Result<(
     ensures ok { OnOk result (out.new.tokens
         ≡ out.old.tokens ++ tokens_of (history_data config.now entries.now)) }
     ensures before { out.new.before ≡ out.old.before }
+    ensures fits { OnOk result (AllByRecursion EntryFits entries.now) }
 {
     out.begin_object()?;
     out.key("config")?;
@@ -86,7 +91,8 @@ fn put_members(out: &mut Writer, config: &Config, entries: &[Entry]) -> Result<(
 #[tactic(auto, unfolding(crate::specs::HistoryText::history_text))]
 fn history_text(alloc: Global, config: &Config, entries: &[Entry]) -> Result<Vec<u8>, AllocError>
     requires { AllByRecursion (λ e. IsEncodable e.reply) entries.now }
-    ensures { IfOk result (λ text. text.items ≡ history_text config.now entries.now) }
+    ensures ok { IfOk result (λ text. text.items ≡ history_text config.now entries.now) }
+    ensures fits { OnOk result (AllByRecursion EntryFits entries.now) }
 {
     let mut out = Writer::new(Vec::new(alloc));
     put_members(&mut out, config, entries)?;
@@ -95,7 +101,8 @@ fn history_text(alloc: Global, config: &Config, entries: &[Entry]) -> Result<Vec
     Ok(text)
 }
 
-/// Writes the text of a history. Nothing is written before memory runs out.
+/// Writes the text of a history, whose numbers fit the types of their fields. Nothing is written before memory runs
+/// out.
 pub fn put_history<W: Sink>(
     alloc: Global,
     writer: &mut W,
@@ -105,6 +112,7 @@ pub fn put_history<W: Sink>(
     requires { AllByRecursion (λ e. IsEncodable e.reply) entries.now }
     ensures ok { OnOk result (Appends (W.contents writer.old) (W.contents writer.new)
         (history_text config.now entries.now)) }
+    ensures fits { OnOk result (AllByRecursion EntryFits entries.now) }
     ensures quiet { IfErr result (λ e. e ≢ TextFault.Output → writer.new ≡ writer.old) }
     ensures err { IfErr result (λ e. (e ≡ TextFault.Memory) ⊎ (e ≡ TextFault.Output)) }
     ensures failed { FailsBy TextFault.Output result

@@ -1,6 +1,8 @@
-//! The histories that are written.
+//! The histories and the journals that are written.
 #![tactic(auto)]
 
 mod history;
+mod journal;
 
-pub use history::{put_config, put_entry, put_history};
+pub use history::put_history;
+pub use journal::{add_entry, opening_text, put_journal};

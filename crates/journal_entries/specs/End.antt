@@ -1,7 +1,7 @@
 -- How a command over the entries of a journal ends.
-use Rattle.std.specs.Prelude.{◌≡◌, ℕ, List, [], ◌∷◌, ◌++◌, length, Option}
+use Rattle.std.specs.Prelude.{◌≡◌, ℕ, List, [], ◌∷◌, ◌++◌, length, codes, decimal, Option}
 use Rattle.minislots.specs.declared.config.Config.{Config as Configuration}
-use Rattle.sched_history.specs.declared.reply.Entry.{Entry}
+use Rattle.sched_calls.specs.declared.reply.Entry.{Entry}
 use Rattle.text_stream.specs.declared.fault.TextFault.TheVariants.{Input, TooLong, NotJson, Shape, Config, Memory}
 use Rattle.text_stream.specs.declared.fault.TextFault.TheVariants.{Output}
 use Rattle.text_stream.specs.declared.run_fault.RunFault.{RunFault}
@@ -15,6 +15,12 @@ abbrev pub status_of : EntriesEnd → ℕ
 status_of (Legal torn) = 0
 status_of (Illegal place) = 1
 status_of (Bad line) = 3
+
+-- what is told of it: how many bytes are torn, which entry is illegal, or which line is bad
+abbrev pub words_of : EntriesEnd → List ℕ
+words_of (Legal torn) = codes "torn " ++ decimal torn
+words_of (Illegal place) = codes "illegal " ++ decimal place
+words_of (Bad line) = codes "bad journal at " ++ decimal line
 
 -- An entry of the journal may not follow these, which stand before it
 pub record EndsIllegal (before left : Option (List ℕ)) (c : Configuration) (es : List Entry) (place : ℕ) : Type 0 where

@@ -1,9 +1,10 @@
 -- What a reader of a journal's entries has given, and what comes next.
 use Rattle.std.specs.Prelude.{◌≡◌, ℕ, ◌≤◌, if◌then◌else◌, List, [], ◌∷◌, ◌++◌, length, Option}
 use Rattle.minislots.specs.declared.config.Config.{Config}
-use Rattle.sched_history.specs.declared.reply.Entry.{Entry}
-use Rattle.sched_history.specs.declared.reply.TheConstants.{MAX_WHOLE_HISTORY}
-use Rattle.sched_history.specs.Machine.{Past, IsEncodable}
+use Rattle.sched_calls.specs.declared.reply.Entry.{Entry}
+use Rattle.sched_calls.specs.declared.reply.TheConstants.{MAX_WHOLE_HISTORY}
+use Rattle.sched_history.specs.Machine.{Past}
+use Rattle.sched_calls.specs.Reply.{IsEncodable}
 use Rattle.line_stream.specs.declared.Told.{Told}
 use Rattle.line_stream.specs.declared.Told.TheVariants.{Line, Long}
 use Rattle.line_stream.specs.Told.{untold, TellsWhole}

@@ -6,7 +6,7 @@ use Rattle.std.specs.Result.{result_ok}
 use Rattle.serde_json.specs.Find.{get}
 use Rattle.minislots.specs.declared.config.Config.{Config}
 use Rattle.minislots.specs.Config.{first_wrong}
-use Rattle.sched_history.specs.declared.reply.Entry.{Entry}
+use Rattle.sched_calls.specs.declared.reply.Entry.{Entry}
 use Rattle.text_stream.specs.Input.{value_of}
 use Rattle.text_stream.specs.Outcome.{unless_wrong}
 use Rattle.json_fields.specs.Fields.{◌>>=◌, config_of}

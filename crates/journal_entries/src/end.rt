@@ -1,7 +1,9 @@
 //! How a command over a journal ends.
 
-ghost use Rattle.std.specs.Prelude.{◌≡◌};
-ghost use Rattle.journal_entries.specs.End.{status_of};
+ghost use Rattle.std.specs.Prelude.{◌≡◌, Some};
+ghost use Rattle.journal_entries.specs.End.{status_of, words_of};
+
+use std::fmt;
 
 /// How a command over the entries of a journal ends, where neither a read nor a write failed. Lines and entries are
 /// counted from 0, and line 0 is the configuration.
@@ -28,13 +30,22 @@ impl EntriesEnd {
         }
     }
 
-    /// Tells on standard error what is torn, illegal or bad.
+    /// Tells on standard error what is torn, illegal or bad, where anything is.
     pub fn tell(self, rt: &impl Eprint) {
-        let _ = match self {
-            EntriesEnd::Legal(0) => Ok(()),
-            EntriesEnd::Legal(torn) => rt.eprintln(format_args!("torn {torn}")),
-            EntriesEnd::Illegal(place) => rt.eprintln(format_args!("illegal {place}")),
-            EntriesEnd::Bad(line) => rt.eprintln(format_args!("bad journal at {line}")),
-        };
+        if self != EntriesEnd::Legal(0) {
+            let _ = rt.eprintln(self);
+        }
+    }
+}
+
+impl fmt::Display for EntriesEnd {
+    ghost output = { λ end. Some (words_of end) };
+
+    fn fmt<W: fmt::Write>(&self, f: &mut fmt::Formatter<W>) -> fmt::Result {
+        match self {
+            EntriesEnd::Legal(torn) => write!(f, "torn {torn}"),
+            EntriesEnd::Illegal(place) => write!(f, "illegal {place}"),
+            EntriesEnd::Bad(line) => write!(f, "bad journal at {line}"),
+        }
     }
 }

@@ -9,7 +9,6 @@ ghost use Rattle.journal_entries.specs.Next.{HasGiven, HasOpened, IsNext, TakesN
 ghost use Rattle.journal_entries.specs.Next.{told_last, ShowsBad};
 
 use crate::line::{Taken, opening_in, take_line};
-use json::Scratch;
 use line_stream::{Lines, Whole};
 use minislots::Checked;
 use sched_history::{Auditor, Entry};
@@ -36,7 +35,6 @@ pub enum Next {
 #[derive(Drop)]
 pub struct JournalEntries {
     alloc: Global,
-    scratch: Scratch,
     // Whether the line that was read last is long.
     is_long: bool,
     /// The lines behind the last entry.
@@ -86,7 +84,7 @@ impl JournalEntries {
         ensures failed { FailsBy TextFault.Input result
             (R.has_failed reader.old) (R.has_failed reader.new) }
     {
-        let mut lines = Lines::new();
+        let mut lines = Lines::new(alloc)?;
         let config = match read_opening(alloc, &mut lines, reader) {
             Ok(Some(config)) => config,
             Ok(None) => return Ok(None),
@@ -97,7 +95,6 @@ impl JournalEntries {
         };
         let entries = JournalEntries {
             alloc,
-            scratch: Scratch::new(alloc),
             is_long: false,
             lines,
             auditor,
@@ -138,8 +135,7 @@ impl JournalEntries {
             Ok(Whole::Torn(bytes)) => return Ok(Next::End(bytes)),
             Err(fault) => return Err(fault),
         }
-        let scratch = &mut self.scratch;
-        match take_line(self.alloc, scratch, &mut self.auditor, self.lines.line()) {
+        match take_line(self.alloc, &mut self.auditor, self.lines.line()) {
             Ok(Taken::Entry(entry)) => return Ok(Next::Entry(entry)),
             Ok(Taken::Illegal) => return Ok(Next::Illegal(self.auditor.taken())),
             Ok(Taken::NoEntry) => {}

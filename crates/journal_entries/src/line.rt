@@ -7,7 +7,6 @@ ghost use Rattle.journal_entries.specs.Standing.{is_document, config_under, open
 ghost use Rattle.journal_entries.specs.Taking.{Takes, StopsTaking};
 
 use history_reading::entry_in;
-use json::Scratch;
 use json_fields::config_in;
 use minislots::Checked;
 use sched_history::{Auditor, Entry, JudgeFault};
@@ -66,7 +65,6 @@ pub(crate) enum Taken {
 // Judges the entry that a line stands for, and takes it where it may follow.
 pub(crate) fn take_line(
     alloc: Global,
-    scratch: &mut Scratch,
     auditor: &mut Auditor,
     line: &[u8],
 ) -> Result<Taken, TextFault>
@@ -74,7 +72,7 @@ pub(crate) fn take_line(
     ensures takes { IfOk result (Takes auditor.old auditor.new line.now) }
     ensures stops { IfErr result (StopsTaking auditor.old line.now) }
 {
-    let Some(entry) = entry_in(alloc, scratch, line)? else {
+    let Some(entry) = entry_in(alloc, line)? else {
         return Ok(Taken::NoEntry);
     };
     match auditor.judge(&entry) {

@@ -2,14 +2,13 @@
 
 ghost use Rattle.std.specs.Prelude.{[], List, ℕ, Option, IfOk, IfErr, MatchOption};
 ghost use Rattle.minislots.specs.declared.config.Config.{Config as Configuration};
-ghost use Rattle.sched_history.specs.declared.reply.Entry.{Entry as Recorded};
+ghost use Rattle.sched_calls.specs.declared.reply.Entry.{Entry as Recorded};
 ghost use Rattle.text_stream.specs.Watched.{FailsBy};
 ghost use Rattle.journal_entries.specs.Journal.{HasNoOpening, StopsJournal};
 ghost use Rattle.journal_entries.specs.Unjudged.{HasRead, IsRead};
 
 use crate::entries::read_opening;
 use history_reading::entry_in;
-use json::Scratch;
 use line_stream::{Lines, Whole};
 use minislots::Checked;
 use sched_history::Entry;
@@ -32,7 +31,6 @@ pub enum Read {
 #[derive(Drop)]
 pub struct UnjudgedEntries {
     alloc: Global,
-    scratch: Scratch,
     /// The lines behind the last entry.
     pub lines: Lines,
 }
@@ -52,19 +50,9 @@ impl UnjudgedEntries {
         ensures failed { FailsBy TextFault.Input result
             (R.has_failed reader.old) (R.has_failed reader.new) }
     {
-        let mut lines = Lines::new();
+        let mut lines = Lines::new(alloc)?;
         match read_opening(alloc, &mut lines, reader) {
-            Ok(Some(config)) => {
-                let scratch = Scratch::new(alloc);
-                Ok(Some((
-                    config,
-                    UnjudgedEntries {
-                        alloc,
-                        scratch,
-                        lines,
-                    },
-                )))
-            }
+            Ok(Some(config)) => Ok(Some((config, UnjudgedEntries { alloc, lines }))),
             Ok(None) => Ok(None),
             Err(fault) => Err(fault),
         }
@@ -93,7 +81,7 @@ impl UnjudgedEntries {
             Ok(Whole::Torn(bytes)) => return Ok(Read::End(bytes)),
             Err(fault) => return Err(fault),
         }
-        match entry_in(self.alloc, &mut self.scratch, self.lines.line()) {
+        match entry_in(self.alloc, self.lines.line()) {
             Ok(Some(entry)) => Ok(Read::Entry(entry)),
             Ok(None) => Ok(Read::NoEntry),
             Err(_) => Err(TextFault::Memory),

@@ -1,5 +1,7 @@
 mod Known
-mod Growing
-mod Places
 mod Finding
-mod Refusing
+mod Comparing
+pub mod Growing
+mod Places
+mod Standing
+mod Held

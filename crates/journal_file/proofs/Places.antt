@@ -1,127 +1,160 @@
 -- What a file stands for after each change of it.
-use Rattle.std.proofs.Common.{◌≡◌, ◌⊎◌, ℕ, List, [], ◌++◌, length, take, Option, None, Some, refl, sym, ap, ◌∙◌, subst}
-use Rattle.std.proofs.Common.{inl, inr, append-nil}
-use Rattle.std.specs.Prelude.{flat_map}
+use Rattle.std.proofs.Common.{◌≡◌, ◌⊎◌, ℕ, ◌^◌, ◌-◌, min, Bool, true, false, List, [], ◌++◌, length, take}
+use Rattle.std.proofs.Common.{Option, None, Some, refl, sym, ap, ◌∙◌, subst, inl, inr, append-nil, arith}
+use Rattle.std.specs.Prelude.{flat_map, ◌==◌, if◌then◌else◌}
 use Rattle.std.specs.Io.KnownBytes.{append_known}
 use Rattle.std.proofs.Math.Seq.{take-append_seam}
+use Rattle.std.proofs.lemmas.Bool.Decides.{Decides-eqb}
 use Rattle.minislots.specs.declared.config.Config.{Config}
-use Rattle.sched_history.specs.declared.reply.Entry.{Entry}
-use Rattle.journal_writing.specs.Journal.{opening_line, entry_line}
-use Rattle.live_command.specs.Journal.{Keeps, Grows, GrowsInPart}
-use Rattle.journal_file.specs.declared.place.Place.{Place}
-use Rattle.journal_file.specs.declared.place.Place.TheVariants.{NoLine, Torn, Whole, Failed}
-use Rattle.journal_file.specs.Store.{HasLength, Lacks, cut_known}
-use Rattle.journal_file.specs.Standing.{IsJournal, IsTorn, IsTornJournal}
-use Rattle.journal_file.specs.Place.{MayBegin, KnownStandsFor, KnownMayBegin}
-use Rattle.journal_file.proofs.Growing.{IsJournal-more, IsJournal-begun, IsTornJournal-whole}
-use Rattle.journal_file.proofs.Growing.{IsTornJournal-more, opening-front}
+use Rattle.sched_calls.specs.declared.reply.Entry.{Entry}
+use Rattle.journal_reading.specs.Standing.{ended_lines}
+use Rattle.history_writing.specs.Journal.{opening_line, entry_line}
+use Rattle.journal_file.specs.declared.notes.Note.{Note}
+use Rattle.journal_file.specs.declared.place.Place.TheVariants.{NoLine, Resumed, Failed}
+use Rattle.journal_file.specs.LineFile.{cut_torn}
+use Rattle.journal_file.specs.Notes.{told_more}
+use Rattle.journal_file.specs.Place.{IsWholeJournal, IsLeftJournal, MayBegin}
+use Rattle.journal_file.specs.Standing.{IsResumed, notes_of}
+use Rattle.journal_file.specs.Store.{HasLength, Lacks}
+use Rattle.journal_file.proofs.Finding.{all_bytes, none_of}
+use Rattle.journal_file.proofs.Growing.{IsJournal-more, IsLeft-more}
 
--- a file without a line that got what it lacks of the opening's
-pub begun : (c : Config) (n : ℕ) (old : Option (List ℕ)) (opening rest : List ℕ) → opening ≡ opening_line c
-    → (HasLength old n → Lacks old opening rest) → (es : List Entry) → KnownMayBegin (NoLine n) old c es
-    → KnownStandsFor Whole (append_known old rest) c es
-begun c n None opening rest is lacks es may = tt
-begun c n (Some text) opening rest is lacks es may =
-    let whole : text ++ rest ≡ opening_line c = sym (lacks (sym may.2)) ∙ is in
-    subst (λ (found : List Entry). IsJournal c (text ++ rest) found) (sym may.0) (IsJournal-begun c _ whole)
+-- nothing was told
+told_none : (told before : Option (List Note)) → told ≡ before → told ≡ told_more before []
+told_none told None is = is
+told_none told (Some notes) is = is ∙ ap Some (sym (append-nil notes))
 
-begun-front : (c : Config) (new : List ℕ) (es : List Entry) → es ≡ [] → IsTorn new ⊎ (new ≡ opening_line c)
-    → MayBegin c Failed new es
-begun-front c new es none (inl torn) = inl (none, torn)
-begun-front c new es none (inr whole) =
-    inr (
-      length new,
-      subst (λ (found : List Entry). IsTornJournal c new found (length new)) (sym none)
-          (IsTornJournal-whole c new [] (IsJournal-begun c new whole)),
+-- a file without a line that got what it lacks of the opening's is begun
+pub begun : (c : Config) (found text : Option (List ℕ)) (before told : Option (List Note)) (n : ℕ)
+    (opening rest : List ℕ) (es : List Entry) → opening ≡ opening_line c → (HasLength text n → Lacks text opening rest)
+    → MayBegin c found before (NoLine n) text told es
+    → IsWholeJournal c found before (append_known text rest) told es
+begun c None text before told n opening rest es is lacks may = tt
+begun c (Some found) None before told n opening rest es is lacks may = absurd may.1
+begun c (Some found) (Some text) before told n opening rest es is lacks may =
+    let known : n ≡ length text = sym (ap length may.1.2 ∙ may.1.3) in
+    let whole : opening_line c ≡ text ++ rest = sym is ∙ lacks known in (
+      [],
+      record {
+        front = text ++ rest;
+        resumed = [];
+        begins = inl (
+          record {
+            within = may.1.0;
+            lacked = rest;
+            opening = whole ∙ ap (λ (t : List ℕ). t ++ rest) may.1.2;
+            front_is = sym whole;
+            none = refl;
+          },
+          refl,
+        );
+        added = [];
+        entries_are = may.1.1;
+        text_is = sym (append-nil (text ++ rest));
+      },
+      told_none told before may.0,
     )
 
--- or a part of it, since a call failed
-pub begun-part : (c : Config) (n : ℕ) (old : Option (List ℕ)) (opening rest : List ℕ) (k : ℕ)
-    → opening ≡ opening_line c → (HasLength old n → Lacks old opening rest) → (es : List Entry)
-    → KnownMayBegin (NoLine n) old c es → KnownMayBegin Failed (append_known old (take k rest)) c es
-begun-part c n None opening rest k is lacks es may = tt
-begun-part c n (Some text) opening rest k is lacks es may =
-    begun-front c _ es may.0 (opening-front c text rest k (sym is ∙ lacks (sym may.2)))
+-- or a part of it is there, since a call failed
+pub begun-part : (c : Config) (found text : Option (List ℕ)) (before told : Option (List Note)) (n : ℕ)
+    (opening rest : List ℕ) (k : ℕ) (es : List Entry) → opening ≡ opening_line c
+    → (HasLength text n → Lacks text opening rest) → MayBegin c found before (NoLine n) text told es
+    → MayBegin c found before Failed (append_known text (take k rest)) told es
+begun-part c None text before told n opening rest k es is lacks may = (may.0, tt)
+begun-part c (Some found) None before told n opening rest k es is lacks may = absurd may.1
+begun-part c (Some found) (Some text) before told n opening rest k es is lacks may =
+    let known : n ≡ length text = sym (ap length may.1.2 ∙ may.1.3) in
+    let whole : opening_line c ≡ found ++ rest =
+    sym is ∙ lacks known ∙ ap (λ (t : List ℕ). t ++ rest) may.1.2 in (
+      may.0,
+      inl (
+        may.1.0,
+        may.1.1,
+        inr (rest, k, whole, ap (λ (t : List ℕ). t ++ take k rest) may.1.2),
+      ),
+    )
 
--- what is torn was cut off
-pub cut-whole : (c : Config) (end : ℕ) (old : Option (List ℕ)) (es : List Entry) → KnownMayBegin (Torn end) old c es
-    → KnownStandsFor Whole (cut_known old end) c es
-cut-whole c end None es may = tt
-cut-whole c end (Some text) es may =
-    let front : take end text ≡ may.whole =
-    ap (take end) may.text_is ∙ ap (λ (n : ℕ). take n (may.whole ++ may.torn)) (sym may.ends)
-    ∙ take-append_seam may.whole may.torn in
-    subst (λ (t : List ℕ). IsJournal c t es) (sym front) may.journal
+-- no bytes, where the least of their number and a greater one is none
+min_none : (n : ℕ) → min n (2 ^ 64 - 1) ≡ 0 → n ≡ 0
+min_none n none = omega (arith, none)
+
+-- one of two
+either : (b : Bool) (text front : List ℕ) (end : ℕ) → (b ≡ true → text ≡ front) → take end text ≡ front
+    → (if b then Some text else Some (take end text)) ≡ Some front
+either true text front end all some = ap Some (all refl)
+either false text front end all some = ap Some some
+
+-- the whole lines of what was found are what is left where the torn bytes are cut off
+cut_is : (c : Config) (found front : List ℕ) (es : List Entry) (end torn : ℕ) → IsResumed c found front es torn
+    → length front ≡ end → cut_torn (Some found) end torn ≡ Some front
+cut_is c found front es end torn resumed long =
+    let legal = resumed.legal in
+    let behind = legal.behind in
+    let parts : found ≡ front ++ behind =
+    all_bytes found (ended_lines legal.lines ++ behind) resumed.left legal.came.came.consumed legal.came.ended
+    ∙ ap (λ (t : List ℕ). t ++ behind) (sym resumed.front_is) in
+    let taken : take end found ≡ front =
+    ap (take end) parts ∙ ap (λ (n : ℕ). take n (front ++ behind)) (sym long) ∙ take-append_seam front behind in
+    let all : torn ≡ 0 → found ≡ front = λ none.
+    let nothing : behind ≡ [] = none_of behind (min_none (length behind) (sym legal.torn_is ∙ none)) in
+    parts ∙ ap (λ (t : List ℕ). front ++ t) nothing ∙ append-nil front in
+    either (torn == 0) found front end (λ is. all ((Decides-eqb torn 0).0 is)) taken
+
+-- a journal that was found, of which the torn bytes are cut off, is whole
+pub resumed : (c : Config) (found text : Option (List ℕ)) (before told : Option (List Note)) (entries end torn : ℕ)
+    (es : List Entry) → MayBegin c found before (Resumed entries end torn) text told es
+    → IsWholeJournal c found before (cut_torn text end torn) (told_more told (notes_of entries torn)) es
+resumed c None text before told entries end torn es may = tt
+resumed c (Some found) None before told entries end torn es may = absurd may.2
+resumed c (Some found) (Some text) before told entries end torn es may =
+    let front = may.2.1.0 in
+    let is = may.2.1.1 in
+    let cut : cut_torn (Some text) end torn ≡ Some front =
+    ap (λ (t : List ℕ). cut_torn (Some t) end torn) may.2.0 ∙ cut_is c found front es end torn is may.2.1.2 in
+    subst (λ (t : Option (List ℕ)). IsWholeJournal c (Some found) before t (told_more told (notes_of entries torn)) es)
+    (sym cut) (
+      notes_of entries torn,
+      record {
+        front = front;
+        resumed = es;
+        begins = inr (torn, is, ap (λ (n : ℕ). notes_of n torn) may.1);
+        added = [];
+        entries_are = sym (append-nil es);
+        text_is = sym (append-nil front);
+      },
+      ap (λ (t : Option (List Note)). told_more t (notes_of entries torn)) may.0,
+    )
 
 -- or a call failed
-pub cut-failed : (c : Config) (end : ℕ) (old : Option (List ℕ)) (es : List Entry) → KnownMayBegin (Torn end) old c es
-    → KnownMayBegin Failed old c es
-cut-failed c end None es may = tt
-cut-failed c end (Some text) es may = inr (end, may)
-
--- a journal that is left after a failed call, and has nothing behind it
-pub whole-failed : (c : Config) (old : Option (List ℕ)) (es : List Entry) → KnownStandsFor Whole old c es
-    → KnownMayBegin Failed old c es
-whole-failed c None es stands = tt
-whole-failed c (Some text) es stands = inr (length text, IsTornJournal-whole c text es stands)
+pub resumed-failed : (c : Config) (found text new : Option (List ℕ)) (before told : Option (List Note))
+    (entries end torn : ℕ) (es : List Entry) → MayBegin c found before (Resumed entries end torn) text told es
+    → (new ≡ cut_torn text end torn) ⊎ (new ≡ text) → MayBegin c found before Failed new told es
+resumed-failed c None text new before told entries end torn es may cuts = (may.0, tt)
+resumed-failed c (Some found) None new before told entries end torn es may cuts = absurd may.2
+resumed-failed c (Some found) (Some text) new before told entries end torn es may (inl cuts) =
+    let front = may.2.1.0 in
+    let is : new ≡ Some front = cuts ∙ ap (λ (t : List ℕ). cut_torn (Some t) end torn) may.2.0
+    ∙ cut_is c found front es end torn may.2.1.1 may.2.1.2 in
+    rw is (may.0, inr (front, torn, may.2.1.1, inr refl))
+resumed-failed c (Some found) (Some text) new before told entries end torn es may (inr same) =
+    rw same (may.0, inr (may.2.1.0, torn, may.2.1.1, inl may.2.0))
 
 -- lines were put behind a journal
-pub grown : (c : Config) (old : Option (List ℕ)) (entries : List Entry) → Grows (KnownStandsFor Whole old c)
-    (KnownStandsFor Whole (append_known old (flat_map entry_line entries)) c) entries
-grown c None entries before stands = tt
-grown c (Some text) entries before stands = IsJournal-more c text _ before entries stands refl
+pub grown : (c : Config) (found text : Option (List ℕ)) (before told : Option (List Note)) (es entries : List Entry)
+    → IsWholeJournal c found before text told es
+    → IsWholeJournal c found before (append_known text (flat_map entry_line entries)) told (es ++ entries)
+grown c None text before told es entries was = tt
+grown c (Some found) None before told es entries was = absurd was
+grown c (Some found) (Some text) before told es entries was =
+    (was.0, IsJournal-more c found text _ es entries was.0 was.1 refl, was.2)
 
 -- or a part of them
-pub grown-part : (c : Config) (old : Option (List ℕ)) (entries : List Entry) (k : ℕ)
-    → GrowsInPart (KnownStandsFor Whole old c)
-    (KnownStandsFor Failed (append_known old (take k (flat_map entry_line entries))) c) entries
-grown-part c None entries k before stands = (0, tt)
-grown-part c (Some text) entries k before stands =
-    let more = IsTornJournal-more c text _ before entries k stands refl in
-    (more.0, (more.1, more.2))
-
--- or nothing
-pub grown_none : (P : List Entry → Type 0) (entries : List Entry) → GrowsInPart P P entries
-grown_none P entries before stands = (0, subst P (sym (append-nil before)) stands)
-
--- The same of a file whose place and bytes are told by equations.
-module _ (c : Config) (was is : Place) (old new : Option (List ℕ)) where
-  -- a journal that is begun has its opening
-  pub begun_ok : (n : ℕ) (opening rest : List ℕ) → was ≡ NoLine n → is ≡ Whole → opening ≡ opening_line c
-      → (HasLength old n → Lacks old opening rest) → new ≡ append_known old rest
-      → Keeps (KnownMayBegin was old c) (KnownStandsFor is new c)
-  begun_ok n opening rest before after text lacks more es may =
-      rw (after, more) (begun c n old opening rest text lacks es (rw before at may))
-
-  -- or a part of it
-  pub begun_err : (n : ℕ) (opening rest : List ℕ) → was ≡ NoLine n → is ≡ Failed → opening ≡ opening_line c
-      → (HasLength old n → Lacks old opening rest) → (k : ℕ) × new ≡ append_known old (take k rest)
-      → Keeps (KnownMayBegin was old c) (KnownMayBegin is new c)
-  begun_err n opening rest before after text lacks more es may =
-      rw (after, more.1) (begun-part c n old opening rest more.0 text lacks es (rw before at may))
-
-  -- a torn line that is cut off leaves a whole journal
-  pub cut_ok : (end : ℕ) → was ≡ Torn end → is ≡ Whole → new ≡ cut_known old end
-      → Keeps (KnownMayBegin was old c) (KnownStandsFor is new c)
-  cut_ok end before after cuts es may = rw (after, cuts) (cut-whole c end old es (rw before at may))
-
-  -- or it is not cut off
-  pub cut_err : (end : ℕ) → was ≡ Torn end → is ≡ Failed → (new ≡ cut_known old end) ⊎ (new ≡ old)
-      → Keeps (KnownMayBegin was old c) (KnownMayBegin is new c)
-  cut_err end before after (inl cuts) es may =
-      rw (after, cuts) (whole-failed c _ es (cut-whole c end old es (rw before at may)))
-  cut_err end before after (inr same) es may = rw (after, same) (cut-failed c end old es (rw before at may))
-
-  -- a whole journal has the entries that are put behind it
-  pub grown_ok : (text : List ℕ) (entries : List Entry) → was ≡ Whole → is ≡ Whole
-      → text ≡ flat_map entry_line entries → new ≡ append_known old text
-      → Grows (KnownStandsFor was old c) (KnownStandsFor is new c) entries
-  grown_ok text entries before after lines more front stands =
-      rw (after, more, lines) (grown c old entries front (rw before at stands))
-
-  -- or a front of them
-  pub grown_err : (text : List ℕ) (entries : List Entry) → was ≡ Whole → is ≡ Failed
-      → text ≡ flat_map entry_line entries → (k : ℕ) × new ≡ append_known old (take k text)
-      → GrowsInPart (KnownStandsFor was old c) (KnownStandsFor is new c) entries
-  grown_err text entries before after lines more front stands =
-      rw (after, more.1, lines) (grown-part c old entries more.0 front (rw before at stands))
+pub grown-part : (c : Config) (found text : Option (List ℕ)) (before told : Option (List Note))
+    (es entries : List Entry) (k : ℕ) → IsWholeJournal c found before text told es
+    → (n : ℕ) × IsLeftJournal c found before (append_known text (take k (flat_map entry_line entries))) told
+    (es ++ take n entries)
+grown-part c None text before told es entries k was = (0, tt)
+grown-part c (Some found) None before told es entries k was = absurd was
+grown-part c (Some found) (Some text) before told es entries k was =
+    let more = IsLeft-more c found text _ es entries was.0 k was.1 refl in
+    (more.0, (was.0, more.1, was.2))

@@ -1,5 +1,6 @@
 pub mod Fault
 pub mod Store
+pub mod Notes
 pub mod Reading
 pub mod LineFile
 pub mod Standing
@@ -7,3 +8,4 @@ pub mod Place
 pub mod Refusing
 pub mod Journal
 pub mod Found
+pub mod Whole

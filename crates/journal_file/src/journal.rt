@@ -1,28 +1,31 @@
 //! A journal in a file.
 
-ghost use Rattle.std.specs.Prelude.{◌≡◌, ◌≢◌, ◌++◌, flat_map, IfOk, IfErr, OnOk};
+ghost use Rattle.std.specs.Prelude.{◌≡◌, flat_map, OnOk};
 ghost use Rattle.std.specs.List.{AllByRecursion};
-ghost use Rattle.sched_history.specs.Machine.{IsEncodable};
-ghost use Rattle.journal_writing.specs.Journal.{entry_line};
-ghost use Rattle.journal_file.specs.Place.{KnownStandsFor, KnownMayBegin};
-ghost use Rattle.journal_file.specs.Refusing.{IsNoFront, MayRefuse};
-ghost use Rattle.journal_file.specs.Store.{HasLength, HasBytes, Lacks};
+ghost use Rattle.sched_calls.specs.Reply.{IsEncodable};
+ghost use Rattle.history_writing.specs.Journal.{entry_line};
+ghost use Rattle.journal_file.specs.Place.{IsReadyAt, IsBegunAt};
+ghost use Rattle.journal_file.specs.Journal.{FileStandsFor, FileMayBegin, FileMayRefuse, file_failed};
 
+use crate::fault::FileFault;
+use crate::found::read_store;
+use crate::lacking::lacking;
 use crate::line_file::LineFile;
+use crate::notes::{Note, Notes};
 use crate::place::Place;
-use crate::reading::Reading;
 use crate::store::Store;
-use journal_writing::{add_entry, opening_text};
+use history_writing::{add_entry, opening_text};
 use live_command::{BeginFault, Journal, RecordFault};
 use minislots::Checked;
-use sched_history::Entry;
+use sched_history::{Entry, Scheduler};
 use std::alloc::{AllocError, Global};
-use text_stream::{TextFault, read_all};
 
 /// A journal in a file.
 #[derive(Drop)]
-pub struct FileJournal<S> {
+pub struct FileJournal<S, N> {
     file: LineFile<S>,
+    // Where it is told how it is resumed.
+    notes: N,
     // The lines that are put there by one write.
     text: Vec<u8>,
     alloc: Global,
@@ -40,126 +43,138 @@ fn put_lines(alloc: Global, text: &mut Vec<u8>, entries: &[Entry]) -> Result<(),
     Ok(())
 }
 
-// All bytes of a file, which has few.
-#[tactic(auto, using(crate::proofs::Finding::has_bytes))]
-fn bytes_of<S: Store>(alloc: Global, store: &S) -> Result<Vec<u8>, BeginFault>
-    ensures all { IfOk result (λ bytes. HasBytes (S.contents store.now) bytes.items) }
-    ensures err { IfErr result (λ e. e ≢ BeginFault.Other) }
-{
-    match read_all(alloc, &mut Reading::new(store)) {
-        Ok(bytes) => Ok(bytes),
-        Err(TextFault::Memory) => Err(BeginFault::Memory),
-        Err(_) => Err(BeginFault::Failed),
-    }
-}
-
-// The bytes of the opening's line that a file of so many bytes lacks: it has the first ones, and nothing else. A file
-// that has none is not read.
-#[tactic(auto, using(crate::proofs::Finding::lacks_all, crate::proofs::Refusing::no_front_long))]
-fn lacking<'a, S: Store>(
-    alloc: Global,
-    store: &S,
-    size: u64,
-    opening: &'a [u8],
-) -> Result<&'a [u8], BeginFault>
-    ensures rest { IfOk result (λ rest. HasLength (S.contents store.now) size →
-        Lacks (S.contents store.now) opening.now rest.now) }
-    ensures other { IfErr result (λ e. e ≡ BeginFault.Other →
-        IsNoFront opening.now size (S.contents store.now)) }
-{
-    if size == 0 {
-        return Ok(opening);
-    }
-    if size >= opening.len() as u64 {
-        return Err(BeginFault::Other);
-    }
-    match opening.strip_prefix(bytes_of(alloc, store)?.as_slice()) {
-        Some(rest) => Ok(rest),
-        None => Err(BeginFault::Other),
-    }
-}
-
-impl<S: Store> FileJournal<S> {
-    ghost use Rattle.std.specs.Prelude.{◌≡◌, true, IfErr, OnOk, OnErr};
+impl<S: Store, N: Notes> FileJournal<S, N> {
+    ghost use Rattle.std.specs.Prelude.{◌≡◌, true, IfOk, IfErr, OnOk, OnErr};
     ghost use Rattle.std.specs.List.{AllByRecursion};
     ghost use Rattle.minislots.specs.declared.config.Config.{Config as Configuration};
-    ghost use Rattle.sched_history.specs.Machine.{IsEncodable};
+    ghost use Rattle.sched_calls.specs.Reply.{IsEncodable};
     ghost use Rattle.live_command.specs.Journal.{Keeps, Grows, GrowsInPart, FailsJustBy};
-    ghost use Rattle.journal_file.specs.declared.place.Place.TheVariants.{NoLine, Torn, Whole};
-    ghost use Rattle.journal_file.specs.Place.{KnownStandsFor, KnownMayBegin};
-    ghost use Rattle.journal_file.specs.Refusing.{MayRefuse};
+    ghost use Rattle.journal_file.specs.declared.place.Place.TheVariants.{NoLine, Resumed, Whole};
+    ghost use Rattle.journal_file.specs.Journal.{View, store_of, notes_in, is_synced, file_failed, IsUntouched};
+    ghost use Rattle.journal_file.specs.Journal.{FileStandsFor, FileMayBegin, FileMayRefuse};
+    ghost use Rattle.journal_file.specs.Found.{IsFound, StopsFile};
+    ghost use Rattle.journal_file.specs.Notes.{told_more};
+    ghost use Rattle.journal_file.specs.Standing.{notes_of};
 
-    pub(crate) fn new(alloc: Global, file: LineFile<S>) -> FileJournal<S>
-        ensures { result.file ≡ file }
+    /// A journal in this file, which is not read yet. What is put there reaches the device too where that is asked for,
+    /// and how it is resumed is told to these notes.
+    pub fn new(alloc: Global, store: S, notes: N, syncs: bool) -> FileJournal<S, N>
+        ensures store { store_of result ≡ store }
+        ensures notes { notes_in result ≡ notes }
+        ensures asked { is_synced result ≡ syncs }
+        ensures failed { file_failed S.has_failed S.may_misread result ≡ S.has_failed store }
     {
         FileJournal {
-            file,
+            file: LineFile {
+                store,
+                place: Place::Unread,
+                is_synced: syncs,
+                misread: false,
+            },
+            notes,
             text: Vec::new(alloc),
             alloc,
         }
     }
 
+    /// Reads the file: the scheduler that continues behind it, or none where it has no whole line. Nothing of the file
+    /// is changed.
+    pub(crate) fn read(&mut self) -> Result<Option<Scheduler>, FileFault>
+        ensures found { IfOk result (λ scheduler.
+            IsFound (S.contents (store_of self.old)) scheduler self.new.file.place) }
+        ensures stops { IfErr result
+            (StopsFile (S.contents (store_of self.old)) S.may_misread) }
+        ensures same { IsUntouched self.old self.new }
+        ensures asked { is_synced self.new ≡ is_synced self.old }
+        ensures failed { self.new.file.misread ≡ self.old.file.misread }
+    {
+        let (scheduler, place) = read_store(self.alloc, &self.file.store)?;
+        self.file.place = place;
+        Ok(scheduler)
+    }
+
     // Begins a file without a whole line.
-    #[tactic(auto, using(crate::proofs::Places::begun_ok, crate::proofs::Places::begun_err))]
+    #[tactic(auto, using(crate::proofs::Finding::or_second))]
     fn put_opening(&mut self, size: u64, config: &Checked) -> Result<(), BeginFault>
         requires { self.old.file.place ≡ NoLine size }
-        ensures ok { OnOk result (Keeps
-            (KnownMayBegin self.old.file.place (S.contents self.old.file.store) config.now)
-            (KnownStandsFor self.new.file.place (S.contents self.new.file.store) config.now)) }
-        ensures err { OnErr result (Keeps
-            (KnownMayBegin self.old.file.place (S.contents self.old.file.store) config.now)
-            (KnownMayBegin self.new.file.place (S.contents self.new.file.store) config.now)) }
+        ensures begun { OnOk result (self.new.file.place ≡ Whole) }
+        ensures ok { OnOk result ((v : View) → Keeps
+            (FileMayBegin S.contents S.reached N.told self.old v config.now)
+            (FileStandsFor S.contents S.reached N.told self.new v config.now)) }
+        ensures err { OnErr result ((v : View) → Keeps
+            (FileMayBegin S.contents S.reached N.told self.old v config.now)
+            (FileMayBegin S.contents S.reached N.told self.new v config.now)) }
         ensures refused { IfErr result
-            (MayRefuse self.old.file.place (S.contents self.old.file.store) config.now) }
+            (FileMayRefuse S.contents S.reached N.told self.old config.now) }
         ensures failed { FailsJustBy BeginFault.Failed result
-            self.old.file.has_failed self.new.file.has_failed }
+            (file_failed S.has_failed S.may_misread self.old)
+            (file_failed S.has_failed S.may_misread self.new) }
     {
         let Ok(opening) = opening_text(self.alloc, &config.config()) else {
             return Err(BeginFault::Memory);
         };
-        let rest = match lacking(self.alloc, &self.file.store, size, &opening) {
+        let rest = match lacking(&self.file.store, size, &opening) {
             Ok(rest) => rest,
-            Err(BeginFault::Failed) => return Err(self.file.refuse().into()),
+            Err(BeginFault::Failed) => {
+                self.file.misread = true;
+                return Err(BeginFault::Failed);
+            }
             Err(fault) => return Err(fault),
         };
         self.file.put(rest)?;
         Ok(())
     }
 
-    // Cuts off what is torn.
-    #[tactic(auto, using(crate::proofs::Places::cut_ok, crate::proofs::Places::cut_err))]
-    fn cut_torn(&mut self, end: u64) -> Result<(), BeginFault>
-        requires { self.old.file.place ≡ Torn end }
-        ensures ok { OnOk result ((c : Configuration) → Keeps
-            (KnownMayBegin self.old.file.place (S.contents self.old.file.store) c)
-            (KnownStandsFor self.new.file.place (S.contents self.new.file.store) c)) }
-        ensures err { OnErr result ((c : Configuration) → Keeps
-            (KnownMayBegin self.old.file.place (S.contents self.old.file.store) c)
-            (KnownMayBegin self.new.file.place (S.contents self.new.file.store) c)) }
-        ensures refused { IfErr result (λ e. (c : Configuration) →
-            MayRefuse self.old.file.place (S.contents self.old.file.store) c e) }
-        ensures failed { FailsJustBy BeginFault.Failed result
-            self.old.file.has_failed self.new.file.has_failed }
+    // Tells how it is resumed: behind so many entries, and so many torn bytes that were cut off.
+    fn tell(&mut self, entries: u64, torn: u64)
+        ensures told { N.told self.new.notes
+            ≡ told_more (N.told self.old.notes) (notes_of entries torn) }
+        ensures frame { self.new ≡ record self.old { notes = self.new.notes } }
     {
-        self.file.cut(end)?;
+        self.notes.tell(Note::Resumed(entries));
+        if torn != 0 {
+            self.notes.tell(Note::Cut(torn));
+        }
+    }
+
+    // Makes a journal ready that was found: what is torn is cut off, and all of it has reached the device where that is
+    // asked for, before it is told how it is resumed.
+    #[tactic(auto, using(crate::proofs::Finding::or_second))]
+    fn resume(&mut self, entries: u64, end: u64, torn: u64) -> Result<(), BeginFault>
+        requires { self.old.file.place ≡ Resumed entries end torn }
+        ensures begun { OnOk result (self.new.file.place ≡ Whole) }
+        ensures ok { OnOk result ((v : View) (c : Configuration) → Keeps
+            (FileMayBegin S.contents S.reached N.told self.old v c)
+            (FileStandsFor S.contents S.reached N.told self.new v c)) }
+        ensures err { OnErr result ((v : View) (c : Configuration) → Keeps
+            (FileMayBegin S.contents S.reached N.told self.old v c)
+            (FileMayBegin S.contents S.reached N.told self.new v c)) }
+        ensures refused { IfErr result (λ e. e ≡ BeginFault.Failed) }
+        ensures failed { FailsJustBy BeginFault.Failed result
+            (file_failed S.has_failed S.may_misread self.old)
+            (file_failed S.has_failed S.may_misread self.new) }
+    {
+        self.file.cut(end, torn)?;
+        self.tell(entries, torn);
         Ok(())
     }
 
     // Puts the lines of entries behind those of the file, by one write where the system takes them at once.
-    #[tactic(auto, using(crate::proofs::Places::grown_ok, crate::proofs::Places::grown_err))]
+    #[tactic(auto, using(crate::proofs::Finding::or_second, crate::proofs::Standing::grown_none))]
     fn put_entries(&mut self, entries: &[Entry]) -> Result<(), RecordFault>
         requires ready { self.old.file.place ≡ Whole }
         requires encodable { AllByRecursion (λ e. IsEncodable e.reply) entries.now }
-        ensures ok { OnOk result ((c : Configuration) → Grows
-            (KnownStandsFor self.old.file.place (S.contents self.old.file.store) c)
-            (KnownStandsFor self.new.file.place (S.contents self.new.file.store) c) entries.now) }
-        ensures err { OnErr result ((c : Configuration) → GrowsInPart
-            (KnownStandsFor self.old.file.place (S.contents self.old.file.store) c)
-            (KnownStandsFor self.new.file.place (S.contents self.new.file.store) c) entries.now) }
+        ensures begun { IsBegunAt self.new.file.place
+            (file_failed S.has_failed S.may_misread self.new) }
+        ensures ok { OnOk result ((v : View) (c : Configuration) → Grows
+            (FileStandsFor S.contents S.reached N.told self.old v c)
+            (FileStandsFor S.contents S.reached N.told self.new v c) entries.now) }
+        ensures err { OnErr result ((v : View) (c : Configuration) → GrowsInPart
+            (FileStandsFor S.contents S.reached N.told self.old v c)
+            (FileStandsFor S.contents S.reached N.told self.new v c) entries.now) }
         ensures failed { FailsJustBy RecordFault.Failed result
-            self.old.file.has_failed self.new.file.has_failed }
-        ensures synced { OnOk result (self.old.file.is_synced ≡ true →
-            S.reached self.new.file.store ≡ S.contents self.new.file.store) }
+            (file_failed S.has_failed S.may_misread self.old)
+            (file_failed S.has_failed S.may_misread self.new) }
     {
         if put_lines(self.alloc, &mut self.text, entries).is_err() {
             return Err(RecordFault::Memory);
@@ -169,31 +184,35 @@ impl<S: Store> FileJournal<S> {
     }
 }
 
-impl<S: Store> Journal for FileJournal<S> {
-    ghost stands_for = { λ j. KnownStandsFor j.file.place (S.contents j.file.store) };
+impl<S: Store, N: Notes> Journal for FileJournal<S, N> {
+    ghost View = { Rattle.journal_file.specs.Journal.View };
 
-    ghost may_begin = { λ j. KnownMayBegin j.file.place (S.contents j.file.store) };
+    ghost stands_for = { FileStandsFor S.contents S.reached N.told };
 
-    ghost may_refuse = { λ j. MayRefuse j.file.place (S.contents j.file.store) };
+    ghost may_begin = { FileMayBegin S.contents S.reached N.told };
 
-    ghost has_failed = { λ j. j.file.has_failed };
+    ghost may_refuse = { FileMayRefuse S.contents S.reached N.told };
+
+    ghost is_ready = { λ j. IsReadyAt j.file.place };
+
+    ghost is_begun = { λ j. IsBegunAt j.file.place (file_failed S.has_failed S.may_misread j) };
+
+    ghost has_failed = { file_failed S.has_failed S.may_misread };
 
     fn begin(&mut self, config: &Checked) -> Result<(), BeginFault> {
         match self.file.place {
             Place::NoLine(size) => self.put_opening(size, config),
-            Place::Torn(end) => self.cut_torn(end),
-            Place::Whole => Ok(()),
-            Place::Failed => Err(self.file.refuse().into()),
+            Place::Resumed { entries, end, torn } => self.resume(entries, end, torn),
+            _ => unreachable!(),
         }
     }
 
     fn record(&mut self, entries: &[Entry]) -> Result<(), RecordFault> {
-        let Place::Whole = self.file.place else {
-            return Err(self.file.refuse().into());
-        };
-        if entries.is_empty() {
-            return Ok(());
+        match self.file.place {
+            Place::Whole if entries.is_empty() => Ok(()),
+            Place::Whole => self.put_entries(entries),
+            Place::Failed => Err(RecordFault::Failed),
+            _ => unreachable!(),
         }
-        self.put_entries(entries)
     }
 }

@@ -1,10 +1,10 @@
 //! A journal's file as a reader, from its start on.
 
+ghost use Rattle.std.specs.Prelude.{◌&&◌};
 ghost use Rattle.journal_file.specs.Store.{rest_at};
 
 use crate::store::Store;
 use std::io;
-use std::io::ErrorKind;
 use text_stream::Source;
 
 // A file that is read from a place on, and whether a read has failed.
@@ -36,19 +36,15 @@ impl<'a, S: Store> Reading<'a, S> {
 impl<'a, S: Store> Source for Reading<'a, S> {
     ghost remaining = { λ r. rest_at r.at (S.contents r.store.now) };
 
-    ghost has_failed = { λ r. r.has_failed };
+    // One has failed only where one may.
+    ghost has_failed = { λ r. r.has_failed && S.may_misread };
 
     fn read_some(&mut self, buf: &mut [u8]) -> io::Result<usize> {
         let outcome = self.store.read_from(self.at, buf);
-        let Ok(len) = outcome else {
-            self.has_failed = true;
-            return outcome;
-        };
-        let Some(at) = self.at.checked_add(len as u64) else {
-            self.has_failed = true;
-            return Err(ErrorKind::FileTooLarge.into());
-        };
-        self.at = at;
-        Ok(len)
+        match &outcome {
+            Ok(len) => self.at += *len as u64,
+            Err(_) => self.has_failed = true,
+        }
+        outcome
     }
 }

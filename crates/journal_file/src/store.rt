@@ -1,13 +1,15 @@
 //! The file of a journal, as far as a journal needs one.
 
-ghost use Rattle.std.specs.Prelude.{◌≡◌, ◌<◌, ℕ, List, Option, None, length, take, IfOk, OnOk, OnErr};
+ghost use Rattle.std.specs.Prelude.{◌≡◌, ◌<◌, ◌+◌, ◌^◌, ℕ, Bool, true, List, Option, None, length, take};
+ghost use Rattle.std.specs.Prelude.{IfOk, IfErr, OnOk, OnErr};
 ghost use Rattle.std.specs.Io.{ReadsAtMost, WritesAtMost};
 ghost use Rattle.std.specs.Io.KnownBytes.{append_known};
+ghost use Rattle.text_stream.specs.Watched.{TellsFailure};
 ghost use Rattle.journal_file.specs.Store.{HasLength, GivesFrom, cut_known};
 
 use std::fs::File;
 use std::io;
-use std::io::Write;
+use std::io::{ErrorKind, Write};
 use std::os::unix::fs::FileExt;
 
 /// A file that is read at any place, grows at its end, and can be cut.
@@ -15,17 +17,26 @@ pub trait Store {
     /// The bytes that it has, where they are known.
     ghost contents: { Self → Option (List ℕ) } = { λ _. None };
 
-    /// The bytes of it that have reached the device, where they are known.
+    /// The bytes that its device has had at the last sync, where they are known: those it has whatever happens.
     ghost reached: { Self → Option (List ℕ) } = { λ _. None };
+
+    /// Whether a call that changes it has failed; true, too, where nothing is known of it.
+    ghost has_failed: { Self → Bool } = { λ _. true };
+
+    /// Whether a call that reads such a file may fail.
+    ghost may_misread: { Bool } = { true };
 
     /// How many bytes it has.
     fn size(&self) -> io::Result<u64>
-        ensures { IfOk result (HasLength (contents self.now)) };
+        ensures bytes { IfOk result (HasLength (contents self.now)) }
+        ensures failed { IfErr result (λ _. may_misread ≡ true) };
 
     /// Reads bytes from a place on: how many it gave, none only at the end or where there is no room.
     fn read_from(&self, at: u64, buf: &mut [u8]) -> io::Result<usize>
         ensures bound { ReadsAtMost result buf.new }
-        ensures bytes { IfOk result (λ n. GivesFrom (contents self.now) at n buf.new) };
+        ensures reach { IfOk result (λ n. at + n < 2 ^ 64) }
+        ensures bytes { IfOk result (λ n. GivesFrom (contents self.now) at n buf.new) }
+        ensures failed { IfErr result (λ _. may_misread ≡ true) };
 
     /// One write of bytes behind those that it has, of which it takes some: how many.
     fn append_some(&mut self, bytes: &[u8]) -> io::Result<usize>
@@ -33,17 +44,22 @@ pub trait Store {
         ensures some { IfOk result (λ n. 0 < length bytes.now → 0 < n) }
         ensures ok { IfOk result (λ n.
             contents self.new ≡ append_known (contents self.old) (take n bytes.now)) }
-        ensures err { OnErr result (contents self.new ≡ contents self.old) };
+        ensures err { OnErr result (contents self.new ≡ contents self.old) }
+        ensures reached { reached self.new ≡ reached self.old }
+        ensures failed { TellsFailure result (has_failed self.old) (has_failed self.new) };
 
     /// Cuts off all bytes behind the first so many.
     fn cut(&mut self, len: u64) -> io::Result<()>
         ensures ok { OnOk result (contents self.new ≡ cut_known (contents self.old) len) }
-        ensures err { OnErr result (contents self.new ≡ contents self.old) };
+        ensures err { OnErr result (contents self.new ≡ contents self.old) }
+        ensures failed { TellsFailure result (has_failed self.old) (has_failed self.new) };
 
     /// Waits until all its bytes have reached the device.
     fn sync(&mut self) -> io::Result<()>
         ensures same { contents self.new ≡ contents self.old }
-        ensures ok { OnOk result (reached self.new ≡ contents self.new) };
+        ensures ok { OnOk result (reached self.new ≡ contents self.new) }
+        ensures err { OnErr result (reached self.new ≡ reached self.old) }
+        ensures failed { TellsFailure result (has_failed self.old) (has_failed self.new) };
 }
 
 /// A file of the system, whose bytes no contract knows. It was opened so that a write goes to its end.
@@ -65,13 +81,17 @@ impl Store for SystemFile {
     }
 
     fn read_from(&self, at: u64, buf: &mut [u8]) -> io::Result<usize> {
-        self.file.read_at(buf, at)
+        let len = self.file.read_at(buf, at)?;
+        if at.checked_add(len as u64).is_none() {
+            return Err(ErrorKind::FileTooLarge.into());
+        }
+        Ok(len)
     }
 
     fn append_some(&mut self, bytes: &[u8]) -> io::Result<usize> {
         let taken = self.file.write(bytes)?;
         if taken == 0 && !bytes.is_empty() {
-            return Err(io::ErrorKind::WriteZero.into());
+            return Err(ErrorKind::WriteZero.into());
         }
         Ok(taken)
     }

@@ -1,6 +1,6 @@
 -- What is found in a journal, whose bytes come from a reader.
 use Rattle.std.specs.Prelude.{◌≡◌, ◌⊎◌, ℕ, ◌+◌, ◌≤◌, List, length, Option}
-use Rattle.sched_history.specs.declared.reply.TheConstants.{MAX_WHOLE_HISTORY}
+use Rattle.sched_calls.specs.declared.reply.TheConstants.{MAX_WHOLE_HISTORY}
 use Rattle.sched_history.specs.Machine.{Machine}
 pub use Rattle.journal_entries.specs.Journal.{FindsLegal, FindsIllegal, FindsNoEntry, HasNoOpening, StopsJournal}
 use Rattle.journal_reading.specs.declared.judging.Judged.{Judged}

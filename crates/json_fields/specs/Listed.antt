@@ -1,10 +1,9 @@
 -- A list of calls, of entries or of scripts in a document, beside its configuration.
-use Rattle.std.specs.Prelude.{◌≡◌, ℕ, ◌+◌, List, [], ◌∷◌, codes, Some, IfSome, option_and_then}
-use Rattle.serde_json.specs.Data.{Data, Items, no_items, item, Members, array}
-use Rattle.serde_json.specs.Find.{get, get_member}
+use Rattle.std.specs.Prelude.{◌≡◌, ℕ, ◌+◌, List, [], ◌∷◌, codes, Some, option_and_then}
+use Rattle.serde_json.specs.Data.{Data, Items, no_items, item, array}
+use Rattle.serde_json.specs.Find.{get}
 use Rattle.serde_json.specs.View.{items_of}
 use Rattle.minislots.specs.declared.config.Config.{Config}
-use Rattle.json_fields.specs.declared.usual.Parts.{Parts}
 use Rattle.json_fields.specs.Fields.{config_of}
 
 -- how many values these are
@@ -24,13 +23,6 @@ pub record IsListOf {X : Type 0} (stands_for : Data → X → Type 0) (d : Data)
   pub items : List Data
   pub array_is : d ≡ array (items_of items)
   pub each : StandEach stands_for items things
-
--- each part that was read is what stands in the members
-pub record IsInMembers {P : Type 0} (stands_for : Data → P → Type 0) (name : List ℕ) (parts : Parts P) (ms : Members) :
-    Type 0 where
-  pub config : IfSome parts.config (λ config.
-      option_and_then config_of (get_member (codes "config") ms) ≡ Some config)
-  pub list : IfSome parts.list (λ list. (d : Data) × (get_member name ms ≡ Some d) × stands_for d list)
 
 -- the document has this configuration, and what stands for this list under this name
 pub record IsDocument {P : Type 0} (stands_for : Data → P → Type 0) (name : List ℕ) (d : Data) (config : Config)

@@ -2,6 +2,8 @@
 //! where one is missing. The readers take such objects and no others (`proofs/RowsForms.antt` here, in `call_reading`
 //! and in `history_reading`), and the words on a file are made from these tables.
 
+use minislots::MAX_ASK;
+
 /// What stands under a key.
 #[derive(Clone, Copy)]
 pub enum Holds {
@@ -135,7 +137,11 @@ const FLOW: Member = ("flow", Holds::Object(Sort::Flow), MUST);
 
 const RECEIVER: Member = ("receiver", U8, MUST);
 
-const BYTES: Member = ("bytes", Holds::Lawful(u32::MAX as u64, 1, 1_048_560), MUST);
+const BYTES: Member = (
+    "bytes",
+    Holds::Lawful(u32::MAX as u64, 1, MAX_ASK as u64),
+    MUST,
+);
 
 const HEARD: Member = ("heard", U64, MUST);
 

@@ -1,18 +1,21 @@
 -- How far the reading of a line has come.
-use Rattle.std.proofs.Common.{◌≡◌, ℕ, ◌+◌, ◌-◌, ◌^◌, ◌<◌, ◌≤◌, min, Bool, List, [], ◌∷◌, ◌++◌, length, take, drop}
-use Rattle.std.proofs.Common.{Option, None, Some}
-use Rattle.std.proofs.Common.{refl, sym, ap, ◌∙◌, append_assoc, arith, length-append}
+use Rattle.std.proofs.Common.{◌≡◌, ℕ, ◌+◌, ◌-◌, ◌^◌, ◌<◌, ◌≤◌, min, Bool, true, false, List, [], ◌∷◌, ◌++◌}
+use Rattle.std.proofs.Common.{length, take, drop}
+use Rattle.std.proofs.Common.{◌⊎◌, inl, inr, Option, None, Some}
+use Rattle.std.proofs.Common.{refl, sym, ap, subst, ◌∙◌, append_assoc, arith, length-append}
 use Rattle.std.specs.Prelude.{IfSome}
 use Rattle.std.specs.Io.KnownBytes.{Consumes, IsAtEnd, prepend_known}
 use Rattle.std.proofs.lemmas.List.{append-nil}
 use Rattle.memchr.specs.Find.{Nowhere, Passes, is_byte}
 use Rattle.text_stream.proofs.Bytes.{Consumes-append}
-use Rattle.line_stream.specs.declared.TheConstants.{NEWLINE}
+use Rattle.text_stream.specs.declared.fault.TextFault.TheVariants.{TooLong}
+use Rattle.line_stream.specs.declared.TheConstants.{NEWLINE, MAX_LINE}
 use Rattle.line_stream.specs.declared.piece.Cut.{Cut}
 use Rattle.line_stream.specs.Lines.{IsWithinLine, TakesLines}
 use Rattle.line_stream.specs.declared.Told.{Told}
 use Rattle.line_stream.specs.declared.Told.TheVariants.{Line, Long}
 use Rattle.line_stream.specs.Told.{AtHand, untold, IsTold, TellsAtHand, TellsNext, TellsWhole, whole_of, IsWhole}
+use Rattle.line_stream.specs.Told.{StopsReading}
 use Rattle.line_stream.specs.Piece.{IsHeld, IsCut, IsLast, EndsAt, TellsCut, whole_from, whole_cut, FindsLine, Finds}
 use Rattle.line_stream.proofs.Taking.{IsWithinLine-append, IsWithinLine-before, at_newline, TakesLines-line}
 use Rattle.line_stream.proofs.Taking.{TakesLines-last}
@@ -184,3 +187,34 @@ module _ (before mid now : Option (List ℕ)) (is_long : Bool) (kept : List ℕ)
         });
         is = is.1;
       }
+
+module _ (before mid : Option (List ℕ)) (is_long : Bool) (kept : List ℕ) (reads count : ℕ)
+    (so_far : Reads before mid is_long kept reads count) where
+  -- a line that is not long has few bytes so far
+  pub Reads-few : is_long ≡ false → length so_far.front ≤ MAX_LINE
+  Reads-few short = (subst (λ (long : Bool). IsHeld so_far.front long kept) short so_far.held).1
+
+  -- so many reads that a number of 64 bits cannot count them
+  pub Reads-stops : (reads_on : Bool) → (reads_on ≡ false → is_long ≡ false) → 2 ^ 64 - 1 ≤ reads
+      → StopsReading reads_on before mid TooLong
+  Reads-stops true short most = (
+    record { bytes = so_far.front; consumed = so_far.consumed; within = so_far.within },
+    omega (arith, so_far.many, most),
+  )
+  Reads-stops false short most = absurd (omega (arith, Reads-few (short refl), so_far.many, most))
+
+  -- the line is long
+  pub Reads-long : (reads_on : Bool) → reads_on ≡ false → is_long ≡ true → length so_far.front ≤ MAX_LINE + MAX_LINE
+      → StopsReading reads_on before mid TooLong
+  Reads-long true off long few = (let no : true ≡ false = off in cc)
+  Reads-long false off long few =
+      let held = subst (λ (long : Bool). IsHeld so_far.front long kept) long so_far.held in (
+        record { bytes = so_far.front; consumed = so_far.consumed; within = so_far.within },
+        (held.1, few),
+      )
+
+-- a line is not long where all of a long one would have been read
+pub short_unless : (long reads_on : Bool) → ((long ≡ true) × (reads_on ≡ true)) ⊎ (long ≡ false) → reads_on ≡ false
+    → long ≡ false
+short_unless long reads_on (inl both) off = (let no : true ≡ false = sym both.1 ∙ off in cc)
+short_unless long reads_on (inr short) off = short

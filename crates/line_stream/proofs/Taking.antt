@@ -1,5 +1,6 @@
 -- The lines of bytes: where the first of them ends.
-use Rattle.std.proofs.Common.{◌≡◌, ℕ, ◌+◌, ◌<◌, zero, suc, false, List, [], ◌∷◌, ◌++◌, length, take, drop, get_or}
+use Rattle.std.proofs.Common.{◌≡◌, ℕ, ◌+◌, ◌<◌, ◌≤◌, zero, suc, Bool, true, false, List, [], ◌∷◌, ◌++◌}
+use Rattle.std.proofs.Common.{length, length-append, take, drop, get_or}
 use Rattle.std.proofs.Common.{Option, None, Some, refl, sym, ap, subst, ◌∙◌, append_assoc, arith}
 use Rattle.std.specs.Prelude.{◌≢◌, ◌==◌}
 use Rattle.std.specs.Io.KnownBytes.{Consumes, IsAtEnd}
@@ -73,3 +74,63 @@ TakesLines-last (Some text) None line within some consumed ended = consumed
 TakesLines-last (Some text) (Some rest) line within some consumed ended =
     ap lines_of (consumed ∙ ap (λ r. line ++ r) ended ∙ append-nil line) ∙ lines_of-last line some within
     ∙ ap (λ r. line ∷ lines_of r) (sym ended)
+
+-- bytes and those behind them begin with a line that begins with them, and this is left behind it
+pub record FirstLine (front rest : List ℕ) : Type 0 where
+  pub more : List ℕ
+  pub left : List ℕ
+  pub first : lines_of (front ++ rest) ≡ (front ++ more) ∷ lines_of left
+
+some_bytes : (front : List ℕ) (b : ℕ) → (front ++ b ∷ []) ≢ []
+some_bytes [] b e = cc
+some_bytes (x ∷ front) b e = cc
+
+first_byte : (front : List ℕ) (b : ℕ) (rest : List ℕ) (ends : Bool) → (b == NEWLINE) ≡ ends → IsWithinLine front
+    → (b ≢ NEWLINE → FirstLine (front ++ b ∷ []) rest) → FirstLine front (b ∷ rest)
+first_byte front b rest true is within next = record {
+  more = [];
+  left = rest;
+  first = ap (λ (n : ℕ). lines_of (front ++ n ∷ rest)) (eqb-true b NEWLINE is) ∙ lines_of-line front rest within
+      ∙ ap (λ (l : List ℕ). l ∷ lines_of rest) (sym (append-nil front));
+}
+first_byte front b rest false is within next =
+    let one = next (λ e. let no : true ≡ false = sym (eq-eqb b NEWLINE e) ∙ is in cc) in
+    record {
+      more = b ∷ one.more;
+      left = one.left;
+      first = ap lines_of (sym (append_assoc front (b ∷ []) rest)) ∙ one.first
+          ∙ ap (λ (l : List ℕ). l ∷ lines_of one.left) (append_assoc front (b ∷ []) one.more);
+    }
+
+FirstLine-of : (front rest : List ℕ) → front ≢ [] → IsWithinLine front → FirstLine front rest
+FirstLine-of front [] some within = record {
+  more = [];
+  left = [];
+  first = ap lines_of (append-nil front) ∙ lines_of-last front some within
+      ∙ ap (λ (l : List ℕ). l ∷ []) (sym (append-nil front));
+}
+FirstLine-of front (b ∷ rest) some within =
+    first_byte front b rest (b == NEWLINE) refl within (λ other. FirstLine-of (front ++ b ∷ []) rest
+    (some_bytes front b) (IsWithinLine-append front (b ∷ []) within (other, tt)))
+
+-- A line is the next one, which has no fewer bytes than these
+pub record TakesLonger (before : Option (List ℕ)) (front : List ℕ) : Type 0 where
+  pub line : List ℕ
+  pub longer : length front ≤ length line
+  pub after : Option (List ℕ)
+  pub taken : TakesLines before (line ∷ []) after
+
+-- bytes that were read, and have no newline, begin the next line
+pub TakesLonger-of : (before left : Option (List ℕ)) (front : List ℕ) → front ≢ [] → IsWithinLine front
+    → Consumes before left front → TakesLonger before front
+TakesLonger-of None left front some within consumed =
+    record { line = front; longer = omega arith; after = None; taken = tt }
+TakesLonger-of (Some text) None front some within consumed = absurd consumed
+TakesLonger-of (Some text) (Some rest) front some within consumed =
+    let one = FirstLine-of front rest some within in
+    record {
+      line = front ++ one.more;
+      longer = omega (arith, length-append front one.more);
+      after = Some one.left;
+      taken = ap lines_of consumed ∙ one.first;
+    }

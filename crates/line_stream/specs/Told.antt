@@ -1,5 +1,6 @@
 -- What a reader of lines tells, and what it has at hand.
-use Rattle.std.specs.Prelude.{◌≡◌, ℕ, ◌-◌, ◌^◌, ◌<◌, ◌≤◌, List, [], ◌∷◌, ◌++◌, length, min, Option}
+use Rattle.std.specs.Prelude.{◌≡◌, ℕ, ◌-◌, ◌^◌, ◌+◌, ◌<◌, ◌≤◌, Bool, true, false, List, [], ◌∷◌, ◌++◌}
+use Rattle.std.specs.Prelude.{length, min, Option}
 use Rattle.std.specs.Io.KnownBytes.{Consumes, IsAtEnd, prepend_known}
 use Rattle.text_stream.specs.declared.fault.TextFault.{TextFault}
 use Rattle.text_stream.specs.declared.fault.TextFault.TheVariants.{Input, TooLong, NotJson, Shape, Config, Memory}
@@ -75,12 +76,22 @@ pub record HasNoEnd (before left : Option (List ℕ)) : Type 0 where
   pub consumed : Consumes before left bytes
   pub within : IsWithinLine bytes
 
--- why no line is told: a read failed, or as many bytes as a number of 64 bits can count have no newline
+-- too many bytes without a newline: as many as a number of 64 bits can count, where all are read, and else more than
+-- those of a line, and one read
+abbrev pub IsTooMuch : Bool → List ℕ → Type 0
+IsTooMuch true bytes = 2 ^ 64 - 1 ≤ length bytes
+IsTooMuch false bytes = (MAX_LINE < length bytes) × (length bytes ≤ MAX_LINE + MAX_LINE)
+
+-- why no line is told: a read failed, or too many bytes have no newline
+abbrev pub StopsReading : Bool → Option (List ℕ) → Option (List ℕ) → TextFault → Type 0
+StopsReading reads_on before left Input = HasNoEnd before left
+StopsReading reads_on before left TooLong = (none : HasNoEnd before left) × IsTooMuch reads_on none.bytes
+StopsReading reads_on before left NotJson = ⊥
+StopsReading reads_on before left (Shape n) = ⊥
+StopsReading reads_on before left (Config field) = ⊥
+StopsReading reads_on before left Memory = ⊥
+StopsReading reads_on before left Output = ⊥
+
+-- why no line is told, where all of it is read
 abbrev pub StopsLine : Option (List ℕ) → Option (List ℕ) → TextFault → Type 0
-StopsLine before left Input = HasNoEnd before left
-StopsLine before left TooLong = (none : HasNoEnd before left) × (2 ^ 64 - 1 ≤ length none.bytes)
-StopsLine before left NotJson = ⊥
-StopsLine before left (Shape n) = ⊥
-StopsLine before left (Config field) = ⊥
-StopsLine before left Memory = ⊥
-StopsLine before left Output = ⊥
+StopsLine before left fault = StopsReading true before left fault

@@ -3,23 +3,25 @@
 ghost use Rattle.std.specs.Prelude.{◌≡◌, [], IfOk, IfErr, MatchOption};
 ghost use Rattle.line_stream.specs.Lines.{IsWithinLine};
 ghost use Rattle.line_stream.specs.Piece.{TellsCut, whole_cut};
-ghost use Rattle.line_stream.specs.Told.{untold, TellsAtHand, TellsNext, HasEnded, StopsLine, whole_of, IsWhole};
+ghost use Rattle.line_stream.specs.Told.{untold, TellsAtHand, TellsNext, HasEnded, StopsLine, StopsReading};
+ghost use Rattle.line_stream.specs.Told.{whole_of, IsWhole};
 ghost use Rattle.text_stream.specs.Watched.{FailsBy};
 
 use crate::piece::{Bytes, Cut, PIECE, drop_front, read_line};
 use crate::{NEWLINE, Told, Whole};
 use arrayvec::ArrayVec;
 use memchr::memchr;
+use std::alloc::{AllocError, Global};
 use std::marker::Model;
 use text_stream::{Source, TextFault};
 
 /// The lines of an input, one after the other. Contracts see the bytes that were read and are in no line that was told,
-/// and the line that was told last. It takes no memory.
+/// and the line that was told last. What it keeps of them is on the heap, for the stack's sake, and of a fixed size.
 #[derive(Drop)]
 pub struct Lines {
-    bytes: Bytes,
+    bytes: Box<Bytes>,
     // What one read gives.
-    piece: [u8; PIECE],
+    piece: Box<[u8; PIECE]>,
     // Where the line that was told last begins and ends.
     line: usize,
     end: usize,
@@ -60,16 +62,17 @@ fn whole_cut(cut: Cut) -> Whole
 
 impl Lines {
     /// A reader that has read nothing.
-    pub fn new() -> Lines
-        ensures { result ≡ record { bytes = []; line = [] } }
+    #[inline(never)]
+    pub fn new(alloc: Global) -> Result<Lines, AllocError>
+        ensures { IfOk result (λ lines. lines ≡ record { bytes = []; line = [] }) }
     {
-        Lines {
-            bytes: ArrayVec::new(),
-            piece: [0; PIECE],
+        Ok(Lines {
+            bytes: Box::new(alloc, ArrayVec::new())?,
+            piece: Box::new(alloc, [0; PIECE])?,
             line: 0,
             end: 0,
             next: 0,
-        }
+        })
     }
 
     /// Tells the next line, where all of it and its newline are at hand, without a read.
@@ -98,10 +101,31 @@ impl Lines {
         ensures failed { FailsBy TextFault.Input result
             (R.has_failed reader.old) (R.has_failed reader.new) }
     {
+        self.next_reading(reader, true)
+    }
+
+    /// Tells the next line as [`Lines::next`] does; where it does not read on, it stops once more than 65536 bytes came
+    /// without a newline, before more than 131072 of them were read.
+    pub fn next_reading<R: Source>(
+        &mut self,
+        reader: &mut R,
+        reads_on: bool,
+    ) -> Result<Option<Told>, TextFault>
+        ensures told { IfOk result (λ told. MatchOption told
+            (HasEnded (untold self.old (R.remaining reader.old))
+            (untold self.new (R.remaining reader.new)))
+            (TellsNext (untold self.old (R.remaining reader.old))
+            (untold self.new (R.remaining reader.new))
+            self.new)) }
+        ensures stops { IfErr result
+            (StopsReading reads_on (untold self.old (R.remaining reader.old)) (R.remaining reader.new)) }
+        ensures failed { FailsBy TextFault.Input result
+            (R.has_failed reader.old) (R.has_failed reader.new) }
+    {
         if let Some(told) = self.at_hand() {
             return Ok(Some(told));
         }
-        match self.read_on(reader) {
+        match self.read_on(reader, reads_on) {
             Ok(Some(cut)) => Ok(Some(cut.told)),
             Ok(None) => Ok(None),
             Err(fault) => Err(fault),
@@ -121,7 +145,7 @@ impl Lines {
         if let Some(told) = self.at_hand() {
             return Ok(whole_of(told));
         }
-        match self.read_on(reader) {
+        match self.read_on(reader, true) {
             Ok(Some(cut)) => Ok(whole_cut(cut)),
             Ok(None) => Ok(Whole::Torn(0)),
             Err(fault) => Err(fault),
@@ -129,7 +153,11 @@ impl Lines {
     }
 
     // Reads the next line, the front of which is all that is at hand.
-    fn read_on<R: Source>(&mut self, reader: &mut R) -> Result<Option<Cut>, TextFault>
+    fn read_on<R: Source>(
+        &mut self,
+        reader: &mut R,
+        reads_on: bool,
+    ) -> Result<Option<Cut>, TextFault>
         requires { IsWithinLine self.old.bytes }
         ensures told { IfOk result (λ cut. MatchOption cut
             (HasEnded (untold self.old (R.remaining reader.old))
@@ -138,7 +166,7 @@ impl Lines {
             (untold self.new (R.remaining reader.new))
             self.new)) }
         ensures stops { IfErr result
-            (StopsLine (untold self.old (R.remaining reader.old)) (R.remaining reader.new)) }
+            (StopsReading reads_on (untold self.old (R.remaining reader.old)) (R.remaining reader.new)) }
         ensures failed { FailsBy TextFault.Input result
             (R.has_failed reader.old) (R.has_failed reader.new) }
     {
@@ -146,7 +174,7 @@ impl Lines {
         self.line = 0;
         self.end = 0;
         self.next = 0;
-        match read_line(&mut self.bytes, &mut self.piece, reader) {
+        match read_line(&mut self.bytes, &mut *self.piece, reader, reads_on) {
             Ok(Some(cut)) => {
                 self.end = cut.end;
                 self.next = cut.next;

@@ -8,7 +8,7 @@ ghost use Rattle.line_stream.specs.declared.TheConstants.{MAX_LINE, NEWLINE};
 ghost use Rattle.line_stream.specs.declared.piece.TheConstants.{PIECE};
 ghost use Rattle.line_stream.specs.Lines.{IsWithinLine};
 ghost use Rattle.line_stream.specs.Piece.{told_of, IsHeld, IsCut, IsLast, Finds};
-ghost use Rattle.line_stream.specs.Told.{StopsLine};
+ghost use Rattle.line_stream.specs.Told.{StopsReading};
 ghost use Rattle.text_stream.specs.Watched.{FailsBy};
 
 use crate::{MAX_LINE, NEWLINE, Told};
@@ -107,18 +107,19 @@ fn last(bytes: &Bytes, is_long: bool, count: u64) -> Option<Cut>
     })
 }
 
-// Reads to the end of the line that the bytes begin.
+// Reads to the end of the line that the bytes begin, or only until it is known to be long, where it does not read on.
 pub(crate) fn read_line<R: Source>(
     bytes: &mut Bytes,
     piece: &mut [u8],
     reader: &mut R,
+    reads_on: bool,
 ) -> Result<Option<Cut>, TextFault>
     requires within { IsWithinLine bytes.old.items }
     requires kept { length bytes.old.items ≤ MAX_LINE }
     requires piece { length piece.old ≡ PIECE }
     ensures finds { IfOk result (Finds (prepend_known bytes.old.items (R.remaining reader.old))
         (R.remaining reader.new) bytes.new.items) }
-    ensures stops { IfErr result (StopsLine (prepend_known bytes.old.items (R.remaining reader.old))
+    ensures stops { IfErr result (StopsReading reads_on (prepend_known bytes.old.items (R.remaining reader.old))
         (R.remaining reader.new)) }
     ensures left { IfErr result (λ _. length bytes.new.items ≤ MAX_LINE) }
     ensures failed { FailsBy TextFault.Input result
@@ -139,6 +140,9 @@ pub(crate) fn read_line<R: Source>(
             None => {
                 is_long = keep(bytes, is_long, read);
                 count = count.saturating_add(len as u64);
+                if is_long && !reads_on {
+                    return Err(TextFault::TooLong);
+                }
             }
         }
     }

@@ -127,7 +127,7 @@ module _ (config : Configuration) (unread left : Option (List ℕ)) (hand : AtHa
 
 -- no line came
 pub stops_before : (config : Configuration) (unread left : Option (List ℕ)) (fault : TextFault)
-    → StopsBefore unread left fault → StopsGoing config unread left (Text fault)
+    → StopsBefore true unread left fault → StopsGoing config unread left (Text fault)
 stops_before config unread left Input stops = stops
 stops_before config unread left TooLong stops = stops
 stops_before config unread left NotJson stops = stops

@@ -3,7 +3,7 @@ use Rattle.std.proofs.Common.{◌≡◌, ℕ, List, [], ◌∷◌, ◌++◌, len
 use Rattle.std.proofs.Common.{refl, sym, subst, inr, append_assoc, arith}
 use Rattle.std.specs.Prelude.{IfErr, OnOk, MatchOption, MatchResult}
 use Rattle.std.proofs.lemmas.List.{append-nil}
-use Rattle.sched_history.specs.declared.reply.Entry.{Entry}
+use Rattle.sched_calls.specs.declared.reply.Entry.{Entry}
 use Rattle.sched_history.specs.Machine.{Machine}
 use Rattle.line_stream.specs.declared.Told.{Told}
 use Rattle.line_stream.specs.Lines.{TakesLines}

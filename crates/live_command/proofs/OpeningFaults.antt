@@ -1,14 +1,14 @@
 -- What an opening says, and its faults.
 use Rattle.std.proofs.Common.{◌≡◌, ℕ, ◌<◌, ◌≤◌, List, [], ◌∷◌, length, Option, None, Some, Result}
 use Rattle.std.proofs.Common.{Ok, Err, refl, ap, subst, sym}
-use Rattle.std.proofs.Common.{◌∙◌, inl}
+use Rattle.std.proofs.Common.{◌∙◌, false, inl, inr, arith}
 use Rattle.std.specs.Prelude.{◌≢◌, IfOk, IfErr}
 use Rattle.std.proofs.lemmas.Bool.{le-ltb, lt-ltb}
 use Rattle.minislots.specs.declared.config.Config.{Config as Configuration}
 use Rattle.minislots.specs.Config.{first_wrong}
 use Rattle.line_stream.specs.declared.TheConstants.{MAX_LINE}
 use Rattle.line_stream.specs.declared.Told.TheVariants.{Line, Long}
-use Rattle.line_stream.specs.Told.{AtHand}
+use Rattle.line_stream.specs.Told.{AtHand, IsTooMuch}
 use Rattle.text_stream.specs.declared.fault.TextFault.{TextFault}
 use Rattle.text_stream.specs.declared.fault.TextFault.TheVariants.{Input, TooLong, NotJson, Shape, Config, Memory}
 use Rattle.text_stream.specs.declared.fault.TextFault.TheVariants.{Output}
@@ -20,6 +20,9 @@ use Rattle.live_command.specs.declared.said.Said.TheVariants as saying
 use Rattle.live_command.specs.Said.{said_by, said_in}
 use Rattle.live_command.proofs.Talking.{TakesLines-trans}
 use Rattle.live_command.specs.Opening.{config_said, opening_in, opening_of_line, Opens, TellsSpoken, StopsOpening}
+use Rattle.live_command.specs.Opening.{BreaksOffBefore, OpensWith, StopsBefore}
+use Rattle.live_command.proofs.Saying.{spoken_long}
+use Rattle.line_stream.proofs.Taking.{TakesLonger-of}
 
 faults-said_in : (bytes : List ℕ) → IfErr (said_in bytes) IsOfText
 unfolding said_in
@@ -98,3 +101,34 @@ module _ (unread left : Option (List ℕ)) (hand : AtHand) where
     taken = TakesLines-trans unread tells.between left tells.blanks (tells.line ∷ []) tells.passed tells.taken;
     says = opening_of_long tells.line tells.is;
   }
+
+-- what was read of a line is too long for an opening
+long_opening : (unread left : Option (List ℕ)) (off : BreaksOffBefore unread left) → IsTooMuch false off.none.bytes
+    → OpensWith unread TooLong
+long_opening unread left off much =
+    let none = off.none in
+    let next = TakesLonger-of off.between left none.bytes (λ e. absurd (omega (arith, ap length e, much.0)))
+    none.within none.consumed in
+    let long : MAX_LINE < length next.line = omega (arith, much.0, next.longer) in (
+      next.after,
+      record {
+        blanks = off.blanks;
+        line = next.line;
+        blank = off.blank;
+        is = spoken_long next.line long;
+        taken = TakesLines-trans unread off.between next.after off.blanks (next.line ∷ []) off.read next.taken;
+        says = opening_of_long next.line long;
+      },
+    )
+
+-- no opening was told
+pub stops_opening : (unread left : Option (List ℕ)) (fault : TextFault) → StopsBefore false unread left fault
+    → StopsOpening unread left fault
+stops_opening unread left Input stops = stops
+stops_opening unread left TooLong (inl off) = inl (long_opening unread left off.0 off.1)
+stops_opening unread left TooLong (inr many) = inr (inr many)
+stops_opening unread left NotJson stops = absurd stops
+stops_opening unread left (Shape n) stops = absurd stops
+stops_opening unread left (Config field) stops = absurd stops
+stops_opening unread left Memory stops = absurd stops
+stops_opening unread left Output stops = absurd stops

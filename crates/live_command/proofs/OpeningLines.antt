@@ -4,7 +4,7 @@ use Rattle.std.proofs.Common.{length, Option, None, Some}
 use Rattle.std.proofs.Common.{refl, sym, ap, ◌∙◌, inl, arith, length-append}
 use Rattle.line_stream.specs.declared.Told.{Told}
 use Rattle.line_stream.specs.Lines.{lines_of, TakesLines}
-use Rattle.line_stream.specs.Told.{AtHand, HasEnded, HasNoEnd, TellsNext, StopsLine}
+use Rattle.line_stream.specs.Told.{AtHand, HasEnded, HasNoEnd, TellsNext, StopsReading}
 use Rattle.text_stream.specs.declared.fault.TextFault.{TextFault}
 use Rattle.text_stream.specs.declared.fault.TextFault.TheVariants.{Input, TooLong, NotJson, Shape, Config, Memory}
 use Rattle.text_stream.specs.declared.fault.TextFault.TheVariants.{Output}
@@ -91,15 +91,15 @@ module _ (unread mid : Option (List ℕ)) (turns : ℕ) (passes : PassesBlanks u
   }
 
   -- no line more
-  pub PassesBlanks-stops : (left : Option (List ℕ)) (fault : TextFault) → StopsLine mid left fault
-      → StopsBefore unread left fault
-  PassesBlanks-stops left Input stops = off left stops
-  PassesBlanks-stops left TooLong stops = inl (off left stops.0, stops.1)
-  PassesBlanks-stops left NotJson stops = stops
-  PassesBlanks-stops left (Shape n) stops = stops
-  PassesBlanks-stops left (Config field) stops = stops
-  PassesBlanks-stops left Memory stops = stops
-  PassesBlanks-stops left Output stops = stops
+  pub PassesBlanks-stops : (reads_on : Bool) (left : Option (List ℕ)) (fault : TextFault)
+      → StopsReading reads_on mid left fault → StopsBefore reads_on unread left fault
+  PassesBlanks-stops reads_on left Input stops = off left stops
+  PassesBlanks-stops reads_on left TooLong stops = inl (off left stops.0, stops.1)
+  PassesBlanks-stops reads_on left NotJson stops = stops
+  PassesBlanks-stops reads_on left (Shape n) stops = stops
+  PassesBlanks-stops reads_on left (Config field) stops = stops
+  PassesBlanks-stops reads_on left Memory stops = stops
+  PassesBlanks-stops reads_on left Output stops = stops
 
   -- too many
   pub PassesBlanks-many : 2 ^ 64 - 1 ≤ turns → ComesTooMuchBefore unread

@@ -8,7 +8,7 @@ use Rattle.json.specs.Lex.{tokens}
 use Rattle.serde_json.specs.Data.{Data}
 use Rattle.serde_json.specs.Find.{get}
 use Rattle.serde_json.specs.Read.{of_json, converted}
-use Rattle.sched_history.specs.declared.call.Call.{Call}
+use Rattle.sched_calls.specs.declared.call.Call.{Call}
 use Rattle.call_reading.specs.Calls.{call_of}
 use Rattle.json_fields.proofs.PlainValues.{read_as}
 use Rattle.json_fields.specs.Usual.{read_tokens}

@@ -7,11 +7,11 @@ use Rattle.std.proofs.lemmas.List.{append-nil}
 use Rattle.std.proofs.lemmas.List.Concat.{flat_map-append}
 use Rattle.std.proofs.lemmas.List.Elements.{filter-append}
 use Rattle.minislots.specs.declared.config.Config.{Config}
-use Rattle.sched_history.specs.declared.call.Call.{Call}
-use Rattle.sched_history.specs.declared.reply.Entry.{Entry}
+use Rattle.sched_calls.specs.declared.call.Call.{Call}
+use Rattle.sched_calls.specs.declared.reply.Entry.{Entry}
 use Rattle.sched_history.specs.Machine.{Machine}
-use Rattle.sched_lines.specs.Line.{Answer}
-use Rattle.sched_lines.specs.Answer.{recorded}
+use Rattle.sched_calls.specs.Reply.{Answer}
+use Rattle.sched_history.specs.Answer.{recorded}
 use Rattle.line_stream.specs.declared.TheConstants.{MAX_LINE}
 use Rattle.text_stream.specs.declared.fault.TextFault.{TextFault}
 use Rattle.live_command.specs.declared.wording.Wording.{Wording}

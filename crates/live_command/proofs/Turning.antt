@@ -3,7 +3,7 @@ use Rattle.std.proofs.Common.{◌≡◌, ℕ, ◌<◌, List, [], length, drop, O
 use Rattle.std.proofs.Common.{Result, Ok, Err, refl, sym, ap, subst, inl, inr, arith}
 use Rattle.std.specs.Prelude.{◌⊎◌, IfErr, OnOk, MatchOption, MatchResult}
 use Rattle.std.proofs.Math.Seq.{drop-length}
-use Rattle.sched_history.specs.declared.reply.Entry.{Entry}
+use Rattle.sched_calls.specs.declared.reply.Entry.{Entry}
 use Rattle.sched_history.specs.Machine.{Machine, kept_of}
 use Rattle.line_stream.specs.declared.Told.{Told}
 use Rattle.line_stream.specs.Told.{AtHand, HasEnded, TellsNext, StopsLine}
@@ -39,6 +39,18 @@ pub on_err-second : {A E : Type 0} (P : Type 0) (Q S : E → Type 0) (r : Result
     → MatchResult r (λ _. P) (λ e. Q e × S e) → IfErr r S
 on_err-second P Q S (Ok x) holds = tt
 on_err-second P Q S (Err e) holds = holds.1
+
+-- what follows where there is a value, of each view of which a premise holds
+pub all_ok : {A E : Type 0} (V : Type 0) (H P : V → Type 0) (r : Result A E) → ((v : V) → H v → OnOk r (P v))
+    → OnOk r ((v : V) → H v → P v)
+all_ok V H P (Ok x) holds = holds
+all_ok V H P (Err e) holds = tt
+
+-- and where there is a fault
+pub all_err : {A E : Type 0} (V : Type 0) (H : V → Type 0) (Q : V → E → Type 0) (r : Result A E)
+    → ((v : V) → H v → IfErr r (Q v)) → IfErr r (λ e. (v : V) → H v → Q v e)
+all_err V H Q (Ok x) holds = tt
+all_err V H Q (Err e) holds = holds
 
 -- where all that was kept is handed over there is room
 pub settled_room : (m new : Machine) → 0 < m.config.calls → new ≡ record m { handed = length m.history }

@@ -2,16 +2,17 @@
 use Rattle.std.specs.Prelude.{◌≡◌, ℕ, ◌<◌, ◌≤◌, List, [], ◌∷◌, ◌++◌, length, flat_map, Option}
 use Rattle.std.specs.Prelude.{None, Some, Result, Ok, Err}
 use Rattle.minislots.specs.declared.config.Config.{Config}
-use Rattle.sched_history.specs.declared.call.Call.{Call}
-use Rattle.sched_history.specs.declared.reply.TheConstants.{MAX_WHOLE_HISTORY}
-use Rattle.sched_history.specs.declared.reply.Entry.{Entry}
-use Rattle.sched_history.specs.declared.reply.Unrecorded.TheVariants.{HistoryFull, Memory}
+use Rattle.sched_calls.specs.declared.call.Call.{Call}
+use Rattle.sched_calls.specs.declared.reply.TheConstants.{MAX_WHOLE_HISTORY}
+use Rattle.sched_calls.specs.declared.reply.Entry.{Entry}
+use Rattle.sched_calls.specs.declared.reply.Unrecorded.TheVariants.{HistoryFull, Memory}
 use Rattle.sched_history.specs.History.{IsStep}
 use Rattle.sched_history.specs.Machine.{Machine, MayLackMemory}
-use Rattle.sched_lines.specs.Line.{Answer, line_of}
+use Rattle.sched_calls.specs.Reply.{Answer}
+use Rattle.sched_lines.specs.Line.{line_of}
 use Rattle.sched_lines.specs.Meaning.{explained_line}
-use Rattle.frame_lines.specs.Line.{framed_line}
-use Rattle.sched_lines.specs.Answer.{recorded}
+use Rattle.sched_lines.specs.Framed.{framed_line}
+use Rattle.sched_history.specs.Answer.{recorded}
 use Rattle.live_command.specs.declared.fault.LineFault.{LineFault}
 use Rattle.live_command.specs.declared.wording.Wording.{Wording}
 use Rattle.live_command.specs.declared.wording.Wording.TheVariants.{Plain, Explained, Frames}

@@ -2,7 +2,7 @@
 use Rattle.std.specs.Prelude.{◌≡◌, ◌≢◌, ◌⊎◌, ℕ, ◌-◌, ◌^◌, ◌≤◌, Bool, true, false, nat_lt}
 use Rattle.std.specs.Prelude.{if◌then◌else◌, List, [], ◌∷◌, ◌++◌, length, Option, None, Some, Result, Ok, Err}
 use Rattle.minislots.specs.declared.config.Config.{Config as Configuration}
-use Rattle.sched_history.specs.declared.reply.Entry.{Entry}
+use Rattle.sched_calls.specs.declared.reply.Entry.{Entry}
 use Rattle.sched_history.specs.Machine.{Machine}
 use Rattle.line_stream.specs.declared.TheConstants.{MAX_LINE}
 use Rattle.line_stream.specs.declared.Told.{Told}
@@ -48,7 +48,7 @@ Misses config line Journal = ⊥
 Misses config line OtherConfig = (other : Configuration) × (other ≢ config) × (opening_in line ≡ Ok other)
 Misses config line (BadJournal n) = ⊥
 
--- the text of a first line is an opening that has; or memory ran out
+-- why a first line ends the conversation: memory ran out, or the line says a configuration, and this is wrong with it
 abbrev pub MissesFront : Configuration → List ℕ → LiveFault → Type 0
 MissesFront config line fault =
     (fault ≡ Text Memory) ⊎ ((says_config (said_in line) ≡ true) × Misses config line fault)
@@ -58,7 +58,7 @@ pub record OpensAgain (unread left : Option (List ℕ)) (outcome : Result Config
   pub opens : Opens unread left outcome
   pub is : is_opening opens.line ≡ true
 
--- The first line that is not blank is none
+-- The input has a line that is not blank, and the first such line is no opening
 pub record BeginsOtherwise (unread : Option (List ℕ)) : Type 0 where
   pub blanks : List (List ℕ)
   pub line : List ℕ

@@ -2,7 +2,7 @@
 use Rattle.std.specs.Prelude.{◌≡◌, ◌⊎◌, ℕ, List, [], Option, Ok}
 use Rattle.std.specs.Io.KnownBytes.{IsAtEnd}
 use Rattle.minislots.specs.declared.config.Config.{Config}
-use Rattle.sched_history.specs.declared.reply.Entry.{Entry}
+use Rattle.sched_calls.specs.declared.reply.Entry.{Entry}
 use Rattle.sched_history.specs.Machine.{Machine}
 use Rattle.text_stream.specs.declared.fault.TextFault.{TextFault}
 use Rattle.live_command.specs.declared.fault.LiveFault.{LiveFault}
@@ -38,7 +38,8 @@ pub record Held (wording : Wording) (unread left before written : Option (List �
 abbrev pub NotOpened : {W J : Type 0} → W → W → J → J → Type 0
 NotOpened writer_old writer_new journal_old journal_new = (writer_new ≡ writer_old) × (journal_new ≡ journal_old)
 
--- A conversation ended since its journal refused to begin: nothing was written, and it may begin as before
+-- The journal did not begin, for a reason that it may have: nothing was written to the output, and a later attempt may
+-- still begin the journal with these entries
 pub record NotBegun (refuses : BeginFault → Type 0) (quiet : Type 0) (may : List Entry → Type 0) (entries : List Entry)
     (fault : LiveFault) : Type 0 where
   pub why : BeginFault

@@ -1,5 +1,5 @@
 -- The opening of a conversation.
-use Rattle.std.specs.Prelude.{◌≡◌, ◌⊎◌, ℕ, ◌-◌, ◌^◌, ◌≤◌, true, nat_lt, if◌then◌else◌, List, [], ◌∷◌, ◌++◌}
+use Rattle.std.specs.Prelude.{◌≡◌, ◌⊎◌, ℕ, ◌-◌, ◌^◌, ◌≤◌, Bool, true, nat_lt, if◌then◌else◌, List, [], ◌∷◌, ◌++◌}
 use Rattle.std.specs.Prelude.{length, Option, None, Some, Result, Ok, Err}
 use Rattle.std.specs.Io.KnownBytes.{IsAtEnd}
 use Rattle.minislots.specs.declared.config.Config.{Config as Configuration}
@@ -7,7 +7,7 @@ use Rattle.minislots.specs.Config.{first_wrong}
 use Rattle.line_stream.specs.declared.TheConstants.{MAX_LINE}
 use Rattle.line_stream.specs.Lines.{TakesLines}
 use Rattle.line_stream.specs.declared.Told.{Told}
-use Rattle.line_stream.specs.Told.{AtHand, IsTold, HasNoEnd}
+use Rattle.line_stream.specs.Told.{AtHand, IsTold, HasNoEnd, IsTooMuch}
 use Rattle.text_stream.specs.declared.fault.TextFault.{TextFault}
 use Rattle.text_stream.specs.declared.fault.TextFault.TheVariants.{Input, TooLong, NotJson, Shape, Config, Memory}
 use Rattle.text_stream.specs.declared.fault.TextFault.TheVariants.{Output}
@@ -103,13 +103,13 @@ abbrev pub FindsSpoken : Option (List ℕ) → Option (List ℕ) → AtHand → 
 FindsSpoken unread left hand None = PassesAll unread left
 FindsSpoken unread left hand (Some told) = TellsSpoken unread left hand told
 
--- why none was told
-abbrev pub StopsBefore : Option (List ℕ) → Option (List ℕ) → TextFault → Type 0
-StopsBefore unread left Input = BreaksOffBefore unread left
-StopsBefore unread left TooLong =
-    ((off : BreaksOffBefore unread left) × (2 ^ 64 - 1 ≤ length off.none.bytes)) ⊎ ComesTooMuchBefore unread
-StopsBefore unread left NotJson = ⊥
-StopsBefore unread left (Shape n) = ⊥
-StopsBefore unread left (Config field) = ⊥
-StopsBefore unread left Memory = ⊥
-StopsBefore unread left Output = ⊥
+-- why none was told, where all of a line that is too long is read or not
+abbrev pub StopsBefore : Bool → Option (List ℕ) → Option (List ℕ) → TextFault → Type 0
+StopsBefore reads_on unread left Input = BreaksOffBefore unread left
+StopsBefore reads_on unread left TooLong =
+    ((off : BreaksOffBefore unread left) × IsTooMuch reads_on off.none.bytes) ⊎ ComesTooMuchBefore unread
+StopsBefore reads_on unread left NotJson = ⊥
+StopsBefore reads_on unread left (Shape n) = ⊥
+StopsBefore reads_on unread left (Config field) = ⊥
+StopsBefore reads_on unread left Memory = ⊥
+StopsBefore reads_on unread left Output = ⊥

@@ -4,7 +4,7 @@ ghost use Rattle.std.specs.Prelude.{◌≡◌, ◌≤◌, ◌<◌, List, ℕ, �
 ghost use Rattle.line_stream.specs.declared.TheConstants.{MAX_LINE};
 ghost use Rattle.line_stream.specs.Told.{IsTold};
 ghost use Rattle.sched_history.specs.Machine.{kept_of};
-ghost use Rattle.sched_lines.specs.Line.{Answer, HasLine};
+ghost use Rattle.sched_calls.specs.Reply.{Answer, HasLine};
 ghost use Rattle.live_command.specs.Answers.{MayGet, after, answer_line, AnswersHeard, SaysOne};
 ghost use Rattle.live_command.specs.Spoken.{call_said, call_of_line, heard_of};
 

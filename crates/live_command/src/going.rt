@@ -86,7 +86,7 @@ fn read_front<R: Source>(
     ensures failed { FailsButFor (Text TextFault.Input) (Text TextFault.TooLong) result
         (R.has_failed reader.old) (R.has_failed reader.new) }
 {
-    match next_spoken(lines, reader)? {
+    match next_spoken(lines, reader, true)? {
         Some(Told::Line) => tell_first(alloc, scratch, config, lines.line()),
         Some(Told::Long) => Ok(Some(Told::Long)),
         None => Ok(None),
@@ -108,23 +108,28 @@ pub fn go_on<R: Source, W: Sink, J: Journal>(
     wording: Wording,
 ) -> Result<(), LiveFault>
     requires handed { scheduler.old.handed ≡ length scheduler.old.history }
-    requires ready { J.may_begin journal.old scheduler.old.config scheduler.old.history }
+    requires ready { J.is_ready journal.old }
+    ensures begun { OnOk result (J.is_begun journal.new) }
 
     // All lines were answered; the journal stands for what was resumed, and the calls of these lines behind it.
-    ensures ok { OnOk result (WentOn wording scheduler.old scheduler.new
+    ensures ok { OnOk result ((v : J.View) →
+        J.may_begin journal.old v scheduler.old.config scheduler.old.history →
+        WentOn wording scheduler.old scheduler.new
         (untold lines.old (R.remaining reader.old)) (untold lines.new (R.remaining reader.new))
         (W.contents writer.old) (W.contents writer.new)
-        (J.stands_for journal.new scheduler.old.config)) }
+        (J.stands_for journal.new v scheduler.old.config)) }
 
     // Else no line of the conversation came, or the journal did not begin, and nothing was written; or it ended early.
-    ensures ends { IfErr result (EndsGoing wording scheduler.old scheduler.new
+    ensures ends { IfErr result (λ e. (v : J.View) →
+        J.may_begin journal.old v scheduler.old.config scheduler.old.history →
+        EndsGoing wording scheduler.old scheduler.new
         (untold lines.old (R.remaining reader.old)) (R.remaining reader.new)
         (W.contents writer.old) (W.contents writer.new)
         (J.may_refuse journal.old scheduler.old.config)
-        (J.may_begin journal.new scheduler.old.config)
-        (J.stands_for journal.new scheduler.old.config)
+        (J.may_begin journal.new v scheduler.old.config)
+        (J.stands_for journal.new v scheduler.old.config)
         (NotGoing scheduler.old scheduler.new writer.old writer.new journal.old journal.new)
-        ((scheduler.new ≡ scheduler.old) × (writer.new ≡ writer.old))) }
+        ((scheduler.new ≡ scheduler.old) × (writer.new ≡ writer.old)) e) }
 
     // A failed read, write or journal is told exactly where one has failed, but that an input which is too long tells
     // nothing of reads; where all went well none did.

@@ -12,13 +12,12 @@ use text_stream::Watched;
 pub fn live_input(
     rt: &(impl Input + Print + AllocGlobal),
     wording: Wording,
-) -> Result<bool, LiveFault> {
+) -> Result<(), LiveFault> {
     hold(
         rt.alloc(),
         &mut Watched::new(rt.reader()),
         &mut Watched::new(io::writer(rt)),
         &mut NoJournal,
         wording,
-    )?;
-    Ok(true)
+    )
 }

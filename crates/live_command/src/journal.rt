@@ -3,8 +3,8 @@
 ghost use Rattle.std.specs.Prelude.{◌≡◌, Bool, true, false, List, IfErr, OnOk, OnErr};
 ghost use Rattle.std.specs.List.{AllByRecursion};
 ghost use Rattle.minislots.specs.declared.config.Config.{Config as Configuration};
-ghost use Rattle.sched_history.specs.declared.reply.Entry.{Entry as Recorded};
-ghost use Rattle.sched_history.specs.Machine.{IsEncodable};
+ghost use Rattle.sched_calls.specs.declared.reply.Entry.{Entry as Recorded};
+ghost use Rattle.sched_calls.specs.Reply.{IsEncodable};
 ghost use Rattle.live_command.specs.declared.journal.BeginFault.{BeginFault as Refusal};
 ghost use Rattle.live_command.specs.Journal.{Keeps, Grows, GrowsInPart, FailsJustBy};
 
@@ -33,27 +33,39 @@ pub enum RecordFault {
 
 /// What a conversation is recorded in, so that another one can resume it.
 pub trait Journal {
+    /// What a promise is about beside the entries: of a journal in a file, whether it is about the bytes of the file or
+    /// about those that have reached the device, and which there were before.
+    ghost View: { Type 0 };
+
     /// Whether it was begun, and stands for this configuration and these entries; true, too, where nothing is known of
     /// it.
-    ghost stands_for: { Self → Configuration → List Recorded → Type 0 } = { λ _ _ _. Unit {0} };
+    ghost stands_for: { Self → View → Configuration → List Recorded → Type 0 };
 
-    /// Whether it stands for this configuration and these entries once it is begun under it: it does already, but for
-    /// what is to be cut behind them, or there are none and it has no whole line. True, too, where nothing is known.
-    ghost may_begin: { Self → Configuration → List Recorded → Type 0 } = { λ _ _ _. Unit {0} };
+    /// Whether it stands for this configuration and these entries once it is begun under it; true, too, where nothing
+    /// is known of it.
+    ghost may_begin: { Self → View → Configuration → List Recorded → Type 0 };
 
     /// Whether it may refuse to begin under this configuration, and why; true, too, where nothing is known.
-    ghost may_refuse: { Self → Configuration → Refusal → Type 0 } = { λ _ _ _. Unit {0} };
+    ghost may_refuse: { Self → Configuration → Refusal → Type 0 };
+
+    /// Whether it can be begun: what it has is known to it.
+    ghost is_ready: { Self → Type 0 };
+
+    /// Whether it was begun.
+    ghost is_begun: { Self → Type 0 };
 
     /// Whether a call has failed; true, too, where nothing is known of it.
-    ghost has_failed: { Self → Bool } = { λ _. true };
+    ghost has_failed: { Self → Bool };
 
-    /// Begins it under this configuration, or makes it ready to go on where it was begun. Nothing of it is changed
-    /// before.
+    /// Begins it under this configuration, or makes it ready to be continued where it was begun. Nothing of it is
+    /// changed before.
     fn begin(&mut self, config: &Checked) -> Result<(), BeginFault>
-        ensures ok { OnOk result
-            (Keeps (may_begin self.old config.now) (stands_for self.new config.now)) }
-        ensures err { OnErr result
-            (Keeps (may_begin self.old config.now) (may_begin self.new config.now)) }
+        requires { is_ready self.old }
+        ensures begun { OnOk result (is_begun self.new) }
+        ensures ok { OnOk result ((v : View) →
+            Keeps (may_begin self.old v config.now) (stands_for self.new v config.now)) }
+        ensures err { OnErr result ((v : View) →
+            Keeps (may_begin self.old v config.now) (may_begin self.new v config.now)) }
         ensures refused { IfErr result (may_refuse self.old config.now) }
         ensures failed { FailsJustBy BeginFault.Failed result
             (has_failed self.old) (has_failed self.new) };
@@ -61,11 +73,13 @@ pub trait Journal {
     /// Puts entries behind those that it stands for. At the return all of them are in it; where the call failed, the
     /// first of them may be.
     fn record(&mut self, entries: &[Entry]) -> Result<(), RecordFault>
-        requires { AllByRecursion (λ e. IsEncodable e.reply) entries.now }
-        ensures ok { OnOk result ((c : Configuration) →
-            Grows (stands_for self.old c) (stands_for self.new c) entries.now) }
-        ensures err { OnErr result ((c : Configuration) →
-            GrowsInPart (stands_for self.old c) (stands_for self.new c) entries.now) }
+        requires begun { is_begun self.old }
+        requires encodable { AllByRecursion (λ e. IsEncodable e.reply) entries.now }
+        ensures begun { is_begun self.new }
+        ensures ok { OnOk result ((v : View) (c : Configuration) →
+            Grows (stands_for self.old v c) (stands_for self.new v c) entries.now) }
+        ensures err { OnErr result ((v : View) (c : Configuration) →
+            GrowsInPart (stands_for self.old v c) (stands_for self.new v c) entries.now) }
         ensures failed { FailsJustBy RecordFault.Failed result
             (has_failed self.old) (has_failed self.new) };
 }
@@ -75,7 +89,17 @@ pub trait Journal {
 pub struct NoJournal;
 
 impl Journal for NoJournal {
+    ghost View = { Unit {0} };
+
+    ghost stands_for = { λ _ _ _ _. Unit {0} };
+
+    ghost may_begin = { λ _ _ _ _. Unit {0} };
+
     ghost may_refuse = { λ _ _ _. ⊥ };
+
+    ghost is_ready = { λ _. Unit {0} };
+
+    ghost is_begun = { λ _. Unit {0} };
 
     ghost has_failed = { λ _. false };
 

@@ -29,17 +29,20 @@ pub fn hold<R: Source, W: Sink, J: Journal>(
     journal: &mut J,
     wording: Wording,
 ) -> Result<(), LiveFault>
-    requires { (c : Config) → J.may_begin journal.old c [] }
+    requires { J.is_ready journal.old }
+    ensures begun { OnOk result (J.is_begun journal.new) }
 
     // The opening was read, and all lines behind it were answered.
-    ensures ok { OnOk result (Held wording (R.remaining reader.old) (R.remaining reader.new)
-        (W.contents writer.old) (W.contents writer.new) (J.stands_for journal.new)) }
+    ensures ok { OnOk result ((v : J.View) → ((c : Config) → J.may_begin journal.old v c []) →
+        Held wording (R.remaining reader.old) (R.remaining reader.new)
+        (W.contents writer.old) (W.contents writer.new) (J.stands_for journal.new v)) }
 
     // Else no opening was read, or the journal did not begin, and nothing was written; or the conversation ended early.
-    ensures ends { IfErr result (Ends wording (R.remaining reader.old) (R.remaining reader.new)
+    ensures ends { IfErr result (λ e. (v : J.View) → ((c : Config) → J.may_begin journal.old v c []) →
+        Ends wording (R.remaining reader.old) (R.remaining reader.new)
         (W.contents writer.old) (W.contents writer.new)
-        (J.may_refuse journal.old) (J.may_begin journal.new) (J.stands_for journal.new)
-        (NotOpened writer.old writer.new journal.old journal.new) (writer.new ≡ writer.old)) }
+        (J.may_refuse journal.old) (J.may_begin journal.new v) (J.stands_for journal.new v)
+        (NotOpened writer.old writer.new journal.old journal.new) (writer.new ≡ writer.old) e) }
 
     // A failed read, write or journal is told exactly where one has failed, but that an input which is too long tells
     // nothing of reads; where all went well none did.
@@ -50,7 +53,7 @@ pub fn hold<R: Source, W: Sink, J: Journal>(
     ensures failed_journal { FailsJustBy Failed result
         (J.has_failed journal.old) (J.has_failed journal.new) }
 {
-    let mut lines = Lines::new();
+    let mut lines = Lines::new(alloc)?;
     let mut scratch = Scratch::new(alloc);
     let config = read_opening(alloc, &mut scratch, &mut lines, reader)?;
     let mut scheduler = Scheduler::open(alloc, config)?;

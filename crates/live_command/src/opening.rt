@@ -36,20 +36,21 @@ pub fn opening_in(alloc: Global, scratch: &mut Scratch, line: &[u8]) -> Result<C
     Ok(config)
 }
 
-/// Tells the next line that is not blank; none where there is none.
+/// Tells the next line that is not blank, to the end of which it reads on or not; none where there is none.
 pub(crate) fn next_spoken<R: Source>(
     lines: &mut Lines,
     reader: &mut R,
+    reads_on: bool,
 ) -> Result<Option<Told>, TextFault>
     ensures finds { IfOk result (FindsSpoken (untold lines.old (R.remaining reader.old))
         (untold lines.new (R.remaining reader.new)) lines.new) }
     ensures stops { IfErr result
-        (StopsBefore (untold lines.old (R.remaining reader.old)) (R.remaining reader.new)) }
+        (StopsBefore reads_on (untold lines.old (R.remaining reader.old)) (R.remaining reader.new)) }
     ensures failed { FailsButFor TextFault.Input TextFault.TooLong result
         (R.has_failed reader.old) (R.has_failed reader.new) }
 {
     for _ in 0..u64::MAX {
-        let Some(told) = lines.next(reader)? else {
+        let Some(told) = lines.next_reading(reader, reads_on)? else {
             return Ok(None);
         };
         if is_told_spoken(told, lines.line()) {
@@ -59,7 +60,7 @@ pub(crate) fn next_spoken<R: Source>(
     Err(TextFault::TooLong)
 }
 
-/// Reads the opening: the first line that is not blank.
+/// Reads the opening: the first line that is not blank, of which no more is read once it is too long.
 pub(crate) fn read_opening<R: Source>(
     alloc: Global,
     scratch: &mut Scratch,
@@ -73,7 +74,7 @@ pub(crate) fn read_opening<R: Source>(
     ensures failed { FailsButFor TextFault.Input TextFault.TooLong result
         (R.has_failed reader.old) (R.has_failed reader.new) }
 {
-    match next_spoken(lines, reader)? {
+    match next_spoken(lines, reader, false)? {
         Some(Told::Line) => opening_in(alloc, scratch, lines.line()),
         Some(Told::Long) => Err(TextFault::TooLong),
         None => Err(TextFault::NotJson),

@@ -1,7 +1,7 @@
 //! Answers on their way to a writer.
 
 ghost use Rattle.std.specs.Prelude.{◌≡◌, ◌++◌, [], Some, IfOk, IfErr, OnOk};
-ghost use Rattle.sched_lines.specs.Line.{HasLine};
+ghost use Rattle.sched_calls.specs.Reply.{HasLine};
 ghost use Rattle.text_stream.specs.Writing.{Puts};
 ghost use Rattle.live_command.specs.Answers.{answer_line};
 ghost use Rattle.live_command.specs.Sending.{WritesFront, Sends};
@@ -9,9 +9,8 @@ ghost use Rattle.live_command.specs.Spoken.{fault_line};
 
 use crate::fault::LineFault;
 use crate::wording::Wording;
-use frame_lines::put_framed_line;
 use sched_history::{Reply, Unrecorded};
-use sched_lines::LineBuffer;
+use sched_lines::{LineBuffer, put_framed_line};
 use std::alloc::{AllocError, Global};
 use std::marker::Model;
 use text_stream::{Sink, TextFault};

@@ -30,17 +30,19 @@ fn talk_on<R: Source, W: Sink, J: Journal>(
     journal: &mut J,
     wording: Wording,
 ) -> Result<(), LiveFault>
-    ensures talk { (s : Start) → s.wording ≡ wording →
+    requires { J.is_begun journal.old }
+    ensures begun { OnOk result (J.is_begun journal.new) }
+    ensures talk { (s : Start) (v : J.View) → s.wording ≡ wording →
         Talk s 0 scheduler.old (untold lines.old (R.remaining reader.old)) (W.contents writer.old)
-        (J.stands_for journal.old s.config) outbox.old →
+        (J.stands_for journal.old v s.config) outbox.old →
         MatchResult result
         (λ _. Conversed s scheduler.new
         (untold lines.new (R.remaining reader.new)) (W.contents writer.new)
-        (J.stands_for journal.new s.config))
+        (J.stands_for journal.new v s.config))
         (λ e. Stopped s scheduler.new.history (W.contents writer.new)
-        (J.stands_for journal.new s.config)
+        (J.stands_for journal.new v s.config)
         × StopsTalk s scheduler.new (R.remaining reader.new) (W.contents writer.new)
-        (J.stands_for journal.new s.config) e) }
+        (J.stands_for journal.new v s.config) e) }
     ensures failed_read { FailsButFor (Text TextFault.Input) (Text TextFault.TooLong) result
         (R.has_failed reader.old) (R.has_failed reader.new) }
     ensures failed_write { FailsJustBy (Text TextFault.Output) result (W.has_failed writer.old)
@@ -71,21 +73,23 @@ pub(crate) fn talk_from<R: Source, W: Sink, J: Journal>(
     journal: &mut J,
     wording: Wording,
 ) -> Result<(), LiveFault>
-    ensures talk { (s : Start) → s.wording ≡ wording →
+    requires { J.is_begun journal.old }
+    ensures begun { OnOk result (J.is_begun journal.new) }
+    ensures talk { (s : Start) (v : J.View) → s.wording ≡ wording →
         MatchOption told
         (Talk s 0 scheduler.old (untold lines.old (R.remaining reader.old)) (W.contents writer.old)
-        (J.stands_for journal.old s.config) [])
+        (J.stands_for journal.old v s.config) [])
         (TellsOn s 0 scheduler.old
         (untold lines.old (R.remaining reader.old)) (W.contents writer.old)
-        (J.stands_for journal.old s.config) [] lines.old) →
+        (J.stands_for journal.old v s.config) [] lines.old) →
         MatchResult result
         (λ _. Conversed s scheduler.new
         (untold lines.new (R.remaining reader.new)) (W.contents writer.new)
-        (J.stands_for journal.new s.config))
+        (J.stands_for journal.new v s.config))
         (λ e. Stopped s scheduler.new.history (W.contents writer.new)
-        (J.stands_for journal.new s.config)
+        (J.stands_for journal.new v s.config)
         × StopsTalk s scheduler.new (R.remaining reader.new) (W.contents writer.new)
-        (J.stands_for journal.new s.config) e) }
+        (J.stands_for journal.new v s.config) e) }
     ensures failed_read { FailsButFor (Text TextFault.Input) (Text TextFault.TooLong) result
         (R.has_failed reader.old) (R.has_failed reader.new) }
     ensures failed_write { FailsJustBy (Text TextFault.Output) result (W.has_failed writer.old)
@@ -117,26 +121,30 @@ pub fn converse<R: Source, W: Sink, J: Journal>(
     wording: Wording,
 ) -> Result<(), LiveFault>
     requires handed { scheduler.old.handed ≡ length scheduler.old.history }
-    requires stands { J.stands_for journal.old scheduler.old.config scheduler.old.history }
+    requires begun { J.is_begun journal.old }
+    ensures begun { OnOk result (J.is_begun journal.new) }
 
     // All lines were answered, and nothing else was written; the journal stands for the whole history.
-    ensures ok { OnOk result (Conversed
+    ensures ok { OnOk result ((v : J.View) →
+        J.stands_for journal.old v scheduler.old.config scheduler.old.history → Conversed
         (start_at wording scheduler.old
         (untold lines.old (R.remaining reader.old)) (W.contents writer.old))
         scheduler.new (untold lines.new (R.remaining reader.new)) (W.contents writer.new)
-        (J.stands_for journal.new scheduler.old.config)) }
+        (J.stands_for journal.new v scheduler.old.config)) }
 
     // Wherever else it ended, the journal has the entry of each answer of which a byte was written.
-    ensures stopped { IfErr result (λ _. Stopped
+    ensures stopped { IfErr result (λ _. (v : J.View) →
+        J.stands_for journal.old v scheduler.old.config scheduler.old.history → Stopped
         (start_at wording scheduler.old
         (untold lines.old (R.remaining reader.old)) (W.contents writer.old))
         scheduler.new.history (W.contents writer.new)
-        (J.stands_for journal.new scheduler.old.config)) }
-    ensures stops { IfErr result (StopsTalk
+        (J.stands_for journal.new v scheduler.old.config)) }
+    ensures stops { IfErr result (λ e. (v : J.View) →
+        J.stands_for journal.old v scheduler.old.config scheduler.old.history → StopsTalk
         (start_at wording scheduler.old
         (untold lines.old (R.remaining reader.old)) (W.contents writer.old))
         scheduler.new (R.remaining reader.new) (W.contents writer.new)
-        (J.stands_for journal.new scheduler.old.config)) }
+        (J.stands_for journal.new v scheduler.old.config) e) }
 
     // A failed read, write or journal is told exactly where one has failed, but that an input which is too long tells
     // nothing of reads; where all went well none did.

@@ -28,15 +28,17 @@ pub(crate) fn settle<W: Sink, J: Journal>(
     writer: &mut W,
     journal: &mut J,
 ) -> Result<(), LiveFault>
-    ensures talk { (s : Start) (turns : ℕ) (left : Option (List ℕ)) →
+    requires { J.is_begun journal.old }
+    ensures begun { OnOk result (J.is_begun journal.new) }
+    ensures talk { (s : Start) (v : J.View) (turns : ℕ) (left : Option (List ℕ)) →
         Talk s turns scheduler.old left
-        (W.contents writer.old) (J.stands_for journal.old s.config) outbox.old →
+        (W.contents writer.old) (J.stands_for journal.old v s.config) outbox.old →
         MatchResult result
         (λ _. Talk s turns scheduler.new left
-        (W.contents writer.new) (J.stands_for journal.new s.config) outbox.new
-        × J.stands_for journal.new s.config scheduler.new.history)
+        (W.contents writer.new) (J.stands_for journal.new v s.config) outbox.new
+        × J.stands_for journal.new v s.config scheduler.new.history)
         (λ _. Stopped s scheduler.new.history (W.contents writer.new)
-        (J.stands_for journal.new s.config)) }
+        (J.stands_for journal.new v s.config)) }
     ensures settled { OnOk result (outbox.new ≡ []) }
     ensures handed { OnOk result
         (scheduler.new ≡ record scheduler.old { handed = length scheduler.old.history }) }
@@ -59,14 +61,16 @@ fn make_room<W: Sink, J: Journal>(
     writer: &mut W,
     journal: &mut J,
 ) -> Result<(), LiveFault>
-    ensures talk { (s : Start) (turns : ℕ) (left : Option (List ℕ)) →
+    requires { J.is_begun journal.old }
+    ensures begun { OnOk result (J.is_begun journal.new) }
+    ensures talk { (s : Start) (v : J.View) (turns : ℕ) (left : Option (List ℕ)) →
         Talk s turns scheduler.old left
-        (W.contents writer.old) (J.stands_for journal.old s.config) outbox.old →
+        (W.contents writer.old) (J.stands_for journal.old v s.config) outbox.old →
         MatchResult result
         (λ _. Talk s turns scheduler.new left
-        (W.contents writer.new) (J.stands_for journal.new s.config) outbox.new)
+        (W.contents writer.new) (J.stands_for journal.new v s.config) outbox.new)
         (λ _. Stopped s scheduler.new.history (W.contents writer.new)
-        (J.stands_for journal.new s.config)) }
+        (J.stands_for journal.new v s.config)) }
     ensures room { OnOk result (length (kept_of scheduler.new) < scheduler.new.config.calls) }
     ensures err { IfErr result IsAnywhere }
     ensures failed_write { FailsJustBy (Text TextFault.Output) result (W.has_failed writer.old)
@@ -90,22 +94,24 @@ fn next_line<R: Source, W: Sink, J: Journal>(
     writer: &mut W,
     journal: &mut J,
 ) -> Result<Option<Told>, LiveFault>
-    ensures talk { (s : Start) (turns : ℕ) →
+    requires { J.is_begun journal.old }
+    ensures begun { OnOk result (J.is_begun journal.new) }
+    ensures talk { (s : Start) (v : J.View) (turns : ℕ) →
         Talk s turns scheduler.old
         (untold lines.old (R.remaining reader.old)) (W.contents writer.old)
-        (J.stands_for journal.old s.config) outbox.old →
+        (J.stands_for journal.old v s.config) outbox.old →
         MatchResult result
         (λ told. MatchOption told
         (Conversed s scheduler.new
         (untold lines.new (R.remaining reader.new)) (W.contents writer.new)
-        (J.stands_for journal.new s.config))
+        (J.stands_for journal.new v s.config))
         (TellsOn s turns scheduler.new
         (untold lines.new (R.remaining reader.new)) (W.contents writer.new)
-        (J.stands_for journal.new s.config) outbox.new lines.new))
+        (J.stands_for journal.new v s.config) outbox.new lines.new))
         (λ e. Stopped s scheduler.new.history (W.contents writer.new)
-        (J.stands_for journal.new s.config)
+        (J.stands_for journal.new v s.config)
         × StopsTalk s scheduler.new (R.remaining reader.new) (W.contents writer.new)
-        (J.stands_for journal.new s.config) e) }
+        (J.stands_for journal.new v s.config) e) }
     ensures failed_read { FailsButFor (Text TextFault.Input) (Text TextFault.TooLong) result
         (R.has_failed reader.old) (R.has_failed reader.new) }
     ensures failed_write { FailsJustBy (Text TextFault.Output) result (W.has_failed writer.old)
@@ -133,16 +139,18 @@ fn take_told<W: Sink, J: Journal>(
     journal: &mut J,
     wording: Wording,
 ) -> Result<(), LiveFault>
-    ensures talk { (s : Start) (turns : ℕ) (left : Option (List ℕ)) → s.wording ≡ wording →
+    requires { J.is_begun journal.old }
+    ensures begun { OnOk result (J.is_begun journal.new) }
+    ensures talk { (s : Start) (v : J.View) (turns : ℕ) (left : Option (List ℕ)) → s.wording ≡ wording →
         TellsOn s turns scheduler.old left
-        (W.contents writer.old) (J.stands_for journal.old s.config) outbox.old
+        (W.contents writer.old) (J.stands_for journal.old v s.config) outbox.old
         lines.now told →
         MatchResult result
         (λ _. Talk s (turns + 1) scheduler.new left
-        (W.contents writer.new) (J.stands_for journal.new s.config)
+        (W.contents writer.new) (J.stands_for journal.new v s.config)
         outbox.new)
         (λ _. Stopped s scheduler.new.history (W.contents writer.new)
-        (J.stands_for journal.new s.config)) }
+        (J.stands_for journal.new v s.config)) }
     ensures err { IfErr result IsAnywhere }
     ensures failed_write { FailsJustBy (Text TextFault.Output) result (W.has_failed writer.old)
         (W.has_failed writer.new) }
@@ -173,18 +181,20 @@ pub(crate) fn take_first<W: Sink, J: Journal>(
     journal: &mut J,
     wording: Wording,
 ) -> Result<(), LiveFault>
-    ensures talk { (s : Start) (left : Option (List ℕ)) → s.wording ≡ wording →
+    requires { J.is_begun journal.old }
+    ensures begun { OnOk result (J.is_begun journal.new) }
+    ensures talk { (s : Start) (v : J.View) (left : Option (List ℕ)) → s.wording ≡ wording →
         MatchOption told
         (Talk s 0 scheduler.old left
-        (W.contents writer.old) (J.stands_for journal.old s.config) outbox.old)
+        (W.contents writer.old) (J.stands_for journal.old v s.config) outbox.old)
         (TellsOn s 0 scheduler.old left
-        (W.contents writer.old) (J.stands_for journal.old s.config) outbox.old
+        (W.contents writer.old) (J.stands_for journal.old v s.config) outbox.old
         lines.now) →
         MatchResult result
         (λ _. Talk s 0 scheduler.new left
-        (W.contents writer.new) (J.stands_for journal.new s.config) outbox.new)
+        (W.contents writer.new) (J.stands_for journal.new v s.config) outbox.new)
         (λ _. Stopped s scheduler.new.history (W.contents writer.new)
-        (J.stands_for journal.new s.config)) }
+        (J.stands_for journal.new v s.config)) }
     ensures err { IfErr result IsAnywhere }
     ensures failed_write { FailsJustBy (Text TextFault.Output) result (W.has_failed writer.old)
         (W.has_failed writer.new) }
@@ -211,18 +221,20 @@ pub(crate) fn take_turn<R: Source, W: Sink, J: Journal>(
     journal: &mut J,
     wording: Wording,
 ) -> Result<bool, LiveFault>
-    ensures talk { (s : Start) (turns : ℕ) → s.wording ≡ wording →
+    requires { J.is_begun journal.old }
+    ensures begun { OnOk result (J.is_begun journal.new) }
+    ensures talk { (s : Start) (v : J.View) (turns : ℕ) → s.wording ≡ wording →
         Talk s turns scheduler.old
         (untold lines.old (R.remaining reader.old)) (W.contents writer.old)
-        (J.stands_for journal.old s.config) outbox.old →
+        (J.stands_for journal.old v s.config) outbox.old →
         MatchResult result
         (IsTurn s turns scheduler.new
         (untold lines.new (R.remaining reader.new)) (W.contents writer.new)
-        (J.stands_for journal.new s.config) outbox.new)
+        (J.stands_for journal.new v s.config) outbox.new)
         (λ e. Stopped s scheduler.new.history (W.contents writer.new)
-        (J.stands_for journal.new s.config)
+        (J.stands_for journal.new v s.config)
         × StopsTalk s scheduler.new (R.remaining reader.new) (W.contents writer.new)
-        (J.stands_for journal.new s.config) e) }
+        (J.stands_for journal.new v s.config) e) }
     ensures failed_read { FailsButFor (Text TextFault.Input) (Text TextFault.TooLong) result
         (R.has_failed reader.old) (R.has_failed reader.new) }
     ensures failed_write { FailsJustBy (Text TextFault.Output) result (W.has_failed writer.old)

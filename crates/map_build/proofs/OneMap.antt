@@ -8,14 +8,14 @@ use Rattle.std.proofs.lemmas.Bool.Decides.{nat_tests}
 use Rattle.std.proofs.lemmas.List.Sums.{sum_by-append, sum_by-cons}
 use Rattle.minislots.specs.declared.config.Config.{Config}
 use Rattle.minislots.specs.Units.{slots_for}
-use Rattle.flow_book.specs.FlowSpec.{rank_of as flow_rank}
+use Rattle.sched_calls.specs.FlowSpec.{rank_of as flow_rank}
 use Rattle.flow_book.specs.Flows.{LiveFlow}
 use Rattle.flow_book.specs.Choice.{IsAmount, IsNext, NoneEligible, last_start, is_earlier, is_as_early}
 use Rattle.flow_book.proofs.Order.{all-contains}
 use Rattle.periodic.specs.declared.placement.Spot.{Spot}
-use Rattle.map_build.specs.declared.frame_map.FrameMap.{FrameMap}
-use Rattle.map_build.specs.declared.opportunity.Header.{Header}
-use Rattle.map_build.specs.declared.opportunity.Opportunity.{Opportunity}
+use Rattle.sched_calls.specs.declared.frame_map.FrameMap.{FrameMap}
+use Rattle.sched_calls.specs.declared.opportunity.Header.{Header}
+use Rattle.sched_calls.specs.declared.opportunity.Opportunity.{Opportunity}
 use Rattle.map_build.specs.declared.purpose.Allocation.{Allocation}
 use Rattle.map_build.specs.declared.purpose.Purpose.{Purpose}
 use Rattle.map_build.specs.declared.purpose.Purpose.TheVariants.{Poll, UnsolicitedGrant, Offer, DataGrant, Idle}

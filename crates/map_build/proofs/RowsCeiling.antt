@@ -1,20 +1,21 @@
 -- Worked examples of lawful MAPs of a flow at its rate ceiling.
 use Rattle.std.proofs.Common.{◌≡◌, List, [], ◌∷◌, map, refl, inr, lit<, arith}
 use Rattle.map_codec.specs.Element.{word_of}
-use Rattle.map_build.specs.declared.frame_map.FrameMap.{FrameMap}
+use Rattle.sched_calls.specs.declared.frame_map.FrameMap.{FrameMap}
 use Rattle.map_build.specs.declared.purpose.Allocation.{Allocation}
 use Rattle.map_build.specs.declared.purpose.Purpose.TheVariants.{DataGrant, Idle}
-use Rattle.map_build.specs.Opportunities.{header_of}
+use Rattle.sched_calls.specs.Header.{header_of}
 use Rattle.map_build.specs.Plan.{demand_at}
 use Rattle.map_build.specs.FrameMap.{IsLawfulMap}
-use Rattle.flow_book.proofs.Base.{base}
+use Rattle.sched_calls.proofs.Base.{base}
 use Rattle.flow_book.proofs.RowsCeiling.{under_ceiling, grant, the_second_grant_fills_the_room}
 use Rattle.flow_book.proofs.RowsCeiling.{a_flow_with_one_grant_is_next, limited, exhausted}
 use Rattle.flow_book.proofs.RowsCeiling.{the_third_grant_is_at_the_ceiling_to_the_byte}
 use Rattle.flow_book.proofs.RowsCeiling.{a_flow_below_its_ceiling_is_next, a_flow_at_its_ceiling_is_not_eligible}
 use Rattle.map_build.proofs.RowsContention.{filled_by}
 use Rattle.map_build.proofs.FlowsAfter.{allocation}
-use Rattle.map_build.proofs.RowsMaps.{element, base_map, all_idle, none_waits}
+use Rattle.sched_calls.proofs.BaseMaps.{element, base_map}
+use Rattle.map_build.proofs.RowsMaps.{all_idle, none_waits}
 
 -- the MAP of the second grant, which fills the room
 abbrev pub second_grant : FrameMap

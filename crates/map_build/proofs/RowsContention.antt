@@ -2,18 +2,19 @@
 use Rattle.std.proofs.Common.{◌≡◌, ℕ, List, [], ◌∷◌, map, refl, lit<, lit≤, arith}
 use Rattle.map_codec.specs.Element.{word_of}
 use Rattle.flow_book.specs.Choice.{IsAmount}
-use Rattle.map_build.specs.declared.frame_map.FrameMap.{FrameMap}
+use Rattle.sched_calls.specs.declared.frame_map.FrameMap.{FrameMap}
 use Rattle.map_build.specs.declared.purpose.Allocation.{Allocation}
 use Rattle.map_build.specs.declared.purpose.Purpose.TheVariants.{DataGrant}
-use Rattle.map_build.specs.Opportunities.{header_of}
+use Rattle.sched_calls.specs.Header.{header_of}
 use Rattle.map_build.specs.Plan.{demand_at}
 use Rattle.map_build.specs.FrameMap.{IsLawfulMap}
-use Rattle.flow_book.proofs.Base.{base}
+use Rattle.sched_calls.proofs.Base.{base}
 use Rattle.flow_book.proofs.Unlimited.{MayGrant-unlimited}
 use Rattle.flow_book.proofs.RowsChoice.{low, high, lower_sid, higher_sid, the_higher_priority_is_next}
 use Rattle.flow_book.proofs.RowsChoice.{the_lower_sid_is_next}
 use Rattle.map_build.proofs.FlowsAfter.{allocation}
-use Rattle.map_build.proofs.RowsMaps.{element, base_map, none_waits}
+use Rattle.sched_calls.proofs.BaseMaps.{element, base_map}
+use Rattle.map_build.proofs.RowsMaps.{none_waits}
 
 -- the frame behind the request region as one grant to this flow
 abbrev pub filled_by : ℕ → List Allocation

@@ -1,16 +1,17 @@
 -- Worked examples of the first data grant of a flow under a rate ceiling.
 use Rattle.std.proofs.Common.{◌≡◌, ℕ, ◌≤◌, [], ◌∷◌, map, refl, inl, lit<, lit≤, arith}
 use Rattle.map_codec.specs.Element.{word_of}
-use Rattle.flow_book.specs.declared.spec.FlowSpec.TheVariants.{BestEffort}
+use Rattle.sched_calls.specs.declared.spec.FlowSpec.TheVariants.{BestEffort}
 use Rattle.flow_book.specs.Flows.{LiveFlow}
 use Rattle.flow_book.specs.Choice.{MayTake, IsNext, IsAmount}
-use Rattle.map_build.specs.declared.frame_map.FrameMap.{FrameMap}
-use Rattle.map_build.specs.Opportunities.{header_of}
+use Rattle.sched_calls.specs.declared.frame_map.FrameMap.{FrameMap}
+use Rattle.sched_calls.specs.Header.{header_of}
 use Rattle.map_build.specs.Plan.{demand_at}
 use Rattle.map_build.specs.FrameMap.{IsLawfulMap}
-use Rattle.flow_book.proofs.Base.{base}
+use Rattle.sched_calls.proofs.Base.{base}
 use Rattle.flow_book.proofs.FirstGrant.{KeepsCeiling-first}
-use Rattle.map_build.proofs.RowsMaps.{element, base_map, none_waits}
+use Rattle.sched_calls.proofs.BaseMaps.{element, base_map}
+use Rattle.map_build.proofs.RowsMaps.{none_waits}
 use Rattle.map_build.proofs.RowsContention.{filled_by}
 
 -- a flow of 64000 bits in a second and bursts of so many bytes that asked so many

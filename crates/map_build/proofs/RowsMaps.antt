@@ -1,43 +1,19 @@
 -- Worked examples of lawful MAPs.
 use Rattle.std.proofs.Common.{◌≡◌, ℕ, List, [], ◌∷◌, map, Some, slice_get, refl, inl, inr, lit<, lit≤, arith}
-use Rattle.map_codec.specs.declared.element.Element.{Element}
 use Rattle.map_codec.specs.Element.{word_of}
 use Rattle.map_codec.specs.WireMap.{header, spelling}
-use Rattle.flow_book.specs.declared.spec.FlowSpec.TheVariants.{BestEffort}
+use Rattle.sched_calls.specs.declared.spec.FlowSpec.TheVariants.{BestEffort}
 use Rattle.flow_book.specs.Flows.{LiveFlow}
-use Rattle.map_build.specs.declared.frame_map.FrameMap.{FrameMap}
-use Rattle.map_build.specs.declared.opportunity.Opportunity.{Opportunity}
+use Rattle.sched_calls.specs.declared.frame_map.FrameMap.{FrameMap}
+use Rattle.sched_calls.specs.declared.opportunity.Opportunity.{Opportunity}
 use Rattle.map_build.specs.declared.purpose.Allocation.{Allocation}
 use Rattle.map_build.specs.declared.purpose.Purpose.TheVariants.{DataGrant, Idle}
-use Rattle.map_build.specs.Opportunities.{header_of}
+use Rattle.sched_calls.specs.Header.{header_of}
 use Rattle.map_build.specs.Plan.{demand_at, NoneToMeet}
 use Rattle.map_build.specs.FrameMap.{IsLawfulMap}
-use Rattle.flow_book.proofs.Base.{base}
+use Rattle.sched_calls.proofs.Base.{base}
+use Rattle.sched_calls.proofs.BaseMaps.{element, base_map, first_map}
 use Rattle.map_build.proofs.FlowsAfter.{allocation}
-
--- an element
-abbrev pub element : ℕ → ℕ → ℕ → Element
-element sid iuc offset = record { sid = sid; iuc = iuc; offset = offset }
-
--- a MAP of the base configuration, for times below 2^32
-abbrev pub base_map : ℕ → ℕ → List Element → List ℕ → FrameMap
-base_map start ack elements bytes = record {
-  start = start;
-  ack = ack;
-  wire = record {
-    channel = 3;
-    ucd_count = 1;
-    reserved = 0;
-    alloc_start = start;
-    ack = ack;
-    ranging_start = 0;
-    ranging_end = 0;
-    data_start = 0;
-    data_end = 0;
-    elements = elements;
-  };
-  bytes = bytes;
-}
 
 nothing-waits : (place : ℕ) (o : Opportunity) → slice_get [] place ≡ Some o → ⊥
 nothing-waits place o is = absurd (cc)
@@ -50,11 +26,7 @@ none_waits before room = λ place o may. nothing-waits place o may.waits
 abbrev pub all_idle : List Allocation
 all_idle = allocation 4 36 Idle ∷ []
 
--- the MAP of the first frame, where no flow is live
-abbrev pub first_map : FrameMap
-first_map = base_map 800 800 (element 0x3fff 1 0 ∷ element 0 6 4 ∷ element 0 7 40 ∷ []) (0 ∷ 0 ∷ 0 ∷ [])
-
--- it is lawful
+-- the MAP of the first frame, where no flow is live, is lawful
 pub a_frame_without_flows : IsLawfulMap base
     (demand_at [] [] [] 800) (header_of base)
     800 first_map

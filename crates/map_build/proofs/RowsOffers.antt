@@ -3,20 +3,21 @@ use Rattle.std.proofs.Common.{◌≡◌, ℕ, zero, suc, List, [], ◌∷◌, ma
 use Rattle.std.proofs.Common.{inl, inr}
 use Rattle.std.proofs.Common.{lit<, lit≤, ◌≤◌, ◌<◌, arith}
 use Rattle.map_codec.specs.Element.{word_of, element_at}
-use Rattle.map_build.specs.declared.frame_map.FrameMap.{FrameMap}
-use Rattle.map_build.specs.declared.opportunity.Opportunity.{Opportunity}
-use Rattle.map_build.specs.declared.opportunity.Usage.TheVariants.{Initial, Station}
+use Rattle.sched_calls.specs.declared.frame_map.FrameMap.{FrameMap}
+use Rattle.sched_calls.specs.declared.opportunity.Opportunity.{Opportunity}
+use Rattle.sched_calls.specs.declared.opportunity.Usage.TheVariants.{Initial, Station}
 use Rattle.map_build.specs.declared.purpose.Allocation.{Allocation}
 use Rattle.map_build.specs.declared.purpose.Purpose.TheVariants.{Poll, Offer, DataGrant, Idle}
-use Rattle.map_build.specs.Opportunities.{header_of}
+use Rattle.sched_calls.specs.Header.{header_of}
 use Rattle.map_build.specs.Plan.{demand_at, IsMetIn, NoneToMeet}
 use Rattle.map_build.specs.FrameMap.{IsLawfulMap}
-use Rattle.flow_book.proofs.Base.{base}
+use Rattle.sched_calls.proofs.Base.{base}
 use Rattle.map_build.proofs.Apart.{BeginApart-nil}
 use Rattle.map_build.proofs.FlowsAfter.{allocation}
 use Rattle.map_build.proofs.Offers.{met-only}
 use Rattle.map_build.proofs.OneMap.{one_map}
-use Rattle.map_build.proofs.RowsMaps.{element, base_map, small}
+use Rattle.sched_calls.proofs.BaseMaps.{element, base_map}
+use Rattle.map_build.proofs.RowsMaps.{small}
 use Rattle.map_build.proofs.RowsPoll.{polled, its_poll}
 
 -- an opportunity of so many minislots for all modems that join the channel

@@ -1,18 +1,19 @@
 -- A worked example of a lawful MAP with a poll.
 use Rattle.std.proofs.Common.{◌≡◌, true, List, [], ◌∷◌, map, refl, inr, lit<, arith}
 use Rattle.map_codec.specs.Element.{word_of}
-use Rattle.flow_book.specs.declared.spec.FlowSpec.TheVariants.{Polled}
+use Rattle.sched_calls.specs.declared.spec.FlowSpec.TheVariants.{Polled}
 use Rattle.flow_book.specs.Flows.{LiveFlow}
 use Rattle.periodic.specs.declared.placement.Spot.{Spot}
-use Rattle.map_build.specs.declared.frame_map.FrameMap.{FrameMap}
+use Rattle.sched_calls.specs.declared.frame_map.FrameMap.{FrameMap}
 use Rattle.map_build.specs.declared.purpose.Allocation.{Allocation}
 use Rattle.map_build.specs.declared.purpose.Purpose.TheVariants.{Poll, Idle}
-use Rattle.map_build.specs.Opportunities.{header_of}
+use Rattle.sched_calls.specs.Header.{header_of}
 use Rattle.map_build.specs.Plan.{demand_at}
 use Rattle.map_build.specs.FrameMap.{IsLawfulMap}
-use Rattle.flow_book.proofs.Base.{base}
+use Rattle.sched_calls.proofs.Base.{base}
 use Rattle.map_build.proofs.FlowsAfter.{allocation}
-use Rattle.map_build.proofs.RowsMaps.{element, base_map, none_waits}
+use Rattle.sched_calls.proofs.BaseMaps.{element, base_map}
+use Rattle.map_build.proofs.RowsMaps.{none_waits}
 
 -- a polled flow of 5000 microseconds that asked nothing yet
 abbrev pub polled : LiveFlow

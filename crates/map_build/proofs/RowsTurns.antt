@@ -1,20 +1,21 @@
 -- Worked examples of lawful MAPs where two flows of one priority take turns by their last grants.
 use Rattle.std.proofs.Common.{◌≡◌, ℕ, List, [], ◌∷◌, map, refl, inl, inr, lit<, lit≤, arith}
 use Rattle.map_codec.specs.Element.{word_of}
-use Rattle.flow_book.specs.declared.spec.FlowSpec.TheVariants.{BestEffort}
+use Rattle.sched_calls.specs.declared.spec.FlowSpec.TheVariants.{BestEffort}
 use Rattle.flow_book.specs.declared.flow.Grant.{Grant}
 use Rattle.flow_book.specs.Flows.{LiveFlow}
 use Rattle.flow_book.specs.Choice.{IsNext, IsAmount}
-use Rattle.map_build.specs.declared.frame_map.FrameMap.{FrameMap}
+use Rattle.sched_calls.specs.declared.frame_map.FrameMap.{FrameMap}
 use Rattle.map_build.specs.declared.purpose.Allocation.{Allocation}
 use Rattle.map_build.specs.declared.purpose.Purpose.TheVariants.{DataGrant, Idle}
-use Rattle.map_build.specs.Opportunities.{header_of}
+use Rattle.sched_calls.specs.Header.{header_of}
 use Rattle.map_build.specs.Plan.{demand_at}
 use Rattle.map_build.specs.FrameMap.{IsLawfulMap}
-use Rattle.flow_book.proofs.Base.{base}
+use Rattle.sched_calls.proofs.Base.{base}
 use Rattle.flow_book.proofs.Unlimited.{MayGrant-unlimited, IsEligible-unlimited}
 use Rattle.map_build.proofs.FlowsAfter.{allocation}
-use Rattle.map_build.proofs.RowsMaps.{element, base_map, none_waits}
+use Rattle.sched_calls.proofs.BaseMaps.{element, base_map}
+use Rattle.map_build.proofs.RowsMaps.{none_waits}
 use Rattle.map_build.proofs.RowsContention.{filled_by}
 
 -- flows 20 and 21 of one priority, each with 1000 bytes asked and these grants

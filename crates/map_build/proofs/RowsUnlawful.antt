@@ -1,15 +1,16 @@
 -- Worked examples of MAPs that are not lawful.
 use Rattle.std.proofs.Common.{[], ◌∷◌, length, ap, lit<, arith}
 use Rattle.map_codec.specs.Element.{element_at}
-use Rattle.flow_book.proofs.Base.{base}
+use Rattle.sched_calls.proofs.Base.{base}
 use Rattle.flow_book.proofs.RowsChoice.{low, high, lower_sid, higher_sid}
-use Rattle.map_build.specs.declared.frame_map.FrameMap.{FrameMap}
-use Rattle.map_build.specs.Opportunities.{header_of}
+use Rattle.sched_calls.specs.declared.frame_map.FrameMap.{FrameMap}
+use Rattle.sched_calls.specs.Header.{header_of}
 use Rattle.map_build.specs.Plan.{demand_at}
 use Rattle.map_build.specs.FrameMap.{IsLawfulMap}
 use Rattle.map_build.proofs.OneMap.{one_map}
 use Rattle.map_build.proofs.Apart.{BeginApart-nil, BeginApart-one}
-use Rattle.map_build.proofs.RowsMaps.{element, base_map, small, second_map, a_frame_with_one_grant}
+use Rattle.sched_calls.proofs.BaseMaps.{element, base_map}
+use Rattle.map_build.proofs.RowsMaps.{small, second_map, a_frame_with_one_grant}
 use Rattle.map_build.proofs.RowsContention.{high_first, both_pending, the_higher_priority_is_served_first}
 use Rattle.map_build.proofs.RowsContention.{two_flows_take_turns}
 use Rattle.map_build.proofs.RowsPoll.{polled, its_poll, poll_map, a_frame_with_a_poll}

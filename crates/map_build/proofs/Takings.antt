@@ -10,7 +10,7 @@ use Rattle.flow_book.specs.Flows.{with_grant}
 use Rattle.flow_book.specs.Book.{BookView, Room, room_of, changed}
 use Rattle.periodic.specs.declared.placement.Spot.{Spot}
 use Rattle.map_build.specs.declared.draft.Draft.{Draft}
-use Rattle.map_build.specs.declared.opportunity.Opportunity.{Opportunity}
+use Rattle.sched_calls.specs.declared.opportunity.Opportunity.{Opportunity}
 use Rattle.map_build.specs.declared.purpose.Allocation.{Allocation}
 use Rattle.map_build.specs.declared.purpose.Purpose.TheVariants.{Poll, UnsolicitedGrant, DataGrant, Idle}
 use Rattle.map_build.specs.Purpose.{place_of, allocation_of}

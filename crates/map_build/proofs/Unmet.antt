@@ -4,7 +4,7 @@ use Rattle.std.proofs.Common.{inr, ap, subst, ◌∙◌, arith}
 use Rattle.std.proofs.lemmas.Bool.{cases_lt}
 use Rattle.std.proofs.lemmas.Option.{slice_get-get_or, get_or_from_slice_get, slice_get_within}
 use Rattle.map_build.specs.declared.draft.Draft.{Draft}
-use Rattle.map_build.specs.declared.opportunity.Opportunity.{Opportunity}
+use Rattle.sched_calls.specs.declared.opportunity.Opportunity.{Opportunity}
 use Rattle.map_build.specs.Opportunities.{IsUnmet, IsFirstUnmet, NoneUnmet}
 use Rattle.map_build.specs.Walk.{HasSame, offer_here, Meets}
 use Rattle.map_build.proofs.Takings.{Knows-offer}

@@ -8,8 +8,8 @@ use Rattle.map_codec.specs.declared.element.Element.{Element}
 use Rattle.map_codec.specs.declared.element.iuc.TheConstants.{REQUEST, NULL}
 use Rattle.flow_book.specs.Flows.{LiveFlow, outstanding}
 use Rattle.map_build.specs.declared.frame.PlannedFrame.{PlannedFrame}
-use Rattle.map_build.specs.declared.frame_map.FrameMap.{FrameMap}
-use Rattle.map_build.specs.declared.opportunity.Header.{Header}
+use Rattle.sched_calls.specs.declared.frame_map.FrameMap.{FrameMap}
+use Rattle.sched_calls.specs.declared.opportunity.Header.{Header}
 use Rattle.map_build.specs.declared.purpose.Allocation.{Allocation}
 use Rattle.map_build.specs.UsageCodes.{long_iuc}
 use Rattle.map_build.specs.Purpose.{broadcast, element_of, bytes_in}

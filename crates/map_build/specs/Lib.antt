@@ -1,7 +1,8 @@
 pub use Rattle.minislots.specs.Config
 pub use Rattle.minislots.specs.Units
 pub use Rattle.map_codec.specs.WireMap
-pub use Rattle.flow_book.specs.FlowSpec
+pub use Rattle.sched_calls.specs.FlowSpec
+pub use Rattle.sched_calls.specs.Header
 pub use Rattle.flow_book.specs.Flows
 pub use Rattle.flow_book.specs.Choice
 pub use Rattle.periodic.specs.Placement

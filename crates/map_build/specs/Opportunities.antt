@@ -1,24 +1,13 @@
--- The opportunities that wait for a MAP, and the header of a MAP.
+-- The opportunities that wait for a MAP.
 use Rattle.std.specs.Prelude.{◌≡◌, ℕ, ◌+◌, ◌<◌, ◌≤◌, Bool, true, false, List, length, Some}
 use Rattle.std.specs.List.{AllByRecursion, slice_get}
 use Rattle.minislots.specs.declared.config.Config.{Config}
 use Rattle.periodic.specs.declared.placement.Spot.{Spot}
 use Rattle.periodic.specs.Placement.{AreFree}
 use Rattle.map_build.specs.declared.TheConstants.{MAX_WAITING}
-use Rattle.map_build.specs.declared.opportunity.Header.{Header}
-use Rattle.map_build.specs.declared.opportunity.Opportunity.{Opportunity}
-use Rattle.map_build.specs.declared.opportunity.Usage.{Usage}
-use Rattle.map_build.specs.declared.opportunity.Usage.TheVariants.{Initial, Station}
-
--- the header of a configuration
-abbrev pub header_of : Config → Header
-header_of c = record {
-  ucd_count = c.ucd_count;
-  ranging_start = c.ranging_start;
-  ranging_end = c.ranging_end;
-  data_start = c.data_start;
-  data_end = c.data_end;
-}
+use Rattle.sched_calls.specs.declared.opportunity.Opportunity.{Opportunity}
+use Rattle.sched_calls.specs.declared.opportunity.Usage.{Usage}
+use Rattle.sched_calls.specs.declared.opportunity.Usage.TheVariants.{Initial, Station}
 
 -- a modem's SID is one that a flow may have
 abbrev pub HasStationSid : Usage → Type 0

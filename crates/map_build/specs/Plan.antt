@@ -10,7 +10,7 @@ use Rattle.flow_book.specs.Flows.{LiveFlow}
 use Rattle.flow_book.specs.Choice.{NoneEligible, IsNext, IsAmount}
 use Rattle.periodic.specs.declared.placement.Spot.{Spot}
 use Rattle.map_build.specs.declared.TheConstants.{MAX_DATA_GRANTS}
-use Rattle.map_build.specs.declared.opportunity.Opportunity.{Opportunity}
+use Rattle.sched_calls.specs.declared.opportunity.Opportunity.{Opportunity}
 use Rattle.map_build.specs.declared.purpose.Allocation.{Allocation}
 use Rattle.map_build.specs.declared.purpose.Purpose.{Purpose}
 use Rattle.map_build.specs.declared.purpose.Purpose.TheVariants.{Poll, UnsolicitedGrant, Offer, DataGrant, Idle}

@@ -2,10 +2,10 @@
 use Rattle.std.specs.Prelude.{◌≡◌, ℕ, ◌+◌, ◌<◌, ◌≤◌, List, length, map, filter}
 use Rattle.std.specs.List.{AllByRecursion}
 use Rattle.minislots.specs.declared.config.Config.{Config}
-use Rattle.flow_book.specs.declared.TheConstants.{MAX_FLOWS}
-use Rattle.flow_book.specs.FlowSpec.{is_periodic}
+use Rattle.sched_calls.specs.declared.TheConstants.{MAX_FLOWS}
+use Rattle.sched_calls.specs.FlowSpec.{is_periodic}
 use Rattle.flow_book.specs.Flows.{LiveFlow}
-use Rattle.periodic.specs.declared.TheConstants.{MAX_PERIODIC_GRANTS}
+use Rattle.sched_calls.specs.declared.TheConstants.{MAX_PERIODIC_GRANTS}
 use Rattle.periodic.specs.declared.placement.Spot.{Spot}
 use Rattle.periodic.specs.Placement.{Placed}
 use Rattle.periodic.specs.Table.{FollowInTurn}

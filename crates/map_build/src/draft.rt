@@ -8,7 +8,7 @@ ghost use Rattle.flow_book.specs.Book.{IsLive, room_of};
 ghost use Rattle.flow_book.specs.Choice.{HasStartedBy};
 ghost use Rattle.periodic.specs.declared.placement.Spot.{Spot};
 ghost use Rattle.map_build.specs.declared.TheConstants.{MAX_DATA_GRANTS, MAX_WAITING};
-ghost use Rattle.map_build.specs.declared.opportunity.Opportunity.{Opportunity};
+ghost use Rattle.sched_calls.specs.declared.opportunity.Opportunity.{Opportunity};
 ghost use Rattle.map_build.specs.Plan.{demand_at};
 ghost use Rattle.map_build.specs.UsageCodes.{long_iuc};
 ghost use Rattle.map_build.specs.FrameMap.{map_with};
@@ -16,14 +16,13 @@ ghost use Rattle.map_build.specs.Spots.{AreInFrame};
 ghost use Rattle.map_build.specs.Draft.{Puts, PutsAllocation, PutsPending, Ends};
 ghost use Rattle.map_build.specs.Walk.{HasPlan};
 
-use crate::frame_map::{ByteCounts, FrameMap};
-use crate::opportunity::Header;
 use crate::purpose::{Allocation, BROADCAST, NOBODY};
 use crate::usage_codes::long_iuc;
 use crate::{MAX_DATA_GRANTS, MAX_WAITING};
 use flow_book::Book;
 use map_codec::{Element, Elements, MAX_ELEMENTS, WireMap, iuc};
 use minislots::{Checked, wire};
+use sched_calls::{ByteCounts, FrameMap, Header};
 use std::alloc::{AllocError, Global};
 
 // The elements that a MAP has room for at first: they take no more than 1,024 bytes, which an allocator finds soonest.

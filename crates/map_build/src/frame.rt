@@ -5,18 +5,18 @@ ghost use Rattle.std.specs.List.{AllByRecursion};
 ghost use Rattle.map_codec.specs.WireMap.{IsWellFormed};
 ghost use Rattle.flow_book.specs.Choice.{HasStartedBy};
 ghost use Rattle.periodic.specs.Placement.{spots_in};
-ghost use Rattle.map_build.specs.declared.frame_map.FrameMap.{FrameMap};
-ghost use Rattle.map_build.specs.Opportunities.{header_of, MayWait, HaveStationSids, MeetsFirst};
+ghost use Rattle.sched_calls.specs.declared.frame_map.FrameMap.{FrameMap};
+ghost use Rattle.sched_calls.specs.Header.{header_of};
+ghost use Rattle.map_build.specs.Opportunities.{MayWait, HaveStationSids, MeetsFirst};
 ghost use Rattle.map_build.specs.Plan.{Demand, demand_at};
 ghost use Rattle.map_build.specs.FrameMap.{IsLawfulMap, IsLawfulFrame};
 ghost use Rattle.map_build.specs.Spots.{AreInFrame, AreOfChannel, HaveFlowSids, ArePeriodicOf};
 
 use crate::MAX_WAITING;
 use crate::draft::Draft;
-use crate::frame_map::FrameMap;
-use crate::opportunity::{Header, Opportunity};
 use flow_book::Book;
-use periodic::{MAX_PERIODIC_GRANTS, Spot, Table};
+use periodic::{Spot, Table};
+use sched_calls::{FrameMap, Header, MAX_PERIODIC_GRANTS, Opportunity};
 use std::alloc::{AllocError, Global};
 
 // What stands in an array of spots before one is written.

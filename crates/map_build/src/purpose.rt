@@ -3,10 +3,10 @@
 ghost use Rattle.std.specs.Prelude.{◌≡◌, ◌<◌, ◌^◌};
 ghost use Rattle.map_build.specs.Purpose.{kind_of};
 
-use crate::opportunity::Usage;
 use crate::usage_codes::{data_iuc, long_iuc, unsolicited_iuc};
 use map_codec::iuc;
 use minislots::Checked;
+use sched_calls::Usage;
 
 /// The SID of all modems.
 pub(crate) const BROADCAST: u16 = 0x3fff;

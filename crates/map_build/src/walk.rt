@@ -12,10 +12,11 @@ ghost use Rattle.map_build.specs.Left.{left_at, AreAhead};
 
 use crate::MAX_DATA_GRANTS;
 use crate::draft::Draft;
-use crate::opportunity::{Opportunity, first_unmet};
+use crate::opportunity::first_unmet;
 use crate::purpose::{Allocation, Purpose};
 use minislots::Checked;
 use periodic::Spot;
+use sched_calls::Opportunity;
 use std::alloc::AllocError;
 
 impl Draft {

@@ -2,57 +2,32 @@
 //! its MAPs, the table of a MAP, the audit of a history, and the report on one.
 #![tactic(auto)]
 
+mod asked;
+
+use asked::{form_of, output_of, wording_of};
 use audit_command::{JournalEnd, audit_input, audit_journal_input};
 use check_lines::check_any_input;
+use clap::ArgMatches;
 use clap::error::ErrorKind;
-use clap::{ArgMatches, Error};
-use command_line::commands;
+use command_line::{done, exit_of, explain, fail, matches_of, refuse, words_of};
 use decode_command::{show_frame, show_text};
 use draw_command::{draw_input, draw_journal_input};
 use journal_entries::EntriesEnd;
 use journal_file::live_journal_input;
-use live_command::{Wording, live_input};
-use pcap_command::{ADDRESS, address_of, frames_input, pcap_input, pcap_journal_input};
-use report_command::{Form, report_input, report_journal_input};
-use run_command::{RunOutput, Words, run_input};
-use std::alloc::Global;
+use live_command::live_input;
+use pcap_command::{ADDRESS, address_asked, frames_input, pcap_input, pcap_journal_input};
+use report_command::{report_input, report_journal_input};
+use run_command::run_input;
+use sched_storm::storm_input;
 use std::fs::File;
 use std::process::ExitCode;
 use std::rt::{Env, Files};
 use std::sync::Wait;
 use std::thread::Threads;
-use std::{env, io};
-use storm_command::storm_input;
 use text_stream::{RunFault, TextFault};
 
-// The words of the command line.
-fn words_of(rt: &(impl Env + AllocGlobal)) -> io::Result<Vec<String>> {
-    Ok(env::args(rt)?.collect(rt.alloc())?)
-}
-
-fn matches_of<'a>(alloc: Global, words: &'a [String]) -> Result<ArgMatches<'a>, Error> {
-    commands(alloc)?.try_get_matches_from(words)
-}
-
-// Prints a fault on standard error.
-fn fail(rt: &impl Eprint, fault: RunFault) -> ExitCode {
-    let _ = rt.eprintln(fault);
-    ExitCode::from(fault.status())
-}
-
-// Prints a fault of the command line, or the help that was asked for, which may fail.
-fn explain(rt: &(impl Print + Eprint), error: Error) -> ExitCode {
-    if error.kind() == ErrorKind::OutOfMemory {
-        return fail(rt, RunFault::Text(TextFault::Memory));
-    }
-    let printed = error.print(rt);
-    if printed.is_err() && !error.use_stderr() {
-        return fail(rt, RunFault::Text(TextFault::Output));
-    }
-    ExitCode::from(error.exit_code() as u8)
-}
-
 // The command `decode`: whether the text is a payload, or a frame.
+#[inline(never)]
 fn show(rt: &(impl Print + Env + AllocGlobal), decode: &ArgMatches) -> Result<bool, RunFault> {
     let text = decode.get_str("HEX").unwrap_or("");
     let is_drawn = decode.get_flag("draw");
@@ -63,44 +38,13 @@ fn show(rt: &(impl Print + Env + AllocGlobal), decode: &ArgMatches) -> Result<bo
     show_text(rt, text, is_drawn, columns, decode.get_flag("explain"))
 }
 
-// What the command `run` is asked to write, but for whole frames.
-fn output_of(run: &ArgMatches) -> RunOutput {
-    if run.get_flag("explain") {
-        return RunOutput::Lines(Words::Explained);
-    }
-    if run.get_flag("history") {
-        return RunOutput::History;
-    }
-    if run.get_flag("journal") {
-        return RunOutput::Journal;
-    }
-    RunOutput::Lines(Words::Plain)
-}
-
 // The command `run`.
-fn run(
-    rt: &(impl Input + Print + Eprint + AllocGlobal),
-    run: &ArgMatches,
-) -> Result<bool, RunFault> {
+#[inline(never)]
+fn run(rt: &(impl Input + Print + Eprint + AllocGlobal), run: &ArgMatches) -> Result<(), RunFault> {
     if run.get_flag("frames") {
         return frames_input(rt, &ADDRESS);
     }
     run_input(rt, output_of(run))
-}
-
-// The address of the command `pcap`, or a fault of the command line.
-fn address_in(alloc: Global, pcap: &ArgMatches) -> Result<[u8; 6], Error> {
-    let Some(text) = pcap.get_str("mac") else {
-        return Ok(ADDRESS);
-    };
-    match address_of(text) {
-        Some(address) => Ok(address),
-        None => {
-            let what = "an address is six bytes in hexadecimal, as 02:00:00:00:00:01";
-            let mut program = commands(alloc)?;
-            Err(program.error(ErrorKind::ValueValidation, what)?)
-        }
-    }
 }
 
 // The exit code of a command over a journal.
@@ -111,22 +55,27 @@ fn code_of(rt: &impl Eprint, outcome: Result<EntriesEnd, RunFault>) -> ExitCode 
     }
 }
 
+// The command `pcap` on a journal.
+#[inline(never)]
+fn pcap_journal(rt: &(impl Input + Print + Eprint + AllocGlobal), address: &[u8; 6]) -> ExitCode {
+    code_of(rt, pcap_journal_input(rt, address))
+}
+
 // The command `pcap`.
+#[inline(never)]
 fn pcap(rt: &(impl Input + Print + Eprint + AllocGlobal), pcap: &ArgMatches) -> ExitCode {
-    let address = match address_in(rt.alloc(), pcap) {
-        Ok(address) => address,
-        Err(error) => return explain(rt, error),
+    let Some(address) = address_asked(pcap.get_str("mac")) else {
+        let what = "an address is six bytes in hexadecimal, as 02:00:00:00:00:01";
+        return refuse(rt, ErrorKind::ValueValidation, what);
     };
     if pcap.get_flag("journal") {
-        return code_of(rt, pcap_journal_input(rt, &address));
+        return pcap_journal(rt, &address);
     }
-    match pcap_input(rt, &address) {
-        Ok(_) => ExitCode::SUCCESS,
-        Err(fault) => fail(rt, fault),
-    }
+    done(rt, pcap_input(rt, &address))
 }
 
 // The command `audit` on a journal.
+#[inline(never)]
 fn audit_journal(rt: &(impl Input + Print + Eprint + AllocGlobal)) -> ExitCode {
     match audit_journal_input(rt) {
         Ok(JournalEnd::Legal(_)) => ExitCode::SUCCESS,
@@ -136,34 +85,53 @@ fn audit_journal(rt: &(impl Input + Print + Eprint + AllocGlobal)) -> ExitCode {
     }
 }
 
+// The command `draw` on a journal.
+#[inline(never)]
+fn draw_journal(
+    rt: &(impl Input + Print + Eprint + AllocGlobal),
+    from: u64,
+    count: u64,
+) -> ExitCode {
+    code_of(rt, draw_journal_input(rt, from, count))
+}
+
 // The command `draw`: all frames, or those that are asked for.
+#[inline(never)]
 fn draw(rt: &(impl Input + Print + Eprint + AllocGlobal), draw: &ArgMatches) -> ExitCode {
     let from = draw.get_one("from").unwrap_or(0);
     let count = draw.get_one("count").unwrap_or(u64::MAX);
     if draw.get_flag("journal") {
-        return code_of(rt, draw_journal_input(rt, from, count));
+        return draw_journal(rt, from, count);
     }
-    match draw_input(rt, from, count) {
-        Ok(_) => ExitCode::SUCCESS,
-        Err(fault) => fail(rt, fault),
-    }
+    done(rt, draw_input(rt, from, count))
 }
 
-// The command `report`: the form in which its numbers are asked for.
-fn form_of(report: &ArgMatches) -> Form {
-    if report.get_flag("json") {
-        return Form::Json;
+// The command `audit`.
+#[inline(never)]
+fn audit(rt: &(impl Input + Print + Eprint + AllocGlobal), audit: &ArgMatches) -> ExitCode {
+    if audit.get_flag("journal") {
+        return audit_journal(rt);
     }
-    if report.get_flag("svg") {
-        return Form::Picture;
+    exit_of(rt, audit_input(rt, audit.get_flag("explain")))
+}
+
+// The command `report`.
+#[inline(never)]
+fn report(rt: &(impl Input + Print + Eprint + AllocGlobal), report: &ArgMatches) -> ExitCode {
+    if report.get_flag("journal") {
+        return code_of(rt, report_journal_input(rt, form_of(report)));
     }
-    if report.get_flag("all") {
-        return Form::All;
-    }
-    Form::Few
+    exit_of(rt, report_input(rt, form_of(report)))
+}
+
+// The command `storm`.
+#[inline(never)]
+fn storm(rt: &(impl Input + Print + Eprint + AllocGlobal + Threads + Wait + Sync)) -> ExitCode {
+    exit_of(rt, storm_input(rt))
 }
 
 // The command `check`: ends as the command for such a file would, by what is found.
+#[inline(never)]
 fn check(rt: &(impl Input + Print + Eprint + AllocGlobal)) -> ExitCode {
     match check_any_input(rt) {
         Ok(verdict) => ExitCode::from(verdict.status()),
@@ -171,25 +139,15 @@ fn check(rt: &(impl Input + Print + Eprint + AllocGlobal)) -> ExitCode {
     }
 }
 
-// In what words the command `live` answers.
-fn wording_of(live: &ArgMatches) -> Wording {
-    if live.get_flag("explain") {
-        return Wording::Explained;
-    }
-    if live.get_flag("frames") {
-        return Wording::Frames(ADDRESS);
-    }
-    Wording::Plain
-}
-
 // The command `live` with a journal.
+#[inline(never)]
 fn live_journal<R: Files<File = File> + Input + Print + Eprint + AllocGlobal>(
     rt: &R,
     path: &str,
     live: &ArgMatches,
 ) -> ExitCode {
     match live_journal_input(rt, path, wording_of(live), live.get_flag("sync")) {
-        Ok(_) => ExitCode::SUCCESS,
+        Ok(()) => ExitCode::SUCCESS,
         Err(fault) => {
             let _ = rt.eprintln(fault);
             ExitCode::from(fault.status())
@@ -198,6 +156,7 @@ fn live_journal<R: Files<File = File> + Input + Print + Eprint + AllocGlobal>(
 }
 
 // The command `live`: ends as the other commands do, but for a fault of its own.
+#[inline(never)]
 fn live<R: Files<File = File> + Input + Print + Eprint + AllocGlobal>(
     rt: &R,
     live: &ArgMatches,
@@ -206,7 +165,7 @@ fn live<R: Files<File = File> + Input + Print + Eprint + AllocGlobal>(
         return live_journal(rt, path, live);
     }
     match live_input(rt, wording_of(live)) {
-        Ok(_) => ExitCode::SUCCESS,
+        Ok(()) => ExitCode::SUCCESS,
         Err(fault) => {
             let _ = rt.eprintln(fault);
             ExitCode::from(fault.status())
@@ -214,16 +173,8 @@ fn live<R: Files<File = File> + Input + Print + Eprint + AllocGlobal>(
     }
 }
 
-// The exit code of a command that finds all well or not.
-fn exit_of(rt: &impl Eprint, outcome: Result<bool, RunFault>) -> ExitCode {
-    match outcome {
-        Ok(true) => ExitCode::SUCCESS,
-        Ok(false) => ExitCode::FAILURE,
-        Err(fault) => fail(rt, fault),
-    }
-}
-
-// Does what the words of the command line ask for; with no command, runs a script.
+// Does what the words of the command line ask for. No command is put into this function, nor the form for journals into
+// that of its command: a frame on the stack has the room of all that is put into a function.
 fn answer<R>(rt: &R, matches: &ArgMatches) -> ExitCode
 where
     R: Files<File = File> + Input + Print + Eprint + Env + AllocGlobal + Threads + Wait + Sync,
@@ -231,18 +182,15 @@ where
     match matches.subcommand() {
         Some(("decode", decode)) => exit_of(rt, show(rt, decode)),
         Some(("draw", words)) => draw(rt, words),
-        Some(("audit", audit)) if audit.get_flag("journal") => audit_journal(rt),
-        Some(("audit", audit)) => exit_of(rt, audit_input(rt, audit.get_flag("explain"))),
+        Some(("audit", words)) => audit(rt, words),
         Some(("check", _)) => check(rt),
-        Some(("report", words)) if words.get_flag("journal") => {
-            code_of(rt, report_journal_input(rt, form_of(words)))
-        }
-        Some(("report", words)) => exit_of(rt, report_input(rt, form_of(words))),
-        Some(("storm", _)) => exit_of(rt, storm_input(rt)),
+        Some(("report", words)) => report(rt, words),
+        Some(("storm", _)) => storm(rt),
         Some(("pcap", words)) => pcap(rt, words),
         Some(("live", words)) => live(rt, words),
-        Some((_, words)) => exit_of(rt, run(rt, words)),
-        None => exit_of(rt, run_input(rt, RunOutput::Lines(Words::Plain))),
+        Some(("run", words)) => done(rt, run(rt, words)),
+        // The command line lets nothing else through.
+        _ => refuse(rt, ErrorKind::InvalidSubcommand, "unrecognized subcommand"),
     }
 }
 

@@ -2,8 +2,8 @@
 use Rattle.std.proofs.Common.{◌≡◌}
 use Rattle.std.specs.Prelude.{Option, None, Some, Ok, MatchOption}
 use Rattle.minislots.specs.Config.{IsLawful}
-use Rattle.sched_history.specs.declared.call.Call.{Call}
-use Rattle.sched_history.specs.declared.reply.Reply.{Reply}
+use Rattle.sched_calls.specs.declared.call.Call.{Call}
+use Rattle.sched_calls.specs.declared.reply.Reply.{Reply}
 use Rattle.sched_desk.specs.Desk.{history_seen}
 use Rattle.worker_sched.specs.declared.worker.Turn.TheVariants.{Ended, NoTicket}
 use Rattle.worker_sched.specs.Worker.{Stands, WorkerState, TakesTurn, TakesTurnWith}

@@ -2,14 +2,14 @@
 -- where an unsolicited flow has its size; a header has its UCD count and the exponents of the windows of ranging where
 -- others have a receiver, a priority and grants.
 use Rattle.std.specs.Prelude.{◌==◌, Option, None, Some, option_map, if◌then◌else◌}
-use Rattle.flow_book.specs.declared.spec.FlowSpec.{FlowSpec}
-use Rattle.flow_book.specs.declared.spec.FlowSpec.TheVariants.{Unsolicited, Polled, BestEffort}
-use Rattle.map_build.specs.declared.opportunity.Header.{Header}
-use Rattle.map_build.specs.declared.opportunity.Usage.{Usage}
-use Rattle.map_build.specs.declared.opportunity.Usage.TheVariants.{Initial, Station}
-use Rattle.sched_history.specs.declared.call.Call.{Call}
-use Rattle.sched_history.specs.declared.call.Call.TheVariants as calls
-use Rattle.sched_history.specs.declared.call.Call.TheVariants.{Admit, Remove, Ask, Heard, Build, Skip, Status, Reserve}
+use Rattle.sched_calls.specs.declared.spec.FlowSpec.{FlowSpec}
+use Rattle.sched_calls.specs.declared.spec.FlowSpec.TheVariants.{Unsolicited, Polled, BestEffort}
+use Rattle.sched_calls.specs.declared.opportunity.Header.{Header}
+use Rattle.sched_calls.specs.declared.opportunity.Usage.{Usage}
+use Rattle.sched_calls.specs.declared.opportunity.Usage.TheVariants.{Initial, Station}
+use Rattle.sched_calls.specs.declared.call.Call.{Call}
+use Rattle.sched_calls.specs.declared.call.Call.TheVariants as calls
+use Rattle.sched_calls.specs.declared.call.Call.TheVariants.{Admit, Remove, Ask, Heard, Build, Skip, Status, Reserve}
 use Rattle.mapsched_c.specs.declared.call.PlainCall.{PlainCall}
 use Rattle.mapsched_c.specs.declared.call.kind.TheConstants.{ADMIT, REMOVE, ASK, HEARD, BUILD, SKIP, STATUS}
 use Rattle.mapsched_c.specs.declared.call.kind.TheConstants.{RESERVE, HEADER}

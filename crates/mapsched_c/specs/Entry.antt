@@ -2,7 +2,7 @@
 use Rattle.std.specs.Prelude.{ℕ, length, Option, None, Some, nat_lt, if◌then◌else◌}
 use Rattle.std.specs.List.{slice_get}
 use Rattle.minislots.specs.declared.stamp.Stamp.{Stamp}
-use Rattle.sched_history.specs.declared.reply.Entry.{Entry}
+use Rattle.sched_calls.specs.declared.reply.Entry.{Entry}
 use Rattle.sched_history.specs.Machine.{Machine}
 use Rattle.mapsched_c.specs.declared.entry.PlainStamp.{PlainStamp}
 use Rattle.mapsched_c.specs.declared.entry.PlainEntry.{PlainEntry}

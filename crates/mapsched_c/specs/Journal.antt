@@ -1,8 +1,8 @@
 -- What is answered of the lines of a journal.
 use Rattle.std.specs.Prelude.{◌≡◌, ℕ, ◌⊎◌, List, flat_map, Option, None, Some}
-use Rattle.sched_history.specs.declared.reply.Entry.{Entry}
+use Rattle.sched_calls.specs.declared.reply.Entry.{Entry}
 use Rattle.sched_history.specs.Machine.{Machine, kept_of}
-use Rattle.journal_writing.specs.Journal.{opening_line, entry_line}
+use Rattle.history_writing.specs.Journal.{opening_line, entry_line}
 use Rattle.mapsched_c.specs.declared.status.TheConstants.{EMPTY, OUT_OF_MEMORY}
 use Rattle.mapsched_c.specs.Text.{GivesText}
 

@@ -1,9 +1,9 @@
 -- A reply in plain numbers.
 use Rattle.std.specs.Prelude.{ℕ, ◌≤◌, ◌++◌, length, drop, Option, None, Some}
 use Rattle.map_codec.specs.WireMap.{spelling}
-use Rattle.sched_history.specs.declared.reply.Reply.{Reply}
-use Rattle.sched_history.specs.declared.reply.Reply.TheVariants.{Admitted, Removed, Taken, Noted, Built, Skipped, Flow}
-use Rattle.sched_history.specs.declared.reply.Reply.TheVariants.{Refused, Reserved}
+use Rattle.sched_calls.specs.declared.reply.Reply.{Reply}
+use Rattle.sched_calls.specs.declared.reply.Reply.TheVariants.{Admitted, Removed, Taken, Noted, Built, Skipped, Flow}
+use Rattle.sched_calls.specs.declared.reply.Reply.TheVariants.{Refused, Reserved}
 use Rattle.sched_lines.specs.Line.{refusal_number, refusal_value}
 use Rattle.mapsched_c.specs.declared.reply.PlainReply.{PlainReply}
 use Rattle.mapsched_c.specs.declared.reply.TheConstants.{MAX_STARTS}

@@ -4,10 +4,10 @@ use Rattle.std.specs.Prelude.{Err}
 use Rattle.std.specs.Prelude.{is_some, ◌||◌, Bool}
 use Rattle.minislots.specs.declared.config.Config.{Config}
 use Rattle.minislots.specs.Config.{first_wrong}
-use Rattle.sched_history.specs.declared.call.Call.{Call}
-use Rattle.sched_history.specs.declared.reply.Reply.{Reply}
-use Rattle.sched_history.specs.declared.reply.Unrecorded.{Unrecorded}
-use Rattle.sched_history.specs.declared.reply.Unrecorded.TheVariants.{HistoryFull, Memory}
+use Rattle.sched_calls.specs.declared.call.Call.{Call}
+use Rattle.sched_calls.specs.declared.reply.Reply.{Reply}
+use Rattle.sched_calls.specs.declared.reply.Unrecorded.{Unrecorded}
+use Rattle.sched_calls.specs.declared.reply.Unrecorded.TheVariants.{HistoryFull, Memory}
 use Rattle.sched_history.specs.Machine.{Machine}
 use Rattle.text_stream.specs.Fault.{field_number}
 use Rattle.ticket_core.specs.declared.TheConstants.{MAX_SEATS}

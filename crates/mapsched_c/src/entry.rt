@@ -2,7 +2,7 @@
 
 ghost use Rattle.std.specs.Prelude.{◌≡◌};
 ghost use Rattle.std.specs.List.{AllByRecursion, slice_get};
-ghost use Rattle.sched_history.specs.Machine.{IsEncodable};
+ghost use Rattle.sched_calls.specs.Reply.{IsEncodable};
 ghost use Rattle.mapsched_c.specs.Reply.{HasRoom};
 ghost use Rattle.mapsched_c.specs.Entry.{entry_over, plain_entry, stamp_of, status_of_entry};
 

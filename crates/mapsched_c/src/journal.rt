@@ -2,14 +2,15 @@
 
 ghost use Rattle.std.specs.Prelude.{◌≡◌, IfOk, Some};
 ghost use Rattle.std.specs.List.{AllByRecursion};
-ghost use Rattle.sched_history.specs.Machine.{kept_of, IsEncodable};
+ghost use Rattle.sched_history.specs.Machine.{kept_of};
+ghost use Rattle.sched_calls.specs.Reply.{IsEncodable};
 ghost use Rattle.mapsched_c.specs.Journal.{lines_of, GivesTextOrNone, GivesLines, GivesOpening};
 
 use crate::handle::Handle;
 use crate::scheduler::entries;
 use crate::status;
 use crate::texts::put_text;
-use journal_writing::{add_entry, opening_text};
+use history_writing::{add_entry, opening_text};
 use sched_history::{Entry, Scheduler};
 use std::alloc::{AllocError, Global};
 

@@ -2,8 +2,8 @@
 
 ghost use Rattle.std.specs.Prelude.{◌≡◌, ◌≤◌, length};
 ghost use Rattle.map_codec.specs.WireMap.{IsWellFormed};
-ghost use Rattle.sched_history.specs.declared.reply.Reply.TheVariants.{Admitted, Built, Flow, Refused};
-ghost use Rattle.sched_history.specs.Machine.{IsEncodable};
+ghost use Rattle.sched_calls.specs.declared.reply.Reply.TheVariants.{Admitted, Built, Flow, Refused};
+ghost use Rattle.sched_calls.specs.Reply.{IsEncodable};
 ghost use Rattle.mapsched_c.specs.Reply.{HasRoom, plain_reply, with_kind};
 
 use map_build::FrameMap;

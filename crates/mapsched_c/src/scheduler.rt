@@ -3,7 +3,8 @@
 ghost use Rattle.std.specs.Prelude.{◌≡◌, ◌≤◌, length, Some, IfOk};
 ghost use Rattle.std.specs.List.{AllByRecursion};
 ghost use Rattle.sched_history.specs.History.{IsLegal};
-ghost use Rattle.sched_history.specs.Machine.{kept_of, IsEncodable};
+ghost use Rattle.sched_history.specs.Machine.{kept_of};
+ghost use Rattle.sched_calls.specs.Reply.{IsEncodable};
 ghost use Rattle.history_writing.specs.HistoryText.{history_text};
 ghost use Rattle.mapsched_c.specs.Answer.{AnswersCall};
 ghost use Rattle.mapsched_c.specs.Reply.{HasRoom};

@@ -1,7 +1,7 @@
 //! The exports that write and read the text of a history.
 
 ghost use Rattle.std.specs.Prelude.{◌≡◌, ◌≤◌, length, Some};
-ghost use Rattle.sched_history.specs.declared.reply.TheConstants.{MAX_ENTRIES};
+ghost use Rattle.sched_calls.specs.declared.reply.TheConstants.{MAX_ENTRIES};
 ghost use Rattle.mapsched_c.specs.Text.{GivesText, GivesHistoryText, Judges, Audits};
 
 use crate::handle::Handle;

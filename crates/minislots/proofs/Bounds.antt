@@ -2,6 +2,7 @@
 use Rattle.std.proofs.Common.{◌≡◌, refl, ℕ, ◌≤◌, Bool, true, false, not, cond, ◌&&◌}
 use Rattle.std.proofs.Common.{nat_le, ◌==◌, List, [], ◌∷◌, Option, Some, None, arith}
 use Rattle.std.proofs.lemmas.Bool.Decides.{nat_tests}
+use Rattle.minislots.specs.declared.TheConstants.{MAX_ASK}
 use Rattle.minislots.specs.declared.config.Config.{Config}
 use Rattle.minislots.specs.declared.config.ConfigFault.{ConfigFault}
 use Rattle.minislots.specs.Config.{is_lawful_field, fields, first_wrong_of, first_wrong}
@@ -75,8 +76,8 @@ bounds_of c h =
       quantum_least = (within 64 1522 c.quantum (both _ _ quantum).0).0;
       quantum_most = (within 64 1522 c.quantum (both _ _ quantum).0).1;
       quantum_fits = at_most _ _ (both _ _ quantum).1;
-      cap_least = (within c.quantum 1048560 c.grant_cap cap).0;
-      cap_most = (within c.quantum 1048560 c.grant_cap cap).1;
+      cap_least = (within c.quantum MAX_ASK c.grant_cap cap).0;
+      cap_most = (within c.quantum MAX_ASK c.grant_cap cap).1;
       receivers_positive = (within 1 16 c.receivers receivers).0;
       receivers_most = (within 1 16 c.receivers receivers).1;
       calls_positive = (within 1 16777216 c.calls calls).0;

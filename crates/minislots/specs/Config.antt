@@ -1,6 +1,7 @@
 -- Which configurations of a channel are lawful, and which field of another is the first that is wrong.
 use Rattle.std.specs.Prelude.{◌≡◌, ℕ, ◌<◌, ◌≤◌, ◌+◌, ◌*◌, ◌%◌, ◌^◌, Bool, not, ◌&&◌, ◌||◌, nat_le, ◌==◌}
 use Rattle.std.specs.Prelude.{List, [], ◌∷◌, Option, Some, None, Result, Ok, Err, find}
+use Rattle.minislots.specs.declared.TheConstants.{MAX_ASK}
 use Rattle.minislots.specs.declared.config.Config.{Config}
 use Rattle.minislots.specs.declared.config.ConfigFault.{ConfigFault}
 use Rattle.minislots.specs.declared.config.ConfigFault.TheVariants.{Ticks, BytesPerSlot, Overhead, Frame}
@@ -31,7 +32,7 @@ is_lawful_field c Lead = nat_le (c.lead + 2 * c.frame) 4096
 is_lawful_field c ShortMax = nat_le c.short_max c.frame
 is_lawful_field c Quantum =
     is_within 64 1522 c.quantum && nat_le (slots_for c c.quantum + c.req_slots) c.frame
-is_lawful_field c GrantCap = is_within c.quantum 1048560 c.grant_cap
+is_lawful_field c GrantCap = is_within c.quantum MAX_ASK c.grant_cap
 is_lawful_field c Receivers = is_within 1 16 c.receivers
 is_lawful_field c Calls = is_within 1 16777216 c.calls
 is_lawful_field c Start = c.start % c.frame == 0 && nat_le c.start (2 ^ 60)
@@ -110,7 +111,7 @@ pub record HasBounds (c : Config) : Type 0 where
   pub quantum_most : c.quantum ≤ 1522
   pub quantum_fits : slots_for c c.quantum + c.req_slots ≤ c.frame
   pub cap_least : c.quantum ≤ c.grant_cap
-  pub cap_most : c.grant_cap ≤ 1048560
+  pub cap_most : c.grant_cap ≤ MAX_ASK
   pub receivers_positive : 0 < c.receivers
   pub receivers_most : c.receivers ≤ 16
   pub calls_positive : 0 < c.calls

@@ -9,3 +9,6 @@ mod units;
 pub use config::{Checked, Config, ConfigFault, FieldRule};
 pub use stamp::Stamp;
 pub use units::wire;
+
+/// The most bytes that a request can ask for, and the most that a configuration lets one data grant have.
+pub const MAX_ASK: u32 = 1_048_560;

@@ -6,7 +6,7 @@ use Rattle.std.specs.Io.KnownBytes.{Appends, append_known}
 use Rattle.std.proofs.KnownBytes.{Appends-trans}
 use Rattle.std.proofs.lemmas.List.Concat.{flat_map-append}
 use Rattle.minislots.specs.declared.config.Config.{Config}
-use Rattle.sched_history.specs.declared.reply.Entry.{Entry}
+use Rattle.sched_calls.specs.declared.reply.Entry.{Entry}
 use Rattle.text_stream.proofs.Written.{Appends-out}
 use Rattle.pcap_command.specs.declared.output.WireOutput.TheVariants.{Capture}
 use Rattle.pcap_command.specs.Capture.{capture_head}

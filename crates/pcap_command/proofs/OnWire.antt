@@ -8,15 +8,15 @@ use Rattle.std.proofs.KnownBytes.{Appends-trans}
 use Rattle.std.proofs.lemmas.List.{take_all}
 use Rattle.std.proofs.lemmas.List.Concat.{flat_map-append}
 use Rattle.minislots.specs.declared.config.Config.{Config}
-use Rattle.map_build.specs.declared.frame_map.FrameMap.{FrameMap}
-use Rattle.sched_history.specs.declared.call.Call.{Call}
+use Rattle.sched_calls.specs.declared.frame_map.FrameMap.{FrameMap}
+use Rattle.sched_calls.specs.declared.call.Call.{Call}
 use Rattle.sched_history.specs.Machine.{Machine}
-use Rattle.sched_lines.specs.Line.{Answer}
-use Rattle.frame_lines.specs.Line.{map_in}
-use Rattle.sched_lines.specs.Answer.{MakesCall, MakesCalls}
-use Rattle.sched_lines.proofs.Made.{MakesCalls-push, MakesCalls-legal}
+use Rattle.sched_calls.specs.Reply.{Answer}
+use Rattle.sched_lines.specs.Framed.{map_in}
+use Rattle.sched_history.specs.Answer.{MakesCall, MakesCalls}
+use Rattle.sched_history.proofs.runs.Made.{MakesCalls-push, MakesCalls-legal}
 use Rattle.text_stream.proofs.Written.{Appends-out}
-use Rattle.sched_lines.proofs.Leaving.{MakesCalls-count}
+use Rattle.sched_history.proofs.runs.Leaving.{MakesCalls-count}
 use Rattle.pcap_command.specs.declared.output.WireOutput.{WireOutput}
 use Rattle.pcap_command.specs.declared.output.WireOutput.TheVariants.{Lines, Capture}
 use Rattle.pcap_command.specs.Capture.{packet_of, listed, maps_of, capture_head, wire_text}

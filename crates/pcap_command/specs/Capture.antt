@@ -3,9 +3,9 @@ use Rattle.std.specs.Prelude.{ℕ, ◌*◌, ◌/◌, ◌%◌, ◌^◌, List, [],
 use Rattle.std.specs.List.{flat_map}
 use Rattle.std.specs.Int.{w16, w32, to_le_bytes}
 use Rattle.minislots.specs.declared.config.Config.{Config}
-use Rattle.map_build.specs.declared.frame_map.FrameMap.{FrameMap}
-use Rattle.sched_lines.specs.Line.{Answer}
-use Rattle.frame_lines.specs.Line.{map_in, frame_of, framed_line}
+use Rattle.sched_calls.specs.declared.frame_map.FrameMap.{FrameMap}
+use Rattle.sched_calls.specs.Reply.{Answer}
+use Rattle.sched_lines.specs.Framed.{map_in, frame_of, framed_line}
 use Rattle.pcap_command.specs.declared.output.WireOutput.{WireOutput}
 use Rattle.pcap_command.specs.declared.output.WireOutput.TheVariants.{Lines, Capture}
 

@@ -2,9 +2,9 @@
 -- words.
 use Rattle.std.specs.Prelude.{ℕ, List, [], Option, Some, None}
 use Rattle.minislots.specs.declared.config.Config.{Config}
-use Rattle.map_build.specs.declared.frame_map.FrameMap.{FrameMap}
-use Rattle.sched_lines.specs.Line.{Answer}
-use Rattle.frame_lines.specs.Line.{map_in, framed_line}
+use Rattle.sched_calls.specs.declared.frame_map.FrameMap.{FrameMap}
+use Rattle.sched_calls.specs.Reply.{Answer}
+use Rattle.sched_lines.specs.Framed.{map_in, framed_line}
 use Rattle.pcap_command.specs.declared.output.WireOutput.{WireOutput}
 use Rattle.pcap_command.specs.declared.output.WireOutput.TheVariants.{Lines, Capture}
 use Rattle.pcap_command.specs.Capture.{capture_head, packet_of}

@@ -3,7 +3,7 @@ use Rattle.std.specs.Prelude.{◌≡◌, ◌⊎◌, ℕ, List, [], map, Option, 
 use Rattle.std.specs.List.{flat_map}
 use Rattle.std.specs.Io.KnownBytes.{Appends}
 use Rattle.minislots.specs.declared.config.Config.{Config as Configuration}
-use Rattle.sched_history.specs.declared.reply.Entry.{Entry}
+use Rattle.sched_calls.specs.declared.reply.Entry.{Entry}
 use Rattle.text_stream.specs.declared.fault.TextFault.{TextFault}
 use Rattle.text_stream.specs.declared.fault.TextFault.TheVariants.{Input, TooLong, NotJson, Shape, Config, Memory}
 use Rattle.text_stream.specs.declared.fault.TextFault.TheVariants.{Output}
@@ -11,7 +11,7 @@ use Rattle.journal_entries.specs.declared.end.EntriesEnd.{EntriesEnd}
 use Rattle.journal_entries.specs.declared.end.EntriesEnd.TheVariants.{Bad}
 use Rattle.journal_entries.specs.Journal.{HasNoOpening, StopsJournal}
 use Rattle.journal_entries.specs.End.{EndsBehind}
-use Rattle.sched_lines.specs.Line.{Answer}
+use Rattle.sched_calls.specs.Reply.{Answer}
 use Rattle.pcap_command.specs.declared.output.WireOutput.TheVariants.{Capture}
 use Rattle.pcap_command.specs.Capture.{maps_of, capture_of}
 use Rattle.pcap_command.specs.Items.{item_of}

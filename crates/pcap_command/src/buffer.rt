@@ -3,16 +3,16 @@
 ghost use Rattle.std.specs.Prelude.{◌≡◌, [], OnOk};
 ghost use Rattle.map_codec.specs.WireMap.{IsWellFormed};
 ghost use Rattle.text_stream.specs.Writing.{Puts, Writes};
-ghost use Rattle.sched_lines.specs.Line.{HasLine};
-ghost use Rattle.frame_lines.specs.Line.{framed_line};
+ghost use Rattle.sched_calls.specs.Reply.{HasLine};
+ghost use Rattle.sched_lines.specs.Framed.{framed_line};
 ghost use Rattle.pcap_command.specs.Capture.{packet_of};
 
 use crate::packet::packet_head;
 use arrayvec::ArrayVec;
-use frame_lines::{frame_of, put_framed_line};
 use map_build::FrameMap;
 use minislots::Checked;
 use sched_history::{Reply, Unrecorded};
+use sched_lines::{frame_of, put_framed_line};
 use std::marker::Model;
 use text_stream::{Sink, TextBuffer, TextFault};
 use wire_frame::MAX_FRAME_BYTES;

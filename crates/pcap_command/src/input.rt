@@ -28,9 +28,9 @@ fn run_from(
 pub fn frames_input(
     rt: &(impl Input + Print + AllocGlobal),
     address: &[u8; 6],
-) -> Result<bool, RunFault> {
+) -> Result<(), RunFault> {
     run_from(rt, address, WireOutput::Lines)?;
-    Ok(true)
+    Ok(())
 }
 
 /// The command `pcap`. A capture does not tell of calls that were not recorded, so how many they are is told on
@@ -38,10 +38,10 @@ pub fn frames_input(
 pub fn pcap_input(
     rt: &(impl Input + Print + Eprint + AllocGlobal),
     address: &[u8; 6],
-) -> Result<bool, RunFault> {
+) -> Result<(), RunFault> {
     let unrecorded = run_from(rt, address, WireOutput::Capture)?;
     tell_unrecorded(rt, unrecorded);
-    Ok(true)
+    Ok(())
 }
 
 /// The command `pcap` on a journal: how it ends, which is told on standard error where it is torn, illegal or bad.

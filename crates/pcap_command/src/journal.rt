@@ -4,7 +4,7 @@ ghost use Rattle.std.specs.Prelude.{◌≡◌, [], List, ℕ, Option, IfOk, IfEr
 ghost use Rattle.std.specs.Io.KnownBytes.{append_known};
 ghost use Rattle.text_stream.specs.Watched.{FailsBy};
 ghost use Rattle.text_stream.specs.Writing.{Puts};
-ghost use Rattle.sched_history.specs.Machine.{IsEncodable};
+ghost use Rattle.sched_calls.specs.Reply.{IsEncodable};
 ghost use Rattle.text_stream.specs.RunFault.{TellsFailedRead, TellsFailedWrite};
 ghost use Rattle.journal_entries.specs.Next.{HasGiven};
 ghost use Rattle.journal_entries.specs.End.{StopsCommand};

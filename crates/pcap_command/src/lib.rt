@@ -10,7 +10,7 @@ mod output;
 mod packet;
 mod run;
 
-pub use address::{ADDRESS, address_of};
+pub use address::{ADDRESS, address_asked};
 pub use input::{frames_input, pcap_input, pcap_journal_input};
 pub use journal::capture_journal;
 pub use output::WireOutput;

@@ -1,7 +1,7 @@
 //! A run of a script, and what it puts on the channel.
 
 ghost use Rattle.std.specs.Prelude.{◌≡◌, ◌≢◌, [], IfOk, IfErr};
-ghost use Rattle.sched_lines.specs.Line.{HasLine};
+ghost use Rattle.sched_calls.specs.Reply.{HasLine};
 ghost use Rattle.text_stream.specs.Watched.{FailsBy};
 ghost use Rattle.text_stream.specs.Writing.{Puts};
 ghost use Rattle.text_stream.specs.RunFault.{TellsFailedRead, TellsFailedWrite, WritesLast};
@@ -12,10 +12,9 @@ ghost use Rattle.pcap_command.specs.Ran.{PutsOnWire, RanOnWire};
 use crate::buffer::WireBuffer;
 use crate::output::WireOutput;
 use crate::packet::capture_head;
-use frame_lines::map_in;
 use minislots::Checked;
-use sched_history::{Call, Reply, Scheduler, Unrecorded};
-use sched_lines::{count_unrecorded, make_call};
+use sched_history::{Call, Reply, Scheduler, Unrecorded, count_unrecorded, make_call};
+use sched_lines::map_in;
 use script_reading::read_script;
 use std::alloc::Global;
 use text_stream::{RunFault, Sink, Source, TextFault};

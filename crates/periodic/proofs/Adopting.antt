@@ -5,10 +5,10 @@ use Rattle.std.specs.List.{AllByRecursion}
 use Rattle.std.proofs.lemmas.List.{drop_more, drop_all}
 use Rattle.minislots.specs.declared.config.Config.{Config}
 use Rattle.minislots.specs.Config.{IsLawful}
-use Rattle.flow_book.specs.declared.spec.FlowSpec.{FlowSpec}
-use Rattle.flow_book.specs.FlowSpec.{interval_frames}
+use Rattle.sched_calls.specs.declared.spec.FlowSpec.{FlowSpec}
+use Rattle.sched_calls.specs.FlowSpec.{interval_frames}
 use Rattle.periodic.specs.declared.bits.Bits.{Bits}
-use Rattle.periodic.specs.declared.placement.Placement.{Placement}
+use Rattle.sched_calls.specs.declared.placement.Placement.{Placement}
 use Rattle.periodic.specs.declared.search.Wanted.{Wanted}
 use Rattle.periodic.specs.Placement.{Placed, phase_of, offset_of, FollowFrom, IsPlacement}
 use Rattle.periodic.specs.Rows.{AreRowsOf}

@@ -4,10 +4,10 @@ use Rattle.std.proofs.lemmas.Bool.{cases_eq, eq-eqb, ne_eqb}
 use Rattle.minislots.specs.declared.config.Config.{Config}
 use Rattle.minislots.specs.Config.{IsLawful}
 use Rattle.minislots.proofs.Bounds.{bounds_of}
-use Rattle.flow_book.specs.declared.spec.FlowSpec.{FlowSpec}
-use Rattle.flow_book.specs.FlowSpec.{interval_frames, jitter_slots, periodic_slots, grants_of}
+use Rattle.sched_calls.specs.declared.spec.FlowSpec.{FlowSpec}
+use Rattle.sched_calls.specs.FlowSpec.{interval_frames, jitter_slots, periodic_slots, grants_of}
 use Rattle.periodic.specs.declared.bits.Bits.{Bits}
-use Rattle.periodic.specs.declared.placement.Placement.{Placement}
+use Rattle.sched_calls.specs.declared.placement.Placement.{Placement}
 use Rattle.periodic.specs.declared.search.Wanted.{Wanted}
 use Rattle.periodic.specs.declared.search.Found.{Found}
 use Rattle.periodic.specs.Placement.{Placed, phase_of, offset_of, group_at, starts_in, spots_in, IsLawfulStart}

@@ -10,7 +10,7 @@ use Rattle.std.proofs.lemmas.List.Elements.{All-from_recursion}
 use Rattle.minislots.specs.declared.config.Config.{Config}
 use Rattle.minislots.specs.Config.{IsLawful}
 use Rattle.flow_book.proofs.Steps.{all-item, taken-item}
-use Rattle.periodic.specs.declared.TheConstants.{MAX_PERIODIC_GRANTS}
+use Rattle.sched_calls.specs.declared.TheConstants.{MAX_PERIODIC_GRANTS}
 use Rattle.periodic.specs.declared.bits.Bits.{Bits}
 use Rattle.periodic.specs.declared.spots.PlacedFlow.{PlacedFlow}
 use Rattle.periodic.specs.Placement.{Placed, starts_in, spot_at, spots_of, spots_in}

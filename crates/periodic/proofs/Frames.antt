@@ -9,7 +9,7 @@ use Rattle.std.proofs.Math.Nat.{mod-mod}
 use Rattle.minislots.specs.declared.config.Config.{Config}
 use Rattle.minislots.specs.Config.{IsLawful}
 use Rattle.minislots.proofs.Bounds.{bounds_of}
-use Rattle.flow_book.specs.FlowSpec.{interval_frames, jitter_slots, periodic_slots, grants_of}
+use Rattle.sched_calls.specs.FlowSpec.{interval_frames, jitter_slots, periodic_slots, grants_of}
 use Rattle.periodic.specs.declared.placement.Spot.{Spot}
 use Rattle.periodic.specs.Placement.{Placed, phase_of, offset_of, starts_in, spot_at, spots_of, spots_in}
 use Rattle.periodic.specs.Placement.{IsLawfulStart, FollowFrom, HasLawfulStarts}

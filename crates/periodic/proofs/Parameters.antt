@@ -9,13 +9,13 @@ use Rattle.minislots.specs.declared.config.Config.{Config}
 use Rattle.minislots.specs.Config.{IsLawful}
 use Rattle.minislots.specs.Units.{slots_floor, slots_for}
 use Rattle.minislots.proofs.Bounds.{bounds_of}
-use Rattle.flow_book.specs.declared.spec.FlowSpec.{FlowSpec}
-use Rattle.flow_book.specs.declared.spec.FlowSpec.TheVariants.{Unsolicited, Polled, BestEffort}
-use Rattle.flow_book.specs.declared.spec.FlowFault.{FlowFault}
-use Rattle.flow_book.specs.declared.TheConstants.{MAX_GRANTS}
-use Rattle.flow_book.specs.FlowSpec.{is_periodic, interval_frames, periodic_slots, grants_of, has_fault, faults}
-use Rattle.flow_book.specs.FlowSpec.{first_fault}
-use Rattle.flow_book.specs.FlowSpec.{first_fault_of}
+use Rattle.sched_calls.specs.declared.spec.FlowSpec.{FlowSpec}
+use Rattle.sched_calls.specs.declared.spec.FlowSpec.TheVariants.{Unsolicited, Polled, BestEffort}
+use Rattle.sched_calls.specs.declared.spec.FlowFault.{FlowFault}
+use Rattle.sched_calls.specs.declared.TheConstants.{MAX_GRANTS}
+use Rattle.sched_calls.specs.FlowSpec.{is_periodic, interval_frames, periodic_slots, grants_of, has_fault, faults}
+use Rattle.sched_calls.specs.FlowSpec.{first_fault}
+use Rattle.sched_calls.specs.FlowSpec.{first_fault_of}
 
 -- What is known of a periodic flow's parameters
 pub record HasPlaces (c : Config) (spec : FlowSpec) : Type 0 where

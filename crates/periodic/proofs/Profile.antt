@@ -1,6 +1,7 @@
 -- The limits in figures, which the definitions name by the constants of the code.
 use Rattle.std.proofs.Common.{◌≡◌, ℕ, refl}
-use Rattle.periodic.specs.declared.TheConstants.{MAX_PERIODIC_GRANTS, MAX_STARTS}
+use Rattle.sched_calls.specs.declared.TheConstants.{MAX_PERIODIC_GRANTS}
+use Rattle.periodic.specs.declared.TheConstants.{MAX_STARTS}
 
 -- the most grants per interval of a table
 pub most_periodic_grants : ◌≡◌ {A = ℕ} MAX_PERIODIC_GRANTS 40

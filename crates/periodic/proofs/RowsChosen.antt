@@ -1,10 +1,10 @@
 -- Worked examples of placements that are taken, and of lawful ones that are not.
 use Rattle.std.proofs.Common.{◌≡◌, ℕ, ◌%◌, ◌<◌, List, [], ◌∷◌, refl, subst, inl, inr, lit<, lit≤, arith}
 use Rattle.std.proofs.lemmas.Bool.{cases_eq}
-use Rattle.flow_book.specs.declared.spec.FlowSpec.{FlowSpec}
-use Rattle.flow_book.specs.FlowSpec.{interval_frames}
-use Rattle.flow_book.proofs.Base.{base}
-use Rattle.periodic.specs.declared.placement.Placement.{Placement}
+use Rattle.sched_calls.specs.declared.spec.FlowSpec.{FlowSpec}
+use Rattle.sched_calls.specs.FlowSpec.{interval_frames}
+use Rattle.sched_calls.proofs.Base.{base}
+use Rattle.sched_calls.specs.declared.placement.Placement.{Placement}
 use Rattle.periodic.specs.Placement.{Placed, phase_of, offset_of, spots_in, starts_in, AreLawfulStarts, IsPlacement}
 use Rattle.periodic.specs.Choice.{AreEarlier, IsChosen}
 use Rattle.periodic.proofs.Choosing.{no-starts}

@@ -1,9 +1,9 @@
 -- Worked examples of placements with two grants in each nominal frame.
 use Rattle.std.proofs.Common.{◌≡◌, [], ◌∷◌, refl, lit<}
 use Rattle.std.proofs.Common.{lit≤, arith}
-use Rattle.flow_book.specs.declared.spec.FlowSpec.{FlowSpec}
-use Rattle.flow_book.specs.declared.spec.FlowSpec.TheVariants.{Unsolicited}
-use Rattle.flow_book.proofs.Base.{base}
+use Rattle.sched_calls.specs.declared.spec.FlowSpec.{FlowSpec}
+use Rattle.sched_calls.specs.declared.spec.FlowSpec.TheVariants.{Unsolicited}
+use Rattle.sched_calls.proofs.Base.{base}
 use Rattle.periodic.specs.Placement.{AreLawfulStarts, IsPlacement}
 use Rattle.periodic.specs.Placement.{spots_in}
 use Rattle.periodic.proofs.RowsPlacement.{placement, each-of-two, AreLawfulAt, voice_at}

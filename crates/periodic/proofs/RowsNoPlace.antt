@@ -1,8 +1,8 @@
 -- A worked example of a flow without a place.
 use Rattle.std.proofs.Common.{◌≡◌, ℕ, ◌≤◌, ◌%◌, ◌/◌, List, [], ◌∷◌, inl, inr, lit<, arith}
-use Rattle.flow_book.specs.declared.spec.FlowSpec.{FlowSpec}
-use Rattle.flow_book.specs.declared.spec.FlowSpec.TheVariants.{Unsolicited}
-use Rattle.flow_book.proofs.Base.{base}
+use Rattle.sched_calls.specs.declared.spec.FlowSpec.{FlowSpec}
+use Rattle.sched_calls.specs.declared.spec.FlowSpec.TheVariants.{Unsolicited}
+use Rattle.sched_calls.proofs.Base.{base}
 use Rattle.periodic.specs.Placement.{Placed, starts_in, AreLawfulStarts, spots_in, NoPlacement}
 
 -- grants that fill each frame behind its request region

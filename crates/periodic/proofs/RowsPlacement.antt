@@ -3,11 +3,11 @@ use Rattle.std.proofs.Common.{◌≡◌, ℕ, ◌+◌, ◌%◌, ◌<◌, true, f
 use Rattle.std.proofs.Common.{lit≤, arith}
 use Rattle.std.proofs.lemmas.Bool.{cases_lt}
 use Rattle.minislots.specs.declared.config.Config.{Config}
-use Rattle.flow_book.specs.declared.spec.FlowSpec.{FlowSpec}
-use Rattle.flow_book.specs.declared.spec.FlowSpec.TheVariants.{Unsolicited, Polled}
-use Rattle.flow_book.specs.FlowSpec.{jitter_slots, periodic_slots, grants_of}
-use Rattle.flow_book.proofs.Base.{base}
-use Rattle.periodic.specs.declared.placement.Placement.{Placement}
+use Rattle.sched_calls.specs.declared.spec.FlowSpec.{FlowSpec}
+use Rattle.sched_calls.specs.declared.spec.FlowSpec.TheVariants.{Unsolicited, Polled}
+use Rattle.sched_calls.specs.FlowSpec.{jitter_slots, periodic_slots, grants_of}
+use Rattle.sched_calls.proofs.Base.{base}
+use Rattle.sched_calls.specs.declared.placement.Placement.{Placement}
 use Rattle.periodic.specs.declared.placement.Spot.{Spot}
 use Rattle.periodic.specs.Placement.{Placed, IsLawfulStart, AreLawfulStarts, IsPlacement, starts_in}
 use Rattle.periodic.specs.Placement.{offset_of, spots_in}

@@ -12,7 +12,7 @@ use Rattle.flow_book.proofs.Insertion.{insert-put_in}
 use Rattle.flow_book.proofs.Places.{find-map, position-map, found-place, place-or_len}
 use Rattle.flow_book.proofs.Sums.{all-insert}
 use Rattle.minislots.specs.declared.config.Config.{Config}
-use Rattle.flow_book.specs.declared.spec.FlowSpec.{FlowSpec}
+use Rattle.sched_calls.specs.declared.spec.FlowSpec.{FlowSpec}
 use Rattle.flow_book.proofs.Places.{some-place}
 use Rattle.periodic.specs.declared.bits.Bits.{Bits}
 use Rattle.periodic.specs.declared.spots.PlacedFlow.{PlacedFlow}

@@ -6,7 +6,7 @@ use Rattle.std.proofs.lemmas.Bool.Decides.{nat_tests}
 use Rattle.std.proofs.lemmas.List.Sums.{sum_by-cons}
 use Rattle.std.proofs.lemmas.List.Quantifiers.{position-Some}
 use Rattle.minislots.specs.declared.config.Config.{Config}
-use Rattle.flow_book.specs.FlowSpec.{grants_of}
+use Rattle.sched_calls.specs.FlowSpec.{grants_of}
 use Rattle.periodic.specs.declared.spots.PlacedFlow.{PlacedFlow}
 use Rattle.periodic.specs.Placement.{Placed}
 use Rattle.periodic.specs.Table.{placed_grants, without, Ascend, AreSound}

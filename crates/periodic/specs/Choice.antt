@@ -1,8 +1,8 @@
 -- Which of the lawful placements is taken: the first by its phase, then its offset, then its starts in each frame.
 use Rattle.std.specs.Prelude.{◌≡◌, ℕ, ◌<◌, ◌⊎◌, List, [], ◌∷◌}
 use Rattle.minislots.specs.declared.config.Config.{Config}
-use Rattle.flow_book.specs.declared.spec.FlowSpec.{FlowSpec}
-use Rattle.periodic.specs.declared.placement.Placement.{Placement}
+use Rattle.sched_calls.specs.declared.spec.FlowSpec.{FlowSpec}
+use Rattle.sched_calls.specs.declared.placement.Placement.{Placement}
 use Rattle.periodic.specs.Placement.{Placed, phase_of, offset_of, starts_in, IsPlacement}
 
 -- of two lists of starts in one frame the first is the earlier: at the first place at which they differ its start is

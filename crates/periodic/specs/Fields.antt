@@ -3,9 +3,9 @@ use Rattle.std.specs.Prelude.{◌≡◌, ℕ, ◌≤◌, List, map}
 use Rattle.std.specs.List.{AllByRecursion}
 use Rattle.minislots.specs.declared.config.Config.{Config}
 use Rattle.minislots.specs.Config.{IsLawful}
-use Rattle.flow_book.specs.FlowSpec.{interval_frames, periodic_slots, grants_of}
-use Rattle.periodic.specs.declared.TheConstants.{MAX_PERIODIC_GRANTS}
-use Rattle.periodic.specs.declared.placement.Placement.{Placement}
+use Rattle.sched_calls.specs.FlowSpec.{interval_frames, periodic_slots, grants_of}
+use Rattle.sched_calls.specs.declared.TheConstants.{MAX_PERIODIC_GRANTS}
+use Rattle.sched_calls.specs.declared.placement.Placement.{Placement}
 use Rattle.periodic.specs.declared.bits.Bits.{Bits}
 use Rattle.periodic.specs.declared.spots.PlacedFlow.{PlacedFlow}
 use Rattle.periodic.specs.Placement.{Placed, phase_of}

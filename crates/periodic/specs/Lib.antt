@@ -1,6 +1,6 @@
 pub use Rattle.minislots.specs.Config
 pub use Rattle.minislots.specs.Units
-pub use Rattle.flow_book.specs.FlowSpec
+pub use Rattle.sched_calls.specs.FlowSpec
 pub use Rattle.flow_book.specs.Sids
 pub mod Placement
 pub mod Table

@@ -2,10 +2,10 @@
 use Rattle.std.specs.Prelude.{◌≡◌, ℕ, ◌+◌, ◌<◌, ◌≤◌, ◌⊎◌, true, ◌==◌, List, [], ◌∷◌, sum_by, find, None, IsSome}
 use Rattle.std.specs.List.{AllByRecursion}
 use Rattle.minislots.specs.declared.config.Config.{Config}
-use Rattle.flow_book.specs.declared.spec.FlowSpec.{FlowSpec}
-use Rattle.periodic.specs.declared.TheConstants.{MAX_PERIODIC_GRANTS}
-use Rattle.periodic.specs.declared.placement.Placement.{Placement}
-use Rattle.flow_book.specs.FlowSpec.{is_periodic, grants_of, first_fault}
+use Rattle.sched_calls.specs.declared.spec.FlowSpec.{FlowSpec}
+use Rattle.sched_calls.specs.declared.TheConstants.{MAX_PERIODIC_GRANTS}
+use Rattle.sched_calls.specs.declared.placement.Placement.{Placement}
+use Rattle.sched_calls.specs.FlowSpec.{is_periodic, grants_of, first_fault}
 use Rattle.flow_book.specs.Sids.{AscendBy, put_in, taken_out}
 use Rattle.periodic.specs.declared.placement.Spot.{Spot}
 use Rattle.periodic.specs.Placement.{Placed, offset_of, spots_in, HasLawfulStarts, IsPlacement}

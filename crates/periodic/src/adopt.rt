@@ -1,17 +1,16 @@
 //! Whether a placement that is handed in is lawful beside those that stand.
 
 ghost use Rattle.std.specs.Prelude.{◌≡◌, ◌<◌, ◌+◌, ◌^◌, List, length, true, false, None};
-ghost use Rattle.flow_book.specs.FlowSpec.{is_periodic, first_fault};
+ghost use Rattle.sched_calls.specs.FlowSpec.{is_periodic, first_fault};
 ghost use Rattle.periodic.specs.Placement.{Placed, IsPlacement};
 ghost use Rattle.periodic.specs.Rows.{AreRowsOf};
 ghost use Rattle.periodic.specs.Search.{CanBeSought, IsStartOf, AreStartsIn, AreStarts};
 ghost use Rattle.periodic.specs.Table.{AreSound};
 
 use crate::bits::Bits;
-use crate::placement::Placement;
 use crate::search::{Wanted, wanted_of};
-use flow_book::FlowSpec;
 use minislots::Checked;
+use sched_calls::{FlowSpec, Placement};
 
 // Whether this start is lawful in a frame of which these minislots are taken, at the nominal time of this offset.
 fn is_start(bits: &Bits, config: &Checked, wanted: Wanted, offset: u64, start: u64) -> bool

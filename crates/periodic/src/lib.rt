@@ -10,11 +10,9 @@ mod spots;
 mod table;
 mod widest;
 
-pub use placement::{PlaceFault, Placement, Spot, Starts};
+pub use placement::{PlaceFault, Spot};
+pub use sched_calls::{MAX_PERIODIC_GRANTS, Placement, Starts};
 pub use table::Table;
-
-/// The most grants per interval of the periodic flows of one table, and so the most spots of one frame.
-pub const MAX_PERIODIC_GRANTS: usize = 40;
 
 /// The most starts of one placement: all grants of a flow in each frame of the longest cycle.
 const MAX_STARTS: usize = 512;

@@ -4,7 +4,7 @@
 ghost use Rattle.std.specs.Prelude.{◌≡◌, ℕ, ◌<◌, ◌≤◌, ◌+◌, ◌*◌, ◌^◌, ◌%◌, List, length, take, true, None};
 ghost use Rattle.std.specs.Prelude.{IfSome, IfNone, IfOk, IfErr};
 ghost use Rattle.minislots.specs.Config.{IsLawful};
-ghost use Rattle.flow_book.specs.FlowSpec.{is_periodic, first_fault};
+ghost use Rattle.sched_calls.specs.FlowSpec.{is_periodic, first_fault};
 ghost use Rattle.periodic.specs.declared.TheConstants.{MAX_STARTS};
 ghost use Rattle.periodic.specs.Placement.{Placed, NoPlacement};
 ghost use Rattle.periodic.specs.Table.{AreSound};
@@ -20,8 +20,8 @@ use crate::bits::Bits;
 use crate::row::Row;
 use crate::spots::{grants, interval, jitter, slots};
 use crate::widest::Widest;
-use flow_book::FlowSpec;
 use minislots::Checked;
+use sched_calls::FlowSpec;
 
 // The most starts of one frame: those of a flow with the most grants.
 const MAX_GROUP: usize = 8;

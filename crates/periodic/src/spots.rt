@@ -4,21 +4,20 @@ ghost use Rattle.std.specs.Prelude.{◌≡◌, ℕ, ◌<◌, ◌≤◌, ◌+◌,
 ghost use Rattle.std.specs.List.Sorted.{IsPermutation, IsNonDecreasingBy};
 ghost use Rattle.minislots.specs.declared.config.Config.{Config};
 ghost use Rattle.minislots.specs.Config.{IsLawful};
-ghost use Rattle.flow_book.specs.FlowSpec.{is_periodic, is_polled, interval_frames, jitter_slots, periodic_slots};
-ghost use Rattle.flow_book.specs.FlowSpec.{grants_of, first_fault};
-ghost use Rattle.periodic.specs.declared.TheConstants.{MAX_PERIODIC_GRANTS};
+ghost use Rattle.sched_calls.specs.FlowSpec.{is_periodic, is_polled, interval_frames, jitter_slots, periodic_slots};
+ghost use Rattle.sched_calls.specs.FlowSpec.{grants_of, first_fault};
+ghost use Rattle.sched_calls.specs.declared.TheConstants.{MAX_PERIODIC_GRANTS};
 ghost use Rattle.periodic.specs.Placement.{starts_in, spot_at, spots_of, spots_in};
 ghost use Rattle.periodic.specs.Bits.{bit_for};
 ghost use Rattle.periodic.specs.Rows.{row_at, AreMarked, HaveAtMost, AreBounds};
 ghost use Rattle.periodic.specs.Table.{placed_at};
 ghost use Rattle.periodic.specs.Fields.{placed_of, placed_in, KeepsTimes, IsSoundFlow, AreSoundFlows};
 
-use crate::MAX_PERIODIC_GRANTS;
 use crate::bits::Bits;
-use crate::placement::{Placement, Spot};
+use crate::placement::Spot;
 use crate::widest::{self, Widest};
-use flow_book::FlowSpec;
 use minislots::Checked;
+use sched_calls::{FlowSpec, MAX_PERIODIC_GRANTS, Placement};
 
 // A periodic flow with its placement, and what follows from both, so that a frame is told without a division by the
 // channel's numbers.

@@ -4,8 +4,9 @@ ghost use Rattle.std.specs.Prelude.{◌≡◌, ℕ, ◌+◌, ◌<◌, ◌==◌, 
 ghost use Rattle.std.specs.Prelude.{length, take, drop, true, false, None, IfOk, OnErr, IsErrOf, IfSome, IfNone};
 ghost use Rattle.std.specs.List.{AllByRecursion};
 ghost use Rattle.std.specs.List.Sorted.{IsPermutation};
-ghost use Rattle.flow_book.specs.FlowSpec.{is_periodic, grants_of, first_fault};
-ghost use Rattle.periodic.specs.declared.TheConstants.{MAX_PERIODIC_GRANTS, MAX_STARTS};
+ghost use Rattle.sched_calls.specs.FlowSpec.{is_periodic, grants_of, first_fault};
+ghost use Rattle.sched_calls.specs.declared.TheConstants.{MAX_PERIODIC_GRANTS};
+ghost use Rattle.periodic.specs.declared.TheConstants.{MAX_STARTS};
 ghost use Rattle.periodic.specs.Placement.{spots_in, IsPlacement, NoPlacement};
 ghost use Rattle.periodic.specs.Choice.{IsChosen};
 ghost use Rattle.periodic.specs.Fields.{placement_at};
@@ -13,15 +14,14 @@ ghost use Rattle.periodic.specs.Search.{chosen_placement};
 ghost use Rattle.periodic.specs.Table.{placed_grants, IsPlaced, IsNotPlaced, HasPlacement, placed_at, with_placed};
 ghost use Rattle.periodic.specs.Table.{without, AreSound, IsWithinFrame, FollowInTurn};
 
-use crate::MAX_PERIODIC_GRANTS;
 use crate::adopt::is_lawful;
 use crate::bits::Bits;
-use crate::placement::{PlaceFault, Placement, Spot, Starts};
+use crate::placement::{PlaceFault, Spot};
 use crate::search::{Chosen, choose};
 use crate::spots::{PlacedFlow, fill, mark, sort};
 use crate::widest::Widest;
-use flow_book::FlowSpec;
 use minislots::Checked;
+use sched_calls::{FlowSpec, MAX_PERIODIC_GRANTS, Placement, Starts};
 use std::alloc::{AllocError, Global};
 use std::marker::Model;
 

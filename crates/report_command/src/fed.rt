@@ -1,7 +1,7 @@
 //! The entries of a history, taken one by one.
 
 ghost use Rattle.std.specs.Prelude.{◌≡◌, ◌≤◌, length, IfOk, IfErr};
-ghost use Rattle.sched_history.specs.declared.reply.TheConstants.{MAX_ENTRIES};
+ghost use Rattle.sched_calls.specs.declared.reply.TheConstants.{MAX_ENTRIES};
 ghost use Rattle.report_command.specs.Report.{IsFed};
 
 use minislots::Checked;
@@ -20,6 +20,7 @@ pub(crate) enum Fed {
 }
 
 // Shows a history to a reporter, entry by entry.
+#[inline(never)]
 pub(crate) fn feed(alloc: Global, config: &Checked, entries: &[Entry]) -> Result<Fed, TextFault>
     requires { length entries.now ≤ MAX_ENTRIES }
     ensures ok { IfOk result (IsFed config.now entries.now) }

@@ -4,15 +4,14 @@ ghost use Rattle.std.specs.Prelude.{◌≡◌, codes, false, IfOk, IfErr};
 ghost use Rattle.text_stream.specs.Writing.{Writes};
 ghost use Rattle.text_stream.specs.RunFault.{TellsFailedRead, TellsFailedWrite, WritesLast};
 ghost use Rattle.sched_lines.specs.Line.{number_line};
-ghost use Rattle.report_command.specs.Report.{ReportedJson, ReportedPicture, ReportedText, StopsReport};
+ghost use Rattle.report_command.specs.Report.{Reported, StopsReport};
 
 use crate::fed::{Fed, feed};
+use crate::form::{Form, put_report};
 use history_reading::read_history;
-use report_picture::put_report_picture;
-use report_writing::{json_text, report_text};
 use sched_lines::put_named;
 use std::alloc::Global;
-use text_stream::{RunFault, Sink, Source, TextFault, put};
+use text_stream::{RunFault, Sink, Source, TextFault};
 
 // Writes the line of the first entry that may not stand there: the history is not legal.
 fn put_illegal<W: Sink>(writer: &mut W, place: usize) -> Result<bool, TextFault>
@@ -24,16 +23,17 @@ fn put_illegal<W: Sink>(writer: &mut W, place: usize) -> Result<bool, TextFault>
     Ok(false)
 }
 
-/// Reads a history, a configuration and entries in JSON, to the reader's end, and writes the report on it in JSON; or
-/// where it is illegal `illegal` and the first entry, counted from 0, whose reply may not follow those before it.
+/// Reads a history, a configuration and entries in JSON, to the reader's end, and writes the report on it in this form;
+/// or where it is illegal `illegal` and the first entry, counted from 0, whose reply may not follow those before it.
 /// Answers whether it is legal. Nothing is written before another fault than one of output.
-pub fn run_report_json<R: Source, W: Sink>(
+pub fn run_report<R: Source, W: Sink>(
     alloc: Global,
     reader: &mut R,
     writer: &mut W,
+    form: Form,
 ) -> Result<bool, RunFault>
     // What was written is the report on the history that was read, and nothing else.
-    ensures ok { IfOk result (ReportedJson (R.remaining reader.old) (R.remaining reader.new)
+    ensures ok { IfOk result (Reported form (R.remaining reader.old) (R.remaining reader.new)
         (W.contents writer.old) (W.contents writer.new)) }
 
     // Each fault comes under its own condition, the first one in their order.
@@ -51,71 +51,6 @@ pub fn run_report_json<R: Source, W: Sink>(
         Fed::Legal(reporter) => reporter,
         Fed::Illegal(place) => return Ok(put_illegal(writer, place)?),
     };
-    let Ok(text) = json_text(alloc, reporter.reporter()) else {
-        return Err(RunFault::Text(TextFault::Memory));
-    };
-    put(writer, &text)?;
-    Ok(true)
-}
-
-/// The same with the report in tables: with all lives of flows, or with the 30 that asked most.
-pub fn run_report_text<R: Source, W: Sink>(
-    alloc: Global,
-    reader: &mut R,
-    writer: &mut W,
-    all: bool,
-) -> Result<bool, RunFault>
-    // What was written is one text where the history is legal, else the line of its first illegal entry.
-    ensures ok { IfOk result (ReportedText (R.remaining reader.old) (R.remaining reader.new)
-        (W.contents writer.old) (W.contents writer.new)) }
-
-    // Each fault comes under its own condition, the first one in their order.
-    ensures stops { IfErr result (StopsReport (R.remaining reader.old) (R.remaining reader.new)) }
-    ensures quiet { WritesLast result writer.old writer.new }
-
-    // A failed read or write is told where one has failed, and where all went well none did.
-    ensures failed_read { TellsFailedRead result
-        (R.has_failed reader.old) (R.has_failed reader.new) }
-    ensures failed_write { TellsFailedWrite result
-        (W.has_failed writer.old) (W.has_failed writer.new) }
-{
-    let (config, entries) = read_history(alloc, reader)?;
-    let reporter = match feed(alloc, &config, &entries)? {
-        Fed::Legal(reporter) => reporter,
-        Fed::Illegal(place) => return Ok(put_illegal(writer, place)?),
-    };
-    let Ok(words) = report_text(alloc, &config, reporter.reporter(), all) else {
-        return Err(RunFault::Text(TextFault::Memory));
-    };
-    put(writer, words.as_bytes())?;
-    Ok(true)
-}
-
-/// The same with the report as a picture in SVG: the use of minislots over time, stacked, and delays by rank.
-pub fn run_report_picture<R: Source, W: Sink>(
-    alloc: Global,
-    reader: &mut R,
-    writer: &mut W,
-) -> Result<bool, RunFault>
-    // What was written is the picture of the report on the history that was read, and nothing else.
-    ensures ok { IfOk result (ReportedPicture (R.remaining reader.old) (R.remaining reader.new)
-        (W.contents writer.old) (W.contents writer.new)) }
-
-    // Each fault comes under its own condition, the first one in their order.
-    ensures stops { IfErr result (StopsReport (R.remaining reader.old) (R.remaining reader.new)) }
-    ensures quiet { WritesLast result writer.old writer.new }
-
-    // A failed read or write is told where one has failed, and where all went well none did.
-    ensures failed_read { TellsFailedRead result
-        (R.has_failed reader.old) (R.has_failed reader.new) }
-    ensures failed_write { TellsFailedWrite result
-        (W.has_failed writer.old) (W.has_failed writer.new) }
-{
-    let (config, entries) = read_history(alloc, reader)?;
-    let reporter = match feed(alloc, &config, &entries)? {
-        Fed::Legal(reporter) => reporter,
-        Fed::Illegal(place) => return Ok(put_illegal(writer, place)?),
-    };
-    put_report_picture(writer, &config, &reporter)?;
+    put_report(alloc, writer, form, &config, &reporter)?;
     Ok(true)
 }

@@ -89,6 +89,7 @@ fn show_entries<R: Source>(
 }
 
 // Reads a journal, of any length, in the memory of one line and of a reporter, which judges each entry once.
+#[inline(never)]
 pub(crate) fn show_journal<R: Source>(alloc: Global, reader: &mut R) -> Result<Shown, TextFault>
     ensures shown { IfOk result (IsShown (R.remaining reader.old) (R.remaining reader.new)) }
     ensures stops { IfErr result (StopsJournal (R.remaining reader.old) (R.remaining reader.new)) }

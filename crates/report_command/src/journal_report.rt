@@ -5,15 +5,14 @@ ghost use Rattle.text_stream.specs.Writing.{Writes};
 ghost use Rattle.text_stream.specs.RunFault.{TellsFailedRead, TellsFailedWrite, WritesLast};
 ghost use Rattle.sched_lines.specs.Line.{number_line};
 ghost use Rattle.journal_entries.specs.End.{StopsCommand};
-ghost use Rattle.report_command.specs.Journal.{JournalJson, JournalPicture, JournalText};
+ghost use Rattle.report_command.specs.Journal.{ReportedJournal};
 
+use crate::form::{Form, put_report};
 use crate::journal::{Shown, show_journal};
 use journal_entries::EntriesEnd;
-use report_picture::put_report_picture;
-use report_writing::{json_text, report_text};
 use sched_lines::put_named;
 use std::alloc::Global;
-use text_stream::{RunFault, Sink, Source, TextFault, put};
+use text_stream::{RunFault, Sink, Source, TextFault};
 
 // Writes the line of the first entry that may not stand there.
 fn put_illegal_entry<W: Sink>(writer: &mut W, place: u64) -> Result<EntriesEnd, TextFault>
@@ -25,50 +24,18 @@ fn put_illegal_entry<W: Sink>(writer: &mut W, place: u64) -> Result<EntriesEnd, 
     Ok(EntriesEnd::Illegal(place))
 }
 
-/// Reads a journal to its end, and writes the report on its entries in JSON; or where they are no legal history
+/// Reads a journal to its end, and writes the report on its entries in this form; or where they are no legal history
 /// `illegal` and the first entry, counted from 0, whose reply may not follow those before it. Nothing is written where
 /// a line is bad, nor before another fault than one of output. Its memory is that of the lives, of the requests that
 /// wait and of the kinds of delays, and not of the entries.
-pub fn run_journal_json<R: Source, W: Sink>(
+pub fn run_journal_report<R: Source, W: Sink>(
     alloc: Global,
     reader: &mut R,
     writer: &mut W,
+    form: Form,
 ) -> Result<EntriesEnd, RunFault>
     // What was written is the report on exactly the entries that the journal stands for, and nothing else.
-    ensures ok { IfOk result (JournalJson (R.remaining reader.old) (R.remaining reader.new)
-        (W.contents writer.old) (W.contents writer.new)) }
-
-    // Each fault comes under its own condition.
-    ensures stops { IfErr result (StopsCommand (R.remaining reader.old) (R.remaining reader.new)) }
-    ensures quiet { WritesLast result writer.old writer.new }
-
-    // A failed read or write is told where one has failed, and where all went well none did.
-    ensures failed_read { TellsFailedRead result
-        (R.has_failed reader.old) (R.has_failed reader.new) }
-    ensures failed_write { TellsFailedWrite result
-        (W.has_failed writer.old) (W.has_failed writer.new) }
-{
-    let (reporter, torn) = match show_journal(alloc, reader)? {
-        Shown::Legal(_, reporter, torn) => (reporter, torn),
-        Shown::Illegal(place) => return Ok(put_illegal_entry(writer, place)?),
-        Shown::Bad(line) => return Ok(EntriesEnd::Bad(line)),
-    };
-    let Ok(text) = json_text(alloc, reporter.reporter()) else {
-        return Err(RunFault::Text(TextFault::Memory));
-    };
-    put(writer, &text)?;
-    Ok(EntriesEnd::Legal(torn))
-}
-
-/// The same with the report in tables: with all lives of flows, or with the 30 that asked most.
-pub fn run_journal_text<R: Source, W: Sink>(
-    alloc: Global,
-    reader: &mut R,
-    writer: &mut W,
-    all: bool,
-) -> Result<EntriesEnd, RunFault>
-    // What was written is one text where the journal is legal, else the line of its first illegal entry, or nothing.
-    ensures ok { IfOk result (JournalText (R.remaining reader.old) (R.remaining reader.new)
+    ensures ok { IfOk result (ReportedJournal form (R.remaining reader.old) (R.remaining reader.new)
         (W.contents writer.old) (W.contents writer.new)) }
 
     // Each fault comes under its own condition.
@@ -86,39 +53,6 @@ pub fn run_journal_text<R: Source, W: Sink>(
         Shown::Illegal(place) => return Ok(put_illegal_entry(writer, place)?),
         Shown::Bad(line) => return Ok(EntriesEnd::Bad(line)),
     };
-    let Ok(words) = report_text(alloc, &config, reporter.reporter(), all) else {
-        return Err(RunFault::Text(TextFault::Memory));
-    };
-    put(writer, words.as_bytes())?;
-    Ok(EntriesEnd::Legal(torn))
-}
-
-/// The same with the report as a picture in SVG: the use of minislots over time, stacked, and delays by rank.
-pub fn run_journal_picture<R: Source, W: Sink>(
-    alloc: Global,
-    reader: &mut R,
-    writer: &mut W,
-) -> Result<EntriesEnd, RunFault>
-    // What was written is the picture of the report on exactly the entries that the journal stands for, and nothing
-    // else.
-    ensures ok { IfOk result (JournalPicture (R.remaining reader.old) (R.remaining reader.new)
-        (W.contents writer.old) (W.contents writer.new)) }
-
-    // Each fault comes under its own condition.
-    ensures stops { IfErr result (StopsCommand (R.remaining reader.old) (R.remaining reader.new)) }
-    ensures quiet { WritesLast result writer.old writer.new }
-
-    // A failed read or write is told where one has failed, and where all went well none did.
-    ensures failed_read { TellsFailedRead result
-        (R.has_failed reader.old) (R.has_failed reader.new) }
-    ensures failed_write { TellsFailedWrite result
-        (W.has_failed writer.old) (W.has_failed writer.new) }
-{
-    let (config, reporter, torn) = match show_journal(alloc, reader)? {
-        Shown::Legal(config, reporter, torn) => (config, reporter, torn),
-        Shown::Illegal(place) => return Ok(put_illegal_entry(writer, place)?),
-        Shown::Bad(line) => return Ok(EntriesEnd::Bad(line)),
-    };
-    put_report_picture(writer, &config, &reporter)?;
+    put_report(alloc, writer, form, &config, &reporter)?;
     Ok(EntriesEnd::Legal(torn))
 }

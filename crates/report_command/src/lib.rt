@@ -2,11 +2,13 @@
 #![tactic(auto)]
 
 mod fed;
+mod form;
 mod history;
 mod input;
 mod journal;
 mod journal_report;
 
-pub use history::{run_report_json, run_report_picture, run_report_text};
-pub use input::{Form, report_input, report_journal_input};
-pub use journal_report::{run_journal_json, run_journal_picture, run_journal_text};
+pub use form::Form;
+pub use history::run_report;
+pub use input::{report_input, report_journal_input};
+pub use journal_report::run_journal_report;

@@ -1,13 +1,13 @@
 -- What is kept of the use of minislots over time, as steps get wider.
-use Rattle.std.proofs.Common.{◌≡◌, ℕ, ◌+◌, ◌-◌, ◌*◌, ◌<◌, ◌≤◌, List, [], ◌∷◌, ◌++◌, length, take, suc}
+use Rattle.std.proofs.Common.{◌≡◌, ℕ, ◌-◌, ◌*◌, ◌<◌, ◌≤◌, List, [], ◌∷◌, ◌++◌, length, take, suc}
 use Rattle.std.proofs.Common.{get_or, ap, sym, refl, ◌∙◌, None, arith}
 use Rattle.std.proofs.Math.Nat.{two-pow-succ}
 use Rattle.std.proofs.lemmas.List.{take_all, length_push}
-use Rattle.map_build.specs.declared.frame_map.FrameMap.{FrameMap}
-use Rattle.sched_history.specs.declared.reply.Entry.{Entry}
-use Rattle.sched_history.specs.declared.reply.TheConstants.{MAX_WHOLE_HISTORY}
-use Rattle.sched_history.specs.declared.reply.Reply.{Reply}
-use Rattle.sched_history.specs.declared.reply.Reply.TheVariants as replies
+use Rattle.sched_calls.specs.declared.frame_map.FrameMap.{FrameMap}
+use Rattle.sched_calls.specs.declared.reply.Entry.{Entry}
+use Rattle.sched_calls.specs.declared.reply.TheConstants.{MAX_WHOLE_HISTORY}
+use Rattle.sched_calls.specs.declared.reply.Reply.{Reply}
+use Rattle.sched_calls.specs.declared.reply.Reply.TheVariants as replies
 use Rattle.sched_history.specs.History.{map_by}
 use Rattle.frame_picture.specs.Frames.{Frame, frames_of}
 use Rattle.frame_picture.proofs.FrameLists.{frames_of-front-≤}

@@ -1,7 +1,7 @@
 -- What is kept of the use of minislots over time.
 use Rattle.std.specs.Prelude.{◌≡◌, ℕ, ◌+◌, ◌-◌, ◌*◌, ◌<◌, ◌≤◌, List, take, length, slice_index_or}
-use Rattle.sched_history.specs.declared.reply.Entry.{Entry}
-use Rattle.sched_history.specs.declared.reply.TheConstants.{MAX_WHOLE_HISTORY}
+use Rattle.sched_calls.specs.declared.reply.Entry.{Entry}
+use Rattle.sched_calls.specs.declared.reply.TheConstants.{MAX_WHOLE_HISTORY}
 use Rattle.frame_picture.specs.Frames.{Frame, frames_of}
 use Rattle.sched_report.specs.declared.slots.Slots.{Slots}
 use Rattle.report_picture.specs.declared.over_time.UseOverTime.{UseOverTime}

@@ -69,30 +69,16 @@ pub(crate) struct UseOverTime {
     pub(crate) lasts: Starts,
 }
 
-// The marks of steps that are twice as wide: each second one.
-fn joined(marks: &Marks) -> Marks
-    ensures long { length result ≡ 801 }
-    ensures each { (i : ℕ) (s : Uses) → i ≤ 400
-        → slice_index_or result i s ≡ slice_index_or marks.now (2 * i) s }
+// Joins steps two by two: of what is told of each, what is told of each second one stays.
+fn join<T: Copy + Drop>(row: &mut [T])
+    requires { length row.old ≡ 801 }
+    ensures long { length row.new ≡ 801 }
+    ensures each { (i : ℕ) (t : T) → i ≤ 400
+        → slice_index_or row.new i t ≡ slice_index_or row.old (2 * i) t }
 {
-    let mut wider = *marks;
     for i in 0..401 {
-        wider[i] = marks[2 * i];
+        row[i] = row[2 * i];
     }
-    wider
-}
-
-// The same of where frames start.
-fn joined_starts(starts: &Starts) -> Starts
-    ensures long { length result ≡ 801 }
-    ensures each { (i d : ℕ) → i ≤ 400
-        → slice_index_or result i d ≡ slice_index_or starts.now (2 * i) d }
-{
-    let mut wider = *starts;
-    for i in 0..401 {
-        wider[i] = starts[2 * i];
-    }
-    wider
 }
 
 // The minislots of one that are not among those of the other.
@@ -134,9 +120,9 @@ impl UseOverTime {
         if self.frames < 800 * self.width {
             return;
         }
-        self.marks = joined(&self.marks);
-        self.firsts = joined_starts(&self.firsts);
-        self.lasts = joined_starts(&self.lasts);
+        join(&mut self.marks);
+        join(&mut self.firsts);
+        join(&mut self.lasts);
         self.width *= 2;
     }
 

@@ -2,7 +2,7 @@
 
 ghost use Rattle.std.specs.Prelude.{◌≡◌, ◌^◌, ◌≤◌, ◌↔◌, ◌++◌, ◌∷◌, [], length};
 ghost use Rattle.std.specs.Prelude.{IfOk, OnOk, OnErr, IsErrOf};
-ghost use Rattle.sched_history.specs.declared.reply.TheConstants.{MAX_WHOLE_HISTORY};
+ghost use Rattle.sched_calls.specs.declared.reply.TheConstants.{MAX_WHOLE_HISTORY};
 ghost use Rattle.sched_history.specs.History.{IsStep, IsLegal};
 ghost use Rattle.frame_picture.specs.Frames.{frames_of};
 ghost use Rattle.sched_report.specs.ToldLives.{MayLackReportMemory};
@@ -20,7 +20,7 @@ use std::marker::Model;
 #[derive(Drop)]
 pub struct TimedReporter {
     reporter: Reporter,
-    over_time: UseOverTime,
+    over_time: Box<UseOverTime>,
 }
 
 impl Model for TimedReporter {
@@ -31,17 +31,18 @@ impl Model for TimedReporter {
 
     ghost view = { λ r. r.reporter };
 
-    ghost invariant = { λ r. IsTimed r.over_time r.reporter.history };
+    ghost invariant = { λ r. IsTimed r.over_time.value r.reporter.history };
 }
 
 impl TimedReporter {
     /// A reporter under this configuration, which has taken no entry.
+    #[inline(never)]
     pub fn open(alloc: Global, config: Checked) -> Result<TimedReporter, AllocError>
         ensures { IfOk result (λ r. r ≡ record { config = config; history = [] }) }
     {
         Ok(TimedReporter {
             reporter: Reporter::open(alloc, config)?,
-            over_time: UseOverTime::none(),
+            over_time: Box::new(alloc, UseOverTime::none())?,
         })
     }
 

@@ -4,7 +4,7 @@ use Rattle.std.proofs.Common.{sym, ap, ◌∙◌, subst, inl, inr, arith}
 use Rattle.std.proofs.lemmas.Bool.{cases_lt}
 use Rattle.std.proofs.lemmas.List.{length_push, get_or-append_right, get_or_append_left}
 use Rattle.minislots.specs.declared.config.Config.{Config}
-use Rattle.sched_history.specs.declared.reply.Entry.{Entry}
+use Rattle.sched_calls.specs.declared.reply.Entry.{Entry}
 use Rattle.sched_report.specs.declared.life.LifeNumbers.{LifeNumbers}
 use Rattle.sched_report.specs.Lives.{PastLife, lives_of}
 use Rattle.sched_report.specs.ToldLives.{AreLifeNumbers}

@@ -1,2 +1,4 @@
 pub mod Gathering
 mod Refusals
+mod Appended
+mod RefusalsTold

@@ -2,15 +2,16 @@
 
 ghost use Rattle.std.specs.Prelude.{IfOk};
 ghost use Rattle.sched_report.specs.RanksTold.{AreRanksTold};
-ghost use Rattle.report_writing.specs.Gathered.{AreLivesTold};
+ghost use Rattle.report_writing.specs.Gathered.{AreLivesTold, AreFew};
 
 use sched_report::{LifeNumbers, RANKS, RankTold, Reporter};
 use std::alloc::{AllocError, Global};
 
 // The numbers of each life, in the order of the admissions.
 pub(crate) fn lives_told(alloc: Global, reporter: &Reporter) -> Result<Vec<LifeNumbers>, AllocError>
-    ensures { IfOk result (λ lives.
+    ensures told { IfOk result (λ lives.
         AreLivesTold reporter.now.config reporter.now.history lives.items) }
+    ensures few { IfOk result (λ lives. AreFew lives.items) }
 {
     let mut lives = Vec::new(alloc);
     for place in 0..reporter.lives() {

@@ -1,16 +1,22 @@
 //! The text of a report: tables that are 80 columns wide at most.
 
+ghost use Rattle.std.specs.Prelude.{◌≡◌, IfOk};
+ghost use Rattle.report_writing.specs.Text.{IsReportTables};
+
 mod flows;
+mod lives;
 mod ranks;
+mod refused;
 mod uses;
 
 use crate::gathered::{lives_told, ranks_told};
-use flows::push_flows;
+use flows::{order_lives, push_flows};
 use minislots::Checked;
 use ranks::push_ranks;
+use refused::push_refused;
 use sched_report::Reporter;
 use std::alloc::{AllocError, Global};
-use uses::{push_head, push_refused, push_uses};
+use uses::{push_head, push_uses};
 
 /// The report on the entries that were taken as tables, under the configuration of the reporter. It has the lives of
 /// all flows in the order of their admissions, or else of the 30 that asked most.
@@ -19,16 +25,21 @@ pub fn report_text(
     config: &Checked,
     reporter: &Reporter,
     all: bool,
-) -> Result<String, AllocError> {
+) -> Result<Vec<u8>, AllocError>
+    requires { config.now ≡ reporter.now.config }
+    ensures { IfOk result (λ text.
+        IsReportTables all reporter.now.config reporter.now.history text.items) }
+{
     let ticks = config.ticks();
-    let lives = lives_told(alloc, reporter)?;
+    let mut lives = lives_told(alloc, reporter)?;
+    order_lives(&mut lives, all)?;
     let ranks = ranks_told(alloc, reporter)?;
     let totals = reporter.totals();
-    let mut words = String::new(alloc);
-    push_head(&mut words, alloc, ticks, &totals)?;
-    push_uses(&mut words, alloc, &totals.slots, &totals.calls)?;
-    push_refused(&mut words, alloc, reporter.refused())?;
-    push_ranks(&mut words, alloc, ticks, &ranks)?;
-    push_flows(&mut words, alloc, ticks, &lives, all)?;
+    let mut words = Vec::new(alloc);
+    push_head(&mut words, ticks, &totals)?;
+    push_uses(&mut words, &totals.slots, &totals.calls)?;
+    push_refused(&mut words, reporter.refused())?;
+    push_ranks(&mut words, ticks, &ranks)?;
+    push_flows(&mut words, ticks, &lives, all)?;
     Ok(words)
 }

@@ -6,19 +6,19 @@ use Rattle.std.specs.Io.KnownBytes.{Appends, append_known}
 use Rattle.std.proofs.KnownBytes.{Appends-trans}
 use Rattle.std.proofs.lemmas.List.{append-nil, take_all}
 use Rattle.std.proofs.lemmas.List.Concat.{flat_map-append}
-use Rattle.sched_history.specs.declared.call.Call.{Call}
+use Rattle.sched_calls.specs.declared.call.Call.{Call}
 use Rattle.minislots.specs.declared.config.Config.{Config}
-use Rattle.sched_history.specs.declared.reply.Entry.{Entry}
+use Rattle.sched_calls.specs.declared.reply.Entry.{Entry}
 use Rattle.sched_history.specs.Machine.{Machine}
-use Rattle.sched_lines.specs.Line.{Answer}
-use Rattle.sched_lines.specs.Answer.{MakesCall, MakesCalls, recorded_entries}
+use Rattle.sched_calls.specs.Reply.{Answer}
+use Rattle.sched_history.specs.Answer.{MakesCall, MakesCalls, recorded_entries}
 use Rattle.text_stream.proofs.Written.{Appends-out}
-use Rattle.sched_lines.proofs.Made.{MakesCalls-push, MakesCalls-legal}
+use Rattle.sched_history.proofs.runs.Made.{MakesCalls-push, MakesCalls-legal}
 use Rattle.run_command.specs.declared.output.Words.{Words}
 use Rattle.run_command.specs.declared.output.RunOutput.{RunOutput}
 use Rattle.run_command.specs.declared.output.RunOutput.TheVariants.{Lines, History, Journal}
 use Rattle.run_command.specs.Run.{HistoryFits, AnswersLeaving, line_with, output_of}
-use Rattle.sched_lines.proofs.Leaving.{MakesCalls-count}
+use Rattle.sched_history.proofs.runs.Leaving.{MakesCalls-count}
 
 -- from one state of the scheduler and the writer these calls led to others, and such lines of their answers were
 -- written

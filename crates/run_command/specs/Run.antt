@@ -4,18 +4,18 @@ use Rattle.std.specs.List.{AllByRecursion}
 use Rattle.std.specs.Io.KnownBytes.{Appends}
 use Rattle.minislots.specs.declared.config.Config as configs
 use Rattle.minislots.specs.Config.{IsLawful}
-use Rattle.sched_history.specs.declared.call.Call.{Call}
-use Rattle.sched_history.specs.declared.reply.Entry.{Entry}
+use Rattle.sched_calls.specs.declared.call.Call.{Call}
+use Rattle.sched_calls.specs.declared.reply.Entry.{Entry}
 use Rattle.sched_history.specs.History.{IsLegal}
 use Rattle.script_reading.specs.Script.{Scenario}
 use Rattle.script_reading.specs.Outcome.{StandsFor}
-use Rattle.sched_lines.specs.Line.{Answer}
-use Rattle.sched_lines.specs.Answer.{MayGetEach, recorded_entries}
+use Rattle.sched_calls.specs.Reply.{Answer}
+use Rattle.sched_history.specs.Answer.{MayGetEach, recorded_entries}
 use Rattle.sched_lines.specs.Line.{line_of}
 use Rattle.sched_lines.specs.Meaning.{explained_line}
 use Rattle.history_writing.specs.HistoryText.{history_text}
 use Rattle.history_writing.specs.Fits.{ConfigFits, EntryFits}
-use Rattle.journal_writing.specs.Journal.{journal_text}
+use Rattle.history_writing.specs.Journal.{journal_text}
 use Rattle.run_command.specs.declared.output.Words.{Words}
 use Rattle.run_command.specs.declared.output.Words.TheVariants.{Plain, Explained}
 use Rattle.run_command.specs.declared.output.RunOutput.{RunOutput}

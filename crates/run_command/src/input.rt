@@ -12,7 +12,7 @@ use text_stream::{RunFault, Watched};
 pub fn run_input(
     rt: &(impl Input + Print + Eprint + AllocGlobal),
     output: RunOutput,
-) -> Result<bool, RunFault> {
+) -> Result<(), RunFault> {
     let unrecorded = run_with(
         rt.alloc(),
         &mut Watched::new(rt.reader()),
@@ -22,5 +22,5 @@ pub fn run_input(
     if !matches!(output, RunOutput::Lines(_)) {
         tell_unrecorded(rt, unrecorded);
     }
-    Ok(true)
+    Ok(())
 }

@@ -1,7 +1,6 @@
 //! The run of a script: the lines of its answers, plain or with words behind refusals, their history, or their journal.
 #![tactic(auto)]
 
-mod fits;
 mod input;
 mod output;
 mod run;

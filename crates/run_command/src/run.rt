@@ -1,21 +1,21 @@
 //! A run of a script.
 
 ghost use Rattle.std.specs.Prelude.{◌≡◌, ◌≢◌, ◌⊎◌, [], List, IfOk, OnOk, IfErr};
-ghost use Rattle.sched_lines.specs.Line.{Answer, HasLine};
+ghost use Rattle.sched_calls.specs.Reply.{Answer, HasLine};
 ghost use Rattle.text_stream.specs.Watched.{FailsBy};
 ghost use Rattle.text_stream.specs.Writing.{Puts};
 ghost use Rattle.text_stream.specs.RunFault.{TellsFailedRead, TellsFailedWrite, WritesLast};
-ghost use Rattle.sched_lines.specs.Answer.{MakesCall, MakesCalls};
+ghost use Rattle.sched_history.specs.Answer.{MakesCall, MakesCalls};
 ghost use Rattle.script_reading.specs.Stops.{Stops};
+ghost use Rattle.minislots.specs.Config.{IsLawful};
+ghost use Rattle.history_writing.specs.Fits.{ConfigFits};
 ghost use Rattle.run_command.specs.Run.{line_with, output_asked, AnswersLeaving, Ran, RanLeaving};
 
-use crate::fits::history_fits;
 use crate::output::{RunOutput, Words, output_asked};
-use history_writing::put_history;
-use journal_writing::put_journal;
-use minislots::Checked;
-use sched_history::{Call, Reply, Scheduler, Unrecorded};
-use sched_lines::{LineBuffer, count_unrecorded, make_call};
+use history_writing::{put_history, put_journal};
+use minislots::{Checked, Config};
+use sched_history::{Call, Reply, Scheduler, Unrecorded, count_unrecorded, make_call};
+use sched_lines::LineBuffer;
 use script_reading::read_script;
 use std::alloc::Global;
 use text_stream::{RunFault, Sink, Source, TextFault};
@@ -74,6 +74,15 @@ fn make_calls(scheduler: &mut Scheduler, calls: &[Call])
     }
 }
 
+// The configuration as it is written: its numbers fit the types of their fields.
+fn config_of(config: &Checked) -> Config
+    ensures value { result ≡ config.now }
+    ensures lawful { IsLawful config.now }
+    ensures fits { ConfigFits config.now }
+{
+    config.config()
+}
+
 // Makes the calls of a script one after the other, and writes the text of their history. Nothing is
 // written before memory runs out.
 fn run_history<W: Sink>(
@@ -95,8 +104,7 @@ fn run_history<W: Sink>(
     ensures quiet { IfErr result (λ e. e ≢ TextFault.Output → writer.new ≡ writer.old) }
 {
     make_calls(scheduler, calls);
-    history_fits(config, scheduler.history());
-    put_history(alloc, writer, &config.config(), scheduler.history())?;
+    put_history(alloc, writer, &config_of(config), scheduler.history())?;
     Ok(count_unrecorded(scheduler, calls))
 }
 
@@ -121,8 +129,7 @@ fn run_journal<W: Sink>(
     ensures quiet { IfErr result (λ e. e ≢ TextFault.Output → writer.new ≡ writer.old) }
 {
     make_calls(scheduler, calls);
-    history_fits(config, scheduler.history());
-    put_journal(alloc, writer, &config.config(), scheduler.history())?;
+    put_journal(alloc, writer, &config_of(config), scheduler.history())?;
     Ok(count_unrecorded(scheduler, calls))
 }
 

@@ -9,14 +9,15 @@ use Rattle.std.specs.List.{AllByRecursion}
 use Rattle.std.proofs.lemmas.Option.{slice_get-map}
 use Rattle.minislots.specs.declared.config.Config.{Config}
 use Rattle.minislots.specs.declared.stamp.Stamp.{Stamp}
-use Rattle.sched_history.specs.declared.call.Call.{Call}
-use Rattle.sched_history.specs.declared.reply.Entry.{Entry}
-use Rattle.sched_history.specs.declared.reply.Reply.{Reply}
-use Rattle.sched_history.specs.declared.reply.Unrecorded.{Unrecorded}
-use Rattle.sched_history.specs.declared.reply.Unrecorded.TheVariants.{HistoryFull, Memory}
+use Rattle.sched_calls.specs.declared.call.Call.{Call}
+use Rattle.sched_calls.specs.declared.reply.Entry.{Entry}
+use Rattle.sched_calls.specs.declared.reply.Reply.{Reply}
+use Rattle.sched_calls.specs.declared.reply.Unrecorded.{Unrecorded}
+use Rattle.sched_calls.specs.declared.reply.Unrecorded.TheVariants.{HistoryFull, Memory}
 use Rattle.sched_history.specs.declared.scheduler.handing_over.HandedOver.{HandedOver}
 use Rattle.sched_history.specs.History.{IsStep, IsLegal}
-use Rattle.sched_history.specs.Machine.{Machine, kept_of, is_full, IsEncodable, MayLackMemory}
+use Rattle.sched_history.specs.Machine.{Machine, kept_of, is_full, MayLackMemory}
+use Rattle.sched_calls.specs.Reply.{IsEncodable}
 use Rattle.sched_desk.specs.declared.event.Event.{Event}
 use Rattle.sched_desk.specs.declared.event.Event.TheVariants.{Recorded, Marked}
 use Rattle.sched_desk.specs.Calls.{grown, HasAnswered, HasCalled}

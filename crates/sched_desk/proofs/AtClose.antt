@@ -11,10 +11,11 @@ use mathlib.Core.List.{IsPrefix, cons≢nil}
 use Rattle.minislots.specs.declared.config.Config.{Config}
 use Rattle.minislots.specs.declared.stamp.Stamp.{Stamp}
 use Rattle.logbook.specs.Pages.{Book}
-use Rattle.sched_history.specs.declared.reply.Entry.{Entry}
+use Rattle.sched_calls.specs.declared.reply.Entry.{Entry}
 use Rattle.sched_history.specs.Facts.{FollowsAlways}
 use Rattle.sched_history.specs.History.{IsLegal}
-use Rattle.sched_history.specs.Machine.{Machine, kept_of, IsEncodable}
+use Rattle.sched_history.specs.Machine.{Machine, kept_of}
+use Rattle.sched_calls.specs.Reply.{IsEncodable}
 use Rattle.ticket_core.specs.declared.TheConstants.{MAX_SEATS}
 use Rattle.ticket_lock.specs.declared.board.Logged.{Logged}
 use Rattle.ticket_lock.specs.Rule.{Every, Extends, IsStamped, IsOrdered, entry_of}

@@ -4,10 +4,10 @@ use Rattle.std.proofs.Common.{arith, length-append}
 use Rattle.std.specs.List.{filter_map}
 use Rattle.std.proofs.lemmas.List.{append-nil, map-append}
 use Rattle.std.proofs.lemmas.List.Elements.{filter_map-append}
-use Rattle.map_build.specs.declared.frame_map.FrameMap.{FrameMap}
+use Rattle.sched_calls.specs.declared.frame_map.FrameMap.{FrameMap}
 use Rattle.map_codec.specs.WireMap.{spelling}
-use Rattle.sched_history.specs.declared.reply.Entry.{Entry}
-use Rattle.sched_history.specs.declared.reply.Reply.TheVariants.{Built}
+use Rattle.sched_calls.specs.declared.reply.Entry.{Entry}
+use Rattle.sched_calls.specs.declared.reply.Reply.TheVariants.{Built}
 use Rattle.sched_history.specs.History.{map_by}
 use Rattle.sched_history.specs.Facts.{maps_of}
 use Rattle.sched_desk.specs.Desk.{published}

@@ -3,16 +3,17 @@ use Rattle.std.proofs.Common.{◌≡◌, ◌≤◌, ◌<◌, ◌+◌, ℕ, true,
 use Rattle.std.proofs.Common.{Err, IfOk, OnErr, ◌↔◌}
 use Rattle.std.proofs.Common.{IsErrOf, sym, ap, ◌∙◌, subst, length-append, arith}
 use Rattle.minislots.specs.declared.stamp.Stamp.{Stamp}
-use Rattle.map_build.specs.declared.frame_map.FrameMap.{FrameMap}
+use Rattle.sched_calls.specs.declared.frame_map.FrameMap.{FrameMap}
 use Rattle.map_codec.specs.WireMap.{spelling}
 use Rattle.map_snapshot.specs.Maps.{Printing}
-use Rattle.sched_history.specs.declared.call.Call.{Call}
-use Rattle.sched_history.specs.declared.reply.Reply.{Reply}
-use Rattle.sched_history.specs.declared.reply.Reply.TheVariants.{Built}
-use Rattle.sched_history.specs.declared.reply.Unrecorded.{Unrecorded}
-use Rattle.sched_history.specs.declared.reply.Unrecorded.TheVariants.{HistoryFull, Memory}
+use Rattle.sched_calls.specs.declared.call.Call.{Call}
+use Rattle.sched_calls.specs.declared.reply.Reply.{Reply}
+use Rattle.sched_calls.specs.declared.reply.Reply.TheVariants.{Built}
+use Rattle.sched_calls.specs.declared.reply.Unrecorded.{Unrecorded}
+use Rattle.sched_calls.specs.declared.reply.Unrecorded.TheVariants.{HistoryFull, Memory}
 use Rattle.sched_history.specs.History.{IsStep, IsLegal}
-use Rattle.sched_history.specs.Machine.{Machine, is_full, IsEncodable, MayLackMemory}
+use Rattle.sched_history.specs.Machine.{Machine, is_full, MayLackMemory}
+use Rattle.sched_calls.specs.Reply.{IsEncodable}
 use Rattle.sched_history.proofs.state.Whole.{full-whole-history, room-whole-history}
 use Rattle.sched_desk.specs.declared.event.Event.TheVariants.{Recorded}
 use Rattle.sched_desk.specs.Build.{ShowsPlan, BuildsNoMap}

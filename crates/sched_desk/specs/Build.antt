@@ -3,9 +3,9 @@ use Rattle.std.specs.Prelude.{◌≡◌, ℕ, List, [], ◌∷◌, ◌++◌, len
 use Rattle.minislots.specs.declared.config.Config.{Config}
 use Rattle.map_snapshot.specs.declared.printed.Printed.{Printed}
 use Rattle.map_snapshot.specs.Maps.{Printing, map_in}
-use Rattle.sched_history.specs.declared.call.Call.{Call}
-use Rattle.sched_history.specs.declared.reply.Entry.{Entry}
-use Rattle.sched_history.specs.declared.reply.Reply.{Reply}
+use Rattle.sched_calls.specs.declared.call.Call.{Call}
+use Rattle.sched_calls.specs.declared.reply.Entry.{Entry}
+use Rattle.sched_calls.specs.declared.reply.Reply.{Reply}
 use Rattle.sched_history.specs.History.{IsStep, map_by}
 use Rattle.sched_history.specs.Machine.{Machine}
 use Rattle.sched_desk.specs.Desk.{Recording, published}

@@ -3,13 +3,14 @@ use Rattle.std.specs.Prelude.{◌≡◌, ◌≤◌, ◌↔◌, ◌+◌, true, na
 use Rattle.std.specs.Prelude.{IfOk, OnErr, IsErrOf}
 use Rattle.minislots.specs.declared.config.Config.{Config}
 use Rattle.minislots.specs.declared.stamp.Stamp.{Stamp}
-use Rattle.sched_history.specs.declared.call.Call.{Call}
-use Rattle.sched_history.specs.declared.reply.Entry.{Entry}
-use Rattle.sched_history.specs.declared.reply.Reply.{Reply}
-use Rattle.sched_history.specs.declared.reply.Unrecorded.{Unrecorded}
-use Rattle.sched_history.specs.declared.reply.Unrecorded.TheVariants.{HistoryFull, Memory}
+use Rattle.sched_calls.specs.declared.call.Call.{Call}
+use Rattle.sched_calls.specs.declared.reply.Entry.{Entry}
+use Rattle.sched_calls.specs.declared.reply.Reply.{Reply}
+use Rattle.sched_calls.specs.declared.reply.Unrecorded.{Unrecorded}
+use Rattle.sched_calls.specs.declared.reply.Unrecorded.TheVariants.{HistoryFull, Memory}
 use Rattle.sched_history.specs.History.{IsStep, IsLegal}
-use Rattle.sched_history.specs.Machine.{Machine, is_full, IsEncodable, MayLackMemory}
+use Rattle.sched_history.specs.Machine.{Machine, is_full, MayLackMemory}
+use Rattle.sched_calls.specs.Reply.{IsEncodable}
 use Rattle.ticket_lock.specs.declared.board.Logged.{Logged}
 use Rattle.ticket_lock.specs.Rule.{entry_of}
 use Rattle.ticket_lock.specs.Standing.{Standing, head_of, seen, stamp_of}

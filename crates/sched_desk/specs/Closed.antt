@@ -5,13 +5,13 @@ use Rattle.std.specs.List.{filter, AllByRecursion, Any}
 use mathlib.Core.List.{IsPrefix}
 use Rattle.minislots.specs.declared.config.Config.{Config}
 use Rattle.logbook.specs.Pages.{Book}
-use Rattle.map_build.specs.declared.frame_map.FrameMap.{FrameMap}
+use Rattle.sched_calls.specs.declared.frame_map.FrameMap.{FrameMap}
 use Rattle.map_build.specs.EachAfter.{EachAfter}
-use Rattle.sched_history.specs.declared.reply.Entry.{Entry}
-use Rattle.sched_history.specs.declared.reply.Reply.TheVariants.{Built}
+use Rattle.sched_calls.specs.declared.reply.Entry.{Entry}
+use Rattle.sched_calls.specs.declared.reply.Reply.TheVariants.{Built}
 use Rattle.sched_history.specs.History.{IsNextMap, IsLegal}
 use Rattle.sched_history.specs.Facts.{FollowsAlways}
-use Rattle.sched_history.specs.Machine.{IsEncodable}
+use Rattle.sched_calls.specs.Reply.{IsEncodable}
 use Rattle.ticket_core.specs.declared.TheConstants.{MAX_SEATS}
 use Rattle.ticket_lock.specs.declared.board.Logged.{Logged}
 use Rattle.ticket_lock.specs.Rule.{Every, entry_of}

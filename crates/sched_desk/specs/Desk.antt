@@ -4,7 +4,7 @@ use Rattle.minislots.specs.declared.config.Config.{Config}
 use Rattle.logbook.specs.Pages.{Book}
 use Rattle.map_codec.specs.WireMap.{spelling}
 use Rattle.map_snapshot.specs.Maps.{Printing}
-use Rattle.sched_history.specs.declared.reply.Entry.{Entry}
+use Rattle.sched_calls.specs.declared.reply.Entry.{Entry}
 use Rattle.sched_history.specs.Facts.{maps_of}
 use Rattle.sched_history.specs.History.{IsLegal}
 use Rattle.sched_history.specs.Machine.{Machine}

@@ -1,6 +1,6 @@
 -- What the seats of a desk handed over: portions of its history.
 use Rattle.std.specs.Prelude.{◌≡◌, ℕ, ◌+◌, List, [], ◌∷◌, ◌++◌, length, filter, ◌==◌}
-use Rattle.sched_history.specs.declared.reply.Entry.{Entry}
+use Rattle.sched_calls.specs.declared.reply.Entry.{Entry}
 use Rattle.sched_desk.specs.declared.event.Event.{Event}
 use Rattle.sched_desk.specs.declared.event.Event.TheVariants.{Recorded, Marked}
 use Rattle.sched_desk.specs.Events.{Parted, nothing_yet, with_entry, all_handed}

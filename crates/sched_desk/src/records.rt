@@ -1,7 +1,8 @@
 //! What a desk may have: a scheduler with its press, or one that publishes to nobody.
 ghost use Rattle.std.specs.Prelude.{◌≡◌, ◌≤◌, ◌↔◌, [], length, vec_capacity, IfOk, IfErr, OnOk, OnErr, IsOk};
 ghost use Rattle.std.specs.List.{AllByRecursion};
-ghost use Rattle.sched_history.specs.Machine.{kept_of, IsEncodable};
+ghost use Rattle.sched_history.specs.Machine.{kept_of};
+ghost use Rattle.sched_calls.specs.Reply.{IsEncodable};
 ghost use Rattle.sched_desk.specs.Desk.{Recording, alone};
 
 use sched_history::{Entry, HandedOver, Scheduler};

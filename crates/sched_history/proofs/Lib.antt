@@ -9,3 +9,4 @@ pub mod placements
 pub mod facts
 pub mod state
 pub mod rows
+pub mod runs

@@ -3,16 +3,16 @@ use Rattle.std.specs.Prelude.{◌≡◌, ℕ, Bool, true, false, not, List, take
 use Rattle.std.specs.List.{slice_get}
 use Rattle.minislots.specs.declared.config.Config.{Config}
 use Rattle.map_codec.specs.declared.wire_map.WireMap.{WireMap}
-use Rattle.flow_book.specs.FlowSpec.{is_periodic}
+use Rattle.sched_calls.specs.FlowSpec.{is_periodic}
 use Rattle.sched_history.specs.declared.auditing.sameness.FixedFields.{FixedFields}
 use Rattle.sched_history.specs.declared.auditing.sameness.FlatReply.{FlatReply}
 use Rattle.sched_history.specs.declared.auditing.sameness.FlatReply.TheVariants as flat
-use Rattle.sched_history.specs.declared.call.Call.{Call}
-use Rattle.sched_history.specs.declared.call.Call.TheVariants.{Admit, Remove, Ask, Heard, Build, Skip, Status}
-use Rattle.sched_history.specs.declared.call.Call.TheVariants.{Reserve, Header}
-use Rattle.sched_history.specs.declared.reply.Reply.{Reply}
-use Rattle.sched_history.specs.declared.reply.Reply.TheVariants as replies
-use Rattle.sched_history.specs.declared.reply.Entry.{Entry}
+use Rattle.sched_calls.specs.declared.call.Call.{Call}
+use Rattle.sched_calls.specs.declared.call.Call.TheVariants.{Admit, Remove, Ask, Heard, Build, Skip, Status}
+use Rattle.sched_calls.specs.declared.call.Call.TheVariants.{Reserve, Header}
+use Rattle.sched_calls.specs.declared.reply.Reply.{Reply}
+use Rattle.sched_calls.specs.declared.reply.Reply.TheVariants as replies
+use Rattle.sched_calls.specs.declared.reply.Entry.{Entry}
 use Rattle.sched_history.specs.History.{IsStep, IsLegal}
 
 -- The entries before this one are legal, and its reply may not follow them: so it is the least such entry

@@ -6,18 +6,18 @@ use Rattle.minislots.specs.declared.config.Config.{Config}
 use Rattle.map_codec.specs.declared.element.Element.{Element}
 use Rattle.map_codec.specs.declared.wire_map.TheConstants.{MAX_ELEMENTS}
 use Rattle.map_codec.specs.Element.{nulls}
-use Rattle.flow_book.specs.FlowSpec.{rate_of, burst_of, interval_frames, jitter_slots}
+use Rattle.sched_calls.specs.FlowSpec.{rate_of, burst_of, interval_frames, jitter_slots}
 use Rattle.flow_book.specs.Flows.{LiveFlow, granted}
 use Rattle.flow_book.specs.Ceiling.{KeepsCeiling}
 use Rattle.periodic.specs.Placement.{Placed, phase_of, offset_of}
-use Rattle.map_build.specs.declared.frame_map.FrameMap.{FrameMap}
+use Rattle.sched_calls.specs.declared.frame_map.FrameMap.{FrameMap}
 use Rattle.map_build.specs.EachAfter.{EachAfter}
 use Rattle.map_build.specs.FrameMap.{request_region, null_element}
-use Rattle.sched_history.specs.declared.call.Call.{Call}
-use Rattle.sched_history.specs.declared.call.Call.TheVariants.{Ask}
-use Rattle.sched_history.specs.declared.reply.Reply.{Reply}
-use Rattle.sched_history.specs.declared.reply.Reply.TheVariants.{Taken, Built}
-use Rattle.sched_history.specs.declared.reply.Entry.{Entry}
+use Rattle.sched_calls.specs.declared.call.Call.{Call}
+use Rattle.sched_calls.specs.declared.call.Call.TheVariants.{Ask}
+use Rattle.sched_calls.specs.declared.reply.Reply.{Reply}
+use Rattle.sched_calls.specs.declared.reply.Reply.TheVariants.{Taken, Built}
+use Rattle.sched_calls.specs.declared.reply.Entry.{Entry}
 use Rattle.sched_history.specs.Life.{flows_of, table_of}
 use Rattle.sched_history.specs.Reserves.{is_opportunity}
 use Rattle.sched_history.specs.Refusal.{bad_sid}

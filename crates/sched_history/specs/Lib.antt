@@ -1,6 +1,6 @@
 pub use Rattle.minislots.specs.Config
 pub use Rattle.minislots.specs.Units
-pub use Rattle.flow_book.specs.FlowSpec
+pub use Rattle.sched_calls.specs.FlowSpec
 pub use Rattle.flow_book.specs.Flows
 pub use Rattle.periodic.specs.Placement
 pub use Rattle.map_build.specs.EachAfter
@@ -12,8 +12,9 @@ pub mod Time
 pub mod Reserves
 pub mod Refusal
 pub mod History
-pub mod Reply
+pub use Rattle.sched_calls.specs.Reply
 pub mod Machine
+pub mod Answer
 pub mod Planned
 pub mod State
 pub mod Ranging

@@ -1,18 +1,15 @@
 -- What callers see of a scheduler, when it is full, and which of its calls may lack memory.
 use Rattle.std.specs.Prelude.{◌≡◌, ℕ, Bool, ◌||◌, nat_le, List, length, drop, None}
 use Rattle.minislots.specs.declared.config.Config.{Config}
-use Rattle.map_codec.specs.WireMap.{IsWellFormed}
-use Rattle.flow_book.specs.declared.spec.FlowSpec.{FlowSpec}
-use Rattle.flow_book.specs.declared.spec.FlowSpec.TheVariants.{Unsolicited, Polled, BestEffort}
-use Rattle.periodic.specs.declared.placement.Placement.{Placement}
+use Rattle.sched_calls.specs.declared.spec.FlowSpec.{FlowSpec}
+use Rattle.sched_calls.specs.declared.spec.FlowSpec.TheVariants.{Unsolicited, Polled, BestEffort}
+use Rattle.sched_calls.specs.declared.placement.Placement.{Placement}
 use Rattle.periodic.specs.Placement.{IsPlacement}
-use Rattle.sched_history.specs.declared.call.Call.{Call}
-use Rattle.sched_history.specs.declared.call.Call.TheVariants.{Admit, Remove, Ask, Heard, Build, Skip, Status}
-use Rattle.sched_history.specs.declared.call.Call.TheVariants.{Reserve, Header}
-use Rattle.sched_history.specs.declared.reply.TheConstants.{MAX_WHOLE_HISTORY}
-use Rattle.sched_history.specs.declared.reply.Reply.{Reply}
-use Rattle.sched_history.specs.declared.reply.Reply.TheVariants as replies
-use Rattle.sched_history.specs.declared.reply.Entry.{Entry}
+use Rattle.sched_calls.specs.declared.call.Call.{Call}
+use Rattle.sched_calls.specs.declared.call.Call.TheVariants.{Admit, Remove, Ask, Heard, Build, Skip, Status}
+use Rattle.sched_calls.specs.declared.call.Call.TheVariants.{Reserve, Header}
+use Rattle.sched_calls.specs.declared.reply.TheConstants.{MAX_WHOLE_HISTORY}
+use Rattle.sched_calls.specs.declared.reply.Entry.{Entry}
 use Rattle.sched_history.specs.Life.{table_of}
 use Rattle.sched_history.specs.Time.{next_after}
 use Rattle.sched_history.specs.Refusal.{refusal_of}
@@ -39,18 +36,6 @@ kept_of m = drop m.handed m.history
 -- as many entries are kept as the configuration allows, or the whole history has as many as one may have
 abbrev pub is_full : Machine → Bool
 is_full m = nat_le m.config.calls (length (kept_of m)) || nat_le MAX_WHOLE_HISTORY (length m.history)
-
--- a MAP in the reply is well formed
-abbrev pub IsEncodable : Reply → Type 0
-IsEncodable (replies.Admitted placement) = Unit {0}
-IsEncodable replies.Removed = Unit {0}
-IsEncodable replies.Taken = Unit {0}
-IsEncodable replies.Noted = Unit {0}
-IsEncodable replies.Reserved = Unit {0}
-IsEncodable (replies.Built m) = IsWellFormed m.wire
-IsEncodable (replies.Skipped next) = Unit {0}
-IsEncodable (replies.Flow asked granted outstanding) = Unit {0}
-IsEncodable (replies.Refused refusal) = Unit {0}
 
 -- a place for the flow exists, where it needs one
 abbrev pub IsPlaceable : Config → List Entry → FlowSpec → Type 0

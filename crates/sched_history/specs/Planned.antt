@@ -4,9 +4,9 @@ use Rattle.minislots.specs.declared.config.Config.{Config}
 use Rattle.minislots.specs.declared.stamp.Stamp.{Stamp}
 use Rattle.map_codec.specs.WireMap.{IsWellFormed}
 use Rattle.flow_book.specs.Flows.{LiveFlow}
-use Rattle.map_build.specs.declared.frame_map.FrameMap.{FrameMap}
-use Rattle.sched_history.specs.declared.call.Call.TheVariants.{Build}
-use Rattle.sched_history.specs.declared.reply.Reply.TheVariants.{Built}
+use Rattle.sched_calls.specs.declared.frame_map.FrameMap.{FrameMap}
+use Rattle.sched_calls.specs.declared.call.Call.TheVariants.{Build}
+use Rattle.sched_calls.specs.declared.reply.Reply.TheVariants.{Built}
 use Rattle.sched_history.specs.Life.{flows_of}
 use Rattle.sched_history.specs.Reserves.{reserves_of, aged, unmarked}
 use Rattle.sched_history.specs.Refusal.{refusal_of}

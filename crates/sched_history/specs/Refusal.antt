@@ -2,23 +2,24 @@
 use Rattle.std.specs.Prelude.{ℕ, ◌+◌, ◌-◌, ◌^◌, Bool, false, not, ◌||◌, ◌&&◌, nat_lt, nat_le, ◌==◌, List, [], ◌∷◌}
 use Rattle.std.specs.Prelude.{length, sum_by, Option, None, Some, is_some, option_map, if◌then◌else◌}
 use Rattle.std.specs.Option.{option_or, option_map_or}
+use Rattle.minislots.specs.declared.TheConstants.{MAX_ASK}
 use Rattle.minislots.specs.declared.config.Config.{Config}
-use Rattle.flow_book.specs.declared.TheConstants.{MAX_FLOWS}
-use Rattle.flow_book.specs.FlowSpec.{is_periodic, grants_of, takes_requests, first_fault}
-use Rattle.periodic.specs.declared.TheConstants.{MAX_PERIODIC_GRANTS}
-use Rattle.map_build.specs.declared.opportunity.Usage.{Usage}
-use Rattle.map_build.specs.declared.opportunity.Usage.TheVariants.{Initial, Station}
-use Rattle.sched_history.specs.declared.call.TheConstants.{MAX_RESERVES}
-use Rattle.sched_history.specs.declared.call.Call.{Call}
-use Rattle.sched_history.specs.declared.call.Call.TheVariants.{Admit, Remove, Ask, Heard, Build, Skip, Status}
-use Rattle.sched_history.specs.declared.call.Call.TheVariants.{Reserve, Header}
-use Rattle.sched_history.specs.declared.reply.Refusal.{Refusal}
-use Rattle.sched_history.specs.declared.reply.Refusal.TheVariants.{BadSid, SidLive, BadFlow, FlowsFull, PeriodicFull}
-use Rattle.sched_history.specs.declared.reply.Refusal.TheVariants.{NoFlow, NotAsking, BadReceiver, BadBytes, Acked}
-use Rattle.sched_history.specs.declared.reply.Refusal.TheVariants.{Ahead, Backwards, BadClock}
-use Rattle.sched_history.specs.declared.reply.Refusal.TheVariants.{TooEarly, Late, NotLate}
-use Rattle.sched_history.specs.declared.reply.Refusal.TheVariants.{BadLength, ReservesFull, BadBackoff}
-use Rattle.sched_history.specs.declared.reply.Entry.{Entry}
+use Rattle.sched_calls.specs.declared.TheConstants.{MAX_FLOWS}
+use Rattle.sched_calls.specs.FlowSpec.{is_periodic, grants_of, takes_requests, first_fault}
+use Rattle.sched_calls.specs.declared.TheConstants.{MAX_PERIODIC_GRANTS}
+use Rattle.sched_calls.specs.declared.opportunity.Usage.{Usage}
+use Rattle.sched_calls.specs.declared.opportunity.Usage.TheVariants.{Initial, Station}
+use Rattle.sched_calls.specs.declared.call.TheConstants.{MAX_RESERVES}
+use Rattle.sched_calls.specs.declared.call.Call.{Call}
+use Rattle.sched_calls.specs.declared.call.Call.TheVariants.{Admit, Remove, Ask, Heard, Build, Skip, Status}
+use Rattle.sched_calls.specs.declared.call.Call.TheVariants.{Reserve, Header}
+use Rattle.sched_calls.specs.declared.reply.Refusal.{Refusal}
+use Rattle.sched_calls.specs.declared.reply.Refusal.TheVariants.{BadSid, SidLive, BadFlow, FlowsFull, PeriodicFull}
+use Rattle.sched_calls.specs.declared.reply.Refusal.TheVariants.{NoFlow, NotAsking, BadReceiver, BadBytes, Acked}
+use Rattle.sched_calls.specs.declared.reply.Refusal.TheVariants.{Ahead, Backwards, BadClock}
+use Rattle.sched_calls.specs.declared.reply.Refusal.TheVariants.{TooEarly, Late, NotLate}
+use Rattle.sched_calls.specs.declared.reply.Refusal.TheVariants.{BadLength, ReservesFull, BadBackoff}
+use Rattle.sched_calls.specs.declared.reply.Entry.{Entry}
 use Rattle.sched_history.specs.Life.{last_sid, life_of, flows_of}
 use Rattle.sched_history.specs.Time.{next_after, progress_of}
 use Rattle.sched_history.specs.Reserves.{reserves_of}
@@ -34,7 +35,7 @@ first_of (test ∷ tests) = option_or test (first_of tests)
 
 -- the most bytes of a request
 abbrev pub most_bytes : ℕ
-most_bytes = 1048560
+most_bytes = MAX_ASK
 
 -- the most minislots that are described ahead of the clock
 abbrev pub most_ahead : ℕ

@@ -6,17 +6,17 @@ use Rattle.minislots.specs.declared.config.Config.{Config}
 use Rattle.map_codec.specs.declared.element.Element.{Element}
 use Rattle.map_codec.specs.declared.element.iuc.TheConstants.{INITIAL_MAINTENANCE, STATION_MAINTENANCE}
 use Rattle.map_build.specs.declared.TheConstants.{MAX_WAITING}
-use Rattle.map_build.specs.declared.opportunity.Header.{Header}
-use Rattle.map_build.specs.declared.opportunity.Opportunity.{Opportunity}
-use Rattle.map_build.specs.declared.opportunity.Usage.{Usage}
-use Rattle.map_build.specs.declared.opportunity.Usage.TheVariants.{Initial, Station}
-use Rattle.map_build.specs.Opportunities.{header_of}
+use Rattle.sched_calls.specs.declared.opportunity.Header.{Header}
+use Rattle.sched_calls.specs.declared.opportunity.Opportunity.{Opportunity}
+use Rattle.sched_calls.specs.declared.opportunity.Usage.{Usage}
+use Rattle.sched_calls.specs.declared.opportunity.Usage.TheVariants.{Initial, Station}
+use Rattle.sched_calls.specs.Header.{header_of}
 use Rattle.map_build.specs.Purpose.{sid_for, iuc_for}
-use Rattle.sched_history.specs.declared.call.Call.{Call}
-use Rattle.sched_history.specs.declared.call.Call.TheVariants as calls
-use Rattle.sched_history.specs.declared.reply.Reply.{Reply}
-use Rattle.sched_history.specs.declared.reply.Reply.TheVariants as replies
-use Rattle.sched_history.specs.declared.reply.Entry.{Entry}
+use Rattle.sched_calls.specs.declared.call.Call.{Call}
+use Rattle.sched_calls.specs.declared.call.Call.TheVariants as calls
+use Rattle.sched_calls.specs.declared.reply.Reply.{Reply}
+use Rattle.sched_calls.specs.declared.reply.Reply.TheVariants as replies
+use Rattle.sched_calls.specs.declared.reply.Entry.{Entry}
 use Rattle.sched_history.specs.declared.scheduler.reserves.Reserve.{Reserve}
 use Rattle.sched_history.specs.Latest.{latest}
 

@@ -6,7 +6,7 @@ use Rattle.minislots.specs.declared.config.Config.{Config}
 use Rattle.minislots.specs.declared.stamp.Stamp.{Stamp}
 use Rattle.minislots.specs.Config.{IsLawful}
 use Rattle.map_codec.specs.WireMap.{IsWellFormed}
-use Rattle.flow_book.specs.declared.TheConstants.{MAX_FLOWS}
+use Rattle.sched_calls.specs.declared.TheConstants.{MAX_FLOWS}
 use Rattle.flow_book.specs.Flows.{LiveFlow}
 use Rattle.flow_book.specs.Choice.{HasStartedBy}
 use Rattle.periodic.specs.Placement.{spots_in}
@@ -14,12 +14,12 @@ use Rattle.map_build.specs.Plan.{Demand, demand_at}
 use Rattle.sched_history.specs.declared.scheduler.state.State.{State}
 use Rattle.sched_history.specs.declared.scheduler.answering.Answer.{Answer}
 use Rattle.sched_history.specs.declared.scheduler.Scheduler.TheInside.{Inside}
-use Rattle.sched_history.specs.declared.call.Call.{Call}
-use Rattle.sched_history.specs.declared.call.Call.TheVariants.{Build}
-use Rattle.sched_history.specs.declared.reply.TheConstants.{MAX_WHOLE_HISTORY}
-use Rattle.sched_history.specs.declared.reply.Reply.{Reply}
-use Rattle.sched_history.specs.declared.reply.Reply.TheVariants.{Built}
-use Rattle.sched_history.specs.declared.reply.Entry.{Entry}
+use Rattle.sched_calls.specs.declared.call.Call.{Call}
+use Rattle.sched_calls.specs.declared.call.Call.TheVariants.{Build}
+use Rattle.sched_calls.specs.declared.reply.TheConstants.{MAX_WHOLE_HISTORY}
+use Rattle.sched_calls.specs.declared.reply.Reply.{Reply}
+use Rattle.sched_calls.specs.declared.reply.Reply.TheVariants.{Built}
+use Rattle.sched_calls.specs.declared.reply.Entry.{Entry}
 use Rattle.sched_history.specs.Life.{turn_by, asked_by, grants_by, flows_of, table_of}
 use Rattle.sched_history.specs.Time.{skip_by, is_built, progress_by, next_after, progress_of}
 use Rattle.sched_history.specs.Reserves.{reserve_by, header_by, header_after, reserves_of, waiting_in, aged, unmarked}
@@ -27,7 +27,8 @@ use Rattle.sched_history.specs.Refusal.{most_bytes, most_ahead, last_clock, refu
 use Rattle.sched_history.specs.History.{Answers, IsStep, IsLegal, IsNextMap}
 use Rattle.sched_history.specs.Planned.{PlannedBuild}
 use Rattle.sched_history.specs.Facts.{IsWithinAsked}
-use Rattle.sched_history.specs.Machine.{Machine, kept_of, IsEncodable, TakesMemory}
+use Rattle.sched_history.specs.Machine.{Machine, kept_of, TakesMemory}
+use Rattle.sched_calls.specs.Reply.{IsEncodable}
 
 -- what the next frame has to serve, by the fields
 abbrev pub next_demand : State → Demand

@@ -1,7 +1,7 @@
 //! A history that somebody hands in, judged.
 
 ghost use Rattle.std.specs.Prelude.{◌≤◌, ℕ, length, OnOk, IsErrOf};
-ghost use Rattle.sched_history.specs.declared.reply.TheConstants.{MAX_ENTRIES};
+ghost use Rattle.sched_calls.specs.declared.reply.TheConstants.{MAX_ENTRIES};
 ghost use Rattle.sched_history.specs.History.{IsLegal};
 ghost use Rattle.sched_history.specs.Audit.{IsFirstIllegal};
 
@@ -9,10 +9,11 @@ mod auditor;
 mod expected;
 pub(crate) mod sameness;
 
-use crate::reply::{AuditFault, Entry, JudgeFault};
+use crate::fault::{AuditFault, JudgeFault};
 pub use auditor::Auditor;
 pub use expected::lawful_reply;
 use minislots::Checked;
+use sched_calls::Entry;
 use std::alloc::Global;
 
 /// Judges a history under a configuration: whether each reply is one that the scheduler may give after

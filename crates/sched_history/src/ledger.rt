@@ -3,11 +3,11 @@
 ghost use Rattle.std.specs.Prelude.{◌≡◌, ◌<◌, ◌≤◌, List, [], ◌∷◌, ◌++◌, length};
 ghost use Rattle.std.specs.Borrow.{ftrue};
 ghost use Rattle.std.specs.Coded.{coded_list};
-ghost use Rattle.sched_history.specs.contracts.reply.Entry.{the_row};
-ghost use Rattle.sched_history.specs.declared.reply.Entry.{Entry as Recorded};
-ghost use Rattle.sched_history.specs.declared.reply.TheConstants.{MAX_WHOLE_HISTORY};
+ghost use Rattle.sched_calls.specs.contracts.reply.Entry.{the_row};
+ghost use Rattle.sched_calls.specs.declared.reply.Entry.{Entry as Recorded};
+ghost use Rattle.sched_calls.specs.declared.reply.TheConstants.{MAX_WHOLE_HISTORY};
 
-use crate::reply::Entry;
+use sched_calls::Entry;
 use std::marker::Model;
 
 // Entries in order. They stand in proofs alone, so they take no memory.
@@ -49,8 +49,8 @@ pub(crate) struct Ledger {
 
 impl Model for Ledger {
     ghost use Rattle.std.specs.Prelude.{◌≡◌, ◌≤◌, List, length};
-    ghost use Rattle.sched_history.specs.declared.reply.Entry.{Entry as Recorded};
-    ghost use Rattle.sched_history.specs.declared.reply.TheConstants.{MAX_WHOLE_HISTORY};
+    ghost use Rattle.sched_calls.specs.declared.reply.Entry.{Entry as Recorded};
+    ghost use Rattle.sched_calls.specs.declared.reply.TheConstants.{MAX_WHOLE_HISTORY};
 
     ghost Value = { List Recorded };
 

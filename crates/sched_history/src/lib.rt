@@ -1,16 +1,17 @@
-//! The calls of the upstream scheduler, their replies, and the histories that they make.
+//! The upstream scheduler, and the histories that its calls and replies make.
 #![tactic(auto)]
 
 mod auditing;
-mod call;
+mod fault;
 mod ledger;
-mod reply;
+mod run;
 mod scheduler;
 
 pub use auditing::{Auditor, audit, lawful_reply};
-pub use call::{Call, MAX_RESERVES, MAX_SCRIPTS};
-pub use reply::{
-    AuditFault, Entry, JudgeFault, MAX_ENTRIES, MAX_WHOLE_HISTORY, PlanFault, Refusal, Reply,
+pub use fault::{AuditFault, JudgeFault, PlanFault};
+pub use run::{count_unrecorded, make_call};
+pub use sched_calls::{
+    Call, Entry, MAX_ENTRIES, MAX_RESERVES, MAX_SCRIPTS, MAX_WHOLE_HISTORY, Refusal, Reply,
     Unrecorded,
 };
 pub use scheduler::{HandedOver, Planned, Scheduler};

@@ -5,7 +5,8 @@ ghost use Rattle.std.specs.Prelude.{IfOk, OnOk, OnErr, IsErrOf};
 ghost use Rattle.std.specs.List.{AllByRecursion};
 ghost use Rattle.sched_history.specs.Facts.{FollowsAlways};
 ghost use Rattle.sched_history.specs.History.{IsStep, IsLegal};
-ghost use Rattle.sched_history.specs.Machine.{past_of, kept_of, is_full, IsEncodable, MayLackMemory};
+ghost use Rattle.sched_history.specs.Machine.{past_of, kept_of, is_full, MayLackMemory};
+ghost use Rattle.sched_calls.specs.Reply.{IsEncodable};
 ghost use Rattle.sched_history.specs.Planned.{IsPlanAfter};
 ghost use Rattle.sched_history.specs.Refusal.{refusal_of};
 
@@ -20,14 +21,14 @@ mod reserves;
 mod resuming;
 mod state;
 
-use crate::call::Call;
+use crate::fault::PlanFault;
 use crate::ledger::Ledger;
-use crate::reply::{Entry, MAX_WHOLE_HISTORY, PlanFault, Refusal, Reply, Unrecorded};
 pub use handing_over::HandedOver;
 use minislots::{Checked, Stamp};
 pub use planned::Planned;
 pub(crate) use present::Present;
 use recording::note;
+use sched_calls::{Call, Entry, MAX_WHOLE_HISTORY, Refusal, Reply, Unrecorded};
 pub(crate) use state::State;
 use std::alloc::{AllocError, Global};
 use std::marker::Model;

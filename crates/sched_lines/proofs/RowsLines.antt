@@ -3,11 +3,11 @@ use Rattle.std.proofs.Common.{◌≡◌, [], ◌∷◌, codes, None, Some, Ok, E
 use Rattle.std.specs.Fmt.{digits}
 use Rattle.hex.proofs.OnLiterals.{hex_on_literals}
 use Rattle.map_codec.specs.WireMap.{header, spelling}
-use Rattle.flow_book.specs.declared.spec.FlowFault.TheVariants.{Priority}
-use Rattle.map_build.proofs.RowsMaps.{first_map}
-use Rattle.sched_history.specs.declared.reply.Refusal.TheVariants.{BadSid, BadFlow, Acked, NotLate}
-use Rattle.sched_history.specs.declared.reply.Reply.TheVariants.{Admitted, Built, Skipped, Flow, Refused}
-use Rattle.sched_history.specs.declared.reply.Unrecorded.TheVariants.{HistoryFull, Memory}
+use Rattle.sched_calls.specs.declared.spec.FlowFault.TheVariants.{Priority}
+use Rattle.sched_calls.proofs.BaseMaps.{first_map}
+use Rattle.sched_calls.specs.declared.reply.Refusal.TheVariants.{BadSid, BadFlow, Acked, NotLate}
+use Rattle.sched_calls.specs.declared.reply.Reply.TheVariants.{Admitted, Built, Skipped, Flow, Refused}
+use Rattle.sched_calls.specs.declared.reply.Unrecorded.TheVariants.{HistoryFull, Memory}
 use Rattle.sched_lines.specs.Line.{number_text, line_of}
 
 -- an admission without and with a place

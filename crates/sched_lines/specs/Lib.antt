@@ -1,4 +1,4 @@
 pub mod Line
 pub mod Meaning
-pub mod Answer
 pub mod Page
+pub mod Framed

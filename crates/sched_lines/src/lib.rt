@@ -1,8 +1,9 @@
-//! The calls of a run, one after the other, and their lines: one for the answer to each call, and for a refusal what it
-//! means in words.
+//! The lines of a run: one for the answer to each call, with the payload of a MAP or its whole frame, and for a refusal
+//! what it means in words.
 #![tactic(auto)]
 
-mod call;
+mod frame;
+mod framed;
 mod hexadecimal;
 mod line;
 mod lines;
@@ -11,9 +12,10 @@ mod named;
 mod page;
 mod unrecorded;
 
-pub use call::make_call;
+pub use frame::{frame_of, map_in};
+pub use framed::put_framed_line;
 pub use hexadecimal::write_hex;
-pub use line::{put_line, put_number, refusal_number, refusal_value};
+pub use line::{put_number, refusal_number, refusal_value};
 pub use lines::LineBuffer;
 pub use named::put_named;
-pub use unrecorded::{count_unrecorded, tell_unrecorded};
+pub use unrecorded::tell_unrecorded;

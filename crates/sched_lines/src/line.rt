@@ -5,16 +5,15 @@ ghost use Rattle.std.specs.Prelude.{Some};
 ghost use Rattle.map_codec.specs.WireMap.{IsWellFormed, spelling};
 ghost use Rattle.hex.specs.Hex.{encode_lower};
 ghost use Rattle.sched_lines.specs.Line.{number_text, numbers_text, fault_number, refusal_number, refusal_value};
-ghost use Rattle.sched_lines.specs.Line.{reply_text, answer_text, line_of, HasLine};
-ghost use Rattle.sched_history.specs.Machine.{IsEncodable};
+ghost use Rattle.sched_lines.specs.Line.{reply_text, answer_text, line_of};
+ghost use Rattle.sched_calls.specs.Reply.{HasLine};
+ghost use Rattle.sched_calls.specs.Reply.{IsEncodable};
 ghost use Rattle.text_stream.specs.Writing.{Writes};
 
 use crate::hexadecimal::write_hex;
-use flow_book::FlowFault;
 use itoa::write_digits;
 use map_codec::{MAX_BYTES, WireMap, encode};
-use periodic::Placement;
-use sched_history::{Refusal, Reply, Unrecorded};
+use sched_calls::{FlowFault, Placement, Refusal, Reply, Unrecorded};
 use text_stream::{Sink, TextFault, put};
 
 /// A space, and a number in decimal.
@@ -190,7 +189,7 @@ pub(crate) fn put_answer<W: Sink>(
 
 /// The line of the answer to a call: its reply, or why it was not recorded.
 #[tactic(auto, unfolding(crate::specs::Line::line_of))]
-pub fn put_line<W: Sink>(
+pub(crate) fn put_line<W: Sink>(
     writer: &mut W,
     answer: &Result<Reply, Unrecorded>,
 ) -> Result<(), TextFault>

@@ -4,7 +4,8 @@ ghost use Rattle.std.specs.Prelude.{◌≡◌, ◌∷◌, ◌++◌, [], OnOk, co
 ghost use Rattle.hex.specs.Hex.{encode_lower};
 ghost use Rattle.map_codec.specs.WireMap.{IsWellFormed, spelling};
 ghost use Rattle.text_stream.specs.Writing.{Puts, Writes};
-ghost use Rattle.sched_lines.specs.Line.{line_of, HasLine};
+ghost use Rattle.sched_lines.specs.Line.{line_of};
+ghost use Rattle.sched_calls.specs.Reply.{HasLine};
 
 mod explained;
 
@@ -12,7 +13,7 @@ use crate::line;
 use crate::page::{Page, ROOM};
 use arrayvec::ArrayVec;
 use map_codec::{MAX_BYTES, WireMap, encode};
-use sched_history::{Reply, Unrecorded};
+use sched_calls::{Reply, Unrecorded};
 use std::marker::Model;
 use text_stream::{Sink, TextFault};
 

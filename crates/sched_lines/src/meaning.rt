@@ -1,16 +1,16 @@
 //! What a refusal means, in words behind its line.
 
 ghost use Rattle.std.specs.Prelude.{◌≡◌};
-ghost use Rattle.sched_lines.specs.Line.{HasLine};
+ghost use Rattle.sched_calls.specs.Reply.{HasLine};
 ghost use Rattle.sched_lines.specs.Meaning.{fault_words, words_before, number_told, words_behind, digits_of};
 ghost use Rattle.sched_lines.specs.Meaning.{meaning_of, refusal_in, remark_of, explained_line};
 ghost use Rattle.text_stream.specs.Writing.{Writes};
 
 use crate::line::put_answer;
-use flow_book::{FlowFault, MAX_FLOWS};
 use itoa::Buffer;
-use periodic::MAX_PERIODIC_GRANTS;
-use sched_history::{MAX_RESERVES, Refusal, Reply, Unrecorded};
+use sched_calls::{
+    FlowFault, MAX_FLOWS, MAX_PERIODIC_GRANTS, MAX_RESERVES, Refusal, Reply, Unrecorded,
+};
 use text_stream::{Sink, TextFault, put};
 
 // What is wrong with a flow's parameters.

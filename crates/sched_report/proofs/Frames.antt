@@ -8,10 +8,10 @@ use Rattle.map_codec.specs.declared.element.Element.{Element}
 use Rattle.map_codec.specs.Element.{IsInRange, no_element}
 use Rattle.map_drawing.specs.Allocation.{front_length}
 use Rattle.map_drawing.proofs.Fronts.{front_length-<}
-use Rattle.map_build.specs.declared.frame_map.FrameMap.{FrameMap}
+use Rattle.sched_calls.specs.declared.frame_map.FrameMap.{FrameMap}
 use Rattle.map_build.specs.FrameMap.{elements_of}
 use Rattle.map_build.proofs.WellFormed.{AreEncodable, elements_of-encodable}
-use Rattle.sched_history.specs.declared.reply.Entry.{Entry}
+use Rattle.sched_calls.specs.declared.reply.Entry.{Entry}
 use Rattle.sched_history.specs.Life.{flows_of}
 use Rattle.sched_history.specs.Time.{next_after}
 use Rattle.sched_history.specs.Refusal.{last_clock, most_ahead}

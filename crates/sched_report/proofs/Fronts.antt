@@ -1,6 +1,6 @@
 -- The data grants of the first elements of a MAP.
 use Rattle.std.proofs.Common.{◌≡◌, ℕ, ◌+◌, ◌<◌, ◌≤◌, List, [], ◌∷◌, ◌++◌, length, take, drop, get_or, filter_map}
-use Rattle.std.proofs.Common.{sym, ap, ◌∙◌, subst, append_assoc, arith}
+use Rattle.std.proofs.Common.{sym, ap, ◌∙◌, append_assoc, arith}
 use Rattle.std.specs.List.{zip, cons_option}
 use Rattle.std.proofs.lemmas.List.{take_more, take-append-drop}
 use Rattle.std.proofs.lemmas.List.Elements.{filter_map-append}

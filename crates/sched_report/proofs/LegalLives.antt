@@ -7,12 +7,12 @@ use Rattle.std.specs.Option.{option_map}
 use Rattle.std.proofs.lemmas.Bool.{eq-eqb}
 use Rattle.std.proofs.lemmas.List.{append-nil, length_push}
 use Rattle.minislots.specs.declared.config.Config.{Config}
-use Rattle.flow_book.specs.declared.spec.FlowSpec.{FlowSpec}
-use Rattle.sched_history.specs.declared.call.Call.{Call}
-use Rattle.sched_history.specs.declared.call.Call.TheVariants as calls
-use Rattle.sched_history.specs.declared.reply.Reply.{Reply}
-use Rattle.sched_history.specs.declared.reply.Reply.TheVariants as replies
-use Rattle.sched_history.specs.declared.reply.Entry.{Entry}
+use Rattle.sched_calls.specs.declared.spec.FlowSpec.{FlowSpec}
+use Rattle.sched_calls.specs.declared.call.Call.{Call}
+use Rattle.sched_calls.specs.declared.call.Call.TheVariants as calls
+use Rattle.sched_calls.specs.declared.reply.Reply.{Reply}
+use Rattle.sched_calls.specs.declared.reply.Reply.TheVariants as replies
+use Rattle.sched_calls.specs.declared.reply.Entry.{Entry}
 use Rattle.sched_history.specs.Life.{Admission, Turn, Begins, turn_by, turn_of, Life, life_of}
 use Rattle.sched_history.specs.History.{IsStep, IsLegal}
 use Rattle.sched_history.proofs.lives.Finding.{good_sid}

@@ -10,17 +10,17 @@ use Rattle.minislots.specs.declared.config.Config.{Config}
 use Rattle.minislots.specs.Config.{IsLawful}
 use Rattle.flow_book.specs.Flows.{LiveFlow, bytes_of}
 use Rattle.map_build.proofs.EachAfterLaws.{EachAfter-push}
-use Rattle.sched_history.specs.declared.call.Call.{Call}
-use Rattle.sched_history.specs.declared.call.Call.TheVariants as calls
-use Rattle.sched_history.specs.declared.reply.Refusal.{Refusal}
-use Rattle.sched_history.specs.declared.reply.Reply.{Reply}
-use Rattle.sched_history.specs.declared.reply.Reply.TheVariants as replies
-use Rattle.sched_history.specs.declared.reply.Entry.{Entry}
-use Rattle.sched_history.specs.declared.reply.TheConstants.{MAX_WHOLE_HISTORY}
+use Rattle.sched_calls.specs.declared.call.Call.{Call}
+use Rattle.sched_calls.specs.declared.call.Call.TheVariants as calls
+use Rattle.sched_calls.specs.declared.reply.Refusal.{Refusal}
+use Rattle.sched_calls.specs.declared.reply.Reply.{Reply}
+use Rattle.sched_calls.specs.declared.reply.Reply.TheVariants as replies
+use Rattle.sched_calls.specs.declared.reply.Entry.{Entry}
+use Rattle.sched_calls.specs.declared.reply.TheConstants.{MAX_WHOLE_HISTORY}
 use Rattle.sched_history.specs.Life.{turn_of, Life, life_of, flow_in_life, asked_by, asked_in, grants_since, flows_of}
 use Rattle.sched_history.specs.Refusal.{refused_if, refusal_of, bad_sid, is_live, is_silent, most_bytes}
-use Rattle.sched_history.specs.declared.reply.Refusal.TheVariants.{BadSid, NoFlow, NotAsking, BadReceiver, BadBytes}
-use Rattle.sched_history.specs.declared.reply.Refusal.TheVariants.{Acked, Ahead}
+use Rattle.sched_calls.specs.declared.reply.Refusal.TheVariants.{BadSid, NoFlow, NotAsking, BadReceiver, BadBytes}
+use Rattle.sched_calls.specs.declared.reply.Refusal.TheVariants.{Acked, Ahead}
 use Rattle.sched_history.specs.History.{IsStep, IsLegal}
 use Rattle.sched_history.specs.Time.{next_after, progress_of}
 use Rattle.sched_history.specs.Facts.{IsWithinAsked}

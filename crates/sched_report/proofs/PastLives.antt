@@ -2,7 +2,7 @@
 use Rattle.std.proofs.Common.{◌≡◌, ℕ, Bool, true, false, List, [], ◌∷◌, ◌++◌, map, Option, None, Some, refl, sym, ap}
 use Rattle.std.proofs.Common.{◌∙◌, if◌then◌else◌, append_assoc}
 use Rattle.std.proofs.lemmas.List.{append-nil, map-append}
-use Rattle.sched_history.specs.declared.reply.Entry.{Entry}
+use Rattle.sched_calls.specs.declared.reply.Entry.{Entry}
 use Rattle.sched_report.specs.declared.lives.Opening.{Opening}
 use Rattle.sched_report.specs.Lives.{PastLife, opening_by, is_turn, until_turn, has_turn, life_begun}
 use Rattle.sched_report.specs.Lives.{lives_after, lives_of, with_entry}

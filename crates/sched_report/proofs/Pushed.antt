@@ -4,9 +4,9 @@ use Rattle.std.specs.Prelude.{sum_by, slice_get}
 use Rattle.std.specs.Option.{option_map, option_or}
 use Rattle.std.proofs.lemmas.List.{append-nil}
 use Rattle.std.proofs.lemmas.List.Sums.{sum_by_push}
-use Rattle.map_build.specs.declared.frame_map.FrameMap.{FrameMap}
-use Rattle.sched_history.specs.declared.reply.Reply.TheVariants as replies
-use Rattle.sched_history.specs.declared.reply.Entry.{Entry}
+use Rattle.sched_calls.specs.declared.frame_map.FrameMap.{FrameMap}
+use Rattle.sched_calls.specs.declared.reply.Reply.TheVariants as replies
+use Rattle.sched_calls.specs.declared.reply.Entry.{Entry}
 use Rattle.sched_history.specs.History.{map_by}
 use Rattle.frame_picture.specs.Frames.{Frame, frame_by, frames_of}
 use Rattle.frame_picture.proofs.FrameLists.{frames_after-append}

@@ -8,7 +8,7 @@ use Rattle.std.proofs.lemmas.List.{take_more, take_all, map_push, append-nil}
 use Rattle.std.proofs.lemmas.List.Elements.{filter-append}
 use Rattle.minislots.specs.declared.config.Config.{Config}
 use Rattle.flow_book.proofs.Order.{all-push}
-use Rattle.sched_history.specs.declared.reply.Entry.{Entry}
+use Rattle.sched_calls.specs.declared.reply.Entry.{Entry}
 use Rattle.sched_report.specs.declared.ranks.RankNumbers.{RankNumbers}
 use Rattle.sched_report.specs.declared.ranks_told.RankTold.{RankTold}
 use Rattle.sched_report.specs.Lives.{lives_of}

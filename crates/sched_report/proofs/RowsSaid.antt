@@ -1,12 +1,12 @@
 -- Worked rows: the requests and the grants of a best effort flow and of an unsolicited one.
 use Rattle.std.proofs.Common.{◌≡◌, Bool, true, false, List, [], ◌∷◌, None, Some, refl}
-use Rattle.flow_book.specs.declared.spec.FlowSpec.TheVariants.{BestEffort, Unsolicited, Polled}
-use Rattle.flow_book.proofs.Base.{base}
-use Rattle.map_build.specs.declared.frame_map.FrameMap.{FrameMap}
-use Rattle.map_build.proofs.RowsMaps.{element, base_map}
-use Rattle.sched_history.specs.declared.call.Call.TheVariants.{Ask, Build}
-use Rattle.sched_history.specs.declared.reply.Reply.TheVariants.{Taken, Built}
-use Rattle.sched_history.specs.declared.reply.Entry.{Entry}
+use Rattle.sched_calls.specs.declared.spec.FlowSpec.TheVariants.{BestEffort, Unsolicited, Polled}
+use Rattle.sched_calls.proofs.Base.{base}
+use Rattle.sched_calls.specs.declared.frame_map.FrameMap.{FrameMap}
+use Rattle.sched_calls.proofs.BaseMaps.{element, base_map}
+use Rattle.sched_calls.specs.declared.call.Call.TheVariants.{Ask, Build}
+use Rattle.sched_calls.specs.declared.reply.Reply.TheVariants.{Taken, Built}
+use Rattle.sched_calls.specs.declared.reply.Entry.{Entry}
 use Rattle.sched_history.proofs.rows.TwoMaps.{entry}
 use Rattle.sched_report.specs.Lives.{PastLife}
 use Rattle.sched_report.specs.Said.{delays_in, waiting_in, dropped_in, outstanding_in, granted_in}

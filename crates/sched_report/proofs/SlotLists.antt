@@ -11,7 +11,7 @@ use Rattle.map_drawing.specs.declared.allocation.Allocation.{Allocation}
 use Rattle.map_codec.specs.Element.{nulls, element_at, Ascends}
 use Rattle.map_drawing.specs.Allocation.{front_length, allocation_at}
 use Rattle.map_drawing.proofs.Fronts.{offset-≤}
-use Rattle.sched_history.specs.declared.reply.Entry.{Entry}
+use Rattle.sched_calls.specs.declared.reply.Entry.{Entry}
 use Rattle.frame_picture.specs.Frames.{is_unsolicited_after, TellsUnsolicited}
 use Rattle.sched_report.specs.declared.slots.Slots.{Slots}
 use Rattle.sched_report.specs.declared.slots.Use.{Use}

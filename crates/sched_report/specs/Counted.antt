@@ -1,8 +1,8 @@
 -- What is known of a history that is counted, where one entry more follows it.
 use Rattle.std.specs.Prelude.{◌<◌, Bool, List, length}
 use Rattle.minislots.specs.declared.config.Config.{Config}
-use Rattle.sched_history.specs.declared.reply.Entry.{Entry}
-use Rattle.sched_history.specs.declared.reply.TheConstants.{MAX_WHOLE_HISTORY}
+use Rattle.sched_calls.specs.declared.reply.Entry.{Entry}
+use Rattle.sched_calls.specs.declared.reply.TheConstants.{MAX_WHOLE_HISTORY}
 use Rattle.sched_history.specs.History.{IsStep, IsLegal}
 use Rattle.frame_picture.specs.Frames.{TellsUnsolicited}
 use Rattle.sched_report.specs.declared.totals.Totals.{Totals}

@@ -2,8 +2,8 @@
 use Rattle.std.specs.Prelude.{◌≡◌, ℕ, ◌-◌, ◌*◌, ◌≤◌, ◌==◌, ◌&&◌, Bool, true, List, filter, flat_map, length, sum_by}
 use Rattle.std.specs.Prelude.{Option, None, Some, min, max, ◌^◌}
 use Rattle.minislots.specs.declared.config.Config.{Config}
-use Rattle.flow_book.specs.declared.spec.FlowSpec.{FlowSpec}
-use Rattle.flow_book.specs.FlowSpec.{takes_requests, rank_of}
+use Rattle.sched_calls.specs.declared.spec.FlowSpec.{FlowSpec}
+use Rattle.sched_calls.specs.FlowSpec.{takes_requests, rank_of}
 use Rattle.sched_report.specs.declared.ranks.RankSums.{RankSums}
 use Rattle.sched_report.specs.declared.ranks.RankNumbers.{RankNumbers}
 use Rattle.sched_report.specs.Delays.{least_of, greatest_of}

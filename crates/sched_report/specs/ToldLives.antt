@@ -2,12 +2,12 @@
 use Rattle.std.specs.Prelude.{◌≡◌, ℕ, ◌<◌, ◌^◌, ◌⊎◌, List, ◌++◌, length, slice_index_or}
 use Rattle.minislots.specs.declared.config.Config.{Config}
 use Rattle.minislots.specs.Config.{IsLawful}
-use Rattle.map_build.specs.declared.frame_map.FrameMap.{FrameMap}
-use Rattle.sched_history.specs.declared.call.Call.{Call}
-use Rattle.sched_history.specs.declared.reply.Reply.{Reply}
-use Rattle.sched_history.specs.declared.reply.Reply.TheVariants.{Built}
-use Rattle.sched_history.specs.declared.reply.Entry.{Entry}
-use Rattle.sched_history.specs.declared.reply.TheConstants.{MAX_WHOLE_HISTORY}
+use Rattle.sched_calls.specs.declared.frame_map.FrameMap.{FrameMap}
+use Rattle.sched_calls.specs.declared.call.Call.{Call}
+use Rattle.sched_calls.specs.declared.reply.Reply.{Reply}
+use Rattle.sched_calls.specs.declared.reply.Reply.TheVariants.{Built}
+use Rattle.sched_calls.specs.declared.reply.Entry.{Entry}
+use Rattle.sched_calls.specs.declared.reply.TheConstants.{MAX_WHOLE_HISTORY}
 use Rattle.sched_history.specs.Life.{grants_since}
 use Rattle.sched_history.specs.Facts.{IsOrderly}
 use Rattle.sched_history.specs.History.{IsStep, IsLegal}

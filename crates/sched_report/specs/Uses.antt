@@ -6,7 +6,7 @@ use Rattle.map_codec.specs.Element.{nulls, Ascends}
 use Rattle.map_drawing.specs.declared.allocation.Allocation.{Allocation}
 use Rattle.map_drawing.specs.declared.usage.TheConstants.{ALL_MODEMS}
 use Rattle.map_drawing.specs.Allocation.{frame_slots, allocations_of}
-use Rattle.sched_history.specs.declared.reply.Entry.{Entry}
+use Rattle.sched_calls.specs.declared.reply.Entry.{Entry}
 use Rattle.frame_picture.specs.Frames.{Frame, is_unsolicited_after, frames_of}
 use Rattle.sched_report.specs.declared.slots.Slots.{Slots}
 use Rattle.sched_report.specs.declared.slots.Use.{Use}

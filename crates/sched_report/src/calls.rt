@@ -1,8 +1,8 @@
 //! How many calls of each kind there were, and how many refusals with each number.
 
 ghost use Rattle.std.specs.Prelude.{◌≡◌, ◌∷◌, ◌++◌, ◌<◌, ◌≤◌, ◌+◌, [], List, length, slice_index, slice_set};
-ghost use Rattle.sched_history.specs.declared.reply.Entry.{Entry};
-ghost use Rattle.sched_history.specs.declared.reply.TheConstants.{MAX_WHOLE_HISTORY};
+ghost use Rattle.sched_calls.specs.declared.reply.Entry.{Entry};
+ghost use Rattle.sched_calls.specs.declared.reply.TheConstants.{MAX_WHOLE_HISTORY};
 ghost use Rattle.sched_report.specs.Counts.{calls_of, CountsRefusals};
 
 use sched_history::{Call, Entry, Reply};

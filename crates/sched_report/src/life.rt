@@ -5,7 +5,7 @@ ghost use Rattle.std.specs.Prelude.{None, Some, is_some, IfSome, OnOk};
 ghost use Rattle.std.specs.List.{cons_option};
 ghost use Rattle.minislots.specs.declared.config.Config.{Config};
 ghost use Rattle.flow_book.specs.declared.flow.Grant.{Grant as DataGrant};
-ghost use Rattle.sched_history.specs.declared.reply.Entry.{Entry as Recorded};
+ghost use Rattle.sched_calls.specs.declared.reply.Entry.{Entry as Recorded};
 ghost use Rattle.sched_history.specs.Life.{grant_by, grants_since};
 ghost use Rattle.sched_history.specs.Time.{next_after};
 ghost use Rattle.sched_report.specs.declared.service.Request.{Request as Asked};
@@ -100,9 +100,10 @@ impl LifeTally {
     // Its numbers, where the next frame starts there.
     pub(crate) fn numbers(&self, next: u64) -> LifeNumbers
         requires { (c : Config) × (life : PastLife) × IsLifeOf c self.now life }
-        ensures { (c : Config) (life : PastLife) → IsLifeOf c self.now life
+        ensures told { (c : Config) (life : PastLife) → IsLifeOf c self.now life
             → (life.ended ≡ false → next ≡ next_after c (life.upto ++ life.since))
             → AreLifeNumbers c result life }
+        ensures few { result.granted < 2 ^ 90 }
     {
         let sums = self.sums();
         let one = slice::from_ref(self);
@@ -159,8 +160,9 @@ impl LifeTally {
     // The bytes that it was granted.
     pub(crate) fn granted(&self) -> u128
         requires { (c : Config) × (life : PastLife) × IsLifeOf c self.now life }
-        ensures { (c : Config) (life : PastLife) → IsLifeOf c self.now life
+        ensures granted { (c : Config) (life : PastLife) → IsLifeOf c self.now life
             → result ≡ granted_in life }
+        ensures few { result < 2 ^ 90 }
     {
         match self.spec {
             FlowSpec::Unsolicited { size, .. } => u128::from(size) * self.unsolicited,

@@ -5,7 +5,7 @@ ghost use Rattle.std.specs.Prelude.{OnOk, OnErr, vec_len, vec_capacity};
 ghost use Rattle.std.specs.List.{cons_option, filter_map, zip};
 ghost use Rattle.minislots.specs.declared.config.Config.{Config};
 ghost use Rattle.map_drawing.specs.Allocation.{allocations_of};
-ghost use Rattle.sched_history.specs.declared.reply.Entry.{Entry as Recorded};
+ghost use Rattle.sched_calls.specs.declared.reply.Entry.{Entry as Recorded};
 ghost use Rattle.sched_history.specs.Facts.{IsOrderly, HasFront};
 ghost use Rattle.sched_history.specs.Life.{grant_by, grants_of_map};
 ghost use Rattle.sched_history.specs.Time.{next_after};

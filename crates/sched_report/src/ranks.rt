@@ -2,7 +2,7 @@
 
 ghost use Rattle.std.specs.Prelude.{◌≡◌, ◌<◌, ◌≤◌, ◌++◌, ◌∷◌, ◌^◌, ◌+◌, ◌*◌, [], List, ℕ, length, true};
 ghost use Rattle.minislots.specs.declared.config.Config.{Config};
-ghost use Rattle.flow_book.specs.FlowSpec.{takes_requests};
+ghost use Rattle.sched_calls.specs.FlowSpec.{takes_requests};
 ghost use Rattle.sched_report.specs.Lives.{PastLife};
 ghost use Rattle.sched_report.specs.Ranks.{lives_of_rank, AreRankSums, AreRankNumbers, AreFew};
 ghost use Rattle.sched_report.specs.Ranks.{both_least, both_greatest};

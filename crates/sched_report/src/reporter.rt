@@ -1,8 +1,8 @@
 //! The numbers of a history that is taken entry by entry.
 
-ghost use Rattle.std.specs.Prelude.{◌≡◌, ◌<◌, ◌≤◌, ◌↔◌, ◌++◌, ◌∷◌, [], length, slice_index_or};
+ghost use Rattle.std.specs.Prelude.{◌≡◌, ◌<◌, ◌≤◌, ◌^◌, ◌↔◌, ◌++◌, ◌∷◌, [], length, slice_index_or};
 ghost use Rattle.std.specs.Prelude.{IfOk, OnOk, OnErr, IsErrOf};
-ghost use Rattle.sched_history.specs.declared.reply.TheConstants.{MAX_WHOLE_HISTORY};
+ghost use Rattle.sched_calls.specs.declared.reply.TheConstants.{MAX_WHOLE_HISTORY};
 ghost use Rattle.sched_history.specs.History.{IsStep, IsLegal};
 ghost use Rattle.sched_report.specs.Counts.{CountsRefusals};
 ghost use Rattle.sched_report.specs.Totals.{totals_of};
@@ -35,8 +35,8 @@ pub struct Reporter {
     alloc: Global,
     // Where the next frame starts.
     next: u64,
-    // Which flows are unsolicited after the entries that were taken.
-    flows: Flows,
+    // Which flows are unsolicited after the entries that were taken: on the heap, for the stack's sake.
+    flows: Box<Flows>,
     totals: Totals,
     refused: [u64; REFUSALS],
     lives: Vec<LifeTally>,
@@ -54,12 +54,13 @@ impl Model for Reporter {
     ghost view = { λ r. r.auditor };
 
     ghost invariant = { λ r.
-        IsReport r.config r.auditor r.flows r.totals r.refused r.next r.lives.items
+        IsReport r.config r.auditor r.flows.value r.totals r.refused r.next r.lives.items
         r.places.items };
 }
 
 impl Reporter {
     /// A reporter under this configuration, which has taken no entry.
+    #[inline(never)]
     pub fn open(alloc: Global, config: Checked) -> Result<Reporter, AllocError>
         ensures { IfOk result (λ r. r ≡ record { config = config; history = [] }) }
     {
@@ -68,7 +69,7 @@ impl Reporter {
             auditor: Auditor::open(alloc, config)?,
             alloc,
             next: config.start(),
-            flows: no_flows(),
+            flows: Box::new(alloc, no_flows())?,
             totals: Totals::none(),
             refused: [0; REFUSALS],
             lives: Vec::new(alloc),
@@ -143,8 +144,9 @@ impl Reporter {
     /// The numbers of the life at a place in the order of the admissions.
     pub fn life(&self, place: usize) -> LifeNumbers
         requires { place < length (lives_of self.now.history) }
-        ensures { (life : PastLife) → AreLifeNumbers self.now.config result
+        ensures told { (life : PastLife) → AreLifeNumbers self.now.config result
             (slice_index_or (lives_of self.now.history) place life) }
+        ensures few { result.granted < 2 ^ 90 }
     {
         self.lives[place].numbers(self.next)
     }

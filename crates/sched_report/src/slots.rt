@@ -1,7 +1,7 @@
 //! What the minislots of frames are for.
 
 ghost use Rattle.std.specs.Prelude.{◌≡◌, ◌<◌, ◌≤◌, ◌+◌, ◌^◌, [], List};
-ghost use Rattle.sched_history.specs.declared.reply.Entry.{Entry};
+ghost use Rattle.sched_calls.specs.declared.reply.Entry.{Entry};
 ghost use Rattle.map_drawing.specs.Allocation.{allocations_of, frame_slots};
 ghost use Rattle.frame_picture.specs.Frames.{is_unsolicited_after, TellsUnsolicited};
 ghost use Rattle.sched_report.specs.Uses.{is_unsolicited, use_of, slots_among, all_slots, with_slots};

@@ -1,7 +1,7 @@
 //! The numbers of a whole history.
 
 ghost use Rattle.std.specs.Prelude.{◌≡◌, ◌+◌, ◌^◌, ◌<◌, ◌≤◌, ◌∷◌, ◌++◌, [], List};
-ghost use Rattle.sched_history.specs.declared.reply.Entry.{Entry as Recorded};
+ghost use Rattle.sched_calls.specs.declared.reply.Entry.{Entry as Recorded};
 ghost use Rattle.minislots.specs.declared.config.Config.{Config};
 ghost use Rattle.frame_picture.specs.Frames.{TellsUnsolicited};
 ghost use Rattle.sched_report.specs.Uses.{slots_in, all_slots, AreOfFrame};

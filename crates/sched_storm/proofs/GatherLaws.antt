@@ -6,7 +6,7 @@ use Rattle.std.proofs.Math.Bool.{or-false, or_assoc}
 use Rattle.std.proofs.lemmas.List.{map-append, length-map}
 use Rattle.std.proofs.lemmas.List.Sums.{sum_by-append, sum_by-cons}
 use Rattle.minislots.specs.declared.config.Config.{Config}
-use Rattle.sched_history.specs.declared.call.Call.{Call}
+use Rattle.sched_calls.specs.declared.call.Call.{Call}
 use Rattle.ticket_lock.specs.Standing.{Standing}
 use Rattle.sched_desk.specs.declared.event.Event.{Event}
 use Rattle.sched_desk.specs.Desk.{FixedDesk}

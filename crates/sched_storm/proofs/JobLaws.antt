@@ -3,7 +3,7 @@ use Rattle.std.proofs.Common.{◌≡◌, List, [], ◌∷◌, ◌++◌, length, 
 use Rattle.std.proofs.Common.{subst, append_assoc, append-nil, arith}
 use Rattle.std.specs.Global.{Vec}
 use Rattle.std.proofs.lemmas.List.{reverse-append}
-use Rattle.sched_history.specs.declared.call.Call.{Call}
+use Rattle.sched_calls.specs.declared.call.Call.{Call}
 use Rattle.ticket_lock.specs.Rule.{Every}
 use Rattle.ticket_lock.specs.Standing.{Lock, Standing}
 use Rattle.ticket_lock.proofs.Logs.{Every-front}

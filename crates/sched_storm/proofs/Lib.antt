@@ -8,3 +8,4 @@ pub mod ReadLaws
 pub mod SeatLaws
 pub mod TallyLaws
 pub mod StormLaws
+pub mod RowsStops

@@ -8,8 +8,8 @@ use Rattle.std.proofs.lemmas.List.{map-append}
 use Rattle.std.proofs.lemmas.List.Elements.{filter-append}
 use mathlib.Core.List.{IsPrefix}
 use Rattle.minislots.specs.declared.config.Config.{Config}
-use Rattle.sched_history.specs.declared.call.Call.{Call}
-use Rattle.sched_history.specs.declared.reply.Entry.{Entry}
+use Rattle.sched_calls.specs.declared.call.Call.{Call}
+use Rattle.sched_calls.specs.declared.reply.Entry.{Entry}
 use Rattle.sched_desk.specs.Closed.{entries_of}
 use Rattle.sched_storm.specs.Made.{MadeCall, is_recorded, list_left, calls_made, calls_recorded, calls_in}
 use Rattle.sched_storm.specs.Made.{left_out_count, GrowsByOthers, IsMadeAfter, Leads}

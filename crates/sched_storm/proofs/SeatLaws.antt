@@ -1,6 +1,6 @@
 -- What a seat has seen of its own entries.
 use Rattle.std.proofs.Common.{◌≡◌, List, [], ◌∷◌, ◌++◌, map, ap, ◌∙◌, sym}
-use Rattle.sched_history.specs.declared.reply.Entry.{Entry}
+use Rattle.sched_calls.specs.declared.reply.Entry.{Entry}
 use Rattle.ticket_lock.specs.Rule.{entry_of, Every}
 use Rattle.ticket_lock.specs.Standing.{Lock, Standing, opening_of, seen}
 use Rattle.sched_desk.specs.declared.event.Event.{Event}

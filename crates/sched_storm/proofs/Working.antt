@@ -4,7 +4,7 @@ use Rattle.std.proofs.Common.{take, drop, refl, sym, ap, ◌∙◌, subst, cond,
 use borrow.Author.Count.{below_none, below_more}
 use Rattle.std.proofs.lemmas.List.{length-take-le, length-map, take_more, take-append-drop}
 use Rattle.minislots.specs.declared.config.Config.{Config}
-use Rattle.sched_history.specs.declared.call.Call.{Call}
+use Rattle.sched_calls.specs.declared.call.Call.{Call}
 use Rattle.ticket_lock.specs.Standing.{Standing}
 use Rattle.sched_desk.specs.declared.event.Event.{Event}
 use Rattle.sched_desk.specs.Desk.{FixedDesk, history_seen}

@@ -4,8 +4,8 @@ use Rattle.std.specs.Prelude.{sum_by, reverse, Option, Some, None}
 use Rattle.std.specs.Global.{Vec}
 use Rattle.std.specs.List.{AllZip}
 use Rattle.minislots.specs.declared.config.Config.{Config}
-use Rattle.sched_history.specs.declared.call.Call.{Call}
-use Rattle.sched_history.specs.declared.call.TheConstants.{MAX_SCRIPTS}
+use Rattle.sched_calls.specs.declared.call.Call.{Call}
+use Rattle.sched_calls.specs.declared.call.TheConstants.{MAX_SCRIPTS}
 use Rattle.ticket_lock.specs.Rule.{Every}
 use Rattle.ticket_lock.specs.Standing.{Lock, Standing}
 use Rattle.sched_desk.specs.declared.event.Event.{Event}

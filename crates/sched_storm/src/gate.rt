@@ -21,7 +21,7 @@ pub trait Gate: Sync {
 }
 
 /// The program's own gate: every call passes.
-pub struct Open;
+pub(crate) struct Open;
 
 impl Gate for Open {
     ghost holds_back = { λ _ _ _. ⊥ };

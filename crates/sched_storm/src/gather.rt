@@ -1,7 +1,7 @@
 //! What the workers of a storm gave back, put together.
 
 ghost use Rattle.std.specs.Prelude.{◌≡◌, ◌≤◌, ◌<◌, ◌+◌, ◌^◌, ◌++◌, ◌∷◌, ◌||◌, [], length, vec_len, vec_capacity};
-ghost use Rattle.sched_history.specs.declared.call.TheConstants.{MAX_SCRIPTS};
+ghost use Rattle.sched_calls.specs.declared.call.TheConstants.{MAX_SCRIPTS};
 ghost use Rattle.sched_storm.specs.Jobs.{GivesBack, Gathers, is_stopped, held_then};
 
 use crate::gate::Gate;

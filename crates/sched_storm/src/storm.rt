@@ -2,7 +2,7 @@
 
 ghost use Rattle.std.specs.Prelude.{◌≡◌, ◌⊎◌, ◌<◌, ◌↔◌, true, false, IfOk, OnOk, IfErr, IsErrOf, [], length};
 ghost use Rattle.std.specs.Prelude.{vec_len, vec_capacity};
-ghost use Rattle.sched_history.specs.declared.call.TheConstants.{MAX_SCRIPTS};
+ghost use Rattle.sched_calls.specs.declared.call.TheConstants.{MAX_SCRIPTS};
 ghost use Rattle.ticket_lock.specs.Rule.{Every};
 ghost use Rattle.ticket_lock.specs.Standing.{seats_of};
 ghost use Rattle.sched_storm.specs.Jobs.{calls_each};

@@ -4,7 +4,7 @@ use Rattle.std.proofs.Common.{append_assoc, append-nil}
 use Rattle.std.specs.Prelude.{◌≢◌}
 use Rattle.std.specs.Result.{IsErrAnd}
 use Rattle.serde_json.specs.Data.{Data, Items, no_items, item}
-use Rattle.sched_history.specs.declared.call.Call.{Call}
+use Rattle.sched_calls.specs.declared.call.Call.{Call}
 use Rattle.text_stream.specs.declared.fault.TextFault.{TextFault}
 use Rattle.text_stream.specs.declared.fault.TextFault.TheVariants.{Shape, Memory}
 use Rattle.call_reading.specs.Calls.{call_of}

@@ -7,7 +7,7 @@ use Rattle.serde_json.specs.Find.{as_array}
 use Rattle.serde_json.specs.View.{items_of}
 use Rattle.minislots.specs.Config.{first_wrong}
 use Rattle.minislots.specs.declared.config.Config.{Config}
-use Rattle.sched_history.specs.declared.call.Call.{Call}
+use Rattle.sched_calls.specs.declared.call.Call.{Call}
 use Rattle.call_reading.specs.Calls.{call_of}
 use Rattle.text_stream.specs.Input.{value_of}
 use Rattle.json_fields.specs.Listed.{StandEach, IsListOf, IsDocument}

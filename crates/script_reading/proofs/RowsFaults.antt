@@ -6,8 +6,8 @@ use Rattle.std.specs.Str.{is_utf8, chars}
 use Rattle.serde_json.proofs.OnLiterals.{serde_json_on_literals}
 use Rattle.minislots.specs.Config.{first_wrong}
 use Rattle.minislots.specs.declared.config.ConfigFault.TheVariants.{Ticks}
-use Rattle.flow_book.proofs.Base.{base}
-use Rattle.sched_history.specs.declared.call.Call.TheVariants.{Build}
+use Rattle.sched_calls.proofs.Base.{base}
+use Rattle.sched_calls.specs.declared.call.Call.TheVariants.{Build}
 use Rattle.text_stream.specs.declared.fault.TextFault.{TextFault}
 use Rattle.text_stream.specs.declared.fault.TextFault.TheVariants.{Input, NotJson, Shape, Config, Memory}
 use Rattle.json_fields.specs.Fields.{config_of, slots_of, sizes_of, counts_of, windows_of, u8_or, u8_at, u16_at, u32_at}

@@ -5,7 +5,6 @@ ghost use Rattle.serde_json.specs.View.{view, items_view};
 ghost use Rattle.text_stream.specs.Input.{Gives};
 ghost use Rattle.script_reading.specs.Script.{calls_of, script_of, scenario_of};
 
-mod item;
 mod reading;
 mod storms;
 
@@ -13,7 +12,7 @@ use call_reading::call_of;
 use json_fields::{config_in, member};
 use minislots::Config;
 pub use reading::read_script;
-use sched_history::Call;
+use sched_calls::Call;
 use serde_json::Value;
 use std::alloc::Global;
 pub use storms::read_storm;

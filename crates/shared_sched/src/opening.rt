@@ -119,7 +119,7 @@ fn open_with<R: Wait>(
 /// history, all of which it keeps. The seats are numbered by their places in the vector, and the first ticket is 0. The
 /// readers are of the scheduler's press, and have read nothing. After a fault nothing is left open. It takes a handle
 /// that waits for the press that it opens, and that it ends after a fault: there is no reader yet for whom either could
-/// wait.
+/// wait. It hands nothing over: [`Shared::hand_over`] gives each list back.
 pub fn open<R: Wait>(
     rt: &R,
     alloc: Global,

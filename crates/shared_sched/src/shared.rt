@@ -107,7 +107,8 @@ impl Shared {
     /// Hands over the entries that are kept, with the place of the first in the whole history, by this seat: it draws a
     /// ticket, waits until it is served, and gives them in exchange for an empty list with room for as many as the
     /// configuration allows. It takes no memory. A list with less room comes back and changes nothing, and so does any
-    /// where the desk keeps its whole history. The entry waits, and nothing else.
+    /// where the desk keeps its whole history, as one does that [`open`](crate::open) opened: only
+    /// [`open_without_end`](crate::open_without_end) opens one that hands over. The entry waits, and nothing else.
     pub fn hand_over<R: Wait>(
         &self,
         rt: &R,

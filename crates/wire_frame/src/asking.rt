@@ -4,11 +4,8 @@ ghost use Rattle.std.specs.Prelude.{◌≡◌};
 ghost use Rattle.wire_frame.specs.Asking.{asked_by, ask_of};
 
 use crate::request::Request;
-use minislots::Checked;
+use minislots::{Checked, MAX_ASK};
 use thiserror::Error;
-
-/// The most bytes that one ask may have.
-pub const MAX_ASK: u32 = 1_048_560;
 
 /// Why a request is no ask.
 #[derive(Clone, Copy, Debug, PartialEq, Eq, Error)]

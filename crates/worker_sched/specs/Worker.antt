@@ -3,8 +3,8 @@ use Rattle.std.specs.Prelude.{◌≡◌, ◌+◌, ◌<◌, ℕ, Bool, true, fals
 use Rattle.std.specs.Prelude.{IfSome, IsSome, MatchOption, option_to_list, option_map, is_some, not, ◌||◌}
 use Rattle.std.specs.Global.{Vec}
 use Rattle.minislots.specs.declared.config.Config.{Config}
-use Rattle.sched_history.specs.declared.call.Call.{Call}
-use Rattle.sched_history.specs.declared.reply.Entry.{Entry}
+use Rattle.sched_calls.specs.declared.call.Call.{Call}
+use Rattle.sched_calls.specs.declared.reply.Entry.{Entry}
 use Rattle.sched_history.specs.declared.scheduler.handing_over.HandedOver.{HandedOver}
 use Rattle.ticket_lock.specs.Rule.{Every}
 use Rattle.ticket_lock.specs.Standing.{Standing, seats_of}

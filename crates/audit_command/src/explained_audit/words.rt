@@ -1,6 +1,6 @@
 //! Words on an entry that is not lawful: its call, its reply and a lawful one, line beside line.
 
-ghost use Rattle.sched_history.specs.Machine.{IsEncodable};
+ghost use Rattle.sched_calls.specs.Reply.{IsEncodable};
 
 use decode_command::put_table;
 use map_build::{FrameMap, Header, Usage};

@@ -1,14 +1,13 @@
 //! One entry of a history.
 
-ghost use Rattle.std.specs.Prelude.{◌≡◌, Some, IfOk};
+ghost use Rattle.std.specs.Prelude.{◌≡◌, IfOk};
 ghost use Rattle.history_reading.specs.Replies.{entry_of};
 
 use super::reply::reply_of;
 use call_reading::call_of;
-use json::Reader;
-use json_fields::{FromTokens, Stop, Tree, member, number_u32, number_u64, read_plain};
+use json_fields::{Tree, member, number_u32, number_u64};
 use minislots::Stamp;
-use sched_history::Entry;
+use sched_calls::Entry;
 use std::alloc::{AllocError, Global};
 
 /// The entry that an object stands for: its stamp, its call as in a script, and its reply. Nothing says that the
@@ -33,16 +32,4 @@ pub fn entry_of<T: Tree>(alloc: Global, value: &T) -> Result<Option<Entry>, Allo
     };
     let stamp = Stamp { seat, ticket };
     Ok(Some(Entry { stamp, call, reply }))
-}
-
-/// A history, in which entries stand.
-pub struct InHistory;
-
-impl FromTokens<InHistory> for Entry {
-    ghost stands_for = { λ d entry. entry_of d ≡ Some entry };
-
-    fn read(alloc: Global, reader: &mut Reader<'_>, depth: usize) -> Result<Entry, Stop> {
-        let value = read_plain(alloc, reader, depth)?;
-        entry_of(alloc, &value)?.ok_or(Stop::Unusual)
-    }
 }

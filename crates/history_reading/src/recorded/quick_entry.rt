@@ -1,12 +1,10 @@
 //! One entry of a history in its usual spelling, read from its bytes: its call, its reply and its stamp in the order in
 //! which they are written, and nothing else.
 
-ghost use Rattle.std.specs.Prelude.{◌≡◌, ◌^◌, ◌<◌, ℕ, codes, Some, Ok, IfOk, OnOk, length};
+ghost use Rattle.std.specs.Prelude.{◌≡◌, ◌^◌, ◌<◌, ℕ, codes, Some, IfOk, OnOk, length};
 ghost use Rattle.json.specs.Json.{value};
 ghost use Rattle.serde_json.specs.Data.{Data, number, unsigned};
 ghost use Rattle.serde_json.specs.Read.{of_json, converted};
-ghost use Rattle.text_stream.specs.Input.{value_of};
-ghost use Rattle.json_fields.specs.Usual.{read_tokens};
 ghost use Rattle.call_reading.specs.Calls.{call_of};
 ghost use Rattle.history_reading.specs.Replies.{reply_of, entry_of};
 ghost use Rattle.history_reading.specs.Spelled.{IsMember};
@@ -14,14 +12,11 @@ ghost use Rattle.history_reading.specs.Spelled.{IsMember};
 use super::quick_member::{Key, number_under, take_end, take_key};
 use super::quick_reply::read_quick_reply;
 use byte_tokens::Quick;
-use call_reading::read_quick_call;
+use call_reading::{FromTokens, read_quick_call};
 use json_fields::Stop;
 use minislots::Stamp;
-use sched_history::{Call, Entry, Reply};
+use sched_calls::{Call, Entry, Reply};
 use std::alloc::Global;
-
-// How deep a value may nest.
-const DEPTH: usize = 127;
 
 // The call under its key.
 fn call_under(alloc: Global, reader: &mut Quick<'_>, depth: usize) -> Result<Call, Stop>
@@ -55,12 +50,8 @@ fn seat_under(reader: &mut Quick<'_>) -> Result<u32, Stop>
     Ok(seat)
 }
 
-/// The entry in its usual spelling that comes next, nested no deeper than this.
-pub(crate) fn read_quick_entry(
-    alloc: Global,
-    reader: &mut Quick<'_>,
-    depth: usize,
-) -> Result<Entry, Stop>
+// The entry in its usual spelling that comes next, nested no deeper than this.
+fn read_quick_entry(alloc: Global, reader: &mut Quick<'_>, depth: usize) -> Result<Entry, Stop>
     ensures is { IfOk result (λ entry. (d : Data)
         × (converted of_json (value depth reader.old) ≡ Some (d, reader.new))
         × (entry_of d ≡ Some entry)) }
@@ -78,26 +69,13 @@ pub(crate) fn read_quick_entry(
     Ok(Entry { stamp, call, reply })
 }
 
-// The entry that the tokens of a text stand for.
-fn read_alone(alloc: Global, reader: &mut Quick<'_>) -> Result<Entry, Stop>
-    ensures { IfOk result (λ entry. (d : Data) × (read_tokens reader.old ≡ Some d)
-        × (entry_of d ≡ Some entry)) }
-{
-    let entry = read_quick_entry(alloc, reader, DEPTH)?;
-    if !reader.is_over() {
-        return Err(Stop::Unusual);
-    }
-    Ok(entry)
-}
+/// A history, in which entries stand.
+pub struct InHistory;
 
-/// The entry that a text is in its usual spelling, with no space and no escape. Any other text is not read.
-pub(crate) fn read_quick_line(alloc: Global, bytes: &[u8]) -> Result<Entry, Stop>
-    ensures { IfOk result (λ entry. (d : Data) × (value_of bytes.now ≡ Ok d)
-        × (entry_of d ≡ Some entry)) }
-{
-    let Ok(text) = std::str::from_utf8(bytes) else {
-        return Err(Stop::Unusual);
-    };
-    let mut reader = Quick::new(text);
-    read_alone(alloc, &mut reader)
+impl FromTokens<InHistory> for Entry {
+    ghost stands_for = { λ d entry. entry_of d ≡ Some entry };
+
+    fn read(alloc: Global, reader: &mut Quick<'_>, depth: usize) -> Result<Entry, Stop> {
+        read_quick_entry(alloc, reader, depth)
+    }
 }

@@ -15,9 +15,7 @@ use super::reply::map_of;
 use byte_tokens::Quick;
 use call_reading::{next_key, read_number, read_text};
 use json_fields::Stop;
-use map_build::{ByteCounts, FrameMap};
-use periodic::{Placement, Starts};
-use sched_history::Reply;
+use sched_calls::{ByteCounts, FrameMap, Placement, Reply, Starts};
 use std::alloc::Global;
 
 // The reply that a MAP is, behind its acknowledge time.

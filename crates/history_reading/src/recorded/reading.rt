@@ -2,25 +2,24 @@
 
 ghost use Rattle.std.specs.Prelude.{◌≤◌, vec_len, Ok, IfOk, IfErr};
 ghost use Rattle.std.specs.List.{AllByRecursion};
-ghost use Rattle.sched_history.specs.Machine.{IsEncodable};
-ghost use Rattle.sched_history.specs.declared.reply.TheConstants.{MAX_ENTRIES};
+ghost use Rattle.sched_calls.specs.Reply.{IsEncodable};
+ghost use Rattle.sched_calls.specs.declared.reply.TheConstants.{MAX_ENTRIES};
 ghost use Rattle.text_stream.specs.Input.{Gives};
 ghost use Rattle.history_reading.specs.Recorded.{history_in, history_with, GivesHistory, StopsHistory};
 ghost use Rattle.history_reading.specs.Usual.{recorded_text};
 ghost use Rattle.text_stream.specs.Watched.{FailsBy};
 
-use super::entry::InHistory;
-use super::quick_history::read_quick_history;
+use super::quick_entry::InHistory;
 use super::{Recorded, history_of};
-use json_fields::{Stop, read_usual};
+use call_reading::read_usual;
+use json_fields::Stop;
 use minislots::Checked;
-use sched_history::Entry;
+use sched_calls::Entry;
 use std::alloc::Global;
 use text_stream::{Source, TextFault, parse, read_all};
 
-// The history that a text stands for, read from its tokens. One that is not in the usual form is read as a tree, which
-// tells its fault.
-fn history_of_tokens(alloc: Global, bytes: &[u8]) -> Result<Recorded, TextFault>
+// The history that a text stands for. One that is not in the usual form is read as a tree, which tells its fault.
+fn history_of_text(alloc: Global, bytes: &[u8]) -> Result<Recorded, TextFault>
     ensures { Gives history_with result (recorded_text bytes.now) }
 {
     match read_usual::<InHistory, _>(alloc, bytes, "entries") {
@@ -30,16 +29,6 @@ fn history_of_tokens(alloc: Global, bytes: &[u8]) -> Result<Recorded, TextFault>
             let value = parse(alloc, bytes)?;
             history_of(alloc, &value)
         }
-    }
-}
-
-// The history that a text stands for. One in the usual spelling is read byte by byte, any other from its tokens.
-fn history_of_text(alloc: Global, bytes: &[u8]) -> Result<Recorded, TextFault>
-    ensures { Gives history_with result (recorded_text bytes.now) }
-{
-    match read_quick_history(alloc, bytes) {
-        Ok((config, entries)) => Ok(Recorded { config, entries }),
-        Err(_stop) => history_of_tokens(alloc, bytes),
     }
 }
 

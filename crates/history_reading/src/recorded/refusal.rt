@@ -3,8 +3,7 @@
 ghost use Rattle.std.specs.Prelude.{◌≡◌, Some, None};
 ghost use Rattle.history_reading.specs.Refusals.{fault_with, refusal_with};
 
-use flow_book::FlowFault;
-use sched_history::Refusal;
+use sched_calls::{FlowFault, Refusal};
 
 // The fault in a flow's parameters that has this number.
 #[tactic(auto, unfolding(crate::specs::Refusals::fault_with))]

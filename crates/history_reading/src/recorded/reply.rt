@@ -8,10 +8,8 @@ use super::numbers::{numbers_u16, numbers_u32};
 use super::refusal::refusal_with;
 use hex::FromHexError;
 use json_fields::{Tree, member, number_u64, text};
-use map_build::{ByteCounts, FrameMap};
 use map_codec::{DecodeFault, WireMap, decode};
-use periodic::{Placement, Starts};
-use sched_history::Reply;
+use sched_calls::{ByteCounts, FrameMap, Placement, Reply, Starts};
 use std::alloc::{AllocError, Global};
 
 #[tactic(auto, unfolding(crate::specs::Replies::placed_reply))]

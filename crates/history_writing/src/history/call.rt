@@ -2,16 +2,15 @@
 
 ghost use Rattle.std.specs.Prelude.{◌≡◌, ◌++◌, OnOk, codes};
 ghost use Rattle.serde_json.specs.Data.{string, object, no_members, member};
-ghost use Rattle.flow_book.specs.declared.spec.FlowSpec.TheVariants.{Unsolicited, Polled, BestEffort};
-ghost use Rattle.map_build.specs.declared.opportunity.Usage.TheVariants.{Initial, Station};
+ghost use Rattle.sched_calls.specs.declared.spec.FlowSpec.TheVariants.{Unsolicited, Polled, BestEffort};
+ghost use Rattle.sched_calls.specs.declared.opportunity.Usage.TheVariants.{Initial, Station};
+ghost use Rattle.history_writing.specs.Fits.{CallFits};
 ghost use Rattle.history_writing.specs.Json.{count, flow_data, call_data};
 ghost use Rattle.history_writing.specs.Tokens.{tokens_of};
 
 use super::count::{put_count, put_name};
-use flow_book::FlowSpec;
 use json::Writer;
-use map_build::{Header, Usage};
-use sched_history::Call;
+use sched_calls::{Call, FlowSpec, Header, Usage};
 use std::alloc::AllocError;
 
 #[tactic(auto, unfolding(crate::specs::Json::flow_data))]
@@ -219,6 +218,7 @@ fn put_header(out: &mut Writer, header: Header) -> Result<(), AllocError>
 pub fn put_call(out: &mut Writer, call: Call) -> Result<(), AllocError>
     ensures ok { OnOk result (out.new.tokens ≡ out.old.tokens ++ tokens_of (call_data call)) }
     ensures before { out.new.before ≡ out.old.before }
+    ensures fits { CallFits call }
 {
     match call {
         Call::Admit(sid, flow) => put_admit(out, sid, flow),

@@ -36,7 +36,7 @@ static FIELDS: [&str; 21] = [
 
 /// Writes a configuration: a member for each field.
 #[tactic(auto, unfolding(crate::specs::HistoryText::config_data))]
-pub fn put_config(out: &mut Writer, config: &Config) -> Result<(), AllocError>
+pub(crate) fn put_config(out: &mut Writer, config: &Config) -> Result<(), AllocError>
     ensures ok { OnOk result
         (out.new.tokens ≡ out.old.tokens ++ tokens_of (config_data config.now)) }
     ensures before { out.new.before ≡ out.old.before }

@@ -1,6 +1,7 @@
 //! Whole numbers and names as members of JSON objects, token by token.
 
-ghost use Rattle.std.specs.Prelude.{◌≡◌, ◌++◌, ◌∷◌, length, OnOk};
+ghost use Rattle.std.specs.Prelude.{◌≡◌, ◌<◌, ◌^◌, ◌++◌, ◌∷◌, length, OnOk};
+ghost use Rattle.std.specs.List.{AllByRecursion};
 ghost use Rattle.json.specs.Token.{key};
 ghost use Rattle.history_writing.specs.Json.{count, counts};
 ghost use Rattle.history_writing.specs.Tokens.{tokens_of, counted, numbered, titled};
@@ -41,6 +42,7 @@ fn put_number(out: &mut Writer, number: u64) -> Result<(), AllocError>
 pub fn put_count(out: &mut Writer, title: &str, number: u64) -> Result<(), AllocError>
     ensures ok { OnOk result (out.new.tokens ≡ out.old.tokens ++ numbered title.now number) }
     ensures before { out.new.before ≡ out.old.before }
+    ensures fits { number < 2 ^ 64 }
 {
     out.key(title)?;
     put_number(out, number)
@@ -74,6 +76,7 @@ pub fn put_offsets(out: &mut Writer, name: &str, offsets: &[u16]) -> Result<(), 
     ensures ok { OnOk result (out.new.tokens
         ≡ out.old.tokens ++ key name.now ∷ tokens_of (counts offsets.now)) }
     ensures before { out.new.before ≡ out.old.before }
+    ensures fits { AllByRecursion (λ offset. offset < 2 ^ 16) offsets.now }
 {
     out.key(name)?;
     out.begin_array()?;
@@ -88,6 +91,7 @@ pub fn put_bytes(out: &mut Writer, name: &str, numbers: &[u32]) -> Result<(), Al
     ensures ok { OnOk result (out.new.tokens
         ≡ out.old.tokens ++ key name.now ∷ tokens_of (counts numbers.now)) }
     ensures before { out.new.before ≡ out.old.before }
+    ensures fits { AllByRecursion (λ number. number < 2 ^ 32) numbers.now }
 {
     out.key(name)?;
     out.begin_array()?;

@@ -1,19 +1,18 @@
 //! Replies as JSON.
 
-ghost use Rattle.std.specs.Prelude.{◌≡◌, ◌++◌, OnOk, codes};
+ghost use Rattle.std.specs.Prelude.{◌≡◌, ◌++◌, OnOk, Some, codes};
 ghost use Rattle.hex.specs.Hex.{encode_lower};
 ghost use Rattle.map_codec.specs.WireMap.{IsWellFormed, spelling};
-ghost use Rattle.sched_history.specs.Machine.{IsEncodable};
-ghost use Rattle.sched_history.specs.declared.reply.Reply.TheVariants.{Skipped, Flow};
+ghost use Rattle.sched_calls.specs.Reply.{IsEncodable};
+ghost use Rattle.sched_calls.specs.declared.reply.Reply.TheVariants.{Skipped, Flow};
+ghost use Rattle.history_writing.specs.Fits.{MapFits, PlacementFits, ReplyFits, ValueFits};
 ghost use Rattle.history_writing.specs.Json.{placed_data, map_data, plain_data, refused_data, reply_data};
 ghost use Rattle.history_writing.specs.Tokens.{tokens_of, titled};
 
 use super::count::{put_bytes, put_count, put_name, put_offsets};
 use json::Writer;
-use map_build::FrameMap;
 use map_codec::{MAX_BYTES, WireMap, encode};
-use periodic::Placement;
-use sched_history::Reply;
+use sched_calls::{FrameMap, Placement, Reply};
 use sched_lines::{refusal_number, refusal_value, write_hex};
 use std::alloc::AllocError;
 use std::str;
@@ -23,6 +22,7 @@ fn put_placed(out: &mut Writer, placement: &Placement) -> Result<(), AllocError>
     ensures ok { OnOk result
         (out.new.tokens ≡ out.old.tokens ++ tokens_of (placed_data placement.now)) }
     ensures before { out.new.before ≡ out.old.before }
+    ensures fits { OnOk result (PlacementFits (Some placement.now)) }
 {
     out.begin_object()?;
     put_name(out, "kind", "admitted")?;
@@ -56,6 +56,7 @@ fn put_map(out: &mut Writer, kind: &str, frame: &FrameMap) -> Result<(), AllocEr
     ensures ok { OnOk result
         (out.new.tokens ≡ out.old.tokens ++ tokens_of (map_data kind.now frame.now)) }
     ensures before { out.new.before ≡ out.old.before }
+    ensures fits { OnOk result (MapFits frame.now) }
 {
     out.begin_object()?;
     put_count(out, "ack", frame.ack)?;
@@ -71,6 +72,7 @@ fn put_refused(out: &mut Writer, number: u64, value: Option<u64>) -> Result<(), 
     ensures ok { OnOk result
         (out.new.tokens ≡ out.old.tokens ++ tokens_of (refused_data number value)) }
     ensures before { out.new.before ≡ out.old.before }
+    ensures fits { ValueFits value }
 {
     out.begin_object()?;
     put_name(out, "kind", "refused")?;
@@ -124,6 +126,7 @@ pub fn put_reply(out: &mut Writer, reply: &Reply) -> Result<(), AllocError>
     requires { IsEncodable reply.now }
     ensures ok { OnOk result (out.new.tokens ≡ out.old.tokens ++ tokens_of (reply_data reply.now)) }
     ensures before { out.new.before ≡ out.old.before }
+    ensures fits { OnOk result (ReplyFits reply.now) }
 {
     match reply {
         Reply::Admitted(None) => put_plain(out, "admitted"),

@@ -6,6 +6,7 @@ ghost use Rattle.minislots.specs.Config.{burst_fields, frame_fields, grant_field
 ghost use Rattle.minislots.specs.Config.{backoff_fields, channel_fields, NamesFirstWrong};
 
 use super::{Config, ConfigFault};
+use crate::MAX_ASK;
 use crate::units::carriers;
 
 // The fault where its field isn't lawful.
@@ -71,7 +72,7 @@ impl Config {
     {
         require(self.has_room_for_quantum(), ConfigFault::Quantum)?;
         require(
-            is_within(self.quantum, 1_048_560, self.grant_cap),
+            is_within(self.quantum, MAX_ASK, self.grant_cap),
             ConfigFault::GrantCap,
         )
     }

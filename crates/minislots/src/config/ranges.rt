@@ -5,6 +5,7 @@ ghost use Rattle.minislots.specs.Config.{is_within, is_lawful_field, first_wrong
 ghost use Rattle.minislots.specs.Ranges.{fields_before, with_value, rule_of, meets, most_quantum};
 
 use super::{Config, ConfigFault};
+use crate::MAX_ASK;
 
 /// What a field's value must be beside standing in its range.
 #[derive(Clone, Copy)]
@@ -51,7 +52,7 @@ impl Config {
             ConfigFault::Lead => (0, 4096u64.saturating_sub(2 * frame)),
             ConfigFault::ShortMax => (0, frame),
             ConfigFault::Quantum => (64, self.most_quantum()),
-            ConfigFault::GrantCap => (self.quantum.into(), 1_048_560),
+            ConfigFault::GrantCap => (self.quantum.into(), MAX_ASK.into()),
             ConfigFault::Receivers => (1, 16),
             ConfigFault::Calls => (1, 1 << 24),
             ConfigFault::Start => (0, 1 << 60),

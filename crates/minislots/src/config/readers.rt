@@ -1,6 +1,7 @@
 //! A reader for each field of a lawful configuration.
 
 ghost use Rattle.std.specs.Prelude.{◌≡◌, ◌<◌, ◌≤◌, ◌+◌, ◌*◌, ◌%◌, ◌^◌};
+ghost use Rattle.minislots.specs.declared.TheConstants.{MAX_ASK};
 ghost use Rattle.minislots.specs.Config.{IsLawful};
 
 use super::Checked;
@@ -105,7 +106,7 @@ impl Checked {
         ensures value { result ≡ self.now.grant_cap }
         ensures lawful { IsLawful self.now }
         ensures least { self.now.quantum ≤ result }
-        ensures most { result ≤ 1048560 }
+        ensures most { result ≤ MAX_ASK }
     {
         self.config.grant_cap
     }

@@ -1,54 +1,120 @@
-//! What the minislots were for, the calls and the refusals.
+//! The frames, what their minislots were for, and the calls.
 
-use crate::text::{ms_of, push_left, push_number, push_percent};
+ghost use Rattle.std.specs.Prelude.{◌≡◌, ◌<◌, ◌^◌, ◌++◌, OnOk};
+ghost use Rattle.sched_report.specs.Uses.{all_slots};
+ghost use Rattle.report_writing.specs.Tables.{reach_text, time_text, no_frames_text, head_text, use_cells, call_cells};
+ghost use Rattle.report_writing.specs.Tables.{use_line, call_line, first_uses, last_uses, last_calls, uses_text};
+
+use crate::text::{
+    microseconds, push_decimal, push_left, push_number, push_percent, push_spaces, push_time,
+};
 use sched_report::{Calls, Slots, Totals};
-use std::alloc::{AllocError, Global};
-use std::fmt::Write;
+use std::alloc::AllocError;
 
-// How many refusals stand in a line.
-const IN_A_LINE: usize = 5;
+// How many frames there are, and from where to where they reach.
+#[tactic(auto, unfolding(crate::specs::Tables::reach_text))]
+fn push_reach(words: &mut Vec<u8>, frames: u64, from: u64, to: u64) -> Result<(), AllocError>
+    ensures { OnOk result (words.new.items ≡ words.old.items ++ reach_text frames from to) }
+{
+    push_decimal(words, frames)?;
+    words.extend_from_slice(b" frames, minislots ")?;
+    push_decimal(words, from)?;
+    words.extend_from_slice(b" to ")?;
+    push_decimal(words, to)
+}
+
+// So many microseconds, and how often frames were left out.
+#[tactic(auto, unfolding(crate::specs::Tables::time_text))]
+fn push_span(words: &mut Vec<u8>, microseconds: u128, skips: u64) -> Result<(), AllocError>
+    ensures { OnOk result (words.new.items ≡ words.old.items ++ time_text microseconds skips) }
+{
+    words.extend_from_slice(b", ")?;
+    push_time(words, microseconds)?;
+    words.extend_from_slice(b" ms, ")?;
+    push_decimal(words, skips)?;
+    words.extend_from_slice(b" skips\n")
+}
+
+// How often frames were left out, where there is none.
+#[tactic(auto, unfolding(crate::specs::Tables::no_frames_text))]
+fn push_no_frames(words: &mut Vec<u8>, skips: u64) -> Result<(), AllocError>
+    ensures { OnOk result (words.new.items ≡ words.old.items ++ no_frames_text skips) }
+{
+    words.extend_from_slice(b"no frames, ")?;
+    push_decimal(words, skips)?;
+    words.extend_from_slice(b" skips\n")
+}
 
 // The first line: the frames and their time.
-pub(crate) fn push_head(
-    words: &mut String,
-    alloc: Global,
-    ticks: u32,
-    totals: &Totals,
-) -> Result<(), AllocError> {
+#[tactic(auto, unfolding(crate::specs::Tables::head_text))]
+pub(crate) fn push_head(words: &mut Vec<u8>, ticks: u32, totals: &Totals) -> Result<(), AllocError>
+    ensures { OnOk result (words.new.items ≡ words.old.items ++ head_text ticks totals.now) }
+{
     let (Some(from), Some(to)) = (totals.from, totals.to) else {
-        return writeln!(words, "no frames, {} skips", totals.skips);
+        return push_no_frames(words, totals.skips);
     };
-    let time = ms_of(alloc, ticks, to.saturating_sub(from), 20)?;
-    let (frames, skips) = (totals.frames, totals.skips);
-    writeln!(
+    push_reach(words, totals.frames, from, to)?;
+    push_span(
         words,
-        "{frames} frames, minislots {from} to {to}, {time} ms, {skips} skips"
+        microseconds(ticks, to.saturating_sub(from)),
+        totals.skips,
     )
 }
 
 // A use of minislots, and the part of all that they are.
-fn push_use(
-    words: &mut String,
-    alloc: Global,
-    name: &str,
-    minislots: u64,
-    all: u128,
-) -> Result<(), AllocError> {
+#[tactic(auto, unfolding(crate::specs::Tables::use_cells))]
+fn push_use(words: &mut Vec<u8>, name: &[u8], minislots: u64, all: u128) -> Result<(), AllocError>
+    requires { all < 2 ^ 100 }
+    ensures { OnOk result (words.new.items ≡ words.old.items ++ use_cells name.now minislots all) }
+{
     push_left(words, name, 11)?;
-    push_number(words, alloc, u128::from(minislots), 14)?;
-    push_percent(words, alloc, minislots, all, 7)
+    push_number(words, u128::from(minislots), 14)?;
+    push_percent(words, minislots, all, 7)
 }
 
-// How many calls there were of a kind.
-fn push_call(words: &mut String, alloc: Global, name: &str, count: u64) -> Result<(), AllocError> {
-    push_left(words, "", 8)?;
+// A kind of call, and how many there were.
+#[tactic(auto, unfolding(crate::specs::Tables::call_cells))]
+fn push_call(words: &mut Vec<u8>, name: &[u8], count: u64) -> Result<(), AllocError>
+    ensures { OnOk result (words.new.items ≡ words.old.items ++ call_cells name.now count) }
+{
+    push_spaces(words, 8)?;
     push_left(words, name, 7)?;
-    push_number(words, alloc, u128::from(count), 11)?;
-    words.push('\n')
+    push_number(words, u128::from(count), 11)?;
+    words.extend_from_slice(b"\n")
+}
+
+// A line of both.
+#[tactic(auto, unfolding(crate::specs::Tables::use_line))]
+fn push_line(
+    words: &mut Vec<u8>,
+    name: &[u8],
+    minislots: u64,
+    all: u128,
+    call: &[u8],
+    count: u64,
+) -> Result<(), AllocError>
+    requires { all < 2 ^ 100 }
+    ensures { OnOk result (words.new.items
+        ≡ words.old.items ++ use_line name.now minislots all call.now count) }
+{
+    push_use(words, name, minislots, all)?;
+    push_call(words, call, count)
+}
+
+// A line of a call alone.
+#[tactic(auto, unfolding(crate::specs::Tables::call_line))]
+fn push_call_alone(words: &mut Vec<u8>, name: &[u8], count: u64) -> Result<(), AllocError>
+    ensures { OnOk result (words.new.items ≡ words.old.items ++ call_line name.now count) }
+{
+    push_spaces(words, 34)?;
+    push_call(words, name, count)
 }
 
 // The minislots of all uses.
-fn all_of(slots: &Slots) -> u128 {
+fn all_of(slots: &Slots) -> u128
+    ensures all { result ≡ all_slots slots.now }
+    ensures small { result < 2 ^ 100 }
+{
     u128::from(slots.request)
         + u128::from(slots.poll)
         + u128::from(slots.unsolicited)
@@ -57,55 +123,77 @@ fn all_of(slots: &Slots) -> u128 {
         + u128::from(slots.idle)
 }
 
-// The use of minislots, and beside it the calls.
-pub(crate) fn push_uses(
-    words: &mut String,
-    alloc: Global,
+// Minislots in which modems may ask and of unsolicited grants, and calls about flows.
+#[tactic(auto, unfolding(crate::specs::Tables::first_uses))]
+fn push_first_uses(
+    words: &mut Vec<u8>,
     slots: &Slots,
+    all: u128,
     calls: &Calls,
-) -> Result<(), AllocError> {
-    let all = all_of(slots);
-    words.push_str("\nuse              minislots       %        calls\n")?;
-    push_use(words, alloc, "request", slots.request, all)?;
-    push_call(words, alloc, "admit", calls.admit)?;
-    push_use(words, alloc, "poll", slots.poll, all)?;
-    push_call(words, alloc, "remove", calls.remove)?;
-    push_use(words, alloc, "unsolicited", slots.unsolicited, all)?;
-    push_call(words, alloc, "ask", calls.ask)?;
-    push_use(words, alloc, "opportunity", slots.opportunity, all)?;
-    push_call(words, alloc, "heard", calls.heard)?;
-    push_use(words, alloc, "data", slots.data_grants, all)?;
-    push_call(words, alloc, "build", calls.build)?;
-    push_use(words, alloc, "idle", slots.idle, all)?;
-    push_call(words, alloc, "skip", calls.skip)?;
-    push_left(words, "", 34)?;
-    push_call(words, alloc, "reserve", calls.reserve)?;
-    push_left(words, "", 34)?;
-    push_call(words, alloc, "header", calls.header)?;
-    push_left(words, "", 34)?;
-    push_call(words, alloc, "status", calls.status)
+) -> Result<(), AllocError>
+    requires { all < 2 ^ 100 }
+    ensures { OnOk result (words.new.items ≡ words.old.items ++ first_uses slots.now all calls.now) }
+{
+    push_line(words, b"request", slots.request, all, b"admit", calls.admit)?;
+    push_line(words, b"poll", slots.poll, all, b"remove", calls.remove)?;
+    push_line(
+        words,
+        b"unsolicited",
+        slots.unsolicited,
+        all,
+        b"ask",
+        calls.ask,
+    )
 }
 
-// How many refusals there were with each number, where there was one.
-pub(crate) fn push_refused(
-    words: &mut String,
-    alloc: Global,
-    refused: &[u64],
-) -> Result<(), AllocError> {
-    let mut told = 0;
-    for (place, count) in refused.iter().enumerate() {
-        if *count == 0 {
-            continue;
-        }
-        if told % IN_A_LINE == 0 {
-            words.push_str("\nrefused")?;
-        }
-        told = told.saturating_add(1);
-        write!(words, " {:>3}:", place + 1)?;
-        push_number(words, alloc, u128::from(*count), 8)?;
-    }
-    if told > 0 {
-        words.push('\n')?;
-    }
-    Ok(())
+// The other minislots, and calls about frames.
+#[tactic(auto, unfolding(crate::specs::Tables::last_uses))]
+fn push_last_uses(
+    words: &mut Vec<u8>,
+    slots: &Slots,
+    all: u128,
+    calls: &Calls,
+) -> Result<(), AllocError>
+    requires { all < 2 ^ 100 }
+    ensures { OnOk result (words.new.items ≡ words.old.items ++ last_uses slots.now all calls.now) }
+{
+    push_line(
+        words,
+        b"opportunity",
+        slots.opportunity,
+        all,
+        b"heard",
+        calls.heard,
+    )?;
+    push_line(
+        words,
+        b"data",
+        slots.data_grants,
+        all,
+        b"build",
+        calls.build,
+    )?;
+    push_line(words, b"idle", slots.idle, all, b"skip", calls.skip)
+}
+
+// The other calls.
+#[tactic(auto, unfolding(crate::specs::Tables::last_calls))]
+fn push_last_calls(words: &mut Vec<u8>, calls: &Calls) -> Result<(), AllocError>
+    ensures { OnOk result (words.new.items ≡ words.old.items ++ last_calls calls.now) }
+{
+    push_call_alone(words, b"reserve", calls.reserve)?;
+    push_call_alone(words, b"header", calls.header)?;
+    push_call_alone(words, b"status", calls.status)
+}
+
+// The use of minislots, and beside it the calls.
+#[tactic(auto, unfolding(crate::specs::Tables::uses_text))]
+pub(crate) fn push_uses(words: &mut Vec<u8>, slots: &Slots, calls: &Calls) -> Result<(), AllocError>
+    ensures { OnOk result (words.new.items ≡ words.old.items ++ uses_text slots.now calls.now) }
+{
+    let all = all_of(slots);
+    words.extend_from_slice(b"\nuse              minislots       %        calls\n")?;
+    push_first_uses(words, slots, all, calls)?;
+    push_last_uses(words, slots, all, calls)?;
+    push_last_calls(words, calls)
 }

@@ -2,7 +2,7 @@
 use Rattle.std.proofs.Common.{List, [], take}
 use Rattle.minislots.specs.declared.config.Config.{Config}
 use Rattle.minislots.specs.Config.{IsLawful}
-use Rattle.sched_history.specs.declared.reply.Entry.{Entry}
+use Rattle.sched_calls.specs.declared.reply.Entry.{Entry}
 use Rattle.sched_history.specs.History.{IsStep, IsLegal}
 use Rattle.sched_history.specs.Facts.{HoldsAfter, FollowsAlways}
 use Rattle.sched_history.proofs.steps.LegalHistories.{EachAfter-take}

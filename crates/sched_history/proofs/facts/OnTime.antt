@@ -7,26 +7,26 @@ use Rattle.minislots.specs.declared.config.Config.{Config}
 use Rattle.minislots.specs.Config.{IsLawful}
 use Rattle.minislots.proofs.Bounds.{bounds_of}
 use Rattle.map_codec.specs.declared.element.Element.{Element}
-use Rattle.flow_book.specs.FlowSpec.{interval_frames}
+use Rattle.sched_calls.specs.FlowSpec.{interval_frames}
 use Rattle.flow_book.specs.Flows.{LiveFlow, outstanding}
 use Rattle.periodic.specs.declared.placement.Spot.{Spot}
 use Rattle.periodic.specs.Placement.{Placed, phase_of, starts_in, spot_at, spots_of, spots_in}
 use Rattle.periodic.proofs.Frames.{IsStartIn, starts-here, in-cycle}
 use Rattle.periodic.proofs.Joined.{all-map}
 use Rattle.map_build.specs.EachAfter.{EachAfter}
-use Rattle.map_build.specs.declared.opportunity.Header.{Header}
-use Rattle.map_build.specs.declared.opportunity.Usage.{Usage}
-use Rattle.map_build.specs.declared.opportunity.Usage.TheVariants.{Initial, Station}
+use Rattle.sched_calls.specs.declared.opportunity.Header.{Header}
+use Rattle.sched_calls.specs.declared.opportunity.Usage.{Usage}
+use Rattle.sched_calls.specs.declared.opportunity.Usage.TheVariants.{Initial, Station}
 use Rattle.map_build.specs.declared.purpose.Allocation.{Allocation}
 use Rattle.map_build.specs.declared.purpose.Purpose.{Purpose}
 use Rattle.map_build.specs.declared.purpose.Purpose.TheVariants.{Poll, UnsolicitedGrant, Offer, DataGrant, Idle}
 use Rattle.map_build.specs.Purpose.{broadcast, kind_of, element_of, bytes_in}
 use Rattle.map_build.specs.Plan.{Demand, flows_after, IsOfClass, Stands}
 use Rattle.map_build.specs.FrameMap.{request_region, null_element, pending_of, pending, map_of}
-use Rattle.sched_history.specs.declared.call.Call.{Call}
-use Rattle.sched_history.specs.declared.reply.Reply.{Reply}
-use Rattle.sched_history.specs.declared.reply.Reply.TheVariants as replies
-use Rattle.sched_history.specs.declared.reply.Entry.{Entry}
+use Rattle.sched_calls.specs.declared.call.Call.{Call}
+use Rattle.sched_calls.specs.declared.reply.Reply.{Reply}
+use Rattle.sched_calls.specs.declared.reply.Reply.TheVariants as replies
+use Rattle.sched_calls.specs.declared.reply.Entry.{Entry}
 use Rattle.sched_history.specs.Life.{table_of}
 use Rattle.sched_history.specs.Time.{next_after, ack_after}
 use Rattle.sched_history.specs.Refusal.{bad_sid}

@@ -8,14 +8,14 @@ use Rattle.std.proofs.lemmas.List.Sums.{length-filter, count_by-le-length}
 use Rattle.minislots.specs.declared.config.Config.{Config}
 use Rattle.minislots.specs.Config.{IsLawful, HasBounds}
 use Rattle.minislots.proofs.Bounds.{bounds_of}
-use Rattle.flow_book.specs.declared.TheConstants.{MAX_FLOWS}
+use Rattle.sched_calls.specs.declared.TheConstants.{MAX_FLOWS}
 use Rattle.flow_book.specs.Flows.{LiveFlow, outstanding}
 use Rattle.flow_book.proofs.Order.{all-push}
-use Rattle.periodic.specs.declared.TheConstants.{MAX_PERIODIC_GRANTS}
+use Rattle.sched_calls.specs.declared.TheConstants.{MAX_PERIODIC_GRANTS}
 use Rattle.periodic.specs.declared.placement.Spot.{Spot}
 use Rattle.periodic.specs.Placement.{Placed, starts_in, spot_at, spots_of, spots_in}
 use Rattle.periodic.proofs.Joined.{all-map}
-use Rattle.map_build.specs.declared.frame_map.FrameMap.{FrameMap}
+use Rattle.sched_calls.specs.declared.frame_map.FrameMap.{FrameMap}
 use Rattle.map_build.specs.declared.TheConstants.{MAX_WAITING}
 use Rattle.map_build.specs.declared.purpose.Allocation.{Allocation}
 use Rattle.map_build.specs.Purpose.{element_of}
@@ -23,7 +23,7 @@ use Rattle.map_build.specs.Plan.{Demand, flow_after, flows_after, IsPlan}
 use Rattle.map_build.specs.FrameMap.{null_element, pending_of, pending, elements_of}
 use Rattle.map_build.proofs.Counts.{length-plan}
 use Rattle.map_build.proofs.WellFormed.{HaveSids, HaveSpotSids}
-use Rattle.sched_history.specs.declared.reply.Entry.{Entry}
+use Rattle.sched_calls.specs.declared.reply.Entry.{Entry}
 use Rattle.sched_history.specs.Life.{flows_of, table_of}
 use Rattle.sched_history.specs.Time.{next_after}
 use Rattle.sched_history.specs.History.{demand_after, IsNextMap, map_by, IsStep, IsLegal}

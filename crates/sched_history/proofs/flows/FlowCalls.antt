@@ -8,9 +8,9 @@ use Rattle.minislots.specs.declared.stamp.Stamp.{Stamp}
 use Rattle.flow_book.specs.Flows.{LiveFlow}
 use Rattle.flow_book.specs.Book.{without, changed, with_asked}
 use Rattle.periodic.specs.Table.{without as without_placed}
-use Rattle.sched_history.specs.declared.call.Call.TheVariants as calls
-use Rattle.sched_history.specs.declared.reply.Reply.TheVariants as replies
-use Rattle.sched_history.specs.declared.reply.Entry.{Entry}
+use Rattle.sched_calls.specs.declared.call.Call.TheVariants as calls
+use Rattle.sched_calls.specs.declared.reply.Reply.TheVariants as replies
+use Rattle.sched_calls.specs.declared.reply.Entry.{Entry}
 use Rattle.sched_history.specs.Life.{Ends, flow_in_life, placed_in_life, sids, flows_of, table_of}
 use Rattle.sched_history.proofs.lives.LivesAfter.{life_of-ends}
 use Rattle.sched_history.proofs.lists.Numbered.{kept_if, filter_map-kept}

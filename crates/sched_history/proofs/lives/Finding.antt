@@ -5,11 +5,11 @@ use Rattle.std.specs.Prelude.{is_some}
 use Rattle.std.specs.List.{AllByRecursion}
 use Rattle.std.specs.Option.{option_map, option_and_then}
 use Rattle.std.proofs.lemmas.Bool.Decides.{nat_tests}
-use Rattle.flow_book.specs.declared.spec.FlowSpec.{FlowSpec}
+use Rattle.sched_calls.specs.declared.spec.FlowSpec.{FlowSpec}
 use Rattle.flow_book.specs.Flows.{LiveFlow, flow_of}
-use Rattle.periodic.specs.declared.placement.Placement.{Placement}
+use Rattle.sched_calls.specs.declared.placement.Placement.{Placement}
 use Rattle.periodic.specs.Placement.{count_from, Placed}
-use Rattle.sched_history.specs.declared.reply.Entry.{Entry}
+use Rattle.sched_calls.specs.declared.reply.Entry.{Entry}
 use Rattle.sched_history.specs.Life.{Life, life_of, flow_in_life, placed_in_life, sids, flows_of, table_of}
 use Rattle.sched_history.specs.Refusal.{bad_sid, is_live}
 use Rattle.sched_history.proofs.lists.Numbered.{HasNumber, filter_map-above, filter_map-below}

@@ -6,7 +6,7 @@ use Rattle.std.proofs.lemmas.List.Sums.{sum_by_push}
 use Rattle.std.proofs.lemmas.Grind.{flat_map-append}
 use Rattle.flow_book.specs.declared.flow.Grant.{Grant}
 use Rattle.flow_book.specs.Flows.{LiveFlow}
-use Rattle.sched_history.specs.declared.reply.Entry.{Entry}
+use Rattle.sched_calls.specs.declared.reply.Entry.{Entry}
 use Rattle.sched_history.specs.Life.{turn_by, Life, life_of, asked_by, asked_in, grants_by, grants_since}
 use Rattle.sched_history.specs.Life.{flow_in_life, placed_in_life, sids, flows_of, table_of}
 use Rattle.sched_history.proofs.lives.LivesAfter.{with_since, life_of-stays}

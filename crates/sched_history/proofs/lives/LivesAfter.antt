@@ -1,7 +1,7 @@
 -- The life of each SID after one more entry.
 use Rattle.std.proofs.Common.{◌≡◌, ℕ, List, [], ◌∷◌, ◌++◌, Option, None, Some, refl, ap, ◌∙◌}
 use Rattle.std.specs.Option.{option_map, option_and_then}
-use Rattle.sched_history.specs.declared.reply.Entry.{Entry}
+use Rattle.sched_calls.specs.declared.reply.Entry.{Entry}
 use Rattle.sched_history.specs.Latest.{Found, latest}
 use Rattle.sched_history.specs.Life.{Admission, Turn, Begins, Ends, turn_by, turn_of, Life, life_after, life_of}
 use Rattle.sched_history.proofs.lists.Latests.{with_after, latest-says, latest-silent}

@@ -4,12 +4,12 @@ use Rattle.std.specs.Prelude.{is_some}
 use Rattle.std.specs.List.{filter, filter_map, cons_option}
 use Rattle.std.specs.Option.{option_map, option_and_then}
 use Rattle.minislots.specs.declared.config.Config.{Config}
-use Rattle.flow_book.specs.FlowSpec.{is_periodic}
+use Rattle.sched_calls.specs.FlowSpec.{is_periodic}
 use Rattle.flow_book.specs.Flows.{LiveFlow}
-use Rattle.periodic.specs.declared.placement.Placement.{Placement}
+use Rattle.sched_calls.specs.declared.placement.Placement.{Placement}
 use Rattle.periodic.specs.Placement.{Placed}
 use Rattle.map_build.specs.Spots.{ArePeriodicOf}
-use Rattle.sched_history.specs.declared.reply.Entry.{Entry}
+use Rattle.sched_calls.specs.declared.reply.Entry.{Entry}
 use Rattle.sched_history.specs.Life.{Life, life_of, flow_in_life, placed_in_life, sids, flows_of, table_of}
 use Rattle.sched_history.specs.History.{IsLegal}
 use Rattle.sched_history.proofs.placements.Counts.{IsPaired, life_of-pairs}

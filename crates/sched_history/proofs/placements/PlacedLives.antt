@@ -4,16 +4,16 @@ use Rattle.std.proofs.Common.{Option, None, Some, refl, sym, ap, ◌∙◌, subs
 use Rattle.std.specs.Option.{option_map, option_and_then}
 use Rattle.std.proofs.lemmas.Bool.Decides.{nat_tests}
 use Rattle.minislots.specs.declared.config.Config.{Config}
-use Rattle.flow_book.specs.declared.spec.FlowSpec.{FlowSpec}
-use Rattle.flow_book.specs.declared.spec.FlowSpec.TheVariants.{Unsolicited, Polled, BestEffort}
-use Rattle.flow_book.specs.FlowSpec.{is_periodic, first_fault}
-use Rattle.periodic.specs.declared.placement.Placement.{Placement}
+use Rattle.sched_calls.specs.declared.spec.FlowSpec.{FlowSpec}
+use Rattle.sched_calls.specs.declared.spec.FlowSpec.TheVariants.{Unsolicited, Polled, BestEffort}
+use Rattle.sched_calls.specs.FlowSpec.{is_periodic, first_fault}
+use Rattle.sched_calls.specs.declared.placement.Placement.{Placement}
 use Rattle.periodic.specs.Placement.{Placed, IsPlacement}
-use Rattle.sched_history.specs.declared.call.Call.{Call}
-use Rattle.sched_history.specs.declared.call.Call.TheVariants as calls
-use Rattle.sched_history.specs.declared.reply.Reply.{Reply}
-use Rattle.sched_history.specs.declared.reply.Reply.TheVariants as replies
-use Rattle.sched_history.specs.declared.reply.Entry.{Entry}
+use Rattle.sched_calls.specs.declared.call.Call.{Call}
+use Rattle.sched_calls.specs.declared.call.Call.TheVariants as calls
+use Rattle.sched_calls.specs.declared.reply.Reply.{Reply}
+use Rattle.sched_calls.specs.declared.reply.Reply.TheVariants as replies
+use Rattle.sched_calls.specs.declared.reply.Entry.{Entry}
 use Rattle.sched_history.specs.Life.{Admission, Turn, Begins, Ends, turn_by, Life}
 use Rattle.sched_history.specs.Life.{life_of, placed_in_life, sids, table_of}
 use Rattle.sched_history.specs.Time.{next_after}

@@ -8,17 +8,17 @@ use Rattle.std.proofs.lemmas.List.{length-map, length_push, length-take}
 use Rattle.minislots.specs.declared.config.Config.{Config}
 use Rattle.flow_book.proofs.Order.{all-push}
 use Rattle.map_build.specs.declared.TheConstants.{MAX_WAITING}
-use Rattle.map_build.specs.declared.opportunity.Opportunity.{Opportunity}
-use Rattle.map_build.specs.declared.opportunity.Usage.{Usage}
-use Rattle.map_build.specs.declared.opportunity.Usage.TheVariants.{Initial, Station}
+use Rattle.sched_calls.specs.declared.opportunity.Opportunity.{Opportunity}
+use Rattle.sched_calls.specs.declared.opportunity.Usage.{Usage}
+use Rattle.sched_calls.specs.declared.opportunity.Usage.TheVariants.{Initial, Station}
 use Rattle.map_build.specs.Opportunities.{HasStationSid, HaveStationSids, MayWait}
 use Rattle.sched_history.specs.declared.scheduler.reserves.Reserve.{Reserve}
-use Rattle.sched_history.specs.declared.call.TheConstants.{MAX_RESERVES}
-use Rattle.sched_history.specs.declared.call.Call.{Call}
-use Rattle.sched_history.specs.declared.call.Call.TheVariants as calls
-use Rattle.sched_history.specs.declared.reply.Reply.{Reply}
-use Rattle.sched_history.specs.declared.reply.Reply.TheVariants as replies
-use Rattle.sched_history.specs.declared.reply.Entry.{Entry}
+use Rattle.sched_calls.specs.declared.call.TheConstants.{MAX_RESERVES}
+use Rattle.sched_calls.specs.declared.call.Call.{Call}
+use Rattle.sched_calls.specs.declared.call.Call.TheVariants as calls
+use Rattle.sched_calls.specs.declared.reply.Reply.{Reply}
+use Rattle.sched_calls.specs.declared.reply.Reply.TheVariants as replies
+use Rattle.sched_calls.specs.declared.reply.Entry.{Entry}
 use Rattle.sched_history.specs.Refusal.{is_to_bad_sid}
 use Rattle.sched_history.specs.Reserves.{last_map, is_same, without_first, unmet_by, aged, new_reserve, offers_of}
 use Rattle.sched_history.specs.Reserves.{reserve_by, reserves_by, reserves_with, reserves_of, waiting_in}

@@ -9,8 +9,8 @@ use Rattle.map_codec.specs.declared.element.iuc.TheConstants.{SHORT_DATA_GRANT, 
 use Rattle.map_codec.specs.declared.element.iuc.TheConstants.{ADVANCED_SHORT_DATA_GRANT, ADVANCED_LONG_DATA_GRANT}
 use Rattle.map_codec.specs.declared.element.iuc.TheConstants.{ADVANCED_UNSOLICITED_GRANT}
 use Rattle.flow_book.specs.Flows.{LiveFlow}
-use Rattle.map_build.specs.declared.opportunity.Opportunity.{Opportunity}
-use Rattle.map_build.specs.declared.opportunity.Usage.TheVariants.{Initial, Station}
+use Rattle.sched_calls.specs.declared.opportunity.Opportunity.{Opportunity}
+use Rattle.sched_calls.specs.declared.opportunity.Usage.TheVariants.{Initial, Station}
 use Rattle.map_build.specs.declared.purpose.Allocation.{Allocation}
 use Rattle.map_build.specs.declared.purpose.Purpose.{Purpose}
 use Rattle.map_build.specs.declared.purpose.Purpose.TheVariants.{Poll, UnsolicitedGrant, Offer, DataGrant, Idle}

@@ -1,12 +1,12 @@
 -- The Reserves after one more entry.
 use Rattle.std.proofs.Common.{◌≡◌, false, List, [], ◌∷◌, ◌++◌, None, refl, ap, ◌∙◌}
-use Rattle.map_build.specs.declared.frame_map.FrameMap.{FrameMap}
+use Rattle.sched_calls.specs.declared.frame_map.FrameMap.{FrameMap}
 use Rattle.sched_history.specs.declared.scheduler.reserves.Reserve.{Reserve}
-use Rattle.sched_history.specs.declared.call.Call.{Call}
-use Rattle.sched_history.specs.declared.call.Call.TheVariants as calls
-use Rattle.sched_history.specs.declared.reply.Reply.{Reply}
-use Rattle.sched_history.specs.declared.reply.Reply.TheVariants as replies
-use Rattle.sched_history.specs.declared.reply.Entry.{Entry}
+use Rattle.sched_calls.specs.declared.call.Call.{Call}
+use Rattle.sched_calls.specs.declared.call.Call.TheVariants as calls
+use Rattle.sched_calls.specs.declared.reply.Reply.{Reply}
+use Rattle.sched_calls.specs.declared.reply.Reply.TheVariants as replies
+use Rattle.sched_calls.specs.declared.reply.Entry.{Entry}
 use Rattle.sched_history.specs.Time.{is_built}
 use Rattle.sched_history.specs.Reserves.{reserve_by, offers_of, unmet_by, aged, reserves_by, reserves_with}
 use Rattle.sched_history.specs.Reserves.{reserves_then, reserves_after, reserves_of}

@@ -1,18 +1,18 @@
 -- A worked history of one flow under a rate ceiling: two grants by the room, one by the ceiling, and a frame without.
 use Rattle.std.proofs.Common.{◌≡◌, ◌≢◌, ℕ, List, [], ◌∷◌, ◌++◌, None, refl, sym, lit≤}
 use Rattle.std.proofs.lemmas.Bool.{ne_eqb}
-use Rattle.flow_book.specs.declared.spec.FlowSpec.{FlowSpec}
-use Rattle.flow_book.specs.declared.spec.FlowSpec.TheVariants.{BestEffort}
-use Rattle.flow_book.specs.FlowSpec.{first_fault}
-use Rattle.flow_book.proofs.Base.{base}
+use Rattle.sched_calls.specs.declared.spec.FlowSpec.{FlowSpec}
+use Rattle.sched_calls.specs.declared.spec.FlowSpec.TheVariants.{BestEffort}
+use Rattle.sched_calls.specs.FlowSpec.{first_fault}
+use Rattle.sched_calls.proofs.Base.{base}
 use Rattle.flow_book.proofs.RowsCeiling.{under_ceiling, grant, limited, exhausted}
 use Rattle.map_build.proofs.RowsFirstGrant.{first_grant, a_first_grant_fills_the_room}
 use Rattle.map_build.proofs.RowsCeiling.{second_grant, a_second_grant_fills_the_room, ceiling_map}
 use Rattle.map_build.proofs.RowsCeiling.{a_frame_with_a_grant_at_the_ceiling, waiting_map}
 use Rattle.map_build.proofs.RowsCeiling.{a_frame_that_idles_at_the_ceiling}
-use Rattle.sched_history.specs.declared.call.Call.TheVariants.{Admit, Ask, Build, Status}
-use Rattle.sched_history.specs.declared.reply.Reply.TheVariants.{Admitted, Taken, Built, Flow}
-use Rattle.sched_history.specs.declared.reply.Entry.{Entry}
+use Rattle.sched_calls.specs.declared.call.Call.TheVariants.{Admit, Ask, Build, Status}
+use Rattle.sched_calls.specs.declared.reply.Reply.TheVariants.{Admitted, Taken, Built, Flow}
+use Rattle.sched_calls.specs.declared.reply.Entry.{Entry}
 use Rattle.sched_history.specs.Life.{Life, life_of}
 use Rattle.sched_history.specs.History.{IsStep, IsLegal}
 use Rattle.sched_history.proofs.lives.LiveFlows.{flows_of-none, flows_of-one, table_of-unplaced_one}

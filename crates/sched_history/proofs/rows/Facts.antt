@@ -4,17 +4,17 @@ use Rattle.std.proofs.Common.{sym, ap, subst, get_or, Contains, lit<, lit≤, ar
 use Rattle.std.specs.List.{AllByRecursion}
 use Rattle.std.proofs.lemmas.Bool.{ne_eqb}
 use Rattle.map_codec.specs.declared.element.Element.{Element}
-use Rattle.flow_book.specs.declared.spec.FlowSpec.TheVariants.{BestEffort}
-use Rattle.flow_book.proofs.Base.{base, the_base_is_lawful}
+use Rattle.sched_calls.specs.declared.spec.FlowSpec.TheVariants.{BestEffort}
+use Rattle.sched_calls.proofs.Base.{base, the_base_is_lawful}
 use Rattle.periodic.specs.Placement.{Placed, AreFree, spots_in}
 use Rattle.periodic.proofs.RowsPlacement.{voice, placement, first_placed}
-use Rattle.map_build.specs.declared.frame_map.FrameMap.{FrameMap}
+use Rattle.sched_calls.specs.declared.frame_map.FrameMap.{FrameMap}
 use Rattle.map_build.specs.FrameMap.{request_region, null_element}
-use Rattle.map_build.specs.declared.opportunity.Usage.TheVariants.{Initial}
-use Rattle.map_build.proofs.RowsMaps.{element, base_map, first_map}
-use Rattle.sched_history.specs.declared.call.Call.TheVariants.{Admit, Ask, Build, Reserve}
-use Rattle.sched_history.specs.declared.reply.Reply.TheVariants.{Admitted, Taken, Built, Reserved}
-use Rattle.sched_history.specs.declared.reply.Entry.{Entry}
+use Rattle.sched_calls.specs.declared.opportunity.Usage.TheVariants.{Initial}
+use Rattle.sched_calls.proofs.BaseMaps.{element, base_map, first_map}
+use Rattle.sched_calls.specs.declared.call.Call.TheVariants.{Admit, Ask, Build, Reserve}
+use Rattle.sched_calls.specs.declared.reply.Reply.TheVariants.{Admitted, Taken, Built, Reserved}
+use Rattle.sched_calls.specs.declared.reply.Entry.{Entry}
 use Rattle.sched_history.specs.Life.{Life, flow_in_life, flows_of, table_of}
 use Rattle.sched_history.specs.Facts.{IsWithinAsked, IsWithinRate, OffsetsAscend, IsOnTime, HoldsAfter}
 use Rattle.sched_history.proofs.lives.LiveFlows.{flows_of-one, table_of-one, table_of-none}

@@ -1,10 +1,10 @@
 -- Worked machines that keep at most two entries: when one is full, and what a hand-over changes.
 use Rattle.std.proofs.Common.{◌≡◌, ℕ, true, false, List, [], ◌∷◌, refl}
 use Rattle.minislots.specs.declared.config.Config.{Config}
-use Rattle.flow_book.proofs.Base.{base}
-use Rattle.sched_history.specs.declared.call.Call.TheVariants.{Status}
-use Rattle.sched_history.specs.declared.reply.Reply.TheVariants.{Flow}
-use Rattle.sched_history.specs.declared.reply.Entry.{Entry}
+use Rattle.sched_calls.proofs.Base.{base}
+use Rattle.sched_calls.specs.declared.call.Call.TheVariants.{Status}
+use Rattle.sched_calls.specs.declared.reply.Reply.TheVariants.{Flow}
+use Rattle.sched_calls.specs.declared.reply.Entry.{Entry}
 use Rattle.sched_history.specs.History.{IsStep}
 use Rattle.sched_history.specs.Machine.{Machine, kept_of, is_full}
 use Rattle.sched_history.proofs.rows.TwoMaps.{built, admitted, asked}

@@ -1,13 +1,13 @@
 -- Worked histories of headers: one is set for every MAP after it.
 use Rattle.std.proofs.Common.{◌≡◌, [], ◌∷◌, refl, lit<}
-use Rattle.flow_book.proofs.Base.{base}
-use Rattle.map_build.specs.declared.frame_map.FrameMap.{FrameMap}
-use Rattle.map_build.specs.declared.opportunity.Header.{Header}
+use Rattle.sched_calls.proofs.Base.{base}
+use Rattle.sched_calls.specs.declared.frame_map.FrameMap.{FrameMap}
+use Rattle.sched_calls.specs.declared.opportunity.Header.{Header}
 use Rattle.map_build.proofs.IdleFrame.{idle_map as map_of_idle, IsLawfulMap-idle}
-use Rattle.sched_history.specs.declared.call.Call.TheVariants as calls
-use Rattle.sched_history.specs.declared.reply.Refusal.TheVariants.{BadBackoff}
-use Rattle.sched_history.specs.declared.reply.Reply.TheVariants.{Noted, Built, Refused}
-use Rattle.sched_history.specs.declared.reply.Entry.{Entry}
+use Rattle.sched_calls.specs.declared.call.Call.TheVariants as calls
+use Rattle.sched_calls.specs.declared.reply.Refusal.TheVariants.{BadBackoff}
+use Rattle.sched_calls.specs.declared.reply.Reply.TheVariants.{Noted, Built, Refused}
+use Rattle.sched_calls.specs.declared.reply.Entry.{Entry}
 use Rattle.sched_history.specs.Reserves.{header_after}
 use Rattle.sched_history.specs.History.{IsStep}
 use Rattle.sched_history.proofs.lives.LiveFlows.{flows_of-none, table_of-none}

@@ -1,7 +1,7 @@
 -- The limits in figures, which definitions name by the constants of the code.
 use Rattle.std.proofs.Common.{◌≡◌, ℕ, refl}
-use Rattle.sched_history.specs.declared.call.TheConstants.{MAX_SCRIPTS}
-use Rattle.sched_history.specs.declared.reply.TheConstants.{MAX_ENTRIES, MAX_WHOLE_HISTORY}
+use Rattle.sched_calls.specs.declared.call.TheConstants.{MAX_SCRIPTS}
+use Rattle.sched_calls.specs.declared.reply.TheConstants.{MAX_ENTRIES, MAX_WHOLE_HISTORY}
 
 -- the most scripts that are run at the same time
 pub most_scripts : ◌≡◌ {A = ℕ} MAX_SCRIPTS 16

@@ -1,15 +1,15 @@
 -- A worked history of two lives of one SID, and of what a status answers.
 use Rattle.std.proofs.Common.{◌≡◌, ◌≢◌, ℕ, List, [], ◌∷◌, ◌++◌, None, refl, sym, inl, inr, lit≤}
 use Rattle.std.proofs.lemmas.Bool.{cases_eq, ne_eqb}
-use Rattle.flow_book.specs.declared.spec.FlowSpec.{FlowSpec}
-use Rattle.flow_book.specs.declared.spec.FlowSpec.TheVariants.{BestEffort}
-use Rattle.flow_book.specs.FlowSpec.{first_fault}
-use Rattle.flow_book.proofs.Base.{base}
+use Rattle.sched_calls.specs.declared.spec.FlowSpec.{FlowSpec}
+use Rattle.sched_calls.specs.declared.spec.FlowSpec.TheVariants.{BestEffort}
+use Rattle.sched_calls.specs.FlowSpec.{first_fault}
+use Rattle.sched_calls.proofs.Base.{base}
 use Rattle.map_build.proofs.RowsFirstGrant.{fresh, first_grant, whole_grant, a_first_grant_fills_the_room}
 use Rattle.map_build.proofs.RowsFirstGrant.{a_first_grant_of_all_that_was_asked}
-use Rattle.sched_history.specs.declared.call.Call.TheVariants.{Admit, Remove, Ask, Build, Status}
-use Rattle.sched_history.specs.declared.reply.Reply.TheVariants.{Admitted, Removed, Taken, Built, Flow}
-use Rattle.sched_history.specs.declared.reply.Entry.{Entry}
+use Rattle.sched_calls.specs.declared.call.Call.TheVariants.{Admit, Remove, Ask, Build, Status}
+use Rattle.sched_calls.specs.declared.reply.Reply.TheVariants.{Admitted, Removed, Taken, Built, Flow}
+use Rattle.sched_calls.specs.declared.reply.Entry.{Entry}
 use Rattle.sched_history.specs.Life.{Life, life_of}
 use Rattle.sched_history.specs.History.{IsStep, IsLegal}
 use Rattle.sched_history.proofs.lives.LiveFlows.{flows_of-none, flows_of-one, table_of-unplaced_one}

@@ -2,15 +2,15 @@
 use Rattle.std.proofs.Common.{◌≡◌, ℕ, List, [], ◌∷◌, ◌++◌, map, replicate, refl, ap, lit<}
 use Rattle.minislots.specs.Units.{wire_of}
 use Rattle.map_codec.specs.Element.{word_of}
-use Rattle.flow_book.proofs.Base.{base}
-use Rattle.map_build.specs.declared.frame_map.FrameMap.{FrameMap}
-use Rattle.map_build.specs.declared.opportunity.Usage.TheVariants.{Initial, Station}
-use Rattle.map_build.proofs.RowsMaps.{first_map}
+use Rattle.sched_calls.proofs.Base.{base}
+use Rattle.sched_calls.specs.declared.frame_map.FrameMap.{FrameMap}
+use Rattle.sched_calls.specs.declared.opportunity.Usage.TheVariants.{Initial, Station}
+use Rattle.sched_calls.proofs.BaseMaps.{first_map}
 use Rattle.map_build.proofs.RowsOffers.{initial, station, initial_map, a_frame_with_an_opportunity_for_all}
-use Rattle.sched_history.specs.declared.call.Call.TheVariants.{Build, Reserve}
-use Rattle.sched_history.specs.declared.reply.Refusal.TheVariants.{BadSid, BadLength, ReservesFull}
-use Rattle.sched_history.specs.declared.reply.Reply.TheVariants.{Built, Reserved, Refused}
-use Rattle.sched_history.specs.declared.reply.Entry.{Entry}
+use Rattle.sched_calls.specs.declared.call.Call.TheVariants.{Build, Reserve}
+use Rattle.sched_calls.specs.declared.reply.Refusal.TheVariants.{BadSid, BadLength, ReservesFull}
+use Rattle.sched_calls.specs.declared.reply.Reply.TheVariants.{Built, Reserved, Refused}
+use Rattle.sched_calls.specs.declared.reply.Entry.{Entry}
 use Rattle.sched_history.specs.Reserves.{reserves_of, waiting_in}
 use Rattle.sched_history.specs.History.{IsStep, IsLegal}
 use Rattle.sched_history.proofs.lives.LiveFlows.{flows_of-none, table_of-none}

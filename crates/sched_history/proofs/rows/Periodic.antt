@@ -1,8 +1,8 @@
 -- Worked histories of unsolicited flows and the MAPs of their grants.
 use Rattle.std.proofs.Common.{◌≡◌, ◌≢◌, ℕ, List, [], ◌∷◌, None, Some, refl, sym, inl, lit<, lit≤}
 use Rattle.std.proofs.lemmas.Bool.{ne_eqb}
-use Rattle.flow_book.specs.FlowSpec.{first_fault}
-use Rattle.flow_book.proofs.Base.{base}
+use Rattle.sched_calls.specs.FlowSpec.{first_fault}
+use Rattle.sched_calls.proofs.Base.{base}
 use Rattle.periodic.specs.Placement.{Placed}
 use Rattle.periodic.proofs.RowsPlacement.{voice, placement, first_placed, second_placed}
 use Rattle.periodic.proofs.RowsGrants.{double_voice, two_grants_of_a_frame_stand_one_behind_the_other}
@@ -10,9 +10,9 @@ use Rattle.periodic.proofs.RowsPlacement.{the_first_flow_stands_behind_the_reque
 use Rattle.periodic.proofs.RowsPlacement.{the_second_flow_stands_behind_the_first}
 use Rattle.map_build.proofs.RowsUnsolicited.{voices, unsolicited_map, a_frame_with_unsolicited_grants}
 use Rattle.map_build.proofs.RowsUnsolicited.{double_voices, double_map, a_frame_with_two_grants_of_a_flow}
-use Rattle.sched_history.specs.declared.call.Call.TheVariants.{Admit, Build, Status}
-use Rattle.sched_history.specs.declared.reply.Reply.TheVariants.{Admitted, Built, Flow}
-use Rattle.sched_history.specs.declared.reply.Entry.{Entry}
+use Rattle.sched_calls.specs.declared.call.Call.TheVariants.{Admit, Build, Status}
+use Rattle.sched_calls.specs.declared.reply.Reply.TheVariants.{Admitted, Built, Flow}
+use Rattle.sched_calls.specs.declared.reply.Entry.{Entry}
 use Rattle.sched_history.specs.Life.{Life, life_of}
 use Rattle.sched_history.specs.History.{IsStep, IsLegal}
 use Rattle.sched_history.proofs.lives.LiveFlows.{flows_of-none, flows_of-one, flows_of-two}

@@ -1,17 +1,17 @@
 -- A worked history of a polled flow: its admission, a MAP with its poll and one without, and its request.
 use Rattle.std.proofs.Common.{◌≡◌, ◌≢◌, ℕ, List, [], ◌∷◌, None, Some, refl, sym, inl, inr, lit<, lit≤, arith}
 use Rattle.std.proofs.lemmas.Bool.{ne_eqb}
-use Rattle.flow_book.specs.FlowSpec.{first_fault}
-use Rattle.flow_book.proofs.Base.{base}
+use Rattle.sched_calls.specs.FlowSpec.{first_fault}
+use Rattle.sched_calls.proofs.Base.{base}
 use Rattle.periodic.proofs.RowsPlacement.{polling, placement, polled_placed, four_polls_stand_behind_the_requests}
-use Rattle.map_build.specs.Opportunities.{header_of}
+use Rattle.sched_calls.specs.Header.{header_of}
 use Rattle.map_build.specs.Plan.{demand_at}
 use Rattle.map_build.specs.FrameMap.{IsLawfulMap}
 use Rattle.map_build.proofs.RowsMaps.{all_idle, none_waits}
 use Rattle.map_build.proofs.RowsPoll.{polled, poll_map, a_frame_with_a_poll}
-use Rattle.sched_history.specs.declared.call.Call.TheVariants.{Admit, Ask, Build}
-use Rattle.sched_history.specs.declared.reply.Reply.TheVariants.{Admitted, Taken, Built}
-use Rattle.sched_history.specs.declared.reply.Entry.{Entry}
+use Rattle.sched_calls.specs.declared.call.Call.TheVariants.{Admit, Ask, Build}
+use Rattle.sched_calls.specs.declared.reply.Reply.TheVariants.{Admitted, Taken, Built}
+use Rattle.sched_calls.specs.declared.reply.Entry.{Entry}
 use Rattle.sched_history.specs.Life.{Life, life_of}
 use Rattle.sched_history.specs.History.{IsStep, IsLegal}
 use Rattle.sched_history.proofs.lives.LiveFlows.{flows_of-none, flows_of-one, table_of-none, table_of-one}

@@ -1,12 +1,12 @@
 -- A worked history of two receivers: the acknowledge time is the least progress.
 use Rattle.std.proofs.Common.{◌≡◌, List, [], ◌∷◌, ◌++◌, None, refl, lit<}
 use Rattle.minislots.specs.declared.config.Config.{Config}
-use Rattle.flow_book.specs.declared.spec.FlowSpec.TheVariants.{BestEffort}
-use Rattle.flow_book.proofs.Base.{base}
-use Rattle.sched_history.specs.declared.call.Call.TheVariants.{Admit, Ask, Heard, Build}
-use Rattle.sched_history.specs.declared.reply.Refusal.TheVariants.{BadReceiver, Acked, Ahead, Backwards}
-use Rattle.sched_history.specs.declared.reply.Reply.TheVariants.{Admitted, Noted, Built, Refused}
-use Rattle.sched_history.specs.declared.reply.Entry.{Entry}
+use Rattle.sched_calls.specs.declared.spec.FlowSpec.TheVariants.{BestEffort}
+use Rattle.sched_calls.proofs.Base.{base}
+use Rattle.sched_calls.specs.declared.call.Call.TheVariants.{Admit, Ask, Heard, Build}
+use Rattle.sched_calls.specs.declared.reply.Refusal.TheVariants.{BadReceiver, Acked, Ahead, Backwards}
+use Rattle.sched_calls.specs.declared.reply.Reply.TheVariants.{Admitted, Noted, Built, Refused}
+use Rattle.sched_calls.specs.declared.reply.Entry.{Entry}
 use Rattle.sched_history.specs.Time.{next_after, ack_after}
 use Rattle.sched_history.specs.History.{IsStep, IsLegal}
 use Rattle.sched_history.proofs.rows.NextMap.{idle_map, IsNextMap-idle}

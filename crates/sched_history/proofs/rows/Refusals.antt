@@ -1,15 +1,15 @@
 -- Worked histories of refused calls.
 use Rattle.std.proofs.Common.{[], ◌∷◌, Some, refl}
-use Rattle.flow_book.specs.declared.spec.FlowSpec.TheVariants.{Unsolicited, BestEffort}
-use Rattle.flow_book.specs.declared.spec.FlowFault.TheVariants.{Size, IntervalNotWhole, IntervalNotFrames}
-use Rattle.flow_book.specs.declared.spec.FlowFault.TheVariants.{IntervalNotInCycle, Priority, Burst, Grants}
-use Rattle.flow_book.specs.FlowSpec.{first_fault}
-use Rattle.flow_book.proofs.Base.{base}
+use Rattle.sched_calls.specs.declared.spec.FlowSpec.TheVariants.{Unsolicited, BestEffort}
+use Rattle.sched_calls.specs.declared.spec.FlowFault.TheVariants.{Size, IntervalNotWhole, IntervalNotFrames}
+use Rattle.sched_calls.specs.declared.spec.FlowFault.TheVariants.{IntervalNotInCycle, Priority, Burst, Grants}
+use Rattle.sched_calls.specs.FlowSpec.{first_fault}
+use Rattle.sched_calls.proofs.Base.{base}
 use Rattle.periodic.proofs.RowsPlacement.{voice, placement}
-use Rattle.sched_history.specs.declared.call.Call.TheVariants.{Admit, Remove, Ask, Status}
-use Rattle.sched_history.specs.declared.reply.Refusal.TheVariants.{BadSid, SidLive, BadFlow, NoFlow}
-use Rattle.sched_history.specs.declared.reply.Refusal.TheVariants.{NotAsking, BadBytes, Ahead}
-use Rattle.sched_history.specs.declared.reply.Reply.TheVariants.{Admitted, Taken, Refused}
+use Rattle.sched_calls.specs.declared.call.Call.TheVariants.{Admit, Remove, Ask, Status}
+use Rattle.sched_calls.specs.declared.reply.Refusal.TheVariants.{BadSid, SidLive, BadFlow, NoFlow}
+use Rattle.sched_calls.specs.declared.reply.Refusal.TheVariants.{NotAsking, BadBytes, Ahead}
+use Rattle.sched_calls.specs.declared.reply.Reply.TheVariants.{Admitted, Taken, Refused}
 use Rattle.sched_history.specs.History.{IsStep}
 use Rattle.sched_history.proofs.rows.TwoMaps.{entry, built, admitted}
 

@@ -1,15 +1,15 @@
 -- A worked history of two flows of one priority that take turns.
 use Rattle.std.proofs.Common.{◌≡◌, ◌≢◌, ℕ, List, [], ◌∷◌, ◌++◌, None, refl, sym, lit<, lit≤}
 use Rattle.std.proofs.lemmas.Bool.{ne_eqb}
-use Rattle.flow_book.specs.declared.spec.FlowSpec.TheVariants.{BestEffort}
-use Rattle.flow_book.specs.FlowSpec.{first_fault}
-use Rattle.flow_book.proofs.Base.{base}
+use Rattle.sched_calls.specs.declared.spec.FlowSpec.TheVariants.{BestEffort}
+use Rattle.sched_calls.specs.FlowSpec.{first_fault}
+use Rattle.sched_calls.proofs.Base.{base}
 use Rattle.map_build.proofs.RowsContention.{both_pending, two_flows_take_turns}
 use Rattle.map_build.proofs.RowsTurns.{lower, higher, grant_at, second_turn, third_turn}
 use Rattle.map_build.proofs.RowsTurns.{the_flow_without_a_grant_is_served, the_flow_with_the_earlier_grant_is_served}
-use Rattle.sched_history.specs.declared.call.Call.TheVariants.{Admit, Ask, Build}
-use Rattle.sched_history.specs.declared.reply.Reply.TheVariants.{Admitted, Taken, Built}
-use Rattle.sched_history.specs.declared.reply.Entry.{Entry}
+use Rattle.sched_calls.specs.declared.call.Call.TheVariants.{Admit, Ask, Build}
+use Rattle.sched_calls.specs.declared.reply.Reply.TheVariants.{Admitted, Taken, Built}
+use Rattle.sched_calls.specs.declared.reply.Entry.{Entry}
 use Rattle.sched_history.specs.Life.{Life, life_of}
 use Rattle.sched_history.specs.History.{IsStep, IsLegal}
 use Rattle.sched_history.proofs.lives.LiveFlows.{flows_of-none, flows_of-one, flows_of-two, table_of-unplaced_two}

@@ -1,16 +1,17 @@
 -- Worked examples of entries that may not stand in a history.
 use Rattle.std.proofs.Common.{◌≡◌, ℕ, [], ◌∷◌, refl, ap, ◌∙◌, lit<, arith}
 use Rattle.std.specs.Prelude.{slice_index}
-use Rattle.flow_book.proofs.Base.{base}
-use Rattle.map_build.specs.declared.frame_map.FrameMap.{FrameMap}
-use Rattle.map_build.specs.Opportunities.{header_of}
+use Rattle.sched_calls.proofs.Base.{base}
+use Rattle.sched_calls.specs.declared.frame_map.FrameMap.{FrameMap}
+use Rattle.sched_calls.specs.Header.{header_of}
 use Rattle.map_build.specs.Plan.{demand_at}
 use Rattle.map_build.proofs.Apart.{BeginApart-nil}
 use Rattle.map_build.proofs.OneMap.{one_map}
-use Rattle.map_build.proofs.RowsMaps.{first_map, a_frame_without_flows}
-use Rattle.sched_history.specs.declared.call.Call.TheVariants.{Ask, Build}
-use Rattle.sched_history.specs.declared.reply.Reply.TheVariants.{Built, Refused}
-use Rattle.sched_history.specs.declared.reply.Refusal.TheVariants.{Ahead, Late}
+use Rattle.sched_calls.proofs.BaseMaps.{first_map}
+use Rattle.map_build.proofs.RowsMaps.{a_frame_without_flows}
+use Rattle.sched_calls.specs.declared.call.Call.TheVariants.{Ask, Build}
+use Rattle.sched_calls.specs.declared.reply.Reply.TheVariants.{Built, Refused}
+use Rattle.sched_calls.specs.declared.reply.Refusal.TheVariants.{Ahead, Late}
 use Rattle.sched_history.specs.History.{IsStep}
 use Rattle.sched_history.proofs.lives.LiveFlows.{flows_of-none, table_of-none}
 use Rattle.sched_history.proofs.rows.NextMap.{lawful-from_IsNextMap}

@@ -7,14 +7,14 @@ use Rattle.minislots.proofs.Bounds.{bounds_of}
 use Rattle.flow_book.specs.Flows.{LiveFlow}
 use Rattle.periodic.specs.Placement.{count_from}
 use Rattle.map_build.specs.declared.frame.PlannedFrame.{PlannedFrame}
-use Rattle.map_build.specs.declared.frame_map.FrameMap.{FrameMap}
+use Rattle.sched_calls.specs.declared.frame_map.FrameMap.{FrameMap}
 use Rattle.map_build.specs.Plan.{flows_after}
 use Rattle.map_build.specs.FrameMap.{elements_of, IsLawfulMap, IsLawfulFrame}
 use Rattle.map_build.specs.Spots.{IsFlowSid, AreOfChannel, ArePeriodicOf}
 use Rattle.sched_history.specs.declared.scheduler.state.State.{State}
-use Rattle.sched_history.specs.declared.call.Call.TheVariants.{Build}
-use Rattle.sched_history.specs.declared.reply.Reply.TheVariants.{Built}
-use Rattle.sched_history.specs.declared.reply.Entry.{Entry}
+use Rattle.sched_calls.specs.declared.call.Call.TheVariants.{Build}
+use Rattle.sched_calls.specs.declared.reply.Reply.TheVariants.{Built}
+use Rattle.sched_calls.specs.declared.reply.Entry.{Entry}
 use Rattle.sched_history.specs.Life.{flows_of}
 use Rattle.sched_history.specs.Time.{least, progress_of, ack_after}
 use Rattle.sched_history.specs.Reserves.{offers_of, unmet_by, aged, reserves_of, waiting_in, unmarked, header_after}

@@ -7,11 +7,11 @@ use Rattle.std.proofs.lemmas.List.{append-nil}
 use Rattle.std.proofs.lemmas.Option.{same_Some}
 use Rattle.map_build.specs.EachAfter.{EachAfter}
 use Rattle.minislots.specs.declared.config.Config.{Config}
-use Rattle.sched_history.specs.declared.reply.TheConstants.{MAX_WHOLE_HISTORY}
+use Rattle.sched_calls.specs.declared.reply.TheConstants.{MAX_WHOLE_HISTORY}
 use Rattle.sched_history.specs.declared.scheduler.state.State.{State}
-use Rattle.sched_history.specs.declared.reply.Refusal.{Refusal}
-use Rattle.sched_history.specs.declared.reply.Reply.TheVariants.{Refused}
-use Rattle.sched_history.specs.declared.reply.Entry.{Entry}
+use Rattle.sched_calls.specs.declared.reply.Refusal.{Refusal}
+use Rattle.sched_calls.specs.declared.reply.Reply.TheVariants.{Refused}
+use Rattle.sched_calls.specs.declared.reply.Entry.{Entry}
 use Rattle.sched_history.specs.Refusal.{refusal_of}
 use Rattle.sched_history.specs.History.{Answers, IsStep, IsLegal}
 use Rattle.sched_history.specs.Audit.{IsFirstIllegal}

@@ -6,20 +6,20 @@ use Rattle.std.proofs.lemmas.Bool.{cases_eq}
 use Rattle.std.proofs.lemmas.Bool.Decides.{nat_tests}
 use Rattle.std.proofs.lemmas.List.{length-set, get_or-set_same, get_or-set_other}
 use Rattle.minislots.specs.declared.stamp.Stamp.{Stamp}
-use Rattle.flow_book.specs.declared.spec.FlowSpec.{FlowSpec}
+use Rattle.sched_calls.specs.declared.spec.FlowSpec.{FlowSpec}
 use Rattle.flow_book.specs.Book.{BookView, with_flow, new_flow, without, changed, with_asked}
-use Rattle.periodic.specs.declared.placement.Placement.{Placement}
+use Rattle.sched_calls.specs.declared.placement.Placement.{Placement}
 use Rattle.periodic.specs.Table.{with_placed, without as without_placed}
-use Rattle.map_build.specs.declared.frame_map.FrameMap.{FrameMap}
-use Rattle.map_build.specs.declared.opportunity.Header.{Header}
-use Rattle.map_build.specs.declared.opportunity.Usage.{Usage}
+use Rattle.sched_calls.specs.declared.frame_map.FrameMap.{FrameMap}
+use Rattle.sched_calls.specs.declared.opportunity.Header.{Header}
+use Rattle.sched_calls.specs.declared.opportunity.Usage.{Usage}
 use Rattle.sched_history.specs.declared.scheduler.state.State.{State}
 use Rattle.sched_history.specs.declared.scheduler.reserves.Reserve.{Reserve as Waiting}
-use Rattle.sched_history.specs.declared.call.Call.{Call}
-use Rattle.sched_history.specs.declared.call.Call.TheVariants as calls
-use Rattle.sched_history.specs.declared.reply.Reply.{Reply}
-use Rattle.sched_history.specs.declared.reply.Reply.TheVariants as replies
-use Rattle.sched_history.specs.declared.reply.Entry.{Entry}
+use Rattle.sched_calls.specs.declared.call.Call.{Call}
+use Rattle.sched_calls.specs.declared.call.Call.TheVariants as calls
+use Rattle.sched_calls.specs.declared.reply.Reply.{Reply}
+use Rattle.sched_calls.specs.declared.reply.Reply.TheVariants as replies
+use Rattle.sched_calls.specs.declared.reply.Entry.{Entry}
 use Rattle.sched_history.specs.Life.{life_of, flows_of}
 use Rattle.sched_history.specs.Reserves.{new_reserve, reserves_of}
 use Rattle.sched_history.specs.State.{IsStateAfter, IsQuiet}

@@ -7,14 +7,15 @@ use Rattle.minislots.specs.declared.config.Config.{Config}
 use Rattle.minislots.specs.declared.stamp.Stamp.{Stamp}
 use Rattle.sched_history.specs.declared.scheduler.answering.Answer.{Answer}
 use Rattle.sched_history.specs.declared.scheduler.Scheduler.TheInside.{Inside}
-use Rattle.sched_history.specs.declared.call.Call.{Call}
-use Rattle.sched_history.specs.declared.call.Call.TheVariants.{Build}
-use Rattle.sched_history.specs.declared.reply.TheConstants.{MAX_WHOLE_HISTORY}
-use Rattle.sched_history.specs.declared.reply.Reply.{Reply}
-use Rattle.sched_history.specs.declared.reply.Entry.{Entry}
+use Rattle.sched_calls.specs.declared.call.Call.{Call}
+use Rattle.sched_calls.specs.declared.call.Call.TheVariants.{Build}
+use Rattle.sched_calls.specs.declared.reply.TheConstants.{MAX_WHOLE_HISTORY}
+use Rattle.sched_calls.specs.declared.reply.Reply.{Reply}
+use Rattle.sched_calls.specs.declared.reply.Entry.{Entry}
 use Rattle.sched_history.specs.Refusal.{refusal_of}
 use Rattle.sched_history.specs.History.{IsStep, IsLegal}
-use Rattle.sched_history.specs.Machine.{Machine, kept_of, is_full, IsEncodable}
+use Rattle.sched_history.specs.Machine.{Machine, kept_of, is_full}
+use Rattle.sched_calls.specs.Reply.{IsEncodable}
 use Rattle.sched_history.specs.Planned.{PlannedBuild, IsPlanAfter}
 use Rattle.sched_history.specs.State.{IsStateAfter, machine_of, IsSound, IsKeptOf, IsOpenTo, IsBuildAfter, IsAnswered}
 use Rattle.sched_history.specs.State.{IsRecorded}

@@ -2,10 +2,10 @@
 use Rattle.std.proofs.Common.{◌≡◌, ℕ, ◌-◌, Bool, true, false, cond, List, [], ◌∷◌, find, Option, None, Some, ap, arith}
 use Rattle.std.specs.List.{AllByRecursion}
 use Rattle.std.specs.Option.{IfSome, option_map}
-use Rattle.flow_book.specs.declared.spec.FlowSpec.{FlowSpec}
-use Rattle.flow_book.specs.FlowSpec.{takes_requests}
+use Rattle.sched_calls.specs.declared.spec.FlowSpec.{FlowSpec}
+use Rattle.sched_calls.specs.FlowSpec.{takes_requests}
 use Rattle.flow_book.specs.Flows.{LiveFlow, outstanding}
-use Rattle.sched_history.specs.declared.reply.Reply.TheVariants.{Flow}
+use Rattle.sched_calls.specs.declared.reply.Reply.TheVariants.{Flow}
 use Rattle.sched_history.specs.History.{flow_status}
 use Rattle.sched_history.specs.Facts.{IsWithinAsked}
 

@@ -2,7 +2,7 @@
 use Rattle.std.proofs.Common.{List, length}
 use Rattle.minislots.specs.declared.config.Config.{Config}
 use Rattle.minislots.specs.Config.{IsLawful}
-use Rattle.sched_history.specs.declared.reply.Entry.{Entry}
+use Rattle.sched_calls.specs.declared.reply.Entry.{Entry}
 use Rattle.sched_history.specs.Life.{flows_of}
 use Rattle.sched_history.specs.Time.{next_after}
 use Rattle.sched_history.specs.History.{IsLegal}

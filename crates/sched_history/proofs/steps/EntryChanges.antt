@@ -6,21 +6,21 @@ use Rattle.minislots.specs.declared.config.Config.{Config}
 use Rattle.minislots.specs.declared.stamp.Stamp.{Stamp}
 use Rattle.minislots.specs.Config.{IsLawful, HasBounds}
 use Rattle.minislots.proofs.Bounds.{bounds_of}
-use Rattle.flow_book.specs.declared.spec.FlowSpec.{FlowSpec}
-use Rattle.flow_book.specs.declared.spec.FlowSpec.TheVariants.{Unsolicited, Polled, BestEffort}
-use Rattle.flow_book.specs.FlowSpec.{takes_requests}
+use Rattle.sched_calls.specs.declared.spec.FlowSpec.{FlowSpec}
+use Rattle.sched_calls.specs.declared.spec.FlowSpec.TheVariants.{Unsolicited, Polled, BestEffort}
+use Rattle.sched_calls.specs.FlowSpec.{takes_requests}
 use Rattle.flow_book.specs.Flows.{LiveFlow, granted, outstanding}
 use Rattle.flow_book.specs.Book.{with_flow, without, changed, new_flow, with_asked}
-use Rattle.periodic.specs.declared.placement.Placement.{Placement}
-use Rattle.map_build.specs.declared.frame_map.FrameMap.{FrameMap}
+use Rattle.sched_calls.specs.declared.placement.Placement.{Placement}
+use Rattle.sched_calls.specs.declared.frame_map.FrameMap.{FrameMap}
 use Rattle.map_build.specs.Plan.{flows_after}
-use Rattle.sched_history.specs.declared.call.Call.{Call}
-use Rattle.sched_history.specs.declared.call.Call.TheVariants as calls
-use Rattle.sched_history.specs.declared.reply.Refusal.{Refusal}
-use Rattle.sched_history.specs.declared.reply.Refusal.TheVariants.{NoPlace}
-use Rattle.sched_history.specs.declared.reply.Reply.{Reply}
-use Rattle.sched_history.specs.declared.reply.Reply.TheVariants as replies
-use Rattle.sched_history.specs.declared.reply.Entry.{Entry}
+use Rattle.sched_calls.specs.declared.call.Call.{Call}
+use Rattle.sched_calls.specs.declared.call.Call.TheVariants as calls
+use Rattle.sched_calls.specs.declared.reply.Refusal.{Refusal}
+use Rattle.sched_calls.specs.declared.reply.Refusal.TheVariants.{NoPlace}
+use Rattle.sched_calls.specs.declared.reply.Reply.{Reply}
+use Rattle.sched_calls.specs.declared.reply.Reply.TheVariants as replies
+use Rattle.sched_calls.specs.declared.reply.Entry.{Entry}
 use Rattle.sched_history.specs.Life.{turn_by, asked_by, grants_by, Life, life_of, flow_in_life, flows_of}
 use Rattle.sched_history.specs.Time.{skip_by, is_built, next_after, IsFirstStart}
 use Rattle.sched_history.specs.Refusal.{most_bytes, most_ahead, last_clock, refusal_of}

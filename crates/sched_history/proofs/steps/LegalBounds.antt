@@ -7,7 +7,7 @@ use Rattle.std.proofs.lemmas.List.{length-map, length_push}
 use Rattle.minislots.specs.declared.config.Config.{Config}
 use Rattle.minislots.specs.Config.{IsLawful}
 use Rattle.minislots.proofs.Bounds.{bounds_of}
-use Rattle.flow_book.specs.declared.TheConstants.{MAX_FLOWS}
+use Rattle.sched_calls.specs.declared.TheConstants.{MAX_FLOWS}
 use Rattle.flow_book.specs.declared.flow.Grant.{Grant}
 use Rattle.flow_book.specs.Flows.{LiveFlow}
 use Rattle.flow_book.specs.Choice.{HasStartedBy}
@@ -15,7 +15,7 @@ use Rattle.flow_book.specs.Book.{new_flow}
 use Rattle.flow_book.proofs.Order.{all-implied}
 use Rattle.periodic.proofs.Joined.{all-append}
 use Rattle.map_build.specs.Plan.{grants_to}
-use Rattle.sched_history.specs.declared.reply.Entry.{Entry}
+use Rattle.sched_calls.specs.declared.reply.Entry.{Entry}
 use Rattle.sched_history.specs.Life.{flows_of}
 use Rattle.sched_history.specs.Time.{next_after}
 use Rattle.sched_history.specs.Refusal.{most_bytes, most_ahead, last_clock}

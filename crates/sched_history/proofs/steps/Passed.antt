@@ -4,19 +4,19 @@ use Rattle.std.proofs.Common.{◌||◌, ◌&&◌, List, length, Option, None, So
 use Rattle.std.specs.Option.{option_or, option_map}
 use Rattle.std.proofs.lemmas.Bool.Decides.{nat_tests}
 use Rattle.minislots.specs.declared.config.Config.{Config}
-use Rattle.flow_book.specs.declared.TheConstants.{MAX_FLOWS}
-use Rattle.flow_book.specs.declared.spec.FlowSpec.{FlowSpec}
-use Rattle.flow_book.specs.declared.spec.FlowFault.{FlowFault}
-use Rattle.flow_book.specs.FlowSpec.{is_periodic, grants_of, first_fault}
-use Rattle.periodic.specs.declared.TheConstants.{MAX_PERIODIC_GRANTS}
-use Rattle.map_build.specs.declared.opportunity.Usage.{Usage}
-use Rattle.sched_history.specs.declared.call.TheConstants.{MAX_RESERVES}
-use Rattle.sched_history.specs.declared.call.Call.TheVariants.{Admit, Remove, Ask, Heard, Build, Skip, Status, Reserve}
-use Rattle.sched_history.specs.declared.reply.Refusal.{Refusal}
-use Rattle.sched_history.specs.declared.reply.Refusal.TheVariants.{BadSid, BadFlow, NoFlow, NotAsking, BadReceiver}
-use Rattle.sched_history.specs.declared.reply.Refusal.TheVariants.{BadBytes, Acked, Ahead, Backwards}
-use Rattle.sched_history.specs.declared.reply.Refusal.TheVariants.{BadLength, ReservesFull}
-use Rattle.sched_history.specs.declared.reply.Entry.{Entry}
+use Rattle.sched_calls.specs.declared.TheConstants.{MAX_FLOWS}
+use Rattle.sched_calls.specs.declared.spec.FlowSpec.{FlowSpec}
+use Rattle.sched_calls.specs.declared.spec.FlowFault.{FlowFault}
+use Rattle.sched_calls.specs.FlowSpec.{is_periodic, grants_of, first_fault}
+use Rattle.sched_calls.specs.declared.TheConstants.{MAX_PERIODIC_GRANTS}
+use Rattle.sched_calls.specs.declared.opportunity.Usage.{Usage}
+use Rattle.sched_calls.specs.declared.call.TheConstants.{MAX_RESERVES}
+use Rattle.sched_calls.specs.declared.call.Call.TheVariants.{Admit, Remove, Ask, Heard, Build, Skip, Status, Reserve}
+use Rattle.sched_calls.specs.declared.reply.Refusal.{Refusal}
+use Rattle.sched_calls.specs.declared.reply.Refusal.TheVariants.{BadSid, BadFlow, NoFlow, NotAsking, BadReceiver}
+use Rattle.sched_calls.specs.declared.reply.Refusal.TheVariants.{BadBytes, Acked, Ahead, Backwards}
+use Rattle.sched_calls.specs.declared.reply.Refusal.TheVariants.{BadLength, ReservesFull}
+use Rattle.sched_calls.specs.declared.reply.Entry.{Entry}
 use Rattle.sched_history.specs.Life.{flows_of}
 use Rattle.sched_history.specs.Time.{next_after, progress_of}
 use Rattle.sched_history.specs.Reserves.{reserves_of}

@@ -4,9 +4,9 @@ use Rattle.std.proofs.Common.{◌∷◌, ◌++◌, Option, None, Some, refl, ap,
 use Rattle.std.specs.Option.{option_map, option_map_or}
 use Rattle.std.proofs.lemmas.List.Sums.{sum_by_push}
 use Rattle.minislots.specs.declared.config.Config.{Config}
-use Rattle.map_build.specs.declared.frame_map.FrameMap.{FrameMap}
-use Rattle.sched_history.specs.declared.reply.Reply.TheVariants as replies
-use Rattle.sched_history.specs.declared.reply.Entry.{Entry}
+use Rattle.sched_calls.specs.declared.frame_map.FrameMap.{FrameMap}
+use Rattle.sched_calls.specs.declared.reply.Reply.TheVariants as replies
+use Rattle.sched_calls.specs.declared.reply.Entry.{Entry}
 use Rattle.sched_history.specs.Latest.{Found, latest}
 use Rattle.sched_history.specs.Time.{skip_by, is_built, builds_in, next_after, progress_by, progress_of}
 use Rattle.sched_history.proofs.lists.Latests.{with_after, latest-says, latest-silent}

@@ -2,17 +2,18 @@
 
 ghost use Rattle.std.specs.Prelude.{◌≡◌, ◌<◌, ◌≤◌, ◌↔◌, ◌++◌, ◌∷◌, [], true, false, length};
 ghost use Rattle.std.specs.Prelude.{IfOk, IfErr, OnOk, OnErr, IsErrOf};
-ghost use Rattle.sched_history.specs.declared.reply.TheConstants.{MAX_WHOLE_HISTORY};
+ghost use Rattle.sched_calls.specs.declared.reply.TheConstants.{MAX_WHOLE_HISTORY};
 ghost use Rattle.sched_history.specs.History.{IsStep, IsLegal};
-ghost use Rattle.sched_history.specs.Machine.{IsEncodable, MayLackMemory};
+ghost use Rattle.sched_calls.specs.Reply.{IsEncodable};
+ghost use Rattle.sched_history.specs.Machine.{MayLackMemory};
 ghost use Rattle.sched_history.specs.State.{IsKeptOf};
 
 use super::sameness::is_refused;
-use crate::call::Call;
+use crate::fault::JudgeFault;
 use crate::ledger::Ledger;
-use crate::reply::{Entry, JudgeFault, MAX_WHOLE_HISTORY, Reply};
 use crate::scheduler::{Present, Scheduler, State};
 use minislots::Checked;
+use sched_calls::{Call, Entry, MAX_WHOLE_HISTORY, Reply};
 use std::alloc::{AllocError, Global};
 use std::marker::Model;
 

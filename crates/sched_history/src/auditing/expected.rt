@@ -1,14 +1,14 @@
 //! What the scheduler answers to a call after a history that somebody hands in.
 
 ghost use Rattle.std.specs.Prelude.{◌≡◌, ◌<◌, ◌≤◌, length, IfOk};
-ghost use Rattle.sched_history.specs.declared.reply.TheConstants.{MAX_ENTRIES};
+ghost use Rattle.sched_calls.specs.declared.reply.TheConstants.{MAX_ENTRIES};
 ghost use Rattle.sched_history.specs.History.{IsStep, IsLegal};
-ghost use Rattle.sched_history.specs.Machine.{IsEncodable};
+ghost use Rattle.sched_calls.specs.Reply.{IsEncodable};
 
 use super::Auditor;
-use crate::call::Call;
-use crate::reply::{Entry, JudgeFault, Reply};
+use crate::fault::JudgeFault;
 use minislots::Checked;
+use sched_calls::{Call, Entry, Reply};
 use std::alloc::{AllocError, Global};
 
 /// The reply that the scheduler gives to a call after these entries, fewer than [`MAX_ENTRIES`](crate::MAX_ENTRIES),

@@ -3,10 +3,8 @@
 ghost use Rattle.std.specs.Prelude.{◌≡◌, ◌≢◌, true, false, IfSome, IfNone};
 ghost use Rattle.sched_history.specs.Audit.{flat_of, fixed_fields};
 
-use crate::reply::{Refusal, Reply};
-use map_build::FrameMap;
 use map_codec::{Element, WireMap};
-use periodic::Placement;
+use sched_calls::{FrameMap, Placement, Refusal, Reply};
 
 // A reply without lists.
 #[derive(Clone, Copy, PartialEq, Eq)]

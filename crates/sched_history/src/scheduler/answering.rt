@@ -1,19 +1,16 @@
 //! The answer to each call that no test refuses, and what it changes.
 
 ghost use Rattle.std.specs.Prelude.{◌≡◌, ◌+◌, List, false, true, IfOk, OnErr};
-ghost use Rattle.flow_book.specs.FlowSpec.{is_periodic};
-ghost use Rattle.sched_history.specs.declared.reply.Entry.{Entry};
+ghost use Rattle.sched_calls.specs.FlowSpec.{is_periodic};
+ghost use Rattle.sched_calls.specs.declared.reply.Entry.{Entry};
 ghost use Rattle.sched_history.specs.Time.{IsFirstStart};
 ghost use Rattle.sched_history.specs.State.{IsOpenTo, IsOpen, IsBuildAfter, AnswersOpen, TakesMemoryOpen, IsAnswered};
 
 use super::planned::Planned;
 use super::refusing::is_periodic;
 use super::state::State;
-use crate::call::Call;
-use crate::reply::{Refusal, Reply};
-use flow_book::FlowSpec;
-use map_build::{Header, Opportunity, Usage};
 use periodic::PlaceFault;
+use sched_calls::{Call, FlowSpec, Header, Opportunity, Refusal, Reply, Usage};
 use std::alloc::{AllocError, Global};
 
 // An answer, and the same again for the history.

@@ -1,18 +1,15 @@
 //! Whether a reply that is handed in is an answer to a call that no test refuses, and what is kept after it.
 
 ghost use Rattle.std.specs.Prelude.{◌≡◌, true, false, Some, IfOk, OnErr};
-ghost use Rattle.flow_book.specs.FlowSpec.{is_periodic};
+ghost use Rattle.sched_calls.specs.FlowSpec.{is_periodic};
 ghost use Rattle.sched_history.specs.State.{IsOpen, AnsweredOpen, FollowsOpen, DiffersOpen, TakesMemoryOpen};
 ghost use Rattle.sched_history.specs.Audit.{is_told};
 
 use super::refusing::is_periodic;
 use super::state::State;
 use crate::auditing::sameness::{is_refused, is_same_flat, is_same_map, map_in, placement_in};
-use crate::call::Call;
-use crate::reply::{Refusal, Reply};
-use flow_book::FlowSpec;
-use map_build::FrameMap;
-use periodic::{PlaceFault, Placement};
+use periodic::PlaceFault;
+use sched_calls::{Call, FlowSpec, FrameMap, Placement, Refusal, Reply};
 use std::alloc::{AllocError, Global};
 
 impl State {

@@ -2,11 +2,12 @@
 
 ghost use Rattle.std.specs.Prelude.{◌≡◌, ◌≤◌, ◌↔◌, [], length, vec_capacity, IfOk, IfErr, OnOk, OnErr, IsOk};
 ghost use Rattle.std.specs.List.{AllByRecursion};
-ghost use Rattle.sched_history.specs.declared.reply.TheConstants.{MAX_WHOLE_HISTORY};
-ghost use Rattle.sched_history.specs.Machine.{kept_of, IsEncodable};
+ghost use Rattle.sched_calls.specs.declared.reply.TheConstants.{MAX_WHOLE_HISTORY};
+ghost use Rattle.sched_history.specs.Machine.{kept_of};
+ghost use Rattle.sched_calls.specs.Reply.{IsEncodable};
 
 use super::Scheduler;
-use crate::reply::Entry;
+use sched_calls::Entry;
 use std::mem;
 
 /// Entries that a scheduler has handed over, in order.

@@ -3,7 +3,8 @@
 ghost use Rattle.std.specs.Prelude.{◌≡◌};
 
 use flow_book::Book;
-use map_build::{FrameMap, MAX_WAITING};
+use map_build::MAX_WAITING;
+use sched_calls::FrameMap;
 use std::marker::Model;
 
 /// A build with the MAP of the next frame, which [`crate::Scheduler::commit`] records. Contracts see its

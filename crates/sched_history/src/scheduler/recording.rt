@@ -1,7 +1,7 @@
 //! How a call is recorded with its answer.
 
 ghost use Rattle.std.specs.Prelude.{◌≡◌, ◌<◌, ◌++◌, ◌∷◌, [], false, None, length, IfOk, OnErr, vec_capacity};
-ghost use Rattle.sched_history.specs.declared.reply.TheConstants.{MAX_WHOLE_HISTORY};
+ghost use Rattle.sched_calls.specs.declared.reply.TheConstants.{MAX_WHOLE_HISTORY};
 ghost use Rattle.sched_history.specs.Refusal.{refusal_of};
 ghost use Rattle.sched_history.specs.History.{IsStep};
 ghost use Rattle.sched_history.specs.Machine.{is_full, TakesMemory};
@@ -9,10 +9,9 @@ ghost use Rattle.sched_history.specs.State.{IsRecorded};
 
 use super::Scheduler;
 use super::answering::Answer;
-use crate::call::Call;
 use crate::ledger::Ledger;
-use crate::reply::{Entry, Refusal, Reply};
 use minislots::Stamp;
+use sched_calls::{Call, Entry, Refusal, Reply};
 use std::alloc::AllocError;
 
 // Records a call as it came, where there is room reserved, and gives its reply.

@@ -1,24 +1,19 @@
 //! Which calls are refused: the tests in their order, of which the first that holds is answered.
 
 ghost use Rattle.std.specs.Prelude.{◌≡◌, ◌≤◌, ◌+◌, ◌∷◌, [], false, not, nat_lt, nat_le, ◌==◌, ◌||◌, ◌&&◌, option_map};
-ghost use Rattle.flow_book.specs.FlowSpec.{is_periodic, grants_of, takes_requests};
-ghost use Rattle.periodic.specs.declared.TheConstants.{MAX_PERIODIC_GRANTS};
+ghost use Rattle.sched_calls.specs.FlowSpec.{is_periodic, grants_of, takes_requests};
+ghost use Rattle.sched_calls.specs.declared.TheConstants.{MAX_PERIODIC_GRANTS};
 ghost use Rattle.sched_history.specs.Life.{life_of};
 ghost use Rattle.sched_history.specs.Time.{next_after, progress_of};
 ghost use Rattle.sched_history.specs.Refusal.{bad_sid, is_live, is_silent, periodic_grants, refused_if};
 ghost use Rattle.sched_history.specs.Refusal.{first_of, refusal_of, most_bytes, is_wide};
 
 use super::present::Present;
-use crate::call::Call;
-use crate::reply::Refusal;
-use flow_book::{FlowSpec, MAX_FLOWS};
-use map_build::{Header, Usage};
-use periodic::MAX_PERIODIC_GRANTS;
+use minislots::MAX_ASK;
+use sched_calls::{Call, FlowSpec, Header, MAX_FLOWS, MAX_PERIODIC_GRANTS, Refusal, Usage};
 
 // The greatest SID of a flow.
 const LAST_SID: u16 = 8191;
-// The most bytes of one request.
-const MOST_BYTES: u32 = 1_048_560;
 // The most minislots that are described ahead.
 const MOST_AHEAD: u64 = 4096;
 // The greatest exponent of a backoff window.
@@ -180,7 +175,7 @@ impl<'a> Present<'a> {
             return Some(Refusal::BadReceiver);
         }
         let progress = self.state.progress[usize::from(receiver)];
-        if bytes == 0 || bytes > MOST_BYTES {
+        if bytes == 0 || bytes > MAX_ASK {
             Some(Refusal::BadBytes)
         } else if heard < progress {
             Some(Refusal::Acked(progress))

@@ -1,12 +1,12 @@
 //! The Reserves that are neither met nor lapsed, in a fixed room.
 
 ghost use Rattle.std.specs.Prelude.{◌≡◌, ◌<◌, ◌≤◌, ◌+◌, ◌++◌, ◌∷◌, [], false, map, take, drop, length, nat_le, get_or};
-ghost use Rattle.sched_history.specs.declared.call.TheConstants.{MAX_RESERVES};
+ghost use Rattle.sched_calls.specs.declared.call.TheConstants.{MAX_RESERVES};
 ghost use Rattle.map_build.specs.declared.TheConstants.{MAX_WAITING};
 ghost use Rattle.sched_history.specs.Reserves.{new_reserve, aged, left_of, unmarked};
 
-use crate::MAX_RESERVES;
-use map_build::{MAX_WAITING, Opportunity, Usage};
+use map_build::MAX_WAITING;
+use sched_calls::{MAX_RESERVES, Opportunity, Usage};
 use std::marker::Model;
 
 // The MAPs after which a Reserve has lapsed.
@@ -64,7 +64,7 @@ pub(crate) struct Reserves {
 impl Model for Reserves {
     ghost use Rattle.std.specs.Prelude.{◌≡◌, ◌≤◌, List, take, length};
     ghost use Rattle.sched_history.specs.declared.scheduler.reserves.Reserve.{Reserve};
-    ghost use Rattle.sched_history.specs.declared.call.TheConstants.{MAX_RESERVES};
+    ghost use Rattle.sched_calls.specs.declared.call.TheConstants.{MAX_RESERVES};
 
     ghost Value = { List Reserve };
 

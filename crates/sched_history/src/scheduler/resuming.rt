@@ -5,7 +5,7 @@ ghost use Rattle.sched_history.specs.State.{IsAuditorOf};
 
 use super::{Scheduler, State};
 use crate::ledger::Ledger;
-use crate::reply::Entry;
+use sched_calls::Entry;
 
 impl Scheduler {
     // A scheduler whose whole history is that of the ledger, all of it handed over.

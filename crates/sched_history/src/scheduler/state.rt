@@ -4,21 +4,21 @@ ghost use Rattle.std.specs.Prelude.{◌≡◌, ◌≢◌, ◌+◌, ◌/◌, ◌%
 ghost use Rattle.std.specs.Prelude.{List, take, find, IfOk, OnErr, OnOk, IfSome, IsErrOf};
 ghost use Rattle.std.specs.List.{AllByRecursion};
 ghost use Rattle.map_codec.specs.WireMap.{IsWellFormed};
-ghost use Rattle.flow_book.specs.FlowSpec.{is_periodic, grants_of, first_fault};
+ghost use Rattle.sched_calls.specs.FlowSpec.{is_periodic, grants_of, first_fault};
 ghost use Rattle.flow_book.specs.Flows.{flow_of};
 ghost use Rattle.flow_book.specs.Choice.{HasStartedBy};
 ghost use Rattle.flow_book.specs.Book.{IsLive, with_flow, new_flow, without};
-ghost use Rattle.periodic.specs.declared.TheConstants.{MAX_PERIODIC_GRANTS};
+ghost use Rattle.sched_calls.specs.declared.TheConstants.{MAX_PERIODIC_GRANTS};
 ghost use Rattle.periodic.specs.Placement.{IsPlacement, NoPlacement};
 ghost use Rattle.periodic.specs.Table.{placed_grants, IsPlaced, with_placed, without as without_placed};
-ghost use Rattle.map_build.specs.declared.frame_map.FrameMap.{FrameMap};
+ghost use Rattle.sched_calls.specs.declared.frame_map.FrameMap.{FrameMap};
 ghost use Rattle.map_build.specs.Opportunities.{MayWait, HaveStationSids};
 ghost use Rattle.map_build.specs.FrameMap.{IsLawfulMap, IsLawfulFrame};
 ghost use Rattle.map_build.specs.Spots.{AreOfChannel, ArePeriodicOf};
-ghost use Rattle.sched_history.specs.declared.reply.Reply.TheVariants.{Flow};
+ghost use Rattle.sched_calls.specs.declared.reply.Reply.TheVariants.{Flow};
 ghost use Rattle.sched_history.specs.Time.{least, IsFirstStart};
 ghost use Rattle.sched_history.specs.History.{flow_status, IsNextMap};
-ghost use Rattle.sched_history.specs.declared.reply.Entry.{Entry};
+ghost use Rattle.sched_calls.specs.declared.reply.Entry.{Entry};
 ghost use Rattle.sched_history.specs.Reserves.{waiting_in};
 ghost use Rattle.sched_history.specs.State.{next_demand, IsStateAfter, IsOpenTo, IsOpen, IsBuildAfter};
 ghost use Rattle.sched_history.specs.Facts.{IsWithinAsked};
@@ -26,12 +26,11 @@ ghost use Rattle.sched_history.specs.Facts.{IsWithinAsked};
 use super::planned::Planned;
 use super::refusing::{is_periodic, takes_requests};
 use super::reserves::Reserves;
-use crate::call::Call;
-use crate::reply::copy_of_placement;
-use flow_book::{Book, FlowSpec};
-use map_build::{Header, PlannedFrame, plan_with_book};
+use flow_book::Book;
+use map_build::{PlannedFrame, plan_with_book};
 use minislots::Checked;
-use periodic::{PlaceFault, Placement, Table};
+use periodic::{PlaceFault, Table};
+use sched_calls::{Call, FlowSpec, Header, Placement};
 use std::alloc::{AllocError, Global};
 
 // The live flows, their placements, and the time.
@@ -194,7 +193,7 @@ impl State {
         ensures same { self.new ≡ record self.old { book = self.new.book } }
         ensures err { OnErr result (self.new ≡ self.old) }
     {
-        let kept = copy_of_placement(alloc, placement)?;
+        let kept = placement.copy(alloc)?;
         self.book.admit(sid, spec)?;
         Ok(kept)
     }

@@ -1,12 +1,12 @@
 //! Lines that are explained, on their way to a writer.
 
-ghost use Rattle.sched_lines.specs.Line.{HasLine};
+ghost use Rattle.sched_calls.specs.Reply.{HasLine};
 ghost use Rattle.sched_lines.specs.Meaning.{explained_line};
 ghost use Rattle.text_stream.specs.Writing.{Puts};
 
 use super::LineBuffer;
 use crate::meaning;
-use sched_history::{Reply, Unrecorded};
+use sched_calls::{Reply, Unrecorded};
 use text_stream::{Sink, TextFault};
 
 impl LineBuffer {

@@ -2,14 +2,13 @@
 
 ghost use Rattle.std.specs.Prelude.{◌≡◌, ◌+◌, ◌<◌, ◌≤◌, ◌++◌, Some, length};
 ghost use Rattle.std.specs.Bool.{OnTrue, OnFalse};
-ghost use Rattle.sched_history.specs.declared.reply.Reply.TheVariants.{Admitted, Flow, Refused};
+ghost use Rattle.sched_calls.specs.declared.reply.Reply.TheVariants.{Admitted, Flow, Refused};
 ghost use Rattle.sched_lines.specs.Line.{reply_text, line_of};
 ghost use Rattle.sched_lines.specs.declared.page.TheConstants.{ROOM};
 
 use super::Page;
 use crate::line::{refusal_number, refusal_value};
-use periodic::Placement;
-use sched_history::{Refusal, Reply, Unrecorded};
+use sched_calls::{Placement, Refusal, Reply, Unrecorded};
 
 /// The most bytes of a line with at most three numbers, and a few more.
 const SHORT: usize = 96;

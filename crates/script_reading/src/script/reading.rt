@@ -7,18 +7,16 @@ ghost use Rattle.script_reading.specs.Usual.{script_text};
 ghost use Rattle.text_stream.specs.Watched.{FailsBy};
 ghost use Rattle.script_reading.specs.Outcome.{text_outcome, StandsFor, StopsScript};
 
-use super::item::InScript;
 use super::{Script, script_of};
-use call_reading::read_quick_script;
-use json_fields::{Stop, read_usual};
+use call_reading::{InScript, read_usual};
+use json_fields::Stop;
 use minislots::Checked;
-use sched_history::Call;
+use sched_calls::Call;
 use std::alloc::Global;
 use text_stream::{Source, TextFault, parse, read_all};
 
-// The script that a text stands for, read from its tokens. One that is not in the usual form is read as a tree, which
-// tells its fault.
-fn script_of_tokens(alloc: Global, bytes: &[u8]) -> Result<Script, TextFault>
+// The script that a text stands for. One that is not in the usual form is read as a tree, which tells its fault.
+fn script_of_text(alloc: Global, bytes: &[u8]) -> Result<Script, TextFault>
     ensures { Gives scenario_of result (script_text bytes.now) }
 {
     match read_usual::<InScript, _>(alloc, bytes, "calls") {
@@ -28,16 +26,6 @@ fn script_of_tokens(alloc: Global, bytes: &[u8]) -> Result<Script, TextFault>
             let value = parse(alloc, bytes)?;
             script_of(alloc, &value)
         }
-    }
-}
-
-// The script that a text stands for. One in the usual spelling is read byte by byte, any other from its tokens.
-fn script_of_text(alloc: Global, bytes: &[u8]) -> Result<Script, TextFault>
-    ensures { Gives scenario_of result (script_text bytes.now) }
-{
-    match read_quick_script(alloc, bytes) {
-        Ok((config, calls)) => Ok(Script { config, calls }),
-        Err(_stop) => script_of_tokens(alloc, bytes),
     }
 }
 

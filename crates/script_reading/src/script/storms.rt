@@ -1,7 +1,7 @@
 //! The script of a storm: a configuration, and the calls of each worker.
 
 ghost use Rattle.std.specs.Prelude.{◌≡◌, ◌≤◌, ◌<◌, ◌+◌, ◌^◌, length, vec_len, Ok, IfOk, IfErr, IsTrue};
-ghost use Rattle.sched_history.specs.declared.call.TheConstants.{MAX_SCRIPTS};
+ghost use Rattle.sched_calls.specs.declared.call.TheConstants.{MAX_SCRIPTS};
 ghost use Rattle.serde_json.specs.View.{view, items_view};
 ghost use Rattle.text_stream.specs.Input.{Gives};
 ghost use Rattle.script_reading.specs.StormScript.{calls_each, are_arrays, are_scripts, scripts_of, storm_with};
@@ -11,10 +11,10 @@ ghost use Rattle.script_reading.specs.Usual.{scripts_text};
 ghost use Rattle.text_stream.specs.Watched.{FailsBy};
 
 use super::calls_after;
-use super::item::InScript;
-use json_fields::{Stop, config_in, member, read_usual};
+use call_reading::{InScript, read_usual};
+use json_fields::{Stop, config_in, member};
 use minislots::{Checked, Config};
-use sched_history::{Call, MAX_SCRIPTS};
+use sched_calls::{Call, MAX_SCRIPTS};
 use serde_json::Value;
 use std::alloc::Global;
 use text_stream::{Source, TextFault, parse, read_all};

@@ -4,8 +4,8 @@ use Rattle.minislots.specs.declared.config.Config.{Config}
 use Rattle.minislots.proofs.Bounds.{bounds_of}
 use Rattle.sched_history.specs.Machine.{Machine}
 use Rattle.sched_history.proofs.state.Whole.{kept-whole}
-use Rattle.sched_lines.proofs.Leaving.{MakesCalls-few}
-use Rattle.sched_lines.proofs.Made.{MakesCalls-handed}
+use Rattle.sched_history.proofs.runs.Leaving.{MakesCalls-few}
+use Rattle.sched_history.proofs.runs.Made.{MakesCalls-handed}
 use Rattle.draw_command.proofs.Drawing.{Draws-whole}
 use Rattle.draw_command.proofs.draw.draw_calls.Goals as goal
 

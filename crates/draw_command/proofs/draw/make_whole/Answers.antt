@@ -1,7 +1,7 @@
 -- Each call leads the run one step on.
 use Rattle.std.proofs.Common.{sym, ◌∙◌}
 use Rattle.draw_command.proofs.Drawing.{MakesWhole-push}
-use Rattle.sched_lines.proofs.Made.{MakesCalls-handed}
+use Rattle.sched_history.proofs.runs.Made.{MakesCalls-handed}
 use Rattle.draw_command.proofs.draw.make_whole.Goals as goal
 
 pub loop-place-preserved : goal.loop-place-preserved

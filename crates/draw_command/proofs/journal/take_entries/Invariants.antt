@@ -1,7 +1,7 @@
 -- The entries so far, as many as there were turns, were taken, and no read failed.
 use Rattle.std.proofs.Common.{◌≡◌, ℕ, List, Option, length}
 use Rattle.std.specs.List.{AllByRecursion}
-use Rattle.sched_history.specs.Machine.{IsEncodable}
+use Rattle.sched_calls.specs.Reply.{IsEncodable}
 use Rattle.journal_entries.specs.Next.{HasGiven}
 use Rattle.draw_command.proofs.journal.take_entries.Given as goal
 

@@ -2,9 +2,9 @@
 use Rattle.std.proofs.Common.{◌∙◌, ◌≡◌, ◌+◌, length, get_or, [], ◌∷◌, ◌++◌, take, arith, ap, subst, sym, refl}
 use Rattle.std.proofs.KnownBytes.{Appends-nil}
 use Rattle.std.proofs.lemmas.List.{take_more}
-use Rattle.sched_history.specs.declared.reply.Entry.{Entry}
+use Rattle.sched_calls.specs.declared.reply.Entry.{Entry}
 use Rattle.sched_history.specs.History.{map_by}
-use Rattle.sched_history.specs.Machine.{IsEncodable}
+use Rattle.sched_calls.specs.Reply.{IsEncodable}
 use Rattle.frame_picture.specs.Frames.{frame_by, frames_of, TellsUnsolicited}
 use Rattle.frame_picture.proofs.FrameLists.{frames_in-nil, count-more, frames_of-front-≤, one_frame}
 use Rattle.frame_picture.proofs.Rows.{rows_more, row_within, whole_at}

@@ -5,9 +5,9 @@ use Rattle.serde_json.proofs.Texts.{print-outline}
 use Rattle.history_writing.specs.HistoryText.{history_data, history_text}
 use Rattle.history_writing.proofs.history.history_text.Goals as goal
 
-pub returns : goal.returns
+pub returns-clause-ok : goal.returns-clause-ok
 unfolding history_text
-returns c =
+returns-clause-ok c =
     let history = history_data c.args.config.now c.args.entries.now in
     let members = c.in_ok-put_members.ensures in
     let text : c.into_inner-text.result.items ≡ compact_text history =

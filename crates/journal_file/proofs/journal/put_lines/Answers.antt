@@ -3,8 +3,8 @@ use Rattle.std.proofs.Common.{◌≡◌, ℕ, ◌+◌, ◌<◌, List, [], ◌∷
 use Rattle.std.proofs.lemmas.List.{take_all, take_more}
 use Rattle.std.proofs.lemmas.List.Concat.{flat_map-append}
 use Rattle.std.specs.Prelude.{flat_map}
-use Rattle.sched_history.specs.declared.reply.Entry.{Entry}
-use Rattle.journal_writing.specs.Journal.{entry_line}
+use Rattle.sched_calls.specs.declared.reply.Entry.{Entry}
+use Rattle.history_writing.specs.Journal.{entry_line}
 use Rattle.journal_file.proofs.journal.put_lines.Goals as goal
 
 lines-more : (es : List Entry) (i : ℕ) (d e : Entry) (old new : List ℕ) → i < length es → e ≡ get_or es i d

@@ -8,6 +8,8 @@ abbrev pub invariant-loop-at : goal.invariant-loop-at
 invariant-loop-at g l = record {
   within : l.at ≤ length l.bytes;
   put : g.S.Store.contents l.store ≡ append_known (g.S.Store.contents l.initial.store) (take l.at l.bytes);
+  reached : g.S.Store.reached l.store ≡ g.S.Store.reached l.initial.store;
+  unfailed : g.S.Store.has_failed l.store ≡ g.S.Store.has_failed l.initial.store;
 }
 
 abbrev pub decreases-loop-at : goal.decreases-loop-at

@@ -1,7 +1,8 @@
 -- A piece more, the piece in which the line ends, and the end of the input.
-use Rattle.std.proofs.Common.{◌≡◌, ◌+◌, ◌-◌, ◌^◌, ◌<◌, min, length, take, ◌∙◌, arith, length-take}
+use Rattle.std.proofs.Common.{◌≡◌, ◌+◌, ◌-◌, ◌^◌, ◌<◌, min, length, take, ◌∙◌, arith, length-append, length-take}
 use Rattle.line_stream.proofs.Taking.{IsWithinLine-nowhere}
-use Rattle.line_stream.proofs.Reading.{Reads-push, Reads-found, Reads-ended}
+use Rattle.line_stream.proofs.Reading.{Reads-push, Reads-found, Reads-ended, Reads-stops, Reads-few, Reads-long}
+use Rattle.line_stream.proofs.Reading.{short_unless}
 use Rattle.line_stream.proofs.piece.read_line.Goals as goal
 
 pub returns-then-len-eq0-clause-finds : goal.returns-then-len-eq0-clause-finds
@@ -27,13 +28,34 @@ loop-preserved g c =
     record {
       reads = Reads-push _ _ _ _ _ _ _ c.loop.invariant.reads read c.keep-is_long.result _ _
           c.in-Ok.ensures.bytes.0 (IsWithinLine-nowhere read c.in-None.ensures) some sum c.keep-is_long.ensures;
+      short = short_unless _ _ c.else-is_long.either;
       piece = omega (arith, c.read_some.auto.buf, c.loop.invariant.piece);
       unfailed = c.in-Ok.ensures.failed ∙ c.loop.invariant.unfailed;
     }
 
 pub returns-clause-stops : goal.returns-clause-stops
 returns-clause-stops g c =
-    let reads = c.loop.invariant.reads in (
-      record { bytes = reads.front; consumed = reads.consumed; within = reads.within },
-      omega (arith, reads.many, c.loop-test.false),
-    )
+    Reads-stops _ _ _ _ _ _ c.loop.invariant.reads c.args.reads_on c.loop.invariant.short
+    (omega (arith, c.loop-test.false))
+
+pub returns-then-not-reads_on-clause-stops : goal.returns-then-not-reads_on-clause-stops
+returns-then-not-reads_on-clause-stops g c =
+    let reads = c.loop.invariant.reads in
+    let read = take c.in-Ok.len c.read_some.new.buf in
+    let taken = length-take c.in-Ok.len c.read_some.new.buf in
+    let some : 0 < length read = omega (arith, taken, c.in-Ok.ensures.bound, c.if-len-eq0.false) in
+    let sum : c.saturating_add-count.result ≡ min (c.loop.count + length read) (2 ^ 64 - 1) =
+    omega (arith, taken, c.in-Ok.ensures.bound, c.saturating_add-count.ensures) in
+    let longer = Reads-push _ _ _ _ _ _ _ reads read c.keep-is_long.result _ _ c.in-Ok.ensures.bytes.0
+    (IsWithinLine-nowhere read c.in-None.ensures) some sum c.keep-is_long.ensures in
+    let off = c.if-not-reads_on.true in
+    let few = Reads-few _ _ _ _ _ _ reads (c.loop.invariant.short off) in
+    Reads-long _ _ _ _ _ _ longer c.args.reads_on off c.if-is_long.true (omega (
+      arith,
+      few,
+      taken,
+      length-append reads.front read,
+      c.in-Ok.ensures.bound,
+      c.read_some.auto.buf,
+      c.loop.invariant.piece,
+    ))

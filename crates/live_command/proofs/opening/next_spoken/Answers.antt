@@ -8,12 +8,12 @@ use Rattle.live_command.proofs.opening.next_spoken.Goals as goal
 pub returns-in_err-told-clause-stops : goal.returns-in_err-told-clause-stops
 returns-in_err-told-clause-stops g c =
     let p = err_from_is_err_and c.from_residual.result c.from_residual.ensures.1 in
-    rw (p.1, p.2) (PassesBlanks-stops _ _ _ c.loop.invariant.passes _ _ c.in_err-told.ensures.stops)
+    rw (p.1, p.2) (PassesBlanks-stops _ _ _ c.loop.invariant.passes c.args.reads_on _ _ c.in_err-told.ensures.stops)
 
 pub returns-in_err-told-clause-failed : goal.returns-in_err-told-clause-failed
 returns-in_err-told-clause-failed g c =
     let p = err_from_is_err_and c.from_residual.result c.from_residual.ensures.1 in
-    rw (p.1, p.2) (no_line_told _ _ _ _ _ c.in_err-told.ensures.stops c.in_err-told.ensures.failed)
+    rw (p.1, p.2) (no_line_told c.args.reads_on _ _ _ _ _ c.in_err-told.ensures.stops c.in_err-told.ensures.failed)
 
 pub loop-preserved : goal.loop-preserved
 loop-preserved g c =

@@ -1,8 +1,10 @@
 -- The line that was told is the opening.
 use Rattle.std.proofs.Common.{inl}
+use Rattle.std.proofs.lemmas.Result.{err_from_is_err_and}
 use Rattle.text_stream.proofs.Outcome.{unfailed}
 use Rattle.live_command.specs.Opening.{opening_in}
 use Rattle.live_command.proofs.OpeningFaults.{faults-opening_in, opens_well, opens_badly, opens_long}
+use Rattle.live_command.proofs.OpeningFaults.{stops_opening}
 use Rattle.live_command.proofs.Failing.{unread}
 use Rattle.live_command.proofs.opening.read_opening.Goals as goal
 
@@ -28,3 +30,8 @@ pub returns-in-Some-Long-clause-stops : goal.returns-in-Some-Long-clause-stops
 returns-in-Some-Long-clause-stops g c =
     let found = rw (c.in-Some-Long.is, c.in-Some-Long.field-0-is) at c.in_ok-next_spoken.ensures.finds in
     inl (_, opens_long _ _ _ found)
+
+pub returns-in_err-next_spoken-clause-stops : goal.returns-in_err-next_spoken-clause-stops
+returns-in_err-next_spoken-clause-stops g c =
+    let p = err_from_is_err_and c.from_residual.result c.from_residual.ensures.1 in
+    rw (p.1, p.2) (stops_opening _ _ _ c.in_err-next_spoken.ensures.stops)

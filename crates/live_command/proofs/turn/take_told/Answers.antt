@@ -5,34 +5,34 @@ use Rattle.live_command.proofs.Talking.{Talk-line, Stopped-quiet, Stopped-unput}
 use Rattle.live_command.proofs.turn.take_told.Goals as goal
 
 pub returns-in_err-make_room-clause-talk : goal.returns-in_err-make_room-clause-talk
-returns-in_err-make_room-clause-talk g c = λ s turns left same tells.
+returns-in_err-make_room-clause-talk g c = λ s v turns left same tells.
     let p = err_from_is_err_and c.from_residual.result c.from_residual.ensures.1 in
-    rw p.1 (c.in_err-make_room.ensures.talk s turns _ tells.talk)
+    rw p.1 (c.in_err-make_room.ensures.talk s v turns _ tells.talk)
 
 pub returns-in_err-settle-in-Err-clause-talk : goal.returns-in_err-settle-in-Err-clause-talk
-returns-in_err-settle-in-Err-clause-talk g c = λ s turns left same tells.
+returns-in_err-settle-in-Err-clause-talk g c = λ s v turns left same tells.
     let exit = c.from_residual-in_err-settle-in-Err in
     let p = err_from_is_err_and exit.result exit.ensures.1 in
-    let room = c.in_ok-make_room.ensures.talk s turns _ tells.talk in
-    rw p.1 (c.in_err-settle-in-Err.ensures.talk s turns _ room)
+    let room = c.in_ok-make_room.ensures.talk s v turns _ tells.talk in
+    rw p.1 (c.in_err-settle-in-Err.ensures.talk s v turns _ room)
 
 pub returns-in-Err-clause-talk : goal.returns-in-Err-clause-talk
-returns-in-Err-clause-talk g c = λ s turns left same tells.
-    let room = c.in_ok-make_room.ensures.talk s turns _ tells.talk in
-    Stopped-quiet s turns _ _ _ _ _ (c.in_ok-settle-in-Err.ensures.talk s turns _ room).0
+returns-in-Err-clause-talk g c = λ s v turns left same tells.
+    let room = c.in_ok-make_room.ensures.talk s v turns _ tells.talk in
+    Stopped-quiet s turns _ _ _ _ _ (c.in_ok-settle-in-Err.ensures.talk s v turns _ room).0
 
 pub returns-in_err-answer-clause-talk : goal.returns-in_err-answer-clause-talk
-returns-in_err-answer-clause-talk g c = λ s turns left same tells.
+returns-in_err-answer-clause-talk g c = λ s v turns left same tells.
     let exit = c.from_residual-in_err-answer in
     let p = err_from_is_err_and exit.result exit.ensures.1 in
-    let room = c.in_ok-make_room.ensures.talk s turns _ tells.talk in
+    let room = c.in_ok-make_room.ensures.talk s v turns _ tells.talk in
     let one = rw (← same) at c.in_err-answer.ensures.unput in
     let says = SaysOne-line s.wording tells.line c.in-Ok.heard _ _ (c.in-Ok.ensures.ok tells.line tells.is) one in
     rw p.1 (Stopped-unput s turns _ _ _ _ _ room tells.line one.texts _ _ tells.taken (rw room.config at says))
 
 pub returns-clause-talk : goal.returns-clause-talk
-returns-clause-talk g c = λ s turns left same tells.
-    let room = c.in_ok-make_room.ensures.talk s turns _ tells.talk in
+returns-clause-talk g c = λ s v turns left same tells.
+    let room = c.in_ok-make_room.ensures.talk s v turns _ tells.talk in
     let heard = rw (← same) at c.in_ok-answer.ensures.ok in
     let answers = AnswersLines-heard s.wording tells.line c.in-Ok.heard _ _ (c.in-Ok.ensures.ok tells.line tells.is)
     _ _ heard in

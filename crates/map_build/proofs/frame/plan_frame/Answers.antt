@@ -1,7 +1,7 @@
 -- The MAP alone.
 use Rattle.std.proofs.Common.{[]}
 use Rattle.periodic.specs.Placement.{spots_in}
-use Rattle.map_build.specs.Opportunities.{header_of}
+use Rattle.sched_calls.specs.Header.{header_of}
 use Rattle.map_build.specs.Plan.{demand_at}
 use Rattle.map_build.proofs.Planned.{lawful-from_frame}
 use Rattle.map_build.proofs.frame.plan_frame.Goals as goal

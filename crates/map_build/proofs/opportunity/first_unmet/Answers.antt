@@ -1,7 +1,7 @@
 -- None of the places before the one that is found is unmet and fits.
 use Rattle.std.proofs.Common.{arith}
-use Rattle.map_build.specs.declared.opportunity.Usage.TheVariants.{Initial}
-use Rattle.map_build.specs.declared.opportunity.Opportunity.{Opportunity}
+use Rattle.sched_calls.specs.declared.opportunity.Usage.TheVariants.{Initial}
+use Rattle.sched_calls.specs.declared.opportunity.Opportunity.{Opportunity}
 use Rattle.map_build.proofs.Unmet.{first-unmet, marked-met, long-unfit, none-more, none-unmet}
 use Rattle.map_build.proofs.opportunity.first_unmet.Goals as goal
 use Rattle.map_build.proofs.opportunity.first_unmet.Goals.{else-not-met-place-via-then-not-met-place+else-waiting-place}

@@ -3,8 +3,8 @@ use Rattle.std.proofs.Common.{◌≡◌, ℕ, ◌+◌, ◌<◌, List, [], ◌∷
 use Rattle.std.proofs.Common.{append-nil}
 use Rattle.std.proofs.lemmas.List.{take_all, take_more}
 use Rattle.std.proofs.lemmas.List.Concat.{flat_map-append}
-use Rattle.sched_history.specs.declared.reply.Entry.{Entry}
-use Rattle.journal_writing.specs.Journal.{entry_line}
+use Rattle.sched_calls.specs.declared.reply.Entry.{Entry}
+use Rattle.history_writing.specs.Journal.{entry_line}
 use Rattle.mapsched_c.specs.Journal.{lines_of}
 use Rattle.mapsched_c.proofs.journal.lines_text.Goals as goal
 

@@ -1,8 +1,8 @@
 -- Each call leads the run one step on, and what waits at the end is written.
 use Rattle.std.proofs.Common.{◌∙◌}
 use Rattle.std.proofs.lemmas.List.{take_all}
-use Rattle.sched_lines.proofs.Leaving.{MakesCalls-few}
-use Rattle.sched_lines.proofs.Made.{MakesCalls-handed}
+use Rattle.sched_history.proofs.runs.Leaving.{MakesCalls-few}
+use Rattle.sched_history.proofs.runs.Made.{MakesCalls-handed}
 use Rattle.pcap_command.specs.Items.{item_of}
 use Rattle.pcap_command.proofs.OnWire.{Runs-push, Runs-written, whole-run}
 use Rattle.pcap_command.proofs.run.run_calls.Goals as goal

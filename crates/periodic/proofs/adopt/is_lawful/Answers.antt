@@ -1,6 +1,6 @@
 -- The starts are lawful at the nominal times of the placement.
 use Rattle.std.proofs.Common.{◌≡◌, ◌<◌, ◌-◌, ◌*◌, ◌/◌, ◌%◌, refl, ◌∙◌, subst, arith}
-use Rattle.periodic.specs.declared.placement.Placement.{Placement}
+use Rattle.sched_calls.specs.declared.placement.Placement.{Placement}
 use Rattle.periodic.specs.Placement.{phase_of, offset_of}
 use Rattle.periodic.proofs.Adopting.{placement-judged, judged-placement}
 use Rattle.periodic.proofs.adopt.is_lawful.Goals as goal

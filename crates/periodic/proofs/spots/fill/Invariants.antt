@@ -1,6 +1,6 @@
 -- The spots of the flows gone through are written.
 use Rattle.std.proofs.Common.{◌≡◌, ◌≤◌, length, map, take, drop}
-use Rattle.periodic.specs.declared.TheConstants.{MAX_PERIODIC_GRANTS}
+use Rattle.sched_calls.specs.declared.TheConstants.{MAX_PERIODIC_GRANTS}
 use Rattle.periodic.specs.Placement.{spots_in}
 use Rattle.periodic.specs.Fields.{placed_of}
 use Rattle.periodic.proofs.spots.fill.Given as goal

@@ -1,6 +1,6 @@
 -- An interval has frames, which divide the cycle.
 use Rattle.std.proofs.Common.{◌≡◌, ◌/◌, rules}
-use Rattle.flow_book.specs.FlowSpec.{interval_frames}
+use Rattle.sched_calls.specs.FlowSpec.{interval_frames}
 use Rattle.periodic.proofs.Parameters.{places_of}
 use Rattle.periodic.proofs.spots.interval.Goals as goal
 

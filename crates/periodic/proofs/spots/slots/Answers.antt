@@ -1,7 +1,7 @@
 -- A grant and a poll fit behind the request region.
 use Rattle.std.proofs.Common.{◌≡◌, rules, arith}
 use Rattle.minislots.proofs.Bounds.{bounds_of}
-use Rattle.flow_book.specs.FlowSpec.{periodic_slots}
+use Rattle.sched_calls.specs.FlowSpec.{periodic_slots}
 use Rattle.periodic.proofs.Parameters.{places_of}
 use Rattle.periodic.proofs.spots.slots.Goals as goal
 

@@ -1,6 +1,6 @@
 -- The entries so far, as many as there were turns, were taken by the reporter, and no read failed.
 use Rattle.std.proofs.Common.{◌≡◌, ◌≤◌, ℕ, List, [], Option, length}
-use Rattle.sched_history.specs.declared.reply.TheConstants.{MAX_WHOLE_HISTORY}
+use Rattle.sched_calls.specs.declared.reply.TheConstants.{MAX_WHOLE_HISTORY}
 use Rattle.journal_entries.specs.Unjudged.{HasRead}
 use Rattle.report_command.proofs.journal.take_entries.Given as goal
 

@@ -1,6 +1,6 @@
 -- Each call leads the run one step on.
 use Rattle.std.proofs.Common.{◌++◌, ◌∷◌, []}
-use Rattle.sched_lines.proofs.Made.{MakesCalls-push, MakesCalls-handed}
+use Rattle.sched_history.proofs.runs.Made.{MakesCalls-push, MakesCalls-handed}
 use Rattle.run_command.proofs.run.make_calls.Goals as goal
 
 pub loop-place-preserved : goal.loop-place-preserved

@@ -1,7 +1,7 @@
 -- The calls so far, and their answers.
 use Rattle.std.proofs.Common.{List, take}
-use Rattle.sched_lines.specs.Line.{Answer}
-use Rattle.sched_lines.specs.Answer.{MakesCalls}
+use Rattle.sched_calls.specs.Reply.{Answer}
+use Rattle.sched_history.specs.Answer.{MakesCalls}
 use Rattle.run_command.proofs.run.make_calls.Given as goal
 
 abbrev pub invariant-loop-place : goal.invariant-loop-place

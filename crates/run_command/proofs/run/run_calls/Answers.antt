@@ -2,9 +2,9 @@
 use Rattle.std.proofs.Common.{◌∙◌}
 use Rattle.std.proofs.lemmas.List.{take_all}
 use Rattle.run_command.specs.Run.{line_with}
-use Rattle.sched_lines.proofs.Leaving.{MakesCalls-few}
+use Rattle.sched_history.proofs.runs.Leaving.{MakesCalls-few}
 use Rattle.run_command.proofs.Running.{Runs-push, Runs-written, Runs-whole}
-use Rattle.sched_lines.proofs.Made.{MakesCalls-handed}
+use Rattle.sched_history.proofs.runs.Made.{MakesCalls-handed}
 use Rattle.run_command.proofs.run.run_calls.Goals as goal
 
 pub loop-place-preserved : goal.loop-place-preserved

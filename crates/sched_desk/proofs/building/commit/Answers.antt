@@ -1,6 +1,6 @@
 -- The press shows the MAP of the entry that is recorded.
 use Rattle.std.proofs.Common.{Ok, Err, ◌≤◌, arith}
-use Rattle.sched_history.specs.declared.call.Call.TheVariants.{Build}
+use Rattle.sched_calls.specs.declared.call.Call.TheVariants.{Build}
 use Rattle.sched_history.proofs.state.Whole.{room-whole-history}
 use Rattle.sched_desk.proofs.Recorded.{committed, shows-built}
 use Rattle.sched_desk.proofs.building.commit.Goals as goal

@@ -1,6 +1,6 @@
 -- There are no more MAPs than entries, and there is room for another.
 use Rattle.std.proofs.Common.{arith}
-use Rattle.sched_history.specs.declared.reply.Unrecorded.TheVariants.{HistoryFull}
+use Rattle.sched_calls.specs.declared.reply.Unrecorded.TheVariants.{HistoryFull}
 use Rattle.sched_history.proofs.state.Recording.{room-whole}
 use Rattle.sched_history.proofs.rows.Limits.{most_history}
 use Rattle.sched_desk.proofs.Published.{published-few}

@@ -3,7 +3,8 @@ use Rattle.std.proofs.Common.{◌≡◌, ◌≤◌, length, sym, ap, ◌∙◌, 
 use Rattle.std.specs.List.{AllByRecursion}
 use Rattle.sched_history.specs.Facts.{FollowsAlways}
 use Rattle.sched_history.specs.History.{IsLegal}
-use Rattle.sched_history.specs.Machine.{Machine, kept_of, IsEncodable}
+use Rattle.sched_history.specs.Machine.{Machine, kept_of}
+use Rattle.sched_calls.specs.Reply.{IsEncodable}
 use Rattle.sched_desk.specs.Desk.{IsHeadOf}
 use Rattle.sched_desk.proofs.AtClose.{closes_to, config_is, head_is}
 use Rattle.sched_desk.proofs.closing.close.Goals as goal

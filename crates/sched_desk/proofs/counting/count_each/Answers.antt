@@ -1,7 +1,7 @@
 -- Nothing is counted at first, and each entry once.
 use Rattle.std.proofs.Common.{◌<◌, ◌+◌, refl, sym, ap, ◌∙◌, subst, length-set}
 use Rattle.std.proofs.lemmas.List.{get_or-replicate}
-use Rattle.sched_history.specs.declared.reply.Entry.{Entry}
+use Rattle.sched_calls.specs.declared.reply.Entry.{Entry}
 use Rattle.ticket_core.specs.declared.TheConstants.{MAX_SEATS}
 use Rattle.sched_desk.proofs.Counts.{counts-more, sum-more}
 use Rattle.sched_desk.proofs.counting.count_each.Goals as goal

@@ -1,8 +1,8 @@
 -- Before any entry nothing is judged; the first entry that may not follow is the one that is named.
 use Rattle.std.proofs.Common.{ℕ, Result, Ok, Err, length, refl, ap, subst, arith}
 use Rattle.std.proofs.lemmas.Option.{slice_get_read}
-use Rattle.sched_history.specs.declared.reply.AuditFault.{AuditFault}
-use Rattle.sched_history.specs.declared.reply.AuditFault.TheVariants.{Illegal, Memory}
+use Rattle.sched_history.specs.declared.fault.AuditFault.{AuditFault}
+use Rattle.sched_history.specs.declared.fault.AuditFault.TheVariants.{Illegal, Memory}
 use Rattle.sched_history.specs.History.{IsStep}
 use Rattle.sched_history.specs.Machine.{Past}
 use Rattle.sched_history.specs.Audit.{IsFirstIllegal}

@@ -1,6 +1,6 @@
 -- The life at the place of the SID has the allocation, and to no other it is an unsolicited grant.
 use Rattle.std.proofs.Common.{ℕ, [], refl, sym, ◌∙◌, arith}
-use Rattle.flow_book.specs.declared.spec.FlowSpec.{FlowSpec}
+use Rattle.sched_calls.specs.declared.spec.FlowSpec.{FlowSpec}
 use Rattle.sched_report.specs.Granted.{unsolicited_at}
 use Rattle.sched_report.proofs.GrantedLaws.{HaveMore-set, no_unsolicited-apart}
 use Rattle.sched_report.proofs.lives.count_at.Goals as goal

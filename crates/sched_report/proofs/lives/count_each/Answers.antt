@@ -1,7 +1,7 @@
 -- One allocation more.
 use Rattle.std.proofs.Common.{◌≡◌, ◌+◌, ◌<◌, ℕ, [], length, get_or, None, refl, sym, ap, ◌∙◌, arith}
 use Rattle.std.specs.Prelude.{count_by}
-use Rattle.flow_book.specs.declared.spec.FlowSpec.{FlowSpec}
+use Rattle.sched_calls.specs.declared.spec.FlowSpec.{FlowSpec}
 use Rattle.map_drawing.specs.Allocation.{front_length, allocation_at}
 use Rattle.sched_report.specs.Granted.{is_unsolicited_to, unsolicited_at}
 use Rattle.sched_report.proofs.GrantedLaws.{HaveMore-none, HaveMore-is, HaveMore-then, HaveMore-live}

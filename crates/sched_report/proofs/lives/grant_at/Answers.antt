@@ -1,7 +1,7 @@
 -- The life at the place of the SID has the element, and to no other it is a data grant.
 use Rattle.std.proofs.Common.{ℕ, [], refl, sym, ◌∙◌, arith}
 use Rattle.std.specs.List.{cons_option}
-use Rattle.flow_book.specs.declared.spec.FlowSpec.{FlowSpec}
+use Rattle.sched_calls.specs.declared.spec.FlowSpec.{FlowSpec}
 use Rattle.sched_history.specs.Life.{grant_by}
 use Rattle.sched_report.proofs.GrantedLaws.{HaveMore-set, no_grant-apart}
 use Rattle.sched_report.proofs.lives.grant_at.Goals as goal

@@ -3,7 +3,7 @@ use Rattle.std.proofs.Common.{ℕ, refl, ap, arith}
 use Rattle.std.specs.List.{zip, filter_map}
 use Rattle.std.proofs.lemmas.List.{take_all}
 use Rattle.std.proofs.lemmas.Slice.Zip.{length-zip}
-use Rattle.flow_book.specs.declared.spec.FlowSpec.{FlowSpec}
+use Rattle.sched_calls.specs.declared.spec.FlowSpec.{FlowSpec}
 use Rattle.sched_history.specs.Life.{grant_by}
 use Rattle.sched_report.proofs.Fronts.{first_grants}
 use Rattle.sched_report.proofs.GrantedLaws.{HaveMore-none, HaveMore-is, HaveMore-next, HaveMore-live, MayGrantEach-next}

@@ -1,8 +1,8 @@
 -- A MAP is a frame more, and a skip says where the next one starts.
 use Rattle.std.proofs.Common.{◌≡◌, ℕ, ◌+◌, false, None, refl, sym, ap, ◌∙◌}
-use Rattle.map_build.specs.declared.frame_map.FrameMap.{FrameMap}
-use Rattle.sched_history.specs.declared.reply.Reply.{Reply}
-use Rattle.sched_history.specs.declared.reply.Reply.TheVariants as replies
+use Rattle.sched_calls.specs.declared.frame_map.FrameMap.{FrameMap}
+use Rattle.sched_calls.specs.declared.reply.Reply.{Reply}
+use Rattle.sched_calls.specs.declared.reply.Reply.TheVariants as replies
 use Rattle.sched_history.specs.Time.{skip_by, is_built}
 use Rattle.sched_history.proofs.time.TimeAfter.{next_after-built, next_after-skipped, next_after-same}
 use Rattle.sched_report.proofs.lives.next_with.Goals as goal

@@ -1,6 +1,6 @@
 -- The lives have the grants of the entry's MAP, or what it names.
 use Rattle.std.proofs.Common.{ℕ, get_or, arith}
-use Rattle.flow_book.specs.declared.spec.FlowSpec.{FlowSpec}
+use Rattle.sched_calls.specs.declared.spec.FlowSpec.{FlowSpec}
 use Rattle.sched_history.specs.Life.{grants_of_map}
 use Rattle.sched_report.specs.Said.{unsolicited_of_map}
 use Rattle.sched_report.proofs.GrantedLaws.{HaveMore-live, may_grant-map, may_count-map, goes_on-map}

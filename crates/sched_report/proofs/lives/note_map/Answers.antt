@@ -5,7 +5,7 @@ use Rattle.std.specs.List.{zip, filter_map}
 use Rattle.std.specs.Prelude.{count_by}
 use Rattle.map_codec.specs.declared.element.Element.{Element}
 use Rattle.map_drawing.specs.Allocation.{allocations_of}
-use Rattle.flow_book.specs.declared.spec.FlowSpec.{FlowSpec}
+use Rattle.sched_calls.specs.declared.spec.FlowSpec.{FlowSpec}
 use Rattle.sched_history.specs.Facts.{HasFront}
 use Rattle.sched_history.specs.Life.{grant_by, grants_of_map}
 use Rattle.sched_report.specs.Granted.{HaveMore, MayGrantEach, is_unsolicited_to}

@@ -1,6 +1,6 @@
 -- The jobs that are left, and what the others gave back.
 use Rattle.std.proofs.Common.{◌≤◌, ◌+◌, vec_len, vec_capacity}
-use Rattle.sched_history.specs.declared.call.TheConstants.{MAX_SCRIPTS}
+use Rattle.sched_calls.specs.declared.call.TheConstants.{MAX_SCRIPTS}
 use Rattle.sched_storm.specs.Jobs.{GivesBack}
 use Rattle.sched_storm.proofs.GatherLaws.{Joining}
 use Rattle.sched_storm.proofs.gather.gather.Given as goal

@@ -4,7 +4,7 @@ use Rattle.std.proofs.Common.{◌≡◌, ℕ, true, List, length, drop, ap, sym,
 use Rattle.std.specs.Prelude.{◌↔◌}
 use Rattle.std.proofs.lemmas.List.{length-map}
 use Rattle.map_codec.specs.WireMap.{spelling}
-use Rattle.sched_history.specs.declared.reply.Entry.{Entry}
+use Rattle.sched_calls.specs.declared.reply.Entry.{Entry}
 use Rattle.sched_desk.specs.Closed.{ClosesTo}
 use Rattle.sched_desk.specs.Desk.{published}
 use Rattle.sched_history.specs.Facts.{maps_of}

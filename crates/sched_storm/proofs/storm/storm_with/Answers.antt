@@ -1,6 +1,6 @@
 -- The workers have a seat each of the lock that was opened, and there is a tally of what they gave back.
 use Rattle.std.proofs.Common.{◌≡◌, ◌≤◌, vec_len, Result, Err, arith, rules}
-use Rattle.sched_history.specs.declared.call.TheConstants.{MAX_SCRIPTS}
+use Rattle.sched_calls.specs.declared.call.TheConstants.{MAX_SCRIPTS}
 use Rattle.sched_storm.specs.declared.tally.StormFault.{StormFault}
 use Rattle.sched_storm.specs.declared.tally.StormFault.TheVariants.{Threads, Memory}
 use Rattle.sched_storm.specs.declared.tally.Tally.{Tally}

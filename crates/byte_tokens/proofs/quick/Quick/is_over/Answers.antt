@@ -1,7 +1,7 @@
 -- At the end no token is left.
-use Rattle.std.proofs.Common.{drop, sym, ap, ◌∙◌}
-use Rattle.json.specs.Lex.{between, lex}
-use Rattle.byte_tokens.proofs.Taken.{none_left}
+use Rattle.std.proofs.Common.{drop, length, sym, ap, ◌∙◌}
+use Rattle.std.proofs.lemmas.Bool.{eqb-true}
+use Rattle.byte_tokens.proofs.Taken.{none_left, none_at_end}
 use Rattle.byte_tokens.proofs.quick.Quick.is_over.Goals as goal
 
 pub returns-then-may_close : goal.returns-then-may_close
@@ -11,4 +11,4 @@ returns-then-may_close c end =
     let same = c.as_bytes.ensures.value in
     let may = sym c.may_close.ensures ∙ c.if-may_close.true in
     sym c.self.view_is ∙ none_left a.before may (drop a.at text)
-    (ap (λ t. lex between (drop a.at t)) (sym same) ∙ c.ends_at.ensures end)
+    (none_at_end text a.at (eqb-true _ _ end ∙ ap length same))

@@ -2,8 +2,8 @@
 use Rattle.std.proofs.Common.{ap}
 use Rattle.call_queue.proofs.queue.CallQueue.make_next.Goals as goal
 
-pub answer-requires-clause-answers : goal.answer-requires-clause-answers
-answer-requires-clause-answers g c = (
+pub answer-due-requires-clause-answers : goal.answer-due-requires-clause-answers
+answer-due-requires-clause-answers g c = (
   (c.args.taken.ticket, c.args.taken.call),
   ap (λ s. s.left) c.requires.taken,
   record {

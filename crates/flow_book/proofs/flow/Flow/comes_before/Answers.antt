@@ -1,5 +1,5 @@
 -- The turns stand for ranks and last starts.
-use Rattle.flow_book.specs.FlowSpec.{rank_of}
+use Rattle.sched_calls.specs.FlowSpec.{rank_of}
 use Rattle.flow_book.specs.Choice.{last_start}
 use Rattle.flow_book.proofs.Turns.{turn-first}
 use Rattle.flow_book.proofs.flow.Flow.comes_before.Goals as goal

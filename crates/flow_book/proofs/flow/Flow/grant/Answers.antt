@@ -1,6 +1,6 @@
 -- The bucket has one more grant, and with it the sums are noted.
 use Rattle.std.proofs.Common.{IsTrue}
-use Rattle.flow_book.specs.FlowSpec.{rate_of, burst_of}
+use Rattle.sched_calls.specs.FlowSpec.{rate_of, burst_of}
 use Rattle.flow_book.proofs.flow.Flow.grant.Goals as goal
 
 pub returns-clause-sums : goal.returns-clause-sums

@@ -1,6 +1,6 @@
 -- The sums are those of the grants with this one more.
 use Rattle.std.proofs.Common.{◌≡◌, sym, ap, ◌∙◌, ◌+◌, Some, arith}
-use Rattle.flow_book.specs.FlowSpec.{rank_of}
+use Rattle.sched_calls.specs.FlowSpec.{rank_of}
 use Rattle.flow_book.specs.Flows.{bytes_of}
 use Rattle.flow_book.specs.Choice.{last_start}
 use Rattle.flow_book.specs.Entry.{IsTurn}

@@ -1,6 +1,6 @@
 -- The most that it may have is its amount: it was asked, and keeps the ceiling.
 use Rattle.std.proofs.Common.{◌≤◌, sym, subst, arith}
-use Rattle.flow_book.specs.FlowSpec.{rate_of, burst_of}
+use Rattle.sched_calls.specs.FlowSpec.{rate_of, burst_of}
 use Rattle.flow_book.specs.Flows.{LiveFlow, granted}
 use Rattle.flow_book.specs.Entry.{live}
 use Rattle.flow_book.proofs.Amounts.{amount-of_most, most-in-bucket}

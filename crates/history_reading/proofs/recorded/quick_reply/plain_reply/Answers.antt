@@ -1,6 +1,6 @@
 -- By the kind.
 use Rattle.std.proofs.Common.{◌≡◌, true, bytes_eq, codes, arith}
-use Rattle.sched_history.specs.declared.reply.Reply.TheVariants.{Removed, Taken, Noted, Reserved}
+use Rattle.sched_calls.specs.declared.reply.Reply.TheVariants.{Removed, Taken, Noted, Reserved}
 use Rattle.history_reading.proofs.Spelled.{plain_made, removed_made, taken_made, noted_made, reserved_made}
 use Rattle.history_reading.proofs.recorded.quick_reply.plain_reply.Goals as goal
 

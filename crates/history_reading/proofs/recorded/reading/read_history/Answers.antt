@@ -3,8 +3,8 @@ use Rattle.std.proofs.Common.{◌≤◌, length, vec_len, Result, Ok, Err, arith
 use Rattle.std.specs.Prelude.{IfOk}
 use Rattle.std.specs.Global.{Vec}
 use Rattle.minislots.specs.declared.config.Config.{Config}
-use Rattle.sched_history.specs.declared.reply.Entry.{Entry}
-use Rattle.sched_history.specs.declared.reply.TheConstants.{MAX_ENTRIES}
+use Rattle.sched_calls.specs.declared.reply.Entry.{Entry}
+use Rattle.sched_calls.specs.declared.reply.TheConstants.{MAX_ENTRIES}
 use Rattle.text_stream.specs.declared.fault.TextFault.{TextFault}
 use Rattle.text_stream.specs.Input.{ReadsAll}
 use Rattle.history_reading.proofs.Encodable.{encodable_entries}

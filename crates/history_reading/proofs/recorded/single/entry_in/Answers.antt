@@ -1,8 +1,8 @@
 -- What the text stands for is the entry, and its MAP has bytes.
 use Rattle.std.proofs.Common.{◌≡◌, Option, Result, Ok, Err, sym, subst}
 use Rattle.std.specs.Prelude.{IfOk, IfSome}
-use Rattle.sched_history.specs.declared.reply.Entry.{Entry}
-use Rattle.sched_history.specs.Machine.{IsEncodable}
+use Rattle.sched_calls.specs.declared.reply.Entry.{Entry}
+use Rattle.sched_calls.specs.Reply.{IsEncodable}
 use Rattle.history_reading.specs.Recorded.{entry_in}
 use Rattle.history_reading.proofs.Encodable.{entry_of-encodable, entry_in-encodable}
 use Rattle.history_reading.proofs.recorded.single.entry_in.Goals as goal
@@ -24,7 +24,7 @@ each : {E : Type 0} (r : Result (Option Entry) E) (o : Option Entry) → IfSome 
 each (Ok entry) o encodable is = subst (λ (o : Option Entry). IfSome o (λ e. IsEncodable e.reply)) (sym is) encodable
 each (Err e) o encodable is = tt
 
-pub returns-in-Err-clause-encodable : goal.returns-in-Err-clause-encodable
-returns-in-Err-clause-encodable c =
-    each c.entry_in_tokens.result (entry_in c.args.bytes.now) (entry_in-encodable c.args.bytes.now)
-    c.entry_in_tokens.ensures
+pub returns-in-Err-Unusual-clause-encodable : goal.returns-in-Err-Unusual-clause-encodable
+returns-in-Err-Unusual-clause-encodable c =
+    each c.entry_in_tree.result (entry_in c.args.bytes.now) (entry_in-encodable c.args.bytes.now)
+    c.entry_in_tree.ensures

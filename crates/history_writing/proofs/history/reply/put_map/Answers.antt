@@ -1,5 +1,6 @@
 -- The members of a MAP, one behind the other.
-use Rattle.std.proofs.Common.{sym}
+use Rattle.std.proofs.Common.{◌<◌, ◌^◌, sym, subst}
+use Rattle.std.specs.List.{AllByRecursion}
 use Rattle.history_writing.specs.Json.{map_data}
 use Rattle.text_stream.proofs.Written.{where_ok}
 use Rattle.history_writing.proofs.JsonTokens.{then_more}
@@ -23,3 +24,12 @@ returns-clause-ok c =
     (then_more sized spelled last _ _ c.in_ok-put_hex.ensures.ok
     (then_more spelled named last _ _ c.in_ok-put_name.ensures.ok
     (then_more named started last _ _ c.in_ok-put_count-2.ensures.ok ended)))))) c.end_object.ensures.ok)
+
+pub returns-clause-fits : goal.returns-clause-fits
+returns-clause-fits c =
+    where_ok c.end_object.result (λ _. record {
+      start = c.in_ok-put_count-2.ensures.fits;
+      ack = c.in_ok-put_count.ensures.fits;
+      formed = c.requires;
+      bytes = subst (AllByRecursion (λ n. n < 2 ^ 32)) c.as_slice.ensures c.in_ok-put_bytes.ensures.fits;
+    }) c.end_object.ensures.ok

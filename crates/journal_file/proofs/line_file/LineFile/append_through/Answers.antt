@@ -4,4 +4,4 @@ use Rattle.journal_file.proofs.Known.{through}
 use Rattle.journal_file.proofs.line_file.LineFile.append_through.Goals as goal
 
 pub returns-clause-bytes : goal.returns-clause-bytes
-returns-clause-bytes g c = through c.reach.result _ _ _ (c.reach.ensures.same ∙ c.in_ok-append.ensures)
+returns-clause-bytes g c = through c.reach.result _ _ _ (c.reach.ensures.same ∙ c.in_ok-append.ensures.bytes)

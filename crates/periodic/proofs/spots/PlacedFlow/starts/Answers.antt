@@ -2,7 +2,7 @@
 use Rattle.std.proofs.Common.{◌≡◌, ◌≢◌, refl, sym, ap, ◌∙◌, ℕ, ◌+◌, ◌*◌, ◌/◌, ◌%◌, ◌<◌, ◌≤◌, length, arith}
 use Rattle.std.proofs.lemmas.Bool.{ne_eqb}
 use Rattle.minislots.specs.declared.config.Config.{Config}
-use Rattle.flow_book.specs.FlowSpec.{interval_frames, grants_of}
+use Rattle.sched_calls.specs.FlowSpec.{interval_frames, grants_of}
 use Rattle.periodic.specs.declared.spots.PlacedFlow.{PlacedFlow}
 use Rattle.periodic.specs.Placement.{phase_of}
 use Rattle.periodic.specs.Fields.{IsSoundFlow}

@@ -1,7 +1,7 @@
 -- The new flow stands in order of SID, its minislots are taken, and the table is sound.
 use Rattle.std.proofs.Common.{◌≡◌, ◌∙◌, sym, ap, subst, ◌+◌, map, length, arith}
 use Rattle.std.proofs.lemmas.List.{take_at}
-use Rattle.flow_book.specs.FlowSpec.{grants_of}
+use Rattle.sched_calls.specs.FlowSpec.{grants_of}
 use Rattle.periodic.specs.Placement.{Placed}
 use Rattle.periodic.specs.Table.{placed_grants, IsSoundPlaced, placed_at, with_placed}
 use Rattle.periodic.specs.Fields.{placed_of, placement_at, KeepsTimes}

@@ -1,6 +1,6 @@
 -- Where a placement was chosen there is a place, and the flows of the table are sound.
 use Rattle.std.proofs.Common.{◌≡◌, refl, sym, Result, Err}
-use Rattle.periodic.specs.declared.placement.Placement.{Placement}
+use Rattle.sched_calls.specs.declared.placement.Placement.{Placement}
 use Rattle.periodic.specs.declared.placement.PlaceFault.{PlaceFault}
 use Rattle.periodic.specs.declared.placement.PlaceFault.TheVariants.{NoPlace, Memory}
 use Rattle.periodic.specs.Search.{chosen_placement}

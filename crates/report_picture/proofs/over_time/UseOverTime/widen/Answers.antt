@@ -4,6 +4,6 @@ use Rattle.report_picture.proofs.over_time.UseOverTime.widen.Goals as goal
 
 pub returns : goal.returns
 returns c = λ fs is.
-    widened c.args.self.now c.joined-self.result c.joined_starts-self.result c.joined_starts-self-2.result fs is
-    c.if-self.false c.joined-self.ensures.long c.joined-self.ensures.each c.joined_starts-self.ensures.long
-    c.joined_starts-self.ensures.each c.joined_starts-self-2.ensures.long c.joined_starts-self-2.ensures.each
+    widened c.args.self.now c.join.new.row c.join-2.new.row c.join-3.new.row fs is c.if-self.false
+    c.join.ensures.long c.join.ensures.each c.join-2.ensures.long c.join-2.ensures.each c.join-3.ensures.long
+    c.join-3.ensures.each

@@ -2,7 +2,7 @@
 use Rattle.std.proofs.Common.{◌≡◌, ◌<◌, ◌++◌, ◌∷◌, [], length, inl, inr, refl, sym, subst, ap, ◌∙◌, arith}
 use Rattle.std.proofs.lemmas.Bool.{cases_lt}
 use Rattle.frame_picture.specs.Frames.{Frame, frames_of}
-use Rattle.sched_history.specs.declared.reply.TheConstants.{MAX_WHOLE_HISTORY}
+use Rattle.sched_calls.specs.declared.reply.TheConstants.{MAX_WHOLE_HISTORY}
 use Rattle.sched_history.specs.Machine.{Past}
 use Rattle.sched_report.specs.declared.totals.Totals.{Totals}
 use Rattle.sched_report.proofs.Pushed.{frames_of-built, frames_of-unbuilt}
@@ -18,7 +18,7 @@ add-requires c =
       | inl below ↦ below
       | inr full ↦ absurd (cc (c.in_ok-take.ensures.full.1 full))
     ] in
-    (frames_of h, c.self.invariant.over_time, omega (arith, few_frames h, short))
+    (frames_of h, rw c.deref_mut.ensures.value c.self.invariant.over_time, omega (arith, few_frames h, short))
 
 pub invariant_of-self-in-Built : goal.invariant_of-self-in-Built
 invariant_of-self-in-Built c =
@@ -29,7 +29,7 @@ invariant_of-self-in-Built c =
     let frames : frames_of c.take.new.self.history ≡ frames_of h ++ f ∷ [] =
     ap frames_of new ∙ frames_of-built h e c.in-Built.map c.in-Built.is in
     let over_time = subst (IsOverTime c.add.new.self) (sym frames)
-    (c.add.ensures (frames_of h) f c.self.invariant.over_time
+    (c.add.ensures (frames_of h) f (rw c.deref_mut.ensures.value c.self.invariant.over_time)
     (ap (λ (t : Totals). t.slots) c.totals.ensures ∙ ap use_in frames) refl) in
     record {
       over_time = over_time;
@@ -47,7 +47,7 @@ invariant_of-self-in_default c =
     let new : c.take.new.self.history ≡ h ++ e ∷ [] = ap (λ (p : Past). p.history) c.in_ok-take.ensures.taken in
     let none = no_map e.reply (λ m is. c.in_default.not-Built m is) in
     record {
-      over_time = subst (IsOverTime c.self.inside.over_time) (sym (ap frames_of new ∙ frames_of-unbuilt h e none))
+      over_time = subst (IsOverTime c.self.inside.over_time.value) (sym (ap frames_of new ∙ frames_of-unbuilt h e none))
           c.self.invariant.over_time;
       short = one-more h e c.take.new.self.history new
           (elim (cases_lt (length h) MAX_WHOLE_HISTORY) [

@@ -2,7 +2,7 @@
 use Rattle.std.proofs.Common.{◌≡◌, ◌≤◌, ◌↔◌, IsOk, false, [], ◌∷◌, ◌++◌, length, Ok, sym, ap, ◌∙◌, subst}
 use Rattle.sched_history.specs.History.{IsLegal}
 use Rattle.sched_history.specs.Machine.{Machine, kept_of}
-use Rattle.sched_history.specs.declared.reply.Entry.{Entry}
+use Rattle.sched_calls.specs.declared.reply.Entry.{Entry}
 use Rattle.sched_history.specs.declared.scheduler.handing_over.HandedOver.{HandedOver}
 use Rattle.std.specs.Global.{Vec}
 use Rattle.std.specs.Prelude.{vec_capacity}

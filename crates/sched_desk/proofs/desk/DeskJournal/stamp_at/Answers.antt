@@ -1,6 +1,6 @@
 -- The stamp of the entry that is kept at the place.
 use Rattle.std.proofs.Common.{List, slice_get, sym, ap, ◌∙◌}
-use Rattle.sched_history.specs.declared.reply.Entry.{Entry}
+use Rattle.sched_calls.specs.declared.reply.Entry.{Entry}
 use Rattle.sched_desk.specs.Events.{kept_in, maker_of}
 use Rattle.std.specs.Prelude.{option_map}
 use Rattle.sched_desk.proofs.Agreed.{stamp-kept}

@@ -1,6 +1,6 @@
 -- The entry is counted for its seat.
 use Rattle.std.proofs.Common.{ℕ, List, length, sym, ap, ◌∙◌, subst, arith}
-use Rattle.sched_history.specs.declared.reply.Entry.{Entry}
+use Rattle.sched_calls.specs.declared.reply.Entry.{Entry}
 use Rattle.sched_desk.specs.Closed.{IsCounted}
 use Rattle.sched_desk.specs.Events.{history_in}
 use Rattle.sched_desk.specs.Desk.{Docketed}

@@ -33,8 +33,8 @@ use Rattle.sched_desk.proofs.docket.EventList.and_recorded.Statement as stated
 use Rattle.sched_desk.proofs.docket.EventList.and_recorded.Code as code
 use Rattle.sched_desk.specs.contracts.docket.EventList as list
 use Rattle.minislots.specs.contracts.stamp.Stamp as stamp
-use Rattle.sched_history.specs.contracts.call.Call as call
-use Rattle.sched_history.specs.contracts.reply.Reply as reply
+use Rattle.sched_calls.specs.contracts.call.Call as call
+use Rattle.sched_calls.specs.contracts.reply.Reply as reply
 use Rattle.sched_desk.specs.declared.event.Event.TheVariants.{Recorded}
 
 abbrev stayed : Stays (f.ended).signature.params (f.ended).kept

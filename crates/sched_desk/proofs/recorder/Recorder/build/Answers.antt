@@ -1,7 +1,7 @@
 -- A build that was planned is recorded with the scheduler and the press as they were.
 use Rattle.std.proofs.Common.{◌≡◌, ℕ, Ok, refl, ap, ◌∙◌, subst, arith}
 use Rattle.map_snapshot.specs.Maps.{Printing}
-use Rattle.sched_history.specs.declared.call.Call.TheVariants.{Build}
+use Rattle.sched_calls.specs.declared.call.Call.TheVariants.{Build}
 use Rattle.sched_history.proofs.rows.Limits.{most_history}
 use Rattle.sched_history.proofs.state.Recording.{room-whole}
 use Rattle.sched_desk.specs.Build.{with_press}

@@ -32,7 +32,7 @@ use Rattle.sched_history.specs.contracts.ledger.EntryList.and as f
 use Rattle.sched_history.proofs.ledger.EntryList.and.Statement as stated
 use Rattle.sched_history.proofs.ledger.EntryList.and.Code as code
 use Rattle.sched_history.specs.contracts.ledger.EntryList as list
-use Rattle.sched_history.specs.contracts.reply.Entry as entry
+use Rattle.sched_calls.specs.contracts.reply.Entry as entry
 
 abbrev stayed : Stays (f.ended).signature.params (f.ended).kept
 stayed = (

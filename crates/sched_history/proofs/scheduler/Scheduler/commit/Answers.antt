@@ -1,6 +1,6 @@
 -- A planned build is entered.
 use Rattle.std.proofs.Common.{ap, ◌∙◌, sym, subst}
-use Rattle.sched_history.specs.declared.call.Call.TheVariants.{Build}
+use Rattle.sched_calls.specs.declared.call.Call.TheVariants.{Build}
 use Rattle.sched_history.specs.State.{IsBuildAfter}
 use Rattle.sched_history.proofs.state.Recording.{IsOpenTo-inside, IsBuildAfter-planned, IsSound-planned}
 use Rattle.sched_history.proofs.state.Recording.{IsRecorded-planned, room-ledger, room-reserved}

@@ -1,6 +1,6 @@
 -- A build that no test refuses is planned.
 use Rattle.std.proofs.Common.{◌≡◌, false, sym, subst}
-use Rattle.sched_history.specs.declared.call.Call.TheVariants.{Build}
+use Rattle.sched_calls.specs.declared.call.Call.TheVariants.{Build}
 use Rattle.sched_history.specs.Machine.{is_full}
 use Rattle.sched_history.specs.State.{IsBuildAfter}
 use Rattle.sched_history.proofs.state.Recording.{IsOpenTo-inside, IsPlanAfter-build}

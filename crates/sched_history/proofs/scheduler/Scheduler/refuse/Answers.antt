@@ -1,6 +1,6 @@
 -- A refusal is entered, and changes nothing else.
 use Rattle.std.proofs.Common.{◌≡◌, false, refl, sym, subst}
-use Rattle.sched_history.specs.declared.reply.Reply.TheVariants.{Refused}
+use Rattle.sched_calls.specs.declared.reply.Reply.TheVariants.{Refused}
 use Rattle.sched_history.specs.History.{IsStep}
 use Rattle.sched_history.specs.Machine.{is_full}
 use Rattle.sched_history.proofs.flows.Refused.{IsQuiet-refused}

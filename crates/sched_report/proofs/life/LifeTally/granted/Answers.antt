@@ -17,16 +17,25 @@ overflow_mul-result c =
           (omega (arith, is.bounded, is.few)),
     )
 
-pub returns-in-Unsolicited : goal.returns-in-Unsolicited
-returns-in-Unsolicited c = λ k life is.
+pub returns-in-Unsolicited-clause-few : goal.returns-in-Unsolicited-clause-few
+returns-in-Unsolicited-clause-few c =
+    let is = c.requires.2 in
+    omega (
+      arith,
+      mul-le c.from.result c.args.self.now.unsolicited (2 ^ 32) (240 * 2 ^ 44) (omega (arith, c.from.ensures))
+          (omega (arith, is.bounded, is.few)),
+    )
+
+pub returns-in-Unsolicited-clause-granted : goal.returns-in-Unsolicited-clause-granted
+returns-in-Unsolicited-clause-granted c = λ k life is.
     let bytes = bytes_of (grants_since life.sid life.since) in
     ap (λ n. n * c.args.self.now.unsolicited) c.from.ensures
     ∙ ap (λ n. c.in-Unsolicited.size * n) is.unsolicited
     ∙ sym (ap (λ s. granted_under s (unsolicited_in life.spec life.sid life.since) bytes)
     (sym is.spec ∙ c.in-Unsolicited.is))
 
-pub returns-in_default : goal.returns-in_default
-returns-in_default c = λ k life is.
+pub returns-in_default-clause-granted : goal.returns-in_default-clause-granted
+returns-in_default-clause-granted c = λ k life is.
     c.from-in_default.ensures
     ∙ c.granted.ensures k (requests_in life.sid life.since) (grants_since life.sid life.since) is.service
     ∙ sym (granted_under-data life.spec (unsolicited_in life.spec life.sid life.since)

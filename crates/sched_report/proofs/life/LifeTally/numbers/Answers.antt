@@ -72,8 +72,8 @@ overflow_sub-result c =
     let sums = c.sums-sums.ensures.sums c.requires.0 c.requires.1 c.requires.2 in
     omega (arith, is.within, is.asked, is.granted, sums.asked, sums.granted)
 
-pub returns : goal.returns
-returns c = λ k life is now.
+pub returns-clause-told : goal.returns-clause-told
+returns-clause-told c = λ k life is now.
     let t = c.args.self.now in
     let sums = c.sums-sums.ensures.sums k life is in
     let alone : AreLives k c.from_ref-one.result.now (life ∷ []) =
@@ -88,7 +88,7 @@ returns c = λ k life is now.
       ended = c.is_some.ensures ∙ some_end life.ended (next_after k (life.upto ++ life.since)) t.to is.to;
       priority = c.priority_of.ensures ∙ ap priority_of is.spec;
       sums = sums;
-      granted = c.granted.ensures k life is;
+      granted = c.granted.ensures.granted k life is;
       outstanding = omega (arith, sums.asked, sums.granted);
       waiting = c.waiting.ensures k life is;
       dropped = c.dropped.ensures k life is;

@@ -1,6 +1,6 @@
 -- A life of another rank adds nothing.
 use Rattle.std.proofs.Common.{◌≡◌, ◌++◌, [], ◌∷◌, Some, true, false, cond, sym, ◌∙◌, subst}
-use Rattle.flow_book.specs.FlowSpec.{takes_requests, rank_of}
+use Rattle.sched_calls.specs.FlowSpec.{takes_requests, rank_of}
 use Rattle.std.proofs.Common.{◌==◌}
 use Rattle.std.proofs.lemmas.Bool.{and_parts}
 use Rattle.std.proofs.lemmas.List.{append-nil}

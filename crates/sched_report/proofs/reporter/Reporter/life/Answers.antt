@@ -24,8 +24,8 @@ numbers-requires c =
           (i.lives.each place c.index.result.now no_life (omega (arith, below, i.lives.long))),
     )
 
-pub returns : goal.returns
-returns c = λ life.
+pub returns-clause-told : goal.returns-clause-told
+returns-clause-told c = λ life.
     let i = c.self.invariant in
     let k = c.self.inside.config in
     let h = c.self.inside.auditor.history in
@@ -36,7 +36,7 @@ returns c = λ life.
     subst (λ (t : LifeTally). IsLifeOf k t (get_or (lives_of h) place life)) (sym c.index.ensures)
     (i.lives.each place c.index.result.now life (omega (arith, below, i.lives.long))) in
     let own : AreLifeNumbers k c.numbers.result (get_or (lives_of h) place life) =
-    c.numbers.ensures k (get_or (lives_of h) place life) is
+    c.numbers.ensures.told k (get_or (lives_of h) place life) is
     (live_now k h i.legal place life below c.self.inside.next i.next) in
     subst (λ (p : Past). AreLifeNumbers p.config c.numbers.result (get_or (lives_of p.history) place life))
     c.self.view_is

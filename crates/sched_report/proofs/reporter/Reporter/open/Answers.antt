@@ -7,15 +7,15 @@ use Rattle.sched_report.proofs.reporter.Reporter.open.Goals as goal
 
 pub invariant_of-result : goal.invariant_of-result
 invariant_of-result c =
-    let none : length c.new.result.items ≡ 0 = ap length c.new.ensures.items in
+    let none : length c.new-2.result.items ≡ 0 = ap length c.new-2.ensures.items in
     subst (λ (p : Past).
-    IsReport c.args.config p c.no_flows.result c.none.result _ c.start.result c.new.result.items
+    IsReport c.args.config p c.in_ok-new.field-0.value c.none.result _ c.start.result c.new-2.result.items
     c.in_ok-vec.field-0.items)
     (sym c.in_ok-open.ensures)
     (record {
       config = refl;
       legal = tt;
-      told = c.no_flows.ensures;
+      told = rw c.in_ok-new.ensures.ok c.no_flows.ensures;
       totals = c.none.ensures c.args.config;
       refused = record { places = refl; each = λ place below. get_or-replicate 20 place 0 0 below };
       lawful = c.start.ensures.lawful;

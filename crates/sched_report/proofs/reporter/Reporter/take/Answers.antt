@@ -1,13 +1,14 @@
 -- An entry that is taken is counted.
-use Rattle.std.proofs.Common.{◌<◌, ℕ, List, [], length, inl, inr, sym, ◌∙◌, subst}
+use Rattle.std.proofs.Common.{◌≡◌, ◌<◌, ℕ, Bool, List, [], length, inl, inr, sym, ◌∙◌, subst}
 use Rattle.std.specs.Vec.{with_items}
 use Rattle.std.proofs.lemmas.List.{with_items_is}
 use Rattle.std.proofs.lemmas.Bool.{cases_lt}
 use Rattle.minislots.specs.declared.config.Config.{Config}
 use Rattle.map_build.proofs.EachAfterLaws.{EachAfter-push}
-use Rattle.sched_history.specs.declared.reply.TheConstants.{MAX_WHOLE_HISTORY}
+use Rattle.sched_calls.specs.declared.reply.TheConstants.{MAX_WHOLE_HISTORY}
 use Rattle.sched_history.specs.History.{IsStep}
 use Rattle.sched_history.specs.Machine.{Past}
+use Rattle.frame_picture.specs.Frames.{TellsUnsolicited}
 use Rattle.sched_report.specs.Counted.{IsCounted}
 use Rattle.sched_report.specs.Reported.{IsReport}
 use Rattle.sched_report.specs.Live.{AreLive}
@@ -48,8 +49,10 @@ invariant_of-self-2 c =
       | inl below ↦ below
       | inr full ↦ absurd (cc (c.in_ok-judge.ensures.full.1 full))
     ] in
-    let counted : IsCounted k h c.self.inside.totals c.self.inside.flows e =
-    record { legal = i.legal; step = step; short = short; counted = i.totals; told = i.told } in
+    let at : (fs : List Bool) → fs ≡ c.self.inside.flows.value → TellsUnsolicited fs h = λ fs same.
+    subst (λ (fs : List Bool). TellsUnsolicited fs h) (sym same) i.told in
+    let counted : IsCounted k h c.self.inside.totals c.deref-2.result.now e =
+    record { legal = i.legal; step = step; short = short; counted = i.totals; told = at _ c.deref-2.ensures } in
     let follows : MayFollow k h c.reserve_for.new.lives.items c.self.inside.next e = record {
       lawful = i.lawful;
       legal = i.legal;
@@ -65,7 +68,7 @@ invariant_of-self-2 c =
     (record {
       config = i.config;
       legal = EachAfter-push (λ before x. IsStep k before x.call x.reply) [] h e i.legal step;
-      told = c.note.ensures h i.told;
+      told = c.note.ensures h (at _ c.deref_mut.ensures.value);
       totals = c.add.ensures h counted;
       refused = c.count_refusal.ensures h i.refused;
       lawful = i.lawful;
@@ -73,7 +76,7 @@ invariant_of-self-2 c =
       lives = c.follow-self-inside.ensures.lives h follows;
       live = subst (λ (places : List ℕ). AreLive places c.follow-self-inside.new.lives.items)
           (sym (with_items_is c.self.inside.places c.follow-self-inside.new.places
-          (c.follow-self-inside.auto.places ∙ c.deref_mut.ensures.len)))
+          (c.follow-self-inside.auto.places ∙ c.deref_mut-2.ensures.len)))
           c.follow-self-inside.ensures.live;
     })
 
@@ -97,7 +100,7 @@ pub invariant_of-self-in_err-judge : goal.invariant_of-self-in_err-judge
 invariant_of-self-in_err-judge c =
     let i = c.self.invariant in
     let s = c.self.inside in
-    subst (λ (p : Past). IsReport s.config p s.flows s.totals s.refused s.next c.reserve_for.new.lives.items
+    subst (λ (p : Past). IsReport s.config p s.flows.value s.totals s.refused s.next c.reserve_for.new.lives.items
     s.places.items)
     (sym c.in_err-judge.ensures.err)
     (record {

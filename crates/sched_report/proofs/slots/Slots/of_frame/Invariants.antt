@@ -1,6 +1,6 @@
 -- The minislots of the allocations gone through, which end where the next element begins.
 use Rattle.std.proofs.Common.{◌≡◌, ◌≤◌, List}
-use Rattle.sched_history.specs.declared.reply.Entry.{Entry}
+use Rattle.sched_calls.specs.declared.reply.Entry.{Entry}
 use Rattle.map_codec.specs.Element.{element_at}
 use Rattle.map_drawing.specs.Allocation.{front_length}
 use Rattle.frame_picture.specs.Frames.{is_unsolicited_after, TellsUnsolicited}

@@ -1,6 +1,6 @@
 -- One entry more is counted.
 use Rattle.std.proofs.Common.{◌≡◌, ◌+◌, ap, subst, refl, arith}
-use Rattle.sched_history.specs.declared.reply.Reply.{Reply}
+use Rattle.sched_calls.specs.declared.reply.Reply.{Reply}
 use Rattle.sched_history.specs.History.{IsStep, map_by}
 use Rattle.sched_history.proofs.steps.LegalHistories.{IsNextMap-from_step}
 use Rattle.sched_report.specs.declared.totals.Totals.{Totals}

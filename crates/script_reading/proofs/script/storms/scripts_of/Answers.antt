@@ -3,7 +3,7 @@ use Rattle.std.proofs.Common.{◌≡◌, ◌+◌, [], ◌∷◌, ◌++◌, lengt
 use Rattle.serde_json.specs.Find.{as_array}
 use Rattle.serde_json.specs.View.{view, items_view}
 use Rattle.std.specs.Global.{Vec}
-use Rattle.sched_history.specs.declared.call.Call.{Call}
+use Rattle.sched_calls.specs.declared.call.Call.{Call}
 use Rattle.script_reading.specs.StormScript.{calls_each, scripts_of}
 use Rattle.script_reading.proofs.Calls.{Gives-err}
 use Rattle.script_reading.proofs.StormCalls.{left_scripts, left_scripts-none, left_scripts-fault, left_scripts-script}

@@ -1,6 +1,6 @@
 -- The Reserves before this place are done.
 use Rattle.std.proofs.Common.{◌≡◌, length}
-use Rattle.sched_history.specs.declared.call.TheConstants.{MAX_RESERVES}
+use Rattle.sched_calls.specs.declared.call.TheConstants.{MAX_RESERVES}
 use Rattle.sched_history.proofs.reserves.Rooms.{IsAged}
 use Rattle.sched_history.proofs.scheduler.reserves.Reserves.age.Given as goal
 

@@ -1,9 +1,9 @@
 -- A periodic flow is admitted with its place, or there is none.
 use Rattle.std.proofs.Common.{Some, refl, ap, arith, inl, inr}
 use Rattle.periodic.specs.Placement.{IsPlacement}
-use Rattle.sched_history.specs.declared.call.Call.TheVariants as calls
-use Rattle.sched_history.specs.declared.reply.Refusal.TheVariants.{NoPlace}
-use Rattle.sched_history.specs.declared.reply.Reply.TheVariants as replies
+use Rattle.sched_calls.specs.declared.call.Call.TheVariants as calls
+use Rattle.sched_calls.specs.declared.reply.Refusal.TheVariants.{NoPlace}
+use Rattle.sched_calls.specs.declared.reply.Reply.TheVariants as replies
 use Rattle.sched_history.specs.Life.{table_of}
 use Rattle.sched_history.specs.Time.{next_after}
 use Rattle.sched_history.proofs.lives.Finding.{good_sid, life_of-dead}

@@ -3,7 +3,7 @@ use Rattle.std.proofs.Common.{Some, refl, ap, inl, arith, Result, Ok, Err, OnErr
 use Rattle.periodic.specs.Placement.{Placed, IsPlacement}
 use Rattle.periodic.specs.Table.{TableView}
 use Rattle.sched_history.specs.declared.scheduler.state.State.{State}
-use Rattle.sched_history.specs.declared.reply.Reply.TheVariants as replies
+use Rattle.sched_calls.specs.declared.reply.Reply.TheVariants as replies
 use Rattle.sched_history.specs.Life.{table_of}
 use Rattle.sched_history.specs.Time.{next_after}
 use Rattle.sched_history.proofs.lives.Finding.{good_sid, life_of-dead}

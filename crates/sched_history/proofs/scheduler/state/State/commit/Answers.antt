@@ -1,6 +1,6 @@
 -- The next frame is described.
 use Rattle.std.proofs.Common.{refl, ap, ◌∙◌}
-use Rattle.sched_history.specs.declared.reply.Reply.TheVariants.{Built}
+use Rattle.sched_calls.specs.declared.reply.Reply.TheVariants.{Built}
 use Rattle.sched_history.specs.Reserves.{aged, unmarked}
 use Rattle.sched_history.proofs.state.Moves.{IsStateAfter-built}
 use Rattle.sched_history.proofs.scheduler.state.State.commit.Goals as goal

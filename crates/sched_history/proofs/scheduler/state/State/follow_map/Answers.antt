@@ -1,10 +1,10 @@
 -- The MAP is the one that is planned.
 use Rattle.std.proofs.Common.{◌≡◌, ap, ◌∙◌, [], ◌∷◌, ◌++◌, sym, refl, subst}
 use Rattle.std.proofs.lemmas.Option.{same_Some}
-use Rattle.sched_history.specs.declared.call.Call.TheVariants.{Build}
-use Rattle.sched_history.specs.declared.reply.Reply.TheVariants.{Built}
+use Rattle.sched_calls.specs.declared.call.Call.TheVariants.{Build}
+use Rattle.sched_calls.specs.declared.reply.Reply.TheVariants.{Built}
 use Rattle.sched_history.specs.History.{map_by}
-use Rattle.sched_history.specs.Machine.{IsEncodable}
+use Rattle.sched_calls.specs.Reply.{IsEncodable}
 use Rattle.sched_history.specs.State.{IsStateAfter}
 use Rattle.sched_history.proofs.scheduler.state.State.follow_map.Goals as goal
 

@@ -1,7 +1,7 @@
 -- The answer is one, and is told as it is.
 use Rattle.std.proofs.Common.{◌≡◌, [], ◌∷◌, ◌++◌, refl, ◌∙◌, subst}
 use Rattle.sched_history.specs.History.{Answers}
-use Rattle.sched_history.specs.Machine.{IsEncodable}
+use Rattle.sched_calls.specs.Reply.{IsEncodable}
 use Rattle.sched_history.specs.State.{IsStateAfter}
 use Rattle.sched_history.proofs.state.Following.{told-one, told-same, told-apart}
 use Rattle.sched_history.proofs.scheduler.state.State.follow_told.Goals as goal

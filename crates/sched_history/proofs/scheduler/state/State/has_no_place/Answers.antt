@@ -3,9 +3,9 @@ use Rattle.std.proofs.Common.{refl, ap, ◌∙◌, inr, arith}
 use Rattle.periodic.specs.Placement.{Placed}
 use Rattle.periodic.specs.Table.{TableView}
 use Rattle.sched_history.specs.declared.scheduler.state.State.{State}
-use Rattle.sched_history.specs.declared.call.Call.TheVariants as calls
-use Rattle.sched_history.specs.declared.reply.Refusal.TheVariants.{NoPlace}
-use Rattle.sched_history.specs.declared.reply.Reply.TheVariants as replies
+use Rattle.sched_calls.specs.declared.call.Call.TheVariants as calls
+use Rattle.sched_calls.specs.declared.reply.Refusal.TheVariants.{NoPlace}
+use Rattle.sched_calls.specs.declared.reply.Reply.TheVariants as replies
 use Rattle.sched_history.proofs.flows.Refused.{IsQuiet-refused}
 use Rattle.sched_history.proofs.placements.Counts.{grants-placed_by}
 use Rattle.sched_history.proofs.placements.Tables.{find-with_placed, table-undone}

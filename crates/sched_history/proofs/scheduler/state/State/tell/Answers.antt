@@ -1,7 +1,7 @@
 -- A flow's bytes are told.
 use Rattle.std.proofs.Common.{refl}
-use Rattle.sched_history.specs.declared.call.Call.TheVariants as calls
-use Rattle.sched_history.specs.declared.reply.Reply.TheVariants as replies
+use Rattle.sched_calls.specs.declared.call.Call.TheVariants as calls
+use Rattle.sched_calls.specs.declared.reply.Reply.TheVariants as replies
 use Rattle.sched_history.proofs.steps.Passed.{passed-status}
 use Rattle.sched_history.proofs.state.Present.{IsLive-after, status-after}
 use Rattle.sched_history.proofs.state.Moves.{IsStateAfter-quiet}

@@ -1,0 +1,110 @@
+"""The text of a report, from its numbers: what stands in each line and in each column of its tables. Rounding is that of
+fractions, and a number without room is tried in each unit."""
+
+from fractions import Fraction
+from math import floor
+
+from plain_report import lives_of
+
+UNITS = ("", "k", "M", "G", "T", "P", "E", "Z", "Y", "R", "Q")
+BESIDE = (("request", "admit"), ("poll", "remove"), ("unsolicited", "ask"), ("opportunity", "heard"), ("data", "build"),
+          ("idle", "skip"))
+ALONE = ("reserve", "header", "status")
+SECOND, FEW, IN_A_LINE = 160000, 30, 5
+RANKS = "rank       bytes    asks  served  wait  drop   least  middle     p99    most ms\n"
+FLOWS = ("bits per second asked, granted and at most; delays in milliseconds\n"
+         " SID kind   asked/s  granted  ceiling   asks wait drop  middle     p99    most\n")
+
+
+def nearest(value):
+    return floor(value + Fraction(1, 2))
+
+
+def fitted(number, width):
+    """A number in the first unit in which it has room, rounded down."""
+    texts = [f"{number // 1000 ** power}{unit}" for power, unit in enumerate(UNITS)]
+    return next((text for text in texts if len(text) <= width), texts[-1])
+
+
+def column(text, width):
+    return " " + text.rjust(width)
+
+
+def number(value, width):
+    return column("-" if value is None else fitted(value, width), width)
+
+
+def percent(part, whole):
+    if whole == 0:
+        return column("-", 7)
+    hundredths = nearest(Fraction(10000 * part, whole))
+    return column(f"{hundredths // 100}.{hundredths % 100:02}", 7)
+
+
+class Tables:
+    """The tables of a history's report that has these numbers."""
+
+    def __init__(self, history, told):
+        self.ticks, self.told = history["config"]["ticks"], told
+        self.lives = list(zip(lives_of(history["config"], history["entries"]), told["lives"]))
+
+    def milliseconds(self, minislots, width):
+        micros = nearest(Fraction(25 * self.ticks * minislots, 4))
+        text = f"{micros // 1000}.{micros % 1000:03}"
+        return text if len(text) <= width else fitted(micros // 1000, width)
+
+    def delays(self, delay, *names):
+        return "".join(column("-" if delay is None else self.milliseconds(delay[name], 7), 7) for name in names)
+
+    def rate(self, count, life):
+        time = (life["to"] - life["from"]) * self.ticks
+        return number(8 * count * SECOND // time if time else None, 8)
+
+    def head(self):
+        told = self.told
+        if not told["frames"]:
+            return f"no frames, {told['skips']} skips\n"
+        time = self.milliseconds(told["to"] - told["from"], 20)
+        return (f"{told['frames']} frames, minislots {told['from']} to {told['to']}, {time} ms, "
+                f"{told['skips']} skips\n")
+
+    def uses(self):
+        use, calls = self.told["use"], self.told["calls"]
+        lines = [f"{name:11}{number(use[name], 14)}{percent(use[name], sum(use.values()))}        {call:7}"
+                 f"{number(calls[call], 11)}\n" for name, call in BESIDE]
+        lines += [f"{'':42}{call:7}{number(calls[call], 11)}\n" for call in ALONE]
+        return "\nuse              minislots       %        calls\n" + "".join(lines)
+
+    def refused(self):
+        cells = [f" {name:>3}:{number(self.told['refused'][name], 8)}" for name in sorted(self.told["refused"], key=int)]
+        lines = ["\nrefused" + "".join(cells[at:at + IN_A_LINE]) for at in range(0, len(cells), IN_A_LINE)]
+        return "".join(lines) + ("\n" if cells else "")
+
+    def rank(self, rank):
+        name = rank["rank"] if rank["rank"] == "polled" else f"best {rank['rank']}"
+        counts = (("granted", 9), ("asks", 7), ("served", 7), ("waiting", 5), ("dropped", 5))
+        return (name + "".join(number(rank[key], width) for key, width in counts)
+                + self.delays(rank["delay"], "least", "middle", "p99", "greatest") + "\n")
+
+    def life(self, life, told):
+        kind = {"unsolicited": "unsol", "polled": "polled"}.get(told["kind"], f"best {told.get('priority')}")
+        counts = (("asks", 6), ("waiting", 4), ("dropped", 4))
+        return (f"{told['sid']:>4} {kind:6}{self.rate(told['asked'], told)}{self.rate(told['granted'], told)}"
+                + number(life.flow.get("rate") or None, 8) + "".join(number(told[key], width) for key, width in counts)
+                + self.delays(told["delay"], "middle", "p99", "greatest") + "\n")
+
+    def flows(self, is_all):
+        if not self.lives:
+            return ""
+        # Python's sort keeps the order of those that are alike.
+        by_bytes = sorted(self.lives, key=lambda it: (-it[1]["asked"], it[0].ended))[:FEW]
+        order = "in the order of their admissions" if is_all else "those first that asked for the most bytes"
+        few = "" if is_all or len(self.lives) <= FEW else (
+            f"{FEW} of {len(self.lives)} lives of flows: those that asked for most bytes\n")
+        return (f"\nflows, {order}:\n{FLOWS}" + "".join(self.life(*it) for it in (self.lives if is_all else by_bytes))
+                + few)
+
+    def text(self, is_all):
+        ranks = "".join(self.rank(rank) for rank in self.told["priorities"])
+        return (self.head() + self.uses() + self.refused() + (f"\n{RANKS}{ranks}" if ranks else "")
+                + self.flows(is_all))

@@ -1,0 +1,298 @@
+"""What `checks/tables` compares with the tables, and does not write: names, numbers, types, ranges and words in the
+code in Rattle, and numbers in documents and tests that stand in sentences or in lists of their own. Where a definition
+in `specs` says the same, the prover holds it against the code."""
+
+import glob
+import functools
+import json
+import os
+import re
+
+from kit import HERE
+from table_texts import (
+    BASE, CALLS, FIELDS, FLOWS, GROUPS, MEMBER, MEMBERS, MISSING, NUMBERED, REASONS, REFUSALS, STATUSES, TABLES,
+    class_of, words_of_group,
+)
+from texts import read, rows
+
+SIZES = {"U8": 8, "U32": 32, "U64": 64}
+
+
+def number_of(text):
+    """A number as the code writes it, a limit by its name among them, or the text where it is none."""
+    found = re.fullmatch(r"([\d_]+)(?: << (\d+))?", text.strip(" ()"))
+    name = re.sub(r"(\.into\(\)| as u64)$", "", text)
+    if name.startswith("MAX_") and name in (known := limits()):
+        return known[name]
+    return int(found[1]) << int(found[2] or 0) if found else text
+
+
+def code_of(path):
+    """The text of a file; where there is none, an empty one, which is not what is wanted."""
+    return read(path) if os.path.exists(f"{HERE}/{path}") else ""
+
+
+def block(path, head, tail="\n}"):
+    """The text of a file between the end of a head and a tail."""
+    return code_of(path).partition(head)[2].partition(tail)[0]
+
+
+def arms(path, kind):
+    """The numbers and names of the arms of a `match` whose patterns or whose values are of this kind."""
+    text = code_of(path)
+    found = [(name, int(number)) for name, number in re.findall(rf"\b{kind}::(\w+)(?:\(_\))? => (\d+),", text)]
+    found += [(name, int(number)) for number, name in re.findall(rf"\b(\d+) => {kind}::(\w+)", text)]
+    return sorted(found, key=lambda it: it[1])
+
+
+def counted(names):
+    return [(name, number) for number, name in enumerate(names, 1)]
+
+
+def variants(path, head):
+    """The names of the variants of an enumeration, each with whether it has a value."""
+    return re.findall(r"^    (\w+)(\()?.*,$", block(path, head), re.M)
+
+
+def members(path, head):
+    """The names of the members of a struct with their types."""
+    return re.findall(r"^    pub (\w+): (\w+),$", block(path, head), re.M)
+
+
+def constants(path, head=None):
+    """The numbers of a module by their names."""
+    text = block(path, head) if head else code_of(path)
+    return {name: number_of(number) for name, number in re.findall(r"\bconst (\w+): \w+ = ([^;]+);", text)}
+
+
+@functools.cache
+def limits():
+    """The limits of the crates of plain values by their names."""
+    homes = [code_of(f"crates/{it}.rt") for it in ("minislots/src/lib", "sched_calls/src/lib", "sched_calls/src/call")]
+    found = [it for home in homes for it in re.findall(r"\bconst (MAX_\w+): \w+ = ([\d_]+);", home)]
+    return {name: int(number) for name, number in found}
+
+
+# The fields of a configuration
+
+
+def in_order(rows):
+    return [(it["name"], f"u{it['bits']}") for it in rows]
+
+
+def ranges():
+    """The least and the greatest value of each field in the code, where they are numbers."""
+    pattern = r"ConfigFault::(\w+) => \(([^,]+), (.+)\),$"
+    found = re.findall(pattern, code_of("crates/minislots/src/config/ranges.rt"), re.M)
+    return {name: [it if isinstance(it, int) else None for it in map(number_of, them)] for name, *them in found}
+
+
+def forms_of_fields():
+    """The form of a configuration: the name of each member, its bits, and what it is where it is missing."""
+    text = block("crates/json_fields/src/forms.rt", "pub static CONFIGS", ")];")
+    found = re.findall(r'\("(\w+)", (U\d+), (?:MUST|Missing::Number\((\d+)\))\)', text)
+    return [(name, SIZES[size], missing) for name, size, missing in found]
+
+
+def values_of(path, head, tail):
+    """The numbers of a configuration in a test by their names."""
+    return {name: int(number) for name, number in re.findall(r"(\w+)(?: =|:) (\d+)", block(path, head, tail))}
+
+
+def of_fields():
+    by_place = [it for bits in (32, 64, 8) for it in FIELDS if it["bits"] == bits]
+    numbered = [class_of(it) for it in NUMBERED]
+    config, plain = "crates/minislots/src/config.rt", "crates/mapsched_c/src/config.rt"
+    yield f"{config}: Config", members(config, "pub struct Config {"), in_order(FIELDS)
+    yield f"{config}: ConfigFault", [it for it, _ in variants(config, "pub enum ConfigFault {")], numbered
+    wanted = {class_of(it["name"]): it["range"] for it in FIELDS if it["name"] in NUMBERED}
+    wanted = {name: [it if isinstance(it, int) else None for it in them] for name, them in wanted.items()}
+    for name, found in ranges().items():
+        least, most = wanted.pop(name, [None, None])
+        yield f"the range of {name} in minislots", found, [least, most]
+    yield "fields without a range in minislots", [*wanted], []
+    yield "crates/text_stream/src/fault.rt", arms("crates/text_stream/src/fault.rt", "ConfigFault"), counted(numbered)
+    ordered = sorted(FIELDS, key=lambda it: it["name"] not in NUMBERED)
+    forms = [(it["name"], it["bits"], str(it.get("missing", ""))) for it in ordered]
+    yield "crates/json_fields/src/forms.rt: CONFIGS", forms_of_fields(), forms
+    reader = code_of("crates/json_fields/src/config.rt")
+    yield "crates/json_fields/src/config.rt", set(re.findall(r'"(\w+)"', reader)) - {"config"}, {*BASE, *MISSING}
+    writer = "crates/history_writing/src/history/config.rt"
+    for head, pattern in [("static FIELDS", r'^    "(\w+)",$'), ("let numbers", r"^        config\.(\w+)")]:
+        found = re.findall(pattern, block(writer, head, "];"), re.M)
+        yield f"{writer}: {head}", found, sorted({*BASE, *MISSING})
+    yield f"{plain}: PlainConfig", members(plain, "pub struct PlainConfig {"), in_order(by_place)
+    yield f"{plain}: config", re.findall(r"(\w+): self\.\1,", code_of(plain)), [it["name"] for it in FIELDS]
+
+
+def of_tests():
+    """The base configuration of tests in Rattle and of the first example, and each field's edges."""
+    base = {**BASE, **MISSING}
+    homes = {"tests/src/base.rt": "BASE: Config = Config {", "sched_calls/proofs/Base.antt": "base = record {"}
+    for path, head in homes.items():
+        yield f"crates/{path}", values_of(f"crates/{path}", head, "}"), base
+    yield "examples/two_maps.json", json.loads(read("examples/two_maps.json"))["config"], BASE
+    edges = {(row.split('"')[-2], wanted) for row, wanted in rows("fields_of_a_configuration") if "bad" in wanted}
+    yield "checks/rows/fields_of_a_configuration", edges, {(name, f"bad config {at}") for name, at in counted(NUMBERED)}
+
+
+# Calls, flows and their members
+
+
+def held(holds, named):
+    """The bits and the range of what stands under a key."""
+    found = re.fullmatch(r"Holds::\w+\(u(\d+)::MAX(?: as u64)?(?:, (.*), (.*))?\)", named.get(holds, holds))
+    return (None, None) if not found else (int(found[1]), found[2] and [number_of(found[2]), number_of(found[3])])
+
+
+def forms():
+    """The forms of calls and flows: of each its members, and of each member its bits, its range and what it is where it
+    is missing."""
+    text = code_of("crates/json_fields/src/forms.rt")
+    named = dict(re.findall(r"const (\w+): Holds = (.*?);", text))
+    single = r'const (\w+): Member = \(\s*"(\w+)",\s*(.*?),\s*(MUST|Missing::\w+(?:\(\d+\))?),?\s*\);'
+    single = {name: them for name, *them in re.findall(single, text, re.S)}
+    text = text.partition("static CALLS")[2].partition("static ENTRIES")[0]
+    for name, of in re.findall(r'\(\s*"(\w+)",\s*&\[(.*?)\],?\s*\)', text, re.S):
+        found = re.findall(r'\("(\w+)", (\w+), (\w+)\)|\b([A-Z_]+)\b', of)
+        found = [single[it] if it else them for *them, it in found]
+        yield name, {key: (*held(holds, named), missing) for key, holds, missing in found}
+
+
+def lacking(it, key):
+    """What is said of a member in a form of the code, for where it is missing."""
+    if key in it.get("optional", []):
+        return "Missing::Nothing"
+    missing = MEMBER.get(key, {}).get("missing")
+    return "MUST" if missing is None else f"Missing::Number({missing})"
+
+
+def of_forms():
+    wanted = {it["name"]: it for it in (*CALLS, *FLOWS)}
+    found = dict(forms())
+    yield "crates/json_fields/src/forms.rt: names", [*found], [*wanted]
+    for name, of in found.items():
+        it = wanted.get(name, {"members": []})
+        yield f"the form of {name} in json_fields", sorted({*of} - {"call", "kind"}), sorted(it["members"])
+        for key in {*of} - {"call", "kind"}:
+            member = MEMBER.get(key, {})
+            says = (member.get("bits"), member.get("range"), lacking(it, key))
+            yield f"{key} in the form of {name} in json_fields", of[key], says
+
+
+def of_calls():
+    spec, plain = "crates/sched_calls/src/spec.rt", "crates/mapsched_c/src/call.rt"
+    for it in FLOWS:
+        found = re.findall(r"(\w+): (\w+),", block(spec, f"    {class_of(it['name'])} {{", "}"))
+        yield f"{spec}: {it['name']}", found, [(name, f"u{MEMBER[name]['bits']}") for name in it["members"]]
+    kinds = {"kind": [it["name"] for it in CALLS], "flow": [it["name"] for it in FLOWS]}
+    for name, of in {**kinds, "usage": MEMBER["usage"]["names"]}.items():
+        found = constants(plain, f"pub mod {name} {{")
+        yield f"{plain}: {name}", found, {it.upper(): number for number, it in enumerate(of)}
+    places = [([*it["shared"]][:1] if "shared" in it else it["names"], it["bits"]) for it in TABLES["place"]]
+    places = [(name, f"u{bits}") for names, bits in places for name in names]
+    yield f"{plain}: PlainCall", members(plain, "pub struct PlainCall {"), places
+    replies = {it.get("code", it["name"]): number for number, it in enumerate(TABLES["reply"])}
+    yield "crates/mapsched_c/src/reply.rt", constants("crates/mapsched_c/src/reply.rt", "pub mod answer {"), replies
+    for path, of, rest in [("call", CALLS, {"call", "initial", "station"}), ("flow", FLOWS, {"kind"})]:
+        found = set(re.findall(r'"(\w+)"', code_of(f"crates/call_reading/src/{path}.rt"))) - rest
+        yield f"crates/call_reading/src/{path}.rt", found, {it for row in of for it in (row["name"], *row["members"])}
+    totals = members("crates/sched_report/src/calls.rt", "pub struct Calls {")
+    yield "crates/sched_report/src/calls.rt", [name for name, _ in totals], sorted(it["name"] for it in CALLS)
+    for form in read("checks/rows/forms_of_calls").splitlines():
+        call = json.loads(form.partition(" ")[2].replace("#", "0"))
+        flow, it = call.get("flow"), next(it for it in CALLS if it["name"] == call["call"])
+        flow_members = next(them["members"] for them in FLOWS if them["name"] == flow["kind"]) if flow else []
+        lacks = {*it["members"], *flow_members} - {*call, *(flow or [])}
+        allowed = {*it.get("optional", []), *(name for name in flow_members if "missing" in MEMBER[name])}
+        yield f"checks/rows/forms_of_calls: {form}", lacks - allowed, set()
+
+
+# Refusals, reasons, statuses and faults
+
+
+def strings(path, head):
+    """The words of the arms of a `match` in a function, by the names of the variants."""
+    text = block(path, head, "\n}\n")
+    found = {}
+    for names, words in re.findall(r"((?:\w+::\w+[^=]*?\|?\s*)+)=>\s*\{?\s*b\"([^\"]*)\"", text):
+        found |= {name: words for name in re.findall(r"::(\w+)", names)}
+    return found
+
+
+def meanings():
+    """What refusals mean: the words, with # where there is a minislot and the number where there is another."""
+    path = "crates/sched_lines/src/meaning.rt"
+    before, behind = strings(path, "fn words_before"), strings(path, "fn words_behind")
+    told = re.findall(r"Refusal::(\w+) => Some\((\w+) as u64\)", block(path, "fn number_told", "\n}\n"))
+    told = {refusal: str(number_of(name)) for refusal, name in told}
+    told |= {name: "#" for name in re.findall(r"Refusal::(\w+)\(slot\)", block(path, "fn number_told", "\n}\n"))}
+    return {name: words + told.get(name, "") + behind.get(name, "") for name, words in before.items()}
+
+
+def of_refusals():
+    codes, reasons = counted(it["code"] for it in REFUSALS), counted(it["code"] for it in REASONS)
+    found = variants("crates/sched_calls/src/reply.rt", "pub enum Refusal {")
+    valued = [(it["code"], "(" if "value" in it else "") for it in REFUSALS]
+    yield "crates/sched_calls/src/reply.rt: Refusal", found, valued
+    found = variants("crates/sched_calls/src/spec.rt", "pub enum FlowFault {")
+    yield "crates/sched_calls/src/spec.rt: FlowFault", found, [(it["code"], "") for it in REASONS]
+    for path in ("crates/sched_lines/src/line.rt", "crates/history_reading/src/recorded/refusal.rt"):
+        yield f"{path}: Refusal", arms(path, "Refusal"), codes
+        yield f"{path}: FlowFault", arms(path, "FlowFault"), reasons
+    words = {it["code"]: it["words"] for it in REFUSALS if "words" in it}
+    yield "crates/sched_lines/src/meaning.rt", meanings(), words
+    found = strings("crates/sched_lines/src/meaning.rt", "fn fault_words")
+    yield "crates/sched_lines/src/meaning.rt: reasons", found, {it["code"]: it["words"] for it in REASONS}
+    count = constants("crates/sched_report/src/calls.rt").get("REFUSALS")
+    yield "crates/sched_report/src/calls.rt: REFUSALS", count, len(REFUSALS)
+    found = block("crates/file_words/src/walk.rt", "fn is_refusal", "\n}\n")
+    values = [number for number, it in enumerate(REFUSALS, 1) if "value" in it and it["code"] != "BadFlow"]
+    values = " | ".join(map(str, values))
+    for part in (f"reason <= {len(REASONS)},", f"({values}, value)", f"(1..={len(REFUSALS)}, None)"):
+        yield f"crates/file_words/src/walk.rt: {part}", part in found, True
+
+
+def of_faults():
+    wanted = {it["name"]: number for number, it in enumerate(STATUSES)} | {it["name"]: it["number"] for it in GROUPS}
+    yield "crates/mapsched_c/src/status.rt", constants("crates/mapsched_c/src/status.rt"), wanted
+    for path, name, kind in [("fault", "DecodeFault", "payload"), ("map_fault", "MapFault", "map")]:
+        found = [it for it, _ in variants(f"crates/map_codec/src/{path}.rt", f"pub enum {name} {{") if it != "Memory"]
+        yield f"crates/map_codec/src/{path}.rt", found, [it["code"] for it in TABLES[kind]]
+    words = strings("crates/decode_command/src/explained_fault.rt", "fn fault_words")
+    for it in TABLES["payload"]:
+        wanted = it["words"].partition(" #")[0]
+        yield f"crates/decode_command/src/explained_fault.rt: {it['code']}", words.get(it["code"]), wanted
+    paths = glob.glob("crates/*/src/fault.rt", root_dir=HERE)
+    said = {line for path in paths for line in re.findall(r'#\[error\("([^"]*)"', code_of(path))}
+    said = {re.sub(r" \{\d*\}$", " N", it) for it in said}
+    for it in TABLES["input"]:
+        yield f"no fault of the code: {it['line']}", it["line"] in said, True
+    bases = [int(it["number"]) for it in GROUPS if it.get("faults") != "request"]
+    found = re.findall(r"_BAD_CONFIG, _BAD_PAYLOAD, _BAD_MAP = (.*)", read("python/mapsched/faults.py"))
+    yield "python/mapsched/faults.py", found, [", ".join(map(str, bases))]
+
+
+# Documents, and the greatest values in the header
+
+
+def of_documents():
+    found = re.findall(r"(\d+)\s+`(\w+)`", read("README.md").partition("`bad config N`")[2].partition("Their")[0])
+    yield "README.md, the fields", found, [(str(number), name) for name, number in counted(NUMBERED)]
+    found = re.search(r"\ball but (.*?) (?:is|are) required", read("docs/REFERENCE.md"))
+    yield "docs/REFERENCE.md, fields that may be missing", found and re.findall(r"`(\w+)`", found[1]), [*MISSING]
+    for it in GROUPS:
+        found = re.search(rf"`{it['name']}` and 1 to (\d+)", read("docs/C.md"))
+        yield f"docs/C.md, {it['name']}", found and int(found[1]), len(words_of_group(it))
+    most = {it["name"].upper(): it["range"][1] for it in (*FIELDS, *MEMBERS) if "range" in it}
+    most |= {"REQUEST_BYTES": most["BYTES"], "CLOCK": most["NOW"]}
+    text = re.sub(r"UINT64_C\((\d+)\)", r"\1", read("include/mapsched.h"))
+    for name in ("SID", "PRIORITY", "GRANTS", "CYCLE", "REQUEST_BYTES", "CLOCK", "RECEIVERS", "CALLS"):
+        found = re.search(rf"#define MAPSCHED_MAX_{name} (.*)", text)
+        yield f"include/mapsched.h, MAPSCHED_MAX_{name}", found and number_of(found[1]), most[name]
+
+
+def compared():
+    """Each comparison: its words, what is found and what the tables say."""
+    for part in (of_fields, of_tests, of_forms, of_calls, of_refusals, of_faults, of_documents):
+        yield from part()

@@ -1,0 +1,80 @@
+//! How a program ends: what it says, and its exit code.
+
+ghost use Rattle.std.specs.Prelude.{◌≡◌, ◌≢◌, IfOk, IfErr, if◌then◌else◌};
+ghost use Rattle.std.specs.Process.{exit_status};
+ghost use Rattle.text_stream.specs.RunFault.{exit_status_of};
+ghost use Rattle.clap.specs.Values.{kind_of};
+
+use crate::commands;
+use clap::error::ErrorKind;
+use clap::{ArgMatches, Error};
+use std::alloc::{AllocError, Global};
+use std::process::ExitCode;
+use std::rt::Env;
+use std::{env, io};
+use text_stream::{RunFault, TextFault};
+
+/// The words of the command line.
+pub fn words_of(rt: &(impl Env + AllocGlobal)) -> io::Result<Vec<String>> {
+    Ok(env::args(rt)?.collect(rt.alloc())?)
+}
+
+/// What the words of the command line ask for.
+pub fn matches_of<'a>(alloc: Global, words: &'a [String]) -> Result<ArgMatches<'a>, Error> {
+    commands(alloc)?.try_get_matches_from(words)
+}
+
+/// Prints a fault on standard error. The exit code is the fault's.
+pub fn fail(rt: &impl Eprint, fault: RunFault) -> ExitCode
+    ensures { exit_status result ≡ exit_status_of fault }
+{
+    let _ = rt.eprintln(fault);
+    ExitCode::from(fault.status())
+}
+
+/// Prints a fault of the command line, or the help that was asked for, which may fail.
+pub fn explain(rt: &(impl Print + Eprint), error: Error) -> ExitCode
+    ensures memory { kind_of error ≡ ErrorKind.OutOfMemory → exit_status result ≡ 4 }
+{
+    if error.kind() == ErrorKind::OutOfMemory {
+        return fail(rt, RunFault::Text(TextFault::Memory));
+    }
+    let printed = error.print(rt);
+    if printed.is_err() && !error.use_stderr() {
+        return fail(rt, RunFault::Text(TextFault::Output));
+    }
+    ExitCode::from(error.exit_code() as u8)
+}
+
+// A fault of the command line.
+fn fault_of(alloc: Global, kind: ErrorKind, what: &str) -> Result<Error, AllocError> {
+    commands(alloc)?.error(kind, what)
+}
+
+/// Refuses the command line for what it has.
+pub fn refuse(rt: &(impl Print + Eprint + AllocGlobal), kind: ErrorKind, what: &str) -> ExitCode {
+    match fault_of(rt.alloc(), kind, what) {
+        Ok(error) => explain(rt, error),
+        Err(fault) => explain(rt, fault.into()),
+    }
+}
+
+/// The exit code of a command that finds nothing but that all was done, or a fault.
+pub fn done(rt: &impl Eprint, outcome: Result<(), RunFault>) -> ExitCode
+    ensures done { IfOk outcome (λ _. exit_status result ≡ 0) }
+    ensures failed { IfErr outcome (λ fault. exit_status result ≡ exit_status_of fault) }
+{
+    exit_of(rt, outcome.map(|()| true))
+}
+
+/// The exit code of a command that finds all well or not.
+pub fn exit_of(rt: &impl Eprint, outcome: Result<bool, RunFault>) -> ExitCode
+    ensures found { IfOk outcome (λ is_well. exit_status result ≡ (if is_well then 0 else 1)) }
+    ensures failed { IfErr outcome (λ fault. exit_status result ≡ exit_status_of fault) }
+{
+    match outcome {
+        Ok(true) => ExitCode::SUCCESS,
+        Ok(false) => ExitCode::FAILURE,
+        Err(fault) => fail(rt, fault),
+    }
+}

@@ -1,0 +1,31 @@
+-- A worked text: the journal of one MAP without flows. Its lines are the parts of the history's text.
+use Rattle.std.proofs.Common.{◌≡◌, [], ◌∷◌, ◌++◌, codes, refl}
+use Rattle.std.specs.Fmt.{digits}
+use Rattle.hex.proofs.OnLiterals.{hex_on_literals}
+use Rattle.serde_json.proofs.OnLiterals.{serde_json_on_literals}
+use Rattle.map_codec.specs.WireMap.{header, spelling}
+use Rattle.sched_calls.proofs.Base.{base}
+use Rattle.sched_calls.proofs.BaseMaps.{first_map}
+use Rattle.sched_calls.specs.declared.call.Call.TheVariants.{Build}
+use Rattle.sched_calls.specs.declared.reply.Reply.TheVariants.{Built}
+use Rattle.sched_calls.specs.declared.reply.Entry.{Entry}
+use Rattle.history_writing.specs.Json.{counts, call_data, map_data, reply_data}
+use Rattle.history_writing.specs.HistoryText.{config_data, entry_data}
+use Rattle.history_writing.specs.Journal.{opening_data, opening_line, entry_line, journal_text}
+
+-- the MAP of the first frame, built at minislot 760
+abbrev built : Entry
+built = record { stamp = record { seat = 0; ticket = 0 }; call = Build 760; reply = Built first_map }
+
+-- its text, byte for byte
+pub the_journal_of_one_map : journal_text base (built ∷ [])
+    ≡ codes "{\"config\":{\"bytes_per_slot\":16,\"calls\":1000,\"channel\":3,\"cycle\":20,\"data_end\":0," ++ (
+    codes "\"data_start\":0,\"frame\":40,\"grant_cap\":2000,\"lead\":40,\"overhead\":2," ++ (
+    codes "\"phy\":0,\"poll_slots\":2,\"quantum\":64,\"ranging_end\":0,\"ranging_start\":0,\"receivers\":1," ++ (
+    codes "\"req_slots\":4,\"short_max\":8,\"start\":800,\"ticks\":4,\"ucd_count\":1}}\n" ++ (
+    codes "{\"call\":{\"call\":\"build\",\"now\":760},\"reply\":{\"ack\":800,\"bytes\":[0," ++ (
+    codes "0,0],\"hex\":\"03010300000003200000032000000000fffc4000000180040001c028\",\"kind\":\"map\"," ++
+    codes "\"start\":800},\"seat\":0,\"ticket\":0}\n")))))
+unfolding opening_line entry_line opening_data entry_data config_data call_data reply_data map_data counts header
+    spelling digits serde_json_on_literals hex_on_literals
+the_journal_of_one_map = refl

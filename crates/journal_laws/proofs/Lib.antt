@@ -1,3 +1,0 @@
-pub mod NoNewline
-pub mod LinesAgain
-pub mod CutLines

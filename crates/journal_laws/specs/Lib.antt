@@ -1,2 +1,0 @@
-pub mod JournalAgain
-pub mod CutJournal

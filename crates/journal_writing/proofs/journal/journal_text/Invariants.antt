@@ -1,9 +1,0 @@
--- The lines of the opening and of the entries so far.
-use Rattle.std.proofs.Common.{◌≡◌, ◌++◌, take}
-use Rattle.std.specs.Prelude.{flat_map}
-use Rattle.journal_writing.specs.Journal.{opening_line, entry_line}
-use Rattle.journal_writing.proofs.journal.journal_text.Given as goal
-
-abbrev pub invariant-loop-entry : goal.invariant-loop-entry
-invariant-loop-entry l =
-    l.text.items ≡ opening_line l.config ++ flat_map entry_line (take l.entry-index l.entries)

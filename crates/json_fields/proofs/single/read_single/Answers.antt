@@ -1,8 +1,0 @@
--- What the tokens of the text stand for, the bytes stand for.
-use Rattle.json_fields.proofs.UsualParts.{value_of_tokens}
-use Rattle.json_fields.proofs.single.read_single.Goals as goal
-
-pub returns : goal.returns
-returns g c =
-    value_of_tokens g.X.FromTokens.stands_for c.args.bytes.now c.in-Ok.text.now c.in_ok-reader.reader
-    c.read_thing.result c.in-Ok.ensures.cases.0 c.in-Ok.ensures.cases.1 c.in_ok-reader.ensures.ok c.read_thing.ensures

@@ -1,0 +1,254 @@
+-- The JSON values of configurations and calls are read again in their texts: their numbers fit 64 bits, their names are
+-- ASCII, and their keys are in order.
+use Rattle.std.proofs.Common.{◌≡◌, ℕ, ◌<◌, ◌≤◌, ◌^◌, List, [], ◌∷◌, map, IsUtf8, refl}
+use Rattle.std.proofs.Common.{true, arith}
+use Rattle.std.specs.Prelude.{codes}
+use Rattle.std.specs.List.{AllByRecursion}
+use Rattle.json.proofs.Printed.Utf8.{are_ascii, IsUtf8-are_ascii}
+use Rattle.serde_json.specs.View.{items_of}
+use Rattle.minislots.specs.declared.config.Config.{Config}
+use Rattle.sched_calls.specs.declared.spec.FlowSpec.{FlowSpec}
+use Rattle.sched_calls.specs.declared.spec.FlowSpec.TheVariants.{Unsolicited, Polled, BestEffort}
+use Rattle.sched_calls.specs.declared.call.Call.{Call}
+use Rattle.sched_calls.specs.declared.opportunity.Usage.TheVariants.{Initial, Station}
+use Rattle.sched_calls.specs.declared.call.Call.TheVariants.{Admit, Remove, Ask, Heard, Build, Skip, Status}
+use Rattle.sched_calls.specs.declared.call.Call.TheVariants.{Reserve, Header}
+use Rattle.history_writing.specs.Json.{count, flow_data, call_data}
+use Rattle.history_writing.specs.HistoryText.{config_data}
+use Rattle.history_writing.specs.Fits.{FlowFits, CallFits, ConfigFits}
+use Rattle.laws.proofs.Readable.{IsReadable, AreReadable}
+
+-- narrower numbers
+pub of_byte : (n : ℕ) → n < 2 ^ 8 → n < 2 ^ 64
+of_byte n h = omega (arith, h)
+
+-- a number of 16 bits fits 64
+pub of_half : (n : ℕ) → n < 2 ^ 16 → n < 2 ^ 64
+of_half n h = omega (arith, h)
+
+-- a number of 32 bits fits 64
+pub of_word : (n : ℕ) → n < 2 ^ 32 → n < 2 ^ 64
+of_word n h = omega (arith, h)
+
+-- a name is UTF-8
+pub name : (s : List ℕ) → are_ascii s ≡ true → IsUtf8 s
+name s small = IsUtf8-are_ascii s small
+
+-- numbers that fit
+pub counts_readable : (limit : ℕ) (ns : List ℕ) → limit ≤ 2 ^ 64 → AllByRecursion (λ n. n < limit) ns
+    → AreReadable (items_of (map count ns))
+counts_readable limit [] most fits = tt
+counts_readable limit (n ∷ ns) most fits =
+    let here = fits.0 in
+    (omega (arith, here, most), counts_readable limit ns most fits.1)
+
+flow_readable : (spec : FlowSpec) → FlowFits spec → IsReadable (flow_data spec)
+unfolding flow_data
+flow_readable (Unsolicited size interval jitter grants) fits = (
+  refl,
+  (
+    refl,
+    of_byte grants fits.3,
+    (
+      refl,
+      of_word interval fits.1,
+      (
+        refl,
+        of_word jitter fits.2,
+        (refl, name (codes "unsolicited") refl, (refl, of_word size fits.0, tt)),
+      ),
+    ),
+  ),
+)
+flow_readable (Polled interval jitter rate burst) fits = (
+  refl,
+  (
+    refl,
+    of_word burst fits.3,
+    (
+      refl,
+      of_word interval fits.0,
+      (
+        refl,
+        of_word jitter fits.1,
+        (refl, name (codes "polled") refl, (refl, of_word rate fits.2, tt)),
+      ),
+    ),
+  ),
+)
+flow_readable (BestEffort priority rate burst) fits = (
+  refl,
+  (
+    refl,
+    of_word burst fits.2,
+    (
+      refl,
+      name (codes "best_effort") refl,
+      (
+        refl,
+        of_byte priority fits.0,
+        (refl, of_word rate fits.1, tt),
+      ),
+    ),
+  ),
+)
+
+-- a call is read again in its text
+pub call_readable : (call : Call) → CallFits call → IsReadable (call_data call)
+unfolding call_data
+call_readable (Admit sid spec) fits =
+    (refl, (refl, name (codes "admit") refl, (refl, flow_readable spec fits.1, (refl, of_half sid fits.0, tt))))
+call_readable (Remove sid) fits = (refl, (refl, name (codes "remove") refl, (refl, of_half sid fits, tt)))
+call_readable (Ask receiver sid bytes heard) fits = (
+  refl,
+  (
+    refl,
+    of_word bytes fits.2,
+    (
+      refl,
+      name (codes "ask") refl,
+      (
+        refl,
+        fits.3,
+        (
+          refl,
+          of_byte receiver fits.0,
+          (refl, of_half sid fits.1, tt),
+        ),
+      ),
+    ),
+  ),
+)
+call_readable (Heard receiver upto) fits =
+    (refl, (refl, name (codes "heard") refl, (refl, of_byte receiver fits.0, (refl, fits.1, tt))))
+call_readable (Build now) fits = (refl, (refl, name (codes "build") refl, (refl, fits, tt)))
+call_readable (Skip now) fits = (refl, (refl, name (codes "skip") refl, (refl, fits, tt)))
+call_readable (Status sid) fits = (refl, (refl, name (codes "status") refl, (refl, of_half sid fits, tt)))
+call_readable (Reserve Initial slots) fits = (
+  refl,
+  (
+    refl,
+    name (codes "reserve") refl,
+    (refl, of_word slots fits, (refl, name (codes "initial") refl, tt)),
+  ),
+)
+call_readable (Reserve (Station sid) slots) fits = (
+  refl,
+  (
+    refl,
+    name (codes "reserve") refl,
+    (
+      refl,
+      of_half sid fits.0,
+      (refl, of_word slots fits.1, (refl, name (codes "station") refl, tt)),
+    ),
+  ),
+)
+call_readable (Header header) fits = (
+  refl,
+  (
+    refl,
+    name (codes "header") refl,
+    (
+      refl,
+      of_byte header.data_end fits.4,
+      (
+        refl,
+        of_byte header.data_start fits.3,
+        (
+          refl,
+          of_byte header.ranging_end fits.2,
+          (refl, of_byte header.ranging_start fits.1, (refl, of_byte header.ucd_count fits.0, tt)),
+        ),
+      ),
+    ),
+  ),
+)
+
+-- a configuration is read again in its text
+pub config_readable : (c : Config) → ConfigFits c → IsReadable (config_data c)
+unfolding config_data
+config_readable c fits = (
+  refl,
+  (
+    refl,
+    of_word c.bytes_per_slot fits.bytes_per_slot,
+    (
+      refl,
+      of_word c.calls fits.calls,
+      (
+        refl,
+        of_byte c.channel fits.channel,
+        (
+          refl,
+          of_word c.cycle fits.cycle,
+          (
+            refl,
+            of_byte c.data_end fits.data_end,
+            (
+              refl,
+              of_byte c.data_start fits.data_start,
+              (
+                refl,
+                of_word c.frame fits.frame,
+                (
+                  refl,
+                  of_word c.grant_cap fits.grant_cap,
+                  (
+                    refl,
+                    of_word c.lead fits.lead,
+                    (
+                      refl,
+                      of_word c.overhead fits.overhead,
+                      (
+                        refl,
+                        of_byte c.phy fits.phy,
+                        (
+                          refl,
+                          of_word c.poll_slots fits.poll_slots,
+                          (
+                            refl,
+                            of_word c.quantum fits.quantum,
+                            (
+                              refl,
+                              of_byte c.ranging_end fits.ranging_end,
+                              (
+                                refl,
+                                of_byte c.ranging_start fits.ranging_start,
+                                (
+                                  refl,
+                                  of_byte c.receivers fits.receivers,
+                                  (
+                                    refl,
+                                    of_word c.req_slots fits.req_slots,
+                                    (
+                                      refl,
+                                      of_word c.short_max fits.short_max,
+                                      (
+                                        refl,
+                                        fits.start,
+                                        (
+                                          refl,
+                                          of_word c.ticks fits.ticks,
+                                          (refl, of_byte c.ucd_count fits.ucd_count, tt),
+                                        ),
+                                      ),
+                                    ),
+                                  ),
+                                ),
+                              ),
+                            ),
+                          ),
+                        ),
+                      ),
+                    ),
+                  ),
+                ),
+              ),
+            ),
+          ),
+        ),
+      ),
+    ),
+  ),
+)

@@ -1,0 +1,85 @@
+-- The JSON value of a history nests no deeper than five levels.
+use Rattle.std.proofs.Common.{◌≡◌, ℕ, ◌≤◌, max, List, [], ◌∷◌, map, Option, Some, None, refl, ap, arith}
+use Rattle.serde_json.specs.Data.{depth, items_depth}
+use Rattle.serde_json.specs.View.{items_of}
+use Rattle.minislots.specs.declared.config.Config.{Config}
+use Rattle.sched_calls.specs.declared.spec.FlowSpec.{FlowSpec}
+use Rattle.sched_calls.specs.declared.spec.FlowSpec.TheVariants.{Unsolicited, Polled, BestEffort}
+use Rattle.sched_calls.specs.declared.call.Call.{Call}
+use Rattle.sched_calls.specs.declared.opportunity.Usage.TheVariants.{Initial, Station}
+use Rattle.sched_calls.specs.declared.call.Call.TheVariants.{Admit, Remove, Ask, Heard, Build, Skip, Status}
+use Rattle.sched_calls.specs.declared.call.Call.TheVariants.{Reserve, Header}
+use Rattle.sched_calls.specs.declared.reply.Reply.{Reply}
+use Rattle.sched_calls.specs.declared.reply.Reply.TheVariants.{Admitted, Removed, Taken, Noted, Built, Skipped, Flow}
+use Rattle.sched_calls.specs.declared.reply.Reply.TheVariants.{Refused, Reserved}
+use Rattle.sched_calls.specs.declared.reply.Entry.{Entry}
+use Rattle.history_writing.specs.Json.{count, counts, flow_data, call_data, plain_data, placed_data, map_data}
+use Rattle.history_writing.specs.Json.{refused_data}
+use Rattle.history_writing.specs.Json.{reply_data}
+use Rattle.sched_lines.specs.Line.{refusal_number, refusal_value}
+use Rattle.history_writing.specs.HistoryText.{config_data, entry_data, entries_data, history_data}
+
+depth-numbers : (ns : List ℕ) → items_depth (items_of (map count ns)) ≡ 0
+depth-numbers [] = refl
+depth-numbers (n ∷ ns) = ap (max 0) (depth-numbers ns)
+
+depth-counts : (ns : List ℕ) → depth (counts ns) ≡ 1
+unfolding counts
+depth-counts ns = let e = depth-numbers ns in omega (arith, e)
+
+depth-flow : (spec : FlowSpec) → depth (flow_data spec) ≡ 1
+unfolding flow_data
+depth-flow (Unsolicited size interval jitter grants) = refl
+depth-flow (Polled interval jitter rate burst) = refl
+depth-flow (BestEffort priority rate burst) = refl
+
+depth-call : (call : Call) → depth (call_data call) ≤ 2
+unfolding call_data
+depth-call (Admit sid spec) = let e = depth-flow spec in omega (arith, e)
+depth-call (Remove sid) = omega arith
+depth-call (Ask receiver sid bytes heard) = omega arith
+depth-call (Heard receiver upto) = omega arith
+depth-call (Build now) = omega arith
+depth-call (Skip now) = omega arith
+depth-call (Status sid) = omega arith
+depth-call (Reserve Initial slots) = omega arith
+depth-call (Reserve (Station sid) slots) = omega arith
+depth-call (Header header) = omega arith
+
+depth-refused : (n : ℕ) (value : Option ℕ) → depth (refused_data n value) ≤ 2
+unfolding refused_data
+depth-refused n None = omega arith
+depth-refused n (Some slot) = omega arith
+
+depth-reply : (reply : Reply) → depth (reply_data reply) ≤ 2
+unfolding reply_data plain_data placed_data map_data
+depth-reply (Admitted None) = omega arith
+depth-reply (Admitted (Some p)) = let e = depth-counts p.starts in omega (arith, e)
+depth-reply Removed = omega arith
+depth-reply Taken = omega arith
+depth-reply Noted = omega arith
+depth-reply Reserved = omega arith
+depth-reply (Built m) = let e = depth-counts m.bytes in omega (arith, e)
+depth-reply (Skipped next) = omega arith
+depth-reply (Flow asked granted outstanding) = omega arith
+depth-reply (Refused refusal) = depth-refused (refusal_number refusal) (refusal_value refusal)
+
+-- an entry nests no deeper than three levels
+pub depth-entry : (e : Entry) → depth (entry_data e) ≤ 3
+unfolding entry_data
+depth-entry e =
+    let call = depth-call e.call in
+    let reply = depth-reply e.reply in
+    omega (arith, call, reply)
+
+depth-entries : (es : List Entry) → items_depth (items_of (map entry_data es)) ≤ 3
+depth-entries [] = omega arith
+depth-entries (e ∷ es) =
+    let entry = depth-entry e in
+    let rest = depth-entries es in
+    omega (arith, entry, rest)
+
+-- a history nests no deeper than five levels
+pub depth-history : (c : Config) (es : List Entry) → depth (history_data c es) ≤ 5
+unfolding history_data entries_data config_data
+depth-history c es = let entries = depth-entries es in omega (arith, entries)

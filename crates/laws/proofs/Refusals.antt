@@ -1,0 +1,114 @@
+-- The value of each refusal fits its type where the minislots that it may tell do.
+use Rattle.std.proofs.Common.{◌≡◌, ℕ, ◌+◌, ◌-◌, ◌^◌, ◌<◌, Bool, true, false, not, ◌==◌, ◌||◌, ◌&&◌, nat_lt, nat_le}
+use Rattle.std.proofs.Common.{List, length, Option, None, Some, subst, lit<}
+use Rattle.std.specs.Option.{option_or, option_map}
+use Rattle.minislots.specs.declared.config.Config.{Config}
+use Rattle.sched_calls.specs.declared.spec.FlowFault.{FlowFault}
+use Rattle.sched_calls.specs.declared.spec.FlowFault.TheVariants.{Size, IntervalNotWhole, IntervalNotFrames}
+use Rattle.sched_calls.specs.declared.spec.FlowFault.TheVariants.{IntervalNotInCycle, Priority, Burst, Grants}
+use Rattle.sched_calls.specs.declared.TheConstants.{MAX_FLOWS}
+use Rattle.sched_calls.specs.FlowSpec.{is_periodic, grants_of, first_fault}
+use Rattle.sched_calls.specs.declared.TheConstants.{MAX_PERIODIC_GRANTS}
+use Rattle.sched_calls.specs.declared.call.TheConstants.{MAX_RESERVES}
+use Rattle.sched_calls.specs.declared.call.Call.{Call}
+use Rattle.sched_calls.specs.declared.call.Call.TheVariants as calls
+use Rattle.sched_calls.specs.declared.reply.Refusal.{Refusal}
+use Rattle.sched_calls.specs.declared.reply.Refusal.TheVariants.{BadSid, SidLive, BadFlow, FlowsFull, PeriodicFull}
+use Rattle.sched_calls.specs.declared.reply.Refusal.TheVariants.{NoFlow, NotAsking, BadReceiver, BadBytes}
+use Rattle.sched_calls.specs.declared.reply.Refusal.TheVariants.{Acked, Ahead, Backwards, BadClock, TooEarly, Late}
+use Rattle.sched_calls.specs.declared.reply.Refusal.TheVariants.{NotLate, BadLength, ReservesFull, BadBackoff}
+use Rattle.sched_calls.specs.declared.reply.Entry.{Entry}
+use Rattle.sched_history.specs.Life.{flows_of}
+use Rattle.sched_history.specs.Time.{next_after, progress_of}
+use Rattle.sched_history.specs.Reserves.{reserves_of}
+use Rattle.sched_history.specs.Refusal.{refused_if, refusal_of, most_bytes, most_ahead, last_clock, bad_sid, is_live}
+use Rattle.sched_history.specs.Refusal.{is_silent, periodic_grants, is_to_bad_sid, is_wide}
+use Rattle.sched_lines.specs.Line.{fault_number, refusal_value}
+use Rattle.history_writing.specs.Fits.{ValueFits}
+
+-- the value of the refusal fits, where it has one
+abbrev pub RefusalFits : Refusal → Type 0
+RefusalFits refusal = ValueFits (refusal_value refusal)
+
+-- where the value of the first refusal of some tests fits, and that of each other
+refused : (b : Bool) (first : Refusal) (rest : Option Refusal) (refusal : Refusal)
+    → option_or (refused_if b first) rest ≡ Some refusal → RefusalFits first
+    → (rest ≡ Some refusal → RefusalFits refusal) → RefusalFits refusal
+refused true first rest refusal is here later = let same : first ≡ refusal = cc in subst RefusalFits same here
+refused false first rest refusal is here later = later is
+
+refused_last : (b : Bool) (first refusal : Refusal) → refused_if b first ≡ Some refusal → RefusalFits first
+    → RefusalFits refusal
+refused_last true first refusal is here = let same : first ≡ refusal = cc in subst RefusalFits same here
+refused_last false first refusal is here = absurd (cc)
+
+no_more : (refusal : Refusal) → None ≡ Some refusal → RefusalFits refusal
+no_more refusal is = absurd (cc)
+
+fault_fits : (fault : FlowFault) → fault_number fault < 2 ^ 64
+fault_fits Size = lit< tt
+fault_fits IntervalNotWhole = lit< tt
+fault_fits IntervalNotFrames = lit< tt
+fault_fits IntervalNotInCycle = lit< tt
+fault_fits Priority = lit< tt
+fault_fits Burst = lit< tt
+fault_fits Grants = lit< tt
+
+faulty : (fault : Option FlowFault) (rest : Option Refusal) (refusal : Refusal)
+    → option_or (option_map BadFlow fault) rest ≡ Some refusal → (rest ≡ Some refusal → RefusalFits refusal)
+    → RefusalFits refusal
+faulty None rest refusal is later = later is
+faulty (Some fault) rest refusal is later =
+    let same : BadFlow fault ≡ refusal = cc in subst RefusalFits same (fault_fits fault)
+
+module _ (c : Config) (h : List Entry) (next-small : next_after c h < 2 ^ 64)
+    (progress-small : (receiver : ℕ) → progress_of c receiver h < 2 ^ 64) where
+  -- a SID that no flow may have, or none has
+  unknown : (sid : ℕ) (rest : Option Refusal) (refusal : Refusal)
+      → option_or (refused_if (bad_sid sid) BadSid) (option_or (refused_if (not (is_live sid h)) NoFlow) rest)
+      ≡ Some refusal → (rest ≡ Some refusal → RefusalFits refusal) → RefusalFits refusal
+  unknown sid rest refusal is later =
+      refused (bad_sid sid) BadSid _ refusal is tt (λ is.
+      refused (not (is_live sid h)) NoFlow rest refusal is tt later)
+
+  -- the value of each refusal fits
+  pub refusal_fits : (call : Call) (refusal : Refusal) → refusal_of c h call ≡ Some refusal → RefusalFits refusal
+  refusal_fits (calls.Admit sid spec) refusal is =
+      refused (bad_sid sid) BadSid _ refusal is tt (λ is.
+      refused (is_live sid h) SidLive _ refusal is tt (λ is.
+      faulty (first_fault c spec) _ refusal is (λ is.
+      refused (nat_le MAX_FLOWS (length (flows_of h))) FlowsFull _ refusal is tt (λ is.
+      refused (is_periodic spec && nat_lt MAX_PERIODIC_GRANTS (periodic_grants h + grants_of spec)) PeriodicFull _
+      refusal is tt (no_more refusal)))))
+  refusal_fits (calls.Remove sid) refusal is = unknown sid _ refusal is (no_more refusal)
+  refusal_fits (calls.Ask receiver sid bytes heard) refusal is =
+      let progress = progress_of c receiver h in
+      unknown sid _ refusal is (λ is.
+      refused (is_silent sid h) NotAsking _ refusal is tt (λ is.
+      refused (nat_le c.receivers receiver) BadReceiver _ refusal is tt (λ is.
+      refused (bytes == 0 || nat_lt most_bytes bytes) BadBytes _ refusal is tt (λ is.
+      refused (nat_lt heard progress) (Acked progress) _ refusal is (progress-small receiver) (λ is.
+      refused (nat_le (next_after c h) heard) (Ahead (next_after c h)) _ refusal is next-small (no_more refusal))))))
+  refusal_fits (calls.Heard receiver upto) refusal is =
+      let progress = progress_of c receiver h in
+      refused (nat_le c.receivers receiver) BadReceiver _ refusal is tt (λ is.
+      refused (nat_lt (next_after c h) upto) (Ahead (next_after c h)) _ refusal is next-small (λ is.
+      refused (nat_lt upto progress) (Backwards progress) _ refusal is (progress-small receiver) (no_more refusal)))
+  refusal_fits (calls.Build now) refusal is =
+      let next = next_after c h in
+      refused (nat_lt last_clock now) BadClock _ refusal is tt (λ is.
+      refused (nat_lt (now + most_ahead) (next + c.frame)) (TooEarly next) _ refusal is next-small (λ is.
+      refused (nat_lt next (now + c.lead)) (Late next) _ refusal is next-small (no_more refusal)))
+  refusal_fits (calls.Skip now) refusal is =
+      let next = next_after c h in
+      refused (nat_lt last_clock now) BadClock _ refusal is tt (λ is.
+      refused (nat_le (now + c.lead) next) (NotLate next) _ refusal is next-small (no_more refusal))
+  refusal_fits (calls.Reserve usage slots) refusal is =
+      refused (is_to_bad_sid usage) BadSid _ refusal is tt (λ is.
+      refused (slots == 0 || nat_lt (c.frame - c.req_slots) slots) BadLength _ refusal is tt (λ is.
+      refused (nat_le MAX_RESERVES (length (reserves_of h))) ReservesFull _ refusal is tt (no_more refusal)))
+  refusal_fits (calls.Header header) refusal is =
+      refused_last
+      (is_wide header.ranging_start || is_wide header.ranging_end || is_wide header.data_start
+      || is_wide header.data_end) BadBackoff refusal is tt
+  refusal_fits (calls.Status sid) refusal is = unknown sid _ refusal is (no_more refusal)

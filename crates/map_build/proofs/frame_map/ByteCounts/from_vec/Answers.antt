@@ -1,6 +1,0 @@
--- The counts of the vector.
-use Rattle.std.proofs.Common.{rules}
-use Rattle.map_build.proofs.frame_map.ByteCounts.from_vec.Goals as goal
-
-pub returns : goal.returns
-returns c = search rules

@@ -1,0 +1,46 @@
+//! What the words of the command line ask of a command.
+
+use clap::ArgMatches;
+use live_command::Wording;
+use pcap_command::ADDRESS;
+use report_command::Form;
+use run_command::{RunOutput, Words};
+
+/// What the command `run` is asked to write, but for whole frames.
+pub(crate) fn output_of(run: &ArgMatches) -> RunOutput {
+    if run.get_flag("explain") {
+        return RunOutput::Lines(Words::Explained);
+    }
+    if run.get_flag("history") {
+        return RunOutput::History;
+    }
+    if run.get_flag("journal") {
+        return RunOutput::Journal;
+    }
+    RunOutput::Lines(Words::Plain)
+}
+
+/// The form in which the command `report` is asked for its numbers.
+pub(crate) fn form_of(report: &ArgMatches) -> Form {
+    if report.get_flag("json") {
+        return Form::Json;
+    }
+    if report.get_flag("svg") {
+        return Form::Picture;
+    }
+    if report.get_flag("all") {
+        return Form::All;
+    }
+    Form::Few
+}
+
+/// In what words the command `live` is asked to answer.
+pub(crate) fn wording_of(live: &ArgMatches) -> Wording {
+    if live.get_flag("explain") {
+        return Wording::Explained;
+    }
+    if live.get_flag("frames") {
+        return Wording::Frames(ADDRESS);
+    }
+    Wording::Plain
+}

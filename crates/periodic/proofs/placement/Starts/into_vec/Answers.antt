@@ -1,5 +1,0 @@
--- The vector has the starts.
-use Rattle.periodic.proofs.placement.Starts.into_vec.Goals as goal
-
-pub returns : goal.returns
-returns c = c.self.view_is

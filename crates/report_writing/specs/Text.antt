@@ -1,0 +1,31 @@
+-- The text of a report: its tables.
+use Rattle.std.specs.Prelude.{◌≡◌, ℕ, Bool, List, ◌++◌}
+use Rattle.minislots.specs.declared.config.Config.{Config}
+use Rattle.sched_calls.specs.declared.reply.Entry.{Entry}
+use Rattle.sched_report.specs.declared.totals.Totals.{Totals}
+use Rattle.sched_report.specs.declared.life.LifeNumbers.{LifeNumbers}
+use Rattle.sched_report.specs.declared.ranks_told.RankTold.{RankTold}
+use Rattle.sched_report.specs.Counts.{CountsRefusals}
+use Rattle.sched_report.specs.RanksTold.{AreRanksTold}
+use Rattle.sched_report.specs.Totals.{totals_of}
+use Rattle.report_writing.specs.Gathered.{AreLivesTold}
+use Rattle.report_writing.specs.Tables.{head_text, uses_text, refused_text, ranks_text}
+use Rattle.report_writing.specs.Flows.{AreOrdered, flows_text}
+
+-- the tables of these numbers, where a minislot has so many ticks: of all lives or of those that asked most
+unfoldable pub tables_text : ℕ → Bool → Totals → List ℕ → List RankTold → List LifeNumbers → List ℕ
+tables_text ticks all t refused ranks ordered =
+    head_text ticks t ++ (uses_text t.slots t.calls ++ (refused_text refused
+    ++ (ranks_text ticks ranks ++ flows_text ticks all ordered)))
+
+-- The text is the tables of the report on a history, with all lives of flows or with those that asked most
+pub record IsReportTables (all : Bool) (c : Config) (h : List Entry) (text : List ℕ) : Type 0 where
+  pub refused : List ℕ
+  pub counts : CountsRefusals refused h
+  pub ranks : List RankTold
+  pub are_ranks : AreRanksTold c h ranks
+  pub lives : List LifeNumbers
+  pub are_lives : AreLivesTold c h lives
+  pub ordered : List LifeNumbers
+  pub are_ordered : AreOrdered all lives ordered
+  pub text_is : text ≡ tables_text c.ticks all (totals_of c h) refused ranks ordered

@@ -1,0 +1,4 @@
+pub mod Base
+pub mod BaseMaps
+pub mod Faults
+pub mod RowsFaults

@@ -1,0 +1,6 @@
+-- The counts of the vector.
+use Rattle.std.proofs.Common.{rules}
+use Rattle.sched_calls.proofs.frame_map.ByteCounts.from_vec.Goals as goal
+
+pub returns : goal.returns
+returns c = search rules

@@ -1,0 +1,111 @@
+-- The parameters of a flow: what they say in minislots, and which of them are refused.
+use Rattle.std.specs.Prelude.{ℕ, ◌-◌, ◌/◌, ◌%◌, Bool, true, false, not, ◌&&◌, ◌||◌, nat_lt, ◌==◌, List, [], ◌∷◌}
+use Rattle.std.specs.Prelude.{Option, is_none, find}
+use Rattle.minislots.specs.declared.config.Config.{Config}
+use Rattle.minislots.specs.Units.{slots_for, slots_floor, slots_of_micros}
+use Rattle.sched_calls.specs.declared.spec.FlowSpec.{FlowSpec}
+use Rattle.sched_calls.specs.declared.spec.FlowSpec.TheVariants.{Unsolicited, Polled, BestEffort}
+use Rattle.sched_calls.specs.declared.spec.FlowFault.{FlowFault}
+use Rattle.sched_calls.specs.declared.spec.FlowFault.TheVariants.{Size, IntervalNotWhole, IntervalNotFrames}
+use Rattle.sched_calls.specs.declared.spec.FlowFault.TheVariants.{IntervalNotInCycle, Priority, Burst, Grants}
+use Rattle.sched_calls.specs.declared.TheConstants.{MAX_GRANTS}
+
+-- whether the flow has a place in the cycle: unsolicited grants or polls
+abbrev pub is_periodic : FlowSpec → Bool
+is_periodic (Unsolicited size interval jitter grants) = true
+is_periodic (Polled interval jitter rate burst) = true
+is_periodic (BestEffort priority rate burst) = false
+
+-- whether the flow is polled
+abbrev pub is_polled : FlowSpec → Bool
+is_polled (Unsolicited size interval jitter grants) = false
+is_polled (Polled interval jitter rate burst) = true
+is_polled (BestEffort priority rate burst) = false
+
+-- whether the flow asks for bytes and gets data grants for them
+abbrev pub takes_requests : FlowSpec → Bool
+takes_requests (Unsolicited size interval jitter grants) = false
+takes_requests (Polled interval jitter rate burst) = true
+takes_requests (BestEffort priority rate burst) = true
+
+-- the rank of a flow that asks, by which it is served, the highest first: a best effort flow has its traffic priority,
+-- 0 to 7, and a polled flow 8, so it comes before all of them. No choice depends on the 0 of an unsolicited
+-- flow, since such a flow asks for nothing.
+abbrev pub rank_of : FlowSpec → ℕ
+rank_of (Unsolicited size interval jitter grants) = 0
+rank_of (Polled interval jitter rate burst) = 8
+rank_of (BestEffort priority rate burst) = priority
+
+-- the maximum sustained rate, in bits per second: 0 is no ceiling
+abbrev pub rate_of : FlowSpec → ℕ
+rate_of (Unsolicited size interval jitter grants) = 0
+rate_of (Polled interval jitter rate burst) = rate
+rate_of (BestEffort priority rate burst) = rate
+
+-- the maximum burst, in bytes
+abbrev pub burst_of : FlowSpec → ℕ
+burst_of (Unsolicited size interval jitter grants) = 0
+burst_of (Polled interval jitter rate burst) = burst
+burst_of (BestEffort priority rate burst) = burst
+
+-- the nominal interval, in microseconds: 0 where there is none
+abbrev pub interval_of : FlowSpec → ℕ
+interval_of (Unsolicited size interval jitter grants) = interval
+interval_of (Polled interval jitter rate burst) = interval
+interval_of (BestEffort priority rate burst) = 0
+
+-- the nominal interval, in frames
+abbrev pub interval_frames : Config → FlowSpec → ℕ
+interval_frames c spec = slots_floor c (interval_of spec) / c.frame
+
+-- the tolerated jitter, in minislots
+abbrev pub jitter_slots : Config → FlowSpec → ℕ
+jitter_slots c (Unsolicited size interval jitter grants) = slots_floor c jitter
+jitter_slots c (Polled interval jitter rate burst) = slots_floor c jitter
+jitter_slots c (BestEffort priority rate burst) = 0
+
+-- the minislots of one unsolicited grant, or of one poll
+abbrev pub periodic_slots : Config → FlowSpec → ℕ
+periodic_slots c (Unsolicited size interval jitter grants) = slots_for c size
+periodic_slots c (Polled interval jitter rate burst) = c.poll_slots
+periodic_slots c (BestEffort priority rate burst) = 0
+
+-- the grants per interval: one poll of a polled flow
+abbrev pub grants_of : FlowSpec → ℕ
+grants_of (Unsolicited size interval jitter grants) = grants
+grants_of (Polled interval jitter rate burst) = 1
+grants_of (BestEffort priority rate burst) = 0
+
+-- whether this fault meets the parameters
+abbrev pub has_fault : Config → FlowSpec → FlowFault → Bool
+has_fault c (Unsolicited size interval jitter grants) Size =
+    size == 0 || nat_lt (c.frame - c.req_slots) (slots_for c size)
+has_fault c (Polled interval jitter rate burst) Size = false
+has_fault c (BestEffort priority rate burst) Size = false
+has_fault c spec IntervalNotWhole = is_periodic spec && is_none (slots_of_micros c (interval_of spec))
+has_fault c spec IntervalNotFrames = is_periodic spec
+    && (slots_floor c (interval_of spec) == 0 || not (slots_floor c (interval_of spec) % c.frame == 0))
+has_fault c spec IntervalNotInCycle = is_periodic spec && not (c.cycle % interval_frames c spec == 0)
+has_fault c (Unsolicited size interval jitter grants) Priority = false
+has_fault c (Polled interval jitter rate burst) Priority = false
+has_fault c (BestEffort priority rate burst) Priority = nat_lt 7 priority
+has_fault c spec Burst = takes_requests spec && nat_lt 0 (rate_of spec) && nat_lt (burst_of spec) c.quantum
+has_fault c (Unsolicited size interval jitter grants) Grants = grants == 0 || nat_lt MAX_GRANTS grants
+has_fault c (Polled interval jitter rate burst) Grants = false
+has_fault c (BestEffort priority rate burst) Grants = false
+
+-- the faults in the order of their tests
+abbrev pub faults : List FlowFault
+faults = Size ∷ IntervalNotWhole ∷ IntervalNotFrames ∷ IntervalNotInCycle ∷ Priority ∷ Burst ∷ Grants ∷ []
+
+-- the faults of an interval
+abbrev pub interval_faults : List FlowFault
+interval_faults = IntervalNotWhole ∷ IntervalNotFrames ∷ IntervalNotInCycle ∷ []
+
+-- the first of some faults that meets the parameters
+abbrev pub first_fault_of : Config → FlowSpec → List FlowFault → Option FlowFault
+first_fault_of c spec some = find (has_fault c spec) some
+
+-- the first fault of the parameters
+unfoldable pub first_fault : Config → FlowSpec → Option FlowFault
+first_fault c spec = first_fault_of c spec faults

@@ -1,0 +1,6 @@
+pub use Rattle.minislots.specs.Config
+pub use Rattle.minislots.specs.Units
+pub use Rattle.map_codec.specs.WireMap
+pub mod FlowSpec
+pub mod Header
+pub mod Reply

@@ -1,0 +1,26 @@
+//! The calls of the upstream scheduler, its replies and the entries of its history, as plain values.
+#![tactic(auto)]
+
+mod call;
+mod check;
+mod frame_map;
+mod opportunity;
+mod placement;
+mod reply;
+mod spec;
+
+pub use call::{Call, MAX_RESERVES, MAX_SCRIPTS};
+pub use frame_map::{ByteCounts, FrameMap};
+pub use opportunity::{Header, Opportunity, Usage};
+pub use placement::{Placement, Starts};
+pub use reply::{Entry, MAX_ENTRIES, MAX_WHOLE_HISTORY, Refusal, Reply, Unrecorded};
+pub use spec::{FlowFault, FlowSpec};
+
+/// The most flows that are live at a time on one channel.
+pub const MAX_FLOWS: usize = 64;
+
+/// The most grants of an unsolicited flow in one nominal interval.
+pub const MAX_GRANTS: u8 = 8;
+
+/// The most grants per interval of the live periodic flows, and so the most spots of one frame.
+pub const MAX_PERIODIC_GRANTS: usize = 40;

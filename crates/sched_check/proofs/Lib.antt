@@ -1,2 +1,0 @@
-pub mod HistoryTold
-pub mod FaultFound

@@ -1,0 +1,46 @@
+-- The answers that calls may get, one after the other.
+use Rattle.std.specs.Prelude.{◌≡◌, ℕ, ◌+◌, ◌<◌, ◌≤◌, List, [], ◌∷◌, ◌++◌, length, Ok, Err}
+use Rattle.minislots.specs.declared.config.Config.{Config}
+use Rattle.sched_calls.specs.declared.call.Call.{Call}
+use Rattle.sched_calls.specs.declared.reply.Entry.{Entry}
+use Rattle.sched_calls.specs.declared.reply.Unrecorded.TheVariants.{HistoryFull, Memory}
+use Rattle.sched_history.specs.History.{IsStep}
+use Rattle.sched_history.specs.Machine.{Machine, MayLackMemory}
+use Rattle.sched_calls.specs.Reply.{Answer}
+
+-- the call may get this answer after the history: a reply that is a step, where there is room for it
+abbrev pub MayGet : Config → List Entry → Call → Answer → Type 0
+MayGet c h call (Ok reply) = (length h < c.calls) × IsStep c h call reply
+MayGet c h call (Err HistoryFull) = c.calls ≤ length h
+MayGet c h call (Err Memory) = (length h < c.calls) × MayLackMemory c h call
+
+-- the entry of a call that was recorded: the one seat of a run is seat 0
+abbrev pub recorded : ℕ → Call → Answer → List Entry
+recorded ticket call (Ok reply) =
+    record { stamp = record { seat = 0; ticket = ticket }; call = call; reply = reply } ∷ []
+recorded ticket call (Err unrecorded) = []
+
+-- the calls, the first of which has this ticket, may get these answers one after the other, after the history
+abbrev pub MayGetEach : Config → List Entry → ℕ → List Call → List Answer → Type 0
+MayGetEach c h ticket [] [] = Unit {0}
+MayGetEach c h ticket [] (answer ∷ answers) = ⊥
+MayGetEach c h ticket (call ∷ calls) [] = ⊥
+MayGetEach c h ticket (call ∷ calls) (answer ∷ answers) =
+    MayGet c h call answer × MayGetEach c (h ++ recorded ticket call answer) (ticket + 1) calls answers
+
+-- the entries of the calls that were recorded
+abbrev pub recorded_entries : ℕ → List Call → List Answer → List Entry
+recorded_entries ticket [] answers = []
+recorded_entries ticket (call ∷ calls) [] = []
+recorded_entries ticket (call ∷ calls) (answer ∷ answers) =
+    recorded ticket call answer ++ recorded_entries (ticket + 1) calls answers
+
+-- from one state of a scheduler that keeps its whole history this call, with this answer, led to another
+pub record MakesCall (old new : Machine) (ticket : ℕ) (call : Call) (answer : Answer) : Type 0 where
+  pub may : MayGet old.config old.history call answer
+  pub state : new ≡ record old { history = old.history ++ recorded ticket call answer }
+
+-- from a state of a scheduler without entries these calls, with these answers, led to another, which keeps all entries
+pub record MakesCalls (old new : Machine) (calls : List Call) (answers : List Answer) : Type 0 where
+  pub each : MayGetEach old.config [] 0 calls answers
+  pub state : new ≡ record { config = old.config; history = recorded_entries 0 calls answers; handed = 0 }

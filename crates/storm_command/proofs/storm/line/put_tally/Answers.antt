@@ -1,9 +1,0 @@
--- The lines of the seats, of the two numbers and of the worker that was held.
-use Rattle.std.proofs.Common.{arith}
-use Rattle.std.proofs.lemmas.Grind.{common_steps}
-use Rattle.storm_command.specs.StormLines.{tally_text}
-use Rattle.storm_command.proofs.storm.line.put_tally.Goals as goal
-
-pub returns : goal.returns
-unfolding tally_text
-returns g c = grind (arith, common_steps)

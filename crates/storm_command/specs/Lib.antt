@@ -1,2 +1,0 @@
-pub mod StormLines
-pub mod StormRun
