@@ -8,6 +8,8 @@ mod ranges;
 mod readers;
 
 pub use ranges::FieldRule;
+
+use crate::bursts::Bursts;
 use std::fmt;
 use std::marker::Model;
 use thiserror::Error;
@@ -15,12 +17,10 @@ use thiserror::Error;
 /// The configuration of one upstream channel, as it is handed in. Each limit is this profile's own.
 #[derive(Clone, Copy, Debug, PartialEq, Eq)]
 pub struct Config {
-    /// Ticks of 6.25 microseconds in a minislot: a power of two from 2 to 128.
+    /// Ticks of 6.25 microseconds in a minislot: a power of two from 1 to 128.
     pub ticks: u32,
-    /// Bytes that a minislot carries: 1 to 1024.
-    pub bytes_per_slot: u32,
-    /// Minislots of guard time and preamble in each burst: 1 to 64.
-    pub overhead: u32,
+    /// How many minislots a burst takes.
+    pub bursts: Bursts,
     /// Minislots that one MAP describes: 16 to 1024.
     pub frame: u32,
     /// Frames after which the places of periodic flows repeat: 1 to 64.
@@ -68,6 +68,7 @@ pub enum ConfigFault {
     Ticks,
     BytesPerSlot,
     Overhead,
+    Bursts,
     Frame,
     Cycle,
     ReqSlots,

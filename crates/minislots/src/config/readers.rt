@@ -2,9 +2,11 @@
 
 ghost use Rattle.std.specs.Prelude.{◌≡◌, ◌<◌, ◌≤◌, ◌+◌, ◌*◌, ◌%◌, ◌^◌};
 ghost use Rattle.minislots.specs.declared.TheConstants.{MAX_ASK};
+ghost use Rattle.minislots.specs.Bursts.{HasBursts, long_slots};
 ghost use Rattle.minislots.specs.Config.{IsLawful};
 
 use super::Checked;
+use crate::bursts::Bursts;
 
 impl Checked {
     /// The ticks of 6.25 microseconds in a minislot.
@@ -16,22 +18,13 @@ impl Checked {
         self.config.ticks
     }
 
-    /// The bytes that a minislot carries.
-    pub fn bytes_per_slot(&self) -> u32
-        ensures value { result ≡ self.now.bytes_per_slot }
+    /// How many minislots a burst takes.
+    pub fn bursts(&self) -> Bursts
+        ensures value { result ≡ self.now.bursts }
         ensures lawful { IsLawful self.now }
-        ensures positive { 0 < result }
+        ensures sound { HasBursts result }
     {
-        self.config.bytes_per_slot
-    }
-
-    /// The minislots of guard time and preamble in each burst.
-    pub fn overhead(&self) -> u32
-        ensures value { result ≡ self.now.overhead }
-        ensures lawful { IsLawful self.now }
-        ensures positive { 0 < result }
-    {
-        self.config.overhead
+        self.config.bursts
     }
 
     /// The minislots that one MAP describes.
@@ -58,7 +51,7 @@ impl Checked {
         ensures value { result ≡ self.now.req_slots }
         ensures lawful { IsLawful self.now }
         ensures positive { 0 < result }
-        ensures fits { result + self.now.overhead < self.now.frame }
+        ensures fits { result + long_slots self.now.bursts 1 ≤ self.now.frame }
     {
         self.config.req_slots
     }

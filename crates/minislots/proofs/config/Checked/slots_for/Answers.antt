@@ -1,0 +1,11 @@
+-- More bytes take no fewer minislots.
+use Rattle.std.proofs.Common.{◌≡◌}
+use Rattle.minislots.specs.Units.{slots_for}
+use Rattle.minislots.proofs.Bounds.{bounds_of}
+use Rattle.minislots.proofs.UnitLaws.{slots_for-rises}
+use Rattle.minislots.proofs.config.Checked.slots_for.Goals as goal
+
+pub returns-clause-rises : goal.returns-clause-rises
+returns-clause-rises c =
+    let is : c.slots.result ≡ slots_for c.args.self.now c.args.bytes = cc in
+    slots_for-rises c.args.self.now (bounds_of c.args.self.now c.bursts.ensures.lawful).bursts _ _ is
