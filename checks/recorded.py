@@ -4,6 +4,7 @@
 import contextlib
 import importlib.machinery
 import importlib.util
+import json
 import random
 import subprocess
 import tempfile
@@ -39,6 +40,9 @@ class Talk:
             self.calls.append(compact(call).encode() + b"\n")
             self.answers.append(line_of(drawing.plain.call(call)).encode() + b"\n")
         self.opening = compact({"config": self.config}).encode() + b"\n"
+        # the same, in another form
+        told = {**drawing.told, "calls": self.config["calls"]}
+        self.spelled = json.dumps({"config": told}).encode() + b"\n"
         entries = PLAIN_RUNS.as_written(drawing.plain.entries)
         self.lines = [self.opening, *(compact(entry).encode() + b"\n" for entry in entries)]
 

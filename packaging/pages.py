@@ -98,6 +98,7 @@ def blocks_of(header):
     """The comments of a header, each with the code behind it."""
     body = header[header.index('extern "C" {\n#endif\n') : header.index("#ifdef __cplusplus\n}")]
     body = body.partition("#endif\n")[2]
+    body = re.sub(r"^ */\* checks/tables: .*\n", "", body, flags=re.M)
     body = re.sub(r"^(static inline .*?) \{\n.*?^\}\n", r"\1;\n", body, flags=re.S | re.M)
     for block in body.strip("\n").split("\n\n"):
         found = re.match(r"/\*(.*?)\*/\n?", block, re.S)

@@ -346,6 +346,35 @@ static void opportunities(void) {
   WANT(mapsched_close(&scheduler) == MAPSCHED_OK);
 }
 
+/* Burst descriptors: where they are read, and one of unsolicited grants that is left out. */
+static void bursts(void) {
+#define PROFILE "{\"bits\":6,\"guard\":22,\"information\":232,\"parity\":9,\"preamble\":32,\"shortened\":1}"
+  static const char front[] = "{\"config\":{\"bursts\":{\"long\":" PROFILE ",\"short\":" PROFILE ",\"symbols\":64},";
+  static const struct mapsched_profile none, profile = {
+      .preamble = 32, .guard = 22, .bits = 6, .parity = 9, .information = 232, .shortened = 1};
+  struct mapsched_config config = lawful();
+  struct mapsched_scheduler scheduler = {0};
+  static uint8_t text[10000];
+  size_t length = 0;
+
+  config.bursts.symbols = 64;
+  config.bursts.short_data = config.bursts.long_data = profile;
+  config.bytes_per_slot = 0;
+  WANT(mapsched_check(&config) == MAPSCHED_BAD_CONFIG + 2);
+  config.has_bursts = 1;
+  WANT(mapsched_open(&scheduler, &config) == MAPSCHED_OK);
+  WANT(mapsched_opening(&scheduler, text, sizeof text, &length) == MAPSCHED_OK);
+  WANT(memcmp(text, front, sizeof front - 1) == 0 && mapsched_close(&scheduler) == MAPSCHED_OK);
+  config.has_bursts = UINT32_MAX;
+  WANT(mapsched_check(&config) == MAPSCHED_OK);
+  config.bursts.unsolicited.shortened = 1;
+  WANT(mapsched_check(&config) == MAPSCHED_BAD_CONFIG + 20 && strcmp(mapsched_status_text(120), "bursts") == 0);
+  config.bursts.unsolicited = profile;
+  WANT(mapsched_check(&config) == MAPSCHED_OK);
+  config.bursts.short_data = none;
+  WANT(mapsched_check(&config) == MAPSCHED_BAD_CONFIG + 20);
+}
+
 int main(void) {
   struct mapsched_config config = lawful(), wrong = lawful();
   struct mapsched_scheduler scheduler = {0};
@@ -479,5 +508,6 @@ int main(void) {
   turns();
   frames();
   opportunities();
+  bursts();
   return failures != 0;
 }

@@ -3,20 +3,59 @@ values."""
 
 from __future__ import annotations
 
-from dataclasses import asdict, dataclass, fields
-from typing import Any, Mapping, Union
+from dataclasses import dataclass, fields
+from typing import Any, Mapping, Optional, Union
 
-from .library import CallNumbers, ConfigNumbers, fill
+from .library import BurstsNumbers, CallNumbers, ConfigNumbers, fill
+
+
+@dataclass(frozen=True)
+class Profile:
+    """The burst descriptor of a usage."""
+
+    # checks/tables: profile begin
+    preamble: int
+    guard: int
+    bits: int
+    parity: int
+    information: int
+    shortened: int
+    # checks/tables: profile end
+
+
+@dataclass(frozen=True)
+class Bursts:
+    """The burst descriptors of a channel. Profiles may be mappings, and `unsolicited` is as `long` where it is None."""
+
+    # checks/tables: bursts begin
+    symbols: int
+    short: Profile
+    long: Profile
+    unsolicited: Optional[Profile] = None
+    # checks/tables: bursts end
+
+    def __post_init__(self) -> None:
+        for name in self._told():
+            _become(self, name, Profile)
+
+    def _told(self) -> list[str]:
+        return [name for name in _PROFILES if name != "unsolicited" or self.unsolicited is not None]
+
+    def numbers(self) -> BurstsNumbers:
+        """The struct for the library; ValueError where a value does not fit."""
+        numbers = fill(BurstsNumbers(), symbols=self.symbols)
+        for name in self._told():
+            fill(getattr(numbers, _PROFILES[name]), **_values(getattr(self, name)))
+        return numbers
 
 
 @dataclass(frozen=True)
 class Config:
-    """The configuration of a channel, with the names that a script has: `Config(**script["config"])`."""
+    """The configuration of a channel, with the names that a script has: `Config(**script["config"])`. Either `bursts`
+    is told, which may be a mapping, or `bytes_per_slot` and `overhead` are."""
 
     # checks/tables: fields begin
     ticks: int
-    bytes_per_slot: int
-    overhead: int
     frame: int
     cycle: int
     req_slots: int
@@ -35,11 +74,36 @@ class Config:
     channel: int
     ucd_count: int
     phy: int = 0
+    bytes_per_slot: Optional[int] = None
+    overhead: Optional[int] = None
+    bursts: Optional[Bursts] = None
     # checks/tables: fields end
+
+    def __post_init__(self) -> None:
+        if self.bursts is not None:
+            _become(self, "bursts", Bursts)
 
     def numbers(self) -> ConfigNumbers:
         """The struct for the library; ValueError where a value does not fit."""
-        return fill(ConfigNumbers(), **asdict(self))
+        values = _values(self)
+        bursts = values.pop("bursts")
+        if bursts is None:
+            return fill(ConfigNumbers(), **values)
+        values = {name: value for name, value in values.items() if name not in _NOT_WITH_BURSTS}
+        numbers = fill(ConfigNumbers(), has_bursts=1, **values)
+        numbers.bursts = bursts.numbers()
+        return numbers
+
+
+def _become(value: object, name: str, kind: type) -> None:
+    """Makes a member of a value that is being made one of this kind, from a mapping too, whose other keys are passed
+    over; TypeError where it is none."""
+    member = getattr(value, name)
+    if isinstance(member, Mapping):
+        told = {it.name: member[it.name] for it in fields(kind) if it.name in member}
+        object.__setattr__(value, name, kind(**told))
+    elif not isinstance(member, kind):
+        raise TypeError(f"{name} is {member!r}")
 
 
 # checks/tables: flows and calls begin
@@ -163,6 +227,9 @@ _FLOWS = {"unsolicited": Unsolicited, "polled": Polled, "best_effort": BestEffor
 _USAGES = ["initial", "station"]
 # The members that the struct has as `minislot`.
 _MINISLOTS = {"heard", "upto", "now"}
+# The fields that are not read where there are burst descriptors, and what the struct has for profiles.
+_NOT_WITH_BURSTS = {"bytes_per_slot", "overhead"}
+_PROFILES = {"short": "short_data", "long": "long_data", "unsolicited": "unsolicited"}
 # checks/tables: names end
 _CALL_TYPES, _FLOW_TYPES = list(_CALLS.values()), list(_FLOWS.values())
 

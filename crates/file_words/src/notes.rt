@@ -120,7 +120,9 @@ impl Notes {
                 self.tell_refused(place, member, written)
             }
             (Some(written), _) => tell_value(&mut self.here, place, key, holds, written),
-            (None, Missing::Fault) => writeln!(self.here, "{place}: \"{key}\" is missing"),
+            (None, Missing::Fault | Missing::UnlessBursts) => {
+                writeln!(self.here, "{place}: \"{key}\" is missing")
+            }
             (None, _) => Ok(()),
         }
     }

@@ -17,7 +17,7 @@ impl Notes {
             Sort::Call => self.calls.add(name),
             Sort::Flow => self.flows.add(name),
             Sort::Reply => self.replies.add(name),
-            Sort::Document(_) | Sort::Config | Sort::Entry => {}
+            Sort::Document(_) | Sort::Config | Sort::Bursts | Sort::Profile | Sort::Entry => {}
         }
     }
 
@@ -83,6 +83,48 @@ impl Notes {
         }
     }
 
+    // What is wrong with the members of an object, and the keys in it that nobody reads.
+    fn tell_form(
+        &mut self,
+        place: Place,
+        members: &[Member],
+        parts: &[Part],
+    ) -> Result<(), AllocError> {
+        self.tell_members(place, members, parts)?;
+        self.tell_keys(place, members, parts, true)
+    }
+
+    // The same of a configuration in which burst descriptors stand: nobody reads the members in whose place they stand.
+    fn tell_described(
+        &mut self,
+        place: Place,
+        form: &'static Form,
+        parts: &[Part],
+    ) -> Result<(), AllocError> {
+        let mut members = Vec::new(self.alloc);
+        for member in form.1 {
+            if !matches!(member.2, Missing::UnlessBursts) {
+                members.push(*member)?;
+            }
+        }
+        self.tell_form(place, &members, parts)
+    }
+
+    // The same of an object of a sort.
+    fn tell_own(
+        &mut self,
+        place: Place,
+        sort: Sort,
+        form: &'static Form,
+        parts: &[Part],
+    ) -> Result<(), AllocError> {
+        if matches!(sort, Sort::Config) && find(self.alloc, parts, "bursts")?.0.is_some() {
+            return self.tell_described(place, form, parts);
+        }
+        let members = self.members_of(sort, form, parts)?;
+        self.tell_form(place, members, parts)
+    }
+
     /// What is wrong with an object of a sort and with the objects in it, so many deep.
     pub fn tell_object(
         &mut self,
@@ -94,10 +136,8 @@ impl Notes {
         let Some(form) = self.form_of(place, sort, parts)? else {
             return Ok(());
         };
-        let members = self.members_of(sort, form, parts)?;
-        self.tell_members(place, members, parts)?;
-        self.tell_keys(place, members, parts, true)?;
-        for member in members {
+        self.tell_own(place, sort, form, parts)?;
+        for member in form.1 {
             let Some((key, inner)) = object_in(*member) else {
                 continue;
             };

@@ -1,8 +1,8 @@
 //! The forms of each sort of object.
 
 use json_fields::forms::{
-    CALLS, CONFIGS, ENTRIES, FLOWS, Form, HISTORIES, Holds, Kind, LIST_OF_CALLS, LIST_OF_ENTRIES,
-    LIST_OF_SCRIPTS, Member, Missing, REPLIES, SCRIPTS, STORMS, Sort,
+    BURSTS, CALLS, CONFIGS, ENTRIES, FLOWS, Form, HISTORIES, Holds, Kind, LIST_OF_CALLS,
+    LIST_OF_ENTRIES, LIST_OF_SCRIPTS, Member, Missing, PROFILES, REPLIES, SCRIPTS, STORMS, Sort,
 };
 
 /// The members of a Reserve for all modems. An SID beside them is a key that nobody reads.
@@ -19,6 +19,8 @@ pub fn forms_of(sort: Sort) -> &'static [Form] {
         Sort::Document(Kind::Storm) => &STORMS,
         Sort::Document(Kind::History) => &HISTORIES,
         Sort::Config => &CONFIGS,
+        Sort::Bursts => &BURSTS,
+        Sort::Profile => &PROFILES,
         Sort::Entry => &ENTRIES,
         Sort::Call => &CALLS,
         Sort::Flow => &FLOWS,
@@ -40,7 +42,7 @@ pub fn name_key(sort: Sort) -> Option<&'static str> {
     match sort {
         Sort::Call => Some("call"),
         Sort::Flow | Sort::Reply => Some("kind"),
-        Sort::Document(_) | Sort::Config | Sort::Entry => None,
+        Sort::Document(_) | Sort::Config | Sort::Bursts | Sort::Profile | Sort::Entry => None,
     }
 }
 

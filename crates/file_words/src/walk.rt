@@ -8,8 +8,8 @@ use json_fields::forms::{Holds, Kind, Member, Sort};
 use std::alloc::AllocError;
 use std::fmt::Write;
 
-/// How deep objects stand in an object: a flow in the call of an entry.
-const DEPTH: usize = 2;
+/// How deep objects stand in an object: a burst descriptor among those in the configuration of a document.
+const DEPTH: usize = 3;
 
 // Whether a refusal has this number, with this value or none.
 fn is_refusal(number: u64, value: Option<u64>) -> bool {
@@ -152,12 +152,7 @@ impl Notes {
                 "document: a script has \"calls\", that of a storm \"scripts\", a history \"entries\"\n",
             )?;
         }
-        self.tell_object(
-            Place::outer("document"),
-            Sort::Document(kind),
-            document,
-            DEPTH,
-        )?;
+        self.tell_object(Place::document(), Sort::Document(kind), document, DEPTH)?;
         self.faulty.words.push_str(&self.here)?;
         self.here.clear();
         Ok(())
@@ -173,7 +168,7 @@ impl Notes {
 
     /// What is wrong with the document of a file of this kind, and how many scripts a storm has.
     pub fn tell_document(&mut self, kind: Kind, written: &[u8]) -> Result<usize, AllocError> {
-        let Some(document) = self.object(Place::outer("document"), written)? else {
+        let Some(document) = self.object(Place::document(), written)? else {
             self.faulty.words.push_str(&self.here)?;
             return Ok(0);
         };

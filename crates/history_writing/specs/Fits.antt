@@ -1,6 +1,9 @@
 -- Histories whose numbers fit the types of their fields.
 use Rattle.std.specs.Prelude.{◌<◌, ◌^◌, ℕ, Option, Some, None}
 use Rattle.std.specs.List.{AllByRecursion}
+use Rattle.minislots.specs.declared.bursts.Bursts.{Bursts}
+use Rattle.minislots.specs.declared.bursts.Bursts.TheVariants.{Uniform, Described}
+use Rattle.minislots.specs.declared.bursts.Profile.{Profile}
 use Rattle.minislots.specs.declared.config.Config.{Config}
 use Rattle.map_codec.specs.WireMap.{IsWellFormed}
 use Rattle.sched_calls.specs.declared.spec.FlowSpec.{FlowSpec}
@@ -39,11 +42,25 @@ CallFits (Reserve (Station sid) slots) = (sid < 2 ^ 16) × (slots < 2 ^ 32)
 CallFits (Header header) = (header.ucd_count < 2 ^ 8) × (header.ranging_start < 2 ^ 8)
     × (header.ranging_end < 2 ^ 8) × (header.data_start < 2 ^ 8) × (header.data_end < 2 ^ 8)
 
+-- the numbers of a burst descriptor fit their type
+pub record ProfileFits (p : Profile) : Type 0 where
+  pub preamble : p.preamble < 2 ^ 32
+  pub guard : p.guard < 2 ^ 32
+  pub bits : p.bits < 2 ^ 32
+  pub parity : p.parity < 2 ^ 32
+  pub information : p.information < 2 ^ 32
+  pub shortened : p.shortened < 2 ^ 32
+
+-- the numbers of a channel's bursts fit their type
+abbrev pub BurstsFit : Bursts → Type 0
+BurstsFit (Uniform bytes_per_slot overhead) = (bytes_per_slot < 2 ^ 32) × (overhead < 2 ^ 32)
+BurstsFit (Described d) =
+    (d.symbols < 2 ^ 32) × ProfileFits d.short × ProfileFits d.long × ProfileFits d.unsolicited
+
 -- the numbers of a configuration fit their types
 pub record ConfigFits (c : Config) : Type 0 where
   pub ticks : c.ticks < 2 ^ 32
-  pub bytes_per_slot : c.bytes_per_slot < 2 ^ 32
-  pub overhead : c.overhead < 2 ^ 32
+  pub bursts : BurstsFit c.bursts
   pub frame : c.frame < 2 ^ 32
   pub cycle : c.cycle < 2 ^ 32
   pub req_slots : c.req_slots < 2 ^ 32

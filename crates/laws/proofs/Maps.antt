@@ -110,7 +110,7 @@ module _ (c : Config) (bounds : HasBounds c) (d : Demand) where
   bytes-kind : (before : List Allocation) (a : Allocation) (offset : ℕ) (purpose : Purpose) → a.purpose ≡ purpose
       → IsOfClass c d before offset a.slots purpose → bytes_in c a < 2 ^ 32
   bytes-kind before a offset (Poll sid) is stands = rw is (omega arith)
-  bytes-kind before a offset (UnsolicitedGrant sid) is stands = rw is (omega arith)
+  bytes-kind before a offset (UnsolicitedGrant sid size) is stands = rw is (omega arith)
   bytes-kind before a offset (Offer place usage) is stands = rw is (omega arith)
   bytes-kind before a offset (DataGrant sid bytes) is stands =
       rw is (omega (arith, stands.4.allowed.capped, bounds.cap_most))

@@ -87,7 +87,7 @@ impl Draft {
         ensures { OnOk result (PutsAllocation allocation self.old self.new) }
     {
         let Allocation { slots, purpose, .. } = allocation;
-        let kind = purpose.kind(self.book.config(), slots);
+        let kind = purpose.kind(self.book.config());
         self.put_slots(kind.sid, kind.iuc, slots, kind.bytes)
     }
 

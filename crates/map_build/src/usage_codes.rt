@@ -35,24 +35,24 @@ pub(crate) fn long_iuc(config: &Checked) -> u8
     }
 }
 
-/// The usage code of a data grant of so many minislots.
-pub(crate) fn data_iuc(config: &Checked, slots: u64) -> u8
-    ensures { result ≡ data_iuc config.now slots }
+/// The usage code of a data grant of so many bytes.
+pub(crate) fn data_iuc(config: &Checked, bytes: u32) -> u8
+    ensures { result ≡ data_iuc config.now bytes }
 {
-    if slots <= u64::from(config.short_max()) {
+    if config.is_short(bytes) {
         short_iuc(config)
     } else {
         long_iuc(config)
     }
 }
 
-/// The usage code of an unsolicited grant of so many minislots.
-pub(crate) fn unsolicited_iuc(config: &Checked, slots: u64) -> u8
-    ensures { result ≡ unsolicited_iuc config.now slots }
+/// The usage code of an unsolicited grant of so many bytes.
+pub(crate) fn unsolicited_iuc(config: &Checked, bytes: u32) -> u8
+    ensures { result ≡ unsolicited_iuc config.now bytes }
 {
     if is_advanced(config) {
         iuc::ADVANCED_UNSOLICITED_GRANT
     } else {
-        data_iuc(config, slots)
+        data_iuc(config, bytes)
     }
 }

@@ -61,6 +61,7 @@ sound_profile p h = record {
   bits_most = grind (arith, nat_tests);
   parity_most = grind (arith, nat_tests);
   information_least = grind (arith, nat_tests);
+  information_most = grind (arith, nat_tests);
   codeword_most = grind (arith, nat_tests);
   shortened_most = grind (arith, nat_tests);
 }

@@ -37,7 +37,7 @@ first_digits : (q c b r y : ℕ) → r ≤ b → y < b → (q ≡ c → r ≤ y)
 first_digits q c b r y most below same le = elim (cases_lt q c) [
   | inl less ↦ omega (arith, one_more q c b less)
   | inr not_less ↦
-    let one : q ≡ c = omega arith in omega (arith, same one, ap (λ n. n * b) one)
+      let one : q ≡ c = omega arith in omega (arith, same one, ap (λ n. n * b) one)
 ]
 
 -- and a number that is no greater has no greater first digit
@@ -199,20 +199,19 @@ module _ (p : Profile) (sound : IsSound p) where
     by_profile-positive bytes some = elim (cases_lt 0 (rounded_up (symbols_of p bytes) symbols)) [
       | inl positive ↦ positive
       | inr none ↦
-        let all = rounded_up-holds (symbols_of p bytes) symbols 0 positive none in
-        let held = rounded_up-holds (8 * coded p bytes) p.bits 0 (omega arith) (omega (arith, all)) in
-        absurd (omega (arith, held, coded-least bytes))
+          let all = rounded_up-holds (symbols_of p bytes) symbols 0 positive none in
+          let held = rounded_up-holds (8 * coded p bytes) p.bits 0 (omega arith) (omega (arith, all)) in
+          absurd (omega (arith, held, coded-least bytes))
     ]
 
     -- more bytes take no fewer minislots
     pub by_profile-rises : (fewer bytes : ℕ) → fewer ≤ bytes → slots_by symbols p fewer ≤ slots_by symbols p bytes
     by_profile-rises fewer bytes le = elim (cases_lt 0 fewer) [
       | inl some ↦
-        let all = (by_profile (slots_by symbols p bytes) bytes (omega arith)).0 (omega arith) in
-        (by_profile (slots_by symbols p bytes) fewer some).1 (omega (arith, all))
+          let all = (by_profile (slots_by symbols p bytes) bytes (omega arith)).0 (omega arith) in
+          (by_profile (slots_by symbols p bytes) fewer some).1 (omega (arith, all))
       | inr none ↦ let zero_is : fewer ≡ 0 = omega arith in rw zero_is (by_none bytes)
     ]
-
 
 -- a minislot that carries the same bytes in each burst: so many take at most so many minislots
 uniform-forth : (b o : ℕ) → 0 < b → (bytes slots : ℕ) → uniform_slots b o bytes ≤ slots

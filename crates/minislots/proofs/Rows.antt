@@ -76,9 +76,9 @@ the_longest_short_burst : (is_short described 211 ≡ true) × (slots_for descri
 unfolding slots_by
 the_longest_short_burst = (refl, refl)
 
-the_shortest_long_burst : (is_short described 212 ≡ false) × (slots_for described 212 ≡ 6)
+the_next_burst_is_long : (is_short described 212 ≡ false) × (slots_for described 212 ≡ 6)
 unfolding slots_by
-the_shortest_long_burst = (refl, refl)
+the_next_burst_is_long = (refl, refl)
 
 coded_of_1526_bytes : (coded long_qam64 1526 ≡ 1652) × (symbols_of long_qam64 1526 ≡ 2257)
 coded_of_1526_bytes = (refl, refl)
@@ -114,8 +114,14 @@ unfolding bytes_by
 bytes_in_6_and_36_slots = (refl, refl)
 
 codewords_of_16_information_bytes_at_least :
-    first_wrong (record described { bursts = Described (record { symbols = 64;
-    short = record short_qam64 { information = 15 }; long = long_qam64; unsolicited = long_qam64 }) }) ≡ Some Bursts
+    first_wrong (record described {
+      bursts = Described (record {
+        symbols = 64;
+        short = record short_qam64 { information = 15 };
+        long = long_qam64;
+        unsolicited = long_qam64;
+      });
+    }) ≡ Some Bursts
 unfolding first_wrong
 codewords_of_16_information_bytes_at_least = refl
 

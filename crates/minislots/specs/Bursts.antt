@@ -26,14 +26,14 @@ parity_bytes p = 2 * p.parity
 abbrev pub codeword : Profile → ℕ
 codeword p = p.information + parity_bytes p
 
--- the bytes of the last codeword where so many information bytes are left for it: none where none is, those and the
--- parity where the profile shortens it, else a full codeword
+-- the bytes of the last codeword where so many information bytes are left for it: none where none is; where the profile
+-- shortens it those, filled up to the fewest, and the parity; else a full codeword
 abbrev pub last_codeword : Profile → ℕ → ℕ
 last_codeword p left =
     if left == 0 then 0
     else if p.shortened == 1 then max left least_information + parity_bytes p else codeword p
 
--- the bytes of a burst with their parity: full codewords, and the last one
+-- the bytes of a burst with their parity: full codewords and the last one, or the bytes alone where there is no FEC
 abbrev pub coded : Profile → ℕ → ℕ
 coded p bytes =
     if p.parity == 0 then bytes
@@ -51,10 +51,11 @@ slots_by symbols p bytes = rounded_up (symbols_of p bytes) symbols
 abbrev pub room_for : ℕ → Profile → ℕ → ℕ
 room_for symbols p slots = p.bits * (slots * symbols - (p.preamble + p.guard)) / 8
 
--- the information bytes of a last codeword of at most so many bytes
+-- the information bytes of a last codeword that has room for at most so many bytes, fewer than a full one: none where
+-- it is not shortened, or the room is below the shortest
 abbrev pub last_information : Profile → ℕ → ℕ
-last_information p left =
-    if p.shortened == 1 && nat_le (least_information + parity_bytes p) left then left - parity_bytes p else 0
+last_information p room =
+    if p.shortened == 1 && nat_le (least_information + parity_bytes p) room then room - parity_bytes p else 0
 
 -- the most bytes whose codewords have at most so many bytes together
 abbrev pub information_in : Profile → ℕ → ℕ
@@ -134,6 +135,7 @@ pub record IsSound (p : Profile) : Type 0 where
   pub bits_most : p.bits ≤ 8
   pub parity_most : p.parity ≤ 16
   pub information_least : least_information ≤ p.information
+  pub information_most : p.information ≤ 253
   pub codeword_most : codeword p ≤ 255
   pub shortened_most : p.shortened ≤ 1
 

@@ -138,17 +138,20 @@ impl Profile {
         ensures small { result < 2 ^ 46 }
     {
         let sent = rounded_up(8 * self.coded(bytes), self.bits);
-        rounded_up(u64::from(self.preamble) + sent + u64::from(self.guard), symbols)
+        rounded_up(
+            u64::from(self.preamble) + sent + u64::from(self.guard),
+            symbols,
+        )
     }
 
-    // The information bytes of a last codeword of at most so many bytes.
-    fn last_information(&self, left: u64) -> u64
+    // The information bytes of a last codeword that has room for at most so many bytes.
+    fn last_information(&self, room: u64) -> u64
         requires { IsSound self.now }
-        ensures { result ≡ last_information self.now left }
+        ensures { result ≡ last_information self.now room }
     {
         let parity = u64::from(self.parity_bytes());
-        if self.shortened == 1 && u64::from(LEAST_INFORMATION) + parity <= left {
-            left - parity
+        if self.shortened == 1 && u64::from(LEAST_INFORMATION) + parity <= room {
+            room - parity
         } else {
             0
         }

@@ -7,9 +7,8 @@ mod fields;
 mod ranges;
 mod readers;
 
-pub use ranges::FieldRule;
-
 use crate::bursts::Bursts;
+pub use ranges::FieldRule;
 use std::fmt;
 use std::marker::Model;
 use thiserror::Error;

@@ -1,6 +1,6 @@
 //! Times and bursts in minislots.
 
-ghost use Rattle.std.specs.Prelude.{◌≡◌, ℕ, ◌<◌, ◌≤◌, ◌*◌};
+ghost use Rattle.std.specs.Prelude.{◌≡◌, ℕ, ◌<◌, ◌≤◌, ◌*◌, ◌^◌};
 ghost use Rattle.minislots.specs.Bursts.{IsCapacity};
 ghost use Rattle.minislots.specs.Units.{slots_floor, slots_of_micros, slots_for, bytes_in, wire_of};
 ghost use Rattle.minislots.specs.Units.{is_short, slots_for_unsolicited};
@@ -32,6 +32,7 @@ impl Checked {
     pub fn slots_for(&self, bytes: u32) -> u64
         ensures value { result ≡ slots_for self.now bytes }
         ensures rises { (fewer : ℕ) → fewer ≤ bytes → slots_for self.now fewer ≤ result }
+        ensures small { result < 2 ^ 46 }
     {
         self.bursts().slots(self.short_max(), bytes)
     }

@@ -41,7 +41,7 @@ impl Config {
     pub fn range_of(&self, field: ConfigFault) -> Option<(u64, u64)>
         ensures exact { first_wrong_of self.now (fields_before field) ≡ None → IfSome result
             (λ range. (n : ℕ) → is_lawful_field (with_value self.now field n) field
-                ≡ (meets (rule_of field) self.now n && is_within range.0 range.1 n)) }
+            ≡ (meets (rule_of field) self.now n && is_within range.0 range.1 n)) }
         ensures number { is_some result ≡ is_number self.now field }
     {
         let frame = u64::from(self.frame);

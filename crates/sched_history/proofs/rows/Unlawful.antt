@@ -1,7 +1,7 @@
 -- Worked examples of entries that may not stand in a history.
-use Rattle.std.proofs.Common.{◌≡◌, ℕ, [], ◌∷◌, refl, ap, ◌∙◌, lit<, arith}
+use Rattle.std.proofs.Common.{◌≡◌, ℕ, [], ◌∷◌, refl, ap, ◌∙◌, arith}
 use Rattle.std.specs.Prelude.{slice_index}
-use Rattle.sched_calls.proofs.Base.{base}
+use Rattle.sched_calls.proofs.Base.{base, the_base_has_bursts}
 use Rattle.sched_calls.specs.declared.frame_map.FrameMap.{FrameMap}
 use Rattle.sched_calls.specs.Header.{header_of}
 use Rattle.map_build.specs.Plan.{demand_at}
@@ -29,7 +29,7 @@ late_ack = record first_map { ack = 801 }
 pub the_first_map_is_one : (m : FrameMap) → IsStep base [] (Build 760) (Built m) → m ≡ first_map
 the_first_map_is_one m (other, next, e) =
     let same : m ≡ other = cc in
-    same ∙ one_map base (demand_at [] [] [] 800) (lit< tt) BeginApart-nil (header_of base) 800 other first_map
+    same ∙ one_map base (demand_at [] [] [] 800) the_base_has_bursts BeginApart-nil (header_of base) 800 other first_map
     (lawful-from_IsNextMap base [] [] [] other (flows_of-none [] (λ sid. refl)) (table_of-none [] (λ sid. refl)) next)
     a_frame_without_flows
 
