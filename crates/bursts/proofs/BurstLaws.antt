@@ -1,18 +1,17 @@
 -- So many bytes take at most so many minislots exactly where they are no more than those carry.
-use Rattle.std.proofs.Common.{◌≡◌, refl, ℕ, ◌+◌, ◌-◌, ◌*◌, ◌/◌, ◌%◌, ◌<◌, ◌≤◌, ◌==◌, min, max, cond, ◌&&◌, nat_le, ◌↔◌}
-use Rattle.std.proofs.Common.{Bool, true, false, inl, inr, arith, ap, sym, ◌∙◌, ◌⊎◌, lit<, zero, suc, if◌then◌else◌}
+use Rattle.std.proofs.Common.{◌≡◌, ℕ, ◌+◌, ◌-◌, ◌*◌, ◌/◌, ◌%◌, ◌<◌, ◌≤◌, ◌==◌, min, max, ◌&&◌, nat_le, ◌↔◌}
+use Rattle.std.proofs.Common.{Bool, true, false, inl, inr, arith, ap, lit<, zero, suc, if◌then◌else◌}
 use Rattle.std.proofs.lemmas.Bool.{cases_lt, cases_Bool}
 use Rattle.std.proofs.lemmas.Bool.Decides.{nat_tests}
 use Rattle.std.proofs.Math.Nat.{mul_comm}
 use Rattle.std.proofs.lemmas.Nat.{le-div, mul-le, div-add-mod', mod_below}
 use Rattle.bursts.specs.declared.Bursts.{Bursts}
 use Rattle.bursts.specs.declared.Bursts.TheVariants.{Uniform, Described}
-use Rattle.bursts.specs.declared.descriptor.Descriptors.{Descriptors}
 use Rattle.bursts.specs.declared.descriptor.Profile.{Profile}
-use Rattle.bursts.specs.Bursts.{rounded_up, least_information, parity_bytes, codeword, last_codeword, coded}
+use Rattle.bursts.specs.Bursts.{rounded_up, codeword, last_codeword, coded}
 use Rattle.bursts.specs.Bursts.{symbols_of, slots_by, room_for, last_information, information_in, bytes_by}
-use Rattle.bursts.specs.Bursts.{uniform_slots, uniform_bytes, length_of, capacity_of, IsSound, AreSound}
-use Rattle.bursts.specs.Bursts.{IsUniform, HasBursts, IsCapacity, long_slots, unsolicited_slots}
+use Rattle.bursts.specs.Bursts.{uniform_slots, uniform_bytes, length_of, capacity_of, IsSound}
+use Rattle.bursts.specs.Bursts.{HasBursts, IsCapacity, long_slots, unsolicited_slots}
 
 -- the rounded quotient is enough
 rounded_up-enough : (n b : ℕ) → 0 < b → n ≤ rounded_up n b * b

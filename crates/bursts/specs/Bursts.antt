@@ -1,6 +1,6 @@
 -- Bursts: the minislots that so many bytes take on the wire, and the bytes that so many minislots carry.
-use Rattle.std.specs.Prelude.{ℕ, ◌<◌, ◌≤◌, ◌+◌, ◌-◌, ◌*◌, ◌/◌, ◌%◌, ◌↔◌, min, max, Bool, true, false, ◌&&◌, nat_le, ◌==◌}
-use Rattle.std.specs.Prelude.{if◌then◌else◌}
+use Rattle.std.specs.Prelude.{ℕ, ◌<◌, ◌≤◌, ◌+◌, ◌-◌, ◌*◌, ◌/◌, ◌%◌, ◌↔◌, min, max}
+use Rattle.std.specs.Prelude.{Bool, true, false, ◌&&◌, nat_le, ◌==◌, if◌then◌else◌}
 use Rattle.bursts.specs.declared.Bursts.{Bursts}
 use Rattle.bursts.specs.declared.Bursts.TheVariants.{Uniform, Described}
 use Rattle.bursts.specs.declared.descriptor.Descriptors.{Descriptors}

@@ -1,5 +1,5 @@
-//! The burst descriptors of a channel's UCD: modulation, preamble, guard time, and Reed-Solomon codewords with a shortened
-//! last one.
+//! The burst descriptors of a channel's UCD: modulation, preamble, guard time, and Reed-Solomon codewords, of which the
+//! last one may be shortened.
 
 ghost use Rattle.std.specs.Prelude.{◌≡◌, ◌≤◌, ◌<◌, ◌^◌};
 ghost use Rattle.bursts.specs.Bursts.{are_descriptors, is_profile, is_within, length_of, capacity_of, serves_short};

@@ -1,5 +1,5 @@
 -- So many bytes, and no more, are carried.
-use Rattle.std.proofs.Common.{◌≡◌, ap, sym, ◌∙◌}
+use Rattle.std.proofs.Common.{ap, sym, ◌∙◌}
 use Rattle.bursts.specs.Bursts.{capacity_of}
 use Rattle.bursts.proofs.BurstLaws.{carries}
 use Rattle.bursts.proofs.Bursts.bytes.Goals as goal

@@ -1,5 +1,5 @@
 -- More bytes take no fewer minislots.
-use Rattle.std.proofs.Common.{◌≡◌, ap, sym, ◌∙◌}
+use Rattle.std.proofs.Common.{ap, sym, ◌∙◌}
 use Rattle.bursts.specs.Bursts.{length_of}
 use Rattle.bursts.proofs.BurstLaws.{rises-to}
 use Rattle.bursts.proofs.Bursts.slots.Goals as goal
