@@ -1,8 +1,9 @@
 /*
  * What calls of the library cost; checks/cost_from_c reads what it prints. `calls`: a hundred thousand drawn calls,
  * each where those before it are answered: the nanoseconds of a call by processor time, the middle of five runs, how
- * many were refused, and how many bytes the MAPs have. `no place`, `full build` and `build beside reserves`: the
- * microseconds of the costliest admission and of the costliest builds, without opportunities and with the most.
+ * many were refused, and how many bytes the MAPs have. `no place`, `full build`, `build beside reserves` and `build by
+ * profiles`: the microseconds of the costliest admission and of the costliest builds, without opportunities, with the
+ * most, and where bursts are sent by descriptors.
  * `longest`: of a million drawn calls the eight that took longest by the clock, and the eight by processor time.
  */
 #include "drawn_calls.h"
@@ -129,11 +130,12 @@ static void fill(struct mapsched_scheduler *scheduler) {
 }
 
 /* A build with 93 allocations that are opportunities, so many, and data grants, 40 polls and 64 pending grants. */
-static double time_build(int opportunities) {
+static double time_build(int opportunities, uint32_t has_bursts) {
   struct mapsched_config of = wide();
   struct mapsched_scheduler scheduler;
   struct mapsched_reply reply;
   struct mapsched_call build = {.kind = MAPSCHED_BUILD, .minislot = 103424};
+  of.has_bursts = has_bursts;
   open(&scheduler, &of);
   fill(&scheduler);
   for (int i = 0; i < opportunities; i++) {
@@ -205,19 +207,21 @@ static void time_each(void) {
 }
 
 int main(void) {
-  double script[RUNS], admissions[RUNS], builds[RUNS], beside[RUNS];
+  double script[RUNS], admissions[RUNS], builds[RUNS], beside[RUNS], by_profiles[RUNS];
   unsigned long refused, bytes;
   draw();
   for (int run = 0; run < RUNS; run++) {
     script[run] = time_calls(&refused, &bytes);
     admissions[run] = time_admission();
-    builds[run] = time_build(0);
-    beside[run] = time_build(16);
+    builds[run] = time_build(0, 0);
+    beside[run] = time_build(16, 0);
+    by_profiles[run] = time_build(0, 1);
   }
   printf("calls: %.0f nanoseconds each, %lu refused, %lu bytes\n", middle(script) / CALLS, refused, bytes);
   printf("no place: %.1f microseconds\n", middle(admissions) / 1000);
   printf("full build: %.1f microseconds\n", middle(builds) / 1000);
   printf("build beside reserves: %.1f microseconds\n", middle(beside) / 1000);
+  printf("build by profiles: %.1f microseconds\n", middle(by_profiles) / 1000);
   time_each();
   return 0;
 }

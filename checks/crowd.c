@@ -52,6 +52,9 @@ static struct mapsched_call call_at(const struct work *mine, int number) {
   if (number % 4 == 0) return (struct mapsched_call){.kind = MAPSCHED_BUILD, .minislot = mine->next - 40};
   if (number % 4 == 1) return (struct mapsched_call){.kind = MAPSCHED_STATUS, .sid = mine->sid};
   if (number % 4 == 2) return (struct mapsched_call){.kind = MAPSCHED_HEARD, .minislot = mine->next - 40};
+  if (number % 8 == 3)
+    return (struct mapsched_call){.kind = MAPSCHED_ASK, .sid = mine->sid, .has_slots = 1,
+      .slots = (uint32_t)number % 11, .minislot = mine->next};
   return (struct mapsched_call){
     .kind = MAPSCHED_ASK, .sid = mine->sid, .bytes = 100 + (uint32_t)number, .minislot = mine->next};
 }
@@ -91,7 +94,8 @@ static int is_call(const struct mapsched_call *a, const struct mapsched_call *b)
   return a->kind == b->kind && a->flow == b->flow && a->size == b->size && a->interval_us == b->interval_us &&
          a->jitter_us == b->jitter_us && a->rate == b->rate && a->burst == b->burst && a->bytes == b->bytes &&
          a->minislot == b->minislot && a->sid == b->sid && a->receiver == b->receiver && a->priority == b->priority &&
-         a->grants == b->grants && a->data_start == b->data_start && a->data_end == b->data_end;
+         a->grants == b->grants && a->data_start == b->data_start && a->data_end == b->data_end &&
+         a->has_slots == b->has_slots;
 }
 
 /* Whether two replies are the same. */

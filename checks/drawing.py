@@ -1,7 +1,16 @@
 """Scripts that are drawn call by call, where the plain scheduler (plain.py) stands, so that they meet what a run can
-meet; and the text of their histories."""
+meet; and the text of their histories. A third of the channels have burst profiles (drawn_bursts.py)."""
 
+from drawn_bursts import profile, with_bursts
 from plain import HEADING, LAST_CLOCK, MOST_BYTES, Scheduler, line_of
+from texts import PROFILES, completed
+
+
+def shuffled(draw, members):
+    """An object with its members in any order."""
+    names = [*members]
+    draw.shuffle(names)
+    return {name: members[name] for name in names}
 
 
 class Drawing:
@@ -12,18 +21,54 @@ class Drawing:
     def __init__(self, random_numbers):
         self.draw = random_numbers
         self.config = self.drawn_config()
+        self.told = self.spelled()
         self.plain = Scheduler(self.config)
         self.sids = [self.draw.randint(1, 8191) for _ in range(self.draw.choice([3, 12, 12, 100]))]
         self.admissions, self.builds = self.draw.choice([4, 4, 60]), self.draw.choice([6, 6, 6, 60])
         kinds = ["best_effort", "polled", "unsolicited"]
         self.kinds = self.draw.choice([kinds, kinds + kinds[:1] * 6, kinds[1:], kinds[2:]])
         self.ranging = self.draw.choice([[], ["reserve"] * 3 + ["header"], ["reserve"] * 24 + ["header"]])
-        self.sizes = self.draw.choice([[0, 1, 20, 60, 60, 200, 200, 5000], [1, 1, 8]])
+        edges = self.edges()
+        self.counts = [1, 64, 100, 544, 1522, 3000, 9000, 100000, MOST_BYTES, *edges]
+        self.sizes = self.draw.choice([[0, 1, 20, 60, 60, 200, 200, 5000], [1, 1, 8], [*edges, 20]])
         room = self.config["frame"] - self.config["req_slots"]
+        self.asked = self.asked_minislots(room)
         self.lengths = self.draw.choice([[1, 2, 4, 4, 8, room // 3, room - 1, room, room, room + 1, 0, 2**32 - 1],
                                          [1, 1, 1, 2], [3, 4, 6, 10]])
 
+    def edges(self):
+        """Two numbers of bytes at which a burst gets longer or is sent by another profile, each with the next one."""
+        sent = [(self.plain.bursts.length(it), self.plain.bursts.usage(it)) for it in range(1600)]
+        last = [it for it in range(1, 1599) if sent[it] != sent[it + 1]]
+        return [it + more for it in self.draw.sample(last, min(2, len(last))) for more in (0, 1)]
+
+    def asked_minislots(self, room):
+        """Numbers of minislots that a request asks for: mostly such as carry some bytes, beside those that carry none,
+        the last that do not carry too many, and the first that do."""
+        length = self.plain.bursts.length
+        least, most = length(1), length(MOST_BYTES + 1) - 1
+        edges = [least, least - 1, 0, most, most + 1, 2**32 - 1]
+        return [*range(least, least + 8), *[length(it) for it in self.counts[1:5]] * 2, room, 2 * room, *edges]
+
+    def spelled(self):
+        """The configuration as the script has it, of which the history writes another text: a field or a profile may be
+        missing or not, fields that nobody reads beside bursts stand there, and the keys are in any order."""
+        told, draw = {**self.config}, self.draw
+        if "bursts" in told:
+            bursts = told["bursts"]
+            bursts = shuffled(draw, {"unsolicited": bursts["long"], **bursts} if draw.random() < 0.5 else bursts)
+            unread = [{}, {"overhead": "x"}, {"bytes_per_slot": None, "overhead": [2]}, {"bytes_per_slot": 0}]
+            told |= {"bursts": bursts, **draw.choice(unread)}
+        elif told["phy"] == 0 and draw.random() < 0.5:
+            del told["phy"]
+        return shuffled(draw, told)
+
     def drawn_config(self):
+        """The configuration as the history has it."""
+        config = self.drawn_sizes()
+        return with_bursts(self.draw, config) if self.draw.random() < 0.34 else config
+
+    def drawn_sizes(self):
         draw = self.draw
         frame = draw.choice([16, 40, 64, 100, 150, 256])
         overhead, per_slot = draw.randint(1, 4), draw.choice([8, 16, 32, 64, 100])
@@ -32,7 +77,7 @@ class Drawing:
         if overhead + -(-quantum // per_slot) > frame - region:
             per_slot, quantum = 100, 64
         return {
-            "ticks": draw.choice([2, 4, 8, 16]), "bytes_per_slot": per_slot, "overhead": overhead, "frame": frame,
+            "ticks": draw.choice([1, 2, 4, 8, 16]), "bytes_per_slot": per_slot, "overhead": overhead, "frame": frame,
             "cycle": draw.choice([1, 2, 4, 6, 12, 20, 64]), "req_slots": region, "poll_slots": draw.randint(1, 3),
             "lead": draw.choice([0, frame, 4096 - 2 * frame]), "short_max": draw.randint(0, frame),
             "quantum": quantum, "grant_cap": draw.randint(quantum, 5 * quantum), "receivers": draw.randint(1, 3),
@@ -99,9 +144,7 @@ class Drawing:
         if kind in ("remove", "status"):
             return {"call": kind, "sid": self.sid(True)}
         if kind == "ask":
-            count = self.draw.choice([1, 64, 100, 544, 1522, 3000, 9000, 100000, MOST_BYTES])
-            count = count if self.draw.random() < 0.97 else self.draw.choice([0, MOST_BYTES + 1, 2**32 - 1])
-            asked = {"sid": self.sid(True), "bytes": count}
+            asked = {"sid": self.sid(True), **self.amount()}
             return {"call": kind, "receiver": receiver, **asked, "heard": self.near(receiver)}
         if kind == "heard":
             return {"call": kind, "receiver": receiver, "upto": self.near(receiver)}
@@ -110,6 +153,13 @@ class Drawing:
         if kind == "header":
             return {"call": kind, **{key: self.draw.choice([*range(16)] * 3 + [16, 255]) for key in HEADING}}
         return {"call": kind, "now": self.clock()}
+
+    def amount(self):
+        """How much a request asks for: bytes, and one in five minislots."""
+        if self.draw.random() < 0.2:
+            return {"slots": self.draw.choice(self.asked)}
+        count = self.draw.choice(self.counts)
+        return {"bytes": count if self.draw.random() < 0.97 else self.draw.choice([0, MOST_BYTES + 1, 2**32 - 1])}
 
     def reserve(self):
         """A Reserve, mostly short and of a length that a frame has."""
@@ -170,9 +220,16 @@ class Crowded(Drawing):
 
     def drawn_config(self):
         frame = self.draw.randint(260, 320)
-        sizes = {"frame": frame, "bytes_per_slot": 64, "overhead": 1, "req_slots": 1, "poll_slots": 1, "cycle": 2}
+        sizes = {"frame": frame, "req_slots": 1, "poll_slots": 1, "cycle": 2, "quantum": 64, "grant_cap": 64}
         times = {"ticks": 4, "start": 11 * frame, "lead": frame}
-        return {**super().drawn_config(), **sizes, **times, "quantum": 64, "grant_cap": 64, "calls": 1000}
+        config = {**self.drawn_sizes(), **sizes, **times, "calls": 1000, "bytes_per_slot": 64, "overhead": 1}
+        return completed({**config, "bursts": self.bursts()} if self.draw.random() < 0.34 else config)
+
+    def bursts(self):
+        """Profiles by which each burst has a minislot beside those of 64 bytes each."""
+        guard = self.draw.randint(1, 64)
+        numbers = {"bits": 8, "parity": 0, "preamble": 64 - guard, "guard": guard}
+        return {"symbols": 64, **{name: profile(self.draw, **numbers) for name in PROFILES}}
 
     def admit(self, sid, frames, jitter, **flow):
         times = {"interval_us": 25 * self.config["frame"] * frames, "jitter_us": 25 * jitter}

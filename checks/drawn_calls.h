@@ -1,6 +1,7 @@
 /*
  * Calls of all kinds that are drawn one by one, for checks/costs.c and checks/without_end.c: some fifty flows live on a
- * channel with frames of 1024 minislots of 25 microseconds, and admissions and removals all along.
+ * channel with frames of 1024 minislots of 25 microseconds, and admissions and removals all along. Its burst
+ * descriptors are read where `has_bursts` is not 0: minislots of 32 symbols, 24 bytes with their parity, in 64-QAM.
  */
 #define _POSIX_C_SOURCE 200809L
 #include <mapsched.h>
@@ -8,9 +9,13 @@
 #include <stdlib.h>
 #include <time.h>
 
+#define PROFILE(k, t) \
+  {.preamble = 32, .guard = 22, .bits = 6, .information = (k), .parity = (t), .shortened = 1}
+
 static const struct mapsched_config config = {.ticks = 4, .bytes_per_slot = 16, .overhead = 2, .frame = 1024,
   .cycle = 64, .req_slots = 4, .poll_slots = 1, .short_max = 8, .quantum = 256, .grant_cap = 8192, .calls = 1000000,
-  .start = 102400, .receivers = 4, .channel = 3, .ucd_count = 1};
+  .start = 102400, .receivers = 4, .channel = 3, .ucd_count = 1,
+  .bursts = {.symbols = 32, .short_data = PROFILE(76, 6), .long_data = PROFILE(232, 9)}};
 
 static uint64_t state = UINT64_C(0x9e3779b97f4a7c15);
 

@@ -35,11 +35,41 @@ static struct {
   uint64_t next, progress[MOST_RECEIVERS];
 } drawing;
 
+/* Burst descriptors by which each burst takes what it takes without them: a byte is a symbol. */
+static struct mapsched_bursts same_bursts(const struct mapsched_config *config) {
+  uint32_t guard = (uint32_t)below(8), spent = config->overhead * config->bytes_per_slot;
+  struct mapsched_profile profile = {.preamble = spent - guard, .guard = guard, .bits = 8, .information = 253};
+  return (struct mapsched_bursts){.symbols = config->bytes_per_slot, .short_data = profile, .long_data = profile};
+}
+
+/* A profile, each number of which is lawful. */
+static struct mapsched_profile drawn_profile(void) {
+  static const uint32_t preambles[] = {0, 8, 32, 32, 64, 1536}, parities[] = {0, 1, 6, 9, 16};
+  struct mapsched_profile profile = {.preamble = ONE_OF(preambles), .guard = (uint32_t)below(40)};
+  profile.bits = 1 + (uint32_t)below(8);
+  profile.parity = ONE_OF(parities);
+  profile.information = 16 + (uint32_t)below(238 - 2 * profile.parity);
+  profile.shortened = (uint32_t)below(2);
+  return profile;
+}
+
+/* Burst descriptors of any profiles, where they leave room for a quantum of 64 bytes. */
+static void draw_bursts(struct mapsched_config *config) {
+  static const uint32_t symbols[] = {16, 64, 64, 128, 512, 4096};
+  struct mapsched_config drawn = *config;
+  drawn.quantum = 64;
+  drawn.bursts.symbols = ONE_OF(symbols);
+  drawn.bursts.short_data = drawn_profile();
+  drawn.bursts.long_data = drawn_profile();
+  if (is_one_in(2)) drawn.bursts.unsolicited = drawn_profile();
+  if (mapsched_check(&drawn) == MAPSCHED_OK) *config = drawn;
+}
+
 /* A lawful configuration. */
 static struct mapsched_config drawn_config(void) {
   static const uint32_t frames[] = {16, 40, 40, 64, 100, 150, 256, 1024}, slots[] = {8, 16, 32, 64, 100};
   static const uint32_t cycles[] = {1, 2, 4, 6, 12, 20, 64}, calls[] = {1, 2, 3, 5, 8, 17, 40, 100, 300, 1000, 50000};
-  struct mapsched_config config = {.ticks = 2u << below(4)};
+  struct mapsched_config config = {.ticks = 1u << below(5)};
   config.frame = ONE_OF(frames);
   config.overhead = 1 + (uint32_t)below(4);
   config.req_slots = 1 + (uint32_t)below(3);
@@ -61,6 +91,12 @@ static struct mapsched_config drawn_config(void) {
   for (size_t i = 0; i < COUNT(others); i++) *others[i] = (uint8_t)below(16);
   config.channel = (uint8_t)below(256);
   config.ucd_count = (uint8_t)below(256);
+  config.bursts = same_bursts(&config);
+  if (is_one_in(3)) {
+    config.has_bursts = 1 + (uint32_t)below(3);
+    config.bytes_per_slot = config.overhead = (uint32_t)below(3000);
+    if (!is_one_in(3)) draw_bursts(&config);
+  }
   return config;
 }
 
@@ -149,12 +185,16 @@ static uint64_t drawn_clock(void) {
   return is_one_in(3) ? ONE_OF(times) : just;
 }
 
+/* A request, one in five in minislots, which carry some bytes, none or too many. */
 static struct mapsched_call drawn_ask(void) {
   static const uint32_t counts[] = {1, 64, 100, 544, 1522, 3000, 9000, 100000, MAPSCHED_MAX_REQUEST_BYTES};
   static const uint32_t wrong[] = {0, MAPSCHED_MAX_REQUEST_BYTES + 1, UINT32_MAX};
+  static const uint32_t slots[] = {0, 1, 2, 3, 4, 4, 5, 6, 7, 8, 12, 40, 100, 1000, 65537, 65538, 1u << 26, UINT32_MAX};
   struct mapsched_call call = {.kind = MAPSCHED_ASK, .sid = drawn_sid(1)};
   call.receiver = drawn_receiver();
-  call.bytes = is_one_in(30) ? ONE_OF(wrong) : ONE_OF(counts);
+  call.has_slots = (uint8_t)is_one_in(5);
+  if (call.has_slots) call.slots = ONE_OF(slots);
+  else call.bytes = is_one_in(30) ? ONE_OF(wrong) : ONE_OF(counts);
   call.minislot = drawn_near(call.receiver);
   return call;
 }

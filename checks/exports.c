@@ -26,6 +26,9 @@ STANDS_AT(40, sid);
 STANDS_AT(42, receiver);
 STANDS_AT(43, priority);
 STANDS_AT(44, grants);
+STANDS_AT(45, data_start);
+STANDS_AT(46, data_end);
+STANDS_AT(47, has_slots);
 
 /* All that the caller has, and what it can read of a scheduler. */
 static struct {

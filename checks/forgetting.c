@@ -14,7 +14,7 @@
 enum { SCRIPTS = 10000, SEED = 20261125, FILLED = 0xa5, REFUSALS = 20, REASONS = 7, KINDS = MAPSCHED_RESERVED + 1 };
 
 /* The bytes of a call up to its last number: what is behind it in the struct is nobody's. */
-enum { NUMBERS = offsetof(struct mapsched_call, data_end) + 1 };
+enum { NUMBERS = offsetof(struct mapsched_call, has_slots) + 1 };
 
 /* A script, with what the scheduler that keeps all answered, and the places of the calls that it recorded. */
 static struct {

@@ -4,7 +4,8 @@ is slow, and says what the program has to say."""
 
 import itertools
 
-from texts import MISSING
+from plain_bursts import Bursts, ceiling_of
+from texts import completed
 
 ALL_MODEMS, BROADCAST_IUC, INITIAL, STATION, NULL = 0x3FFF, 1, 3, 4, 7
 MOST_FLOWS, MOST_PERIODIC, MOST_GRANTS = 64, 40, 93
@@ -12,11 +13,6 @@ MOST_BYTES, LAST_CLOCK, AHEAD = 1048560, 2**60, 4096
 MOST_RESERVES, MOST_WAITING, LAST_MAP = 64, 16, 64
 HEADING = ["ucd_count", "ranging_start", "ranging_end", "data_start", "data_end"]
 MICROS_OF_TICK = 25, 4
-
-
-def ceiling_of(whole, part):
-    """The least whole number that is not below a quotient."""
-    return -(-whole // part)
 
 
 class Flow:
@@ -63,15 +59,19 @@ def refuse(number, *value):
 class Scheduler:
     """The scheduler of a configuration, which is a lawful one. Each call gives the reply as a history has it."""
 
+    # How many minislots a burst takes.
+    Bursts = Bursts
+
     def __init__(self, config):
-        self.config = {**MISSING, **config}
+        self.config = completed(config)
+        self.bursts = self.Bursts(self.config)
         self.frame, self.next = config["frame"], config["start"]
         self.progress = [config["start"]] * config["receivers"]
         self.flows, self.entries, self.reserves, self.maps = {}, [], [], 0
         self.heading = {key: config[key] for key in HEADING}
 
     def slots_for(self, count):
-        return self.config["overhead"] + ceiling_of(count, self.config["bytes_per_slot"])
+        return self.bursts.length(count)
 
     def slots_of(self, micros):
         """The minislots of a time, and what is left over, in quarters of a tick's part."""
@@ -119,7 +119,7 @@ class Scheduler:
     def check_parameters(self, spec):
         config, kind = self.config, spec["kind"]
         room = self.frame - config["req_slots"]
-        if kind == "unsolicited" and (spec["size"] == 0 or self.slots_for(spec["size"]) > room):
+        if kind == "unsolicited" and (spec["size"] == 0 or self.bursts.unsolicited(spec["size"]) > room):
             refuse(3, 1)
         if kind != "best_effort":
             slots, left = self.slots_of(spec["interval_us"])
@@ -147,14 +147,22 @@ class Scheduler:
             refuse(8)
         if call["receiver"] >= self.config["receivers"]:
             refuse(9)
-        if not 1 <= call["bytes"] <= MOST_BYTES:
+        count = self.asked(call)
+        if not 1 <= count <= MOST_BYTES:
             refuse(10)
         if call["heard"] < self.progress[call["receiver"]]:
             refuse(11, self.progress[call["receiver"]])
         if call["heard"] >= self.next:
             refuse(12, self.next)
-        flow.asked += call["bytes"]
+        flow.asked += count
         return {"kind": "taken"}
+
+    def asked(self, call):
+        """The bytes that a request asks for: those that it names, or the most of a data grant of so many minislots."""
+        return self.capacity(call["slots"]) if "slots" in call else call["bytes"]
+
+    def capacity(self, slots):
+        return self.bursts.capacity(slots)
 
     def heard(self, call):
         if call["receiver"] >= self.config["receivers"]:
@@ -216,7 +224,7 @@ class Scheduler:
     # Placements: the least phase, then the least offset, then in each frame the least starts.
 
     def slots_of_flow(self, flow):
-        return self.config["poll_slots"] if flow.kind == "polled" else self.slots_for(flow.spec["size"])
+        return self.config["poll_slots"] if flow.kind == "polled" else self.bursts.unsolicited(flow.spec["size"])
 
     def taken_in(self, place):
         """The minislots that live placements have in the frames at this place of the cycle."""
@@ -267,14 +275,17 @@ class Scheduler:
         place, found = start // self.frame % self.config["cycle"], []
         for sid, flow in self.flows.items():
             for at in flow.starts.get(place, ()):
-                slots = self.slots_of_flow(flow)
-                found.append((at, sid, 1 if flow.kind == "polled" else self.usage(slots, unsolicited=True), slots))
+                usage = BROADCAST_IUC if flow.kind == "polled" else self.unsolicited_usage(flow.spec["size"])
+                found.append((at, sid, usage, self.slots_of_flow(flow)))
         return sorted(found)
 
-    def usage(self, slots, unsolicited=False):
-        if self.config["phy"] == 1:
-            return 11 if unsolicited else 9 if slots <= self.config["short_max"] else 10
-        return 5 if slots <= self.config["short_max"] else 6
+    def usage(self, count):
+        """The usage code of a data grant of so many bytes."""
+        short, long = (9, 10) if self.config["phy"] == 1 else (5, 6)
+        return short if self.bursts.usage(count) == "short" else long
+
+    def unsolicited_usage(self, count):
+        return 11 if self.config["phy"] == 1 else self.usage(count)
 
     def long_usage(self):
         return 10 if self.config["phy"] == 1 else 6
@@ -327,7 +338,7 @@ class Scheduler:
             return None
         count = self.most(self.flows[sid], start, room)
         self.flows[sid].grants.append((start, count))
-        return sid, self.usage(self.slots_for(count)), count, self.slots_for(count)
+        return sid, self.usage(count), count, self.slots_for(count)
 
     def idle_at(self, room):
         return 0, self.long_usage(), 0, room

@@ -4,6 +4,8 @@ say."""
 
 from itertools import accumulate
 
+from plain_bursts import Bursts
+
 REQUEST, INITIAL, STATION, NULL = 1, 3, 4, 7
 ALL_MODEMS = 0x3FFF
 CALLS = ("admit", "ask", "build", "header", "heard", "remove", "reserve", "skip", "status")
@@ -50,6 +52,11 @@ def use_of(kinds, sid, iuc):
     return "unsolicited" if kinds[sid] == "unsolicited" else "data"
 
 
+def asked_by(config, call):
+    """The bytes of a request: those that it names, or the most of a data grant of so many minislots."""
+    return Bursts(config).capacity(call["slots"]) if "slots" in call else call["bytes"]
+
+
 def next_after(config, entries):
     start = config["start"]
     for entry in entries:
@@ -89,7 +96,7 @@ class Life:
         self.first = next_after(config, entries[:at])
         self.last = next_after(config, entries[:at + 1 + len(self.since)])
         # Its accepted requests, as (bytes, minislot at which it was heard).
-        self.asks = [(entry["call"]["bytes"], entry["call"]["heard"]) for entry in self.since
+        self.asks = [(asked_by(config, entry["call"]), entry["call"]["heard"]) for entry in self.since
                      if accepted(entry, "ask", "taken") and entry["call"]["sid"] == self.sid]
         # What the MAPs of its life have of it, as (end, bytes, IUC), and the data grants of that.
         self.allocations = [(entry["reply"]["start"] + offset + length, count, iuc)

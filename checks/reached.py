@@ -1,8 +1,10 @@
-"""What histories with Reserves and headers have reached, and whether their MAPs keep the laws of both. It is read in
-the entries alone, calls, replies and payloads, and knows nothing of how a MAP is made."""
+"""What histories with Reserves and headers have reached, and whether their MAPs keep the laws of both; and the same of
+the bursts of their grants. It is read in the entries alone, calls, replies and payloads, and knows nothing of how a MAP
+is made."""
 
-MODEMS, INITIAL, STATION, NULL = 0x3FFF, 3, 4, 7
-WAITING, LAST_MAP, GRANTS, ELEMENTS = 16, 64, 93, 240
+MODEMS, REQUEST, INITIAL, STATION, NULL = 0x3FFF, 1, 3, 4, 7
+SHORT, LONG, UNSOLICITED = (5, 9), (6, 10), 11
+WAITING, LAST_MAP, GRANTS, ELEMENTS, MOST_BYTES = 16, 64, 93, 240, 1048560
 HEADING = ("ucd_count", "ranging_start", "ranging_end", "data_start", "data_end")
 
 WANTED = {
@@ -17,6 +19,21 @@ WANTED = {
     "data take no more than opportunities leave of 93", "240 elements", "one is met behind a skip",
     "one is met behind a refused build", "one is met behind the removal of its flow", "a MAP has a new header",
     "a MAP has the last of two headers", "a refused header changes no MAP", "the history is full while one waits",
+}
+
+
+# What the bursts of channels with profiles meet, and requests in minislots.
+BURSTS = {
+    "a short grant", "a long grant", "a long grant that has no more minislots than short ones may have",
+    "a burst that is longer by a minislot than the one with a byte less", "a burst without parity",
+    "a burst without preamble and guard time", "a burst of whole codewords", "a last codeword that is shortened",
+    "a last codeword that is shortened and filled up to 16 bytes", "a last codeword that is not shortened",
+    "a burst of several codewords", "a short grant in a slower modulation than long ones", "minislots of one tick",
+    "an unsolicited grant that is short", "an unsolicited grant that is long",
+    "an unsolicited grant by its own profile",
+    "an unsolicited grant by the profile of long ones", "several unsolicited grants in a frame",
+    "a request in minislots is taken", "a request in minislots that carry no byte is refused",
+    "a request in minislots that carry too many bytes is refused", "a request in minislots without burst profiles",
 }
 
 
@@ -207,11 +224,96 @@ class Reached:
                 self.seventeenth[wait] = "was met" if met else "lapsed"
 
 
-def reached_in(histories):
+class Sent:
+    """What the bursts of a history have reached, and where one breaks a law: of a number of bytes each is as long, and
+    of one usage; more bytes take no fewer minislots; a short one has no more minislots than short ones may have."""
+
+    def __init__(self, config):
+        self.config, self.bursts = config, config.get("bursts")
+        self.lengths, self.events, self.faults = {}, set(), []
+
+    def read(self, entries):
+        for place, entry in enumerate(entries):
+            if entry["reply"]["kind"] == "map":
+                self.map(place, Map(entry["reply"]))
+            if entry["call"]["call"] == "ask" and "slots" in entry["call"]:
+                self.asked(entry["call"]["slots"], entry["reply"])
+        in_order = [self.lengths[it][0] for it in sorted(self.lengths)]
+        self.breaks(len(entries), "more bytes in fewer minislots", in_order != sorted(in_order))
+        steps = [it for it in self.lengths if it + 1 in self.lengths and self.lengths[it] < self.lengths[it + 1]]
+        self.says("a burst that is longer by a minislot than the one with a byte less", steps)
+        self.says("minislots of one tick", self.config["ticks"] == 1 and self.lengths)
+        return self
+
+    def says(self, event, where=True):
+        if self.bursts and where:
+            self.events.add(event)
+
+    def breaks(self, place, law, where):
+        if where:
+            self.faults.append((place, law))
+
+    def asked(self, slots, reply):
+        """A request in minislots, whose symbols have at most a byte each, and no more than 1791 of which carry none."""
+        if not self.bursts:
+            self.events.add("a request in minislots without burst profiles")
+            return
+        few = slots * self.bursts["symbols"] <= MOST_BYTES
+        self.says("a request in minislots is taken", reply["kind"] == "taken")
+        self.says(f"a request in minislots that carry {'no byte' if few else 'too many bytes'} is refused",
+                  reply.get("number") == 10)
+
+    def map(self, place, found):
+        for _, usage, _, slots, count in found.grants:
+            known = self.lengths.setdefault(count, (slots, usage))
+            self.breaks(place, "two lengths or usages of as many bytes", known != (slots, usage))
+            self.usage(place, usage, slots)
+            if self.bursts:
+                self.codewords(self.bursts["short" if usage in SHORT else "long"], usage, count)
+        unsolicited = [it for it in found.periodic if it[1] != REQUEST]
+        for _, usage, _, slots, _ in unsolicited:
+            self.breaks(place, "the usage of unsolicited grants", (usage == UNSOLICITED) != (self.config["phy"] == 1))
+            self.unsolicited(place, usage, slots)
+        self.says("several unsolicited grants in a frame", len(unsolicited) > 1)
+
+    def usage(self, place, usage, slots):
+        """A data grant of a usage, or an unsolicited one that has that of a data grant."""
+        most, usages = self.config["short_max"], (9, 10) if self.config["phy"] == 1 else (5, 6)
+        self.breaks(place, "a usage that is none of this channel", usage not in usages)
+        self.breaks(place, "a short grant above short_max", usage in SHORT and slots > most)
+        self.breaks(place, "a long grant up to short_max", usage in LONG and slots <= most and not self.bursts)
+        self.says("a short grant", usage in SHORT)
+        self.says("a long grant", usage in LONG)
+        self.says("a long grant that has no more minislots than short ones may have", usage in LONG and slots <= most)
+
+    def unsolicited(self, place, usage, slots):
+        if usage == UNSOLICITED:
+            has_own = self.bursts and "unsolicited" in self.bursts
+            self.says(f"an unsolicited grant by {'its own profile' if has_own else 'the profile of long ones'}")
+        else:
+            self.usage(place, usage, slots)
+            self.says(f"an unsolicited grant that is {'short' if usage in SHORT else 'long'}")
+
+    def codewords(self, profile, usage, count):
+        """The codewords of a data grant by its profile."""
+        left, parity = count % profile["information"], profile["parity"] > 0
+        shortened = parity and left > 0 and profile["shortened"] == 1
+        self.says("a burst without parity", not parity)
+        self.says("a burst without preamble and guard time", profile["preamble"] + profile["guard"] == 0)
+        self.says("a burst of whole codewords", parity and left == 0)
+        self.says("a burst of several codewords", parity and count > profile["information"])
+        self.says("a last codeword that is shortened", shortened and left >= 16)
+        self.says("a last codeword that is shortened and filled up to 16 bytes", shortened and left < 16)
+        self.says("a last codeword that is not shortened", parity and left > 0 and profile["shortened"] == 0)
+        is_slower = usage in SHORT and profile["bits"] < self.bursts["long"]["bits"]
+        self.says("a short grant in a slower modulation than long ones", is_slower)
+
+
+def reached_in(histories, reading=Reached):
     """What histories have reached together, each with its configuration, and the laws that they break."""
     events, faults = set(), []
     for number, (config, entries) in enumerate(histories):
-        reached = Reached(config).read(entries)
+        reached = reading(config).read(entries)
         events |= reached.events
         faults += [(number, *it) for it in reached.faults]
     return events, faults

@@ -4,6 +4,8 @@
 import contextlib
 import importlib.machinery
 import importlib.util
+import json
+import os
 import random
 import subprocess
 import tempfile
@@ -39,6 +41,9 @@ class Talk:
             self.calls.append(compact(call).encode() + b"\n")
             self.answers.append(line_of(drawing.plain.call(call)).encode() + b"\n")
         self.opening = compact({"config": self.config}).encode() + b"\n"
+        # the same, in another form
+        told = {**drawing.told, "calls": self.config["calls"]}
+        self.spelled = json.dumps({"config": told}).encode() + b"\n"
         entries = PLAIN_RUNS.as_written(drawing.plain.entries)
         self.lines = [self.opening, *(compact(entry).encode() + b"\n" for entry in entries)]
 
@@ -76,6 +81,12 @@ def live(program, path, text, *words, **how):
     """How a whole conversation ends: its status, what it writes and what it says."""
     ran = subprocess.run([program.path, "live", "--journal", path, *words], input=text, capture_output=True, **how)
     return ran.returncode, ran.stdout, ran.stderr.decode()
+
+
+def failed(what, path, error):
+    """What is told where a call of the system failed: this call on this file or folder, for this reason, which is told
+    in the words of the C library where it is a number."""
+    return f"journal failed\n{what} {path}: {os.strerror(error) if isinstance(error, int) else error}\n"
 
 
 def resumed(entries, cut=0):

@@ -5,7 +5,7 @@
 // is one; ENDED_READ=N lets the input end there, and FULL_WRITE=N has the N-th write take nothing. FAILED_CALL=N lets
 // the N-th call on another file fail, that by which it is opened among them, and FULL_CALL=N has the N-th write there
 // take nothing. Each such failure is marked by a byte in file 3: of memory, a read, a write or a call on another file;
-// where the memory is for a thread, by one more in front.
+// where the memory is for a thread, by one more in front, and on another file by one that says which call it is.
 typedef unsigned long size_t;
 
 extern void *__libc_malloc(size_t size);
@@ -88,9 +88,31 @@ long read(int file, void *bytes, size_t size) {
   return syscall(READ, file, bytes, narrowed(size));
 }
 
+// The mark of a call of this number: it opens, looks, locks, reads, writes, cuts, or waits for the device.
+static const char *mark_of(long number) {
+  switch (number) {
+    case OPENAT: return "O";
+    case STATX: return "S";
+    case FLOCK: return "L";
+    case PREAD: return "R";
+    case FTRUNCATE: return "T";
+    case FSYNC: return "F";
+    case FDATASYNC: return "D";
+    default: return "W";
+  }
+}
+
+// A call on another file fails with this error, or takes nothing where there is none.
+static long fail_call(long number, int error) {
+  syscall(WRITE, MARKS, mark_of(number), 1);
+  return fail(error, "f");
+}
+
 // A call on another file than a standard stream, which fails where it is its turn to.
 static long call(int file, long number, long a, long b, long c, long d, long e) {
-  if (file != ERRORS && file != MARKS && one_more(&calls) == number_of("FAILED_CALL")) return fail(error_told(), "f");
+  if (file != ERRORS && file != MARKS && one_more(&calls) == number_of("FAILED_CALL")) {
+    return fail_call(number, error_told());
+  }
   return syscall(number, a, b, c, d, e);
 }
 
@@ -116,7 +138,7 @@ int fdatasync(int file) { return call(file, FDATASYNC, file, 0, 0, 0, 0); }
 
 static long write_elsewhere(int file, const void *bytes, size_t size) {
   if (file == ERRORS || file == MARKS) return syscall(WRITE, file, bytes, size);
-  if (one_more(&calls_to_write) == number_of("FULL_CALL")) return fail(0, "f") + 1;
+  if (one_more(&calls_to_write) == number_of("FULL_CALL")) return fail_call(WRITE, 0) + 1;
   return call(file, WRITE, file, (long)bytes, narrowed(size), 0, 0);
 }
 

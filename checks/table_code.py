@@ -10,12 +10,10 @@ import re
 
 from kit import HERE
 from table_texts import (
-    BASE, CALLS, FIELDS, FLOWS, GROUPS, MEMBER, MEMBERS, MISSING, NUMBERED, REASONS, REFUSALS, STATUSES, TABLES,
-    class_of, words_of_group,
+    BASE, BURSTS, CALLS, FIELDS, FLOWS, GROUPS, MEMBER, MEMBERS, MISSING, NUMBERED, OBJECTS, PROFILES, REASONS,
+    REFUSALS, STATUSES, SYMBOLS, TABLES, class_of, instead, words_of_group,
 )
-from texts import read, rows
-
-SIZES = {"U8": 8, "U32": 32, "U64": 64}
+from texts import PROFILE, UNIFORM, field_of, read, rows
 
 
 def number_of(text):
@@ -77,52 +75,119 @@ def limits():
 
 
 def in_order(rows):
-    return [(it["name"], f"u{it['bits']}") for it in rows]
+    return [(it["name"], f"u{it['bits']}" if "bits" in it else class_of(it["name"])) for it in rows]
+
+
+def tested():
+    """The fields in the order in which the code has and tests them: an object stands behind those in whose place it
+    is."""
+    last = {it["instead_of"][-1]: it for it in FIELDS if "instead_of" in it}
+    rows = [it for it in FIELDS if it["name"] not in OBJECTS]
+    return [it for row in rows for it in (row, last.get(row["name"])) if it]
 
 
 def ranges():
     """The least and the greatest value of each field in the code, where they are numbers."""
-    pattern = r"ConfigFault::(\w+) => \(([^,]+), (.+)\),$"
+    pattern = r"ConfigFault::(\w+)(?: if [^=]+)? => \(([^,]+), (.+)\),$"
     found = re.findall(pattern, code_of("crates/minislots/src/config/ranges.rt"), re.M)
     return {name: [it if isinstance(it, int) else None for it in map(number_of, them)] for name, *them in found}
 
 
-def forms_of_fields():
-    """The form of a configuration: the name of each member, its bits, and what it is where it is missing."""
-    text = block("crates/json_fields/src/forms.rt", "pub static CONFIGS", ")];")
-    found = re.findall(r'\("(\w+)", (U\d+), (?:MUST|Missing::Number\((\d+)\))\)', text)
-    return [(name, SIZES[size], missing) for name, size, missing in found]
+def forms_of_fields(name):
+    """The members in a form of the code: each name, what stands there, and what is said of where it is missing."""
+    text = block("crates/json_fields/src/forms.rt", f"pub static {name}: ", ")];")
+    return re.findall(r'\(\s*"(\w+)",\s*(.*?),\s*(MUST|Missing::\w+(?:\(\d+\))?),?\s*\)', text, re.S)
 
 
-def values_of(path, head, tail):
-    """The numbers of a configuration in a test by their names."""
-    return {name: int(number) for name, number in re.findall(r"(\w+)(?: =|:) (\d+)", block(path, head, tail))}
+def form_of_field(it):
+    """What the form of a configuration has to say of a field."""
+    holds = f"U{it['bits']}" if "bits" in it else f"Holds::Object(Sort::{class_of(it['name'])})"
+    if it["name"] in UNIFORM:
+        return it["name"], holds, "Missing::UnlessBursts"
+    return it["name"], holds, "Missing::Nothing" if it["name"] in OBJECTS else lacking(it)
+
+
+def form_in_bursts(it):
+    """What the forms of burst descriptors have to say of a member."""
+    holds = "Holds::Lawful(MOST_U32, {}, {})".format(*it["range"]) if "bits" in it else "PROFILE"
+    return it["name"], holds, f"Missing::{class_of(it['as'])}" if "as" in it else "MUST"
+
+
+def values_of(path, head):
+    """The numbers of a configuration in a test: those of its bursts by their places, where these have no names."""
+    text = block(path, head)
+    found = re.findall(r"(\w+)(?: =|:) (\d+)", text)
+    found += [pair for it in re.findall(r"= Uniform ([\d ]+);", text) for pair in zip(UNIFORM, it.split())]
+    return {name: int(number) for name, number in found}
+
+
+def ranges_in_bursts():
+    """The range of each number of burst descriptors in the code."""
+    path = "crates/minislots/src/bursts.rt"
+    text, known = code_of(path), constants(path)
+    found = {name: [0, int(most)] for name, most in re.findall(r"^ +(?:&& )?self\.(\w+) <= (\d+)$", text, re.M)}
+    within = re.findall(r"is_within\((\w+), (\d+), self\.(\w+)\)", text)
+    return found | {name: [known.get(least) or int(least), int(most)] for least, most, name in within}
+
+
+def of_bursts():
+    """Burst descriptors: their members, the range of each number, how they are read, and their structs of C."""
+    bursts, plain, rows = "crates/minislots/src/bursts.rt", "crates/mapsched_c/src/bursts.rt", TABLES["profile"]
+    uniform = re.findall(r"(\w+): u32,", block(bursts, "Uniform {", "}"))
+    yield f"{bursts}: Bursts", uniform, UNIFORM
+    wanted = [(it["name"], f"u{it['bits']}" if "bits" in it else "Profile") for it in BURSTS]
+    yield f"{bursts}: Descriptors", members(bursts, "pub struct Descriptors {"), wanted
+    yield f"{bursts}: Profile", members(bursts, "pub struct Profile {"), in_order(rows)
+    wanted = {it["name"]: it["range"] for it in (*rows, *BURSTS) if "range" in it}
+    yield f"{bursts}: ranges", ranges_in_bursts(), wanted
+    forms = "crates/json_fields/src/forms.rt"
+    yield f"{forms}: PROFILES", forms_of_fields("PROFILES"), [*map(form_in_bursts, rows)]
+    yield f"{forms}: BURSTS", forms_of_fields("BURSTS"), [*map(form_in_bursts, BURSTS)]
+    yield f"{plain}: PlainProfile", members(plain, "pub struct PlainProfile {"), in_order(rows)
+    wanted = [(name, "u32") for name in SYMBOLS] + [(name, "PlainProfile") for name in PROFILES.values()]
+    yield f"{plain}: PlainBursts", members(plain, "pub struct PlainBursts {"), wanted
+    yield f"{plain}: numbers", re.findall(r"(\w+): self\.\1,", code_of(plain)), PROFILE + SYMBOLS
+
+
+def of_writing():
+    """The keys and the numbers of a configuration in the text of a history, those of a profile first."""
+    writer = "crates/history_writing/src/history/config.rt"
+    text, others = code_of(writer), sorted({*BASE, *MISSING} - {*UNIFORM})
+    keys = re.findall(r'^    "(\w+)",$', text, re.M)
+    yield f"{writer}: keys", keys, sorted(PROFILE) + others
+    numbers = re.findall(r"^        (?:config|profile)\.(\w+)", text, re.M)
+    yield f"{writer}: numbers", numbers, sorted(PROFILE) + others
+    more = {*UNIFORM, *OBJECTS, *(it["name"] for it in BURSTS)}
+    yield f"{writer}: other keys", {*re.findall(r'"(\w+)"', text)} - {*keys}, more
 
 
 def of_fields():
-    by_place = [it for bits in (32, 64, 8) for it in FIELDS if it["bits"] == bits]
+    by_place = [it for bits in (32, 64, 8) for it in FIELDS if it.get("bits") == bits]
     numbered = [class_of(it) for it in NUMBERED]
     config, plain = "crates/minislots/src/config.rt", "crates/mapsched_c/src/config.rt"
-    yield f"{config}: Config", members(config, "pub struct Config {"), in_order(FIELDS)
-    yield f"{config}: ConfigFault", [it for it, _ in variants(config, "pub enum ConfigFault {")], numbered
-    wanted = {class_of(it["name"]): it["range"] for it in FIELDS if it["name"] in NUMBERED}
+    had = [it for it in tested() if it["name"] not in UNIFORM]
+    yield f"{config}: Config", members(config, "pub struct Config {"), in_order(had)
+    wanted = [class_of(it["name"]) for it in tested() if it["name"] in NUMBERED]
+    yield f"{config}: ConfigFault", [it for it, _ in variants(config, "pub enum ConfigFault {")], wanted
+    wanted = {class_of(it["name"]): it["range"] for it in FIELDS if it["name"] in NUMBERED and "range" in it}
     wanted = {name: [it if isinstance(it, int) else None for it in them] for name, them in wanted.items()}
     for name, found in ranges().items():
         least, most = wanted.pop(name, [None, None])
         yield f"the range of {name} in minislots", found, [least, most]
     yield "fields without a range in minislots", [*wanted], []
     yield "crates/text_stream/src/fault.rt", arms("crates/text_stream/src/fault.rt", "ConfigFault"), counted(numbered)
+    told, wanted = "crates/live_command/src/field.rt", [(class_of(it["name"]), it["name"]) for it in FIELDS]
+    yield f"{told}: Field", re.findall(r'Field::(\w+) => "(\w+)",', code_of(told)), wanted[:-1]
+    yield f"{told}: Member", re.findall(r'Member::\w+ => "(\w+)",', code_of(told)), PROFILE
     ordered = sorted(FIELDS, key=lambda it: it["name"] not in NUMBERED)
-    forms = [(it["name"], it["bits"], str(it.get("missing", ""))) for it in ordered]
-    yield "crates/json_fields/src/forms.rt: CONFIGS", forms_of_fields(), forms
-    reader = code_of("crates/json_fields/src/config.rt")
-    yield "crates/json_fields/src/config.rt", set(re.findall(r'"(\w+)"', reader)) - {"config"}, {*BASE, *MISSING}
-    writer = "crates/history_writing/src/history/config.rt"
-    for head, pattern in [("static FIELDS", r'^    "(\w+)",$'), ("let numbers", r"^        config\.(\w+)")]:
-        found = re.findall(pattern, block(writer, head, "];"), re.M)
-        yield f"{writer}: {head}", found, sorted({*BASE, *MISSING})
-    yield f"{plain}: PlainConfig", members(plain, "pub struct PlainConfig {"), in_order(by_place)
-    yield f"{plain}: config", re.findall(r"(\w+): self\.\1,", code_of(plain)), [it["name"] for it in FIELDS]
+    yield "crates/json_fields/src/forms.rt: CONFIGS", forms_of_fields("CONFIGS"), [*map(form_of_field, ordered)]
+    reader = code_of("crates/json_fields/src/config.rt") + code_of("crates/json_fields/src/bursts.rt")
+    names = {it["name"] for it in (*FIELDS, *BURSTS)} | {*PROFILE}
+    yield "crates/json_fields/src/config.rt, bursts.rt", set(re.findall(r'"(\w+)"', reader)) - {"config"}, names
+    behind = [it for name in OBJECTS for it in [(f"has_{name}", "u32"), (name, f"Plain{class_of(name)}")]]
+    yield f"{plain}: PlainConfig", members(plain, "pub struct PlainConfig {"), in_order(by_place) + behind
+    wanted = UNIFORM + [it["name"] for it in FIELDS if it["name"] not in UNIFORM + OBJECTS]
+    yield f"{plain}: config", re.findall(r"(\w+): self\.\1,", code_of(plain)), wanted
 
 
 def of_tests():
@@ -130,9 +195,9 @@ def of_tests():
     base = {**BASE, **MISSING}
     homes = {"tests/src/base.rt": "BASE: Config = Config {", "sched_calls/proofs/Base.antt": "base = record {"}
     for path, head in homes.items():
-        yield f"crates/{path}", values_of(f"crates/{path}", head, "}"), base
+        yield f"crates/{path}", values_of(f"crates/{path}", head), base
     yield "examples/two_maps.json", json.loads(read("examples/two_maps.json"))["config"], BASE
-    edges = {(row.split('"')[-2], wanted) for row, wanted in rows("fields_of_a_configuration") if "bad" in wanted}
+    edges = {(field_of(row), wanted) for row, wanted in rows("fields_of_a_configuration") if "bad" in wanted}
     yield "checks/rows/fields_of_a_configuration", edges, {(name, f"bad config {at}") for name, at in counted(NUMBERED)}
 
 
@@ -159,12 +224,9 @@ def forms():
         yield name, {key: (*held(holds, named), missing) for key, holds, missing in found}
 
 
-def lacking(it, key):
+def lacking(it):
     """What is said of a member in a form of the code, for where it is missing."""
-    if key in it.get("optional", []):
-        return "Missing::Nothing"
-    missing = MEMBER.get(key, {}).get("missing")
-    return "MUST" if missing is None else f"Missing::Number({missing})"
+    return f"Missing::Number({it['missing']})" if "missing" in it else "MUST"
 
 
 def of_forms():
@@ -173,10 +235,15 @@ def of_forms():
     yield "crates/json_fields/src/forms.rt: names", [*found], [*wanted]
     for name, of in found.items():
         it = wanted.get(name, {"members": []})
-        yield f"the form of {name} in json_fields", sorted({*of} - {"call", "kind"}), sorted(it["members"])
+        keys = sorted([*it["members"], *instead(it)])
+        yield f"the form of {name} in json_fields", sorted({*of} - {"call", "kind"}), keys
         for key in {*of} - {"call", "kind"}:
             member = MEMBER.get(key, {})
-            says = (member.get("bits"), member.get("range"), lacking(it, key))
+            others = dict.fromkeys(it.get("optional", []), "Missing::Nothing")
+            for pair in instead(it).items():
+                others |= {one: f"Missing::Unless{class_of(other)}" for one, other in (pair, pair[::-1])}
+            missing = others.get(key) or lacking(member)
+            says = (member.get("bits"), member.get("range"), missing)
             yield f"{key} in the form of {name} in json_fields", of[key], says
 
 
@@ -196,7 +263,8 @@ def of_calls():
     yield "crates/mapsched_c/src/reply.rt", constants("crates/mapsched_c/src/reply.rt", "pub mod answer {"), replies
     for path, of, rest in [("call", CALLS, {"call", "initial", "station"}), ("flow", FLOWS, {"kind"})]:
         found = set(re.findall(r'"(\w+)"', code_of(f"crates/call_reading/src/{path}.rt"))) - rest
-        yield f"crates/call_reading/src/{path}.rt", found, {it for row in of for it in (row["name"], *row["members"])}
+        wanted = {it for row in of for it in (row["name"], *row["members"], *instead(row))}
+        yield f"crates/call_reading/src/{path}.rt", found, wanted
     totals = members("crates/sched_report/src/calls.rt", "pub struct Calls {")
     yield "crates/sched_report/src/calls.rt", [name for name, _ in totals], sorted(it["name"] for it in CALLS)
     for form in read("checks/rows/forms_of_calls").splitlines():
@@ -205,6 +273,7 @@ def of_calls():
         flow_members = next(them["members"] for them in FLOWS if them["name"] == flow["kind"]) if flow else []
         lacks = {*it["members"], *flow_members} - {*call, *(flow or [])}
         allowed = {*it.get("optional", []), *(name for name in flow_members if "missing" in MEMBER[name])}
+        allowed |= {other for name, other in instead(it).items() if name in call}
         yield f"checks/rows/forms_of_calls: {form}", lacks - allowed, set()
 
 
@@ -264,7 +333,7 @@ def of_faults():
         wanted = it["words"].partition(" #")[0]
         yield f"crates/decode_command/src/explained_fault.rt: {it['code']}", words.get(it["code"]), wanted
     paths = glob.glob("crates/*/src/fault.rt", root_dir=HERE)
-    said = {line for path in paths for line in re.findall(r'#\[error\("([^"]*)"', code_of(path))}
+    said = {line for path in paths for line in re.findall(r'#\[error\("([^"\\]*)', code_of(path))}
     said = {re.sub(r" \{\d*\}$", " N", it) for it in said}
     for it in TABLES["input"]:
         yield f"no fault of the code: {it['line']}", it["line"] in said, True
@@ -280,7 +349,8 @@ def of_documents():
     found = re.findall(r"(\d+)\s+`(\w+)`", read("README.md").partition("`bad config N`")[2].partition("Their")[0])
     yield "README.md, the fields", found, [(str(number), name) for name, number in counted(NUMBERED)]
     found = re.search(r"\ball but (.*?) (?:is|are) required", read("docs/REFERENCE.md"))
-    yield "docs/REFERENCE.md, fields that may be missing", found and re.findall(r"`(\w+)`", found[1]), [*MISSING]
+    wanted = [*MISSING, *OBJECTS]
+    yield "docs/REFERENCE.md, fields that may be missing", found and re.findall(r"`(\w+)`", found[1]), wanted
     for it in GROUPS:
         found = re.search(rf"`{it['name']}` and 1 to (\d+)", read("docs/C.md"))
         yield f"docs/C.md, {it['name']}", found and int(found[1]), len(words_of_group(it))
@@ -294,5 +364,5 @@ def of_documents():
 
 def compared():
     """Each comparison: its words, what is found and what the tables say."""
-    for part in (of_fields, of_tests, of_forms, of_calls, of_refusals, of_faults, of_documents):
+    for part in (of_fields, of_bursts, of_writing, of_tests, of_forms, of_calls, of_refusals, of_faults, of_documents):
         yield from part()

@@ -6,13 +6,19 @@ import re
 import textwrap
 
 from kit import tables
-from texts import MISSING, compact, read
+from texts import MISSING, PROFILE, UNIFORM, compact, read
 
 TABLES = tables()
 FIELDS, CALLS, FLOWS, MEMBERS = (TABLES[it] for it in ("field", "call", "flow", "member"))
 REFUSALS, REASONS, STATUSES, GROUPS = (TABLES[it] for it in ("refusal", "reason", "status", "group"))
+BURSTS = TABLES["burst"]
 NUMBERED = [it["name"] for it in FIELDS if it.get("number", True)]
 MEMBER = {it["name"]: it for it in MEMBERS}
+# The fields that are objects.
+OBJECTS = [it["name"] for it in FIELDS if "bits" not in it]
+# The members of `bursts` that are numbers, and those that are profiles, with their names in C.
+SYMBOLS = [it["name"] for it in BURSTS if "bits" in it]
+PROFILES = {it["name"]: it["c"] for it in BURSTS if "bits" not in it}
 # The base configuration.
 BASE = {it["name"]: it["base"] for it in FIELDS if "base" in it}
 # The members that are minislots, which the struct of C has as one.
@@ -71,6 +77,11 @@ def table(heads, rows):
     return [row(*heads), "|" + "---|" * len(heads), *itertools.starmap(row, rows)]
 
 
+def instead(it):
+    """The members of a call that may stand in the place of others, with these."""
+    return it.get("instead", {})
+
+
 def values_of(it):
     return it.get("values") or code(it.get("names", [])) or "{} to {}".format(*it["range"])
 
@@ -85,16 +96,33 @@ def reference_fields():
     for them in together(FIELDS):
         names = [it["name"] for it in them]
         numbers = [str(NUMBERED.index(it) + 1) for it in names if it in NUMBERED]
-        examples = [str(it["base"]) if "base" in it else f"none: {it['missing']}" for it in them]
+        examples = [f"none: {it['missing']}" if "missing" in it else str(it.get("base", "none")) for it in them]
         examples = ", ".join(dict.fromkeys(examples))
-        rows.append([", ".join(numbers), code(names), values_of(them[0]), examples, them[0]["meaning"]])
+        meaning = them[0]["meaning"]
+        if "instead_of" in them[0]:
+            meaning += f", in the place of {code(them[0]['instead_of'], ' and ')}"
+        rows.append([", ".join(numbers), code(names), values_of(them[0]), examples, meaning])
     return table(["N", "Field", "Values", "Example", "Meaning"], rows)
+
+
+def reference_bursts():
+    rows = []
+    for it in BURSTS:
+        missing = f" (may be missing: as `{it['as']}`)" if "as" in it else ""
+        rows.append([f"`{it['name']}`{missing}", values_of(it) if "bits" in it else "a profile", it["meaning"]])
+    return table(["Member of `bursts`", "Values", "Meaning"], rows)
+
+
+def reference_profile():
+    rows = [[f"`{it['name']}`", values_of(it), it["meaning"]] for it in TABLES["profile"]]
+    return table(["Member of a profile", "Values", "Meaning"], rows)
 
 
 def reference_members(it):
     """The members of a call or a flow, with what is to be said of one."""
     more = {"flow": " (the next table)"}
     more |= {name: f" (may be missing: {member['missing']})" for name, member in MEMBER.items() if "missing" in member}
+    more |= {name: f" or `{other}`" for other, name in instead(it).items()}
     return ", ".join(f"`{name}`{more.get(name, '')}" for name in it["members"])
 
 
@@ -182,14 +210,32 @@ def c_statuses():
 
 def by_size():
     """The fields by their sizes, in an order that leaves no gaps."""
-    return [(bits, [it["name"] for it in FIELDS if it["bits"] == bits]) for bits in (32, 64, 8)]
+    return [(bits, [it["name"] for it in FIELDS if it.get("bits") == bits]) for bits in (32, 64, 8)]
+
+
+def c_members(kind, names):
+    """Members of a struct of C that have the same type."""
+    return [f"  {kind} {them};" for them in packed(names, WIDTH - len(f"  {kind} ;"))]
+
+
+def c_struct(name, *members):
+    return [f"struct mapsched_{name} {{", *itertools.chain(*members), "};"]
+
+
+def c_bursts():
+    """The structs of burst descriptors."""
+    profiles = c_members("struct mapsched_profile", PROFILES.values())
+    notes = [f"{it['c']} may be zeroes: as {PROFILES[it['as']]}" for it in BURSTS if "as" in it]
+    profile = c_struct("profile", c_members("uint32_t", PROFILE))
+    return [*profile, "", *c_struct("bursts", c_members("uint32_t", SYMBOLS), noted(profiles, notes, ""))]
 
 
 def c_config():
-    lines = []
-    for bits, names in by_size():
-        lines += [f"  uint{bits}_t {them};" for them in packed(names, WIDTH - len(f"  uint{bits}_t ;"))]
-    return ["struct mapsched_config {", *lines, "};"]
+    members = [c_members(f"uint{bits}_t", names) for bits, names in by_size()]
+    for name in OBJECTS:
+        note = f"0: {' and '.join(UNIFORM)} are read, and not {name}"
+        members += [noted([f"uint32_t has_{name};"], [note], "  "), [f"  struct mapsched_{name} {name};"]]
+    return [*c_bursts(), "", *c_struct("config", *members)]
 
 
 def c_kinds():
@@ -228,16 +274,29 @@ def c_texts():
 # python/mapsched, and an example that writes the structs of C
 
 
-def fields_of_struct(bits, names):
-    """Members of one size in the fields of a struct of ctypes."""
-    head, tail = f"        *((name, c_uint{bits}) for name in (", ")),"
+def fields_of_struct(kind, names):
+    """Members of one type in the fields of a struct of ctypes."""
+    head, tail = f"        *((name, {kind}) for name in (", ")),"
     lines = packed(quoted(names), WIDTH - len(head + tail))
-    return [f"{head}{them}{tail}" if ", " in them else f"        ({them}, c_uint{bits})," for them in lines]
+    return [f"{head}{them}{tail}" if ", " in them else f"        ({them}, {kind})," for them in lines]
+
+
+def struct_of_ctypes(name, *fields):
+    """A struct of C without unions in ctypes."""
+    head = [f"class {class_of(name)}Numbers(Structure):", f'    """struct mapsched_{name}"""', ""]
+    return [*head, "    _fields_ = [", *itertools.chain(*fields), "    ]"]
 
 
 def python_config_numbers():
-    lines = [line for bits, names in by_size() for line in fields_of_struct(bits, names)]
-    return ["    _fields_ = [", *lines, "    ]"]
+    profiles = fields_of_struct("ProfileNumbers", PROFILES.values())
+    fields = [fields_of_struct(f"c_uint{bits}", names) for bits, names in by_size()]
+    for it in OBJECTS:
+        fields.append([f'        ("has_{it}", c_uint32),', f'        ("{it}", {class_of(it)}Numbers),'])
+    return [
+        *struct_of_ctypes("profile", fields_of_struct("c_uint32", PROFILE)), "", "",
+        *struct_of_ctypes("bursts", fields_of_struct("c_uint32", SYMBOLS), profiles), "", "",
+        *struct_of_ctypes("config", *fields),
+    ]
 
 
 def python_call_numbers():
@@ -245,7 +304,7 @@ def python_call_numbers():
     for place in TABLES["place"]:
         kind = f"c_uint{place['bits']}"
         if "shared" not in place:
-            members += fields_of_struct(place["bits"], place["names"])
+            members += fields_of_struct(kind, place["names"])
             continue
         first, union = next(iter(place["shared"])), f"_{'Or'.join(map(class_of, place['shared']))}"
         fields = [f"({it}, {kind})" for it in quoted(place["shared"])]
@@ -258,15 +317,29 @@ def python_call_numbers():
     return [*unions, *head, *names, "    _fields_ = [", *members, "    ]"]
 
 
-def dataclass(name, told, members):
-    """A frozen class with these members, each with its type."""
+def dataclass(name, told, members, rest=()):
+    """A frozen class with these members, each with its type, and the rest of its lines."""
     told = textwrap.wrap(f'"""{told}"""', WIDTH, initial_indent="    ", subsequent_indent="    ")
-    return ["@dataclass(frozen=True)", f"class {name}:", *told, "", *(f"    {it}" for it in members), "", ""]
+    return ["@dataclass(frozen=True)", f"class {name}:", *told, "", *(f"    {it}" for it in members), *rest, "", ""]
 
 
 def python_fields():
-    must = [f"    {it['name']}: int" for it in FIELDS if "missing" not in it]
-    return must + [f"    {name}: int = {number}" for name, number in MISSING.items()]
+    must = [f"    {name}: int" for name in BASE if name not in UNIFORM]
+    missing = [f"    {name}: int = {number}" for name, number in MISSING.items()]
+    objects = [f"    {name}: Optional[{class_of(name)}] = None" for name in OBJECTS]
+    return [*must, *missing, *(f"    {name}: Optional[int] = None" for name in UNIFORM), *objects]
+
+
+def python_bursts():
+    lines = [f"    {name}: int" for name in SYMBOLS]
+    for it in BURSTS:
+        if "bits" not in it:
+            lines.append(f"    {it['name']}: " + ("Optional[Profile] = None" if "as" in it else "Profile"))
+    return lines
+
+
+def python_profile():
+    return [f"    {name}: int" for name in PROFILE]
 
 
 def typed(it, name):
@@ -276,10 +349,22 @@ def typed(it, name):
     return f"{name}: {kind}" + ("" if missing is None else f" = {missing}")
 
 
+def python_class(it):
+    """The class of a call or a flow. Of two members exactly one is told where one stands in the place of the other;
+    those behind have a value too then, which says that they are not told."""
+    members, others = [typed(it, name) for name in it["members"]], instead(it)
+    name, told, rest = class_of(it["name"]), it["python"], []
+    for other, replaced in others.items():
+        at = it["members"].index(replaced)
+        behind = [f"{member} = _MUST" for member in members[at + 1 :]]
+        members = [*members[:at], f"{replaced}: Optional[int] = None", *behind, f"{other}: Optional[int] = None"]
+        test = f"        _one_of(self, {', '.join(quoted([replaced, other]))})"
+        rest = ["", "    def __post_init__(self) -> None:", test]
+    return dataclass(name, told, members, rest)
+
+
 def python_classes(rows, name):
-    lines = []
-    for it in rows:
-        lines += dataclass(class_of(it["name"]), it["python"], [typed(it, member) for member in it["members"]])
+    lines = [line for it in rows for line in python_class(it)]
     return lines + listed(f"{name} = Union[", [class_of(it["name"]) for it in rows], "]")
 
 
@@ -293,12 +378,16 @@ def python_names():
         lines += listed(f"{name} = {{", [f'"{it["name"]}": {class_of(it["name"])}' for it in rows], "}")
     lines += listed("_USAGES = [", quoted(MEMBER["usage"]["names"]), "]")
     lines += ["# The members that the struct has as `minislot`."]
-    return lines + listed("_MINISLOTS = {", quoted(MINISLOTS), "}")
+    lines += listed("_MINISLOTS = {", quoted(MINISLOTS), "}")
+    lines += ["# The fields that are not read where there are burst descriptors, and what the struct has for profiles."]
+    lines += listed("_NOT_WITH_BURSTS = {", quoted(UNIFORM), "}")
+    return lines + listed("_PROFILES = {", [f'"{name}": "{of}"' for name, of in PROFILES.items()], "}")
 
 
 def exported():
     """What the module takes from `calls.py`."""
-    return sorted([class_of(it["name"]) for it in (*CALLS, *FLOWS)] + ["Call", "Config", "Flow", "call_of"])
+    values = ["Bursts", "Call", "Config", "Flow", "Profile", "call_of"]
+    return sorted([class_of(it["name"]) for it in (*CALLS, *FLOWS)] + values)
 
 
 def python_imports():
@@ -329,6 +418,7 @@ def example_names():
     (_, words), (_, longs), (_, bytes_) = by_size()
     lists = {"KINDS": [it["name"] for it in CALLS], "FLOWS": [it["name"] for it in FLOWS]}
     lists |= {"USAGES": MEMBER["usage"]["names"], "WORDS": words, "LONGS": longs, "BYTES": bytes_}
+    lists |= {"SYMBOLS": SYMBOLS, "PROFILES": PROFILES, "PROFILE": PROFILE}
     lines = [line for name, of in lists.items() for line in listed(f"{name} = [", quoted(of), "]")]
     places = []
     for it in TABLES["place"]:
@@ -337,7 +427,7 @@ def example_names():
         places += [f'("{FORMS[it["bits"]]}", [{", ".join(quoted(them))}])' for them in names]
     lines += listed("PLACES = [", places, "]")
     missing = {it["name"]: it["missing"] for it in MEMBERS if "missing" in it}
-    for name, of in {"CONFIG": MISSING, "FLOW": missing}.items():
+    for name, of in {"CONFIG": {**MISSING, **dict.fromkeys(UNIFORM, 0)}, "FLOW": missing}.items():
         lines += listed(f"MISSING_IN_{name} = {{", [f'"{it}": {number}' for it, number in of.items()], "}")
     return lines
 
@@ -385,7 +475,8 @@ WHOLE = {
 # Parts of files, each between two comments.
 PARTS = {
     "docs/REFERENCE.md": {
-        "fields": reference_fields, "calls": reference_calls, "flows": reference_flows, "members": reference_values,
+        "fields": reference_fields, "bursts": reference_bursts, "profile": reference_profile,
+        "calls": reference_calls, "flows": reference_flows, "members": reference_values,
         "refusals": reference_refusals, "reasons": reference_reasons, "faults of a payload": reference_payload,
         "faults of the input": reference_input,
     },
@@ -394,7 +485,10 @@ PARTS = {
         "call": c_call, "replies": c_replies, "texts": c_texts,
     },
     "python/mapsched/__init__.py": {"imports": python_imports, "exports": python_exports},
-    "python/mapsched/calls.py": {"fields": python_fields, "flows and calls": python_calls, "names": python_names},
+    "python/mapsched/calls.py": {
+        "fields": python_fields, "bursts": python_bursts, "profile": python_profile, "flows and calls": python_calls,
+        "names": python_names,
+    },
     "python/mapsched/faults.py": {"texts": python_faults},
     "python/mapsched/library.py": {"configuration": python_config_numbers, "call": python_call_numbers},
     "python/mapsched/replies.py": {"refusals": python_refusals, "values": python_values},

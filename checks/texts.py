@@ -31,11 +31,11 @@ def table(name):
     return read(f"checks/rows/{name}").rstrip("\n")
 
 
-CONFIG, FORMS = table("base_configuration"), table("forms_of_calls")
+CONFIG, FORMS, BURSTS = table("base_configuration"), table("forms_of_calls"), table("burst_profiles")
 PLAIN, SEVERAL = table("runs"), table("runs_with_several_grants")
 CROWDS = [table("runs_of_many_flows"), table("a_run_of_many_grants"), table("a_run_of_forty_grants")]
-RANGING = table("runs_with_opportunities")
-RUNS = [PLAIN, SEVERAL, RANGING, *CROWDS]
+RANGING, BURSTY = table("runs_with_opportunities"), table("runs_with_bursts")
+RUNS = [PLAIN, SEVERAL, RANGING, BURSTY, *CROWDS]
 REPLIES, BUILD = table("a_history_with_each_reply"), table("a_history_of_one_build")
 CALLS = read("checks/rows/calls_of_each_name")
 
@@ -60,13 +60,31 @@ def compact(value):
     return json.dumps(value, sort_keys=True, separators=(",", ":"))
 
 
-# What a text that lacks a field of the configuration means.
-MISSING = {it["name"]: it["missing"] for it in tables()["field"] if "missing" in it}
+# What a text that lacks a field of the configuration means, where that is a number.
+MISSING = {it["name"]: it["missing"] for it in tables()["field"] if isinstance(it.get("missing"), int)}
+# The fields that nobody reads where `bursts` stands, and the profiles that stand in that, each with these numbers.
+UNIFORM = [name for it in tables()["field"] for name in it.get("instead_of", [])]
+PROFILES = [it["name"] for it in tables()["burst"] if "bits" not in it]
+PROFILE = [it["name"] for it in tables()["profile"]]
+
+
+def completed(config):
+    """A configuration as a history has it: with all fields; `bursts` stands in the place of those that nobody reads
+    beside it, and has a profile of unsolicited grants where that is not the one of long grants."""
+    config = {**MISSING, **config}
+    if "bursts" not in config:
+        return config
+    bursts = config["bursts"]
+    profiles = {name: {key: bursts[name][key] for key in PROFILE} for name in PROFILES if name in bursts}
+    if profiles.get("unsolicited") == profiles["long"]:
+        del profiles["unsolicited"]
+    bursts = {"symbols": bursts["symbols"], **profiles}
+    return {key: config[key] for key in config if key not in UNIFORM} | {"bursts": bursts}
 
 
 def whole(config):
-    """A configuration with all fields, as a history has it."""
-    return compact({**MISSING, **json.loads(config)})
+    """A configuration as a history has it, as a text."""
+    return compact(completed(json.loads(config)))
 
 
 def maps_in_readme():
@@ -75,12 +93,23 @@ def maps_in_readme():
 
 
 def config_of(table):
-    """The base configuration with the edits of a table, which are lines with an arrow `->`."""
+    """The base configuration with the edits of a table, which are lines with an arrow `->`, and in which `#bursts`
+    stands for burst profiles."""
     config = CONFIG
     for line in table.splitlines():
         if " -> " in line:
-            config = edited(config, *line.split(" -> ", 1))
+            config = edited(config, *line.replace("#bursts", BURSTS).split(" -> ", 1))
     return config
+
+
+# The base configuration with burst profiles.
+DESCRIBED = config_of('"bytes_per_slot":16 -> "bursts":#bursts\n"short_max":8 -> "short_max":6')
+DESCRIBED = edited(DESCRIBED, '"overhead":2,', "")
+
+
+def field_of(row):
+    """The field that an edit of a configuration is about: the first that it writes."""
+    return row.partition(" -> ")[2].split('"')[1]
 
 
 def json_of(row):
@@ -198,7 +227,7 @@ class Tally:
 
 
 # The commands that only the program with all of them has.
-LATER = {"draw", "audit", "report", "storm", "check", "live"}
+LATER = {"draw", "audit", "report", "storm", "check", "live", "bursts"}
 
 
 class Program(Tally):

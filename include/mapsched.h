@@ -49,7 +49,7 @@ extern "C" {
 
 /* How many fields of a configuration can be wrong, and faults a payload, the numbers of a MAP and a request have. */
 /* checks/tables: counts begin */
-#define MAPSCHED_CONFIG_FIELDS 19
+#define MAPSCHED_CONFIG_FIELDS 20
 #define MAPSCHED_PAYLOAD_FAULTS 7
 #define MAPSCHED_MAP_FAULTS 5
 #define MAPSCHED_REQUEST_FAULTS 4
@@ -78,20 +78,31 @@ enum mapsched_status {
   MAPSCHED_HANDED_OVER = 18,  /* an entry, or one of a history, is no longer kept: it was let go */
   MAPSCHED_NO_TURN = 19,      /* the worker is not in its turn */
   MAPSCHED_KEEPS_ALL = 20,    /* the scheduler of the workplace keeps its whole history: nothing was let go */
-  MAPSCHED_BAD_CONFIG = 100,  /* and the number of the first wrong field: 101 to 119, by docs/REFERENCE.md */
+  MAPSCHED_BAD_CONFIG = 100,  /* and the number of the first wrong field: 101 to 120, by docs/REFERENCE.md */
   MAPSCHED_BAD_PAYLOAD = 200, /* and the number of the first fault: 201 to 207, by docs/REFERENCE.md */
   MAPSCHED_BAD_MAP = 300,     /* and the number of the first fault of numbers that are no MAP: 301 to 305 */
   MAPSCHED_BAD_REQUEST = 400  /* and the number of the first fault of bytes that are no request frame: 401 to 404 */
 };
 /* checks/tables: statuses end */
 
-/* The configuration of a channel. docs/REFERENCE.md has the values that are lawful. */
+/* The configuration of a channel, with its burst descriptors. docs/REFERENCE.md has the values that are lawful. */
 /* checks/tables: configuration begin */
+struct mapsched_profile {
+  uint32_t preamble, guard, bits, parity, information, shortened;
+};
+
+struct mapsched_bursts {
+  uint32_t symbols;
+  struct mapsched_profile short_data, long_data, unsolicited; /* unsolicited may be zeroes: as long_data */
+};
+
 struct mapsched_config {
   uint32_t ticks, bytes_per_slot, overhead, frame, cycle, req_slots, poll_slots, lead, short_max, quantum, grant_cap;
   uint32_t calls;
   uint64_t start;
   uint8_t receivers, ranging_start, ranging_end, data_start, data_end, channel, ucd_count, phy;
+  uint32_t has_bursts; /* 0: bytes_per_slot and overhead are read, and not bursts */
+  struct mapsched_bursts bursts;
 };
 /* checks/tables: configuration end */
 
@@ -99,7 +110,7 @@ struct mapsched_config {
 enum mapsched_call_kind {
   MAPSCHED_ADMIT = 0,
   MAPSCHED_REMOVE = 1,
-  MAPSCHED_ASK = 2,
+  MAPSCHED_ASK = 2,     /* a request: for bytes, or where has_slots is not 0 for what slots carry */
   MAPSCHED_HEARD = 3,
   MAPSCHED_BUILD = 4,
   MAPSCHED_SKIP = 5,
@@ -118,7 +129,7 @@ enum mapsched_usage { MAPSCHED_INITIAL = 0, MAPSCHED_STATION = 1 };
 
 /*
  * A call by its kind. A kind reads only its own numbers; in a history the others are 0. Where two names share a place,
- * the second is that of an opportunity or a header.
+ * the second is that of an opportunity, a header or a request in minislots.
  */
 /* checks/tables: call begin */
 struct mapsched_call {
@@ -129,10 +140,10 @@ struct mapsched_call {
   };
   union {
     uint32_t size;  /* of an unsolicited flow: the bytes of a grant */
-    uint32_t slots; /* of an opportunity: minislots */
+    uint32_t slots; /* of an opportunity, or of a request with has_slots: minislots */
   };
   uint32_t interval_us, jitter_us, rate, burst; /* of an admission: microseconds, bits per second, bytes */
-  uint32_t bytes;                               /* of a request */
+  uint32_t bytes;                               /* of a request without has_slots */
   uint64_t minislot;                            /* when it was heard, up to when all was, or now */
   uint16_t sid;
   union {
@@ -148,6 +159,7 @@ struct mapsched_call {
     uint8_t ranging_end;
   };
   uint8_t data_start, data_end;
+  uint8_t has_slots; /* of a request: 0 where bytes are read, else slots are */
 };
 /* checks/tables: call end */
 
@@ -367,7 +379,7 @@ static inline const char *mapsched_status_text(uint32_t status) {
   static const char *const fields[] = {
       "ticks", "bytes_per_slot", "overhead", "frame", "cycle", "req_slots", "poll_slots", "lead", "short_max",
       "quantum", "grant_cap", "receivers", "calls", "start", "ranging_start", "ranging_end", "data_start", "data_end",
-      "phy",
+      "phy", "bursts",
   };
   static const char *const faults[] = {
       "too short", "too many elements", "wrong length", "an expansion", "a descent", "no null", "a second null",

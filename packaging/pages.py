@@ -1,4 +1,4 @@
-"""The man pages and the completion of words in bash, made of what the program's help says and of the header."""
+"""The man pages, made of what the program's help says and of the header."""
 
 import itertools
 import re
@@ -76,7 +76,7 @@ def command_section(program, name):
 
 def program_page(program, version, date):
     """mapsched(1)"""
-    about, _, rest = sections_of(help_of(program))
+    about, named, rest = sections_of(help_of(program))
     commands = commands_of(program)
     usages = [sections_of(help_of(program, name))[1]["Usage"] for name, _ in commands]
     parts = [title("MAPSCHED", 1, date, version, "User Commands")]
@@ -85,7 +85,9 @@ def program_page(program, version, date):
     parts += [f"{plain(about)} of a cable modem termination system,\nrun on scripts and histories in JSON.\n"]
     parts += [".SH COMMANDS\n"]
     parts += [command_section(program, name) for name, _ in commands]
-    parts += [".SH EXIT STATUS\n", verbatim(rest.partition("\n\n")[0].partition("\n")[2])]
+    parts += [".SS mapsched help [COMMAND]\nPrints what the program, or a command, reads and prints.\n"]
+    parts += [".SH OPTIONS\n", table(rows_of(named["Options"])), ".SH EXIT STATUS\n"]
+    parts.append(verbatim(rest.partition("\n\n")[0].partition("\n")[2]))
     files = [("docs/REFERENCE.md", "fields, calls, lines and refusals"), ("examples", "scripts")]
     parts += [".SH FILES\n", table([(f"/usr/share/doc/mapsched/{it}", about) for it, about in files])]
     return "".join([*parts, ".SH SEE ALSO\n.BR mapsched.h (3)\n"])
@@ -98,6 +100,7 @@ def blocks_of(header):
     """The comments of a header, each with the code behind it."""
     body = header[header.index('extern "C" {\n#endif\n') : header.index("#ifdef __cplusplus\n}")]
     body = body.partition("#endif\n")[2]
+    body = re.sub(r"^ */\* checks/tables: .*\n", "", body, flags=re.M)
     body = re.sub(r"^(static inline .*?) \{\n.*?^\}\n", r"\1;\n", body, flags=re.S | re.M)
     for block in body.strip("\n").split("\n\n"):
         found = re.match(r"/\*(.*?)\*/\n?", block, re.S)
@@ -138,32 +141,3 @@ def header_page(header, version, date):
             if kind_of(code) == section:
                 parts += [paragraphs(comment) if comment else ".PP\n", verbatim(code)]
     return "".join([*parts, ".SH SEE ALSO\n.BR mapsched (1)\n"])
-
-
-# The completion.
-
-
-def options_of(program, *words):
-    _, named, _ = sections_of(help_of(program, *words))
-    return " ".join(re.findall(r"--[a-z]+", " ".join(words for words, _ in rows_of(named["Options"]))))
-
-
-def completion(program):
-    """The words of the command line for bash: commands first, then the options of a command, else files."""
-    names = [name for name, _ in commands_of(program)]
-    cases = "".join(f"      {name}) words='{options_of(program, name)}' ;;\n" for name in names)
-    return f"""# The words of mapsched's command line, made of its help.
-_mapsched() {{
-  local current=${{COMP_WORDS[COMP_CWORD]}} words=''
-  if [ "$COMP_CWORD" = 1 ]; then
-    words='{' '.join([*names, 'help'])} {options_of(program)}'
-  elif [ "$COMP_CWORD" = 2 ] && [ "${{COMP_WORDS[1]}}" = help ]; then
-    words='{' '.join(names)}'
-  elif [ "${{current:0:1}}" = - ]; then
-    case ${{COMP_WORDS[1]}} in
-{cases}    esac
-  fi
-  mapfile -t COMPREPLY < <(compgen -W "$words" -- "$current")
-}}
-complete -o default -F _mapsched mapsched
-"""

@@ -25,7 +25,7 @@ static struct mapsched_config lawful(void) {
 }
 
 /* The bytes of a call up to its last number: what is behind it in the struct is nobody's. */
-enum { NUMBERS = offsetof(struct mapsched_call, data_end) + 1 };
+enum { NUMBERS = offsetof(struct mapsched_call, has_slots) + 1 };
 
 static int failures = 0;
 
@@ -346,6 +346,87 @@ static void opportunities(void) {
   WANT(mapsched_close(&scheduler) == MAPSCHED_OK);
 }
 
+/* Makes a request, and wants that it is taken or refused by this number, and that it stands so in the history. */
+static void asks(struct mapsched_scheduler *scheduler, struct mapsched_call ask, uint32_t refusal) {
+  struct mapsched_stamp stamp = {0};
+  struct mapsched_reply reply;
+  struct mapsched_entry entry;
+  size_t count = 0;
+  WANT(mapsched_call(scheduler, &stamp, &ask, &reply) == MAPSCHED_OK && reply.refusal == refusal);
+  WANT(reply.kind == (refusal ? MAPSCHED_REFUSED : MAPSCHED_TAKEN) && reply.value == 0);
+  WANT(mapsched_count(scheduler, &count) == MAPSCHED_OK);
+  WANT(mapsched_entry(scheduler, count - 1, &entry) == MAPSCHED_OK && memcmp(&entry.call, &ask, NUMBERS) == 0);
+}
+
+/* Requests in minislots: those that carry no byte or too many are refused, and others add what they carry. */
+static void minislots(void) {
+  static const char recorded[] = "{\"call\":\"ask\",\"heard\":801,\"receiver\":0,\"sid\":6,\"slots\":9}";
+  struct mapsched_config config = lawful();
+  struct mapsched_scheduler scheduler = {0};
+  struct mapsched_stamp stamp = {0};
+  struct mapsched_call data = {.kind = MAPSCHED_ADMIT, .flow = MAPSCHED_BEST_EFFORT, .sid = 6};
+  struct mapsched_call build = {.kind = MAPSCHED_BUILD, .minislot = 760};
+  struct mapsched_call status = {.kind = MAPSCHED_STATUS, .sid = 6};
+  struct mapsched_call ask = {.kind = MAPSCHED_ASK, .sid = 6, .has_slots = 1, .minislot = 801};
+  static const uint32_t wrong[] = {0, 2, 65538, (1u << 28) + 3, UINT32_MAX};
+  struct mapsched_reply reply;
+  static uint8_t text[10000];
+  size_t length = 0;
+  config.calls = 100;
+
+  WANT(mapsched_open(&scheduler, &config) == MAPSCHED_OK);
+  WANT(mapsched_call(&scheduler, &stamp, &build, &reply) == MAPSCHED_OK && reply.kind == MAPSCHED_BUILT);
+  WANT(mapsched_call(&scheduler, &stamp, &data, &reply) == MAPSCHED_OK && reply.kind == MAPSCHED_ADMITTED);
+  for (size_t i = 0; i < sizeof wrong / sizeof *wrong; i++) {
+    ask.slots = wrong[i];
+    asks(&scheduler, ask, 10);
+  }
+  ask.slots = 65537;
+  asks(&scheduler, ask, 0);
+  ask.slots = 9;
+  asks(&scheduler, ask, 0);
+  WANT(mapsched_call(&scheduler, &stamp, &status, &reply) == MAPSCHED_OK && reply.asked == 1048560 + 112);
+
+  /* Any flag but 0 says so, and bytes beside it are not read; with 0 they are, and slots are not. */
+  ask.has_slots = 255;
+  ask.bytes = 7;
+  WANT(mapsched_call(&scheduler, &stamp, &ask, &reply) == MAPSCHED_OK && reply.kind == MAPSCHED_TAKEN);
+  ask.has_slots = 0;
+  WANT(mapsched_call(&scheduler, &stamp, &ask, &reply) == MAPSCHED_OK && reply.kind == MAPSCHED_TAKEN);
+  WANT(mapsched_call(&scheduler, &stamp, &status, &reply) == MAPSCHED_OK && reply.asked == 1048560 + 112 + 112 + 7);
+  WANT(mapsched_lines(&scheduler, text, sizeof text, &length) == MAPSCHED_OK && strstr((char *)text, recorded));
+  WANT(mapsched_close(&scheduler) == MAPSCHED_OK);
+}
+
+/* Burst descriptors: where they are read, and one of unsolicited grants that is left out. */
+static void bursts(void) {
+#define PROFILE "{\"bits\":6,\"guard\":22,\"information\":232,\"parity\":9,\"preamble\":32,\"shortened\":1}"
+  static const char front[] = "{\"config\":{\"bursts\":{\"long\":" PROFILE ",\"short\":" PROFILE ",\"symbols\":64},";
+  static const struct mapsched_profile none, profile = {
+      .preamble = 32, .guard = 22, .bits = 6, .parity = 9, .information = 232, .shortened = 1};
+  struct mapsched_config config = lawful();
+  struct mapsched_scheduler scheduler = {0};
+  static uint8_t text[10000];
+  size_t length = 0;
+
+  config.bursts.symbols = 64;
+  config.bursts.short_data = config.bursts.long_data = profile;
+  config.bytes_per_slot = 0;
+  WANT(mapsched_check(&config) == MAPSCHED_BAD_CONFIG + 2);
+  config.has_bursts = 1;
+  WANT(mapsched_open(&scheduler, &config) == MAPSCHED_OK);
+  WANT(mapsched_opening(&scheduler, text, sizeof text, &length) == MAPSCHED_OK);
+  WANT(memcmp(text, front, sizeof front - 1) == 0 && mapsched_close(&scheduler) == MAPSCHED_OK);
+  config.has_bursts = UINT32_MAX;
+  WANT(mapsched_check(&config) == MAPSCHED_OK);
+  config.bursts.unsolicited.shortened = 1;
+  WANT(mapsched_check(&config) == MAPSCHED_BAD_CONFIG + 20 && strcmp(mapsched_status_text(120), "bursts") == 0);
+  config.bursts.unsolicited = profile;
+  WANT(mapsched_check(&config) == MAPSCHED_OK);
+  config.bursts.short_data = none;
+  WANT(mapsched_check(&config) == MAPSCHED_BAD_CONFIG + 20);
+}
+
 int main(void) {
   struct mapsched_config config = lawful(), wrong = lawful();
   struct mapsched_scheduler scheduler = {0};
@@ -479,5 +560,7 @@ int main(void) {
   turns();
   frames();
   opportunities();
+  minislots();
+  bursts();
   return failures != 0;
 }

@@ -33,5 +33,6 @@ class Again(Live):
         entry = self._entries[self._made]
         self._made += 1
         if entry["call"] != call:
-            raise Fault(f"the journal is of another plant (another seed?): it has {entry['call']}, not {call}")
+            which = "the journal is of another plant (another seed, or other modems?)"
+            raise Fault(f"{which}: it has {entry['call']}, not {call}")
         return answer_in(entry["reply"])

@@ -1,5 +1,7 @@
 """Which plant it is: its channel, its modems and its troubles."""
 
+from typing import NamedTuple
+
 from modems import MILLISECOND, SECOND, Camera, Computer, Habits, Telephone
 
 # 10.24 Mbit/s in minislots of 12.5 microseconds; a frame lasts 2 milliseconds, its MAP is built 1.6 before it.
@@ -33,10 +35,22 @@ HABITS = [
 ]
 
 
-def modems_of(seed, now):
-    """10 telephones, 5 cameras, and computers: 3 of offices, 9 of homes, 3 that save their disks elsewhere."""
+# So many telephones or cameras have SIDs of their own.
+MOST = 100
+
+
+class Crowd(NamedTuple):
+    """How many modems there are. Of 15 computers 3 are of offices, 9 of homes, and 3 save their disks elsewhere."""
+
+    telephones: int = 10
+    cameras: int = 5
+    computers: int = 15
+
+
+def modems_of(seed, now, crowd):
+    habits = [HABITS[at * len(HABITS) // crowd.computers] for at in range(crowd.computers)]
     return [
-        *(Telephone(101 + at, VOICE[at % 2], seed, now) for at in range(10)),
-        *(Camera(201 + at, VIDEO, seed, now) for at in range(5)),
-        *(Computer(301 + at, flow, seed, now, habits) for at, (flow, habits) in enumerate(HABITS)),
+        *(Telephone(101 + at, VOICE[at % 2], seed, now) for at in range(crowd.telephones)),
+        *(Camera(201 + at, VIDEO, seed, now) for at in range(crowd.cameras)),
+        *(Computer(301 + at, flow, seed, now, its) for at, (flow, its) in enumerate(habits)),
     ]

@@ -136,6 +136,10 @@ class Live:
         """None, or `Refused`: a receiver heard at this minislot that a flow asks for so many bytes."""
         return self.call({"call": "ask", "receiver": receiver, "sid": sid, "bytes": count, "heard": heard})
 
+    def ask_minislots(self, receiver, sid, slots, heard):
+        """The same of a modem that asks for minislots, as those before DOCSIS 3.0 do: for what so many carry."""
+        return self.call({"call": "ask", "receiver": receiver, "sid": sid, "slots": slots, "heard": heard})
+
     def heard(self, receiver, upto):
         """None, or `Refused`: a receiver has handed in all that it heard before this minislot."""
         return self.call({"call": "heard", "receiver": receiver, "upto": upto})

@@ -74,6 +74,11 @@ class Life:
         self.parts, self.parts_at = min(self.parts + more, self.flow["burst"] * PART), start
         return self.parts // PART
 
+    def waited(self, now, least):
+        """How many requests were served or wait now, and how many of them took as long as this."""
+        waiting = [] if self.last else [now - heard for _, heard in self.unserved]
+        return len(self.delays) + len(waiting), sum(it >= least for it in (*self.delays, *waiting))
+
     def told(self, now):
         told = {"asked": self.asked, "asks": self.asks, "delay": summary(self.delays), "dropped": len(self.unserved),
                 "from": self.first, "granted": self.granted, "kind": self.flow["kind"],
@@ -121,6 +126,19 @@ class Counts:
         sums = {name: sum(one[name] for one in told) for name in ("asks", "dropped", "granted", "served", "waiting")}
         delays = [delay for life in lives for delay in life.delays]
         return {**sums, "delay": summary(delays), "rank": "polled" if rank == 8 else rank}
+
+    def starved(self, now, least):
+        """The part that polled flows have of all bytes that were granted to who asks; and, where it is above a half,
+        the ranks behind them of whose requests a tenth takes as long as this."""
+        lives = [(rank_of(life.flow), life) for life in self.lives]
+        granted = {True: 0, False: 0}
+        for rank, life in lives:
+            granted[rank == 8] += life.granted if rank is not None else 0
+        part, late = granted[True] / max(1, sum(granted.values())), []
+        for rank in sorted({rank for rank, _ in lives if rank is not None and rank < 8}, reverse=True):
+            asks, slow = map(sum, zip(*(life.waited(now, least) for its, life in lives if its == rank)))
+            late += [(rank, slow, asks)] if part > 0.5 and 10 * slow >= asks > 0 else []
+        return part, late
 
     def report(self, now):
         asked = {rank_of(life.flow) for life in self.lives if life.asks}

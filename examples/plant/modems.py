@@ -9,6 +9,8 @@ SECOND = 1000 * MILLISECOND
 UNIT, MOST_UNITS = 4, 65535  # A modem asks in units of so many bytes, and for no more units than this.
 MOST_RETRIES = 16
 PACKET = 1524
+# A modem that is always on asks again for its flow after so long.
+BLOCKED_FOR = (SECOND, 3 * SECOND)
 
 
 class Modem:
@@ -38,12 +40,13 @@ class Modem:
         """It is switched on or off where it is time for that; a telephone begins or ends its call."""
         if self.changes_at is not None and now >= self.changes_at:
             self.on = not self.on
-            self.changes_at = now + self.draw(self.on_for if self.on else self.off_for)
+            span = self.on_for if self.on else self.off_for
+            self.changes_at = now + self.draw(span) if span else None
             self.begin(now)
 
     def is_blocked(self, now):
         """There is no flow for it: it tries again when it would have ended."""
-        self.on, self.changes_at = False, now + self.draw(self.off_for)
+        self.on, self.changes_at = False, now + self.draw(self.off_for or BLOCKED_FOR)
 
     def fill(self, at):
         """What it has got to send up to this minislot is in its queue."""

@@ -3,6 +3,14 @@
 from modems import MILLISECOND, SECOND
 
 PARTS = ("least", "middle", "p99", "greatest")
+# What refusals mean that a plant can meet.
+REFUSALS = {
+    4: "no more flows: there are 64 already",
+    5: "too many grants: with the polls of an interval above 40",
+    6: "no place: the cycle has none for this flow",
+    7: "no flow with this SID is live",
+    16: "too late: the clock with its lead is past the next frame",
+}
 
 
 def of_all(part, whole):
@@ -24,13 +32,14 @@ def request_lines(plant, refused):
     count = plant.counts.requests
     given_up = sum(modem.given_up for modem in plant.modems.values())
     chances, alone, collisions = (count[name] for name in ("opportunities", "alone", "collisions"))
-    told = ", ".join(f"{many} with {number}" for number, many in refused.items()) or "none"
+    meanings = {number: REFUSALS.get(int(number), "docs/REFERENCE.md has it") for number in refused}
+    told = [f"    {many:6} with {number}: {meanings[number]}" for number, many in refused.items()]
     return [
         f"  {chances} chances to ask in the request region: in {alone} one request,",
         f"  in {collisions} a collision, in {chances - alone - collisions} nothing",
         f"  {count['collided']} requests collided, {count['noise']} were lost to noise, {given_up} packets were given up",
         f"  {count['poll']} requests in polls, {count['with data']} with data",
-        f"  refusals by the scheduler: {told}",
+        *(["  refusals by the scheduler:", *told] if told else []),
     ]
 
 
@@ -51,10 +60,26 @@ def flow_lines(counts):
     asked = sum(life.asked for life in counts.lives)
     granted = sum(life.granted for life in counts.lives) - sum(life.granted for life in voice)
     return [
-        f"  {len(voice)} voice calls, {counts.blocked} blocked; {counts.grants} voice grants, {late} of them late",
+        f"  {len(voice)} voice calls; {counts.grants} voice grants, {late} of them late;"
+        f" {counts.blocked} flows blocked",
         f"  {asked} bytes of data asked for, {granted} granted",
         f"  {counts.sent} bytes sent in data grants that had room for {counts.room}",
     ]
+
+
+def warnings(plant):
+    """What a user of another plant than the usual one may not expect."""
+    counts = plant.counts
+    if counts.refused[4]:
+        yield (f"a channel has at most 64 live flows, so {counts.refused[4]} admissions were refused: of"
+               f" {len(plant.modems)} modems the others waited for their turn")
+    if counts.refused[5] or counts.refused[6]:
+        yield (f"telephones and cameras found no room: {counts.refused[5]} admissions were above 40 grants and polls,"
+               f" and {counts.refused[6]} had no lawful place")
+    part, late = counts.starved(plant.next, SECOND)
+    for rank, slow, asks in late:
+        yield (f"polled flows are served first, and starve priority {rank}: they have {int(100 * part)} % of the bytes,"
+               f" and {slow} of its {asks} requests took a second or more")
 
 
 def page(plant, seed, journal):

@@ -8,18 +8,19 @@ import json
 import os
 import random
 import shutil
+import signal
 import subprocess
 import sys
 
 sys.dont_write_bytecode = True
 
 from again import Again  # noqa: E402
-from channel import CONFIG, LATE_BY, NOISE, READING, REQUEST_SLOTS, WELL_FOR, modems_of  # noqa: E402
-from client import Fault, Live, Refused  # noqa: E402
+from channel import CONFIG, LATE_BY, MOST, NOISE, READING, REQUEST_SLOTS, WELL_FOR, Crowd, modems_of  # noqa: E402
+from client import Ended, Fault, Live, Refused  # noqa: E402
 from counts import Counts  # noqa: E402
 from maps import ALL_MODEMS, NOBODY, REQUEST, read_map  # noqa: E402
 from modems import SECOND  # noqa: E402
-from page import page  # noqa: E402
+from page import page, warnings  # noqa: E402
 
 SCRIPT = os.path.realpath(f"{__file__}/../../../mapsched")
 NO_PROGRAM = "there is no mapsched on the path: install its package, or name the program with --program"
@@ -35,6 +36,18 @@ def expect(holds, what):
         raise Wrong(what)
 
 
+class Stopped(Exception):
+    """A signal that ends the plant."""
+
+    def __init__(self, number, _):
+        super().__init__(number)
+        self.number = number
+
+    @classmethod
+    def raised(cls, *told):
+        raise cls(*told)
+
+
 class Burst:
     """A request on its way: what the receiver has heard, and hands in when it has read it."""
 
@@ -45,11 +58,11 @@ class Burst:
 class Plant:
     """The channel's time, its receiver and its modems. `live` is who answers the calls."""
 
-    def __init__(self, live, config=CONFIG, seed=1):
+    def __init__(self, live, config=CONFIG, seed=1, crowd=Crowd()):
         self.live, self.config, self.counts = live, config, Counts(config)
         self.next = self.progress = config["start"]
         self.bursts = []
-        self.modems = {modem.sid: modem for modem in modems_of(seed, self.next)}
+        self.modems = {modem.sid: modem for modem in modems_of(seed, self.next, crowd)}
         self.chance = random.Random(f"{seed} head end")
         self.late_at = self.next + self.chance.randrange(*WELL_FOR)
 
@@ -215,31 +228,67 @@ def tell_what_is_left(live, journal):
 
 
 def arguments():
-    reader = argparse.ArgumentParser(description="A plant of 30 modems, scheduled by mapsched live.")
+    reader = argparse.ArgumentParser(description="A plant of 30 modems, or of others, scheduled by mapsched live.")
     reader.add_argument("--program", help="by default mapsched on the path, or else the repository's script")
     reader.add_argument("--seconds", type=float, default=60, help="of plant time (60)")
+    modems = "a third telephones, a sixth cameras, and computers (30)"
+    reader.add_argument("--modems", metavar="N", type=int, help=modems)
+    reader.add_argument("--telephones", metavar="N", type=int, help="so many of the modems are telephones")
+    reader.add_argument("--cameras", metavar="N", type=int, help="so many are cameras")
     reader.add_argument("--seed", type=int, default=1, help="another plant for another number (1)")
     reader.add_argument("--journal", metavar="FILE", help="keeps a journal; where it has calls, the plant goes on")
     reader.add_argument("--json", action="store_true", help="prints all numbers in JSON, delays in minislots")
     given = reader.parse_args()
     if given.seconds <= 0:
         reader.error("--seconds: a plant runs for some time")
+    given.crowd = crowd_of(given)
+    if min(given.crowd) < 0 or not sum(given.crowd):
+        reader.error(f"--modems: a plant cannot have {it_has(given.crowd)}")
+    if max(given.crowd[:2]) > MOST:
+        reader.error(f"a plant has at most {MOST} telephones and {MOST} cameras")
     return given
+
+
+def crowd_of(given):
+    """The modems that were asked for, with as many computers as the telephones and cameras leave."""
+    whole = sum(Crowd()) if given.modems is None else given.modems
+    telephones = whole // 3 if given.telephones is None else given.telephones
+    cameras = whole // 6 if given.cameras is None else given.cameras
+    return Crowd(telephones, cameras, Crowd().computers if given.modems is None else whole - telephones - cameras)
+
+
+def it_has(crowd):
+    return ", ".join(f"{many} {kind}" for kind, many in crowd._asdict().items())
+
+
+def how_to_go_on(journal):
+    """What to do when it was broken off."""
+    if journal:
+        print(f"plant.py: run the same command again to resume: {journal} has the calls up to here", file=sys.stderr)
 
 
 def main():
     given = arguments()
+    for number in (signal.SIGINT, signal.SIGTERM):
+        signal.signal(number, Stopped.raised)
     try:
         chosen = name_checked(given.program) if given.program else program()
         with (Again if given.journal else Live)(CONFIG, chosen, given.journal) as live:
-            plant = Plant(live, CONFIG, given.seed)
+            plant = Plant(live, CONFIG, given.seed, given.crowd)
             plant.run(given.seconds)
             if given.journal:
                 tell_what_is_left(live, given.journal)
     except (Fault, Wrong, OSError, subprocess.SubprocessError) as fault:
+        if isinstance(fault, Ended) and fault.status is not None and fault.status < 0:
+            how_to_go_on(given.journal)
         sys.exit(f"plant.py: {fault}")
-    except KeyboardInterrupt:
-        sys.exit(130)
+    except Stopped as stopped:
+        how_to_go_on(given.journal)
+        sys.exit(128 + stopped.number)
+    for warning in warnings(plant):
+        print(f"plant.py: warning: {warning}", file=sys.stderr)
+    # Who reads no further ends it, as he ends other programs.
+    signal.signal(signal.SIGPIPE, signal.SIG_DFL)
     if given.json:
         print(json.dumps(plant.counts.report(plant.next), sort_keys=True, separators=(",", ":")))
     else:

@@ -12,8 +12,8 @@ docs/PYTHON.md has a whole example. Units: minislots, bytes, microseconds, bits 
 """
 
 # checks/tables: imports begin
-from .calls import Admit, Ask, BestEffort, Build, Call, Config, Flow, Header, Heard, Polled, Remove, Reserve, Skip
-from .calls import Status, Unsolicited, call_of
+from .calls import Admit, Ask, BestEffort, Build, Bursts, Call, Config, Flow, Header, Heard, Polled, Profile, Remove
+from .calls import Reserve, Skip, Status, Unsolicited, call_of
 # checks/tables: imports end
 from .faults import BadConfig, BadMap, BadPayload, Closed, Fault, HandedOver, HistoryFull, NoHistory, OutOfMemory
 from .maps import Element, Map, decode, encode
@@ -25,10 +25,10 @@ __version__ = "0.2.0"
 
 # checks/tables: exports begin
 __all__ = [
-    "Admit", "Admitted", "Ask", "BadConfig", "BadMap", "BadPayload", "BestEffort", "Build", "Built", "Call", "Closed",
-    "Config", "Element", "Entry", "Fault", "Flow", "FlowBytes", "HandedOver", "Header", "Heard", "HistoryFull",
-    "Illegal", "Legal", "Map", "NoHistory", "Noted", "OutOfMemory", "Placed", "Polled", "Refusal", "Refused", "Remove",
-    "Removed", "Reply", "Reserve", "Reserved", "Scheduler", "Skip", "Skipped", "Status", "Taken", "Unsolicited",
-    "audit", "call_of", "check", "decode", "encode",
+    "Admit", "Admitted", "Ask", "BadConfig", "BadMap", "BadPayload", "BestEffort", "Build", "Built", "Bursts", "Call",
+    "Closed", "Config", "Element", "Entry", "Fault", "Flow", "FlowBytes", "HandedOver", "Header", "Heard",
+    "HistoryFull", "Illegal", "Legal", "Map", "NoHistory", "Noted", "OutOfMemory", "Placed", "Polled", "Profile",
+    "Refusal", "Refused", "Remove", "Removed", "Reply", "Reserve", "Reserved", "Scheduler", "Skip", "Skipped", "Status",
+    "Taken", "Unsolicited", "audit", "call_of", "check", "decode", "encode",
 ]
 # checks/tables: exports end

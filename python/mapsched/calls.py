@@ -3,20 +3,59 @@ values."""
 
 from __future__ import annotations
 
-from dataclasses import asdict, dataclass, fields
-from typing import Any, Mapping, Union
+from dataclasses import dataclass, fields
+from typing import Any, Mapping, Optional, Union
 
-from .library import CallNumbers, ConfigNumbers, fill
+from .library import BurstsNumbers, CallNumbers, ConfigNumbers, fill
+
+
+@dataclass(frozen=True)
+class Profile:
+    """The burst descriptor of a usage."""
+
+    # checks/tables: profile begin
+    preamble: int
+    guard: int
+    bits: int
+    parity: int
+    information: int
+    shortened: int
+    # checks/tables: profile end
+
+
+@dataclass(frozen=True)
+class Bursts:
+    """The burst descriptors of a channel. Profiles may be mappings, and `unsolicited` is as `long` where it is None."""
+
+    # checks/tables: bursts begin
+    symbols: int
+    short: Profile
+    long: Profile
+    unsolicited: Optional[Profile] = None
+    # checks/tables: bursts end
+
+    def __post_init__(self) -> None:
+        for name in self._told():
+            _become(self, name, Profile)
+
+    def _told(self) -> list[str]:
+        return [name for name in _PROFILES if name != "unsolicited" or self.unsolicited is not None]
+
+    def numbers(self) -> BurstsNumbers:
+        """The struct for the library; ValueError where a value does not fit."""
+        numbers = fill(BurstsNumbers(), symbols=self.symbols)
+        for name in self._told():
+            fill(getattr(numbers, _PROFILES[name]), **_values(getattr(self, name)))
+        return numbers
 
 
 @dataclass(frozen=True)
 class Config:
-    """The configuration of a channel, with the names that a script has: `Config(**script["config"])`."""
+    """The configuration of a channel, with the names that a script has: `Config(**script["config"])`. Either `bursts`
+    is told, which may be a mapping, or `bytes_per_slot` and `overhead` are."""
 
     # checks/tables: fields begin
     ticks: int
-    bytes_per_slot: int
-    overhead: int
     frame: int
     cycle: int
     req_slots: int
@@ -35,11 +74,50 @@ class Config:
     channel: int
     ucd_count: int
     phy: int = 0
+    bytes_per_slot: Optional[int] = None
+    overhead: Optional[int] = None
+    bursts: Optional[Bursts] = None
     # checks/tables: fields end
+
+    def __post_init__(self) -> None:
+        if self.bursts is not None:
+            _become(self, "bursts", Bursts)
 
     def numbers(self) -> ConfigNumbers:
         """The struct for the library; ValueError where a value does not fit."""
-        return fill(ConfigNumbers(), **asdict(self))
+        values = _values(self)
+        bursts = values.pop("bursts")
+        if bursts is None:
+            return fill(ConfigNumbers(), **values)
+        values = {name: value for name, value in values.items() if name not in _NOT_WITH_BURSTS}
+        numbers = fill(ConfigNumbers(), has_bursts=1, **values)
+        numbers.bursts = bursts.numbers()
+        return numbers
+
+
+def _become(value: object, name: str, kind: type) -> None:
+    """Makes a member of a value that is being made one of this kind, from a mapping too, whose other keys are passed
+    over; TypeError where it is none."""
+    member = getattr(value, name)
+    if isinstance(member, Mapping):
+        told = {it.name: member[it.name] for it in fields(kind) if it.name in member}
+        object.__setattr__(value, name, kind(**told))
+    elif not isinstance(member, kind):
+        raise TypeError(f"{name} is {member!r}")
+
+
+# Stands for a member that is not told, and has to be.
+_MUST: Any = object()
+
+
+def _one_of(value: object, *names: str) -> None:
+    """TypeError where not exactly one of these members is told, or another is not told that has to be."""
+    values = _values(value)
+    if [values[name] is None for name in names].count(False) != 1:
+        raise TypeError(f"exactly one of {' and '.join(names)} has to be told")
+    for name, told in values.items():
+        if told is _MUST:
+            raise TypeError(f"{name} has to be told")
 
 
 # checks/tables: flows and calls begin
@@ -92,12 +170,17 @@ class Remove:
 
 @dataclass(frozen=True)
 class Ask:
-    """A request that a receiver heard at a minislot. The reply is `Taken`."""
+    """A request that a receiver heard at a minislot: for `bytes`, or for what so many minislots carry, `slots`. The
+    reply is `Taken`."""
 
     receiver: int
     sid: int
-    bytes: int
-    heard: int
+    bytes: Optional[int] = None
+    heard: int = _MUST
+    slots: Optional[int] = None
+
+    def __post_init__(self) -> None:
+        _one_of(self, "bytes", "slots")
 
 
 @dataclass(frozen=True)
@@ -163,6 +246,9 @@ _FLOWS = {"unsolicited": Unsolicited, "polled": Polled, "best_effort": BestEffor
 _USAGES = ["initial", "station"]
 # The members that the struct has as `minislot`.
 _MINISLOTS = {"heard", "upto", "now"}
+# The fields that are not read where there are burst descriptors, and what the struct has for profiles.
+_NOT_WITH_BURSTS = {"bytes_per_slot", "overhead"}
+_PROFILES = {"short": "short_data", "long": "long_data", "unsolicited": "unsolicited"}
 # checks/tables: names end
 _CALL_TYPES, _FLOW_TYPES = list(_CALLS.values()), list(_FLOWS.values())
 
@@ -194,6 +280,9 @@ def numbers_of(call: Call) -> CallNumbers:
         if call.usage not in _USAGES:
             raise ValueError(f"{call.usage!r} is no usage")
         values |= {"usage": _USAGES.index(call.usage), "sid": call.sid if call.usage == "station" else 0}
+    if isinstance(call, Ask):
+        values["has_slots"] = int(call.slots is not None)
+        del values["slots" if call.slots is None else "bytes"]
     values = {"minislot" if name in _MINISLOTS else name: value for name, value in values.items()}
     return fill(CallNumbers(), kind=_CALL_TYPES.index(type(call)), **values)
 
@@ -207,4 +296,6 @@ def from_numbers(numbers: CallNumbers) -> Call:
         values["flow"] = flow(*(getattr(numbers, it.name) for it in fields(flow)))
     if "usage" in values:
         values["usage"] = _USAGES[numbers.usage]
+    if kind is Ask:
+        del values["bytes" if numbers.has_slots else "slots"]
     return kind(**values)

@@ -11,18 +11,37 @@ MAX_STARTS, MAX_BYTES, MAX_ELEMENTS = 512, 976, 240
 SONAME = "libmapsched.so.0.2"
 
 
+# checks/tables: configuration begin
+class ProfileNumbers(Structure):
+    """struct mapsched_profile"""
+
+    _fields_ = [
+        *((name, c_uint32) for name in ("preamble", "guard", "bits", "parity", "information", "shortened")),
+    ]
+
+
+class BurstsNumbers(Structure):
+    """struct mapsched_bursts"""
+
+    _fields_ = [
+        ("symbols", c_uint32),
+        *((name, ProfileNumbers) for name in ("short_data", "long_data", "unsolicited")),
+    ]
+
+
 class ConfigNumbers(Structure):
     """struct mapsched_config"""
 
-    # checks/tables: configuration begin
     _fields_ = [
         *((name, c_uint32) for name in ("ticks", "bytes_per_slot", "overhead", "frame", "cycle", "req_slots")),
         *((name, c_uint32) for name in ("poll_slots", "lead", "short_max", "quantum", "grant_cap", "calls")),
         ("start", c_uint64),
         *((name, c_uint8) for name in ("receivers", "ranging_start", "ranging_end", "data_start", "data_end")),
         *((name, c_uint8) for name in ("channel", "ucd_count", "phy")),
+        ("has_bursts", c_uint32),
+        ("bursts", BurstsNumbers),
     ]
-    # checks/tables: configuration end
+# checks/tables: configuration end
 
 
 # checks/tables: call begin
@@ -62,6 +81,7 @@ class CallNumbers(Structure):
         ("_priority", _PriorityOrRangingStart),
         ("_grants", _GrantsOrRangingEnd),
         *((name, c_uint8) for name in ("data_start", "data_end")),
+        ("has_slots", c_uint8),
     ]
 # checks/tables: call end
 

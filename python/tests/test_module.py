@@ -1,6 +1,7 @@
 """What no table has: drawn scripts beside the program, closing, values that do not fit, threads, and the structs."""
 
 import ctypes
+import dataclasses
 import json
 import os
 import subprocess
@@ -10,8 +11,9 @@ import unittest
 from shutil import which
 
 import mapsched
-from mapsched import Ask, BadMap, Build, Built, Closed, Config, Element, HandedOver, Header, HistoryFull, NoHistory
-from mapsched import Noted, Refused, Reserve, Reserved, Scheduler, Status
+from mapsched import Admit, Ask, BadConfig, BadMap, BestEffort, Build, Built, Bursts, Closed, Config, Element
+from mapsched import HandedOver, Header, HistoryFull, NoHistory, Noted, Profile, Refused, Reserve, Reserved, Scheduler
+from mapsched import Status, Taken
 from mapsched import library
 
 from . import tables
@@ -20,10 +22,23 @@ from .tables import texts
 CONFIG = Config(**json.loads(texts.CONFIG))
 PROGRAM = os.environ.get("MAPSCHED_PROGRAM")
 STRUCTS = {
-    "config": library.ConfigNumbers, "call": library.CallNumbers, "stamp": library.StampNumbers,
+    "profile": library.ProfileNumbers, "bursts": library.BurstsNumbers, "config": library.ConfigNumbers,
+    "call": library.CallNumbers, "stamp": library.StampNumbers,
     "reply": library.ReplyNumbers, "entry": library.EntryNumbers, "element": library.ElementNumbers,
     "map": library.MapNumbers, "scheduler": library.Handle,
 }
+
+
+# 64-QAM at 5.12 million symbols a second, in minislots of 64 symbols.
+SHORT = Profile(preamble=32, guard=22, bits=6, parity=6, information=76, shortened=1)
+LONG = dataclasses.replace(SHORT, parity=9, information=232)
+BURSTS = Bursts(64, SHORT, LONG)
+
+
+def with_bursts(bursts):
+    """The base configuration with burst descriptors, in MAPs of 80 minislots of 12.5 microseconds."""
+    sizes = {"ticks": 2, "frame": 80, "lead": 80, "short_max": 6, "bytes_per_slot": None, "overhead": None}
+    return Config(**{**vars(CONFIG), **sizes, "bursts": bursts})
 
 
 class BesideTheProgram(unittest.TestCase):
@@ -93,6 +108,57 @@ class Module(unittest.TestCase):
             self.assertRaises(TypeError, scheduler.call, {"call": "build", "now": 760})
             self.assertEqual(len(scheduler), 0)
         self.assertRaises(ValueError, Scheduler, mapsched.Config(**{**vars(CONFIG), "channel": 256}))
+
+    def test_a_request_asks_for_bytes_or_for_what_minislots_carry(self):
+        asks = [Ask(0, 17, 100, 801), Ask(receiver=0, sid=17, bytes=100, heard=801), Ask(0, 17, heard=801, slots=9)]
+        self.assertEqual(asks[0], asks[1])
+        with Scheduler(CONFIG) as scheduler:
+            scheduler.call(Build(760))
+            scheduler.call(Admit(17, BestEffort(priority=3, rate=0, burst=0)))
+            self.assertEqual([scheduler.call(ask) for ask in asks], [Taken()] * 3)
+            self.assertEqual([it.call for it in scheduler][2:], asks)
+            for slots in (0, 2, 65538, 2**28 + 3, 2**32 - 1):
+                self.assertEqual(scheduler.call(Ask(0, 17, heard=801, slots=slots)).line, "refused 10")
+            self.assertEqual(scheduler.call(Status(17)).line, "flow 312 0 312")
+            self.assertRaises(ValueError, scheduler.call, Ask(0, 17, heard=801, slots=2**32))
+        for told in ({}, {"bytes": 100, "slots": 9}):
+            self.assertRaises(TypeError, Ask, 0, 17, heard=801, **told)
+        for told in ({"bytes": 100}, {"slots": 9}):
+            self.assertRaises(TypeError, Ask, 0, 17, **told)
+
+    def test_burst_descriptors_say_what_a_grant_takes(self):
+        sizes = {64: ("short", 3), 211: ("short", 6), 212: ("long", 6), 240: ("long", 7), 1526: ("long", 36)}
+        with Scheduler(with_bursts(BURSTS)) as scheduler:
+            scheduler.call(Build(720))
+            for sid, size in enumerate(sizes, 17):
+                scheduler.call(Admit(sid, BestEffort(priority=24 - sid, rate=0, burst=0)))
+                scheduler.call(Ask(0, sid, size, 801))
+            found = mapsched.decode(scheduler.call(Build(800)).payload).elements
+        grants = [(it.usage, after.offset - it.offset) for it, after in zip(found, found[1:]) if 17 <= it.sid <= 21]
+        self.assertEqual(grants, [*sizes.values()])
+
+    def test_burst_descriptors_may_be_mappings_and_lack_that_of_unsolicited_grants(self):
+        told = dataclasses.asdict(BURSTS)
+        for unsolicited in (None, LONG, SHORT):
+            bursts = dataclasses.replace(BURSTS, unsolicited=unsolicited)
+            mapping = {**told, "unsolicited": unsolicited and vars(unsolicited), "unread": 7}
+            self.assertEqual(with_bursts(mapping), with_bursts(bursts))
+            with Scheduler(with_bursts(mapping)) as scheduler:
+                found = json.loads(scheduler.opening())["config"]
+            wanted = {"symbols": 64, "short": vars(SHORT), "long": vars(LONG)}
+            wanted |= {"unsolicited": vars(SHORT)} if unsolicited is SHORT else {}
+            self.assertEqual(found["bursts"], wanted)
+            self.assertFalse({"bytes_per_slot", "overhead"} & {*found})
+
+    def test_burst_descriptors_that_are_none_are_faults(self):
+        for bursts, fault in [(5, TypeError), ({"symbols": 64}, TypeError), ({**vars(BURSTS), "long": None}, TypeError),
+                              ({**vars(BURSTS), "short": vars(CONFIG)}, TypeError), (None, ValueError),
+                              (Bursts(2**32, SHORT, LONG), ValueError), (Bursts("64", SHORT, LONG), ValueError),
+                              (Bursts(64, SHORT, dataclasses.replace(LONG, bits=-1)), ValueError)]:
+            self.assertRaises(fault, lambda: mapsched.check(with_bursts(bursts)))
+        with self.assertRaises(BadConfig) as raised:
+            mapsched.check(with_bursts(Bursts(64, SHORT, dataclasses.replace(LONG, bits=9))))
+        self.assertEqual((raised.exception.number, raised.exception.field), (20, "bursts"))
 
     def test_an_opportunity_stands_in_the_next_map(self):
         wants = [Reserve("initial", 8), Reserve("station", 4, sid=9)]

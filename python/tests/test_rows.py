@@ -38,8 +38,15 @@ class Documents(unittest.TestCase):
             for name in names:
                 self.assertIn(name, {it.name for it in dataclasses.fields(Config)})
         self.assertEqual([*numbered], mapsched.faults._FIELDS)
-        wrong = {row.split('"')[-2]: fault for row, fault in texts.rows("fields_of_a_configuration") if "bad" in fault}
+        edits = texts.rows("fields_of_a_configuration")
+        wrong = {texts.field_of(row): fault for row, fault in edits if "bad" in fault}
         self.assertEqual(wrong, {name: f"bad config {number}" for name, number in numbered.items()})
+
+    def test_each_member_of_burst_descriptors_is_one_of_the_module(self):
+        for place, kind in enumerate([mapsched.Bursts, mapsched.Profile], 1):
+            rows = tables.reference_rows("The configuration", place)
+            names = [re.search(r"`(\w+)`", name)[1] for name, *_ in rows]
+            self.assertEqual(names, [it.name for it in dataclasses.fields(kind)])
 
     def test_each_wrong_value_is_told_by_its_number(self):
         for row, wanted in texts.rows("fields_of_a_configuration"):
@@ -61,7 +68,7 @@ class Documents(unittest.TestCase):
             for name, cell, _ in tables.reference_rows("Calls and lines", place):
                 kind = getattr(mapsched, name.strip("`").title().replace("_", ""))
                 members[kind] = [it.name for it in dataclasses.fields(kind)]
-                self.assertEqual(re.findall(r"`(\w+)`", cell), members[kind])
+                self.assertEqual(sorted(re.findall(r"`(\w+)`", cell)), sorted(members[kind]))
         self.assertEqual({*members}, {*get_args(mapsched.Call), *get_args(mapsched.Flow)})
 
     def test_each_refusal_is_met(self):

@@ -8,7 +8,7 @@ use Rattle.text_stream.specs.declared.run_fault.RunFault.{RunFault}
 use Rattle.text_stream.specs.declared.fault.TextFault.TheVariants.{Input, TooLong, NotJson, Shape, Config, Memory}
 use Rattle.text_stream.specs.declared.fault.TextFault.TheVariants.{Output}
 use Rattle.text_stream.specs.declared.run_fault.RunFault.TheVariants.{Text, Threads}
-use Rattle.journal_reading.specs.Judging.{FindsLegal, FindsIllegal, FindsBad, StopsJournal}
+use Rattle.journal_entries.specs.Judging.{FindsLegal, FindsIllegal, FindsBad, StopsJournal}
 use Rattle.audit_command.specs.declared.journal.JournalEnd.{JournalEnd}
 use Rattle.audit_command.specs.declared.journal.JournalEnd.TheVariants.{Legal, Illegal, Bad}
 

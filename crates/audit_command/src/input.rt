@@ -1,29 +1,29 @@
-//! The command over what the program has: standard input and standard output, which is written with no buffer, so that
+//! The command over what the program has: an input, and standard output, which is written with no buffer, so that
 //! nothing is left to flush.
 
 use crate::audit::run_audit;
 use crate::journal::{JournalEnd, run_audit_journal};
 use journal_entries::EntriesEnd;
 use std::io;
-use text_stream::{RunFault, Watched};
+use text_stream::{RunFault, Source, Watched};
 
 /// The command `audit`: whether the history is legal. What is wrong in it is explained where that is asked for.
-pub fn audit_input(
-    rt: &(impl Input + Print + AllocGlobal),
+pub fn audit_input<R: Source>(
+    rt: &(impl Print + AllocGlobal),
+    reader: &mut R,
     is_explained: bool,
 ) -> Result<bool, RunFault> {
-    let mut reader = Watched::new(rt.reader());
     let mut writer = Watched::new(io::writer(rt));
-    run_audit(rt.alloc(), &mut reader, &mut writer, is_explained)
+    run_audit(rt.alloc(), reader, &mut writer, is_explained)
 }
 
 /// The command `audit` on a journal: how it ends. What is torn, and which line is bad, is told on standard error.
-pub fn audit_journal_input(
-    rt: &(impl Input + Print + Eprint + AllocGlobal),
+pub fn audit_journal_input<R: Source>(
+    rt: &(impl Print + Eprint + AllocGlobal),
+    reader: &mut R,
 ) -> Result<JournalEnd, RunFault> {
-    let mut reader = Watched::new(rt.reader());
     let mut writer = Watched::new(io::writer(rt));
-    let end = run_audit_journal(rt.alloc(), &mut reader, &mut writer)?;
+    let end = run_audit_journal(rt.alloc(), reader, &mut writer)?;
     match end {
         JournalEnd::Legal(torn) => EntriesEnd::Legal(torn).tell(rt),
         // What is illegal stands on standard output.

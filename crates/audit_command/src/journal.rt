@@ -4,7 +4,7 @@ ghost use Rattle.std.specs.Prelude.{IfOk, IfErr};
 ghost use Rattle.text_stream.specs.RunFault.{TellsFailedRead, TellsFailedWrite, WritesLast};
 ghost use Rattle.audit_command.specs.JournalAudit.{AuditedJournal, StopsJournalAudit};
 
-use journal_reading::{Judged, judge_journal};
+use journal_entries::{Judged, judge_journal};
 use sched_lines::put_named;
 use std::alloc::Global;
 use text_stream::{RunFault, Sink, Source};

@@ -2,7 +2,8 @@
 
 use crate::run::{Took, figure, nanos_of, now, print_line};
 use flow_book::FlowSpec;
-use minislots::{Config, Stamp};
+use minislots::{Bursts, Config, Stamp};
+use sched_calls::Amount;
 use sched_history::{Call, Entry, Reply, Scheduler};
 use sched_storm::{Gate, storm_with};
 use std::alloc::{AllocError, Global};
@@ -15,8 +16,10 @@ use std::time::{Clock, CpuClock, Instant};
 // Frames of 1024 minislots of 25 microseconds, and the calls of eight workers.
 pub(crate) const WIDE: Config = Config {
     ticks: 4,
-    bytes_per_slot: 16,
-    overhead: 2,
+    bursts: Bursts::Uniform {
+        bytes_per_slot: 16,
+        overhead: 2,
+    },
     frame: 1024,
     cycle: 64,
     req_slots: 4,
@@ -64,7 +67,7 @@ pub(crate) fn call_of(worker: usize, number: usize) -> Call {
     let ask = Call::Ask {
         receiver: 0,
         sid,
-        bytes: 1000,
+        amount: Amount::Bytes(1000),
         heard: 102_400,
     };
     match number {

@@ -301,6 +301,11 @@ impl<'a> Quick<'a> {
         byte_at(self.text.as_bytes(), self.at) == b'"'
     }
 
+    /// Whether a brace that opens an object stands next. No clause says so, either.
+    pub fn is_braced(&self) -> bool {
+        byte_at(self.text.as_bytes(), self.at) == b'{'
+    }
+
     /// The byte behind the next one: where a quote stands next, the first of what is quoted. No clause says so.
     pub fn letter(&self) -> u8 {
         byte_at(self.text.as_bytes(), self.at + 1)

@@ -2,14 +2,15 @@
 use Rattle.std.proofs.Common.{◌≡◌, ℕ, ◌-◌, ◌^◌, true, is_some, codes, List, take, drop, Some, None, refl}
 use Rattle.serde_json.specs.Data.{Data, null, object, number, unsigned, string, Members, put, no_members}
 use Rattle.sched_calls.specs.declared.opportunity.Usage.TheVariants.{Initial, Station}
-use Rattle.sched_calls.specs.declared.call.Call.TheVariants.{Reserve}
+use Rattle.sched_calls.specs.declared.amount.Amount.TheVariants.{Bytes, Slots}
+use Rattle.sched_calls.specs.declared.call.Call.TheVariants.{Ask, Reserve}
 use Rattle.json_fields.specs.declared.forms.Sort.{Sort}
 use Rattle.json_fields.specs.declared.forms.TheConstants.{CALLS, FLOWS}
 use Rattle.json_fields.specs.Fields.{u8_or, u8_at, u16_at, u32_at, u64_at, number_at, text_at}
-use Rattle.json_fields.proofs.FormRows.{takes_forms}
+use Rattle.json_fields.proofs.FormRows.{takes_forms, leaving_out}
 use Rattle.call_reading.specs.Calls.{unsolicited_of, polled_of, best_effort_of, flow_of}
-use Rattle.call_reading.specs.Calls.{admit_call, remove_call, ask_call, heard_call, build_call, skip_call, status_call}
-use Rattle.call_reading.specs.Calls.{usage_of, reserve_call, header_call, call_of}
+use Rattle.call_reading.specs.Calls.{admit_call, remove_call, amount_of, ask_call, heard_call, build_call, skip_call}
+use Rattle.call_reading.specs.Calls.{status_call, usage_of, reserve_call, header_call, call_of}
 
 flows : takes_forms (λ d. is_some (flow_of d)) (λ sort. null) FLOWS ≡ true
 unfolding flow_of unsolicited_of polled_of best_effort_of u8_or u8_at u32_at number_at text_at
@@ -21,11 +22,57 @@ flow sort =
     object (put (codes "kind") (string (codes "best_effort")) (put (codes "priority") (number (unsigned 7))
     (put (codes "rate") (number (unsigned 0)) (put (codes "burst") (number (unsigned 0)) no_members))))
 
--- each call but a Reserve, whose SID stands beside its usage where that is of one modem
-calls : takes_forms (λ d. is_some (call_of d)) flow (take 7 CALLS) ≡ true
-unfolding call_of admit_call remove_call ask_call heard_call build_call skip_call status_call flow_of unsolicited_of
-    polled_of best_effort_of u8_or u8_at u16_at u32_at u64_at number_at text_at
+-- each call but a Reserve, whose SID stands beside its usage where that is of one modem, a request with its bytes
+calls : takes_forms (λ d. is_some (call_of d)) flow (leaving_out (codes "slots") (take 7 CALLS)) ≡ true
+unfolding call_of admit_call remove_call amount_of ask_call heard_call build_call skip_call status_call flow_of
+    unsolicited_of polled_of best_effort_of u8_or u8_at u16_at u32_at u64_at number_at text_at
 calls = refl
+
+-- a request with its minislots in their place
+asks_in_minislots :
+    takes_forms (λ d. is_some (call_of d)) flow (leaving_out (codes "bytes") (take 1 (drop 2 CALLS))) ≡ true
+unfolding call_of amount_of ask_call u8_at u16_at u32_at u64_at number_at text_at
+asks_in_minislots = refl
+
+-- a request with these members
+abbrev ask : Members → Data
+ask members = object (put (codes "call") (string (codes "ask")) (put (codes "receiver") (number (unsigned 1))
+    (put (codes "sid") (number (unsigned 17)) (put (codes "heard") (number (unsigned 801)) members))))
+
+-- a value under a key, and these members
+abbrev with_bytes : Data → Members → Members
+with_bytes d members = put (codes "bytes") d members
+
+abbrev with_slots : Data → Members → Members
+with_slots d members = put (codes "slots") d members
+
+abbrev most : Data
+most = number (unsigned (2 ^ 32 - 1))
+
+a_request_for_bytes : call_of (ask (with_bytes most no_members)) ≡ Some (Ask 1 17 (Bytes (2 ^ 32 - 1)) 801)
+unfolding call_of amount_of ask_call u8_at u16_at u32_at u64_at number_at text_at
+a_request_for_bytes = refl
+
+a_request_in_minislots : call_of (ask (with_slots most no_members)) ≡ Some (Ask 1 17 (Slots (2 ^ 32 - 1)) 801)
+unfolding call_of amount_of ask_call u8_at u16_at u32_at u64_at number_at text_at
+a_request_in_minislots = refl
+
+a_request_for_both : call_of (ask (with_bytes most (with_slots most no_members))) ≡ None
+unfolding call_of amount_of ask_call u8_at u16_at u32_at u64_at number_at text_at
+a_request_for_both = refl
+
+-- what stands under the other key stands there, whatever it is
+a_request_for_bytes_beside_another_value : call_of (ask (with_bytes most (with_slots null no_members))) ≡ None
+unfolding call_of amount_of ask_call u8_at u16_at u32_at u64_at number_at text_at
+a_request_for_bytes_beside_another_value = refl
+
+a_request_in_minislots_beside_another_value : call_of (ask (with_slots most (with_bytes null no_members))) ≡ None
+unfolding call_of amount_of ask_call u8_at u16_at u32_at u64_at number_at text_at
+a_request_in_minislots_beside_another_value = refl
+
+a_request_for_another_value : call_of (ask (with_bytes null no_members)) ≡ None
+unfolding call_of amount_of ask_call u8_at u16_at u32_at u64_at number_at text_at
+a_request_for_another_value = refl
 
 headers : takes_forms (λ d. is_some (call_of d)) flow (drop 8 CALLS) ≡ true
 unfolding call_of header_call u8_at number_at text_at

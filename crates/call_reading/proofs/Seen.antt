@@ -12,11 +12,11 @@ use Rattle.sched_calls.specs.declared.call.Call.TheVariants.{Admit, Header}
 use Rattle.json_fields.specs.Fields.{◌>>=◌, u8_at, u16_at, u32_at, u64_at, number_at, text_at, below}
 use Rattle.json_fields.proofs.PlainValues.{found_at}
 use Rattle.call_reading.specs.declared.found.Found.{Found}
-use Rattle.call_reading.specs.Calls.{flow_of, admit_call, remove_call, ask_call, heard_call, build_call, skip_call}
-use Rattle.call_reading.specs.Calls.{status_call, usage_of, reserve_call, header_call, call_of}
-use Rattle.call_reading.specs.Seen.{whole_in, byte_in, seen_in, seen_with, seen_of, seen_admit, seen_remove, seen_ask}
-use Rattle.call_reading.specs.Seen.{seen_heard, seen_build, seen_skip, seen_status, seen_usage, seen_reserve}
-use Rattle.call_reading.specs.Seen.{seen_header, seen_call}
+use Rattle.call_reading.specs.Calls.{flow_of, admit_call, remove_call, amount_of, ask_call, heard_call, build_call}
+use Rattle.call_reading.specs.Calls.{skip_call, status_call, usage_of, reserve_call, header_call, call_of}
+use Rattle.call_reading.specs.Seen.{whole_in, byte_in, seen_in, seen_with, seen_of, seen_admit, seen_remove}
+use Rattle.call_reading.specs.Seen.{seen_amount, seen_ask, seen_heard, seen_build, seen_skip, seen_status, seen_usage}
+use Rattle.call_reading.specs.Seen.{seen_reserve, seen_header, seen_call}
 
 then_made : {B : Type 0} (b : Bool) (x : Data) (o : Option Data) (f : Data → Option B)
     → (cond b (Some x) o >>= f) ≡ (if b then f x else (o >>= f))
@@ -33,10 +33,10 @@ module _ (k : List ℕ) (d : Data) (ms : Members) where
   under name f = ap (λ o. o >>= f) (found_at (bytes_eq k name) k name d ms refl)
       ∙ then_made (bytes_eq k name) d (get_member name ms) f
 
-  opens : is_some (get_member (codes "config") (put k d ms))
-      ≡ (bytes_eq k (codes "config") || is_some (get_member (codes "config") ms))
-  opens = ap (λ o. is_some o) (found_at (bytes_eq k (codes "config")) k (codes "config") d ms refl)
-      ∙ is_there (bytes_eq k (codes "config")) d (get_member (codes "config") ms)
+  stands : (name : List ℕ) → is_some (get_member name (put k d ms))
+      ≡ (bytes_eq k name || is_some (get_member name ms))
+  stands name = ap (λ o. is_some o) (found_at (bytes_eq k name) k name d ms refl)
+      ∙ is_there (bytes_eq k name) d (get_member name ms)
 
   -- one member more
   pub seen_in-put : seen_in (put k d ms) ≡ seen_with k d (seen_in ms)
@@ -56,7 +56,9 @@ module _ (k : List ℕ) (d : Data) (ms : Members) where
     ranging_end = under (codes "ranging_end") byte_in i;
     data_start = under (codes "data_start") byte_in i;
     data_end = under (codes "data_end") byte_in i;
-    opening = opens i;
+    has_bytes = stands (codes "bytes") i;
+    has_slots = stands (codes "slots") i;
+    opening = stands (codes "config") i;
   }
 
 -- ---- a value under each key
@@ -175,9 +177,9 @@ module _ (ms : Members) where
 
   -- the call that the members make is the one that the object stands for
   pub seen_call_is : Gives (seen_call (seen_in ms)) (call_of (object ms))
-  unfolding seen_call seen_remove seen_ask seen_heard seen_build seen_skip seen_status seen_usage seen_reserve call_of
-      remove_call ask_call heard_call build_call skip_call status_call usage_of reserve_call u8_at u16_at u32_at u64_at
-      number_at text_at
+  unfolding seen_call seen_remove seen_amount seen_ask seen_heard seen_build seen_skip seen_status seen_usage
+      seen_reserve call_of remove_call amount_of ask_call heard_call build_call skip_call status_call usage_of
+      reserve_call u8_at u16_at u32_at u64_at number_at text_at
   seen_call_is = named (text_at (codes "call") (object ms))
       (λ name. where_else (bytes_eq name (codes "admit")) (λ call e. sym admits ∙ e)
       (where_else (bytes_eq name (codes "remove")) (as_it_is (remove_call (object ms)))

@@ -1,7 +1,9 @@
 -- The flow and the call that a JSON object stands for.
-use Rattle.std.specs.Prelude.{◌≡◌, if◌then◌else◌, codes, bytes_eq, Option, Some, None}
+use Rattle.std.specs.Prelude.{◌≡◌, if◌then◌else◌, codes, bytes_eq, Option, Some, None, is_some}
 use Rattle.serde_json.specs.Data.{Data}
 use Rattle.serde_json.specs.Find.{get}
+use Rattle.sched_calls.specs.declared.amount.Amount.{Amount}
+use Rattle.sched_calls.specs.declared.amount.Amount.TheVariants.{Bytes, Slots}
 use Rattle.sched_calls.specs.declared.spec.FlowSpec.{FlowSpec}
 use Rattle.sched_calls.specs.declared.spec.FlowSpec.TheVariants.{Unsolicited, Polled, BestEffort}
 use Rattle.sched_calls.specs.declared.opportunity.Usage.{Usage}
@@ -60,14 +62,22 @@ remove_call d = do
   sid ← u16_at (codes "sid") d
   Some (Remove sid)
 
+-- how much a request asks for: exactly one of its two members stands
+unfoldable pub amount_of : Data → Option Amount
+amount_of d =
+    if is_some (get (codes "slots") d)
+    then (if is_some (get (codes "bytes") d) then None
+    else (u32_at (codes "slots") d >>= (λ slots. Some (Slots slots))))
+    else (u32_at (codes "bytes") d >>= (λ bytes. Some (Bytes bytes)))
+
 -- a request
 unfoldable pub ask_call : Data → Option Call
 ask_call d = do
   receiver ← u8_at (codes "receiver") d
   sid ← u16_at (codes "sid") d
-  bytes ← u32_at (codes "bytes") d
+  amount ← amount_of d
   heard ← u64_at (codes "heard") d
-  Some (Ask receiver sid bytes heard)
+  Some (Ask receiver sid amount heard)
 
 -- a receiver's progress
 unfoldable pub heard_call : Data → Option Call

@@ -3,6 +3,8 @@ use Rattle.std.specs.Prelude.{◌≡◌, ℕ, ◌^◌, ◌||◌, Bool, false, Li
 use Rattle.std.specs.Prelude.{option_map, is_some}
 use Rattle.serde_json.specs.Data.{Data, Members}
 use Rattle.serde_json.specs.Find.{get_member, as_str, as_number, as_u64}
+use Rattle.sched_calls.specs.declared.amount.Amount.{Amount}
+use Rattle.sched_calls.specs.declared.amount.Amount.TheVariants.{Bytes, Slots}
 use Rattle.sched_calls.specs.declared.spec.FlowSpec.{FlowSpec}
 use Rattle.sched_calls.specs.declared.call.Call.{Call}
 use Rattle.sched_calls.specs.declared.call.Call.TheVariants.{Admit, Remove, Ask, Heard, Build, Skip, Status}
@@ -14,7 +16,8 @@ use Rattle.call_reading.specs.declared.found.Found.{Found}
 use Rattle.call_reading.specs.declared.found.Ranging.{Ranging}
 use Rattle.call_reading.specs.Calls.{flow_of}
 
--- what stands under each key that a call may have, and whether there is a configuration
+-- what stands under each key that a call may have, and whether anything stands under those of which only one may stand,
+-- and whether there is a configuration
 pub record Seen : Type 0 where
   pub name : Option (List ℕ)
   pub sid : Option ℕ
@@ -31,6 +34,8 @@ pub record Seen : Type 0 where
   pub ranging_end : Option ℕ
   pub data_start : Option ℕ
   pub data_end : Option ℕ
+  pub has_bytes : Bool
+  pub has_slots : Bool
   pub opening : Bool
 
 -- the whole number that a value is
@@ -59,6 +64,8 @@ seen_in ms = record {
   ranging_end = get_member (codes "ranging_end") ms >>= byte_in;
   data_start = get_member (codes "data_start") ms >>= byte_in;
   data_end = get_member (codes "data_end") ms >>= byte_in;
+  has_bytes = is_some (get_member (codes "bytes") ms);
+  has_slots = is_some (get_member (codes "slots") ms);
   opening = is_some (get_member (codes "config") ms);
 }
 
@@ -80,6 +87,8 @@ seen_with k d s = record {
   ranging_end = if bytes_eq k (codes "ranging_end") then byte_in d else s.ranging_end;
   data_start = if bytes_eq k (codes "data_start") then byte_in d else s.data_start;
   data_end = if bytes_eq k (codes "data_end") then byte_in d else s.data_end;
+  has_bytes = bytes_eq k (codes "bytes") || s.has_bytes;
+  has_slots = bytes_eq k (codes "slots") || s.has_slots;
   opening = bytes_eq k (codes "config") || s.opening;
 }
 
@@ -101,6 +110,8 @@ nothing = record {
   ranging_end = None;
   data_start = None;
   data_end = None;
+  has_bytes = false;
+  has_slots = false;
   opening = false;
 }
 
@@ -117,7 +128,7 @@ ranging_in None = record {
 }
 ranging_in (Some ranging) = ranging
 
--- what was found, where no configuration was
+-- what was found, where no configuration was and nothing but whole numbers under the keys of an amount
 abbrev pub seen_of : Found → Seen
 seen_of f = record {
   name = option_map (λ s. s.now) f.name;
@@ -135,6 +146,8 @@ seen_of f = record {
   ranging_end = (ranging_in f.ranging).ranging_end;
   data_start = (ranging_in f.ranging).data_start;
   data_end = (ranging_in f.ranging).data_end;
+  has_bytes = is_some f.bytes;
+  has_slots = is_some (ranging_in f.ranging).slots;
   opening = false;
 }
 
@@ -156,14 +169,22 @@ seen_remove s = do
   sid ← s.sid >>= below (2 ^ 16)
   Some (Remove sid)
 
+-- how much a request asks for: exactly one of its two members stands
+unfoldable pub seen_amount : Seen → Option Amount
+seen_amount s =
+    if s.has_slots
+    then (if s.has_bytes then None
+    else (s.slots >>= below (2 ^ 32) >>= (λ slots. Some (Slots slots))))
+    else (s.bytes >>= below (2 ^ 32) >>= (λ bytes. Some (Bytes bytes)))
+
 -- a request
 unfoldable pub seen_ask : Seen → Option Call
 seen_ask s = do
   receiver ← s.receiver >>= below (2 ^ 8)
   sid ← s.sid >>= below (2 ^ 16)
-  bytes ← s.bytes >>= below (2 ^ 32)
+  amount ← seen_amount s
   heard ← s.heard >>= below (2 ^ 64)
-  Some (Ask receiver sid bytes heard)
+  Some (Ask receiver sid amount heard)
 
 -- a receiver's progress
 unfoldable pub seen_heard : Seen → Option Call

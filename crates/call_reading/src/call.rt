@@ -1,12 +1,12 @@
 //! One call of a script.
 
 ghost use Rattle.std.specs.Prelude.{◌≡◌};
-ghost use Rattle.call_reading.specs.Calls.{admit_call, remove_call, ask_call, heard_call, build_call, skip_call};
-ghost use Rattle.call_reading.specs.Calls.{status_call, usage_of, reserve_call, header_call, call_of};
+ghost use Rattle.call_reading.specs.Calls.{admit_call, remove_call, amount_of, ask_call, heard_call, build_call};
+ghost use Rattle.call_reading.specs.Calls.{skip_call, status_call, usage_of, reserve_call, header_call, call_of};
 
 use super::flow::flow_of;
 use json_fields::{Tree, member, number_u8, number_u16, number_u32, number_u64, text};
-use sched_calls::{Call, Header, Usage};
+use sched_calls::{Amount, Call, Header, Usage};
 
 #[tactic(auto, unfolding(crate::specs::Calls::admit_call))]
 fn admit_call<T: Tree>(value: &T) -> Option<Call>
@@ -28,14 +28,26 @@ fn remove_call<T: Tree>(value: &T) -> Option<Call>
     Some(Call::Remove(number_u16(value, "sid")?))
 }
 
+// How much a request asks for: exactly one of its two members stands.
+#[tactic(auto, unfolding(crate::specs::Calls::amount_of))]
+fn amount_of<T: Tree>(value: &T) -> Option<Amount>
+    ensures { result ≡ amount_of (T.shown value.now) }
+{
+    match (member(value, "bytes"), member(value, "slots")) {
+        (_, None) => Some(Amount::Bytes(number_u32(value, "bytes")?)),
+        (None, Some(_)) => Some(Amount::Slots(number_u32(value, "slots")?)),
+        (Some(_), Some(_)) => None,
+    }
+}
+
 #[tactic(auto, unfolding(crate::specs::Calls::ask_call))]
 fn ask_call<T: Tree>(value: &T) -> Option<Call>
     ensures { result ≡ ask_call (T.shown value.now) }
 {
-    let (Some(receiver), Some(sid), Some(bytes), Some(heard)) = (
+    let (Some(receiver), Some(sid), Some(amount), Some(heard)) = (
         number_u8(value, "receiver"),
         number_u16(value, "sid"),
-        number_u32(value, "bytes"),
+        amount_of(value),
         number_u64(value, "heard"),
     ) else {
         return None;
@@ -43,7 +55,7 @@ fn ask_call<T: Tree>(value: &T) -> Option<Call>
     Some(Call::Ask {
         receiver,
         sid,
-        bytes,
+        amount,
         heard,
     })
 }

@@ -12,7 +12,7 @@ use super::quick_call::{next_key, read_text};
 use byte_tokens::Quick;
 use json_fields::Stop;
 
-/// What stands under a key that only a call of ranging may have.
+/// What stands under a key that only a call of ranging may have, or a request in minislots.
 #[derive(Clone, Copy)]
 pub(crate) enum RangingField {
     Usage,
@@ -38,7 +38,7 @@ pub(crate) enum Field {
     Ranging(RangingField),
 }
 
-// The field of a key that only a call of ranging may have.
+// The field of a key that only a call of ranging may have, or a request in minislots.
 fn ranging_field_of(key: &str) -> Option<RangingField>
     ensures { IfSome result (λ field. key.now ≡ ranging_key field) }
 {

@@ -2,13 +2,14 @@
 
 ghost use Rattle.std.specs.Prelude.{◌≡◌, ◌^◌, option_and_then};
 ghost use Rattle.json_fields.specs.Fields.{below};
-ghost use Rattle.call_reading.specs.Seen.{nothing, seen_of, seen_admit, seen_remove, seen_ask, seen_heard, seen_build};
-ghost use Rattle.call_reading.specs.Seen.{seen_skip, seen_status, seen_usage, seen_reserve, seen_header, seen_call};
-ghost use Rattle.call_reading.specs.Seen.{ranging_in};
+ghost use Rattle.call_reading.specs.Seen.{nothing, seen_of, seen_admit, seen_remove, seen_amount, seen_ask, seen_heard};
+ghost use Rattle.call_reading.specs.Seen.{seen_build, seen_skip, seen_status, seen_usage, seen_reserve, seen_header};
+ghost use Rattle.call_reading.specs.Seen.{seen_call, ranging_in};
 
-use sched_calls::{Call, FlowSpec, Header, Usage};
+use sched_calls::{Amount, Call, FlowSpec, Header, Usage};
 
-/// What was found under each key that only a call of ranging may have. A number that is too great is none.
+/// What was found under each key that only a call of ranging may have, or a request in minislots. A number that is too
+/// great is none.
 #[derive(Clone, Copy)]
 pub(crate) struct Ranging<'a> {
     pub(crate) usage: Option<&'a str>,
@@ -49,6 +50,17 @@ impl<'a> Found<'a> {
             time: None,
             flow: None,
             ranging: None,
+        }
+    }
+
+    /// The minislots that were found.
+    #[inline(always)]
+    fn slots(&self) -> Option<u64>
+        ensures { result ≡ (ranging_in self.now.ranging).slots }
+    {
+        match &self.ranging {
+            Some(ranging) => ranging.slots,
+            None => None,
         }
     }
 
@@ -118,16 +130,29 @@ pub(crate) fn remove(found: &Found<'_>) -> Option<Call>
     Some(Call::Remove(to_u16(found.sid)?))
 }
 
+// How much a request asks for: exactly one of its two members stands.
+#[tactic(auto, unfolding(crate::specs::Seen::seen_amount))]
+#[inline(always)]
+fn amount(found: &Found<'_>) -> Option<Amount>
+    ensures { result ≡ seen_amount (seen_of found.now) }
+{
+    match (found.bytes, found.slots()) {
+        (bytes, None) => Some(Amount::Bytes(to_u32(bytes)?)),
+        (None, slots) => Some(Amount::Slots(to_u32(slots)?)),
+        (Some(_), Some(_)) => None,
+    }
+}
+
 /// The request that the members make.
 #[tactic(auto, unfolding(crate::specs::Seen::seen_ask))]
 #[inline(always)]
 pub(crate) fn ask(found: &Found<'_>) -> Option<Call>
     ensures { result ≡ seen_ask (seen_of found.now) }
 {
-    let (Some(receiver), Some(sid), Some(bytes), Some(heard)) = (
+    let (Some(receiver), Some(sid), Some(amount), Some(heard)) = (
         to_u8(found.receiver),
         to_u16(found.sid),
-        to_u32(found.bytes),
+        amount(found),
         to_u64(found.heard),
     ) else {
         return None;
@@ -135,7 +160,7 @@ pub(crate) fn ask(found: &Found<'_>) -> Option<Call>
     Some(Call::Ask {
         receiver,
         sid,
-        bytes,
+        amount,
         heard,
     })
 }

@@ -59,22 +59,31 @@ pub fn read_text<'a>(reader: &mut Quick<'a>) -> Result<&'a str, Stop>
     Ok(text)
 }
 
-// A whole number or a text.
-fn read_flat_value<'a>(reader: &mut Quick<'a>) -> Result<Plain<'a>, Stop>
-    ensures is { IfOk result (λ v. (depth : ℕ) → converted of_json (value depth reader.old)
-        ≡ Some (data_of v, reader.new)) }
+// A whole number, a text, or an object of such values.
+#[cycle(object)]
+fn read_object_value<'a>(
+    alloc: Global,
+    reader: &mut Quick<'a>,
+    depth: usize,
+) -> Result<Plain<'a>, Stop>
+    ensures is { IfOk result
+        (λ v. converted of_json (value depth reader.old) ≡ Some (data_of v, reader.new)) }
     ensures shorter { OnOk result (length reader.new < length reader.old) }
 {
     if reader.is_quoted() {
         let text = read_text(reader)?;
         return Ok(Plain::Text(text));
     }
+    if reader.is_braced() {
+        return read_object(alloc, reader, depth);
+    }
     let number = read_number(reader)?;
     Ok(Plain::Number(number))
 }
 
-// The members of an object of whole numbers and texts, whose brace was taken, and the brace that closes it.
-fn read_flat_members<'a>(
+// The members of an object of such values, whose brace was taken, and the brace that closes it.
+#[cycle(object)]
+fn read_object_members<'a>(
     alloc: Global,
     reader: &mut Quick<'a>,
     depth: usize,
@@ -86,14 +95,15 @@ fn read_flat_members<'a>(
 {
     let mut found = Vec::with_capacity(alloc, MOST_MEMBERS)?;
     'members: while let Some(key) = next_key(reader)? {
-        let member = read_flat_value(reader)?;
+        let member = read_object_value(alloc, reader, depth)?;
         found.push((key, member))?;
     }
     Ok(found)
 }
 
-/// An object of whole numbers and texts.
-pub(crate) fn read_flat<'a>(
+/// An object of whole numbers, texts and such objects.
+#[cycle(object)]
+pub(crate) fn read_object<'a>(
     alloc: Global,
     reader: &mut Quick<'a>,
     depth: usize,
@@ -105,7 +115,7 @@ pub(crate) fn read_flat<'a>(
     if depth == 0 || !reader.open_object() {
         return Err(Stop::Unusual);
     }
-    let members = read_flat_members(alloc, reader, depth - 1)?;
+    let members = read_object_members(alloc, reader, depth - 1)?;
     Ok(Plain::Object(members))
 }
 
@@ -173,7 +183,7 @@ fn read_member<'a>(
         Field::Upto => found.upto = Some(read_number(reader)?),
         Field::Time => found.time = Some(read_number(reader)?),
         Field::Flow => {
-            let value = read_flat(alloc, reader, depth)?;
+            let value = read_object(alloc, reader, depth)?;
             found.flow = flow_of(&value);
         }
         Field::Ranging(field) => read_ranging_member(reader, field, found)?,

@@ -12,7 +12,7 @@ ghost use Rattle.json_fields.specs.Fields.{config_of};
 ghost use Rattle.json_fields.specs.Listed.{StandEach, IsListOf, IsDocument};
 ghost use Rattle.json_fields.specs.Usual.{read_tokens};
 
-use super::quick_call::{next_key, read_flat};
+use super::quick_call::{next_key, read_object};
 use byte_tokens::Quick;
 use json_fields::{Stop, config_of};
 use minislots::Config;
@@ -85,7 +85,7 @@ fn read_config(alloc: Global, reader: &mut Quick<'_>) -> Result<Config, Stop>
     ensures shorter { OnOk result (length reader.new < length reader.old) }
 {
     take_name(reader, "config")?;
-    let value = read_flat(alloc, reader, DEPTH)?;
+    let value = read_object(alloc, reader, DEPTH)?;
     let Some(config) = config_of(&value) else {
         return Err(Stop::Unusual);
     };

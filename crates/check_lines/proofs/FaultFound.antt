@@ -3,7 +3,7 @@ use Rattle.std.proofs.Common.{◌≡◌, true, false, None, Result, Ok, Err, inl
 use Rattle.std.specs.Prelude.{◌⊎◌, IfOk, IfErr}
 use Rattle.text_stream.specs.declared.fault.TextFault.{TextFault}
 use Rattle.text_stream.specs.declared.fault.TextFault.TheVariants.{Input, Memory}
-use Rattle.text_stream.proofs.Told.{IsTold}
+use Rattle.text_stream.proofs.TextTold.{IsTold}
 use Rattle.check_lines.specs.declared.finding.Finding.{Finding}
 use Rattle.check_lines.specs.declared.finding.Finding.TheVariants.{Fault}
 use Rattle.check_lines.specs.Finding.{fault_found}

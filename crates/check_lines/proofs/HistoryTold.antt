@@ -10,7 +10,7 @@ use Rattle.text_stream.specs.declared.fault.TextFault.TheVariants.{Input, TooLon
 use Rattle.text_stream.specs.declared.fault.TextFault.TheVariants.{Output}
 use Rattle.text_stream.specs.Input.{ReadsTooMany}
 use Rattle.history_reading.specs.Recorded.{History, history_outcome, GivesHistory, StopsHistory}
-use Rattle.text_stream.proofs.Told.{all_bytes, IsTold}
+use Rattle.text_stream.proofs.TextTold.{all_bytes, IsTold}
 
 -- a reader from which too many bytes came had too many
 too_many : (text : List ℕ) (left : Option (List ℕ)) → ReadsTooMany (Some text) left → MAX_INPUT < length text

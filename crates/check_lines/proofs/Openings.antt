@@ -4,11 +4,11 @@ use Rattle.std.proofs.Common.{Option, None, Some, Ok, Err, refl, sym, ap, subst,
 use Rattle.std.specs.Prelude.{IfOk}
 use Rattle.std.proofs.Common.{Result, append_assoc}
 use Rattle.std.proofs.lemmas.Bool.{lt-ltb}
-use Rattle.line_stream.specs.declared.TheConstants.{MAX_LINE}
-use Rattle.line_stream.specs.declared.Told.{Told}
-use Rattle.line_stream.specs.declared.Told.TheVariants.{Line, Long}
-use Rattle.line_stream.specs.Lines.{lines_of, TakesLines}
-use Rattle.line_stream.specs.Told.{AtHand, untold, HasEnded, TellsNext, StopsLine}
+use Rattle.text_stream.specs.declared.TheConstants.{MAX_LINE}
+use Rattle.text_stream.specs.declared.Told.{Told}
+use Rattle.text_stream.specs.declared.Told.TheVariants.{Line, Long}
+use Rattle.text_stream.specs.Lines.{lines_of, TakesLines}
+use Rattle.text_stream.specs.Told.{AtHand, untold, HasEnded, TellsNext, StopsLine}
 use Rattle.text_stream.specs.declared.fault.TextFault.{TextFault}
 use Rattle.text_stream.specs.declared.fault.TextFault.TheVariants.{Input, TooLong, NotJson, Shape, Config, Memory}
 use Rattle.text_stream.specs.declared.fault.TextFault.TheVariants.{Output}

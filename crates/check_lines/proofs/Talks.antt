@@ -7,8 +7,8 @@ use Rattle.std.proofs.lemmas.Bool.{cases_lt}
 use Rattle.std.proofs.lemmas.List.{append-nil, take_all, take-append-le}
 use Rattle.std.proofs.lemmas.List.Elements.{filter-append}
 use Rattle.sched_calls.specs.declared.call.Call.{Call}
-use Rattle.line_stream.specs.declared.Told.{Told}
-use Rattle.line_stream.specs.Told.{AtHand, HasEnded, TellsNext}
+use Rattle.text_stream.specs.declared.Told.{Told}
+use Rattle.text_stream.specs.Told.{AtHand, HasEnded, TellsNext}
 use Rattle.live_command.specs.declared.fault.LineFault.{LineFault}
 use Rattle.live_command.specs.Spoken.{heard_of}
 use Rattle.live_command.proofs.Talking.{TakesLines-none, TakesLines-trans, TakesLines-front, TakesLines-all}

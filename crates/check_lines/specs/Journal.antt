@@ -5,7 +5,7 @@ use Rattle.minislots.specs.declared.config.Config.{Config}
 use Rattle.sched_calls.specs.declared.reply.Entry.{Entry}
 use Rattle.journal_entries.specs.declared.end.EntriesEnd.{EntriesEnd}
 use Rattle.journal_entries.specs.declared.end.EntriesEnd.TheVariants.{Legal, Illegal, Bad}
-use Rattle.journal_reading.specs.Judging.{FindsLegal, FindsIllegal, FindsBad}
+use Rattle.journal_entries.specs.Judging.{FindsLegal, FindsIllegal, FindsBad}
 use Rattle.check_lines.specs.Text.{end_text}
 
 -- A legal journal has so many entries

@@ -5,7 +5,7 @@ use Rattle.std.specs.Result.{result_ok}
 use Rattle.serde_json.specs.Data.{Data}
 use Rattle.serde_json.specs.Find.{get, as_object}
 use Rattle.text_stream.specs.Input.{value_of}
-use Rattle.line_stream.specs.Lines.{lines_of}
+use Rattle.text_stream.specs.Lines.{lines_of}
 use Rattle.history_reading.specs.Replies.{has}
 use Rattle.journal_entries.specs.Standing.{in_line}
 use Rattle.live_command.specs.Spoken.{spoken}

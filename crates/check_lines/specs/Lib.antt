@@ -5,6 +5,7 @@ pub mod Finding
 pub mod Document
 pub mod Report
 pub mod Kind
+pub mod InputKind
 pub mod Bad
 pub mod Text
 pub mod Journal

@@ -1,9 +1,9 @@
 -- The opening of a conversation, and the number of its line.
 use Rattle.std.specs.Prelude.{◌≡◌, ◌⊎◌, ℕ, ◌+◌, ◌-◌, ◌^◌, ◌≤◌, List, length, Option, None, Some, Ok, Err}
 use Rattle.minislots.specs.declared.config.Config.{Config as Configuration}
-use Rattle.line_stream.specs.declared.Told.{Told}
-use Rattle.line_stream.specs.Lines.{TakesLines}
-use Rattle.line_stream.specs.Told.{AtHand, HasNoEnd}
+use Rattle.text_stream.specs.declared.Told.{Told}
+use Rattle.text_stream.specs.Lines.{TakesLines}
+use Rattle.text_stream.specs.Told.{AtHand, HasNoEnd}
 use Rattle.text_stream.specs.declared.fault.TextFault.{TextFault}
 use Rattle.text_stream.specs.declared.fault.TextFault.TheVariants.{Input, TooLong, NotJson, Shape, Config, Memory}
 use Rattle.text_stream.specs.declared.fault.TextFault.TheVariants.{Output}

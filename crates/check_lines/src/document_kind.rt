@@ -8,8 +8,8 @@ ghost use Rattle.check_lines.specs.DocumentKind.{kind_in};
 use json_fields::forms::Kind;
 use serde_json::Value;
 
-// Whether something stands under this key.
-fn has(value: &Value, key: &str) -> bool
+/// Whether something stands under this key.
+pub(crate) fn has(value: &Value, key: &str) -> bool
     ensures { result ≡ has key.now (view value.now) }
 {
     value.get(key).is_some()

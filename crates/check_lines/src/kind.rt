@@ -2,15 +2,14 @@
 
 ghost use Rattle.std.specs.Prelude.{◌≡◌, option_map, IfOk, IfErr};
 ghost use Rattle.serde_json.specs.View.{view};
-ghost use Rattle.history_reading.specs.Replies.{has};
 ghost use Rattle.check_lines.specs.Kind.{value_in_line, has_config, has_object, kind_behind};
 ghost use Rattle.check_lines.specs.Kind.{kind_of_two, kind_of_front};
 
+use crate::document_kind::has;
 use crate::lines::next_spoken;
-use line_stream::MAX_LINE;
 use serde_json::Value;
 use std::alloc::Global;
-use text_stream::{TextFault, parse};
+use text_stream::{MAX_LINE, TextFault, parse};
 
 /// What a file is read as.
 #[derive(Clone, Copy, Debug, PartialEq, Eq)]
@@ -37,13 +36,6 @@ fn value_in_line(alloc: Global, line: &[u8]) -> Result<Option<Value>, TextFault>
         Err(TextFault::Memory) => Err(TextFault::Memory),
         Err(_) => Ok(None),
     }
-}
-
-// Whether something stands under this key.
-fn has(value: &Value, key: &str) -> bool
-    ensures { result ≡ has key.now (view value.now) }
-{
-    value.get(key).is_some()
 }
 
 // Whether a line is an object with the member `config`.

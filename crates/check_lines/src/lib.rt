@@ -16,11 +16,15 @@ mod live;
 mod opening;
 mod report;
 mod text;
+mod told_input;
 mod verdict;
 mod words;
 
 pub use check::run_check_any;
 pub use document::run_check;
 pub use front::Front;
-pub use input::{check_any_input, check_input};
+pub use input::check_any_input;
+pub use told_input::{
+    Advice, Documents, InputKind, Journals, Reads, advice_on, input_kind, tell_input,
+};
 pub use verdict::Verdict;

@@ -1,12 +1,12 @@
 //! The lines of bytes at hand.
 
 ghost use Rattle.std.specs.Prelude.{◌≡◌, ◌<◌, [], ◌∷◌, length, IfSome, MatchOption};
-ghost use Rattle.line_stream.specs.Lines.{lines_of, IsWithinLine};
+ghost use Rattle.text_stream.specs.Lines.{lines_of, IsWithinLine};
 ghost use Rattle.live_command.specs.Spoken.{spoken};
 
-use line_stream::NEWLINE;
 use live_command::is_spoken;
 use memchr::memchr;
+use text_stream::NEWLINE;
 
 // Bytes without a newline, which are a line, unless there are none.
 fn last_line(bytes: &[u8]) -> Option<(&[u8], &[u8])>

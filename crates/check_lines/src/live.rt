@@ -1,7 +1,7 @@
 //! What is found in the input of a conversation, read line by line.
 
 ghost use Rattle.std.specs.Prelude.{◌≡◌, ◌+◌, ◌-◌, ◌^◌, ◌<◌, ◌++◌, List, ℕ, IfOk, IfErr, OnOk};
-ghost use Rattle.line_stream.specs.Told.{IsTold, untold};
+ghost use Rattle.text_stream.specs.Told.{IsTold, untold};
 ghost use Rattle.text_stream.specs.Watched.{FailsBy};
 ghost use Rattle.live_command.specs.Spoken.{heard_of};
 ghost use Rattle.check_lines.specs.Live.{HearsBad, Hears, HearsAll, FindsLive, verdict_of};
@@ -13,10 +13,9 @@ use crate::text::put_bad_line;
 use crate::verdict::Verdict;
 use crate::words::words_on_bad_line;
 use json::Scratch;
-use line_stream::{Lines, Told};
 use live_command::{LineFault, hear};
 use std::alloc::Global;
-use text_stream::{Source, TextFault};
+use text_stream::{Lines, Source, TextFault, Told};
 
 /// How many bad lines are told.
 pub(crate) const MOST: u64 = 20;

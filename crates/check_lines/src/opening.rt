@@ -1,16 +1,15 @@
 //! The opening of a conversation, and the number of its line.
 
 ghost use Rattle.std.specs.Prelude.{◌≡◌, IfOk, IfErr};
-ghost use Rattle.line_stream.specs.Told.{untold};
+ghost use Rattle.text_stream.specs.Told.{untold};
 ghost use Rattle.text_stream.specs.Watched.{FailsBy};
 ghost use Rattle.check_lines.specs.Opening.{FindsNumbered, FindsOpening, IsOpening, StopsLines};
 
 use crate::words::{words_on_config, words_on_long_config};
 use json::Scratch;
-use line_stream::{Lines, Told};
 use live_command::{is_told_spoken, opening_in};
 use std::alloc::Global;
-use text_stream::{Source, TextFault};
+use text_stream::{Lines, Source, TextFault, Told};
 
 /// The opening of a conversation.
 #[derive(Drop)]

@@ -3,12 +3,11 @@
 use file_words::{words_on_line, words_on_opening};
 use json_fields::config_in;
 use json_fields::forms::{Kind, Sort};
-use line_stream::{Lines, Whole};
 use live_command::{LineFault, is_spoken};
 use serde_json::Value;
 use std::alloc::{AllocError, Global};
 use std::fmt::Write;
-use text_stream::{TextFault, parse};
+use text_stream::{Lines, TextFault, Whole, parse};
 
 /// What is said of a long line.
 const LONG: &str = "this line has more than 65536 bytes";

@@ -3,9 +3,11 @@
 ghost use Rattle.std.specs.Prelude.{◌≡◌, ◌≢◌, IfOk, IfErr, if◌then◌else◌};
 ghost use Rattle.std.specs.Process.{exit_status};
 ghost use Rattle.text_stream.specs.RunFault.{exit_status_of};
+ghost use Rattle.command_line.specs.Ends.{is_found_by_check};
 ghost use Rattle.clap.specs.Values.{kind_of};
 
 use crate::commands;
+use crate::input::file_of;
 use clap::error::ErrorKind;
 use clap::{ArgMatches, Error};
 use std::alloc::{AllocError, Global};
@@ -59,12 +61,17 @@ pub fn refuse(rt: &(impl Print + Eprint + AllocGlobal), kind: ErrorKind, what: &
     }
 }
 
-/// The exit code of a command that finds nothing but that all was done, or a fault.
-pub fn done(rt: &impl Eprint, outcome: Result<(), RunFault>) -> ExitCode
+/// The exit code of a command that finds nothing but that all was done, or a fault. Where its input is wrong, a further
+/// line points to the command that says where.
+pub fn done(rt: &impl Eprint, outcome: Result<(), RunFault>, words: &ArgMatches) -> ExitCode
     ensures done { IfOk outcome (λ _. exit_status result ≡ 0) }
     ensures failed { IfErr outcome (λ fault. exit_status result ≡ exit_status_of fault) }
 {
-    exit_of(rt, outcome.map(|()| true))
+    let code = exit_of(rt, outcome.map(|()| true));
+    if let Err(RunFault::Text(fault)) = outcome {
+        point_to_check(rt, fault, words);
+    }
+    code
 }
 
 /// The exit code of a command that finds all well or not.
@@ -77,4 +84,36 @@ pub fn exit_of(rt: &impl Eprint, outcome: Result<bool, RunFault>) -> ExitCode
         Ok(false) => ExitCode::FAILURE,
         Err(fault) => fail(rt, fault),
     }
+}
+
+// Whether `check` says where a fault is.
+fn is_found_by_check(fault: TextFault) -> bool
+    ensures { result ≡ is_found_by_check fault }
+{
+    matches!(
+        fault,
+        TextFault::NotJson | TextFault::Shape(_) | TextFault::Config(_)
+    )
+}
+
+/// Points on standard error, behind the line of a fault, to the command that says where in the input it is, if it does.
+pub fn point_to_check(rt: &impl Eprint, fault: TextFault, words: &ArgMatches) {
+    if !is_found_by_check(fault) {
+        return;
+    }
+    let _ = match file_of(words) {
+        Some(name) => rt.eprintln(format_args!("mapsched check {name} says where the fault is")),
+        None => rt.eprintln("mapsched check says where the fault is"),
+    };
+}
+
+/// Refuses the file that a command is to read, which is not opened.
+pub fn refuse_file(rt: &impl Eprint, words: &ArgMatches) -> ExitCode
+    ensures { exit_status result ≡ 3 }
+{
+    let code = fail(rt, RunFault::Text(TextFault::Input));
+    if let Some(name) = file_of(words) {
+        let _ = rt.eprintln(format_args!("{name} cannot be opened"));
+    }
+    code
 }

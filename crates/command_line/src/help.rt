@@ -11,14 +11,16 @@ pub const STATUSES: &str = "Exit statuses:
   3  the input is wrong: `input failed`, `input too long` (above 16777216 bytes),
      `not json`, `bad script at N` (0: the document or its configuration, else
      the call or entry, from 1), `bad config N` (the field's number in README.md);
-     `mapsched check` shows where the fault is, and what was expected there
+     `mapsched check` shows where the fault is, and what was expected there; a
+     second line says so, or what the input is where another command reads it
   4  the machine failed: `out of memory`, `output failed`, `no thread`; the journal
      of `live` failed, or is in use
 
 `mapsched help COMMAND` shows what a command reads and prints, with an example.";
 
 /// The command that runs a script.
-pub const RUN: &str = r#"Reads from standard input, in JSON: {"config": {..}, "calls": [..]}.
+pub const RUN: &str =
+    r#"Reads from standard input or FILE, in JSON: {"config": {..}, "calls": [..]}.
 docs/REFERENCE.md has the fields of the configuration and of each call.
 
 Prints a line for each call, in order: `admitted` (and the places of a periodic
@@ -43,7 +45,7 @@ Example:
 
 /// The command that writes a capture.
 pub const PCAP: &str =
-    r#"Reads from standard input what `run` reads: {"config": {..}, "calls": [..]}.
+    r#"Reads from standard input or FILE what `run` reads: {"config": {..}, "calls": [..]}.
 
 Writes a capture in the classic form of pcap with nanoseconds, link type DOCSIS
 (143): put it into a file, and open that in Wireshark. It has the MAC management
@@ -102,8 +104,8 @@ Example:
 
 /// The command that runs scripts at the same time.
 pub const STORM: &str =
-    r#"Reads from standard input, in JSON: {"config": {..}, "scripts": [[..], ..]}, 1
-to 16 arrays of calls, each for a thread of its own under the lock.
+    r#"Reads from standard input or FILE, in JSON: {"config": {..}, "scripts": [[..], ..]},
+1 to 16 arrays of calls, each for a thread of its own under the lock.
 
 Prints `seat`, its number and how many of its calls were recorded, for each
 script; `unrecorded` and how many were not; `maps` and how many the history has;
@@ -118,7 +120,7 @@ Example:
 
 /// The command that judges a history.
 pub const AUDIT: &str =
-    r#"Reads from standard input, in JSON, a history as `run --history` prints it:
+    r#"Reads from standard input or FILE, in JSON, a history as `run --history` prints it:
 {"config": {..}, "entries": [{"seat", "ticket", "call": {..}, "reply": {..}}, ..]}.
 Whoever wrote it, each reply is tried against all that may follow the entries
 before it. With --journal it reads a journal as `run --journal` prints it, of any
@@ -140,8 +142,8 @@ Example:
 
 /// The command that tells how a channel did.
 pub const REPORT: &str =
-    r#"Reads from standard input, in JSON, a history as `run --history` prints it, and
-audits it as `audit` does: of an illegal one it prints what `audit` prints.
+    r#"Reads from standard input or FILE, in JSON, a history as `run --history` prints it,
+and audits it as `audit` does: of an illegal one it prints what `audit` prints.
 
 Reports on the channel: what its minislots were for, the calls and the
 refusals by their number; for each rank and each life of a flow the requests, how
@@ -168,13 +170,15 @@ Example:
 
 /// The command that tells what is wrong in a file.
 pub const CHECK: &str =
-    r#"Reads from standard input a script, the script of a storm or a history: by its
+    r#"Reads from standard input or FILE a script, the script of a storm or a history: by its
 member `calls`, `scripts` or `entries`; or a journal or the lines for `live`, of
 any length: by the line after the configuration.
 
 Prints one line, `good script`, `good script of a storm` or `good history`, or
 the fault by which `run`, `storm` or `audit` would end; then where the fault is
 and what is expected there, or what the file has; and the keys that nobody reads.
+Of a configuration with `bursts` it says when no data grant is short, and when a
+request by the profile `request` does not fit a poll or the request region.
 `run --explain` shows whether calls are refused, and `audit` whether a history is
 legal.
 
@@ -190,7 +194,7 @@ Example:
 
 /// The command that draws the frames of a run.
 pub const DRAW: &str =
-    r#"Reads from standard input what `run` reads: {"config": {..}, "calls": [..]}; or
+    r#"Reads from standard input or FILE what `run` reads: {"config": {..}, "calls": [..]}; or
 else the history that `run --history` printed, which is drawn as it is.
 
 Prints one picture in SVG: put it into a file, and open that in a browser. Each
@@ -247,3 +251,29 @@ conversation.
 
 Example:
   ./mapsched live < examples/live.txt"#;
+
+/// The command that counts bursts.
+pub const BURSTS: &str =
+    r#"Reads from standard input a script, the script of a storm, a history or any other
+document {"config": {..}, ..} in JSON, of which it looks at the configuration alone.
+
+Prints a line for bursts of 64, 128, 256, 512, 1024 and 1522 bytes, and of each
+number of bytes that is a word of the command line (from 1 to 1048560). Where the
+configuration has `bursts`, first the minislots by the profiles of short, long and
+unsolicited grants; then the usage that a data grant of so many bytes has, its
+minislots, and its efficiency: how much its bytes are of the bits that its
+minislots have in the modulation of its profile, preamble, guard time and parity
+counted as lost. Without `bursts` a minislot has the bits of `bytes_per_slot`.
+
+Where `bursts` has a lawful profile `request`, a line says what requests of 6 and of
+7 bytes take. Last come the most bytes of a data grant of each number of minislots
+up to `frame`, ten in a line.
+
+With --json it prints the same in one line of JSON: `capacity` has the most bytes at
+the place of the number of minislots, from 0 on, and `efficiency` is in hundredths
+of a percent.
+
+Exit statuses: 0, or 2 for the command line, 3 for the input, 4 for the machine.
+
+Example:
+  ./mapsched bursts 77 < examples/bursts.json"#;

@@ -3,13 +3,17 @@
 
 mod ends;
 mod help;
+mod input;
 
 ghost use Rattle.std.specs.Prelude.{◌≡◌, ◌∷◌, [], IfOk, false, codes};
 ghost use Rattle.command_line.specs.Taken.{IsCommand};
 
 use clap::builder::ValueParser;
 use clap::{Arg, ArgAction, Command};
-pub use ends::{done, exit_of, explain, fail, matches_of, refuse, words_of};
+pub use ends::{
+    done, exit_of, explain, fail, matches_of, point_to_check, refuse, refuse_file, words_of,
+};
+pub use input::{CommandInput, KEPT_DOCUMENT, KEPT_LINES, Opened, input_of};
 use std::alloc::{AllocError, Global};
 
 // A command, and what its help says before and behind its words.
@@ -26,6 +30,14 @@ fn flag<'a>(alloc: Global, name: &'a str, help: &'a str) -> Arg<'a>
 {
     let option = Arg::new(alloc, name).long(name);
     option.action(ArgAction::SetTrue).help(help)
+}
+
+// The file that is read in the place of standard input.
+fn file_word<'a>(alloc: Global) -> Arg<'a>
+    ensures named { result.id.now ≡ codes "FILE" }
+    ensures local { result.global ≡ false }
+{
+    Arg::new(alloc, "FILE").help("The file that is read, or - for standard input")
 }
 
 // What a run prints as a journal, in place of its history.
@@ -69,7 +81,8 @@ fn run_frames_option<'a>(alloc: Global) -> Result<Arg<'a>, AllocError>
 // The command that runs a script.
 fn run_command<'a>(alloc: Global) -> Result<Command<'a>, AllocError>
     ensures { IfOk result (λ r. IsCommand r (codes "run")
-        (codes "history" ∷ codes "journal" ∷ codes "explain" ∷ codes "frames" ∷ []) []) }
+        (codes "history" ∷ codes "journal" ∷ codes "explain" ∷ codes "frames" ∷ codes "FILE" ∷ [])
+        []) }
 {
     let about = "Reads a script from standard input and prints one line for each call";
     let history = flag(alloc, "history", "Prints the history of the calls in JSON");
@@ -77,7 +90,8 @@ fn run_command<'a>(alloc: Global) -> Result<Command<'a>, AllocError>
         .arg(history)?
         .arg(run_journal_option(alloc)?)?
         .arg(run_explain_option(alloc)?)?
-        .arg(run_frames_option(alloc)?)
+        .arg(run_frames_option(alloc)?)?
+        .arg(file_word(alloc))
 }
 
 // The address of a sender.
@@ -100,12 +114,13 @@ fn journal_option<'a>(alloc: Global) -> Arg<'a>
 // The command that writes a capture.
 fn pcap_command<'a>(alloc: Global) -> Result<Command<'a>, AllocError>
     ensures { IfOk result
-        (λ r. IsCommand r (codes "pcap") (codes "mac" ∷ codes "journal" ∷ []) []) }
+        (λ r. IsCommand r (codes "pcap") (codes "mac" ∷ codes "journal" ∷ codes "FILE" ∷ []) []) }
 {
     let about = "Reads a script from standard input and writes its MAPs as a capture for Wireshark";
     command(alloc, "pcap", about, help::PCAP)
         .arg(address_option(alloc))?
-        .arg(journal_option(alloc))
+        .arg(journal_option(alloc))?
+        .arg(file_word(alloc))
 }
 
 // The payload of the command `decode`.
@@ -159,7 +174,7 @@ fn decode_command<'a>(alloc: Global) -> Result<Command<'a>, AllocError>
 // The command that judges a history.
 fn audit_command<'a>(alloc: Global) -> Result<Command<'a>, AllocError>
     ensures { IfOk result
-        (λ r. IsCommand r (codes "audit") (codes "explain" ∷ codes "journal" ∷ []) []) }
+        (λ r. IsCommand r (codes "audit") (codes "explain" ∷ codes "journal" ∷ codes "FILE" ∷ []) []) }
 {
     let about = "Reads a history from standard input and prints whether it is legal";
     let journal = journal_option(alloc).conflicts_with("explain")?;
@@ -170,13 +185,32 @@ fn audit_command<'a>(alloc: Global) -> Result<Command<'a>, AllocError>
     );
     command(alloc, "audit", about, help::AUDIT)
         .arg(explain)?
-        .arg(journal)
+        .arg(journal)?
+        .arg(file_word(alloc))
+}
+
+// The numbers of a report in JSON.
+fn report_json_option<'a>(alloc: Global) -> Result<Arg<'a>, AllocError>
+    ensures named { IfOk result (λ r. r.id.now ≡ codes "json") }
+    ensures local { IfOk result (λ r. r.global ≡ false) }
+{
+    flag(alloc, "json", "Prints all numbers in JSON").conflicts_with("all")
+}
+
+// The picture of a report.
+fn report_picture_option<'a>(alloc: Global) -> Result<Arg<'a>, AllocError>
+    ensures named { IfOk result (λ r. r.id.now ≡ codes "svg") }
+    ensures local { IfOk result (λ r. r.global ≡ false) }
+{
+    flag(alloc, "svg", "Prints a picture of them in SVG")
+        .conflicts_with("all")?
+        .conflicts_with("json")
 }
 
 // The command that tells how a channel did.
 fn report_command<'a>(alloc: Global) -> Result<Command<'a>, AllocError>
     ensures { IfOk result (λ r. IsCommand r (codes "report")
-        (codes "all" ∷ codes "json" ∷ codes "svg" ∷ codes "journal" ∷ []) []) }
+        (codes "all" ∷ codes "json" ∷ codes "svg" ∷ codes "journal" ∷ codes "FILE" ∷ []) []) }
 {
     let about = "Reads a history from standard input and prints how its channel did";
     let all = flag(
@@ -184,31 +218,30 @@ fn report_command<'a>(alloc: Global) -> Result<Command<'a>, AllocError>
         "all",
         "Prints all flows, in place of the 30 that asked most",
     );
-    let json = flag(alloc, "json", "Prints all numbers in JSON");
-    let svg = flag(alloc, "svg", "Prints a picture of them in SVG");
     let lines = journal_option(alloc);
     command(alloc, "report", about, help::REPORT)
         .arg(all)?
-        .arg(json.conflicts_with("all")?)?
-        .arg(svg.conflicts_with("all")?.conflicts_with("json")?)?
-        .arg(lines)
+        .arg(report_json_option(alloc)?)?
+        .arg(report_picture_option(alloc)?)?
+        .arg(lines)?
+        .arg(file_word(alloc))
 }
 
 // The command that tells what is wrong in a file.
-fn check_command<'a>(alloc: Global) -> Command<'a>
-    ensures { IsCommand result (codes "check") [] [] }
+fn check_command<'a>(alloc: Global) -> Result<Command<'a>, AllocError>
+    ensures { IfOk result (λ r. IsCommand r (codes "check") (codes "FILE" ∷ []) []) }
 {
     let about = "Reads a file from standard input and says what is wrong in it, or what it has";
-    command(alloc, "check", about, help::CHECK)
+    command(alloc, "check", about, help::CHECK).arg(file_word(alloc))
 }
 
 // The command that runs scripts at the same time.
-fn storm_command<'a>(alloc: Global) -> Command<'a>
-    ensures { IsCommand result (codes "storm") [] [] }
+fn storm_command<'a>(alloc: Global) -> Result<Command<'a>, AllocError>
+    ensures { IfOk result (λ r. IsCommand r (codes "storm") (codes "FILE" ∷ []) []) }
 {
     let about =
         "Reads scripts from standard input, runs them in threads and prints what each recorded";
-    command(alloc, "storm", about, help::STORM)
+    command(alloc, "storm", about, help::STORM).arg(file_word(alloc))
 }
 
 // The first frame of a picture, and how many there are.
@@ -232,7 +265,7 @@ fn frames_option<'a>(
 // The command that draws the frames of a run.
 fn draw_command<'a>(alloc: Global) -> Result<Command<'a>, AllocError>
     ensures { IfOk result (λ r. IsCommand r (codes "draw")
-        (codes "from" ∷ codes "count" ∷ codes "journal" ∷ []) []) }
+        (codes "from" ∷ codes "count" ∷ codes "journal" ∷ codes "FILE" ∷ []) []) }
 {
     let about = "Reads a script or a history from standard input and draws its frames in SVG";
     let from = "The first frame that is drawn, counted from 0";
@@ -240,7 +273,8 @@ fn draw_command<'a>(alloc: Global) -> Result<Command<'a>, AllocError>
     command(alloc, "draw", about, help::DRAW)
         .arg(frames_option(alloc, "from", 0, from)?)?
         .arg(frames_option(alloc, "count", 1, count)?)?
-        .arg(flag(alloc, "journal", "Reads a journal"))
+        .arg(flag(alloc, "journal", "Reads a journal"))?
+        .arg(file_word(alloc))
 }
 
 // The program, before its commands.
@@ -294,21 +328,45 @@ fn live_command<'a>(alloc: Global) -> Result<Command<'a>, AllocError>
         .arg(sync_option(alloc)?)
 }
 
+// The sizes of the bursts that are counted beside the usual ones.
+fn sizes_words<'a>(alloc: Global) -> Arg<'a>
+    ensures named { result.id.now ≡ codes "BYTES" }
+    ensures local { result.global ≡ false }
+{
+    let sizes = Arg::new(alloc, "BYTES").num_args(1..);
+    let sizes = sizes.action(ArgAction::Append);
+    sizes
+        .value_parser(ValueParser::unsigned(1, 1_048_560))
+        .help("Counts bursts of so many bytes too")
+}
+
+// The command that counts bursts.
+fn bursts_command<'a>(alloc: Global) -> Result<Command<'a>, AllocError>
+    ensures { IfOk result
+        (λ r. IsCommand r (codes "bursts") (codes "BYTES" ∷ codes "json" ∷ []) []) }
+{
+    let about =
+        "Reads a configuration from standard input and prints what bursts take on its channel";
+    command(alloc, "bursts", about, help::BURSTS)
+        .arg(sizes_words(alloc))?
+        .arg(flag(alloc, "json", "Prints all numbers in JSON"))
+}
+
 /// The commands of the program, with their options and their help. Out of memory is the only error.
 pub fn commands<'a>(alloc: Global) -> Result<Command<'a>, AllocError>
     ensures { IfOk result (λ r. IsCommand r (codes "mapsched") []
-        ((codes "run", codes "history" ∷ codes "journal" ∷ codes "explain" ∷ codes "frames" ∷ [])
+        ((codes "run", codes "history" ∷ codes "journal" ∷ codes "explain" ∷ codes "frames" ∷ codes "FILE" ∷ [])
         ∷ (
           codes "decode",
           codes "HEX" ∷ codes "draw" ∷ codes "columns" ∷ codes "explain" ∷ codes "frame" ∷ [],
         )
-        ∷ (codes "draw", codes "from" ∷ codes "count" ∷ codes "journal" ∷ [])
-        ∷ (codes "audit", codes "explain" ∷ codes "journal" ∷ [])
-        ∷ (codes "report", codes "all" ∷ codes "json" ∷ codes "svg" ∷ codes "journal" ∷ [])
-        ∷ (codes "storm", []) ∷ (codes "check", [])
-        ∷ (codes "pcap", codes "mac" ∷ codes "journal" ∷ [])
+        ∷ (codes "draw", codes "from" ∷ codes "count" ∷ codes "journal" ∷ codes "FILE" ∷ [])
+        ∷ (codes "audit", codes "explain" ∷ codes "journal" ∷ codes "FILE" ∷ [])
+        ∷ (codes "report", codes "all" ∷ codes "json" ∷ codes "svg" ∷ codes "journal" ∷ codes "FILE" ∷ [])
+        ∷ (codes "storm", codes "FILE" ∷ []) ∷ (codes "check", codes "FILE" ∷ [])
+        ∷ (codes "pcap", codes "mac" ∷ codes "journal" ∷ codes "FILE" ∷ [])
         ∷ (codes "live", codes "explain" ∷ codes "frames" ∷ codes "journal" ∷ codes "sync" ∷ [])
-        ∷ [])) }
+        ∷ (codes "bursts", codes "BYTES" ∷ codes "json" ∷ []) ∷ [])) }
 {
     program(alloc)
         .subcommand(run_command(alloc)?)?
@@ -316,8 +374,9 @@ pub fn commands<'a>(alloc: Global) -> Result<Command<'a>, AllocError>
         .subcommand(draw_command(alloc)?)?
         .subcommand(audit_command(alloc)?)?
         .subcommand(report_command(alloc)?)?
-        .subcommand(storm_command(alloc))?
-        .subcommand(check_command(alloc))?
+        .subcommand(storm_command(alloc)?)?
+        .subcommand(check_command(alloc)?)?
         .subcommand(pcap_command(alloc)?)?
-        .subcommand(live_command(alloc)?)
+        .subcommand(live_command(alloc)?)?
+        .subcommand(bursts_command(alloc)?)
 }

@@ -1,6 +1,7 @@
 //! What is said of a file that is read: where its faults are and what was expected there, or what it has.
 #![tactic(auto)]
 
+mod bursts;
 mod config;
 mod counts;
 mod json_text;

@@ -120,7 +120,12 @@ impl Notes {
                 self.tell_refused(place, member, written)
             }
             (Some(written), _) => tell_value(&mut self.here, place, key, holds, written),
-            (None, Missing::Fault) => writeln!(self.here, "{place}: \"{key}\" is missing"),
+            (None, Missing::Fault | Missing::UnlessBursts) => {
+                writeln!(self.here, "{place}: \"{key}\" is missing")
+            }
+            (None, Missing::UnlessSlots) if find(self.alloc, parts, "slots")?.0.is_none() => {
+                writeln!(self.here, "{place}: \"{key}\" is missing")
+            }
             (None, _) => Ok(()),
         }
     }

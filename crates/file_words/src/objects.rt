@@ -3,7 +3,7 @@
 use super::nearest::nearest;
 use super::notes::Notes;
 use super::place::Place;
-use super::sort::{FOR_ALL_MODEMS, forms_of, name_key, named};
+use super::sort::{FOR_ALL_MODEMS, REQUEST, forms_of, name_key, named};
 use super::tell::tell_near;
 use super::written::{Part, find, shown, text_of};
 use json_fields::forms::{Form, Holds, Member, Missing, Sort};
@@ -17,7 +17,7 @@ impl Notes {
             Sort::Call => self.calls.add(name),
             Sort::Flow => self.flows.add(name),
             Sort::Reply => self.replies.add(name),
-            Sort::Document(_) | Sort::Config | Sort::Entry => {}
+            Sort::Document(_) | Sort::Config | Sort::Bursts | Sort::Profile | Sort::Entry => {}
         }
     }
 
@@ -83,6 +83,72 @@ impl Notes {
         }
     }
 
+    // What is wrong with the members of an object, and the keys in it that nobody reads.
+    fn tell_form(
+        &mut self,
+        place: Place,
+        members: &[Member],
+        parts: &[Part],
+    ) -> Result<(), AllocError> {
+        self.tell_members(place, members, parts)?;
+        self.tell_keys(place, members, parts, true)
+    }
+
+    // The members that are read of a configuration or of burst descriptors: where those stand, nobody reads the members
+    // in whose place they stand, and a profile of requests stands among them.
+    fn chosen(
+        &self,
+        sort: Sort,
+        form: &'static Form,
+        parts: &[Part],
+    ) -> Result<Vec<Member>, AllocError> {
+        let is_described = find(self.alloc, parts, "bursts")?.0.is_some();
+        let mut members = Vec::new(self.alloc);
+        for member in form.1 {
+            if !is_described || !matches!(member.2, Missing::UnlessBursts) {
+                members.push(*member)?;
+            }
+        }
+        if matches!(sort, Sort::Bursts) {
+            members.push(REQUEST)?;
+        }
+        Ok(members)
+    }
+
+    // The same of an object of a sort.
+    fn tell_own(
+        &mut self,
+        place: Place,
+        sort: Sort,
+        form: &'static Form,
+        parts: &[Part],
+    ) -> Result<(), AllocError> {
+        if matches!(sort, Sort::Config | Sort::Bursts) {
+            let members = self.chosen(sort, form, parts)?;
+            return self.tell_form(place, &members, parts);
+        }
+        let members = self.members_of(sort, form, parts)?;
+        self.tell_form(place, members, parts)
+    }
+
+    // The keys of the objects that are members of an object of a sort, and their sorts.
+    fn objects_in(
+        &self,
+        sort: Sort,
+        form: &'static Form,
+    ) -> Result<Vec<(&'static str, Sort)>, AllocError> {
+        let mut objects = Vec::new(self.alloc);
+        for member in form.1 {
+            if let (key, Holds::Object(inner), _) = *member {
+                objects.push((key, inner))?;
+            }
+        }
+        if matches!(sort, Sort::Bursts) {
+            objects.push((REQUEST.0, Sort::Profile))?;
+        }
+        Ok(objects)
+    }
+
     /// What is wrong with an object of a sort and with the objects in it, so many deep.
     pub fn tell_object(
         &mut self,
@@ -94,13 +160,9 @@ impl Notes {
         let Some(form) = self.form_of(place, sort, parts)? else {
             return Ok(());
         };
-        let members = self.members_of(sort, form, parts)?;
-        self.tell_members(place, members, parts)?;
-        self.tell_keys(place, members, parts, true)?;
-        for member in members {
-            let Some((key, inner)) = object_in(*member) else {
-                continue;
-            };
+        self.tell_own(place, sort, form, parts)?;
+        for object in &self.objects_in(sort, form)? {
+            let (key, inner) = *object;
             if let Some(parts) = self.inner(parts, key)?
                 && depth > 0
             {
@@ -108,13 +170,5 @@ impl Notes {
             }
         }
         self.tell_pair(place, sort, form.0, parts)
-    }
-}
-
-// The key of an object that is a member, and its sort.
-fn object_in(member: Member) -> Option<(&'static str, Sort)> {
-    match member {
-        (key, Holds::Object(sort), _) => Some((key, sort)),
-        _ => None,
     }
 }

@@ -11,8 +11,8 @@ use std::alloc::{AllocError, Global};
 use std::fmt::Write;
 use text_stream::{TextFault, parse};
 
-/// How deep objects stand in an object: a flow in the call of an entry.
-const DEPTH: usize = 2;
+/// How deep objects stand in an object: a burst descriptor in the configuration of a script that has one line.
+const DEPTH: usize = 3;
 
 /// How the place of a fault begins in a text of one line.
 const FIRST: &str = "line 1, ";

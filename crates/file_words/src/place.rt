@@ -2,13 +2,16 @@
 
 use std::fmt;
 
+/// The document of a file.
+const DOCUMENT: &str = "document";
+
 /// An object in a file: what it is, with its number, counted from 1, where it is a call or an entry (calls through all
 /// scripts), and the keys under which it stands in that.
 #[derive(Clone, Copy)]
 pub struct Place {
     what: &'static str,
     number: u64,
-    keys: [&'static str; 2],
+    keys: [&'static str; 3],
 }
 
 impl fmt::Display for Place {
@@ -27,9 +30,9 @@ impl fmt::Display for Place {
 }
 
 impl Place {
-    /// The document, or an object in it, by its key.
-    pub fn outer(what: &'static str) -> Place {
-        Place::item(what, 0)
+    /// The document.
+    pub fn document() -> Place {
+        Place::item(DOCUMENT, 0)
     }
 
     /// A call or an entry of this number.
@@ -37,23 +40,22 @@ impl Place {
         Place {
             what,
             number,
-            keys: ["", ""],
+            keys: ["", "", ""],
         }
     }
 
-    /// The object under a key.
+    /// The object under a key. One in the document is what it is by its key alone.
     pub fn under(self, key: &'static str) -> Place {
-        let [outer, _] = self.keys;
-        let keys = if outer.is_empty() {
-            [key, ""]
-        } else {
-            [outer, key]
-        };
-        if self.number == 0 {
-            Place::outer(key)
-        } else {
-            Place { keys, ..self }
+        if self.what == DOCUMENT {
+            return Place::item(key, 0);
         }
+        let [first, second, _] = self.keys;
+        let keys = match (first, second) {
+            ("", _) => [key, "", ""],
+            (_, "") => [first, key, ""],
+            _ => [first, second, key],
+        };
+        Place { keys, ..self }
     }
 
     /// Whether it is a call of a script, or stands in one.

@@ -1,8 +1,8 @@
 //! The forms of each sort of object.
 
 use json_fields::forms::{
-    CALLS, CONFIGS, ENTRIES, FLOWS, Form, HISTORIES, Holds, Kind, LIST_OF_CALLS, LIST_OF_ENTRIES,
-    LIST_OF_SCRIPTS, Member, Missing, REPLIES, SCRIPTS, STORMS, Sort,
+    BURSTS, CALLS, CONFIGS, ENTRIES, FLOWS, Form, HISTORIES, Holds, Kind, LIST_OF_CALLS,
+    LIST_OF_ENTRIES, LIST_OF_SCRIPTS, Member, Missing, PROFILES, REPLIES, SCRIPTS, STORMS, Sort,
 };
 
 /// The members of a Reserve for all modems. An SID beside them is a key that nobody reads.
@@ -12,6 +12,9 @@ pub static FOR_ALL_MODEMS: [Member; 3] = [
     ("slots", Holds::Number(u32::MAX as u64), Missing::Fault),
 ];
 
+/// The burst profile of requests, which may stand among burst descriptors: `check` and `bursts` alone read it.
+pub const REQUEST: Member = ("request", Holds::Object(Sort::Profile), Missing::Nothing);
+
 /// The forms that an object of this sort may have.
 pub fn forms_of(sort: Sort) -> &'static [Form] {
     match sort {
@@ -19,6 +22,8 @@ pub fn forms_of(sort: Sort) -> &'static [Form] {
         Sort::Document(Kind::Storm) => &STORMS,
         Sort::Document(Kind::History) => &HISTORIES,
         Sort::Config => &CONFIGS,
+        Sort::Bursts => &BURSTS,
+        Sort::Profile => &PROFILES,
         Sort::Entry => &ENTRIES,
         Sort::Call => &CALLS,
         Sort::Flow => &FLOWS,
@@ -40,7 +45,7 @@ pub fn name_key(sort: Sort) -> Option<&'static str> {
     match sort {
         Sort::Call => Some("call"),
         Sort::Flow | Sort::Reply => Some("kind"),
-        Sort::Document(_) | Sort::Config | Sort::Entry => None,
+        Sort::Document(_) | Sort::Config | Sort::Bursts | Sort::Profile | Sort::Entry => None,
     }
 }
 

@@ -8,8 +8,8 @@ use json_fields::forms::{Holds, Kind, Member, Sort};
 use std::alloc::AllocError;
 use std::fmt::Write;
 
-/// How deep objects stand in an object: a flow in the call of an entry.
-const DEPTH: usize = 2;
+/// How deep objects stand in an object: a burst descriptor among those in the configuration of a document.
+const DEPTH: usize = 3;
 
 // Whether a refusal has this number, with this value or none.
 fn is_refusal(number: u64, value: Option<u64>) -> bool {
@@ -69,6 +69,19 @@ impl Notes {
         }
     }
 
+    // What is wrong with a request that has both its bytes and minislots in their place.
+    fn tell_amount(&mut self, place: Place, parts: &[Part]) -> Result<(), AllocError> {
+        let has_bytes = find(self.alloc, parts, "bytes")?.0.is_some();
+        let has_slots = find(self.alloc, parts, "slots")?.0.is_some();
+        if !has_bytes || !has_slots {
+            return Ok(());
+        }
+        writeln!(
+            self.here,
+            "{place}: \"bytes\" and \"slots\" do not stand together"
+        )
+    }
+
     /// What is wrong with members of an object of this form that do not fit each other.
     pub fn tell_pair(
         &mut self,
@@ -80,6 +93,7 @@ impl Notes {
         match (sort, name) {
             (Sort::Reply, "refused") => self.tell_refusal(place, parts),
             (Sort::Reply, "admitted") => self.tell_placement(place, parts),
+            (Sort::Call, "ask") => self.tell_amount(place, parts),
             (Sort::Call, "reserve") => self.tell_usage(place, parts),
             _ => Ok(()),
         }
@@ -152,12 +166,7 @@ impl Notes {
                 "document: a script has \"calls\", that of a storm \"scripts\", a history \"entries\"\n",
             )?;
         }
-        self.tell_object(
-            Place::outer("document"),
-            Sort::Document(kind),
-            document,
-            DEPTH,
-        )?;
+        self.tell_object(Place::document(), Sort::Document(kind), document, DEPTH)?;
         self.faulty.words.push_str(&self.here)?;
         self.here.clear();
         Ok(())
@@ -173,7 +182,7 @@ impl Notes {
 
     /// What is wrong with the document of a file of this kind, and how many scripts a storm has.
     pub fn tell_document(&mut self, kind: Kind, written: &[u8]) -> Result<usize, AllocError> {
-        let Some(document) = self.object(Place::outer("document"), written)? else {
+        let Some(document) = self.object(Place::document(), written)? else {
             self.faulty.words.push_str(&self.here)?;
             return Ok(0);
         };

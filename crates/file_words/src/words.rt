@@ -1,5 +1,6 @@
 //! The words on what is found in a file.
 
+use super::bursts::tell_bursts;
 use super::config::tell_field;
 use super::counts::{tell_frame, tell_unrecorded};
 use super::json_text::tell_text;
@@ -53,7 +54,10 @@ pub fn words_on(
     let scripts = notes.tell_document(kind, bytes.trim_ascii())?;
     notes.faulty.put(&mut words, "with a fault")?;
     match found {
-        Ok(config) => tell_good(&mut words, kind, &config, &notes, scripts)?,
+        Ok(config) => {
+            tell_good(&mut words, kind, &config, &notes, scripts)?;
+            tell_bursts(&mut words, &config, document)?;
+        }
         Err(TextFault::Config(field)) => tell_field(&mut words, document, field)?,
         Err(_) => {}
     }

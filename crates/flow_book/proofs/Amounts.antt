@@ -4,6 +4,7 @@ use Rattle.std.proofs.lemmas.Bool.{cases_eq}
 use Rattle.std.proofs.lemmas.Bool.Decides.{nat_tests}
 use Rattle.minislots.specs.declared.config.Config.{Config}
 use Rattle.minislots.specs.Config.{IsLawful, HasBounds}
+use Rattle.minislots.specs.Bursts.{HasBursts}
 use Rattle.minislots.specs.Units.{slots_for, bytes_in}
 use Rattle.minislots.proofs.Bounds.{bounds_of}
 use Rattle.minislots.proofs.UnitLaws.{fits_bytes, fits_slots}
@@ -21,7 +22,7 @@ module _ (c : Config) (f : LiveFlow) (start room limit most : ℕ) where
     pub greatest : (n : ℕ) → 0 < n → n ≤ limit → KeepsWith c f start n → n ≤ most
 
   -- with the limit of what is outstanding, capped and fits these are the most
-  pub most-is : 0 < c.bytes_per_slot → limit ≡ min (min (outstanding f) c.grant_cap) (bytes_in c room) → IsWithin
+  pub most-is : HasBursts c.bursts → limit ≡ min (min (outstanding f) c.grant_cap) (bytes_in c room) → IsWithin
       → IsMost c f start room most
   most-is carries limits is =
       let no_more : (n : ℕ) → MayGrant c f start room n → n ≤ most =
@@ -83,7 +84,7 @@ pub most-in-bucket : (c : Config) (f : LiveFlow) (b : BucketView) (start room li
     → StandsFor c (rate_of f.spec) (burst_of f.spec) b f.grants → HaveStartedBy start f.grants
     → most ≡ most_of b start limit → IsMost c f start room most
 most-in-bucket c f b start room limit most lawful limits stands started is =
-    most-is c f start room limit most (bounds_of c lawful).bytes_positive limits
+    most-is c f start room limit most (bounds_of c lawful).bursts limits
     (bucket-within c f b start room limit most stands started is)
 
 module _ (c : Config) (lawful : IsLawful c) (start room : ℕ) where

@@ -73,7 +73,7 @@ turns-before f g mine yours less =
 pub wanted-fits : (c : Config) (start room : ℕ) (f : LiveFlow) → IsLawful c → IsEligible c start room f
     → min (outstanding f) c.quantum ≤ bytes_in c room
 wanted-fits c start room f lawful may =
-    fits_bytes c (bounds_of c lawful).bytes_positive (min (outstanding f) c.quantum) room may.takes.fits
+    fits_bytes c (bounds_of c lawful).bursts (min (outstanding f) c.quantum) room may.takes.fits
 
 -- a flow that waits for these bytes may be served where they, or the quantum, fit and keep the ceiling
 pub may-is : (c : Config) (start room : ℕ) (f : Flow) (wants wanted : ℕ) (may : Bool) → IsLawful c → KeepsSums c f
@@ -90,12 +90,12 @@ may-is c start room f wants wanted may lawful keeps started asks is fits decides
     let p = decides.0 t in
     let whole : IsTrue (nat_eq most wanted) = let e : most ≡ wanted = p.2 in grind (arith, nat_tests) in
     (eligible-is c (live f) start room wanted most p.0 limits p.1
-    (fits_slots c bounds.bytes_positive wanted room p.1 fits) within).0 whole in
+    (fits_slots c bounds.bursts wanted room p.1 fits) within).0 whole in
     let back : IsEligible c start room (live f) → IsTrue may = λ able.
     let some : 0 < wanted = omega (arith, able.waits, bounds.quantum_least) in
     let whole : IsTrue (nat_eq most wanted) =
     (eligible-is c (live f) start room wanted most able.serves limits some
-    (fits_slots c bounds.bytes_positive wanted room some fits) within).1 able in
+    (fits_slots c bounds.bursts wanted room some fits) within).1 able in
     let e : most ≡ wanted = grind (arith, nat_tests) in
     decides.1 (able.serves, some, e) in
     (yes', back)

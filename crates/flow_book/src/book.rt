@@ -3,7 +3,7 @@
 ghost use Rattle.std.specs.Prelude.{◌≡◌, ◌≢◌, ℕ, ◌+◌, ◌<◌, ◌≤◌, ◌^◌, ◌==◌, [], length, IfOk, OnOk, OnErr, IfSome};
 ghost use Rattle.std.specs.Prelude.{IsSomeAnd, MatchOption, map, option_map, slice_get, nat_lt, position, true, Some};
 ghost use Rattle.std.specs.List.{AllByRecursion};
-ghost use Rattle.minislots.specs.Units.{slots_for};
+ghost use Rattle.minislots.specs.Units.{slots_for, bytes_in};
 ghost use Rattle.flow_book.specs.Flows.{flow_of, outstanding, with_grant};
 ghost use Rattle.flow_book.specs.Choice.{MayGrant, IsMost, IsAmount, IsNext, IsNextSid, NoneEligible};
 ghost use Rattle.flow_book.specs.Choice.{HasStartedBy};
@@ -12,7 +12,7 @@ ghost use Rattle.flow_book.specs.Queue.{IsQueue, Stands};
 ghost use Rattle.flow_book.specs.Book.{IsLive, Ascend, KeepsRoom, room_of, new_flow, with_flow, without, changed};
 ghost use Rattle.flow_book.specs.Book.{with_asked};
 
-use crate::flow::{Flow, Served, first_eligible, reserve_each};
+use crate::flow::{Flow, Room, Served, first_eligible, reserve_each};
 use crate::queue::{
     Waiting, copy_of, first_in_turn, follow, follow_from, leave, make_room, make_way, queue_of,
     waiting_of,
@@ -79,20 +79,21 @@ fn next_place(
     flows: &[Flow],
     config: &Checked,
     start: u64,
-    room: u32,
+    room: Room,
 ) -> Option<(usize, usize)>
     requires book { IsBook config.now flows.now }
     requires queue { is_queued ≡ true → IsQueue flows.now queue.now }
+    requires room { room.bytes ≡ bytes_in config.now room.slots }
     requires started { AllByRecursion (HasStartedBy start) (map live flows.now) }
-    ensures next { MatchOption result (NoneEligible config.now (map live flows.now) start room)
+    ensures next { MatchOption result (NoneEligible config.now (map live flows.now) start room.slots)
         (λ found. IsSomeAnd (slice_get (map live flows.now) found.0)
-        (IsNext config.now (map live flows.now) start room)) }
+        (IsNext config.now (map live flows.now) start room.slots)) }
     ensures stands { is_queued ≡ true → IfSome result (λ found. Stands queue.now found.1 found.0) }
 {
     if is_queued {
         return first_in_turn(queue, flows, config, start, room);
     }
-    match first_eligible(flows, config, start, room) {
+    match first_eligible(flows, config, start, room.slots) {
         Some(flow) => Some((place_of(flows, flow.sid), 0)),
         None => None,
     }
@@ -248,6 +249,8 @@ impl Book {
     {
         let queue = &self.queue;
         let flows = &self.flows;
+        let bytes = self.config.bytes_in(room);
+        let room = Room { slots: room, bytes };
         match next_place(queue, self.is_queued, flows, &self.config, start, room) {
             Some((place, _)) => Some(self.sid_at(place)),
             None => None,
@@ -313,6 +316,8 @@ impl Book {
     {
         let queue = &self.queue;
         let flows = &self.flows;
+        let bytes = self.config.bytes_in(room);
+        let room = Room { slots: room, bytes };
         let (place, index) = next_place(queue, self.is_queued, flows, &self.config, start, room)?;
         let flow = &mut self.flows[place];
         let served = flow.serve(&self.config, start, room);

@@ -41,6 +41,13 @@ pub struct Served {
     pub bytes: u32,
 }
 
+// The minislots before what comes next, and the most bytes of a data grant in them.
+#[derive(Clone, Copy)]
+pub(crate) struct Room {
+    pub(crate) slots: u32,
+    pub(crate) bytes: u64,
+}
+
 // The turns of a rank: more than there are starts.
 const TURNS: u128 = 1 << 65;
 
@@ -142,20 +149,19 @@ impl Flow {
         ensures most { IsMost config.now (live self.now) start room result }
         ensures lawful { IsLawful config.now }
     {
-        let limit = self.limit(config, room);
+        let limit = self.limit(config, config.bytes_in(room));
         self.bucket.most(start, limit)
     }
 
-    // The most bytes that a data grant may have in so many minislots, were there no ceiling.
-    fn limit(&self, config: &Checked, room: u32) -> u32
+    // The most bytes that a data grant of at most so many may have, were there no ceiling.
+    fn limit(&self, config: &Checked, most: u64) -> u32
         requires sum { self.now.granted ≡ granted (live self.now) }
         requires within { granted (live self.now) ≤ self.now.asked }
-        ensures value { result ≡ min (min (outstanding (live self.now)) config.now.grant_cap)
-            (bytes_in config.now room) }
+        ensures value { result ≡ min (min (outstanding (live self.now)) config.now.grant_cap) most }
         ensures lawful { IsLawful config.now }
     {
         let asked = self.outstanding().min(u64::from(config.grant_cap()));
-        asked.min(config.bytes_in(room)) as u32
+        asked.min(most) as u32
     }
 
     // Whether the flow may be served at this minislot: what it waits for, at most the quantum, fits the
@@ -186,14 +192,15 @@ impl Flow {
     }
 
     // Grants the flow, which may be served, the most bytes that it may have. There is room for the grant.
-    pub(crate) fn serve(&mut self, config: &Checked, start: u64, room: u32) -> Served
+    pub(crate) fn serve(&mut self, config: &Checked, start: u64, room: Room) -> Served
         requires sound { IsSoundFlow config.now (live self.old) }
         requires sums { KeepsSums config.now self.old }
         requires started { HaveStartedBy start self.old.grants.items }
-        requires may { IsEligible config.now start room (live self.old) }
+        requires room { room.bytes ≡ bytes_in config.now room.slots }
+        requires may { IsEligible config.now start room.slots (live self.old) }
         requires space { 0 < (room_in self.old).grants }
         ensures sid { result.sid ≡ self.old.sid }
-        ensures amount { IsAmount config.now (live self.old) start room result.bytes }
+        ensures amount { IsAmount config.now (live self.old) start room.slots result.bytes }
         ensures live { live self.new
             ≡ with_grant (record { start = start; bytes = result.bytes }) (live self.old) }
         ensures space { (room_in self.new).grants + 1 ≡ (room_in self.old).grants }
@@ -201,7 +208,7 @@ impl Flow {
         ensures within { granted (live self.new) ≤ self.new.asked }
         ensures later { self.old.turn ≤ self.new.turn }
     {
-        let limit = self.limit(config, room);
+        let limit = self.limit(config, room.bytes);
         let bytes = self.bucket.take_most(start, limit);
         self.note(start, bytes);
         let sid = self.sid;

@@ -5,6 +5,7 @@ ghost use Rattle.std.specs.Prelude.{ℕ, ◌≡◌, ◌≢◌, ◌<◌, ◌≤�
 ghost use Rattle.std.specs.Prelude.{IsSomeAnd, IfSome, MatchOption, slice_get};
 ghost use Rattle.std.specs.List.{AllByRecursion, position_or_len};
 ghost use Rattle.minislots.specs.declared.config.Config.{Config};
+ghost use Rattle.minislots.specs.Units.{bytes_in};
 ghost use Rattle.flow_book.specs.declared.flow.Flow.{Flow};
 ghost use Rattle.flow_book.specs.Flows.{granted, outstanding};
 ghost use Rattle.flow_book.specs.Choice.{HasStartedBy, IsNext, NoneEligible};
@@ -13,7 +14,7 @@ ghost use Rattle.flow_book.specs.Sids.{AscendBy, put_in};
 ghost use Rattle.flow_book.specs.Queue.{IsAt, IsQueue, IsQueueAmong, IsMoved, AreSameBut};
 ghost use Rattle.flow_book.specs.Queue.{Stands, StandsBefore, moved_up, moved_down};
 
-use crate::flow::Flow;
+use crate::flow::{Flow, Room};
 use minislots::Checked;
 use std::alloc::{AllocError, Global};
 
@@ -78,22 +79,22 @@ pub(crate) fn first_in_turn(
     flows: &[Flow],
     config: &Checked,
     start: u64,
-    room: u32,
+    room: Room,
 ) -> Option<(usize, usize)>
     requires book { IsBook config.now flows.now }
     requires queue { IsQueue flows.now queue.now }
+    requires room { room.bytes ≡ bytes_in config.now room.slots }
     requires started { AllByRecursion (HasStartedBy start) (map live flows.now) }
-    ensures next { MatchOption result (NoneEligible config.now (map live flows.now) start room)
+    ensures next { MatchOption result (NoneEligible config.now (map live flows.now) start room.slots)
         (λ found. IsSomeAnd (slice_get (map live flows.now) found.0)
-        (IsNext config.now (map live flows.now) start room)) }
+        (IsNext config.now (map live flows.now) start room.slots)) }
     ensures stands { IfSome result (λ found. Stands queue.now found.1 found.0) }
 {
     let quantum = u64::from(config.quantum());
-    let fits = config.bytes_in(room);
     for index in 0..queue.len() {
         let waiting = &queue[index];
         let wanted = waiting.wants.min(quantum);
-        if wanted <= fits && flows[waiting.place].may_take(start, wanted as u32) {
+        if wanted <= room.bytes && flows[waiting.place].may_take(start, wanted as u32) {
             return Some((waiting.place, index));
         }
     }

@@ -76,7 +76,7 @@ turned : (sid : ℕ) (call : Call) (reply : Reply) (before : Bool)
     → turned_by (turn_by sid call reply) before ≡ changed_by (turn_of call reply) sid before
 turned sid (calls.Admit other spec) reply before = turned_admit sid other spec reply before
 turned sid (calls.Remove other) reply before = turned_remove sid other reply before
-turned sid (calls.Ask receiver other bytes heard) reply before = refl
+turned sid (calls.Ask receiver other amount heard) reply before = refl
 turned sid (calls.Heard receiver upto) reply before = refl
 turned sid (calls.Build now) reply before = refl
 turned sid (calls.Skip now) reply before = refl

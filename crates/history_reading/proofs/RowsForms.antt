@@ -3,7 +3,8 @@
 use Rattle.std.proofs.Common.{◌≡◌, ℕ, true, is_some, take, drop, codes, Option, refl}
 use Rattle.serde_json.specs.Data.{Data, null, object, number, unsigned, string, put, no_members}
 use Rattle.json_fields.specs.declared.forms.Sort.{Sort}
-use Rattle.json_fields.specs.declared.forms.Sort.TheVariants.{Document, Config, Entry, Call, Flow, Reply}
+use Rattle.json_fields.specs.declared.forms.Sort.TheVariants.{Document, Config, Bursts, Profile, Entry, Call}
+use Rattle.json_fields.specs.declared.forms.Sort.TheVariants.{Flow, Reply}
 use Rattle.json_fields.specs.declared.forms.TheConstants.{ENTRIES, REPLIES}
 use Rattle.json_fields.specs.Fields.{◌>>=◌, u16_at, u32_at, u64_at, number_at, text_at}
 use Rattle.json_fields.proofs.FormRows.{takes_forms}
@@ -19,6 +20,8 @@ use Rattle.map_codec.specs.DecodeFault.{fault_of, elements_fault, least}
 abbrev inner : Sort → Data
 inner (Document kind) = null
 inner Config = null
+inner Bursts = null
+inner Profile = null
 inner Entry = null
 inner Call = object (put (codes "call") (string (codes "status")) (put (codes "sid") (number (unsigned 0)) no_members))
 inner Flow = null

@@ -9,7 +9,7 @@ use Rattle.json.specs.Tree.{items_tokens}
 use Rattle.serde_json.specs.Data.{Data, array}
 use Rattle.serde_json.specs.View.{items_of}
 use Rattle.serde_json.specs.Written.{items_outline}
-use Rattle.history_writing.specs.Tokens.{tokens_of}
+use Rattle.history_writing.specs.Tokens.{tokens_of, joined}
 
 -- the items of an array and its closing bracket
 items-tokens : {X : Type 0} (f : X → Data) (xs : List X)
@@ -79,11 +79,6 @@ Grow old (new ∷ news) (part ∷ parts) = (new ≡ old ++ part) × Grow new new
 abbrev pub last_of : List Token → List (List Token) → List Token
 last_of old [] = old
 last_of old (new ∷ news) = last_of new news
-
--- the parts, one behind the other
-abbrev pub joined : List (List Token) → List Token
-joined [] = []
-joined (part ∷ parts) = part ++ joined parts
 
 -- what was written part by part is what the parts make together
 pub in_turn : (old : List Token) (news parts : List (List Token)) → Grow old news parts

@@ -1,4 +1,6 @@
-pub mod JsonTokens
-pub mod RowsHistory
+mod BurstTokens
 pub mod JsonNumbers
+pub mod JsonTokens
+pub mod RowsBursts
+pub mod RowsHistory
 pub mod RowsJournal

@@ -1,12 +1,14 @@
--- A worked text: the history of one MAP without flows.
+-- Worked texts: the history of one MAP without flows, and requests.
 use Rattle.std.proofs.Common.{◌≡◌, [], ◌∷◌, ◌++◌, codes, refl}
 use Rattle.std.specs.Fmt.{digits}
 use Rattle.hex.proofs.OnLiterals.{hex_on_literals}
+use Rattle.serde_json.specs.Written.{compact_text}
 use Rattle.serde_json.proofs.OnLiterals.{serde_json_on_literals}
 use Rattle.map_codec.specs.WireMap.{header, spelling}
 use Rattle.sched_calls.proofs.Base.{base}
 use Rattle.sched_calls.proofs.BaseMaps.{first_map}
-use Rattle.sched_calls.specs.declared.call.Call.TheVariants.{Build}
+use Rattle.sched_calls.specs.declared.amount.Amount.TheVariants.{Bytes, Slots}
+use Rattle.sched_calls.specs.declared.call.Call.TheVariants.{Ask, Build}
 use Rattle.sched_calls.specs.declared.reply.Reply.TheVariants.{Built}
 use Rattle.sched_calls.specs.declared.reply.Entry.{Entry}
 use Rattle.history_writing.specs.Json.{counts, call_data, map_data, reply_data}
@@ -28,3 +30,14 @@ pub the_text_of_one_map : history_text base (built ∷ [])
 unfolding history_text history_data entries_data entry_data config_data call_data reply_data map_data counts header
     spelling digits serde_json_on_literals hex_on_literals
 the_text_of_one_map = refl
+
+-- a request is written with the key that it had
+pub a_request_for_bytes : compact_text (call_data (Ask 1 17 (Bytes 100) 801))
+    ≡ codes "{\"bytes\":100,\"call\":\"ask\",\"heard\":801,\"receiver\":1,\"sid\":17}"
+unfolding call_data digits serde_json_on_literals
+a_request_for_bytes = refl
+
+pub a_request_in_minislots : compact_text (call_data (Ask 1 17 (Slots 100) 801))
+    ≡ codes "{\"call\":\"ask\",\"heard\":801,\"receiver\":1,\"sid\":17,\"slots\":100}"
+unfolding call_data digits serde_json_on_literals
+a_request_in_minislots = refl

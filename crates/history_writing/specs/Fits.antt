@@ -1,8 +1,13 @@
 -- Histories whose numbers fit the types of their fields.
 use Rattle.std.specs.Prelude.{◌<◌, ◌^◌, ℕ, Option, Some, None}
 use Rattle.std.specs.List.{AllByRecursion}
+use Rattle.minislots.specs.declared.bursts.Bursts.{Bursts}
+use Rattle.minislots.specs.declared.bursts.Bursts.TheVariants.{Uniform, Described}
+use Rattle.minislots.specs.declared.bursts.Profile.{Profile}
 use Rattle.minislots.specs.declared.config.Config.{Config}
 use Rattle.map_codec.specs.WireMap.{IsWellFormed}
+use Rattle.sched_calls.specs.declared.amount.Amount.{Amount}
+use Rattle.sched_calls.specs.declared.amount.Amount.TheVariants.{Bytes, Slots}
 use Rattle.sched_calls.specs.declared.spec.FlowSpec.{FlowSpec}
 use Rattle.sched_calls.specs.declared.spec.FlowSpec.TheVariants.{Unsolicited, Polled, BestEffort}
 use Rattle.sched_calls.specs.declared.placement.Placement.{Placement}
@@ -25,11 +30,16 @@ FlowFits (Polled interval jitter rate burst) = (interval < 2 ^ 32) × (jitter < 
     × (burst < 2 ^ 32)
 FlowFits (BestEffort priority rate burst) = (priority < 2 ^ 8) × (rate < 2 ^ 32) × (burst < 2 ^ 32)
 
+-- how much a request asks for fits its type
+abbrev pub AmountFits : Amount → Type 0
+AmountFits (Bytes bytes) = bytes < 2 ^ 32
+AmountFits (Slots slots) = slots < 2 ^ 32
+
 -- the numbers of a call fit their types
 abbrev pub CallFits : Call → Type 0
 CallFits (Admit sid spec) = (sid < 2 ^ 16) × FlowFits spec
 CallFits (Remove sid) = sid < 2 ^ 16
-CallFits (Ask receiver sid bytes heard) = (receiver < 2 ^ 8) × (sid < 2 ^ 16) × (bytes < 2 ^ 32) × (heard < 2 ^ 64)
+CallFits (Ask receiver sid amount heard) = (receiver < 2 ^ 8) × (sid < 2 ^ 16) × AmountFits amount × (heard < 2 ^ 64)
 CallFits (Heard receiver upto) = (receiver < 2 ^ 8) × (upto < 2 ^ 64)
 CallFits (Build now) = now < 2 ^ 64
 CallFits (Skip now) = now < 2 ^ 64
@@ -39,11 +49,25 @@ CallFits (Reserve (Station sid) slots) = (sid < 2 ^ 16) × (slots < 2 ^ 32)
 CallFits (Header header) = (header.ucd_count < 2 ^ 8) × (header.ranging_start < 2 ^ 8)
     × (header.ranging_end < 2 ^ 8) × (header.data_start < 2 ^ 8) × (header.data_end < 2 ^ 8)
 
+-- the numbers of a burst descriptor fit their type
+pub record ProfileFits (p : Profile) : Type 0 where
+  pub preamble : p.preamble < 2 ^ 32
+  pub guard : p.guard < 2 ^ 32
+  pub bits : p.bits < 2 ^ 32
+  pub parity : p.parity < 2 ^ 32
+  pub information : p.information < 2 ^ 32
+  pub shortened : p.shortened < 2 ^ 32
+
+-- the numbers of a channel's bursts fit their type
+abbrev pub BurstsFit : Bursts → Type 0
+BurstsFit (Uniform bytes_per_slot overhead) = (bytes_per_slot < 2 ^ 32) × (overhead < 2 ^ 32)
+BurstsFit (Described d) =
+    (d.symbols < 2 ^ 32) × ProfileFits d.short × ProfileFits d.long × ProfileFits d.unsolicited
+
 -- the numbers of a configuration fit their types
 pub record ConfigFits (c : Config) : Type 0 where
   pub ticks : c.ticks < 2 ^ 32
-  pub bytes_per_slot : c.bytes_per_slot < 2 ^ 32
-  pub overhead : c.overhead < 2 ^ 32
+  pub bursts : BurstsFit c.bursts
   pub frame : c.frame < 2 ^ 32
   pub cycle : c.cycle < 2 ^ 32
   pub req_slots : c.req_slots < 2 ^ 32

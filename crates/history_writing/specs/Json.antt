@@ -5,6 +5,7 @@ use Rattle.hex.specs.Hex.{encode_lower}
 use Rattle.serde_json.specs.Data.{Data, number, unsigned, string, array, object, no_members, member}
 use Rattle.serde_json.specs.View.{items_of}
 use Rattle.map_codec.specs.WireMap.{spelling}
+use Rattle.sched_calls.specs.declared.amount.Amount.TheVariants.{Bytes, Slots}
 use Rattle.sched_calls.specs.declared.spec.FlowSpec.{FlowSpec}
 use Rattle.sched_calls.specs.declared.spec.FlowSpec.TheVariants.{Unsolicited, Polled, BestEffort}
 use Rattle.sched_calls.specs.declared.placement.Placement.{Placement}
@@ -47,10 +48,14 @@ call_data (Admit sid spec) = object (
     member (codes "sid") (count sid) no_members)))
 call_data (Remove sid) = object (member (codes "call") (string (codes "remove"))
     (member (codes "sid") (count sid) no_members))
-call_data (Ask receiver sid bytes heard) = object (
+call_data (Ask receiver sid (Bytes bytes) heard) = object (
     member (codes "bytes") (count bytes) (member (codes "call") (string (codes "ask")) (
     member (codes "heard") (count heard) (member (codes "receiver") (count receiver) (
     member (codes "sid") (count sid) no_members)))))
+call_data (Ask receiver sid (Slots slots) heard) = object (
+    member (codes "call") (string (codes "ask")) (member (codes "heard") (count heard) (
+    member (codes "receiver") (count receiver) (member (codes "sid") (count sid) (
+    member (codes "slots") (count slots) no_members)))))
 call_data (Heard receiver upto) = object (
     member (codes "call") (string (codes "heard")) (member (codes "receiver") (count receiver) (
     member (codes "upto") (count upto) no_members)))

@@ -15,10 +15,10 @@ use Rattle.sched_calls.specs.declared.reply.Entry.{Entry}
 use Rattle.sched_calls.specs.declared.reply.TheConstants.{MAX_WHOLE_HISTORY}
 use Rattle.sched_history.specs.History.{IsStep, IsLegal}
 use Rattle.sched_history.specs.Machine.{Past}
-use Rattle.line_stream.specs.declared.TheConstants.{MAX_LINE, NEWLINE}
-use Rattle.line_stream.specs.Lines.{IsWithinLine}
-use Rattle.line_stream.specs.declared.Told.TheVariants.{Line, Long}
-use Rattle.line_stream.specs.Told.{AtHand, untold, TellsWhole, IsTorn, StopsLine}
+use Rattle.text_stream.specs.declared.TheConstants.{MAX_LINE, NEWLINE}
+use Rattle.text_stream.specs.Lines.{IsWithinLine}
+use Rattle.text_stream.specs.declared.Told.TheVariants.{Line, Long}
+use Rattle.text_stream.specs.Told.{AtHand, untold, TellsWhole, IsTorn, StopsLine}
 use Rattle.history_reading.specs.Recorded.{entry_in}
 use Rattle.journal_entries.specs.Standing.{StandFor, in_line, opening_in, config_in_line, entry_in_line, ended_lines}
 use Rattle.journal_entries.specs.Taking.{TakesEntry, MeetsIllegal, StopsTaking}

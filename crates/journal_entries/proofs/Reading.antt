@@ -6,8 +6,8 @@ use Rattle.minislots.specs.declared.config.Config.{Config}
 use Rattle.sched_calls.specs.declared.reply.Entry.{Entry}
 use Rattle.sched_calls.specs.declared.reply.TheConstants.{MAX_WHOLE_HISTORY}
 use Rattle.sched_history.specs.History.{IsStep, IsLegal}
-use Rattle.line_stream.specs.declared.Told.TheVariants.{Line, Long}
-use Rattle.line_stream.specs.Told.{AtHand, untold, TellsWhole}
+use Rattle.text_stream.specs.declared.Told.TheVariants.{Line, Long}
+use Rattle.text_stream.specs.Told.{AtHand, untold, TellsWhole}
 use Rattle.history_reading.specs.Recorded.{entry_in}
 use Rattle.journal_entries.specs.Standing.{entry_in_line}
 use Rattle.journal_entries.specs.Journal.{StandSoFar, FindsIllegalIn, FindsNoEntryIn, HasTooMany}

@@ -10,7 +10,7 @@ use Rattle.sched_history.specs.Audit.{IsFirstIllegal}
 use Rattle.text_stream.specs.declared.fault.TextFault.{TextFault}
 use Rattle.text_stream.specs.declared.fault.TextFault.TheVariants.{Input, TooLong, NotJson, Shape, Config, Memory}
 use Rattle.text_stream.specs.declared.fault.TextFault.TheVariants.{Output}
-use Rattle.line_stream.specs.Lines.{IsWithinLine}
+use Rattle.text_stream.specs.Lines.{IsWithinLine}
 use Rattle.journal_entries.specs.Standing.{StandFor, config_in_line, entry_in_line, ended_lines}
 
 -- These whole lines came first, and these bytes behind them

@@ -4,3 +4,4 @@ pub mod Journal
 pub mod Next
 pub mod End
 pub mod Unjudged
+pub mod Judging

@@ -5,9 +5,9 @@ use Rattle.sched_calls.specs.declared.reply.Entry.{Entry}
 use Rattle.sched_calls.specs.declared.reply.TheConstants.{MAX_WHOLE_HISTORY}
 use Rattle.sched_history.specs.Machine.{Past}
 use Rattle.sched_calls.specs.Reply.{IsEncodable}
-use Rattle.line_stream.specs.declared.Told.{Told}
-use Rattle.line_stream.specs.declared.Told.TheVariants.{Line, Long}
-use Rattle.line_stream.specs.Told.{untold, TellsWhole}
+use Rattle.text_stream.specs.declared.Told.{Told}
+use Rattle.text_stream.specs.declared.Told.TheVariants.{Line, Long}
+use Rattle.text_stream.specs.Told.{untold, TellsWhole}
 use Rattle.journal_entries.specs.declared.entries.JournalEntries.{JournalEntries}
 use Rattle.journal_entries.specs.declared.entries.Next.{Next}
 use Rattle.journal_entries.specs.declared.entries.Next.TheVariants as next

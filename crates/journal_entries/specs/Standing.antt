@@ -10,7 +10,7 @@ use Rattle.sched_calls.specs.declared.reply.Entry.{Entry}
 use Rattle.text_stream.specs.Input.{value_of}
 use Rattle.text_stream.specs.Outcome.{unless_wrong}
 use Rattle.json_fields.specs.Fields.{◌>>=◌, config_of}
-use Rattle.line_stream.specs.declared.TheConstants.{MAX_LINE, NEWLINE}
+use Rattle.text_stream.specs.declared.TheConstants.{MAX_LINE, NEWLINE}
 use Rattle.history_reading.specs.Recorded.{entry_in}
 
 -- what a line stands for, where it is not too long for one

@@ -2,7 +2,7 @@
 use Rattle.std.specs.Prelude.{ℕ, ◌+◌, List, [], ◌∷◌, ◌++◌, length, Option}
 use Rattle.minislots.specs.declared.config.Config.{Config}
 use Rattle.sched_calls.specs.declared.reply.Entry.{Entry}
-use Rattle.line_stream.specs.Told.{untold}
+use Rattle.text_stream.specs.Told.{untold}
 use Rattle.journal_entries.specs.declared.unjudged.UnjudgedEntries.{UnjudgedEntries}
 use Rattle.journal_entries.specs.declared.unjudged.Read.{Read}
 use Rattle.journal_entries.specs.declared.unjudged.Read.TheVariants as read

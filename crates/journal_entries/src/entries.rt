@@ -1,19 +1,18 @@
 //! A reader of a journal's entries.
 
 ghost use Rattle.std.specs.Prelude.{◌≡◌, [], List, ℕ, Option, IfOk, IfErr, MatchOption};
-ghost use Rattle.line_stream.specs.declared.Told.TheVariants.{Line, Long};
-ghost use Rattle.line_stream.specs.Told.{untold};
+ghost use Rattle.text_stream.specs.declared.Told.TheVariants.{Line, Long};
+ghost use Rattle.text_stream.specs.Told.{untold};
 ghost use Rattle.text_stream.specs.Watched.{FailsBy};
 ghost use Rattle.journal_entries.specs.Journal.{StandSoFar, HasNoOpening, StopsJournal};
 ghost use Rattle.journal_entries.specs.Next.{HasGiven, HasOpened, IsNext, TakesNext};
 ghost use Rattle.journal_entries.specs.Next.{told_last, ShowsBad};
 
 use crate::line::{Taken, opening_in, take_line};
-use line_stream::{Lines, Whole};
 use minislots::Checked;
 use sched_history::{Auditor, Entry};
 use std::alloc::Global;
-use text_stream::{Source, TextFault};
+use text_stream::{Lines, Source, TextFault, Whole};
 
 /// What comes next of a journal. Lines and entries are counted from 0, and line 0 is the configuration.
 #[derive(Drop)]

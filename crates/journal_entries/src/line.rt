@@ -2,7 +2,7 @@
 
 ghost use Rattle.std.specs.Prelude.{◌≡◌, ◌≤◌, if◌then◌else◌, None, length, IfOk, IfErr};
 ghost use Rattle.serde_json.specs.View.{view};
-ghost use Rattle.line_stream.specs.declared.TheConstants.{MAX_LINE};
+ghost use Rattle.text_stream.specs.declared.TheConstants.{MAX_LINE};
 ghost use Rattle.journal_entries.specs.Standing.{is_document, config_under, opening_in, config_in_line};
 ghost use Rattle.journal_entries.specs.Taking.{Takes, StopsTaking};
 

@@ -9,11 +9,10 @@ ghost use Rattle.journal_entries.specs.Unjudged.{HasRead, IsRead};
 
 use crate::entries::read_opening;
 use history_reading::entry_in;
-use line_stream::{Lines, Whole};
 use minislots::Checked;
 use sched_history::Entry;
 use std::alloc::Global;
-use text_stream::{Source, TextFault};
+use text_stream::{Lines, Source, TextFault, Whole};
 
 /// What is read of a journal.
 #[derive(Drop)]

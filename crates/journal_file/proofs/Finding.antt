@@ -10,11 +10,11 @@ use Rattle.sched_history.specs.Machine.{Machine}
 use Rattle.text_stream.specs.declared.fault.TextFault.{TextFault}
 use Rattle.text_stream.specs.declared.fault.TextFault.TheVariants.{Input, TooLong, NotJson, Shape, Config as Wrong}
 use Rattle.text_stream.specs.declared.fault.TextFault.TheVariants.{Memory, Output}
-use Rattle.line_stream.specs.declared.TheConstants.{NEWLINE}
-use Rattle.line_stream.specs.Lines.{IsWithinLine}
-use Rattle.line_stream.specs.Told.{IsTorn as IsLast, StopsLine}
-use Rattle.journal_reading.specs.Judging.{Continues, StopsJournal}
-use Rattle.journal_reading.specs.Standing.{ended_lines}
+use Rattle.text_stream.specs.declared.TheConstants.{NEWLINE}
+use Rattle.text_stream.specs.Lines.{IsWithinLine}
+use Rattle.text_stream.specs.Told.{IsTorn as IsLast, StopsLine}
+use Rattle.journal_entries.specs.Judging.{Continues, StopsJournal}
+use Rattle.journal_entries.specs.Standing.{ended_lines}
 use Rattle.journal_file.specs.declared.place.Place.{Place}
 use Rattle.journal_file.specs.declared.place.Place.TheVariants.{Unread, NoLine, Resumed, Whole, Failed}
 use Rattle.journal_file.specs.Found.{HasNoLine, HasLine, IsEnd, IsFound, ContinuesTo, IsTooMuch}

@@ -7,7 +7,7 @@ use Rattle.std.proofs.Math.Seq.{take-append_seam}
 use Rattle.std.proofs.lemmas.Bool.Decides.{Decides-eqb}
 use Rattle.minislots.specs.declared.config.Config.{Config}
 use Rattle.sched_calls.specs.declared.reply.Entry.{Entry}
-use Rattle.journal_reading.specs.Standing.{ended_lines}
+use Rattle.journal_entries.specs.Standing.{ended_lines}
 use Rattle.history_writing.specs.Journal.{opening_line, entry_line}
 use Rattle.journal_file.specs.declared.notes.Note.{Note}
 use Rattle.journal_file.specs.declared.place.Place.TheVariants.{NoLine, Resumed, Failed}

@@ -4,9 +4,9 @@ use Rattle.minislots.specs.declared.config.Config.{Config}
 use Rattle.sched_calls.specs.declared.reply.Entry.{Entry}
 use Rattle.sched_history.specs.Machine.{Machine}
 use Rattle.text_stream.specs.declared.fault.TextFault.TheVariants.{TooLong}
-use Rattle.line_stream.specs.Lines.{IsWithinLine}
-use Rattle.journal_reading.specs.declared.resuming.Resumed.TheVariants as resumed
-use Rattle.journal_reading.specs.Judging.{Resumes, StopsJournal}
+use Rattle.text_stream.specs.Lines.{IsWithinLine}
+use Rattle.journal_entries.specs.declared.resuming.Resumed.TheVariants as resumed
+use Rattle.journal_entries.specs.Judging.{Resumes, StopsJournal}
 use Rattle.journal_file.specs.declared.fault.FileFault.{FileFault}
 use Rattle.journal_file.specs.declared.fault.FileFault.TheVariants.{Failed, InUse, Bad, Memory}
 use Rattle.journal_file.specs.declared.place.Place.{Place}

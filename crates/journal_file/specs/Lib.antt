@@ -1,4 +1,7 @@
+pub mod Failed
+pub mod Change
 pub mod Fault
+pub mod End
 pub mod Store
 pub mod Notes
 pub mod Reading

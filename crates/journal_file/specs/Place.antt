@@ -2,7 +2,7 @@
 use Rattle.std.specs.Prelude.{◌≡◌, ℕ, Bool, true, List, [], length, Option, None, Some}
 use Rattle.minislots.specs.declared.config.Config.{Config}
 use Rattle.sched_calls.specs.declared.reply.Entry.{Entry}
-use Rattle.line_stream.specs.Lines.{IsWithinLine}
+use Rattle.text_stream.specs.Lines.{IsWithinLine}
 use Rattle.journal_file.specs.declared.notes.Note.{Note}
 use Rattle.journal_file.specs.declared.place.Place.{Place}
 use Rattle.journal_file.specs.declared.place.Place.TheVariants.{Unread, NoLine, Resumed, Whole, Failed}

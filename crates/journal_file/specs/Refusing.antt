@@ -2,7 +2,7 @@
 use Rattle.std.specs.Prelude.{◌≡◌, ℕ, List, [], ◌++◌, length, Option, None, Some}
 use Rattle.minislots.specs.declared.config.Config.{Config}
 use Rattle.history_writing.specs.Journal.{opening_line}
-use Rattle.line_stream.specs.Lines.{IsWithinLine}
+use Rattle.text_stream.specs.Lines.{IsWithinLine}
 use Rattle.live_command.specs.declared.journal.BeginFault.{BeginFault}
 use Rattle.live_command.specs.declared.journal.BeginFault.TheVariants as begins
 use Rattle.journal_file.specs.declared.place.Place.{Place}

@@ -5,10 +5,10 @@ use Rattle.serde_json.specs.Data.{Data}
 use Rattle.serde_json.specs.Written.{compact_text}
 use Rattle.minislots.specs.declared.config.Config.{Config}
 use Rattle.sched_calls.specs.declared.reply.Entry.{Entry}
-use Rattle.line_stream.specs.Lines.{IsWithinLine}
+use Rattle.text_stream.specs.Lines.{IsWithinLine}
 use Rattle.history_writing.specs.Journal.{opening_line, entry_line}
-use Rattle.journal_reading.specs.Judging.{FindsLegal}
-use Rattle.journal_reading.specs.Standing.{ended_lines}
+use Rattle.journal_entries.specs.Judging.{FindsLegal}
+use Rattle.journal_entries.specs.Standing.{ended_lines}
 use Rattle.journal_file.specs.declared.notes.Note.{Note}
 use Rattle.journal_file.specs.declared.notes.Note.TheVariants.{Resumed, Cut}
 

@@ -3,7 +3,6 @@
 ghost use Rattle.std.specs.Prelude.{◌≡◌};
 ghost use Rattle.live_command.specs.declared.journal.BeginFault.TheVariants as begins;
 ghost use Rattle.live_command.specs.declared.journal.RecordFault.TheVariants as records;
-ghost use Rattle.journal_file.specs.declared.fault.FileFault.TheVariants.{Failed};
 ghost use Rattle.journal_file.specs.declared.fault.JournalFault.TheVariants.{File, Live};
 ghost use Rattle.journal_file.specs.Fault.{file_status_of, journal_status_of};
 
@@ -27,14 +26,6 @@ pub enum FileFault {
     /// Memory ran out.
     #[error("out of memory")]
     Memory,
-}
-
-impl From<io::Error> for FileFault {
-    ghost from_gives = { λ _ made. made ≡ Failed };
-
-    fn from(_e: io::Error) -> FileFault {
-        FileFault::Failed
-    }
 }
 
 impl FileFault {

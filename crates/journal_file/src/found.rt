@@ -8,11 +8,10 @@ use crate::fault::FileFault;
 use crate::place::Place;
 use crate::reading::Reading;
 use crate::store::Store;
-use journal_reading::{Resumed, resume};
-use line_stream::{Lines, Whole};
+use journal_entries::{Resumed, resume};
 use sched_history::Scheduler;
 use std::alloc::Global;
-use text_stream::TextFault;
+use text_stream::{Lines, TextFault, Whole};
 
 // Whether the file has a whole line.
 #[tactic(auto, using(crate::proofs::Finding::has_newline))]

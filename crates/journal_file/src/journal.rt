@@ -77,6 +77,13 @@ impl<S: Store, N: Notes> FileJournal<S, N> {
         }
     }
 
+    /// The file.
+    pub fn store(&self) -> &S
+        ensures { result.now ≡ store_of self.now }
+    {
+        &self.file.store
+    }
+
     /// Reads the file: the scheduler that continues behind it, or none where it has no whole line. Nothing of the file
     /// is changed.
     pub(crate) fn read(&mut self) -> Result<Option<Scheduler>, FileFault>

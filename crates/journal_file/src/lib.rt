@@ -1,6 +1,9 @@
 //! A journal in a file, which is locked while a conversation is recorded in it, and which another conversation resumes.
 #![tactic(auto)]
 
+mod change;
+mod end;
+mod failed;
 mod fault;
 mod found;
 mod input;
@@ -14,6 +17,9 @@ mod reading;
 mod store;
 mod whole;
 
+pub use change::Change;
+pub use end::{Cause, JournalEnd, Stop};
+pub use failed::{FailedCall, Operation};
 pub use fault::{FileFault, JournalFault};
 pub use input::live_journal_input;
 pub use journal::FileJournal;

@@ -1,6 +1,8 @@
 //! The opening of a journal's file.
 
-use crate::fault::FileFault;
+use crate::end::{Cause, JournalEnd};
+use crate::failed::Operation;
+use crate::fault::{FileFault, JournalFault};
 use crate::store::SystemFile;
 use std::fs::{File, OpenOptions, TryLockError};
 use std::io;
@@ -31,24 +33,59 @@ fn open_file<R: Files<File = File>>(rt: &R, path: &str) -> io::Result<File> {
     file.try_clone()
 }
 
+// Refuses any other than a regular file.
+fn require_regular<'a>(path: &'a str, file: &File) -> Result<(), JournalEnd<'a>> {
+    match file.metadata() {
+        Ok(found) if found.is_file() => Ok(()),
+        Ok(_) => {
+            let error = io::Error::other("it is no regular file");
+            Err(JournalEnd::failed(path, Operation::Open, error))
+        }
+        Err(error) => Err(JournalEnd::failed(path, Operation::Stat, error)),
+    }
+}
+
+// Locks a file without waiting.
+fn lock<'a>(path: &'a str, file: &File) -> Result<(), JournalEnd<'a>> {
+    match file.try_lock() {
+        Ok(()) => Ok(()),
+        Err(TryLockError::WouldBlock) => Err(JournalEnd {
+            path,
+            cause: Cause::Fault(JournalFault::File(FileFault::InUse)),
+        }),
+        Err(TryLockError::Error(error)) => Err(JournalEnd::failed(path, Operation::Lock, error)),
+    }
+}
+
+// Waits until the names in a folder have reached its device.
+fn sync_folder<'a, R: Files<File = File>>(rt: &R, path: &'a str) -> Result<(), JournalEnd<'a>> {
+    match File::open(rt, path) {
+        Ok(folder) => match folder.sync_all() {
+            Ok(()) => Ok(()),
+            Err(error) => Err(JournalEnd::failed(path, Operation::Sync, error)),
+        },
+        Err(error) => Err(JournalEnd::failed(path, Operation::Open, error)),
+    }
+}
+
 /// Opens the file of a journal, which is made where there is none, and locks it without waiting. Any other than a
 /// regular file is refused. Where it is to reach its device, so has its name.
-pub fn open_journal<R: Files<File = File>>(
-    rt: &R,
-    path: &str,
+pub fn open_journal<'a, R: Files<File = File>>(
+    rt: &'a R,
+    path: &'a str,
     is_synced: bool,
-) -> Result<SystemFile, FileFault> {
-    let file = open_file(rt, path)?;
-    if !file.metadata()?.is_file() {
-        return Err(FileFault::Failed);
-    }
-    match file.try_lock() {
-        Ok(()) => {}
-        Err(TryLockError::WouldBlock) => return Err(FileFault::InUse),
-        Err(TryLockError::Error(_)) => return Err(FileFault::Failed),
-    }
+) -> Result<SystemFile<'a, R>, JournalEnd<'a>> {
+    let file = match open_file(rt, path) {
+        Ok(file) => file,
+        Err(error) => return Err(JournalEnd::failed(path, Operation::Open, error)),
+    };
+    require_regular(path, &file)?;
+    lock(path, &file)?;
     if is_synced {
-        File::open(rt, folder_of(path))?.sync_all()?;
+        sync_folder(rt, folder_of(path))?;
     }
-    Ok(SystemFile::new(file))
+    match SystemFile::new(rt, path, file) {
+        Ok(file) => Ok(file),
+        Err(error) => Err(JournalEnd::failed(path, Operation::Stat, error)),
+    }
 }

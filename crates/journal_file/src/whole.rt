@@ -15,10 +15,9 @@ use crate::fault::JournalFault;
 use crate::journal::FileJournal;
 use crate::notes::Notes;
 use crate::store::Store;
-use line_stream::Lines;
 use live_command::{LiveFault, Wording, go_on, hold};
 use std::alloc::Global;
-use text_stream::{Sink, Source, TextFault};
+use text_stream::{Lines, Sink, Source, TextFault};
 
 /// Holds a conversation with a journal in a file, from the opened file on: reads the file, continues behind the journal
 /// that it is, or begins one where it has no whole line, and answers the lines of an input to its end. Each entry is in

@@ -1,6 +1,8 @@
 -- Whether a reader takes the objects of a form and no others: worked on an object that has all of its members, on that
--- without each, and on that with a value under each key that must not stand there.
-use Rattle.std.specs.Prelude.{ℕ, ◌+◌, Bool, true, false, not, ◌&&◌, ◌||◌, if◌then◌else◌, List, [], ◌∷◌, bytes_eq, codes}
+-- without each, and on that with a value under each key that must not stand there. And whether a number in it is lawful
+-- from the least to the greatest that its member names.
+use Rattle.std.specs.Prelude.{ℕ, ◌+◌, ◌-◌, ◌==◌, Bool, true, false, not, ◌&&◌, ◌||◌, if◌then◌else◌, List, [], ◌∷◌}
+use Rattle.std.specs.Prelude.{bytes_eq, codes}
 use Rattle.serde_json.specs.Data.{Data, null, number, unsigned, string, array, object, no_items, item}
 use Rattle.serde_json.specs.Data.{Members, no_members, put}
 use Rattle.json_fields.specs.declared.forms.Sort.{Sort}
@@ -46,12 +48,20 @@ not_taken (Lists most) = null
 
 abbrev is_together : Missing → Bool
 is_together missing.Fault = false
+is_together missing.UnlessBursts = false
+is_together missing.UnlessSlots = false
+is_together missing.UnlessBytes = false
+is_together missing.Long = false
 is_together missing.Nothing = false
 is_together missing.Together = true
 is_together (missing.Number n) = false
 
 abbrev may_be_missing : Missing → Bool
 may_be_missing missing.Fault = false
+may_be_missing missing.UnlessBursts = false
+may_be_missing missing.UnlessSlots = false
+may_be_missing missing.UnlessBytes = false
+may_be_missing missing.Long = true
 may_be_missing missing.Nothing = true
 may_be_missing missing.Together = true
 may_be_missing (missing.Number n) = true
@@ -69,16 +79,45 @@ abbrev all_but : (Holds → Data) → Member → List Member → Members
 all_but value m [] = no_members
 all_but value m (n ∷ ns) = if goes_with m n then all_but value m ns else put n.0.now (value n.1) (all_but value m ns)
 
--- whether an object of this form is read without one of its members exactly where that may be missing, and is not with
+-- the members but the one of this key
+abbrev without : List ℕ → List Member → List Member
+without key [] = []
+without key (n ∷ ns) = if bytes_eq key n.0.now then without key ns else n ∷ without key ns
+
+-- the members beside which one is read: all but the one that stands in its place
+abbrev read_beside : Missing → List Member → List Member
+read_beside missing.Fault ms = ms
+read_beside missing.UnlessBursts ms = without (codes "bursts") ms
+read_beside missing.UnlessSlots ms = ms
+read_beside missing.UnlessBytes ms = ms
+read_beside missing.Long ms = ms
+read_beside missing.Nothing ms = ms
+read_beside missing.Together ms = ms
+read_beside (missing.Number n) ms = ms
+
+-- whether an object of these members is read without one of them exactly where that may be missing, and is not with
 -- what may not stand under its key
 abbrev agrees : (Data → Bool) → (Holds → Data) → List Member → Member → Bool
 agrees is_read value ms m =
     (if is_read (object (all_but value m ms)) then may_be_missing m.2 else not (may_be_missing m.2))
     && not (is_read (object (put m.0.now (not_taken m.1) (all_of value ms))))
 
+-- and whether it is read without it, and with what may not stand there, where another member stands in its place
+abbrev gives_way : (Data → Bool) → (Holds → Data) → List Member → Member → Missing → Bool
+gives_way is_read value ms m missing.Fault = true
+gives_way is_read value ms m missing.UnlessBursts =
+    is_read (object (all_but value m ms)) && is_read (object (put m.0.now (not_taken m.1) (all_of value ms)))
+gives_way is_read value ms m missing.UnlessSlots = true
+gives_way is_read value ms m missing.UnlessBytes = true
+gives_way is_read value ms m missing.Long = true
+gives_way is_read value ms m missing.Nothing = true
+gives_way is_read value ms m missing.Together = true
+gives_way is_read value ms m (missing.Number n) = true
+
 abbrev each_agrees : (Data → Bool) → (Holds → Data) → List Member → List Member → Bool
 each_agrees is_read value ms [] = true
-each_agrees is_read value ms (n ∷ ns) = agrees is_read value ms n && each_agrees is_read value ms ns
+each_agrees is_read value ms (n ∷ ns) = agrees is_read value (read_beside n.2 ms) n
+    && gives_way is_read value ms n n.2 && each_agrees is_read value ms ns
 
 -- whether the objects of a form are read, and no others
 abbrev pub takes_form : (Data → Bool) → (Sort → Data) → Form → Bool
@@ -90,3 +129,48 @@ takes_form is_read inner f =
 abbrev pub takes_forms : (Data → Bool) → (Sort → Data) → List Form → Bool
 takes_forms is_read inner [] = true
 takes_forms is_read inner (f ∷ fs) = takes_form is_read inner f && takes_forms is_read inner fs
+
+-- these forms where the member of this key, in whose place another stands, is left out
+abbrev pub leaving_out : List ℕ → List Form → List Form
+leaving_out key [] = []
+leaving_out key (f ∷ fs) = (f.0, record { now = without key f.1.now }) ∷ leaving_out key fs
+
+-- what may stand under a key, the least lawful number where it is one of a burst descriptor
+abbrev pub least : (Sort → Data) → Holds → Data
+least inner (Number most) = number (unsigned 0)
+least inner (Lawful most low high) = number (unsigned low)
+least inner (Numbers most) = taken [] inner (Numbers most)
+least inner Payload = taken [] inner Payload
+least inner Name = taken [] inner Name
+least inner (Object sort) = inner sort
+least inner Objects = taken [] inner Objects
+least inner (Lists most) = taken [] inner (Lists most)
+
+-- whether the numbers that are lawful begin with the least and end with the greatest one
+abbrev are_bounds : (ℕ → Bool) → Holds → Bool
+are_bounds is_lawful (Number most) = true
+are_bounds is_lawful (Lawful most low high) = is_lawful low && (low == 0 || not (is_lawful (low - 1)))
+    && is_lawful high && not (is_lawful (high + 1))
+are_bounds is_lawful (Numbers most) = true
+are_bounds is_lawful Payload = true
+are_bounds is_lawful Name = true
+are_bounds is_lawful (Object sort) = true
+are_bounds is_lawful Objects = true
+are_bounds is_lawful (Lists most) = true
+
+abbrev each_is_bound : (Data → Bool) → (Holds → Data) → List Member → List Member → Bool
+each_is_bound is_lawful value ms [] = true
+each_is_bound is_lawful value ms (n ∷ ns) =
+    are_bounds (λ number_there. is_lawful (object (put n.0.now (number (unsigned number_there)) (all_of value ms)))) n.1
+    && each_is_bound is_lawful value ms ns
+
+-- whether the numbers in objects of each form are lawful in their bounds, where the others are the least
+abbrev pub have_bounds : (Data → Bool) → (Sort → Data) → List Form → Bool
+have_bounds is_lawful inner [] = true
+have_bounds is_lawful inner (f ∷ fs) = each_is_bound is_lawful (least inner) f.1.now f.1.now
+    && have_bounds is_lawful inner fs
+
+-- an object of the first of these forms
+abbrev pub worked_on : (Holds → Data) → List Form → Data
+worked_on value [] = null
+worked_on value (f ∷ fs) = object (all_of value f.1.now)

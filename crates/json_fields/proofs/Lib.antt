@@ -5,3 +5,4 @@ pub mod Things
 pub mod UsualParts
 pub mod FormRows
 pub mod RowsForms
+pub mod RowsBursts

@@ -1,7 +1,11 @@
--- What the fields of a JSON object stand for: numbers that fit their type, texts, a configuration.
+-- What the fields of a JSON object stand for: numbers that fit their type, texts, burst descriptors, a configuration.
 use Rattle.std.specs.Prelude.{ℕ, ◌^◌, nat_lt, if◌then◌else◌, List, codes, Option, Some, None, option_and_then}
 use Rattle.serde_json.specs.Data.{Data}
 use Rattle.serde_json.specs.Find.{get, as_number, as_u64, as_str}
+use Rattle.minislots.specs.declared.bursts.Bursts.{Bursts}
+use Rattle.minislots.specs.declared.bursts.Bursts.TheVariants.{Uniform, Described}
+use Rattle.minislots.specs.declared.bursts.Descriptors.{Descriptors}
+use Rattle.minislots.specs.declared.bursts.Profile.{Profile}
 use Rattle.minislots.specs.declared.config.Config.{Config}
 
 infixl 10 ◌>>=◌
@@ -50,14 +54,12 @@ text_at key d = do
   as_str found
 
 -- the minislots, and the frames that they make
-unfoldable pub slots_of : Data → Option (ℕ × ℕ × ℕ × ℕ × ℕ)
+unfoldable pub slots_of : Data → Option (ℕ × ℕ × ℕ)
 slots_of d = do
   ticks ← u32_at (codes "ticks") d
-  bytes_per_slot ← u32_at (codes "bytes_per_slot") d
-  overhead ← u32_at (codes "overhead") d
   frame ← u32_at (codes "frame") d
   cycle ← u32_at (codes "cycle") d
-  Some (ticks, bytes_per_slot, overhead, frame, cycle)
+  Some (ticks, frame, cycle)
 
 -- the sizes of regions and grants, and the time ahead
 unfoldable pub sizes_of : Data → Option (ℕ × ℕ × ℕ × ℕ × ℕ × ℕ)
@@ -96,11 +98,69 @@ or_number missing (Some found) there = there
 unfoldable pub u8_or : ℕ → List ℕ → Data → Option ℕ
 u8_or missing key d = or_number missing (get key d) (u8_at key d)
 
+-- the burst descriptor that an object stands for
+unfoldable pub profile_of : Data → Option Profile
+profile_of d = do
+  preamble ← u32_at (codes "preamble") d
+  guard ← u32_at (codes "guard") d
+  bits ← u32_at (codes "bits") d
+  parity ← u32_at (codes "parity") d
+  information ← u32_at (codes "information") d
+  shortened ← u32_at (codes "shortened") d
+  Some (record {
+    preamble = preamble;
+    guard = guard;
+    bits = bits;
+    parity = parity;
+    information = information;
+    shortened = shortened;
+  })
+
+-- the descriptor under this key
+unfoldable pub profile_at : List ℕ → Data → Option Profile
+profile_at key d = do
+  found ← get key d
+  profile_of found
+
+-- what stands for a descriptor under a key that may be missing: this one where it is
+abbrev pub or_profile : Profile → Option Data → Option Profile
+or_profile missing None = Some missing
+or_profile missing (Some found) = profile_of found
+
+-- the descriptors that an object stands for: those of unsolicited grants are those of long ones where they are missing
+unfoldable pub descriptors_of : Data → Option Descriptors
+descriptors_of d = do
+  symbols ← u32_at (codes "symbols") d
+  short ← profile_at (codes "short") d
+  long ← profile_at (codes "long") d
+  unsolicited ← or_profile long (get (codes "unsolicited") d)
+  Some (record { symbols = symbols; short = short; long = long; unsolicited = unsolicited })
+
+-- bursts in which each minislot carries the same bytes
+unfoldable pub uniform_of : Data → Option Bursts
+uniform_of d = do
+  bytes_per_slot ← u32_at (codes "bytes_per_slot") d
+  overhead ← u32_at (codes "overhead") d
+  Some (Uniform bytes_per_slot overhead)
+
+-- what stands for the bursts of an object: the descriptors that it has, whatever else it has, or else the bytes and the
+-- overhead
+abbrev pub or_uniform : Option Data → Data → Option Bursts
+or_uniform None d = uniform_of d
+or_uniform (Some found) d = do
+  descriptors ← descriptors_of found
+  Some (Described descriptors)
+
+-- the bursts of a configuration
+unfoldable pub bursts_of : Data → Option Bursts
+bursts_of d = or_uniform (get (codes "bursts") d) d
+
 -- the configuration that an object stands for: it has every field but that of the physical layer, which is 0 where it
--- is missing
+-- is missing, and either of the two forms of its bursts
 unfoldable pub config_of : Data → Option Config
 config_of d = do
   slots ← slots_of d
+  bursts ← bursts_of d
   sizes ← sizes_of d
   counts ← counts_of d
   ranging ← windows_of (codes "ranging_start") (codes "ranging_end") d
@@ -108,10 +168,9 @@ config_of d = do
   phy ← u8_or 0 (codes "phy") d
   Some (record {
     ticks = slots.0;
-    bytes_per_slot = slots.1;
-    overhead = slots.2;
-    frame = slots.3;
-    cycle = slots.4;
+    bursts = bursts;
+    frame = slots.1;
+    cycle = slots.2;
     req_slots = sizes.0;
     poll_slots = sizes.1;
     lead = sizes.2;

@@ -4,25 +4,24 @@ ghost use Rattle.std.specs.Prelude.{◌≡◌, codes, option_and_then};
 ghost use Rattle.serde_json.specs.Find.{get};
 ghost use Rattle.json_fields.specs.Fields.{slots_of, sizes_of, counts_of, windows_of, config_of};
 
+use super::bursts::bursts_of;
 use super::field::{member, number_u8, number_u8_or, number_u32, number_u64};
 use super::tree::Tree;
 use minislots::Config;
 
 // The minislots, and the frames that they make.
 #[tactic(auto, unfolding(crate::specs::Fields::slots_of))]
-fn slots_of<T: Tree>(value: &T) -> Option<(u32, u32, u32, u32, u32)>
+fn slots_of<T: Tree>(value: &T) -> Option<(u32, u32, u32)>
     ensures { result ≡ slots_of (T.shown value.now) }
 {
-    let (Some(ticks), Some(bytes_per_slot), Some(overhead), Some(frame), Some(cycle)) = (
+    let (Some(ticks), Some(frame), Some(cycle)) = (
         number_u32(value, "ticks"),
-        number_u32(value, "bytes_per_slot"),
-        number_u32(value, "overhead"),
         number_u32(value, "frame"),
         number_u32(value, "cycle"),
     ) else {
         return None;
     };
-    Some((ticks, bytes_per_slot, overhead, frame, cycle))
+    Some((ticks, frame, cycle))
 }
 
 // The sizes of regions and grants, and the time ahead.
@@ -76,12 +75,13 @@ fn windows_of<T: Tree>(value: &T, first: &str, last: &str) -> Option<(u8, u8)>
 }
 
 /// The configuration that an object stands for: each field is there, and fits its type. The physical layer is 0 where
-/// it is missing.
+/// it is missing. Where there are burst descriptors, nobody reads the bytes of a minislot and the overhead.
 #[tactic(auto, unfolding(crate::specs::Fields::config_of))]
 pub fn config_of<T: Tree>(value: &T) -> Option<Config>
     ensures { result ≡ config_of (T.shown value.now) }
 {
-    let (ticks, bytes_per_slot, overhead, frame, cycle) = slots_of(value)?;
+    let (ticks, frame, cycle) = slots_of(value)?;
+    let bursts = bursts_of(value)?;
     let (req_slots, poll_slots, lead, short_max, quantum, grant_cap) = sizes_of(value)?;
     let (receivers, calls, start, channel, ucd_count) = counts_of(value)?;
     let (ranging_start, ranging_end) = windows_of(value, "ranging_start", "ranging_end")?;
@@ -89,8 +89,7 @@ pub fn config_of<T: Tree>(value: &T) -> Option<Config>
     let phy = number_u8_or(value, "phy", 0)?;
     Some(Config {
         ticks,
-        bytes_per_slot,
-        overhead,
+        bursts,
         frame,
         cycle,
         req_slots,

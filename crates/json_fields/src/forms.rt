@@ -9,7 +9,8 @@ use minislots::MAX_ASK;
 pub enum Holds {
     /// A whole number from 0 to this.
     Number(u64),
-    /// A whole number from 0 to the first. A call in which it is not from the second to the third is refused.
+    /// A whole number from 0 to the first. Where it is not from the second to the third, a call is refused, and burst
+    /// descriptors are not lawful.
     Lawful(u64, u64, u64),
     /// An array of whole numbers, each from 0 to this.
     Numbers(u64),
@@ -30,6 +31,14 @@ pub enum Holds {
 pub enum Missing {
     /// That the object has not this form.
     Fault,
+    /// That the object has not this form, unless `bursts` stands in it: there, nobody reads this member.
+    UnlessBursts,
+    /// That the object has not this form, unless `slots` stands in its place. Where both stand, it has not this form.
+    UnlessSlots,
+    /// That the object has not this form, unless `bytes` stands in its place. Where both stand, it has not this form.
+    UnlessBytes,
+    /// What stands under `long`.
+    Long,
     /// Nothing.
     Nothing,
     /// Nothing, where each such member of the object is missing. Where one is there, all are.
@@ -63,6 +72,10 @@ pub enum Sort {
     Document(Kind),
     /// A configuration, which has one form.
     Config,
+    /// The burst descriptors of a configuration, which have one form.
+    Bursts,
+    /// A burst descriptor, which has one form.
+    Profile,
     /// An entry of a history, which has one form.
     Entry,
     /// A call. The name of its form stands under `call`.
@@ -81,13 +94,42 @@ const U32: Holds = Holds::Number(u32::MAX as u64);
 
 const U64: Holds = Holds::Number(u64::MAX);
 
-/// The one form of a configuration. Its first nineteen members are those that can be wrong, in their order.
+const MOST_U32: u64 = u32::MAX as u64;
+
+/// The one form of a burst descriptor. The information and twice the parity are at most 255 together.
+pub static PROFILES: [Form; 1] = [(
+    "",
+    &[
+        ("preamble", Holds::Lawful(MOST_U32, 0, 1536), MUST),
+        ("guard", Holds::Lawful(MOST_U32, 0, 255), MUST),
+        ("bits", Holds::Lawful(MOST_U32, 1, 8), MUST),
+        ("parity", Holds::Lawful(MOST_U32, 0, 16), MUST),
+        ("information", Holds::Lawful(MOST_U32, 16, 253), MUST),
+        ("shortened", Holds::Lawful(MOST_U32, 0, 1), MUST),
+    ],
+)];
+
+const PROFILE: Holds = Holds::Object(Sort::Profile);
+
+/// The one form of burst descriptors.
+pub static BURSTS: [Form; 1] = [(
+    "",
+    &[
+        ("symbols", Holds::Lawful(MOST_U32, 1, 4096), MUST),
+        ("short", PROFILE, MUST),
+        ("long", PROFILE, MUST),
+        ("unsolicited", PROFILE, Missing::Long),
+    ],
+)];
+
+/// The one form of a configuration. Its first twenty members are those that can be wrong, by the numbers of their
+/// faults.
 pub static CONFIGS: [Form; 1] = [(
     "",
     &[
         ("ticks", U32, MUST),
-        ("bytes_per_slot", U32, MUST),
-        ("overhead", U32, MUST),
+        ("bytes_per_slot", U32, Missing::UnlessBursts),
+        ("overhead", U32, Missing::UnlessBursts),
         ("frame", U32, MUST),
         ("cycle", U32, MUST),
         ("req_slots", U32, MUST),
@@ -104,6 +146,7 @@ pub static CONFIGS: [Form; 1] = [(
         ("data_start", U8, MUST),
         ("data_end", U8, MUST),
         ("phy", U8, Missing::Number(0)),
+        ("bursts", Holds::Object(Sort::Bursts), Missing::Nothing),
         ("channel", U8, MUST),
         ("ucd_count", U8, MUST),
     ],
@@ -140,8 +183,10 @@ const RECEIVER: Member = ("receiver", U8, MUST);
 const BYTES: Member = (
     "bytes",
     Holds::Lawful(u32::MAX as u64, 1, MAX_ASK as u64),
-    MUST,
+    Missing::UnlessSlots,
 );
+
+const SLOTS_ASKED: Member = ("slots", U32, Missing::UnlessBytes);
 
 const HEARD: Member = ("heard", U64, MUST);
 
@@ -166,7 +211,7 @@ const EXPONENT: Holds = Holds::Lawful(u8::MAX as u64, 0, 15);
 pub static CALLS: [Form; 9] = [
     ("admit", &[CALL, SID, FLOW]),
     ("remove", &[CALL, SID]),
-    ("ask", &[CALL, RECEIVER, SID, BYTES, HEARD]),
+    ("ask", &[CALL, RECEIVER, SID, BYTES, SLOTS_ASKED, HEARD]),
     ("heard", &[CALL, RECEIVER, UPTO]),
     ("build", &[CALL, NOW]),
     ("skip", &[CALL, NOW]),

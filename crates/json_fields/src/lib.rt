@@ -2,6 +2,7 @@
 //! numbers that fit their type, and a whole configuration.
 #![tactic(auto)]
 
+mod bursts;
 mod config;
 mod field;
 pub mod forms;

@@ -5,7 +5,7 @@ use Rattle.text_stream.specs.declared.fault.TextFault.{TextFault}
 use Rattle.script_reading.specs.Outcome.{outcome_of}
 use Rattle.script_reading.specs.StormScript.{storm_outcome}
 use Rattle.history_reading.specs.Recorded.{history_outcome}
-use Rattle.text_stream.proofs.Told.{all_bytes, IsTold, IsOfText}
+use Rattle.text_stream.proofs.TextTold.{all_bytes, IsTold, IsOfText}
 use Rattle.script_reading.proofs.Told.{script-told, script-stands, storm-told, storm-has}
 use Rattle.text_stream.specs.declared.run_fault.RunFault.{RunFault}
 use Rattle.script_reading.specs.Stops.{Stops}

@@ -1,12 +1,18 @@
 -- The JSON values of configurations and calls are read again in their texts: their numbers fit 64 bits, their names are
 -- ASCII, and their keys are in order.
 use Rattle.std.proofs.Common.{◌≡◌, ℕ, ◌<◌, ◌≤◌, ◌^◌, List, [], ◌∷◌, map, IsUtf8, refl}
-use Rattle.std.proofs.Common.{true, arith}
+use Rattle.std.proofs.Common.{true, inl, inr, arith}
 use Rattle.std.specs.Prelude.{codes}
 use Rattle.std.specs.List.{AllByRecursion}
 use Rattle.json.proofs.Printed.Utf8.{are_ascii, IsUtf8-are_ascii}
+use Rattle.serde_json.specs.Data.{Members, object, member}
 use Rattle.serde_json.specs.View.{items_of}
+use Rattle.minislots.specs.declared.bursts.Bursts.{Bursts}
+use Rattle.minislots.specs.declared.bursts.Bursts.TheVariants.{Uniform, Described}
+use Rattle.minislots.specs.declared.bursts.Descriptors.{Descriptors}
+use Rattle.minislots.specs.declared.bursts.Profile.{Profile}
 use Rattle.minislots.specs.declared.config.Config.{Config}
+use Rattle.sched_calls.specs.declared.amount.Amount.TheVariants.{Bytes, Slots}
 use Rattle.sched_calls.specs.declared.spec.FlowSpec.{FlowSpec}
 use Rattle.sched_calls.specs.declared.spec.FlowSpec.TheVariants.{Unsolicited, Polled, BestEffort}
 use Rattle.sched_calls.specs.declared.call.Call.{Call}
@@ -14,9 +20,11 @@ use Rattle.sched_calls.specs.declared.opportunity.Usage.TheVariants.{Initial, St
 use Rattle.sched_calls.specs.declared.call.Call.TheVariants.{Admit, Remove, Ask, Heard, Build, Skip, Status}
 use Rattle.sched_calls.specs.declared.call.Call.TheVariants.{Reserve, Header}
 use Rattle.history_writing.specs.Json.{count, flow_data, call_data}
-use Rattle.history_writing.specs.HistoryText.{config_data}
-use Rattle.history_writing.specs.Fits.{FlowFits, CallFits, ConfigFits}
-use Rattle.laws.proofs.Readable.{IsReadable, AreReadable}
+use Rattle.history_writing.specs.HistoryText.{profile_data, descriptors_data, front_members, back_members}
+use Rattle.history_writing.specs.HistoryText.{members_with, config_data}
+use Rattle.history_writing.specs.Fits.{FlowFits, CallFits, ProfileFits, BurstsFit, ConfigFits}
+use Rattle.laws.proofs.Readable.{IsReadable, AreReadable, MembersReadable}
+use Rattle.laws.proofs.ReadBack.{unsolicited_stands}
 
 -- narrower numbers
 pub of_byte : (n : ℕ) → n < 2 ^ 8 → n < 2 ^ 64
@@ -99,7 +107,7 @@ unfolding call_data
 call_readable (Admit sid spec) fits =
     (refl, (refl, name (codes "admit") refl, (refl, flow_readable spec fits.1, (refl, of_half sid fits.0, tt))))
 call_readable (Remove sid) fits = (refl, (refl, name (codes "remove") refl, (refl, of_half sid fits, tt)))
-call_readable (Ask receiver sid bytes heard) fits = (
+call_readable (Ask receiver sid (Bytes bytes) heard) fits = (
   refl,
   (
     refl,
@@ -114,6 +122,26 @@ call_readable (Ask receiver sid bytes heard) fits = (
           refl,
           of_byte receiver fits.0,
           (refl, of_half sid fits.1, tt),
+        ),
+      ),
+    ),
+  ),
+)
+call_readable (Ask receiver sid (Slots slots) heard) fits = (
+  refl,
+  (
+    refl,
+    name (codes "ask") refl,
+    (
+      refl,
+      fits.3,
+      (
+        refl,
+        of_byte receiver fits.0,
+        (
+          refl,
+          of_half sid fits.1,
+          (refl, of_word slots fits.2, tt),
         ),
       ),
     ),
@@ -165,83 +193,110 @@ call_readable (Header header) fits = (
   ),
 )
 
--- a configuration is read again in its text
-pub config_readable : (c : Config) → ConfigFits c → IsReadable (config_data c)
-unfolding config_data
-config_readable c fits = (
+profile_readable : (p : Profile) → ProfileFits p → IsReadable (profile_data p)
+unfolding profile_data
+profile_readable p fits = (
   refl,
   (
     refl,
-    of_word c.bytes_per_slot fits.bytes_per_slot,
+    of_word p.bits fits.bits,
     (
       refl,
-      of_word c.calls fits.calls,
+      of_word p.guard fits.guard,
       (
         refl,
-        of_byte c.channel fits.channel,
+        of_word p.information fits.information,
         (
           refl,
-          of_word c.cycle fits.cycle,
+          of_word p.parity fits.parity,
           (
             refl,
-            of_byte c.data_end fits.data_end,
+            of_word p.preamble fits.preamble,
+            (refl, of_word p.shortened fits.shortened, tt),
+          ),
+        ),
+      ),
+    ),
+  ),
+)
+
+descriptors_readable : (d : Descriptors) → BurstsFit (Described d) → IsReadable (descriptors_data d)
+unfolding descriptors_data
+descriptors_readable d fits =
+    let long = profile_readable d.long fits.2 in
+    let short = profile_readable d.short fits.1 in
+    let symbols = of_word d.symbols fits.0 in
+    elim (unsolicited_stands d) [
+      | inl as_long ↦ rw as_long.0 (refl, (refl, long, (refl, short, (refl, symbols, tt))))
+      | inr stands ↦
+          let unsolicited = profile_readable d.unsolicited fits.3 in
+          rw stands (refl, (refl, long, (refl, short, (refl, symbols, (refl, unsolicited, tt)))))
+    ]
+
+front_readable : (c : Config) (behind : Members) → ConfigFits c → MembersReadable behind
+    → MembersReadable (front_members c behind)
+front_readable c behind fits readable = (
+  refl,
+  of_word c.calls fits.calls,
+  (
+    refl,
+    of_byte c.channel fits.channel,
+    (
+      refl,
+      of_word c.cycle fits.cycle,
+      (
+        refl,
+        of_byte c.data_end fits.data_end,
+        (
+          refl,
+          of_byte c.data_start fits.data_start,
+          (
+            refl,
+            of_word c.frame fits.frame,
             (
               refl,
-              of_byte c.data_start fits.data_start,
+              of_word c.grant_cap fits.grant_cap,
+              (refl, of_word c.lead fits.lead, readable),
+            ),
+          ),
+        ),
+      ),
+    ),
+  ),
+)
+
+back_readable : (c : Config) → ConfigFits c → MembersReadable (back_members c)
+back_readable c fits = (
+  refl,
+  of_byte c.phy fits.phy,
+  (
+    refl,
+    of_word c.poll_slots fits.poll_slots,
+    (
+      refl,
+      of_word c.quantum fits.quantum,
+      (
+        refl,
+        of_byte c.ranging_end fits.ranging_end,
+        (
+          refl,
+          of_byte c.ranging_start fits.ranging_start,
+          (
+            refl,
+            of_byte c.receivers fits.receivers,
+            (
+              refl,
+              of_word c.req_slots fits.req_slots,
               (
                 refl,
-                of_word c.frame fits.frame,
+                of_word c.short_max fits.short_max,
                 (
                   refl,
-                  of_word c.grant_cap fits.grant_cap,
+                  fits.start,
                   (
                     refl,
-                    of_word c.lead fits.lead,
-                    (
-                      refl,
-                      of_word c.overhead fits.overhead,
-                      (
-                        refl,
-                        of_byte c.phy fits.phy,
-                        (
-                          refl,
-                          of_word c.poll_slots fits.poll_slots,
-                          (
-                            refl,
-                            of_word c.quantum fits.quantum,
-                            (
-                              refl,
-                              of_byte c.ranging_end fits.ranging_end,
-                              (
-                                refl,
-                                of_byte c.ranging_start fits.ranging_start,
-                                (
-                                  refl,
-                                  of_byte c.receivers fits.receivers,
-                                  (
-                                    refl,
-                                    of_word c.req_slots fits.req_slots,
-                                    (
-                                      refl,
-                                      of_word c.short_max fits.short_max,
-                                      (
-                                        refl,
-                                        fits.start,
-                                        (
-                                          refl,
-                                          of_word c.ticks fits.ticks,
-                                          (refl, of_byte c.ucd_count fits.ucd_count, tt),
-                                        ),
-                                      ),
-                                    ),
-                                  ),
-                                ),
-                              ),
-                            ),
-                          ),
-                        ),
-                      ),
-                    ),
+                    of_word c.ticks fits.ticks,
+                    (refl, of_byte c.ucd_count fits.ucd_count, tt),
                   ),
                 ),
               ),
@@ -252,3 +307,22 @@ config_readable c fits = (
     ),
   ),
 )
+
+members_readable : (c : Config) (bursts : Bursts) → ConfigFits c → BurstsFit bursts
+    → IsReadable (object (members_with c bursts))
+members_readable c (Uniform bytes_per_slot overhead) fits small =
+    let behind = member (codes "overhead") (count overhead) (back_members c) in (
+      refl,
+      (
+        refl,
+        of_word bytes_per_slot small.0,
+        front_readable c behind fits (refl, of_word overhead small.1, back_readable c fits),
+      ),
+    )
+members_readable c (Described d) fits small =
+    (refl, (refl, descriptors_readable d small, front_readable c (back_members c) fits (back_readable c fits)))
+
+-- a configuration is read again in its text
+pub config_readable : (c : Config) → ConfigFits c → IsReadable (config_data c)
+unfolding config_data
+config_readable c fits = members_readable c c.bursts fits fits.bursts

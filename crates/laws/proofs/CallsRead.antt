@@ -1,7 +1,7 @@
 -- The numbers of a call that was read fit the types of their fields.
 use Rattle.std.proofs.Common.{◌≡◌, ℕ, ◌^◌, ◌<◌, Bool, true, false, cond, nat_lt, List, length, Option, Some, None}
 use Rattle.std.proofs.Common.{refl, arith}
-use Rattle.std.specs.Prelude.{IfSome, codes, bytes_eq}
+use Rattle.std.specs.Prelude.{IfSome, codes, bytes_eq, is_some}
 use Rattle.std.specs.Result.{result_ok}
 use Rattle.std.proofs.lemmas.Bool.Decides.{nat_tests}
 use Rattle.serde_json.specs.Data.{Data}
@@ -12,11 +12,11 @@ use Rattle.sched_calls.specs.declared.call.Call.TheVariants.{Reserve}
 use Rattle.sched_calls.specs.declared.reply.Entry.{Entry}
 use Rattle.json_fields.specs.Fields.{◌>>=◌, below, number_at, u8_at, u16_at, u32_at, u64_at, text_at, or_number, u8_or}
 use Rattle.call_reading.specs.Calls.{unsolicited_of, polled_of, best_effort_of, flow_of, admit_call, remove_call}
-use Rattle.call_reading.specs.Calls.{ask_call, heard_call, build_call, skip_call, status_call, usage_of, reserve_call}
-use Rattle.call_reading.specs.Calls.{header_call, call_of}
+use Rattle.call_reading.specs.Calls.{amount_of, ask_call, heard_call, build_call, skip_call, status_call, usage_of}
+use Rattle.call_reading.specs.Calls.{reserve_call, header_call, call_of}
 use Rattle.text_stream.specs.Input.{value_of}
-use Rattle.line_stream.specs.declared.TheConstants.{MAX_LINE}
-use Rattle.history_writing.specs.Fits.{FlowFits, CallFits}
+use Rattle.text_stream.specs.declared.TheConstants.{MAX_LINE}
+use Rattle.history_writing.specs.Fits.{FlowFits, AmountFits, CallFits}
 use Rattle.history_reading.specs.Replies.{reply_of, entry_of}
 use Rattle.history_reading.specs.Recorded.{entry_in}
 use Rattle.journal_entries.specs.Standing.{entry_in_line}
@@ -116,13 +116,21 @@ remove-fits : (d : Data) → IfSome (remove_call d) CallFits
 unfolding remove_call
 remove-fits d = bind _ _ (u16_at (codes "sid") d) _ (u16_at-below (codes "sid") d) (λ sid small. small)
 
+amount-fits : (d : Data) → IfSome (amount_of d) AmountFits
+unfolding amount_of
+amount-fits d =
+    either AmountFits (is_some (get (codes "slots") d)) _ _
+    (either AmountFits (is_some (get (codes "bytes") d)) None _ tt
+    (bind _ AmountFits (u32_at (codes "slots") d) _ (u32_at-below (codes "slots") d) (λ slots small. small)))
+    (bind _ AmountFits (u32_at (codes "bytes") d) _ (u32_at-below (codes "bytes") d) (λ bytes small. small))
+
 ask-fits : (d : Data) → IfSome (ask_call d) CallFits
 unfolding ask_call
 ask-fits d =
-    bind _ _ (u8_at (codes "receiver") d) _ (u8_at-below (codes "receiver") d) (λ receiver a.
-    bind _ _ (u16_at (codes "sid") d) _ (u16_at-below (codes "sid") d) (λ sid b.
-    bind _ _ (u32_at (codes "bytes") d) _ (u32_at-below (codes "bytes") d) (λ bytes e.
-    bind _ _ (u64_at (codes "heard") d) _ (u64_at-below (codes "heard") d) (λ heard f. (a, b, e, f)))))
+    bind _ CallFits (u8_at (codes "receiver") d) _ (u8_at-below (codes "receiver") d) (λ receiver a.
+    bind _ CallFits (u16_at (codes "sid") d) _ (u16_at-below (codes "sid") d) (λ sid b.
+    bind AmountFits CallFits (amount_of d) _ (amount-fits d) (λ amount e.
+    bind _ CallFits (u64_at (codes "heard") d) _ (u64_at-below (codes "heard") d) (λ heard f. (a, b, e, f)))))
 
 heard-fits : (d : Data) → IfSome (heard_call d) CallFits
 unfolding heard_call

@@ -1,12 +1,19 @@
 -- How many bytes the line of a configuration and of an entry has at most.
 use Rattle.std.proofs.Common.{◌≡◌, ℕ, ◌+◌, ◌*◌, ◌≤◌, List, [], ◌∷◌, length, map, Option, None, Some, refl, arith}
+use Rattle.std.proofs.Common.{inl, inr}
 use Rattle.std.specs.Prelude.{codes}
+use Rattle.serde_json.specs.Data.{object}
 use Rattle.serde_json.specs.View.{items_of}
 use Rattle.hex.specs.Hex.{lower_digits}
 use Rattle.hex.proofs.HexLemmas.{length-encode_with}
 use Rattle.map_codec.specs.WireMap.{spelling}
 use Rattle.map_codec.proofs.Spelling.{length-spelling}
+use Rattle.minislots.specs.declared.bursts.Bursts.{Bursts}
+use Rattle.minislots.specs.declared.bursts.Bursts.TheVariants.{Uniform, Described}
+use Rattle.minislots.specs.declared.bursts.Descriptors.{Descriptors}
+use Rattle.minislots.specs.declared.bursts.Profile.{Profile}
 use Rattle.minislots.specs.declared.config.Config.{Config}
+use Rattle.sched_calls.specs.declared.amount.Amount.TheVariants.{Bytes, Slots}
 use Rattle.sched_calls.specs.declared.spec.FlowSpec.{FlowSpec}
 use Rattle.sched_calls.specs.declared.spec.FlowSpec.TheVariants.{Unsolicited, Polled, BestEffort}
 use Rattle.sched_calls.specs.declared.frame_map.FrameMap.{FrameMap}
@@ -21,7 +28,8 @@ use Rattle.sched_calls.specs.declared.reply.Entry.{Entry}
 use Rattle.sched_lines.specs.Line.{refusal_number, refusal_value}
 use Rattle.history_writing.specs.Json.{count, counts, flow_data, call_data, plain_data, placed_data, map_data}
 use Rattle.history_writing.specs.Json.{refused_data, reply_data}
-use Rattle.history_writing.specs.HistoryText.{config_data, entry_data}
+use Rattle.history_writing.specs.HistoryText.{profile_data, descriptors_data, members_with, config_data, entry_data}
+use Rattle.laws.proofs.ReadBack.{unsolicited_stands}
 use Rattle.laws.proofs.TextRoom.{room, items_room}
 
 -- a placement has at most 512 starts, and a MAP at most 240 elements, with a byte count for each
@@ -48,7 +56,8 @@ room-call : (call : Call) → room (call_data call) ≤ 1000
 unfolding call_data
 room-call (Admit sid spec) = omega (arith, room-flow spec)
 room-call (Remove sid) = omega arith
-room-call (Ask receiver sid bytes heard) = omega arith
+room-call (Ask receiver sid (Bytes bytes) heard) = omega arith
+room-call (Ask receiver sid (Slots slots) heard) = omega arith
 room-call (Heard receiver upto) = omega arith
 room-call (Build now) = omega arith
 room-call (Skip now) = omega arith
@@ -94,7 +103,26 @@ room-entry e short =
     let reply = room-reply e.reply short in
     omega (arith, call, reply)
 
+room-profile : (p : Profile) → room (profile_data p) ≤ 500
+unfolding profile_data
+room-profile p = omega arith
+
+room-descriptors : (d : Descriptors) → room (descriptors_data d) ≤ 2000
+unfolding descriptors_data
+room-descriptors d =
+    let long = room-profile d.long in
+    let short = room-profile d.short in
+    let unsolicited = room-profile d.unsolicited in
+    elim (unsolicited_stands d) [
+      | inl as_long ↦ rw as_long.0 (omega (arith, long, short))
+      | inr stands ↦ rw stands (omega (arith, long, short, unsolicited))
+    ]
+
+room-with : (c : Config) (bursts : Bursts) → room (object (members_with c bursts)) ≤ 5000
+room-with c (Uniform bytes_per_slot overhead) = omega arith
+room-with c (Described d) = let descriptors = room-descriptors d in omega (arith, descriptors)
+
 -- and for a configuration
 pub room-config : (c : Config) → room (config_data c) ≤ 5000
 unfolding config_data
-room-config c = omega arith
+room-config c = room-with c c.bursts

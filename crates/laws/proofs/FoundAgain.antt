@@ -9,8 +9,8 @@ use Rattle.std.proofs.Math.Seq.{take-append_seam}
 use Rattle.serde_json.specs.Data.{object, no_members}
 use Rattle.minislots.specs.declared.config.Config.{Config}
 use Rattle.minislots.specs.Config.{IsLawful}
-use Rattle.line_stream.specs.declared.TheConstants.{NEWLINE}
-use Rattle.line_stream.specs.Lines.{IsWithinLine}
+use Rattle.text_stream.specs.declared.TheConstants.{NEWLINE}
+use Rattle.text_stream.specs.Lines.{IsWithinLine}
 use Rattle.periodic.proofs.Joined.{all-append}
 use Rattle.map_build.specs.EachAfter.{EachAfter}
 use Rattle.sched_calls.specs.declared.reply.Entry.{Entry}
@@ -20,11 +20,11 @@ use Rattle.history_writing.specs.Fits.{CallFits, ConfigFits}
 use Rattle.history_writing.specs.Journal.{opening_line}
 use Rattle.journal_entries.specs.Standing.{StandFor, entry_in_line, ended_lines}
 use Rattle.journal_entries.specs.Journal.{FindsLegal}
-use Rattle.journal_reading.specs.declared.judging.Judged.{Judged}
-use Rattle.journal_reading.specs.declared.judging.Judged.TheVariants as judged
-use Rattle.journal_reading.specs.declared.resuming.Resumed.{Resumed}
-use Rattle.journal_reading.specs.declared.resuming.Resumed.TheVariants as resumed
-use Rattle.journal_reading.specs.Judging.{Finds, FindsBad, Resumes}
+use Rattle.journal_entries.specs.declared.judging.Judged.{Judged}
+use Rattle.journal_entries.specs.declared.judging.Judged.TheVariants as judged
+use Rattle.journal_entries.specs.declared.resuming.Resumed.{Resumed}
+use Rattle.journal_entries.specs.declared.resuming.Resumed.TheVariants as resumed
+use Rattle.journal_entries.specs.Judging.{Finds, FindsBad, Resumes}
 use Rattle.journal_file.specs.declared.notes.Note.{Note}
 use Rattle.journal_file.specs.Standing.{IsFront, IsJournal, IsLeft}
 use Rattle.laws.specs.JournalAgain.{HasReadableLine}

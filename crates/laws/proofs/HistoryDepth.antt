@@ -1,8 +1,14 @@
 -- The JSON value of a history nests no deeper than five levels.
 use Rattle.std.proofs.Common.{◌≡◌, ℕ, ◌≤◌, max, List, [], ◌∷◌, map, Option, Some, None, refl, ap, arith}
-use Rattle.serde_json.specs.Data.{depth, items_depth}
+use Rattle.std.proofs.Common.{inl, inr}
+use Rattle.serde_json.specs.Data.{object, depth, items_depth}
 use Rattle.serde_json.specs.View.{items_of}
+use Rattle.minislots.specs.declared.bursts.Bursts.{Bursts}
+use Rattle.minislots.specs.declared.bursts.Bursts.TheVariants.{Uniform, Described}
+use Rattle.minislots.specs.declared.bursts.Descriptors.{Descriptors}
+use Rattle.minislots.specs.declared.bursts.Profile.{Profile}
 use Rattle.minislots.specs.declared.config.Config.{Config}
+use Rattle.sched_calls.specs.declared.amount.Amount.TheVariants.{Bytes, Slots}
 use Rattle.sched_calls.specs.declared.spec.FlowSpec.{FlowSpec}
 use Rattle.sched_calls.specs.declared.spec.FlowSpec.TheVariants.{Unsolicited, Polled, BestEffort}
 use Rattle.sched_calls.specs.declared.call.Call.{Call}
@@ -17,7 +23,9 @@ use Rattle.history_writing.specs.Json.{count, counts, flow_data, call_data, plai
 use Rattle.history_writing.specs.Json.{refused_data}
 use Rattle.history_writing.specs.Json.{reply_data}
 use Rattle.sched_lines.specs.Line.{refusal_number, refusal_value}
-use Rattle.history_writing.specs.HistoryText.{config_data, entry_data, entries_data, history_data}
+use Rattle.history_writing.specs.HistoryText.{profile_data, descriptors_data, members_with, config_data, entry_data}
+use Rattle.history_writing.specs.HistoryText.{entries_data, history_data}
+use Rattle.laws.proofs.ReadBack.{unsolicited_stands}
 
 depth-numbers : (ns : List ℕ) → items_depth (items_of (map count ns)) ≡ 0
 depth-numbers [] = refl
@@ -37,7 +45,8 @@ depth-call : (call : Call) → depth (call_data call) ≤ 2
 unfolding call_data
 depth-call (Admit sid spec) = let e = depth-flow spec in omega (arith, e)
 depth-call (Remove sid) = omega arith
-depth-call (Ask receiver sid bytes heard) = omega arith
+depth-call (Ask receiver sid (Bytes bytes) heard) = omega arith
+depth-call (Ask receiver sid (Slots slots) heard) = omega arith
 depth-call (Heard receiver upto) = omega arith
 depth-call (Build now) = omega arith
 depth-call (Skip now) = omega arith
@@ -79,7 +88,34 @@ depth-entries (e ∷ es) =
     let rest = depth-entries es in
     omega (arith, entry, rest)
 
+depth-profile : (p : Profile) → depth (profile_data p) ≡ 1
+unfolding profile_data
+depth-profile p = refl
+
+depth-descriptors : (d : Descriptors) → depth (descriptors_data d) ≤ 2
+unfolding descriptors_data
+depth-descriptors d =
+    let long = depth-profile d.long in
+    let short = depth-profile d.short in
+    let unsolicited = depth-profile d.unsolicited in
+    elim (unsolicited_stands d) [
+      | inl as_long ↦ rw as_long.0 (omega (arith, long, short))
+      | inr stands ↦ rw stands (omega (arith, long, short, unsolicited))
+    ]
+
+depth-with : (c : Config) (bursts : Bursts) → depth (object (members_with c bursts)) ≤ 3
+depth-with c (Uniform bytes_per_slot overhead) = omega arith
+depth-with c (Described d) = let descriptors = depth-descriptors d in omega (arith, descriptors)
+
+-- a configuration nests no deeper than three levels
+pub depth-config : (c : Config) → depth (config_data c) ≤ 3
+unfolding config_data
+depth-config c = depth-with c c.bursts
+
 -- a history nests no deeper than five levels
 pub depth-history : (c : Config) (es : List Entry) → depth (history_data c es) ≤ 5
-unfolding history_data entries_data config_data
-depth-history c es = let entries = depth-entries es in omega (arith, entries)
+unfolding history_data entries_data
+depth-history c es =
+    let config = depth-config c in
+    let entries = depth-entries es in
+    omega (arith, config, entries)

@@ -7,7 +7,7 @@ use Rattle.text_stream.specs.declared.fault.TextFault.{TextFault}
 use Rattle.text_stream.specs.declared.input.TheConstants.{MAX_INPUT}
 use Rattle.history_writing.specs.HistoryText.{history_text}
 use Rattle.history_reading.specs.Recorded.{History, history_outcome, GivesHistory}
-use Rattle.text_stream.proofs.Told.{all_bytes, too_many}
+use Rattle.text_stream.proofs.TextTold.{all_bytes, too_many}
 use Rattle.laws.proofs.ReadAgain.{history_outcome-text}
 use Rattle.text_stream.specs.declared.run_fault.RunFault.{RunFault}
 use Rattle.sched_history.specs.Answer.{recorded_entries}

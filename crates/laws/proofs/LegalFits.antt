@@ -94,16 +94,16 @@ module _ (c : Config) (lawful : IsLawful c) (config_fits : ConfigFits c) (h : Li
 
   live-good : (sid : ℕ) (life : Option Life) (reply : Reply) → life_of sid h ≡ life
       → refusal_of c h (calls.Status sid) ≡ None
-      → MatchOption life ⊥ (λ l. reply ≡ flow_status (flow_in_life sid l)) → IsGood reply
+      → MatchOption life ⊥ (λ l. reply ≡ flow_status (flow_in_life c sid l)) → IsGood reply
   live-good sid None reply is none answers = absurd answers
   live-good sid (Some life) reply is none answers =
-      let f : LiveFlow = flow_in_life sid life in
+      let f : LiveFlow = flow_in_life c sid life in
       let good = good_sid sid (passed-status c h sid none).good in
-      let found : find (λ f. f.sid == sid) (flows_of h) ≡ Some f =
-      flow_of-flows_of sid h good.0 good.1 ∙ ap (option_map (flow_in_life sid)) is in
-      let asked = found-holds (λ f. f.asked ≤ most_bytes * length h) (λ f. f.sid == sid) (flows_of h) f
+      let found : find (λ f. f.sid == sid) (flows_of c h) ≡ Some f =
+      flow_of-flows_of c sid h good.0 good.1 ∙ ap (option_map (flow_in_life c sid)) is in
+      let asked = found-holds (λ f. f.asked ≤ most_bytes * length h) (λ f. f.sid == sid) (flows_of c h) f
       (flows_of-asked c lawful h legal) found in
-      let within = found-holds IsWithinAsked (λ f. f.sid == sid) (flows_of h) f (within_asked c h legal) found in
+      let within = found-holds IsWithinAsked (λ f. f.sid == sid) (flows_of c h) f (within_asked c h legal) found in
       subst IsGood (sym answers) (sums-good f (takes_requests f.spec) asked within)
 
   plain-good : (reply said : Reply) → reply ≡ said → IsGood said → IsGood reply
@@ -121,7 +121,7 @@ module _ (c : Config) (lawful : IsLawful c) (config_fits : ConfigFits c) (h : Li
   answer-good (calls.Admit sid spec) reply none answers = admit-good sid spec reply none answers
   answer-good (calls.Remove sid) reply none answers =
       plain-good reply replies.Removed answers (record { fits = tt; short = tt })
-  answer-good (calls.Ask receiver sid bytes heard) reply none answers =
+  answer-good (calls.Ask receiver sid amount heard) reply none answers =
       plain-good reply replies.Taken answers (record { fits = tt; short = tt })
   answer-good (calls.Heard receiver upto) reply none answers =
       plain-good reply replies.Noted answers (record { fits = tt; short = tt })

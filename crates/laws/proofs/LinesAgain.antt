@@ -11,17 +11,17 @@ use Rattle.minislots.specs.Config.{IsLawful}
 use Rattle.sched_calls.specs.declared.reply.Entry.{Entry}
 use Rattle.text_stream.specs.Input.{value_of}
 use Rattle.text_stream.proofs.Bytes.{value_of-Ok}
-use Rattle.line_stream.specs.declared.TheConstants.{NEWLINE, MAX_LINE}
-use Rattle.line_stream.specs.Lines.{IsWithinLine}
+use Rattle.text_stream.specs.declared.TheConstants.{NEWLINE, MAX_LINE}
+use Rattle.text_stream.specs.Lines.{IsWithinLine}
 use Rattle.history_writing.specs.Fits.{ConfigFits, EntryFits}
-use Rattle.history_writing.specs.HistoryText.{config_data, entry_data}
+use Rattle.history_writing.specs.HistoryText.{entry_data}
 use Rattle.history_reading.specs.Recorded.{entry_in}
 use Rattle.laws.proofs.Readable.{IsReadable, read-alone, IsUtf8-compact}
 use Rattle.laws.proofs.ReadBack.{config_of-data}
 use Rattle.laws.proofs.CallReadable.{config_readable}
 use Rattle.laws.proofs.HistoryAgain.{entry_of-data}
 use Rattle.laws.proofs.HistoryReadable.{entry_readable}
-use Rattle.laws.proofs.HistoryDepth.{depth-entry}
+use Rattle.laws.proofs.HistoryDepth.{depth-entry, depth-config}
 use Rattle.history_writing.specs.Journal.{opening_data, opening_line, entry_line}
 use Rattle.journal_entries.specs.Standing.{opening_in, entry_in_line, ended_lines}
 use Rattle.journal_entries.proofs.Lines.{in_line-short}
@@ -60,9 +60,9 @@ pub opening_readable : (c : Config) → ConfigFits c → IsReadable (opening_dat
 unfolding opening_data
 opening_readable c fits = (refl, (refl, config_readable c fits, tt))
 
-opening_depth : (c : Config) → depth (opening_data c) ≤ 2
-unfolding opening_data config_data
-opening_depth c = omega arith
+opening_depth : (c : Config) → depth (opening_data c) ≤ 4
+unfolding opening_data
+opening_depth c = let config = depth-config c in omega (arith, config)
 
 opening_in-line : (c : Config) → ConfigFits c → IsLawful c
     → opening_in (compact_text (opening_data c)) ≡ Some c

@@ -110,7 +110,7 @@ module _ (c : Config) (bounds : HasBounds c) (d : Demand) where
   bytes-kind : (before : List Allocation) (a : Allocation) (offset : ℕ) (purpose : Purpose) → a.purpose ≡ purpose
       → IsOfClass c d before offset a.slots purpose → bytes_in c a < 2 ^ 32
   bytes-kind before a offset (Poll sid) is stands = rw is (omega arith)
-  bytes-kind before a offset (UnsolicitedGrant sid) is stands = rw is (omega arith)
+  bytes-kind before a offset (UnsolicitedGrant sid size) is stands = rw is (omega arith)
   bytes-kind before a offset (Offer place usage) is stands = rw is (omega arith)
   bytes-kind before a offset (DataGrant sid bytes) is stands =
       rw is (omega (arith, stands.4.allowed.capped, bounds.cap_most))
@@ -146,7 +146,7 @@ next_fits c h m lawful config_fits legal fits next =
     let elements = ap (λ (m : FrameMap). m.wire.elements) next.2 in
     let good : AreEncodable m.wire.elements =
     subst AreEncodable (sym elements)
-    (elements_of-encodable c d next.0 (omega (arith, bounds.frame_most)) (flows_of-in_range h)
+    (elements_of-encodable c d next.0 (omega (arith, bounds.frame_most)) (flows_of-in_range c h)
     (spots_in-in_range c (next_after c h / c.frame) h) (HaveStationSids-legal c h legal) next.1.each next.1.whole) in
     record {
       start = omega (arith, ap (λ (m : FrameMap). m.start) next.2, next_after-most c lawful h legal);

@@ -7,8 +7,8 @@ use Rattle.json.specs.Print.{escape_letter, escape_byte, escape, quoted}
 use Rattle.serde_json.specs.Data.{Num, unsigned, negative, float, Data, null, boolean, number, string, array, object}
 use Rattle.serde_json.specs.Data.{Items, no_items, item, Members, no_members, member}
 use Rattle.serde_json.specs.Written.{number_text, comma_if, compact_text, items_text, members_text}
-use Rattle.line_stream.specs.Lines.{IsWithinLine}
-use Rattle.line_stream.proofs.Taking.{IsWithinLine-append}
+use Rattle.text_stream.specs.Lines.{IsWithinLine}
+use Rattle.text_stream.proofs.Taking.{IsWithinLine-append}
 
 glyph_within : (d : ℕ) → digit_glyph false d ≢ 10
 glyph_within d = grind arith

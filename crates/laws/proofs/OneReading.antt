@@ -8,8 +8,8 @@ use Rattle.sched_calls.specs.declared.reply.Entry.{Entry}
 use Rattle.sched_history.specs.History.{IsStep, IsLegal}
 use Rattle.sched_history.proofs.state.Judging.{IsFirstIllegal-not}
 use Rattle.sched_history.proofs.steps.LegalHistories.{EachAfter-take}
-use Rattle.line_stream.specs.declared.TheConstants.{NEWLINE}
-use Rattle.line_stream.specs.Lines.{IsWithinLine}
+use Rattle.text_stream.specs.declared.TheConstants.{NEWLINE}
+use Rattle.text_stream.specs.Lines.{IsWithinLine}
 use Rattle.journal_entries.specs.Standing.{StandFor, config_in_line, entry_in_line, ended_lines}
 use Rattle.journal_entries.specs.Journal.{Came, CameAll, FindsLegal, FindsIllegal, FindsNoEntry, HasNoOpening}
 

@@ -1,12 +1,19 @@
 -- A history is written as a script is read: what stands there of a configuration, a flow or a call stands for it again,
 -- and each configuration with its calls has a script.
-use Rattle.std.proofs.Common.{◌≡◌, ℕ, ◌+◌, ◌<◌, ◌^◌, List, [], ◌∷◌, map, Some, Ok, refl}
+use Rattle.std.proofs.Common.{◌≡◌, ◌⊎◌, ℕ, ◌+◌, ◌<◌, ◌^◌, true, List, [], ◌∷◌, map, Some, Ok, inl, inr, refl, sym, ap}
+use Rattle.std.proofs.Common.{arith}
 use Rattle.std.specs.Prelude.{codes}
 use Rattle.std.specs.List.{AllByRecursion}
-use Rattle.std.proofs.lemmas.Bool.{lt-ltb}
+use Rattle.std.proofs.lemmas.Bool.{lt-ltb, cases_Bool}
+use Rattle.std.proofs.lemmas.Bool.Decides.{nat_tests}
 use Rattle.serde_json.specs.Data.{Data, array, object, no_members, member}
 use Rattle.serde_json.specs.View.{items_of}
+use Rattle.minislots.specs.declared.bursts.Bursts.{Bursts}
+use Rattle.minislots.specs.declared.bursts.Bursts.TheVariants.{Uniform, Described}
+use Rattle.minislots.specs.declared.bursts.Descriptors.{Descriptors}
+use Rattle.minislots.specs.declared.bursts.Profile.{Profile}
 use Rattle.minislots.specs.declared.config.Config.{Config}
+use Rattle.sched_calls.specs.declared.amount.Amount.TheVariants.{Bytes, Slots}
 use Rattle.sched_calls.specs.declared.spec.FlowSpec.{FlowSpec}
 use Rattle.sched_calls.specs.declared.spec.FlowSpec.TheVariants.{Unsolicited, Polled, BestEffort}
 use Rattle.sched_calls.specs.declared.call.Call.{Call}
@@ -14,14 +21,16 @@ use Rattle.sched_calls.specs.declared.opportunity.Usage.TheVariants.{Initial, St
 use Rattle.sched_calls.specs.declared.call.Call.TheVariants.{Admit, Remove, Ask, Heard, Build, Skip, Status}
 use Rattle.sched_calls.specs.declared.call.Call.TheVariants.{Reserve, Header}
 use Rattle.json_fields.specs.Fields.{below, number_at, u8_at, u16_at, u32_at, u64_at, text_at, slots_of, sizes_of}
-use Rattle.json_fields.specs.Fields.{counts_of, windows_of, u8_or, config_of}
+use Rattle.json_fields.specs.Fields.{counts_of, windows_of, u8_or, profile_of, profile_at, descriptors_of, uniform_of}
+use Rattle.json_fields.specs.Fields.{bursts_of, config_of}
 use Rattle.call_reading.specs.Calls.{unsolicited_of, polled_of, best_effort_of, flow_of, admit_call, remove_call}
-use Rattle.call_reading.specs.Calls.{ask_call, heard_call, build_call, skip_call, status_call, usage_of, reserve_call}
-use Rattle.call_reading.specs.Calls.{header_call, call_of}
+use Rattle.call_reading.specs.Calls.{amount_of, ask_call, heard_call, build_call, skip_call, status_call, usage_of}
+use Rattle.call_reading.specs.Calls.{reserve_call, header_call, call_of}
 use Rattle.script_reading.specs.Script.{calls_of, script_of}
 use Rattle.history_writing.specs.Json.{flow_data, call_data}
-use Rattle.history_writing.specs.HistoryText.{config_data}
-use Rattle.history_writing.specs.Fits.{FlowFits, CallFits, ConfigFits}
+use Rattle.history_writing.specs.HistoryText.{is_same_profile, profile_data, unsolicited_member, descriptors_data}
+use Rattle.history_writing.specs.HistoryText.{front_members, back_members, members_with, config_data}
+use Rattle.history_writing.specs.Fits.{FlowFits, CallFits, ProfileFits, BurstsFit, ConfigFits}
 
 -- a number that fits
 pub below-fits : (limit n : ℕ) → n < limit → below limit n ≡ Some n
@@ -44,14 +53,18 @@ flow_of-data (BestEffort priority rate burst) fits =
 
 -- a call is read back
 pub call_of-data : (call : Call) → CallFits call → call_of (call_data call) ≡ Some call
-unfolding call_of admit_call remove_call ask_call heard_call build_call skip_call status_call usage_of reserve_call
-    header_call u8_at u16_at u32_at u64_at number_at text_at call_data
+unfolding call_of admit_call remove_call amount_of ask_call heard_call build_call skip_call status_call usage_of
+    reserve_call header_call u8_at u16_at u32_at u64_at number_at text_at call_data
 call_of-data (Admit sid spec) fits = rw (below-fits (2 ^ 16) sid fits.0) (
     rw (flow_of-data spec fits.1) refl)
 call_of-data (Remove sid) fits = rw (below-fits (2 ^ 16) sid fits) refl
-call_of-data (Ask receiver sid bytes heard) fits =
+call_of-data (Ask receiver sid (Bytes bytes) heard) fits =
     rw (below-fits (2 ^ 8) receiver fits.0) (
     rw (below-fits (2 ^ 16) sid fits.1) (rw (below-fits (2 ^ 32) bytes fits.2)
+    (rw (below-fits (2 ^ 64) heard fits.3) refl)))
+call_of-data (Ask receiver sid (Slots slots) heard) fits =
+    rw (below-fits (2 ^ 8) receiver fits.0) (
+    rw (below-fits (2 ^ 16) sid fits.1) (rw (below-fits (2 ^ 32) slots fits.2)
     (rw (below-fits (2 ^ 64) heard fits.3) refl)))
 call_of-data (Heard receiver upto) fits = rw (below-fits (2 ^ 8) receiver fits.0) (
     rw (below-fits (2 ^ 64) upto fits.1) refl)
@@ -66,32 +79,106 @@ call_of-data (Header header) fits =
     rw (below-fits (2 ^ 8) header.ranging_start fits.1) (rw (below-fits (2 ^ 8) header.ranging_end fits.2)
     (rw (below-fits (2 ^ 8) header.data_start fits.3) (rw (below-fits (2 ^ 8) header.data_end fits.4) refl))))
 
+-- burst descriptors with the same numbers are the same
+same_profile : (p q : Profile) → is_same_profile p q ≡ true → p ≡ q
+same_profile p q same =
+    let bits : p.bits ≡ q.bits = grind (arith, nat_tests) in
+    let guard : p.guard ≡ q.guard = grind (arith, nat_tests) in
+    let information : p.information ≡ q.information = grind (arith, nat_tests) in
+    let parity : p.parity ≡ q.parity = grind (arith, nat_tests) in
+    let preamble : p.preamble ≡ q.preamble = grind (arith, nat_tests) in
+    let shortened : p.shortened ≡ q.shortened = grind (arith, nat_tests) in
+    λ i. record {
+      preamble = preamble i;
+      guard = guard i;
+      bits = bits i;
+      parity = parity i;
+      information = information i;
+      shortened = shortened i;
+    }
+
+-- the descriptor of unsolicited grants is that of long ones, or it stands there
+pub unsolicited_stands : (d : Descriptors) → ((unsolicited_member d ≡ no_members) × (d.long ≡ d.unsolicited))
+    ⊎ (unsolicited_member d ≡ member (codes "unsolicited") (profile_data d.unsolicited) no_members)
+unfolding unsolicited_member
+unsolicited_stands d = elim (cases_Bool (is_same_profile d.unsolicited d.long)) [
+  | inl same ↦ inl (rw same refl, sym (same_profile d.unsolicited d.long same))
+  | inr other ↦ inr (rw other refl)
+]
+
+-- a burst descriptor is read back
+profile_of-data : (p : Profile) → ProfileFits p → profile_of (profile_data p) ≡ Some p
+unfolding profile_of u32_at number_at profile_data
+profile_of-data p fits =
+    rw (below-fits (2 ^ 32) p.preamble fits.preamble) (rw (below-fits (2 ^ 32) p.guard fits.guard) (
+    rw (below-fits (2 ^ 32) p.bits fits.bits) (rw (below-fits (2 ^ 32) p.parity fits.parity) (
+    rw (below-fits (2 ^ 32) p.information fits.information) (
+    rw (below-fits (2 ^ 32) p.shortened fits.shortened) refl)))))
+
+-- burst descriptors are read back
+descriptors_of-data : (d : Descriptors) → BurstsFit (Described d) → descriptors_of (descriptors_data d) ≡ Some d
+unfolding descriptors_of profile_at u32_at number_at descriptors_data
+descriptors_of-data d fits =
+    rw (below-fits (2 ^ 32) d.symbols fits.0) (
+    rw (profile_of-data d.short fits.1) (rw (profile_of-data d.long fits.2) (elim (unsolicited_stands d) [
+      | inl as_long ↦ rw as_long.0 (ap (λ (p : Profile). Some (record d { unsolicited = p })) as_long.1)
+      | inr stands ↦ rw stands (rw (profile_of-data d.unsolicited fits.3) refl)
+    ])))
+
+-- bursts are read back
+bursts_of-data : (c : Config) (bursts : Bursts) → BurstsFit bursts
+    → bursts_of (object (members_with c bursts)) ≡ Some bursts
+unfolding bursts_of uniform_of u32_at number_at
+bursts_of-data c (Uniform bytes_per_slot overhead) fits =
+    rw (below-fits (2 ^ 32) bytes_per_slot fits.0) (rw (below-fits (2 ^ 32) overhead fits.1) refl)
+bursts_of-data c (Described d) fits = rw (descriptors_of-data d fits) refl
+
+-- what stands there beside the bursts is that of the configuration
+abbrev HasOthers : Config → Data → Type 0
+HasOthers c d = (slots_of d ≡ Some (c.ticks, c.frame, c.cycle))
+    × (sizes_of d ≡ Some (c.req_slots, c.poll_slots, c.lead, c.short_max, c.quantum, c.grant_cap))
+    × (counts_of d ≡ Some (c.receivers, c.calls, c.start, c.channel, c.ucd_count))
+    × (windows_of (codes "ranging_start") (codes "ranging_end") d ≡ Some (c.ranging_start, c.ranging_end))
+    × (windows_of (codes "data_start") (codes "data_end") d ≡ Some (c.data_start, c.data_end))
+    × (u8_or 0 (codes "phy") d ≡ Some c.phy)
+
+has_others : (c : Config) → ConfigFits c → HasOthers c (object (front_members c (back_members c)))
+unfolding slots_of sizes_of counts_of windows_of u8_or u8_at u32_at u64_at number_at
+has_others c fits = (
+  rw (below-fits (2 ^ 32) c.ticks fits.ticks) (
+      rw (below-fits (2 ^ 32) c.frame fits.frame) (
+      rw (below-fits (2 ^ 32) c.cycle fits.cycle) refl)),
+  rw (below-fits (2 ^ 32) c.req_slots fits.req_slots) (
+      rw (below-fits (2 ^ 32) c.poll_slots fits.poll_slots) (
+      rw (below-fits (2 ^ 32) c.lead fits.lead) (
+      rw (below-fits (2 ^ 32) c.short_max fits.short_max) (
+      rw (below-fits (2 ^ 32) c.quantum fits.quantum) (
+      rw (below-fits (2 ^ 32) c.grant_cap fits.grant_cap) refl))))),
+  rw (below-fits (2 ^ 8) c.receivers fits.receivers) (
+      rw (below-fits (2 ^ 32) c.calls fits.calls) (
+      rw (below-fits (2 ^ 64) c.start fits.start) (
+      rw (below-fits (2 ^ 8) c.channel fits.channel) (
+      rw (below-fits (2 ^ 8) c.ucd_count fits.ucd_count) refl)))),
+  rw (below-fits (2 ^ 8) c.ranging_start fits.ranging_start) (
+      rw (below-fits (2 ^ 8) c.ranging_end fits.ranging_end) refl),
+  rw (below-fits (2 ^ 8) c.data_start fits.data_start) (
+      rw (below-fits (2 ^ 8) c.data_end fits.data_end) refl),
+  rw (below-fits (2 ^ 8) c.phy fits.phy) refl,
+)
+
+-- whatever its bursts are
+has_others_with : (c : Config) (bursts : Bursts) → ConfigFits c → HasOthers c (object (members_with c bursts))
+unfolding slots_of sizes_of counts_of windows_of u8_or u8_at u32_at u64_at number_at
+has_others_with c (Uniform bytes_per_slot overhead) fits = has_others c fits
+has_others_with c (Described d) fits = has_others c fits
+
 -- a configuration is read back
 pub config_of-data : (c : Config) → ConfigFits c → config_of (config_data c) ≡ Some c
-unfolding config_of slots_of sizes_of counts_of windows_of u8_or u8_at u32_at u64_at number_at config_data
+unfolding config_of config_data
 config_of-data c fits =
-    rw (below-fits (2 ^ 32) c.ticks fits.ticks) (
-    rw (below-fits (2 ^ 32) c.bytes_per_slot fits.bytes_per_slot) (
-    rw (below-fits (2 ^ 32) c.overhead fits.overhead) (
-    rw (below-fits (2 ^ 32) c.frame fits.frame) (
-    rw (below-fits (2 ^ 32) c.cycle fits.cycle) (
-    rw (below-fits (2 ^ 32) c.req_slots fits.req_slots) (
-    rw (below-fits (2 ^ 32) c.poll_slots fits.poll_slots) (
-    rw (below-fits (2 ^ 32) c.lead fits.lead) (
-    rw (below-fits (2 ^ 32) c.short_max fits.short_max) (
-    rw (below-fits (2 ^ 32) c.quantum fits.quantum) (
-    rw (below-fits (2 ^ 32) c.grant_cap fits.grant_cap) (
-    rw (below-fits (2 ^ 8) c.receivers fits.receivers) (
-    rw (below-fits (2 ^ 32) c.calls fits.calls) (
-    rw (below-fits (2 ^ 64) c.start fits.start) (
-    rw (below-fits (2 ^ 8) c.ranging_start fits.ranging_start) (
-    rw (below-fits (2 ^ 8) c.ranging_end fits.ranging_end) (
-    rw (below-fits (2 ^ 8) c.data_start fits.data_start) (
-    rw (below-fits (2 ^ 8) c.data_end fits.data_end) (
-    rw (below-fits (2 ^ 8) c.channel fits.channel) (
-    rw (below-fits (2 ^ 8) c.ucd_count fits.ucd_count) (
-    rw (below-fits (2 ^ 8) c.phy fits.phy) (
-    refl)))))))))))))))))))))
+    let others = has_others_with c c.bursts fits in
+    rw others.0 (rw (bursts_of-data c c.bursts fits.bursts) (
+    rw others.1 (rw others.2 (rw others.3 (rw others.4 (rw others.5 refl))))))
 
 -- calls are read back, from any number on
 pub calls_of-data : (n : ℕ) (calls : List Call) → AllByRecursion CallFits calls

@@ -11,7 +11,7 @@ use Rattle.map_build.proofs.EachAfterLaws.{EachAfter-push}
 use Rattle.sched_calls.specs.declared.reply.Entry.{Entry}
 use Rattle.sched_calls.specs.declared.reply.TheConstants.{MAX_WHOLE_HISTORY}
 use Rattle.sched_history.specs.History.{IsStep, IsLegal}
-use Rattle.line_stream.specs.declared.TheConstants.{MAX_LINE}
+use Rattle.text_stream.specs.declared.TheConstants.{MAX_LINE}
 use Rattle.history_writing.specs.Fits.{CallFits, ConfigFits, EntryFits}
 use Rattle.history_writing.specs.HistoryText.{entry_data}
 use Rattle.laws.proofs.HistoryReadable.{entry_readable}

@@ -21,8 +21,8 @@ use Rattle.sched_calls.specs.declared.reply.Entry.{Entry}
 use Rattle.sched_history.specs.Life.{flows_of}
 use Rattle.sched_history.specs.Time.{next_after, progress_of}
 use Rattle.sched_history.specs.Reserves.{reserves_of}
-use Rattle.sched_history.specs.Refusal.{refused_if, refusal_of, most_bytes, most_ahead, last_clock, bad_sid, is_live}
-use Rattle.sched_history.specs.Refusal.{is_silent, periodic_grants, is_to_bad_sid, is_wide}
+use Rattle.sched_history.specs.Refusal.{refused_if, refusal_of, is_bad_amount, most_ahead, last_clock, bad_sid}
+use Rattle.sched_history.specs.Refusal.{is_live, is_silent, periodic_grants, is_to_bad_sid, is_wide}
 use Rattle.sched_lines.specs.Line.{fault_number, refusal_value}
 use Rattle.history_writing.specs.Fits.{ValueFits}
 
@@ -77,16 +77,16 @@ module _ (c : Config) (h : List Entry) (next-small : next_after c h < 2 ^ 64)
       refused (bad_sid sid) BadSid _ refusal is tt (λ is.
       refused (is_live sid h) SidLive _ refusal is tt (λ is.
       faulty (first_fault c spec) _ refusal is (λ is.
-      refused (nat_le MAX_FLOWS (length (flows_of h))) FlowsFull _ refusal is tt (λ is.
-      refused (is_periodic spec && nat_lt MAX_PERIODIC_GRANTS (periodic_grants h + grants_of spec)) PeriodicFull _
+      refused (nat_le MAX_FLOWS (length (flows_of c h))) FlowsFull _ refusal is tt (λ is.
+      refused (is_periodic spec && nat_lt MAX_PERIODIC_GRANTS (periodic_grants c h + grants_of spec)) PeriodicFull _
       refusal is tt (no_more refusal)))))
   refusal_fits (calls.Remove sid) refusal is = unknown sid _ refusal is (no_more refusal)
-  refusal_fits (calls.Ask receiver sid bytes heard) refusal is =
+  refusal_fits (calls.Ask receiver sid amount heard) refusal is =
       let progress = progress_of c receiver h in
       unknown sid _ refusal is (λ is.
       refused (is_silent sid h) NotAsking _ refusal is tt (λ is.
       refused (nat_le c.receivers receiver) BadReceiver _ refusal is tt (λ is.
-      refused (bytes == 0 || nat_lt most_bytes bytes) BadBytes _ refusal is tt (λ is.
+      refused (is_bad_amount c amount) BadBytes _ refusal is tt (λ is.
       refused (nat_lt heard progress) (Acked progress) _ refusal is (progress-small receiver) (λ is.
       refused (nat_le (next_after c h) heard) (Ahead (next_after c h)) _ refusal is next-small (no_more refusal))))))
   refusal_fits (calls.Heard receiver upto) refusal is =

@@ -9,8 +9,7 @@ use Rattle.laws.specs.LawfulHistory.{IsLawfulHistory, IsCallOfTypes}
 base_fits : ConfigFits base
 base_fits = record {
   ticks = omega arith;
-  bytes_per_slot = omega arith;
-  overhead = omega arith;
+  bursts = (omega arith, omega arith);
   frame = omega arith;
   cycle = omega arith;
   req_slots = omega arith;

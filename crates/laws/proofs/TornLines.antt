@@ -2,7 +2,7 @@
 use Rattle.std.proofs.Common.{ℕ, zero, suc, List, [], ◌∷◌, take, sym, subst}
 use Rattle.std.specs.List.{AllByRecursion}
 use Rattle.serde_json.specs.Written.{compact_text}
-use Rattle.line_stream.specs.Lines.{IsWithinLine}
+use Rattle.text_stream.specs.Lines.{IsWithinLine}
 use Rattle.journal_file.specs.Standing.{IsPartOfLine}
 use Rattle.laws.proofs.NoNewline.{compact_within}
 

@@ -4,7 +4,7 @@ use Rattle.std.specs.List.{AllByRecursion}
 use Rattle.minislots.specs.declared.config.Config.{Config}
 use Rattle.sched_calls.specs.declared.reply.Entry.{Entry}
 use Rattle.sched_history.specs.History.{IsLegal}
-use Rattle.line_stream.specs.Lines.{IsWithinLine}
+use Rattle.text_stream.specs.Lines.{IsWithinLine}
 use Rattle.history_writing.specs.Journal.{opening_line, journal_text}
 use Rattle.journal_entries.specs.Standing.{ended_lines}
 use Rattle.laws.specs.LawfulHistory.{IsLawfulHistory, IsCallOfTypes}

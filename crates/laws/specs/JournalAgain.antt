@@ -4,8 +4,8 @@ use Rattle.std.specs.List.{AllByRecursion}
 use Rattle.std.specs.Str.{IsUtf8}
 use Rattle.minislots.specs.declared.config.Config.{Config}
 use Rattle.sched_calls.specs.declared.reply.Entry.{Entry}
-use Rattle.line_stream.specs.declared.TheConstants.{NEWLINE, MAX_LINE}
-use Rattle.line_stream.specs.Lines.{IsWithinLine}
+use Rattle.text_stream.specs.declared.TheConstants.{NEWLINE, MAX_LINE}
+use Rattle.text_stream.specs.Lines.{IsWithinLine}
 use Rattle.history_writing.specs.Fits.{EntryFits}
 use Rattle.history_reading.specs.Recorded.{entry_in}
 use Rattle.history_writing.specs.Journal.{opening_line, entry_line, journal_text}

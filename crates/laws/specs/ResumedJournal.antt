@@ -4,11 +4,11 @@ use Rattle.std.specs.List.{AllByRecursion}
 use Rattle.minislots.specs.declared.config.Config.{Config}
 use Rattle.sched_calls.specs.declared.reply.Entry.{Entry}
 use Rattle.journal_entries.specs.Journal.{FindsLegal}
-use Rattle.journal_reading.specs.declared.judging.Judged.{Judged}
-use Rattle.journal_reading.specs.declared.judging.Judged.TheVariants as judged
-use Rattle.journal_reading.specs.declared.resuming.Resumed.{Resumed}
-use Rattle.journal_reading.specs.declared.resuming.Resumed.TheVariants as resumed
-use Rattle.journal_reading.specs.Judging.{Finds, Resumes}
+use Rattle.journal_entries.specs.declared.judging.Judged.{Judged}
+use Rattle.journal_entries.specs.declared.judging.Judged.TheVariants as judged
+use Rattle.journal_entries.specs.declared.resuming.Resumed.{Resumed}
+use Rattle.journal_entries.specs.declared.resuming.Resumed.TheVariants as resumed
+use Rattle.journal_entries.specs.Judging.{Finds, Resumes}
 use Rattle.journal_file.specs.declared.notes.Note.{Note}
 use Rattle.journal_file.specs.Standing.{IsJournal, IsLeft}
 use Rattle.laws.specs.LawfulHistory.{IsLawfulHistory, IsCallOfTypes}

@@ -1,7 +1,7 @@
 -- How a failed read is told.
 use Rattle.std.proofs.Common.{◌≡◌, Bool, true, List, ℕ, Option, Result, Ok, Err, refl}
 use Rattle.std.specs.Prelude.{◌≢◌}
-use Rattle.line_stream.specs.Told.{StopsReading}
+use Rattle.text_stream.specs.Told.{StopsReading}
 use Rattle.text_stream.specs.declared.fault.TextFault.{TextFault}
 use Rattle.text_stream.specs.declared.fault.TextFault.TheVariants.{Input, TooLong, NotJson, Shape, Config, Memory}
 use Rattle.text_stream.specs.declared.fault.TextFault.TheVariants.{Output}

@@ -6,10 +6,10 @@ use Rattle.std.proofs.lemmas.Bool.{le-ltb, lt-ltb}
 use Rattle.minislots.specs.declared.config.Config.{Config as Configuration}
 use Rattle.minislots.specs.declared.config.ConfigFault.{ConfigFault}
 use Rattle.minislots.specs.Config.{first_wrong}
-use Rattle.line_stream.specs.declared.TheConstants.{MAX_LINE}
-use Rattle.line_stream.specs.declared.Told.{Told}
-use Rattle.line_stream.specs.declared.Told.TheVariants.{Line, Long}
-use Rattle.line_stream.specs.Told.{AtHand}
+use Rattle.text_stream.specs.declared.TheConstants.{MAX_LINE}
+use Rattle.text_stream.specs.declared.Told.{Told}
+use Rattle.text_stream.specs.declared.Told.TheVariants.{Line, Long}
+use Rattle.text_stream.specs.Told.{AtHand}
 use Rattle.text_stream.specs.declared.fault.TextFault.{TextFault}
 use Rattle.text_stream.specs.declared.fault.TextFault.TheVariants.{Input, TooLong, NotJson, Shape, Config, Memory}
 use Rattle.text_stream.specs.declared.fault.TextFault.TheVariants.{Output}
@@ -111,7 +111,8 @@ module _ (config : Configuration) (unread left : Option (List ℕ)) (hand : AtHa
       → says_config (said_in hand.line) ≡ true → Misses config hand.line fault → StopsGoing config unread after fault
   missed after (Text fault) tells says why = misses after fault tells says why
   missed after Journal tells says why = absurd why
-  missed after OtherConfig tells says why = (why.0, why.1, (left, again (Ok why.0) tells says why.2))
+  missed after (OtherConfig difference) tells says why =
+      (why.0, why.1, why.2, (left, again (Ok why.0) tells says why.3))
   missed after (BadJournal n) tells says why = absurd why
 
   missed_front : (after : Option (List ℕ)) (fault : LiveFault) → TellsSpoken unread left hand Line

@@ -5,9 +5,9 @@ use Rattle.std.specs.Prelude.{IfErr, OnOk, MatchOption, MatchResult}
 use Rattle.std.proofs.lemmas.List.{append-nil}
 use Rattle.sched_calls.specs.declared.reply.Entry.{Entry}
 use Rattle.sched_history.specs.Machine.{Machine}
-use Rattle.line_stream.specs.declared.Told.{Told}
-use Rattle.line_stream.specs.Lines.{TakesLines}
-use Rattle.line_stream.specs.Told.{AtHand}
+use Rattle.text_stream.specs.declared.Told.{Told}
+use Rattle.text_stream.specs.Lines.{TakesLines}
+use Rattle.text_stream.specs.Told.{AtHand}
 use Rattle.live_command.specs.declared.fault.LiveFault.{LiveFault}
 use Rattle.live_command.specs.declared.wording.Wording.{Wording}
 use Rattle.live_command.specs.declared.journal.BeginFault.{BeginFault}

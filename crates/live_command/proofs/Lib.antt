@@ -1,3 +1,4 @@
+pub mod Differing
 pub mod Read
 pub mod Saying
 pub mod Talking

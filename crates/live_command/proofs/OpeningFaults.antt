@@ -6,9 +6,9 @@ use Rattle.std.specs.Prelude.{◌≢◌, IfOk, IfErr}
 use Rattle.std.proofs.lemmas.Bool.{le-ltb, lt-ltb}
 use Rattle.minislots.specs.declared.config.Config.{Config as Configuration}
 use Rattle.minislots.specs.Config.{first_wrong}
-use Rattle.line_stream.specs.declared.TheConstants.{MAX_LINE}
-use Rattle.line_stream.specs.declared.Told.TheVariants.{Line, Long}
-use Rattle.line_stream.specs.Told.{AtHand, IsTooMuch}
+use Rattle.text_stream.specs.declared.TheConstants.{MAX_LINE}
+use Rattle.text_stream.specs.declared.Told.TheVariants.{Line, Long}
+use Rattle.text_stream.specs.Told.{AtHand, IsTooMuch}
 use Rattle.text_stream.specs.declared.fault.TextFault.{TextFault}
 use Rattle.text_stream.specs.declared.fault.TextFault.TheVariants.{Input, TooLong, NotJson, Shape, Config, Memory}
 use Rattle.text_stream.specs.declared.fault.TextFault.TheVariants.{Output}
@@ -22,7 +22,7 @@ use Rattle.live_command.proofs.Talking.{TakesLines-trans}
 use Rattle.live_command.specs.Opening.{config_said, opening_in, opening_of_line, Opens, TellsSpoken, StopsOpening}
 use Rattle.live_command.specs.Opening.{BreaksOffBefore, OpensWith, StopsBefore}
 use Rattle.live_command.proofs.Saying.{spoken_long}
-use Rattle.line_stream.proofs.Taking.{TakesLonger-of}
+use Rattle.text_stream.proofs.Taking.{TakesLonger-of}
 
 faults-said_in : (bytes : List ℕ) → IfErr (said_in bytes) IsOfText
 unfolding said_in

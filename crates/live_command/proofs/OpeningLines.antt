@@ -2,9 +2,9 @@
 use Rattle.std.proofs.Common.{◌≡◌, ℕ, ◌+◌, ◌-◌, ◌^◌, ◌≤◌, Bool, true, false, List, [], ◌∷◌, ◌++◌}
 use Rattle.std.proofs.Common.{length, Option, None, Some}
 use Rattle.std.proofs.Common.{refl, sym, ap, ◌∙◌, inl, arith, length-append}
-use Rattle.line_stream.specs.declared.Told.{Told}
-use Rattle.line_stream.specs.Lines.{lines_of, TakesLines}
-use Rattle.line_stream.specs.Told.{AtHand, HasEnded, HasNoEnd, TellsNext, StopsReading}
+use Rattle.text_stream.specs.declared.Told.{Told}
+use Rattle.text_stream.specs.Lines.{lines_of, TakesLines}
+use Rattle.text_stream.specs.Told.{AtHand, HasEnded, HasNoEnd, TellsNext, StopsReading}
 use Rattle.text_stream.specs.declared.fault.TextFault.{TextFault}
 use Rattle.text_stream.specs.declared.fault.TextFault.TheVariants.{Input, TooLong, NotJson, Shape, Config, Memory}
 use Rattle.text_stream.specs.declared.fault.TextFault.TheVariants.{Output}

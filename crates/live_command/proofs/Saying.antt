@@ -12,7 +12,7 @@ use Rattle.sched_calls.specs.declared.reply.Entry.{Entry}
 use Rattle.sched_history.specs.Machine.{Machine}
 use Rattle.sched_calls.specs.Reply.{Answer}
 use Rattle.sched_history.specs.Answer.{recorded}
-use Rattle.line_stream.specs.declared.TheConstants.{MAX_LINE}
+use Rattle.text_stream.specs.declared.TheConstants.{MAX_LINE}
 use Rattle.text_stream.specs.declared.fault.TextFault.{TextFault}
 use Rattle.live_command.specs.declared.wording.Wording.{Wording}
 use Rattle.live_command.specs.declared.fault.LineFault.{LineFault}

@@ -7,8 +7,8 @@ use Rattle.std.proofs.Math.Seq.{drop-append_seam, take-append-add}
 use Rattle.std.proofs.lemmas.List.{append-nil, take_all, take-append-drop}
 use Rattle.sched_calls.specs.declared.reply.Entry.{Entry}
 use Rattle.sched_history.specs.Machine.{Machine, kept_of}
-use Rattle.line_stream.specs.Lines.{lines_of, TakesLines}
-use Rattle.line_stream.specs.Told.{HasNoEnd}
+use Rattle.text_stream.specs.Lines.{lines_of, TakesLines}
+use Rattle.text_stream.specs.Told.{HasNoEnd}
 use Rattle.live_command.specs.Spoken.{spoken}
 use Rattle.live_command.specs.Answers.{SaysEach, joined, AnswersLines}
 use Rattle.live_command.specs.Journal.{Grows, GrowsInPart}

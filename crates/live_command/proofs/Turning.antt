@@ -5,8 +5,8 @@ use Rattle.std.specs.Prelude.{◌⊎◌, IfErr, OnOk, MatchOption, MatchResult}
 use Rattle.std.proofs.Math.Seq.{drop-length}
 use Rattle.sched_calls.specs.declared.reply.Entry.{Entry}
 use Rattle.sched_history.specs.Machine.{Machine, kept_of}
-use Rattle.line_stream.specs.declared.Told.{Told}
-use Rattle.line_stream.specs.Told.{AtHand, HasEnded, TellsNext, StopsLine}
+use Rattle.text_stream.specs.declared.Told.{Told}
+use Rattle.text_stream.specs.Told.{AtHand, HasEnded, TellsNext, StopsLine}
 use Rattle.text_stream.specs.declared.fault.TextFault.{TextFault}
 use Rattle.text_stream.specs.declared.fault.TextFault.TheVariants.{Input, TooLong, NotJson, Shape, Config, Memory}
 use Rattle.text_stream.specs.declared.fault.TextFault.TheVariants.{Output}

@@ -12,7 +12,7 @@ use Rattle.live_command.specs.declared.journal.BeginFault.TheVariants.{Memory, O
 abbrev pub status_of : LiveFault → ℕ
 status_of (Text fault) = exit_status_of (runs.Text fault)
 status_of Journal = 4
-status_of OtherConfig = 3
+status_of (OtherConfig difference) = 3
 status_of (BadJournal line) = 3
 
 -- why a conversation ends whose journal does not begin

@@ -4,14 +4,16 @@ use Rattle.std.specs.Prelude.{if◌then◌else◌, List, [], ◌∷◌, ◌++◌
 use Rattle.minislots.specs.declared.config.Config.{Config as Configuration}
 use Rattle.sched_calls.specs.declared.reply.Entry.{Entry}
 use Rattle.sched_history.specs.Machine.{Machine}
-use Rattle.line_stream.specs.declared.TheConstants.{MAX_LINE}
-use Rattle.line_stream.specs.declared.Told.{Told}
-use Rattle.line_stream.specs.declared.Told.TheVariants.{Line, Long}
-use Rattle.line_stream.specs.Lines.{TakesLines}
-use Rattle.line_stream.specs.Told.{AtHand}
+use Rattle.text_stream.specs.declared.TheConstants.{MAX_LINE}
+use Rattle.text_stream.specs.declared.Told.{Told}
+use Rattle.text_stream.specs.declared.Told.TheVariants.{Line, Long}
+use Rattle.text_stream.specs.Lines.{TakesLines}
+use Rattle.text_stream.specs.Told.{AtHand}
 use Rattle.text_stream.specs.declared.fault.TextFault.{TextFault}
 use Rattle.text_stream.specs.declared.fault.TextFault.TheVariants.{Input, TooLong, NotJson, Shape, Config, Memory}
 use Rattle.text_stream.specs.declared.fault.TextFault.TheVariants.{Output}
+use Rattle.live_command.specs.declared.difference.Difference.{Difference}
+use Rattle.live_command.specs.Difference.{first_of, differences_of}
 use Rattle.live_command.specs.declared.fault.LiveFault.{LiveFault}
 use Rattle.live_command.specs.declared.fault.LiveFault.TheVariants.{Text, Journal, OtherConfig, BadJournal}
 use Rattle.live_command.specs.declared.journal.BeginFault.{BeginFault}
@@ -45,7 +47,8 @@ IsFront config line (Some Long) = ⊥
 abbrev pub Misses : Configuration → List ℕ → LiveFault → Type 0
 Misses config line (Text fault) = fault ≢ Memory → opening_in line ≡ Err fault
 Misses config line Journal = ⊥
-Misses config line OtherConfig = (other : Configuration) × (other ≢ config) × (opening_in line ≡ Ok other)
+Misses config line (OtherConfig difference) = (other : Configuration) × (other ≢ config)
+    × (first_of (differences_of config other) ≡ Some difference) × (opening_in line ≡ Ok other)
 Misses config line (BadJournal n) = ⊥
 
 -- why a first line ends the conversation: memory ran out, or the line says a configuration, and this is wrong with it
@@ -89,9 +92,10 @@ NotGoing old new writer_old writer_new journal_old journal_new =
 abbrev pub OpensAgainWith : Option (List ℕ) → TextFault → Type 0
 OpensAgainWith unread fault = (behind : Option (List ℕ)) × OpensAgain unread behind (Err fault)
 
--- a lawful opening was read, and has another configuration
-abbrev pub OpensOther : Configuration → Option (List ℕ) → Type 0
-OpensOther config unread = (other : Configuration) × (other ≢ config)
+-- a lawful opening was read, and has another configuration, which differs first here
+abbrev pub OpensOther : Configuration → Option (List ℕ) → Difference → Type 0
+OpensOther config unread difference = (other : Configuration) × (other ≢ config)
+    × (first_of (differences_of config other) ≡ Some difference)
     × ((behind : Option (List ℕ)) × OpensAgain unread behind (Ok other))
 
 -- why a conversation does not go on: its opening has a fault or another configuration, or no line came
@@ -105,7 +109,7 @@ StopsGoing config unread left (Text (Config field)) = OpensAgainWith unread (Con
 StopsGoing config unread left (Text Memory) = Unit {0}
 StopsGoing config unread left (Text Output) = ⊥
 StopsGoing config unread left Journal = ⊥
-StopsGoing config unread left OtherConfig = OpensOther config unread
+StopsGoing config unread left (OtherConfig difference) = OpensOther config unread difference
 StopsGoing config unread left (BadJournal line) = ⊥
 
 -- What stands in front was read, and the journal did not begin

@@ -1,3 +1,5 @@
+pub mod Field
+pub mod Difference
 pub mod Said
 pub mod Spoken
 pub mod Answers

@@ -4,10 +4,10 @@ use Rattle.std.specs.Prelude.{length, Option, None, Some, Result, Ok, Err}
 use Rattle.std.specs.Io.KnownBytes.{IsAtEnd}
 use Rattle.minislots.specs.declared.config.Config.{Config as Configuration}
 use Rattle.minislots.specs.Config.{first_wrong}
-use Rattle.line_stream.specs.declared.TheConstants.{MAX_LINE}
-use Rattle.line_stream.specs.Lines.{TakesLines}
-use Rattle.line_stream.specs.declared.Told.{Told}
-use Rattle.line_stream.specs.Told.{AtHand, IsTold, HasNoEnd, IsTooMuch}
+use Rattle.text_stream.specs.declared.TheConstants.{MAX_LINE}
+use Rattle.text_stream.specs.Lines.{TakesLines}
+use Rattle.text_stream.specs.declared.Told.{Told}
+use Rattle.text_stream.specs.Told.{AtHand, IsTold, HasNoEnd, IsTooMuch}
 use Rattle.text_stream.specs.declared.fault.TextFault.{TextFault}
 use Rattle.text_stream.specs.declared.fault.TextFault.TheVariants.{Input, TooLong, NotJson, Shape, Config, Memory}
 use Rattle.text_stream.specs.declared.fault.TextFault.TheVariants.{Output}

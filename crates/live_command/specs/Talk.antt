@@ -5,9 +5,9 @@ use Rattle.std.specs.Io.KnownBytes.{Appends, IsAtEnd}
 use Rattle.minislots.specs.declared.config.Config.{Config as Configuration}
 use Rattle.sched_calls.specs.declared.reply.Entry.{Entry}
 use Rattle.sched_history.specs.Machine.{Machine}
-use Rattle.line_stream.specs.declared.Told.{Told}
-use Rattle.line_stream.specs.Lines.{lines_of, TakesLines}
-use Rattle.line_stream.specs.Told.{AtHand, IsTold, HasNoEnd}
+use Rattle.text_stream.specs.declared.Told.{Told}
+use Rattle.text_stream.specs.Lines.{lines_of, TakesLines}
+use Rattle.text_stream.specs.Told.{AtHand, IsTold, HasNoEnd}
 use Rattle.text_stream.specs.declared.fault.TextFault.TheVariants.{Input, TooLong, NotJson, Shape, Config, Memory}
 use Rattle.text_stream.specs.declared.fault.TextFault.TheVariants.{Output}
 use Rattle.live_command.specs.declared.fault.LiveFault.{LiveFault}
@@ -140,7 +140,7 @@ StopsTalk s m left written stands (Text (Config field)) = ⊥
 StopsTalk s m left written stands (Text Memory) = Unit {0}
 StopsTalk s m left written stands (Text Output) = Unit {0}
 StopsTalk s m left written stands Journal = Unit {0}
-StopsTalk s m left written stands OtherConfig = ⊥
+StopsTalk s m left written stands (OtherConfig difference) = ⊥
 StopsTalk s m left written stands (BadJournal line) = ⊥
 
 -- where a conversation begins with this scheduler

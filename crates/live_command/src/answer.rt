@@ -1,8 +1,8 @@
 //! The answer to a line.
 
 ghost use Rattle.std.specs.Prelude.{◌≡◌, ◌≤◌, ◌<◌, List, ℕ, ◌++◌, length, IfOk, IfErr, OnOk, OnErr};
-ghost use Rattle.line_stream.specs.declared.TheConstants.{MAX_LINE};
-ghost use Rattle.line_stream.specs.Told.{IsTold};
+ghost use Rattle.text_stream.specs.declared.TheConstants.{MAX_LINE};
+ghost use Rattle.text_stream.specs.Told.{IsTold};
 ghost use Rattle.sched_history.specs.Machine.{kept_of};
 ghost use Rattle.sched_calls.specs.Reply.{Answer, HasLine};
 ghost use Rattle.live_command.specs.Answers.{MayGet, after, answer_line, AnswersHeard, SaysOne};
@@ -14,11 +14,10 @@ use crate::outbox::Outbox;
 use crate::said::{Said, read_said};
 use crate::wording::Wording;
 use json::Scratch;
-use line_stream::{Lines, MAX_LINE, Told};
 use minislots::Stamp;
 use sched_history::{Call, Reply, Scheduler, Unrecorded};
 use std::alloc::Global;
-use text_stream::TextFault;
+use text_stream::{Lines, MAX_LINE, TextFault, Told};
 
 // The call that is said, where it is one.
 fn call_said(said: Said) -> Result<Call, LineFault>

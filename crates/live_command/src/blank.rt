@@ -1,10 +1,10 @@
 //! Lines of white space alone.
 
 ghost use Rattle.std.specs.Prelude.{◌≡◌, List, ℕ};
-ghost use Rattle.line_stream.specs.Told.{IsTold};
+ghost use Rattle.text_stream.specs.Told.{IsTold};
 ghost use Rattle.live_command.specs.Spoken.{is_white, is_blank, is_spoken};
 
-use line_stream::{MAX_LINE, Told};
+use text_stream::{MAX_LINE, Told};
 
 // Whether a byte is white space of JSON.
 fn is_white(byte: u8) -> bool

@@ -6,6 +6,7 @@ ghost use Rattle.live_command.specs.declared.fault.LiveFault.TheVariants.{Text};
 ghost use Rattle.live_command.specs.Fault.{status_of};
 ghost use Rattle.live_command.specs.Spoken.{fault_words};
 
+use crate::difference::Difference;
 use std::alloc::AllocError;
 use text_stream::{RunFault, TextFault};
 use thiserror::Error;
@@ -43,9 +44,9 @@ pub enum LiveFault {
     /// The journal was not begun, or an entry was not written to it.
     #[error("journal failed")]
     Journal,
-    /// The opening has another configuration than the journal that was resumed.
-    #[error("other config")]
-    OtherConfig,
+    /// The opening has another configuration than the journal that was resumed: this is the first field that differs.
+    #[error("other config\n{0}")]
+    OtherConfig(Difference),
     /// This line of the journal, counted from 0, is the first that is wrong.
     #[error("bad journal at {0}")]
     BadJournal(u64),
@@ -75,7 +76,7 @@ impl LiveFault {
         match self {
             LiveFault::Text(fault) => RunFault::Text(fault).status(),
             LiveFault::Journal => 4,
-            LiveFault::OtherConfig | LiveFault::BadJournal(_) => 3,
+            LiveFault::OtherConfig(_) | LiveFault::BadJournal(_) => 3,
         }
     }
 }

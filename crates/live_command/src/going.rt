@@ -1,7 +1,7 @@
 //! A conversation that goes on after a journal was resumed.
 
 ghost use Rattle.std.specs.Prelude.{◌≡◌, length, IfOk, IfErr, OnOk, Ok};
-ghost use Rattle.line_stream.specs.Told.{untold};
+ghost use Rattle.text_stream.specs.Told.{untold};
 ghost use Rattle.live_command.specs.Failing.{FailsButFor};
 ghost use Rattle.live_command.specs.declared.fault.LiveFault.TheVariants.{Text, Journal as Failed};
 ghost use Rattle.live_command.specs.Going.{says_config, IsFront, MissesFront, Misses, ReadsFront, StopsGoing};
@@ -10,6 +10,7 @@ ghost use Rattle.live_command.specs.Journal.{FailsJustBy};
 ghost use Rattle.live_command.specs.Opening.{opening_in};
 ghost use Rattle.live_command.specs.Said.{said_in};
 
+use crate::difference::first_difference;
 use crate::fault::LiveFault;
 use crate::journal::Journal;
 use crate::noting::begin;
@@ -18,11 +19,10 @@ use crate::said::{Said, read_said};
 use crate::talk::talk_from;
 use crate::wording::Wording;
 use json::Scratch;
-use line_stream::{Lines, Told};
 use minislots::Checked;
 use sched_history::Scheduler;
 use std::alloc::Global;
-use text_stream::{Sink, Source, TextFault};
+use text_stream::{Lines, Sink, Source, TextFault, Told};
 
 // Whether a text says a configuration.
 fn says_config(alloc: Global, scratch: &mut Scratch, line: &[u8]) -> Result<bool, TextFault>
@@ -48,10 +48,10 @@ fn require_config(
     ensures err { IfErr result (Misses config.now line.now) }
 {
     let found = opening_in(alloc, scratch, line)?;
-    if found.config() == config.config() {
-        return Ok(());
+    match first_difference(&config.config(), &found.config()) {
+        None => Ok(()),
+        Some(difference) => Err(LiveFault::OtherConfig(difference)),
     }
-    Err(LiveFault::OtherConfig)
 }
 
 // Tells a first line that is not long, unless it is the opening, which then has the configuration.

@@ -3,7 +3,9 @@
 
 mod answer;
 mod blank;
+mod difference;
 mod fault;
+mod field;
 mod going;
 mod input;
 mod journal;
@@ -18,7 +20,9 @@ mod wording;
 
 pub use answer::hear;
 pub use blank::{is_spoken, is_told_spoken};
+pub use difference::{Difference, first_difference};
 pub use fault::{LineFault, LiveFault};
+pub use field::{Field, Member, Usage};
 pub use going::go_on;
 pub use input::live_input;
 pub use journal::{BeginFault, Journal, NoJournal, RecordFault};

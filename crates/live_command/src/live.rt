@@ -14,10 +14,9 @@ use crate::opening::read_opening;
 use crate::talk::talk_from;
 use crate::wording::Wording;
 use json::Scratch;
-use line_stream::Lines;
 use sched_history::Scheduler;
 use std::alloc::Global;
-use text_stream::{Sink, Source, TextFault};
+use text_stream::{Lines, Sink, Source, TextFault};
 
 /// Reads the opening of a conversation, which has its configuration, begins the journal, and converses with a new
 /// scheduler to the end of the input. The journal has no whole line before, and is not changed before the opening was

@@ -1,8 +1,8 @@
 //! The opening of a conversation.
 
 ghost use Rattle.std.specs.Prelude.{◌≡◌, ◌≤◌, length, IfOk, IfErr, Ok};
-ghost use Rattle.line_stream.specs.declared.TheConstants.{MAX_LINE};
-ghost use Rattle.line_stream.specs.Told.{untold};
+ghost use Rattle.text_stream.specs.declared.TheConstants.{MAX_LINE};
+ghost use Rattle.text_stream.specs.Told.{untold};
 ghost use Rattle.text_stream.specs.Input.{Gives};
 ghost use Rattle.live_command.specs.Failing.{FailsButFor};
 ghost use Rattle.live_command.specs.Opening.{config_said, opening_in, Opens, StopsOpening, FindsSpoken, StopsBefore};
@@ -10,10 +10,9 @@ ghost use Rattle.live_command.specs.Opening.{config_said, opening_in, Opens, Sto
 use crate::blank::is_told_spoken;
 use crate::said::{Said, read_said};
 use json::Scratch;
-use line_stream::{Lines, Told};
 use minislots::{Checked, Config};
 use std::alloc::Global;
-use text_stream::{Source, TextFault};
+use text_stream::{Lines, Source, TextFault, Told};
 
 // The configuration that is said.
 fn config_said(said: Said) -> Result<Config, TextFault>

@@ -1,7 +1,7 @@
 //! A conversation, from the first line behind its opening to the end of its input.
 
 ghost use Rattle.std.specs.Prelude.{◌≡◌, [], length, IfErr, OnOk, MatchResult, MatchOption};
-ghost use Rattle.line_stream.specs.Told.{untold};
+ghost use Rattle.text_stream.specs.Told.{untold};
 ghost use Rattle.live_command.specs.Failing.{FailsButFor};
 ghost use Rattle.live_command.specs.declared.fault.LiveFault.TheVariants.{Text, Journal as Failed};
 ghost use Rattle.live_command.specs.Journal.{FailsJustBy};
@@ -13,10 +13,9 @@ use crate::outbox::Outbox;
 use crate::turn::{settle, take_first, take_turn};
 use crate::wording::Wording;
 use json::Scratch;
-use line_stream::{Lines, Told};
 use sched_history::Scheduler;
 use std::alloc::Global;
-use text_stream::{Sink, Source, TextFault};
+use text_stream::{Lines, Sink, Source, TextFault, Told};
 
 // Converses to the end of the input, where answers may wait.
 fn talk_on<R: Source, W: Sink, J: Journal>(

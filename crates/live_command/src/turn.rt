@@ -2,7 +2,7 @@
 
 ghost use Rattle.std.specs.Prelude.{◌≡◌, ◌<◌, ◌+◌, ℕ, List, Option, [], length, IfErr, OnOk, MatchResult};
 ghost use Rattle.std.specs.Prelude.{MatchOption};
-ghost use Rattle.line_stream.specs.Told.{untold};
+ghost use Rattle.text_stream.specs.Told.{untold};
 ghost use Rattle.sched_history.specs.Machine.{kept_of};
 ghost use Rattle.live_command.specs.Failing.{FailsButFor};
 ghost use Rattle.live_command.specs.declared.fault.LiveFault.TheVariants.{Text, Journal as Failed};
@@ -16,10 +16,9 @@ use crate::noting::record;
 use crate::outbox::Outbox;
 use crate::wording::Wording;
 use json::Scratch;
-use line_stream::{Lines, Told};
 use sched_history::Scheduler;
 use std::alloc::Global;
-use text_stream::{Sink, Source, TextFault};
+use text_stream::{Lines, Sink, Source, TextFault, Told};
 
 // Puts the entries that are kept into the journal, and then writes the answers that wait.
 pub(crate) fn settle<W: Sink, J: Journal>(

@@ -5,6 +5,8 @@ use Rattle.std.proofs.Common.{◌==◌, Option, None, Some, inl, inr, refl, ap, 
 use Rattle.std.specs.Option.{IsSomeAnd}
 use Rattle.std.specs.List.{AllByRecursion, slice_get}
 use Rattle.minislots.specs.declared.config.Config.{Config}
+use Rattle.minislots.specs.Bursts.{HasBursts}
+use Rattle.minislots.proofs.UnitLaws.{slots_for-positive}
 use Rattle.flow_book.specs.Flows.{LiveFlow, flow_of}
 use Rattle.flow_book.specs.Choice.{IsNext, IsAmount, NoneEligible}
 use Rattle.periodic.specs.declared.placement.Spot.{Spot}
@@ -23,20 +25,20 @@ use Rattle.map_build.proofs.Offers.{place-below}
 use Rattle.map_build.proofs.Standings.{spot-within, found-in, equal}
 use Rattle.map_build.proofs.Takings.{Knows-spot, Knows-idle}
 
-spot-cond : (c : Config) (d : Demand) (plan : List Allocation) (poll : Bool) (sid offset slots : ℕ) → 0 < slots →
-    offset ≡ end_of c plan →
-    Contains d.spots (record { sid = sid; poll = poll; offset = offset; slots = slots }) →
-    Stands c d plan (allocation_of (record { sid = sid; poll = poll; offset = offset; slots = slots }))
-spot-cond c d plan true sid offset slots some here is =
+spot-cond : (c : Config) (d : Demand) (plan : List Allocation) (size : Option ℕ) (sid offset slots : ℕ) →
+    0 < slots → offset ≡ end_of c plan →
+    Contains d.spots (record { sid = sid; size = size; offset = offset; slots = slots }) →
+    Stands c d plan (allocation_of (record { sid = sid; size = size; offset = offset; slots = slots }))
+spot-cond c d plan None sid offset slots some here is =
     record { some_slots = some; follows = here; purpose = is; first = tt }
-spot-cond c d plan false sid offset slots some here is =
+spot-cond c d plan (Some size) sid offset slots some here is =
     record { some_slots = some; follows = here; purpose = is; first = tt }
 
 -- a spot stands where it begins
 pub spot-stands : (c : Config) (d : Demand) (plan : List Allocation) (s : Spot) → AreInFrame c d.spots →
     Contains d.spots s → s.offset ≡ end_of c plan → Stands c d plan (allocation_of s)
 spot-stands c d plan s are is here =
-    spot-cond c d plan s.poll s.sid s.offset s.slots (spot-within c d.spots s are is).some_slots here is
+    spot-cond c d plan s.size s.sid s.offset s.slots (spot-within c d.spots s are is).some_slots here is
 
 mark-cond : (o : Option Bool) (b : Bool) → (o ≡ Some true → ⊥) → o ≡ Some b → o ≡ Some false
 mark-cond o true never is = absurd (never is)
@@ -100,15 +102,15 @@ module _ (flows : List LiveFlow) (spots : List Spot) (waiting : List Opportunity
   offer-stands place o some first =
       record { some_slots = some; follows = after.ends; purpose = first; first = (behind, tt) }
 
-  grant-cond : (sid bytes : ℕ) (o : Option LiveFlow) → 0 < d.book.config.overhead → d.grants < most_grants waiting →
+  grant-cond : (sid bytes : ℕ) (o : Option LiveFlow) → HasBursts d.book.config.bursts → d.grants < most_grants waiting →
       NoneToMeet waiting plan (room_at d.book.config spots d.offset) →
       ((f : LiveFlow) → o ≡ Some f → f.sid ≡ sid) →
       IsSomeAnd o (λ f. IsNext d.book.config d.book.flows (d.start + d.offset) (room_at d.book.config spots d.offset) f
       × IsAmount d.book.config f (d.start + d.offset) (room_at d.book.config spots d.offset) bytes) →
       Stands d.book.config (demand_at flows spots waiting d.start) plan (grant_here d sid bytes)
-  grant-cond sid bytes None overhead few none named is = absurd is
-  grant-cond sid bytes (Some f) overhead few none named is = record {
-    some_slots = omega arith;
+  grant-cond sid bytes None bursts few none named is = absurd is
+  grant-cond sid bytes (Some f) bursts few none named is = record {
+    some_slots = slots_for-positive d.book.config bursts bytes is.1.allowed.positive;
     follows = after.ends;
     purpose = (
       omega (arith, few, after.grants),
@@ -123,11 +125,11 @@ module _ (flows : List LiveFlow) (spots : List Spot) (waiting : List Opportunity
   }
 
   -- a data grant of its amount to the flow that is next, where no opportunity waits that fits
-  pub grant-stands : (sid bytes : ℕ) → 0 < d.book.config.overhead → d.grants < most_grants waiting →
+  pub grant-stands : (sid bytes : ℕ) → HasBursts d.book.config.bursts → d.grants < most_grants waiting →
       NoneToMeet waiting plan (room_at d.book.config spots d.offset) →
       IsNextAmount d (room_at d.book.config spots d.offset) sid bytes →
       Stands d.book.config (demand_at flows spots waiting d.start) plan (grant_here d sid bytes)
-  grant-stands sid bytes overhead few none is = grant-cond sid bytes (flow_of sid d.book.flows) overhead few none
+  grant-stands sid bytes bursts few none is = grant-cond sid bytes (flow_of sid d.book.flows) bursts few none
       (λ f found. equal f.sid sid (found-in (λ (g : LiveFlow). g.sid == sid) d.book.flows f found).1) is
 
   -- an idle up to the next stop, where nothing else may stand
@@ -196,15 +198,15 @@ module _ (spots : List Spot) (waiting : List Opportunity) (room : ℕ) (old : Dr
       subst (NoneToMeet waiting plan) room_is (none-to-meet waiting old.met plan room may long after.met none)
 
   -- where there is none, a data grant of its amount to the flow that is next
-  pub Chooses-grant : (a : Allocation) (new : Draft) → NoneUnmet waiting old.met room → 0 < old.book.config.overhead →
+  pub Chooses-grant : (a : Allocation) (new : Draft) → NoneUnmet waiting old.met room → HasBursts old.book.config.bursts →
       Serves waiting room a old new → Chooses spots waiting a old new
-  Chooses-grant a new none overhead serves = record {
+  Chooses-grant a new none bursts serves = record {
     knows = serves.knows;
     same = serves.same;
     here = ap (λ (b : Allocation). b.offset) serves.is;
     stands = λ flows plan after.
         rw serves.is
-        (grant-stands flows spots waiting plan old after behind serves.sid serves.bytes overhead serves.few
+        (grant-stands flows spots waiting plan old after behind serves.sid serves.bytes bursts serves.few
         (none-fits none flows plan after)
         (subst (λ r. IsNextAmount old r serves.sid serves.bytes) room_is serves.next));
   }

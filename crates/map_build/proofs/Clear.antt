@@ -1,5 +1,5 @@
 -- What stands at an offset leaves no spot behind: the spots before its end are in the plan.
-use Rattle.std.proofs.Common.{◌≡◌, ℕ, suc, ◌+◌, ◌<◌, ◌≤◌, true, false, List, [], ◌∷◌, ◌++◌, Contains, inl, inr, refl}
+use Rattle.std.proofs.Common.{◌≡◌, ℕ, suc, ◌+◌, ◌<◌, ◌≤◌, None, Some, List, [], ◌∷◌, ◌++◌, Contains, inl, inr, refl}
 use Rattle.std.proofs.Common.{sym, ap, subst, ◌∙◌, arith}
 use Rattle.std.proofs.lemmas.Bool.{cases_lt}
 use Rattle.std.proofs.lemmas.List.{length_push, get_or_append_left}
@@ -22,7 +22,7 @@ pub grants-within : (c : Config) (d : Demand) (before : List Allocation) (offset
     IsOfClass c d before offset slots purpose → grants_in before ≤ most_grants d.waiting →
     grants_in before + grants_in (allocation offset slots purpose ∷ []) ≤ most_grants d.waiting
 grants-within c d before offset slots (Poll sid) stands few = omega arith
-grants-within c d before offset slots (UnsolicitedGrant sid) stands few = omega arith
+grants-within c d before offset slots (UnsolicitedGrant sid size) stands few = omega arith
 grants-within c d before offset slots (Offer place usage) stands few = omega arith
 grants-within c d before offset slots (DataGrant sid bytes) stands few = omega (arith, stands.0)
 grants-within c d before offset slots Idle stands few = omega arith
@@ -51,9 +51,9 @@ pub clear-purpose : (c : Config) (d : Demand) (before : List Allocation) (offset
     AreInFrame c d.spots → offset ≤ c.frame → 0 < slots → IsOfClass c d before offset slots purpose →
     IsClear c d.spots (allocation offset slots purpose)
 clear-purpose c d before offset slots (Poll sid) are inside some stands =
-    clear-spot c d.spots (record { sid = sid; poll = true; offset = offset; slots = slots }) are stands
-clear-purpose c d before offset slots (UnsolicitedGrant sid) are inside some stands =
-    clear-spot c d.spots (record { sid = sid; poll = false; offset = offset; slots = slots }) are stands
+    clear-spot c d.spots (record { sid = sid; size = None; offset = offset; slots = slots }) are stands
+clear-purpose c d before offset slots (UnsolicitedGrant sid size) are inside some stands =
+    clear-spot c d.spots (record { sid = sid; size = Some size; offset = offset; slots = slots }) are stands
 clear-purpose c d before offset slots (Offer place usage) are inside some stands =
     clear-room c d.spots (record { offset = offset; slots = slots; purpose = Offer place usage }) inside
     (omega (arith, stands.may.fits, next_stop-least c d.spots offset inside))

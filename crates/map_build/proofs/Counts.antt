@@ -5,6 +5,7 @@ use Rattle.std.proofs.Common.{[], ◌∷◌, ◌++◌, length, Contains, if◌th
 use Rattle.std.proofs.lemmas.Bool.Decides.{nat_tests}
 use Rattle.std.proofs.lemmas.List.Sums.{sum_by_push}
 use Rattle.minislots.specs.declared.config.Config.{Config}
+use Rattle.minislots.specs.Bursts.{HasBursts}
 use Rattle.periodic.specs.declared.placement.Spot.{Spot}
 use Rattle.map_build.specs.EachAfter.{EachAfter}
 use Rattle.map_build.specs.declared.TheConstants.{MAX_DATA_GRANTS, MAX_WAITING}
@@ -55,7 +56,7 @@ spots_from-fewer m n (t ∷ spots) s (zero, lt, at) here less =
 spots_from-fewer m n (t ∷ spots) s (suc k, lt, at) here less =
     omega (arith, one_later m n t.offset (omega arith), spots_from-fewer m n spots s (k, omega arith, at) here less)
 
-module _ (c : Config) (d : Demand) (overhead : 0 < c.overhead) where
+module _ (c : Config) (d : Demand) (bursts : HasBursts c.bursts) where
   -- an idle may stand next, or there is no room for one
   abbrev IsVacant : ℕ → ℕ → Type 0
   IsVacant idles end = (1 ≤ idles) ⊎ (next_stop c d.spots end ≤ end)
@@ -84,12 +85,12 @@ module _ (c : Config) (d : Demand) (overhead : 0 < c.overhead) where
         spots_from-fewer offset (offset + slots) d.spots _ stands refl (omega arith),
         unmet-push before (allocation offset slots (Poll sid)) (length d.waiting),
       )
-  few-step idles before offset slots (UnsolicitedGrant sid) more some few vacant stands rest =
+  few-step idles before offset slots (UnsolicitedGrant sid size) more some few vacant stands rest =
       omega (
         arith,
         rest 1 (omega arith) (inl (omega arith)),
         spots_from-fewer offset (offset + slots) d.spots _ stands refl (omega arith),
-        unmet-push before (allocation offset slots (UnsolicitedGrant sid)) (length d.waiting),
+        unmet-push before (allocation offset slots (UnsolicitedGrant sid size)) (length d.waiting),
       )
   few-step idles before offset slots (Offer place usage) more some few vacant stands rest = elim vacant [
     | inl one ↦ omega (

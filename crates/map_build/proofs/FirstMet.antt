@@ -64,10 +64,10 @@ abbrev ArePast : Allocation → Allocation → Type 0
 ArePast a b = (a.offset + a.slots ≤ b.offset) ⊎ (b.offset + b.slots ≤ a.offset)
 
 -- a poll or unsolicited grant is no opportunity
-spot-no-place : (poll : Bool) (sid offset slots : ℕ) →
-    place_of (allocation_of (record { sid = sid; poll = poll; offset = offset; slots = slots })).purpose ≡ None
-spot-no-place true sid offset slots = refl
-spot-no-place false sid offset slots = refl
+spot-no-place : (size : Option ℕ) (sid offset slots : ℕ) →
+    place_of (allocation_of (record { sid = sid; size = size; offset = offset; slots = slots })).purpose ≡ None
+spot-no-place None sid offset slots = refl
+spot-no-place (Some size) sid offset slots = refl
 
 module _ (c : Config) (d : Demand) where
   -- what is behind some allocations begins where they end, or later
@@ -134,7 +134,7 @@ module _ (c : Config) (d : Demand) where
         (IsMetIn before 0 → ⊥) → offset ≤ gap.from → gap.from < offset + slots →
         IsMetIn (before ++ allocation offset slots purpose ∷ []) 0
     stands-at-gap before offset slots (Poll sid) is first never le lt = absurd (no-spot _ is le lt)
-    stands-at-gap before offset slots (UnsolicitedGrant sid) is first never le lt = absurd (no-spot _ is le lt)
+    stands-at-gap before offset slots (UnsolicitedGrant sid size) is first never le lt = absurd (no-spot _ is le lt)
     stands-at-gap before offset slots (Offer place usage) is first never le lt =
         let zeroth : place ≡ 0 =
         omega (arith, is.first 0 o (may-first before offset never le (omega (arith, is.may.fits)))) in (
@@ -184,7 +184,7 @@ module _ (c : Config) (d : Demand) where
         member-at (λ (t : Spot). Contains plan (allocation_of t)) d.spots s is.due there in
         elim (disjoint [] plan is.each a (allocation_of s) has due) [
           | inl same ↦ absurd (none-some
-              (sym (spot-no-place s.poll s.sid s.offset s.slots)
+              (sym (spot-no-place s.size s.sid s.offset s.slots)
               ∙ sym (ap (λ (b : Allocation). place_of b.purpose) same) ∙ at))
           | inr past ↦ past
         ]
@@ -197,7 +197,7 @@ module _ (c : Config) (d : Demand) where
         IsOfClass c d before offset slots purpose → place_of purpose ≡ Some place → slice_get d.waiting place ≡ Some o →
         (o.slots ≡ slots) × (slots ≤ room_at c d.spots offset)
     offer-fits before offset slots place (Poll sid) o stands at waits = absurd (cc)
-    offer-fits before offset slots place (UnsolicitedGrant sid) o stands at waits = absurd (cc)
+    offer-fits before offset slots place (UnsolicitedGrant sid size) o stands at waits = absurd (cc)
     offer-fits before offset slots place (DataGrant sid bytes) o stands at waits = absurd (cc)
     offer-fits before offset slots place Idle o stands at waits = absurd (cc)
     offer-fits before offset slots place (Offer other usage) o stands at waits =

@@ -113,7 +113,7 @@ started-if false g later le = tt
 started-purpose : (start later sid offset slots : ℕ) (purpose : Purpose) → start + offset ≤ later →
     AllByRecursion (λ g. g.start ≤ later) (grants_to start sid (allocation offset slots purpose ∷ []))
 started-purpose start later sid offset slots (Poll other) le = tt
-started-purpose start later sid offset slots (UnsolicitedGrant other) le = tt
+started-purpose start later sid offset slots (UnsolicitedGrant other size) le = tt
 started-purpose start later sid offset slots (Offer place usage) le = tt
 started-purpose start later sid offset slots (DataGrant other bytes) le =
     rw (grants_to-one start other sid offset slots bytes)

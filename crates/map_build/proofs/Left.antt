@@ -71,7 +71,7 @@ module _ (c : Config) (d : Demand) (left : List Spot) (before : List Allocation)
   purpose-whole : (slots : ℕ) (purpose : Purpose) → IsOfClass c (with_spots left d) before offset slots purpose
       → IsOfClass c d before offset slots purpose
   purpose-whole slots (Poll sid) stands = are.some _ stands
-  purpose-whole slots (UnsolicitedGrant sid) stands = are.some _ stands
+  purpose-whole slots (UnsolicitedGrant sid size) stands = are.some _ stands
   purpose-whole slots (Offer place usage) stands = rw (are.stops offset (omega arith)) stands
   purpose-whole slots (DataGrant sid bytes) stands = rw (are.stops offset (omega arith)) stands
   purpose-whole slots Idle stands = rw (are.stops offset (omega arith)) stands

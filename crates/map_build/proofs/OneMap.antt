@@ -1,5 +1,5 @@
 -- The lawful MAP for what a frame has to serve is one: by class, and in each class there is one.
-use Rattle.std.proofs.Common.{◌≡◌, ℕ, zero, suc, ◌+◌, ◌<◌, ◌≤◌, true, false, ◌&&◌, ◌||◌, List, [], ◌∷◌, ◌++◌}
+use Rattle.std.proofs.Common.{◌≡◌, ℕ, zero, suc, ◌+◌, ◌<◌, ◌≤◌, true, ◌&&◌, ◌||◌, List, [], ◌∷◌, ◌++◌}
 use Rattle.std.proofs.Common.{length, Option, None, Some, refl, sym, ap, subst, ◌∙◌, inl, inr, append_assoc, arith}
 use Rattle.std.specs.Prelude.{nat_lt, nat_le, ◌==◌, min, slice_index_or, Contains}
 use Rattle.std.specs.List.{AllByRecursion, slice_get}
@@ -7,6 +7,7 @@ use Rattle.std.proofs.lemmas.Bool.{le-leb, cond_both}
 use Rattle.std.proofs.lemmas.Bool.Decides.{nat_tests}
 use Rattle.std.proofs.lemmas.List.Sums.{sum_by-append, sum_by-cons}
 use Rattle.minislots.specs.declared.config.Config.{Config}
+use Rattle.minislots.specs.Bursts.{HasBursts}
 use Rattle.minislots.specs.Units.{slots_for}
 use Rattle.sched_calls.specs.FlowSpec.{rank_of as flow_rank}
 use Rattle.flow_book.specs.Flows.{LiveFlow}
@@ -99,7 +100,7 @@ one_class N A apart Left Reserved a b before before' = absurd (apart Reserved b 
 one_class N A apart Left Requested a b before before' = absurd (apart Requested b before.1.1.0)
 one_class N A apart Left Left a b before before' = refl
 
-module _ (c : Config) (d : Demand) (overhead : 0 < c.overhead) (apart : BeginApart d.spots) where
+module _ (c : Config) (d : Demand) (bursts : HasBursts c.bursts) (apart : BeginApart d.spots) where
   -- a spot leaves no room
   spot_has_no_room : (s : Spot) (offset : ℕ) → Contains d.spots s → s.offset ≡ offset → room_at c d.spots offset ≡ 0
   spot_has_no_room s offset has here =
@@ -124,9 +125,9 @@ module _ (c : Config) (d : Demand) (overhead : 0 < c.overhead) (apart : BeginApa
   of_class : (before : List Allocation) (offset slots : ℕ) (purpose : Purpose) →
       IsOfClass c d before offset slots purpose → OfClass before offset slots purpose (class_of purpose)
   of_class before offset slots (Poll sid) is =
-      (record { sid = sid; poll = true; offset = offset; slots = slots }, is, refl, refl, refl)
-  of_class before offset slots (UnsolicitedGrant sid) is =
-      (record { sid = sid; poll = false; offset = offset; slots = slots }, is, refl, refl, refl)
+      (record { sid = sid; size = None; offset = offset; slots = slots }, is, refl, refl, refl)
+  of_class before offset slots (UnsolicitedGrant sid size) is =
+      (record { sid = sid; size = Some size; offset = offset; slots = slots }, is, refl, refl, refl)
   of_class before offset slots (Offer place usage) is = (place, record { usage = usage; slots = slots }, is, refl, refl)
   of_class before offset slots (DataGrant sid bytes) is = (sid, bytes, is, refl)
   of_class before offset slots Idle is = (is, refl)

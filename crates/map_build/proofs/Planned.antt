@@ -1,10 +1,11 @@
 -- The MAP of a draft that is filled and ended is lawful, and a lawful MAP is well formed.
-use Rattle.std.proofs.Common.{◌≡◌, ℕ, ◌<◌, ◌≤◌, List, [], ◌∷◌, map, filter, length, nat_lt, Contains, Bool, refl, sym}
+use Rattle.std.proofs.Common.{◌≡◌, ℕ, ◌≤◌, List, [], ◌∷◌, map, filter, length, nat_lt, Contains, Bool, refl, sym}
 use Rattle.std.proofs.Common.{ap, subst, ◌∙◌, arith}
 use Rattle.std.specs.List.{AllByRecursion}
 use Rattle.std.proofs.lemmas.List.{length-append, length-map}
 use Rattle.std.proofs.lemmas.List.Sums.{length-filter, count_by-le-length}
 use Rattle.minislots.specs.declared.config.Config.{Config}
+use Rattle.minislots.specs.Bursts.{HasBursts}
 use Rattle.minislots.specs.Config.{IsLawful, HasBounds}
 use Rattle.minislots.proofs.Bounds.{bounds_of}
 use Rattle.map_codec.specs.WireMap.{IsWellFormed, FitsHeader}
@@ -126,11 +127,11 @@ few-pending c flows =
     )
 
 -- the elements of a lawful plan are few
-pub few-elements : (c : Config) (d : Demand) (plan : List Allocation) → 0 < c.overhead → length d.spots ≤ 40 →
+pub few-elements : (c : Config) (d : Demand) (plan : List Allocation) → HasBursts c.bursts → length d.spots ≤ 40 →
     length d.flows ≤ 64 → length d.waiting ≤ 16 → IsPlan c d plan → length (elements_of c d.flows d.start plan) ≤ 240
-few-elements c d plan overhead places live few is = omega (
+few-elements c d plan bursts places live few is = omega (
   arith,
-  length-plan c d overhead plan few is.each,
+  length-plan c d bursts plan few is.each,
   length-append (map (element_of c) plan) (null_element c ∷ pending c (flows_after d.start plan d.flows)),
   length-map plan (element_of c),
   few-pending c (flows_after d.start plan d.flows),
@@ -149,7 +150,7 @@ lawful-encodable c d header ack m lawful are few (plan, is, made) fits channel p
     (spot-sids-short d.spots places) stations is.each is.whole) in
     record {
       fits = fits;
-      count = rw elements (few-elements c d plan bounds.overhead_positive are.few channel.few few is);
+      count = rw elements (few-elements c d plan bounds.bursts are.few channel.few few is);
       in_range = good.in_range;
       one_null = good.one_null;
       ascends = good.ascends;

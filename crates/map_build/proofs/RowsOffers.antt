@@ -11,7 +11,7 @@ use Rattle.map_build.specs.declared.purpose.Purpose.TheVariants.{Poll, Offer, Da
 use Rattle.sched_calls.specs.Header.{header_of}
 use Rattle.map_build.specs.Plan.{demand_at, IsMetIn, NoneToMeet}
 use Rattle.map_build.specs.FrameMap.{IsLawfulMap}
-use Rattle.sched_calls.proofs.Base.{base}
+use Rattle.sched_calls.proofs.Base.{base, the_base_has_bursts}
 use Rattle.map_build.proofs.Apart.{BeginApart-nil}
 use Rattle.map_build.proofs.FlowsAfter.{allocation}
 use Rattle.map_build.proofs.Offers.{met-only}
@@ -276,6 +276,6 @@ data_first = base_map 840 800
 pub a_map_with_data_before_an_opportunity_is_not_lawful : IsLawfulMap base
     (demand_at (small ∷ []) [] (initial 8 ∷ []) 840) (header_of base) 800 data_first → ⊥
 a_map_with_data_before_an_opportunity_is_not_lawful lawful =
-    let e = one_map base (demand_at (small ∷ []) [] (initial 8 ∷ []) 840) (lit< tt) BeginApart-nil (header_of base) 800
+    let e = one_map base (demand_at (small ∷ []) [] (initial 8 ∷ []) 840) the_base_has_bursts BeginApart-nil (header_of base) 800
     data_first offer_first lawful an_opportunity_goes_before_data in
     omega (arith, ap (λ m. (element_at m.wire.elements 1).sid) e)

@@ -1,5 +1,5 @@
 -- A worked example of a lawful MAP with a poll.
-use Rattle.std.proofs.Common.{◌≡◌, true, List, [], ◌∷◌, map, refl, inr, lit<, arith}
+use Rattle.std.proofs.Common.{◌≡◌, None, List, [], ◌∷◌, map, refl, inr, lit<, arith}
 use Rattle.map_codec.specs.Element.{word_of}
 use Rattle.sched_calls.specs.declared.spec.FlowSpec.TheVariants.{Polled}
 use Rattle.flow_book.specs.Flows.{LiveFlow}
@@ -21,7 +21,7 @@ polled = record { sid = 9; spec = Polled 5000 0 0 0; asked = 0; grants = [] }
 
 -- its poll, two minislots behind the request region
 abbrev pub its_poll : Spot
-its_poll = record { sid = 9; poll = true; offset = 4; slots = 2 }
+its_poll = record { sid = 9; size = None; offset = 4; slots = 2 }
 
 -- a frame with the poll
 abbrev pub poll_and_idle : List Allocation

@@ -1,7 +1,7 @@
 -- Worked examples of MAPs that are not lawful.
-use Rattle.std.proofs.Common.{[], ◌∷◌, length, ap, lit<, arith}
+use Rattle.std.proofs.Common.{[], ◌∷◌, length, ap, arith}
 use Rattle.map_codec.specs.Element.{element_at}
-use Rattle.sched_calls.proofs.Base.{base}
+use Rattle.sched_calls.proofs.Base.{base, the_base_has_bursts}
 use Rattle.flow_book.proofs.RowsChoice.{low, high, lower_sid, higher_sid}
 use Rattle.sched_calls.specs.declared.frame_map.FrameMap.{FrameMap}
 use Rattle.sched_calls.specs.Header.{header_of}
@@ -25,7 +25,7 @@ pub a_map_without_a_pending_grant_is_not_lawful : IsLawfulMap base
     (demand_at (lower_sid ∷ higher_sid ∷ []) [] [] 840) (header_of base)
     800 one_pending → ⊥
 a_map_without_a_pending_grant_is_not_lawful lawful =
-    let e = one_map base (demand_at (lower_sid ∷ higher_sid ∷ []) [] [] 840) (lit< tt) BeginApart-nil
+    let e = one_map base (demand_at (lower_sid ∷ higher_sid ∷ []) [] [] 840) the_base_has_bursts BeginApart-nil
     (header_of base) 800 one_pending both_pending
     lawful two_flows_take_turns in
     omega (arith, ap (λ m. length m.wire.elements) e)
@@ -41,7 +41,7 @@ pub a_map_that_serves_the_lower_priority_first_is_not_lawful : IsLawfulMap base
     800 low_first →
     ⊥
 a_map_that_serves_the_lower_priority_first_is_not_lawful lawful =
-    let e = one_map base (demand_at (low ∷ high ∷ []) [] [] 840) (lit< tt) BeginApart-nil
+    let e = one_map base (demand_at (low ∷ high ∷ []) [] [] 840) the_base_has_bursts BeginApart-nil
     (header_of base) 800 low_first high_first lawful
     the_higher_priority_is_served_first in
     omega (arith, ap (λ m. (element_at m.wire.elements 1).sid) e)
@@ -56,7 +56,7 @@ pub a_map_that_idles_while_a_flow_is_eligible_is_not_lawful : IsLawfulMap base
     (demand_at (small ∷ []) [] [] 840) (header_of base)
     800 idle_first → ⊥
 a_map_that_idles_while_a_flow_is_eligible_is_not_lawful lawful =
-    let e = one_map base (demand_at (small ∷ []) [] [] 840) (lit< tt) BeginApart-nil
+    let e = one_map base (demand_at (small ∷ []) [] [] 840) the_base_has_bursts BeginApart-nil
     (header_of base) 800 idle_first second_map lawful
     a_frame_with_one_grant in
     omega (arith, ap (λ m. (element_at m.wire.elements 1).sid) e)
@@ -70,7 +70,7 @@ pub a_map_without_a_poll_is_not_lawful : IsLawfulMap base
     (demand_at (polled ∷ []) (its_poll ∷ []) [] 800) (header_of base)
     800 without_poll → ⊥
 a_map_without_a_poll_is_not_lawful lawful =
-    let e = one_map base (demand_at (polled ∷ []) (its_poll ∷ []) [] 800) (lit< tt) (BeginApart-one its_poll)
+    let e = one_map base (demand_at (polled ∷ []) (its_poll ∷ []) [] 800) the_base_has_bursts (BeginApart-one its_poll)
     (header_of base) 800 without_poll
     poll_map lawful a_frame_with_a_poll in
     omega (arith, ap (λ m. length m.wire.elements) e)

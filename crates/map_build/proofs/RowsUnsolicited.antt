@@ -30,7 +30,7 @@ their_spots = voice_at 5 4 ∷ voice_at 6 19 ∷ []
 
 -- the frame with both grants, and the rest idle
 abbrev two_grants : List Allocation
-two_grants = allocation 4 15 (UnsolicitedGrant 5) ∷ allocation 19 15 (UnsolicitedGrant 6) ∷ allocation 34 6 Idle ∷ []
+two_grants = allocation 4 15 (UnsolicitedGrant 5 200) ∷ allocation 19 15 (UnsolicitedGrant 6 200) ∷ allocation 34 6 Idle ∷ []
 
 -- the MAP of the frame
 abbrev pub unsolicited_map : FrameMap
@@ -92,7 +92,7 @@ pub a_frame_with_two_grants_of_a_flow : IsLawfulMap base
     (demand_at double_voices (voice_at 5 4 ∷ voice_at 5 19 ∷ []) [] 800) (header_of base)
     800 double_map
 a_frame_with_two_grants_of_a_flow = (
-  allocation 4 15 (UnsolicitedGrant 5) ∷ allocation 19 15 (UnsolicitedGrant 5) ∷ allocation 34 6 Idle ∷ [],
+  allocation 4 15 (UnsolicitedGrant 5 200) ∷ allocation 19 15 (UnsolicitedGrant 5 200) ∷ allocation 34 6 Idle ∷ [],
   record {
     each = (
       record { some_slots = lit< tt; follows = refl; purpose = (0, lit< tt, refl); first = tt },

@@ -58,7 +58,7 @@ module _ (c : Config) (d : Demand) (others : List Spot) (there : AreAmong d.spot
   same-purpose : (before : List Allocation) (offset slots : ℕ) (purpose : Purpose) →
       IsOfClass c d before offset slots purpose → IsOfClass c (with_spots others d) before offset slots purpose
   same-purpose before offset slots (Poll sid) is = there _ is
-  same-purpose before offset slots (UnsolicitedGrant sid) is = there _ is
+  same-purpose before offset slots (UnsolicitedGrant sid size) is = there _ is
   same-purpose before offset slots (Offer place usage) is =
       subst (λ r. IsFirstToMeet d.waiting before r place (record { usage = usage; slots = slots }))
       (same-room offset) is

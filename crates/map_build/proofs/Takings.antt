@@ -35,17 +35,17 @@ Knows-nothing a d grants none nowhere = record {
   start = refl;
 }
 
-spot-known : (poll : Bool) (sid offset slots : ℕ) (d : Draft) →
-    Knows (allocation_of (record { sid = sid; poll = poll; offset = offset; slots = slots })) d d
-spot-known true sid offset slots d =
+spot-known : (size : Option ℕ) (sid offset slots : ℕ) (d : Draft) →
+    Knows (allocation_of (record { sid = sid; size = size; offset = offset; slots = slots })) d d
+spot-known None sid offset slots d =
     Knows-nothing (record { offset = offset; slots = slots; purpose = Poll sid }) d refl (λ other. refl) refl
-spot-known false sid offset slots d =
-    Knows-nothing (record { offset = offset; slots = slots; purpose = UnsolicitedGrant sid }) d refl (λ other. refl)
+spot-known (Some size) sid offset slots d =
+    Knows-nothing (record { offset = offset; slots = slots; purpose = UnsolicitedGrant sid size }) d refl (λ other. refl)
     refl
 
 -- so it is of a spot
 pub Knows-spot : (s : Spot) (d : Draft) → Knows (allocation_of s) d d
-Knows-spot s d = spot-known s.poll s.sid s.offset s.slots d
+Knows-spot s d = spot-known s.size s.sid s.offset s.slots d
 
 -- and of an idle
 pub Knows-idle : (offset slots : ℕ) (d : Draft) →

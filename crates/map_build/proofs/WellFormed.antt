@@ -1,6 +1,6 @@
 -- The MAP of a plan is well formed: its elements are in range, ascend, and have one Null.
 use Rattle.std.proofs.Common.{◌≡◌, ℕ, zero, suc, ◌^◌, ◌<◌, ◌≤◌, Bool, true, false, nat_lt, List, [], ◌∷◌, ◌++◌, map}
-use Rattle.std.proofs.Common.{filter, length, nat_le, if◌then◌else◌, ◌==◌, Some, refl, subst, ◌∙◌, arith, append_assoc}
+use Rattle.std.proofs.Common.{filter, length, if◌then◌else◌, ◌==◌, Some, refl, subst, ◌∙◌, arith, append_assoc}
 use Rattle.map_codec.specs.declared.element.iuc.TheConstants.{SHORT_DATA_GRANT, LONG_DATA_GRANT}
 use Rattle.map_codec.specs.declared.element.iuc.TheConstants.{ADVANCED_SHORT_DATA_GRANT, ADVANCED_LONG_DATA_GRANT}
 use Rattle.map_codec.specs.declared.element.iuc.TheConstants.{ADVANCED_UNSOLICITED_GRANT}
@@ -9,6 +9,7 @@ use Rattle.std.proofs.lemmas.List.{append-nil}
 use Rattle.std.proofs.lemmas.List.Sums.{sum_by-cons, sum_by_push, sum_by-append}
 use Rattle.std.proofs.lemmas.List.Elements.{All-contains, All-from_recursion}
 use Rattle.minislots.specs.declared.config.Config.{Config}
+use Rattle.minislots.specs.Units.{is_short}
 use Rattle.map_codec.specs.declared.element.Element.{Element}
 use Rattle.map_codec.specs.Element.{IsInRange, is_null, nulls, element_at, Ascends}
 use Rattle.flow_book.specs.Flows.{LiveFlow, outstanding}
@@ -60,19 +61,19 @@ long_iuc-allocates c =
     either (c.phy == 1) ADVANCED_LONG_DATA_GRANT LONG_DATA_GRANT (omega arith, refl) (omega arith, refl)
 
 -- so that of a data grant is
-data_iuc-allocates : (c : Config) (slots : ℕ) → Allocates (data_iuc c slots)
-data_iuc-allocates c slots =
-    either (nat_le slots c.short_max) (short_iuc c) (long_iuc c) (short_iuc-allocates c) (long_iuc-allocates c)
+data_iuc-allocates : (c : Config) (bytes : ℕ) → Allocates (data_iuc c bytes)
+data_iuc-allocates c bytes =
+    either (is_short c bytes) (short_iuc c) (long_iuc c) (short_iuc-allocates c) (long_iuc-allocates c)
 
 -- as those of all allocations are
-kind_of-iuc : (c : Config) (slots : ℕ) (purpose : Purpose) → Allocates (kind_of c slots purpose).iuc
-kind_of-iuc c slots (Poll sid) = (omega arith, refl)
-kind_of-iuc c slots (Offer place Initial) = (omega arith, refl)
-kind_of-iuc c slots (Offer place (Station sid)) = (omega arith, refl)
-kind_of-iuc c slots (UnsolicitedGrant sid) =
-    either (c.phy == 1) ADVANCED_UNSOLICITED_GRANT (data_iuc c slots) (omega arith, refl) (data_iuc-allocates c slots)
-kind_of-iuc c slots (DataGrant sid bytes) = data_iuc-allocates c slots
-kind_of-iuc c slots Idle = long_iuc-allocates c
+kind_of-iuc : (c : Config) (purpose : Purpose) → Allocates (kind_of c purpose).iuc
+kind_of-iuc c (Poll sid) = (omega arith, refl)
+kind_of-iuc c (Offer place Initial) = (omega arith, refl)
+kind_of-iuc c (Offer place (Station sid)) = (omega arith, refl)
+kind_of-iuc c (UnsolicitedGrant sid size) =
+    either (c.phy == 1) ADVANCED_UNSOLICITED_GRANT (data_iuc c size) (omega arith, refl) (data_iuc-allocates c size)
+kind_of-iuc c (DataGrant sid bytes) = data_iuc-allocates c bytes
+kind_of-iuc c Idle = long_iuc-allocates c
 
 -- no allocation's element is a Null
 nulls-plan : (c : Config) (plan : List Allocation) (rest : List Element) → nulls (map (element_of c) plan ++ rest)
@@ -80,7 +81,7 @@ nulls-plan : (c : Config) (plan : List Allocation) (rest : List Element) → nul
 nulls-plan c [] rest = refl
 nulls-plan c (a ∷ plan) rest =
     sum_by-cons _ (element_of c a) (map (element_of c) plan ++ rest)
-    ∙ (rw (kind_of-iuc c a.slots a.purpose).1
+    ∙ (rw (kind_of-iuc c a.purpose).1
     (omega (arith, nulls-plan c plan rest)))
 
 -- where the offsets of what comes behind the plan do not descend, those of the whole do not
@@ -130,12 +131,12 @@ module _ (c : Config) (d : Demand) (sids : HaveSids d.flows) (places : HaveSpotS
     (stations : HaveStationSids d.waiting) where
   -- the SID of an allocation's element is in range
   kind_of-sid : (before : List Allocation) (offset slots : ℕ) (purpose : Purpose) →
-      IsOfClass c d before offset slots purpose → (kind_of c slots purpose).sid < 2 ^ 14
+      IsOfClass c d before offset slots purpose → (kind_of c purpose).sid < 2 ^ 14
   kind_of-sid before offset slots (Offer place usage) stands =
       sid_for-short usage (waiting-sid d.waiting place _ stations stands.may.waits)
   kind_of-sid before offset slots (Poll sid) stands =
       All-contains (λ (s : Spot). s.sid < 2 ^ 14) d.spots _ (All-from_recursion _ d.spots places) stands
-  kind_of-sid before offset slots (UnsolicitedGrant sid) stands =
+  kind_of-sid before offset slots (UnsolicitedGrant sid size) stands =
       All-contains (λ (s : Spot). s.sid < 2 ^ 14) d.spots _ (All-from_recursion _ d.spots places) stands
   kind_of-sid before offset slots (DataGrant sid bytes) stands =
       rw (← stands.2)
@@ -151,7 +152,7 @@ module _ (c : Config) (d : Demand) (sids : HaveSids d.flows) (places : HaveSpotS
   in_range-plan before (a ∷ plan) rest each within ranges = (
     record {
       sid = kind_of-sid before a.offset a.slots a.purpose each.0.purpose;
-      iuc = (kind_of-iuc c a.slots a.purpose).0;
+      iuc = (kind_of-iuc c a.purpose).0;
       offset = omega (
         arith,
         each.0.follows,

@@ -18,8 +18,8 @@ pub record Puts (sid iuc slots bytes : ℕ) (old new : Draft) : Type 0 where
 
 -- a draft with the element and the bytes of an allocation more, at its offset
 abbrev pub PutsAllocation : Allocation → Draft → Draft → Type 0
-PutsAllocation a old new = Puts (kind_of old.book.config a.slots a.purpose).sid
-    (kind_of old.book.config a.slots a.purpose).iuc a.slots (kind_of old.book.config a.slots a.purpose).bytes old new
+PutsAllocation a old new = Puts (kind_of old.book.config a.purpose).sid
+    (kind_of old.book.config a.purpose).iuc a.slots (kind_of old.book.config a.purpose).bytes old new
 
 -- a draft with a pending grant more for each of these flows that has bytes outstanding
 pub record PutsPending (flows : List LiveFlow) (old new : Draft) : Type 0 where

@@ -1,7 +1,7 @@
 -- How a frame is filled behind its request region: polls and unsolicited grants at their places, and in between
 -- opportunities that were reserved, data grants to the flow that is next, or an idle.
-use Rattle.std.specs.Prelude.{◌≡◌, ℕ, ◌+◌, ◌-◌, ◌<◌, ◌≤◌, min, Bool, true, false, nat_le, ◌⊎◌, List, [], ◌∷◌}
-use Rattle.std.specs.Prelude.{◌++◌, map, length, sum_by, count_by, filter_map, Contains, Some, if◌then◌else◌}
+use Rattle.std.specs.Prelude.{◌≡◌, ℕ, ◌+◌, ◌-◌, ◌<◌, ◌≤◌, min, nat_le, ◌⊎◌, List, [], ◌∷◌}
+use Rattle.std.specs.Prelude.{◌++◌, map, length, sum_by, count_by, filter_map, Contains, Option, None, Some, if◌then◌else◌}
 use Rattle.std.specs.List.{AllByRecursion, slice_get}
 use Rattle.minislots.specs.declared.config.Config.{Config}
 use Rattle.minislots.specs.Units.{slots_for}
@@ -66,8 +66,8 @@ abbrev pub room_at : Config → List Spot → ℕ → ℕ
 room_at c spots offset = next_stop c spots offset - offset
 
 -- What the frame has of a flow is among the spots of the frame
-abbrev pub IsSpot : List Spot → ℕ → Bool → ℕ → ℕ → Type 0
-IsSpot spots sid poll offset slots = Contains spots (record { sid = sid; poll = poll; offset = offset; slots = slots })
+abbrev pub IsSpot : List Spot → ℕ → Option ℕ → ℕ → ℕ → Type 0
+IsSpot spots sid size offset slots = Contains spots (record { sid = sid; size = size; offset = offset; slots = slots })
 
 -- one of these allocations is the opportunity at this place
 abbrev pub IsMetIn : List Allocation → ℕ → Type 0
@@ -101,8 +101,9 @@ NoneOf c d before offset Left = ⊥
 
 -- an allocation of so many minislots for this purpose is the one of its class here, where these stand before
 abbrev pub IsOfClass : Config → Demand → List Allocation → ℕ → ℕ → Purpose → Type 0
-IsOfClass c d before offset slots (Poll sid) = IsSpot d.spots sid true offset slots
-IsOfClass c d before offset slots (UnsolicitedGrant sid) = IsSpot d.spots sid false offset slots
+IsOfClass c d before offset slots (Poll sid) = IsSpot d.spots sid None offset slots
+IsOfClass c d before offset slots (UnsolicitedGrant sid size) =
+    IsSpot d.spots sid (Some size) offset slots
 IsOfClass c d before offset slots (Offer place usage) =
     IsFirstToMeet d.waiting before (room_at c d.spots offset) place (record { usage = usage; slots = slots })
 IsOfClass c d before offset slots (DataGrant sid bytes) = (grants_in before < most_grants d.waiting)

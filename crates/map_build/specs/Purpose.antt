@@ -1,6 +1,7 @@
 -- The kinds of allocations: what each is on the wire, and its class. A kind more is one line in each of these tables.
-use Rattle.std.specs.Prelude.{ℕ, ◌+◌, Bool, true, false, ◌==◌, List, [], ◌∷◌, Option, None, Some, if◌then◌else◌}
+use Rattle.std.specs.Prelude.{◌≡◌, ℕ, ◌+◌, Bool, true, false, ◌==◌, List, [], ◌∷◌, Option, None, Some, if◌then◌else◌}
 use Rattle.minislots.specs.declared.config.Config.{Config}
+use Rattle.minislots.specs.Units.{slots_for}
 use Rattle.map_codec.specs.declared.element.Element.{Element}
 use Rattle.map_codec.specs.declared.element.iuc.TheConstants.{REQUEST, INITIAL_MAINTENANCE, STATION_MAINTENANCE}
 use Rattle.flow_book.specs.declared.flow.Grant.{Grant}
@@ -27,13 +28,13 @@ abbrev pub iuc_for : Usage → ℕ
 iuc_for Initial = INITIAL_MAINTENANCE
 iuc_for (Station sid) = STATION_MAINTENANCE
 
--- what the element of so many minislots says, and the bytes that are told beside it: those of a data grant, else 0
-abbrev pub kind_of : Config → ℕ → Purpose → Kind
-kind_of c slots (Poll sid) = record { sid = sid; iuc = REQUEST; bytes = 0 }
-kind_of c slots (UnsolicitedGrant sid) = record { sid = sid; iuc = unsolicited_iuc c slots; bytes = 0 }
-kind_of c slots (Offer place usage) = record { sid = sid_for usage; iuc = iuc_for usage; bytes = 0 }
-kind_of c slots (DataGrant sid bytes) = record { sid = sid; iuc = data_iuc c slots; bytes = bytes }
-kind_of c slots Idle = record { sid = 0; iuc = long_iuc c; bytes = 0 }
+-- what the element says, and the bytes that are told beside it: those of a data grant, else 0
+abbrev pub kind_of : Config → Purpose → Kind
+kind_of c (Poll sid) = record { sid = sid; iuc = REQUEST; bytes = 0 }
+kind_of c (UnsolicitedGrant sid size) = record { sid = sid; iuc = unsolicited_iuc c size; bytes = 0 }
+kind_of c (Offer place usage) = record { sid = sid_for usage; iuc = iuc_for usage; bytes = 0 }
+kind_of c (DataGrant sid bytes) = record { sid = sid; iuc = data_iuc c bytes; bytes = bytes }
+kind_of c Idle = record { sid = 0; iuc = long_iuc c; bytes = 0 }
 
 -- the classes of allocations, in the order of who goes first where several could stand at an offset
 pub data Class : Type 0 where
@@ -49,7 +50,7 @@ pub data Class : Type 0 where
 -- the class of each kind
 abbrev pub class_of : Purpose → Class
 class_of (Poll sid) = Placed
-class_of (UnsolicitedGrant sid) = Placed
+class_of (UnsolicitedGrant sid size) = Placed
 class_of (Offer place usage) = Reserved
 class_of (DataGrant sid bytes) = Requested
 class_of Idle = Left
@@ -77,22 +78,28 @@ grant_to start sid (DataGrant other bytes) offset =
     if other == sid then Some (record { start = start + offset; bytes = bytes }) else None
 grant_to start sid purpose offset = None
 
--- what a spot is for
+-- what a flow's place is for: an unsolicited grant of so many bytes, or a poll
+abbrev pub purpose_of : ℕ → Option ℕ → Purpose
+purpose_of sid None = Poll sid
+purpose_of sid (Some size) = UnsolicitedGrant sid size
+
+-- the allocation of a spot
 abbrev pub allocation_of : Spot → Allocation
-allocation_of s = record {
-  offset = s.offset;
-  slots = s.slots;
-  purpose = if s.poll then Poll s.sid else UnsolicitedGrant s.sid;
-}
+allocation_of s = record { offset = s.offset; slots = s.slots; purpose = purpose_of s.sid s.size }
 
 -- the element of an allocation
 abbrev pub element_of : Config → Allocation → Element
 element_of c a = record {
-  sid = (kind_of c a.slots a.purpose).sid;
-  iuc = (kind_of c a.slots a.purpose).iuc;
+  sid = (kind_of c a.purpose).sid;
+  iuc = (kind_of c a.purpose).iuc;
   offset = a.offset;
 }
 
 -- its bytes
 abbrev pub bytes_in : Config → Allocation → ℕ
-bytes_in c a = (kind_of c a.slots a.purpose).bytes
+bytes_in c a = (kind_of c a.purpose).bytes
+
+-- an allocation of so many minislots has, where it is a data grant, those that its bytes take
+abbrev pub HasLength : Config → ℕ → Purpose → Type 0
+HasLength c slots (DataGrant sid bytes) = slots ≡ slots_for c bytes
+HasLength c slots purpose = Unit {0}

@@ -1,6 +1,7 @@
 -- The usage codes of grants, by the channel's physical layer.
-use Rattle.std.specs.Prelude.{ℕ, nat_le, ◌==◌, if◌then◌else◌}
+use Rattle.std.specs.Prelude.{ℕ, ◌==◌, if◌then◌else◌}
 use Rattle.minislots.specs.declared.config.Config.{Config}
+use Rattle.minislots.specs.Units.{is_short}
 use Rattle.map_codec.specs.declared.element.iuc.TheConstants.{SHORT_DATA_GRANT, LONG_DATA_GRANT}
 use Rattle.map_codec.specs.declared.element.iuc.TheConstants.{ADVANCED_SHORT_DATA_GRANT, ADVANCED_LONG_DATA_GRANT}
 use Rattle.map_codec.specs.declared.element.iuc.TheConstants.{ADVANCED_UNSOLICITED_GRANT}
@@ -13,10 +14,10 @@ short_iuc c = if c.phy == 1 then ADVANCED_SHORT_DATA_GRANT else SHORT_DATA_GRANT
 abbrev pub long_iuc : Config → ℕ
 long_iuc c = if c.phy == 1 then ADVANCED_LONG_DATA_GRANT else LONG_DATA_GRANT
 
--- the usage code of a data grant of so many minislots
+-- the usage code of a data grant of so many bytes
 abbrev pub data_iuc : Config → ℕ → ℕ
-data_iuc c slots = if nat_le slots c.short_max then short_iuc c else long_iuc c
+data_iuc c bytes = if is_short c bytes then short_iuc c else long_iuc c
 
--- the usage code of an unsolicited grant of so many minislots
+-- the usage code of an unsolicited grant of so many bytes
 abbrev pub unsolicited_iuc : Config → ℕ → ℕ
-unsolicited_iuc c slots = if c.phy == 1 then ADVANCED_UNSOLICITED_GRANT else data_iuc c slots
+unsolicited_iuc c bytes = if c.phy == 1 then ADVANCED_UNSOLICITED_GRANT else data_iuc c bytes

@@ -10,6 +10,7 @@ ghost use Rattle.periodic.specs.declared.placement.Spot.{Spot};
 ghost use Rattle.map_build.specs.declared.TheConstants.{MAX_DATA_GRANTS, MAX_WAITING};
 ghost use Rattle.sched_calls.specs.declared.opportunity.Opportunity.{Opportunity};
 ghost use Rattle.map_build.specs.Plan.{demand_at};
+ghost use Rattle.map_build.specs.Purpose.{HasLength};
 ghost use Rattle.map_build.specs.UsageCodes.{long_iuc};
 ghost use Rattle.map_build.specs.FrameMap.{map_with};
 ghost use Rattle.map_build.specs.Spots.{AreInFrame};
@@ -83,7 +84,8 @@ impl Draft {
 
     /// The element of an allocation more, which begins at the offset that is reached.
     pub(crate) fn put_allocation(&mut self, allocation: Allocation) -> Result<(), AllocError>
-        requires { self.old.offset + allocation.slots < 2 ^ 16 }
+        requires fits { self.old.offset + allocation.slots < 2 ^ 16 }
+        requires length { HasLength self.old.book.config allocation.slots allocation.purpose }
         ensures { OnOk result (PutsAllocation allocation self.old self.new) }
     {
         let Allocation { slots, purpose, .. } = allocation;

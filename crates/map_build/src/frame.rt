@@ -22,7 +22,7 @@ use std::alloc::{AllocError, Global};
 // What stands in an array of spots before one is written.
 const NO_SPOT: Spot = Spot {
     sid: 0,
-    poll: false,
+    size: None,
     offset: 0,
     slots: 0,
 };

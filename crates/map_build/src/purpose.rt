@@ -1,7 +1,7 @@
 //! The kinds of allocations, of which contracts of a MAP speak. What each is on the wire stands here and nowhere else.
 
 ghost use Rattle.std.specs.Prelude.{◌≡◌, ◌<◌, ◌^◌};
-ghost use Rattle.map_build.specs.Purpose.{kind_of};
+ghost use Rattle.map_build.specs.Purpose.{HasLength, kind_of};
 
 use crate::usage_codes::{data_iuc, long_iuc, unsolicited_iuc};
 use map_codec::iuc;
@@ -19,8 +19,8 @@ pub(crate) const NOBODY: u16 = 0;
 pub enum Purpose {
     /// A poll: the polled flow of this SID may request.
     Poll(u16),
-    /// A grant of the unsolicited flow of this SID, at its place in the cycle.
-    UnsolicitedGrant(u16),
+    /// A grant of the unsolicited flow of this SID, at its place in the cycle: the SID, and then the bytes.
+    UnsolicitedGrant(u16, u32),
     /// The waiting opportunity at this place, and whom it is for.
     Offer(usize, Usage),
     /// A grant for what the flow of this SID asked: the SID, and then the bytes.
@@ -52,16 +52,19 @@ pub struct Kind {
 }
 
 impl Purpose {
-    /// The element of so many minislots for this purpose.
+    /// The element for this purpose, of an allocation of so many minislots.
     pub(crate) fn kind(self, config: &Checked, slots: u16) -> Kind
-        ensures { result ≡ kind_of config.now slots self }
+        requires { HasLength config.now slots self }
+        ensures { result ≡ kind_of config.now self }
     {
         let (sid, iuc, bytes) = match self {
             Purpose::Poll(sid) => (sid, iuc::REQUEST, 0),
-            Purpose::UnsolicitedGrant(sid) => (sid, unsolicited_iuc(config, u64::from(slots)), 0),
+            Purpose::UnsolicitedGrant(sid, size) => (sid, unsolicited_iuc(config, size), 0),
             Purpose::Offer(_, Usage::Initial) => (BROADCAST, iuc::INITIAL_MAINTENANCE, 0),
             Purpose::Offer(_, Usage::Station(sid)) => (sid, iuc::STATION_MAINTENANCE, 0),
-            Purpose::DataGrant(sid, bytes) => (sid, data_iuc(config, u64::from(slots)), bytes),
+            Purpose::DataGrant(sid, bytes) => {
+                (sid, data_iuc(config, bytes, slots.into()), bytes)
+            },
             Purpose::Idle => (NOBODY, long_iuc(config), 0),
         };
         Kind { sid, iuc, bytes }

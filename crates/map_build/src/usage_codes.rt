@@ -1,6 +1,7 @@
 //! The usage codes of grants, by the channel's physical layer.
 
 ghost use Rattle.std.specs.Prelude.{◌≡◌, ◌==◌};
+ghost use Rattle.minislots.specs.Units.{slots_for};
 ghost use Rattle.map_build.specs.UsageCodes.{short_iuc, long_iuc, data_iuc, unsolicited_iuc};
 
 use map_codec::iuc;
@@ -35,24 +36,25 @@ pub(crate) fn long_iuc(config: &Checked) -> u8
     }
 }
 
-/// The usage code of a data grant of so many minislots.
-pub(crate) fn data_iuc(config: &Checked, slots: u64) -> u8
-    ensures { result ≡ data_iuc config.now slots }
+/// The usage code of a data grant of so many bytes, which take so many minislots.
+pub(crate) fn data_iuc(config: &Checked, bytes: u32, slots: u64) -> u8
+    requires { slots ≡ slots_for config.now bytes }
+    ensures { result ≡ data_iuc config.now bytes }
 {
-    if slots <= u64::from(config.short_max()) {
+    if config.is_short(bytes, slots) {
         short_iuc(config)
     } else {
         long_iuc(config)
     }
 }
 
-/// The usage code of an unsolicited grant of so many minislots.
-pub(crate) fn unsolicited_iuc(config: &Checked, slots: u64) -> u8
-    ensures { result ≡ unsolicited_iuc config.now slots }
+/// The usage code of an unsolicited grant of so many bytes.
+pub(crate) fn unsolicited_iuc(config: &Checked, bytes: u32) -> u8
+    ensures { result ≡ unsolicited_iuc config.now bytes }
 {
     if is_advanced(config) {
         iuc::ADVANCED_UNSOLICITED_GRANT
     } else {
-        data_iuc(config, slots)
+        data_iuc(config, bytes, config.slots_for(bytes))
     }
 }

@@ -114,10 +114,9 @@ fn allocation_of(spot: Spot) -> Allocation
     Allocation {
         offset: spot.offset,
         slots: spot.slots,
-        purpose: if spot.poll {
-            Purpose::Poll(spot.sid)
-        } else {
-            Purpose::UnsolicitedGrant(spot.sid)
+        purpose: match spot.size {
+            None => Purpose::Poll(spot.sid),
+            Some(size) => Purpose::UnsolicitedGrant(spot.sid, size),
         },
     }
 }

@@ -1,10 +1,12 @@
 //! What the words of the command line ask of a command.
 
+use bursts_command::BurstsForm;
 use clap::ArgMatches;
 use live_command::Wording;
 use pcap_command::ADDRESS;
 use report_command::Form;
 use run_command::{RunOutput, Words};
+use std::alloc::{AllocError, Global};
 
 /// What the command `run` is asked to write, but for whole frames.
 pub(crate) fn output_of(run: &ArgMatches) -> RunOutput {
@@ -43,4 +45,23 @@ pub(crate) fn wording_of(live: &ArgMatches) -> Wording {
         return Wording::Frames(ADDRESS);
     }
     Wording::Plain
+}
+
+/// The form in which the command `bursts` is asked for its numbers.
+pub(crate) fn bursts_form_of(bursts: &ArgMatches) -> BurstsForm {
+    if bursts.get_flag("json") {
+        return BurstsForm::Json;
+    }
+    BurstsForm::Table
+}
+
+/// The bytes of bursts that the command `bursts` is asked for beside the usual ones.
+pub(crate) fn sizes_of(alloc: Global, bursts: &ArgMatches) -> Result<Vec<u32>, AllocError> {
+    let mut sizes = Vec::new(alloc);
+    for word in bursts.get_strs("BYTES").unwrap_or(&[]) {
+        if let Ok(size) = word.parse() {
+            sizes.push(size)?;
+        }
+    }
+    Ok(sizes)
 }

@@ -1,24 +1,19 @@
 //! `mapsched`: the upstream scheduler of one TDMA channel, run on a script, the picture of its frames, the capture of
-//! its MAPs, the table of a MAP, the audit of a history, and the report on one.
+//! its MAPs, the table of a MAP, the audit of a history, the report on one, and what bursts take.
 #![tactic(auto)]
 
 mod asked;
+mod over_input;
 
-use asked::{form_of, output_of, wording_of};
-use audit_command::{JournalEnd, audit_input, audit_journal_input};
-use check_lines::check_any_input;
+use asked::{bursts_form_of, sizes_of, wording_of};
+use bursts_command::bursts_input;
 use clap::ArgMatches;
 use clap::error::ErrorKind;
 use command_line::{done, exit_of, explain, fail, matches_of, refuse, words_of};
 use decode_command::{show_frame, show_text};
-use draw_command::{draw_input, draw_journal_input};
-use journal_entries::EntriesEnd;
 use journal_file::live_journal_input;
 use live_command::live_input;
-use pcap_command::{ADDRESS, address_asked, frames_input, pcap_input, pcap_journal_input};
-use report_command::{report_input, report_journal_input};
-use run_command::run_input;
-use sched_storm::storm_input;
+use over_input::over_input;
 use std::fs::File;
 use std::process::ExitCode;
 use std::rt::{Env, Files};
@@ -38,105 +33,13 @@ fn show(rt: &(impl Print + Env + AllocGlobal), decode: &ArgMatches) -> Result<bo
     show_text(rt, text, is_drawn, columns, decode.get_flag("explain"))
 }
 
-// The command `run`.
+// The command `bursts`.
 #[inline(never)]
-fn run(rt: &(impl Input + Print + Eprint + AllocGlobal), run: &ArgMatches) -> Result<(), RunFault> {
-    if run.get_flag("frames") {
-        return frames_input(rt, &ADDRESS);
-    }
-    run_input(rt, output_of(run))
-}
-
-// The exit code of a command over a journal.
-fn code_of(rt: &impl Eprint, outcome: Result<EntriesEnd, RunFault>) -> ExitCode {
-    match outcome {
-        Ok(end) => ExitCode::from(end.status()),
-        Err(fault) => fail(rt, fault),
-    }
-}
-
-// The command `pcap` on a journal.
-#[inline(never)]
-fn pcap_journal(rt: &(impl Input + Print + Eprint + AllocGlobal), address: &[u8; 6]) -> ExitCode {
-    code_of(rt, pcap_journal_input(rt, address))
-}
-
-// The command `pcap`.
-#[inline(never)]
-fn pcap(rt: &(impl Input + Print + Eprint + AllocGlobal), pcap: &ArgMatches) -> ExitCode {
-    let Some(address) = address_asked(pcap.get_str("mac")) else {
-        let what = "an address is six bytes in hexadecimal, as 02:00:00:00:00:01";
-        return refuse(rt, ErrorKind::ValueValidation, what);
+fn bursts(rt: &(impl Input + Print + AllocGlobal), bursts: &ArgMatches) -> Result<(), RunFault> {
+    let Ok(sizes) = sizes_of(rt.alloc(), bursts) else {
+        return Err(RunFault::Text(TextFault::Memory));
     };
-    if pcap.get_flag("journal") {
-        return pcap_journal(rt, &address);
-    }
-    done(rt, pcap_input(rt, &address))
-}
-
-// The command `audit` on a journal.
-#[inline(never)]
-fn audit_journal(rt: &(impl Input + Print + Eprint + AllocGlobal)) -> ExitCode {
-    match audit_journal_input(rt) {
-        Ok(JournalEnd::Legal(_)) => ExitCode::SUCCESS,
-        Ok(JournalEnd::Illegal) => ExitCode::FAILURE,
-        Ok(JournalEnd::Bad(_)) => ExitCode::from(3u8),
-        Err(fault) => fail(rt, fault),
-    }
-}
-
-// The command `draw` on a journal.
-#[inline(never)]
-fn draw_journal(
-    rt: &(impl Input + Print + Eprint + AllocGlobal),
-    from: u64,
-    count: u64,
-) -> ExitCode {
-    code_of(rt, draw_journal_input(rt, from, count))
-}
-
-// The command `draw`: all frames, or those that are asked for.
-#[inline(never)]
-fn draw(rt: &(impl Input + Print + Eprint + AllocGlobal), draw: &ArgMatches) -> ExitCode {
-    let from = draw.get_one("from").unwrap_or(0);
-    let count = draw.get_one("count").unwrap_or(u64::MAX);
-    if draw.get_flag("journal") {
-        return draw_journal(rt, from, count);
-    }
-    done(rt, draw_input(rt, from, count))
-}
-
-// The command `audit`.
-#[inline(never)]
-fn audit(rt: &(impl Input + Print + Eprint + AllocGlobal), audit: &ArgMatches) -> ExitCode {
-    if audit.get_flag("journal") {
-        return audit_journal(rt);
-    }
-    exit_of(rt, audit_input(rt, audit.get_flag("explain")))
-}
-
-// The command `report`.
-#[inline(never)]
-fn report(rt: &(impl Input + Print + Eprint + AllocGlobal), report: &ArgMatches) -> ExitCode {
-    if report.get_flag("journal") {
-        return code_of(rt, report_journal_input(rt, form_of(report)));
-    }
-    exit_of(rt, report_input(rt, form_of(report)))
-}
-
-// The command `storm`.
-#[inline(never)]
-fn storm(rt: &(impl Input + Print + Eprint + AllocGlobal + Threads + Wait + Sync)) -> ExitCode {
-    exit_of(rt, storm_input(rt))
-}
-
-// The command `check`: ends as the command for such a file would, by what is found.
-#[inline(never)]
-fn check(rt: &(impl Input + Print + Eprint + AllocGlobal)) -> ExitCode {
-    match check_any_input(rt) {
-        Ok(verdict) => ExitCode::from(verdict.status()),
-        Err(fault) => fail(rt, fault),
-    }
+    bursts_input(rt, bursts_form_of(bursts), &sizes)
 }
 
 // The command `live` with a journal.
@@ -181,16 +84,11 @@ where
 {
     match matches.subcommand() {
         Some(("decode", decode)) => exit_of(rt, show(rt, decode)),
-        Some(("draw", words)) => draw(rt, words),
-        Some(("audit", words)) => audit(rt, words),
-        Some(("check", _)) => check(rt),
-        Some(("report", words)) => report(rt, words),
-        Some(("storm", _)) => storm(rt),
-        Some(("pcap", words)) => pcap(rt, words),
         Some(("live", words)) => live(rt, words),
-        Some(("run", words)) => done(rt, run(rt, words)),
+        Some(("bursts", words)) => done(rt, bursts(rt, words), words),
+        Some((name, words)) => over_input(rt, name, words),
         // The command line lets nothing else through.
-        _ => refuse(rt, ErrorKind::InvalidSubcommand, "unrecognized subcommand"),
+        None => refuse(rt, ErrorKind::InvalidSubcommand, "unrecognized subcommand"),
     }
 }
 

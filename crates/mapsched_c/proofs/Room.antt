@@ -51,9 +51,9 @@ module _ (c : Config) (conf : IsLawful c) where
   status_room f false is reply e = rw e (rw is tt)
 
   life_room : (sid : ℕ) (o : Option Life) (reply : Reply)
-      → MatchOption o ⊥ (λ life. reply ≡ flow_status (flow_in_life sid life)) → HasRoom reply
+      → MatchOption o ⊥ (λ life. reply ≡ flow_status (flow_in_life c sid life)) → HasRoom reply
   life_room sid None reply said = absurd said
-  life_room sid (Some life) reply e = status_room (flow_in_life sid life) _ refl reply e
+  life_room sid (Some life) reply e = status_room (flow_in_life c sid life) _ refl reply e
 
   admitted_room : (h : List Entry) (sid : ℕ) (spec : FlowSpec) (reply : Reply) → refusal_of c h (Admit sid spec) ≡ None
       → is_periodic spec ≡ true → PlacesOrRefuses c h spec reply → HasRoom reply
@@ -68,7 +68,7 @@ module _ (c : Config) (conf : IsLawful c) where
       admitted_room h sid (Polled interval jitter rate burst) reply passed refl is
   answer_room h (Admit sid (BestEffort priority rate burst)) reply passed e = rw e tt
   answer_room h (Remove sid) reply passed e = rw e tt
-  answer_room h (Ask receiver sid bytes heard) reply passed e = rw e tt
+  answer_room h (Ask receiver sid amount heard) reply passed e = rw e tt
   answer_room h (Heard receiver upto) reply passed e = rw e tt
   answer_room h (Build now) reply passed (m, is, e) = rw e tt
   answer_room h (Skip now) reply passed (start, is, e) = rw e tt

@@ -1,7 +1,9 @@
 -- A call in plain numbers. An opportunity has its usage where an admission has its kind of flow, and its minislots
--- where an unsolicited flow has its size; a header has its UCD count and the exponents of the windows of ranging where
--- others have a receiver, a priority and grants.
+-- where an unsolicited flow has its size, as a request that asks for minislots has them; a header has its UCD count and
+-- the exponents of the windows of ranging where others have a receiver, a priority and grants.
 use Rattle.std.specs.Prelude.{◌==◌, Option, None, Some, option_map, if◌then◌else◌}
+use Rattle.sched_calls.specs.declared.amount.Amount.{Amount}
+use Rattle.sched_calls.specs.declared.amount.Amount.TheVariants.{Bytes, Slots}
 use Rattle.sched_calls.specs.declared.spec.FlowSpec.{FlowSpec}
 use Rattle.sched_calls.specs.declared.spec.FlowSpec.TheVariants.{Unsolicited, Polled, BestEffort}
 use Rattle.sched_calls.specs.declared.opportunity.Header.{Header}
@@ -27,6 +29,10 @@ flow_of c = if c.flow == UNSOLICITED then Some (Unsolicited c.size c.interval_us
 abbrev pub usage_of : PlainCall → Option Usage
 usage_of c = if c.flow == INITIAL then Some Initial else if c.flow == STATION then Some (Station c.sid) else None
 
+-- how much the request of these numbers asks for: bytes, where the flag of minislots is 0
+abbrev pub amount_of : PlainCall → Amount
+amount_of c = if c.has_slots == 0 then Bytes c.bytes else Slots c.size
+
 -- the header of these numbers
 abbrev pub header_of : PlainCall → Header
 header_of c = record {
@@ -41,7 +47,7 @@ header_of c = record {
 abbrev pub call_of : PlainCall → Option Call
 call_of c = if c.kind == ADMIT then option_map (Admit c.sid) (flow_of c)
     else if c.kind == REMOVE then Some (Remove c.sid)
-    else if c.kind == ASK then Some (Ask c.receiver c.sid c.bytes c.minislot)
+    else if c.kind == ASK then Some (Ask c.receiver c.sid (amount_of c) c.minislot)
     else if c.kind == HEARD then Some (Heard c.receiver c.minislot)
     else if c.kind == BUILD then Some (Build c.minislot)
     else if c.kind == SKIP then Some (Skip c.minislot)
@@ -68,6 +74,7 @@ nothing_called = record {
   grants = 0;
   data_start = 0;
   data_end = 0;
+  has_slots = 0;
 }
 
 -- the numbers of a flow
@@ -97,12 +104,20 @@ plain_flow (BestEffort priority rate burst) = record nothing_called {
 abbrev pub plain_call : Call → PlainCall
 plain_call (Admit sid spec) = record (plain_flow spec) { kind = ADMIT; sid = sid }
 plain_call (Remove sid) = record nothing_called { kind = REMOVE; sid = sid }
-plain_call (Ask receiver sid bytes heard) = record nothing_called {
+plain_call (Ask receiver sid (Bytes bytes) heard) = record nothing_called {
   kind = ASK;
   receiver = receiver;
   sid = sid;
   bytes = bytes;
   minislot = heard;
+}
+plain_call (Ask receiver sid (Slots slots) heard) = record nothing_called {
+  kind = ASK;
+  receiver = receiver;
+  sid = sid;
+  size = slots;
+  minislot = heard;
+  has_slots = 1;
 }
 plain_call (Heard receiver upto) = record nothing_called { kind = HEARD; receiver = receiver; minislot = upto }
 plain_call (Build now) = record nothing_called { kind = BUILD; minislot = now }

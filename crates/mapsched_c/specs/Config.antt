@@ -1,18 +1,24 @@
 -- A configuration in plain numbers, and what an opening answers.
-use Rattle.std.specs.Prelude.{◌≡◌, ℕ, ◌+◌, ◌⊎◌, [], Option, None, Some, MatchOption}
+use Rattle.std.specs.Prelude.{◌≡◌, ℕ, ◌+◌, ◌==◌, ◌⊎◌, [], Option, None, Some, MatchOption, if◌then◌else◌}
+use Rattle.minislots.specs.declared.bursts.Bursts.{Bursts}
+use Rattle.minislots.specs.declared.bursts.Bursts.TheVariants.{Uniform, Described}
 use Rattle.minislots.specs.declared.config.Config.{Config}
 use Rattle.minislots.specs.Config.{first_wrong}
 use Rattle.sched_history.specs.Machine.{Machine}
 use Rattle.text_stream.specs.Fault.{field_number}
 use Rattle.mapsched_c.specs.declared.config.PlainConfig.{PlainConfig}
 use Rattle.mapsched_c.specs.declared.status.TheConstants.{OK, FULL, OUT_OF_MEMORY, BAD_CONFIG}
+use Rattle.mapsched_c.specs.Bursts.{descriptors_of}
+
+-- how many minislots a burst takes by these numbers: what the descriptors say, where there are some
+abbrev pub bursts_of : PlainConfig → Bursts
+bursts_of c = if c.has_bursts == 0 then Uniform c.bytes_per_slot c.overhead else Described (descriptors_of c.bursts)
 
 -- the configuration of these numbers
 abbrev pub config_of : PlainConfig → Config
 config_of c = record {
   ticks = c.ticks;
-  bytes_per_slot = c.bytes_per_slot;
-  overhead = c.overhead;
+  bursts = bursts_of c;
   frame = c.frame;
   cycle = c.cycle;
   req_slots = c.req_slots;

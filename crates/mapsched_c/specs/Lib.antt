@@ -1,4 +1,5 @@
 pub mod Place
+pub mod Bursts
 pub mod Config
 pub mod Call
 pub mod Reply

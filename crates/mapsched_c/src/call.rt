@@ -1,10 +1,11 @@
 //! A call in plain numbers.
 
 ghost use Rattle.std.specs.Prelude.{◌≡◌, Some};
-ghost use Rattle.mapsched_c.specs.Call.{call_of, flow_of, usage_of, header_of, nothing_called, plain_call};
+ghost use Rattle.mapsched_c.specs.Call.{call_of, flow_of, usage_of, amount_of, header_of, nothing_called, plain_call};
 
 use flow_book::FlowSpec;
 use map_build::{Header, Usage};
+use sched_calls::Amount;
 use sched_history::Call;
 
 /// The kinds of calls.
@@ -15,7 +16,7 @@ pub mod kind {
     /// Forgets a flow.
     pub const REMOVE: u32 = 1;
 
-    /// Hands in a request for bytes.
+    /// Hands in a request.
     pub const ASK: u32 = 2;
 
     /// Says that a receiver has handed in all that it heard before a minislot.
@@ -67,7 +68,7 @@ pub struct PlainCall {
     pub kind: u32,
     /// An admission's kind of flow: one of [`flow`]. Whom an opportunity is for: one of [`usage`].
     pub flow: u32,
-    /// An unsolicited flow's bytes in a grant. How many minislots an opportunity has.
+    /// An unsolicited flow's bytes in a grant. How many minislots an opportunity has, or a request asks for.
     pub size: u32,
     /// A periodic flow's nominal interval, in microseconds.
     pub interval_us: u32,
@@ -93,6 +94,8 @@ pub struct PlainCall {
     pub data_start: u8,
     /// A header's exponent of the last window of requests.
     pub data_end: u8,
+    /// Whether a request asks for minislots: 0 where it asks for bytes.
+    pub has_slots: u8,
 }
 
 // A call of which every number is 0.
@@ -112,6 +115,7 @@ const NOTHING: PlainCall = PlainCall {
     grants: 0,
     data_start: 0,
     data_end: 0,
+    has_slots: 0,
 };
 
 impl PlainCall {
@@ -152,15 +156,26 @@ impl PlainCall {
         }
     }
 
-    // The request for bytes of these numbers.
+    // How much the request asks for.
+    fn amount(&self) -> Amount
+        ensures { result ≡ amount_of self.now }
+    {
+        if self.has_slots == 0 {
+            Amount::Bytes(self.bytes)
+        } else {
+            Amount::Slots(self.size)
+        }
+    }
+
+    // The request of these numbers.
     fn ask(&self) -> Call
         ensures { result ≡
-            Call.Ask self.now.receiver self.now.sid self.now.bytes self.now.minislot }
+            Call.Ask self.now.receiver self.now.sid (amount_of self.now) self.now.minislot }
     {
         Call::Ask {
             receiver: self.receiver,
             sid: self.sid,
-            bytes: self.bytes,
+            amount: self.amount(),
             heard: self.minislot,
         }
     }
@@ -301,17 +316,24 @@ impl PlainCall {
         }
     }
 
-    // The numbers of a request for bytes.
-    fn of_ask(receiver: u8, sid: u16, bytes: u32, heard: u64) -> PlainCall
-        ensures { result ≡ plain_call (Call.Ask receiver sid bytes heard) }
+    // The numbers of a request.
+    fn of_ask(receiver: u8, sid: u16, amount: Amount, heard: u64) -> PlainCall
+        ensures { result ≡ plain_call (Call.Ask receiver sid amount heard) }
     {
-        PlainCall {
+        let asked = PlainCall {
             kind: kind::ASK,
             receiver,
             sid,
-            bytes,
             minislot: heard,
             ..NOTHING
+        };
+        match amount {
+            Amount::Bytes(bytes) => PlainCall { bytes, ..asked },
+            Amount::Slots(slots) => PlainCall {
+                size: slots,
+                has_slots: 1,
+                ..asked
+            },
         }
     }
 
@@ -374,9 +396,9 @@ impl PlainCall {
             Call::Ask {
                 receiver,
                 sid,
-                bytes,
+                amount,
                 heard,
-            } => PlainCall::of_ask(receiver, sid, bytes, heard),
+            } => PlainCall::of_ask(receiver, sid, amount, heard),
             Call::Heard { receiver, upto } => PlainCall::of_heard(receiver, upto),
             Call::Build { now } => PlainCall::of_minislot(kind::BUILD, now),
             Call::Skip { now } => PlainCall::of_minislot(kind::SKIP, now),

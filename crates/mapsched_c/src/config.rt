@@ -1,19 +1,21 @@
 //! A configuration in plain numbers.
 
 ghost use Rattle.std.specs.Prelude.{◌≡◌};
-ghost use Rattle.mapsched_c.specs.Config.{config_of};
+ghost use Rattle.mapsched_c.specs.Config.{bursts_of, config_of};
 
-use minislots::Config;
+use crate::bursts::PlainBursts;
+use minislots::{Bursts, Config};
 
-/// The fields of a [`Config`], in an order that leaves no gaps.
+/// The fields of a [`Config`], in an order that leaves no gaps, and behind them what a channel may lack: it lacks what
+/// is 0.
 #[repr(C)]
 #[derive(Clone, Copy)]
 pub struct PlainConfig {
     /// Ticks of 6.25 microseconds in a minislot.
     pub ticks: u32,
-    /// Bytes that a minislot carries.
+    /// Bytes that a minislot carries, where there are no burst descriptors.
     pub bytes_per_slot: u32,
-    /// Minislots of guard time and preamble in each burst.
+    /// Minislots of guard time and preamble in each burst, where there are no burst descriptors.
     pub overhead: u32,
     /// Minislots that one MAP describes.
     pub frame: u32,
@@ -51,17 +53,34 @@ pub struct PlainConfig {
     pub ucd_count: u8,
     /// 0 for a channel of TDMA bursts alone, 1 for one with Advanced PHY bursts.
     pub phy: u8,
+    /// Whether there are burst descriptors: 0 where there are none.
+    pub has_bursts: u32,
+    /// The burst descriptors, where there are some.
+    pub bursts: PlainBursts,
 }
 
 impl PlainConfig {
+    // How many minislots a burst takes by these numbers.
+    fn bursts_of(&self) -> Bursts
+        ensures { result ≡ bursts_of self.now }
+    {
+        if self.has_bursts == 0 {
+            Bursts::Uniform {
+                bytes_per_slot: self.bytes_per_slot,
+                overhead: self.overhead,
+            }
+        } else {
+            Bursts::Described(self.bursts.descriptors())
+        }
+    }
+
     // The configuration of these numbers.
     pub(crate) fn config(&self) -> Config
         ensures { result ≡ config_of self.now }
     {
         Config {
             ticks: self.ticks,
-            bytes_per_slot: self.bytes_per_slot,
-            overhead: self.overhead,
+            bursts: self.bursts_of(),
             frame: self.frame,
             cycle: self.cycle,
             req_slots: self.req_slots,

@@ -1,6 +1,7 @@
 //! The scheduler from C and C++: a static library, whose header is `include/mapsched.h`.
 #![tactic(auto)]
 
+mod bursts;
 mod call;
 mod config;
 mod encode;

@@ -1,16 +1,22 @@
 //! `mapsched` with the commands that are built first, `run`, `decode` and `pcap`: they stand on the scheduler and on
-//! the readers of scripts. The program with all commands answers the same to them.
+//! the readers of scripts. The program with all commands answers the same to them, but that it also knows the kind of
+//! an input that they do not read.
 #![tactic(auto)]
 
 use clap::ArgMatches;
 use clap::error::ErrorKind;
-use command_line::{done, exit_of, explain, fail, matches_of, refuse, words_of};
+use command_line::{
+    CommandInput, done, exit_of, explain, fail, input_of, matches_of, point_to_check, refuse,
+    refuse_file, words_of,
+};
 use decode_command::{show_frame, show_text};
+use journal_entries::EntriesEnd;
 use pcap_command::{ADDRESS, address_asked, frames_input, pcap_input, pcap_journal_input};
 use run_command::{RunOutput, Words, run_input};
+use std::fs::File;
 use std::process::ExitCode;
-use std::rt::Env;
-use text_stream::{RunFault, TextFault};
+use std::rt::{Env, Files};
+use text_stream::{RunFault, Source, TextFault};
 
 // What the command `run` is asked to write, but for whole frames.
 fn output_of(run: &ArgMatches) -> RunOutput {
@@ -27,11 +33,15 @@ fn output_of(run: &ArgMatches) -> RunOutput {
 }
 
 // The command `run`.
-fn run(rt: &(impl Input + Print + Eprint + AllocGlobal), run: &ArgMatches) -> Result<(), RunFault> {
+fn run<R: Source>(
+    rt: &(impl Print + Eprint + AllocGlobal),
+    input: &mut CommandInput<R>,
+    run: &ArgMatches,
+) -> Result<(), RunFault> {
     if run.get_flag("frames") {
-        return frames_input(rt, &ADDRESS);
+        return frames_input(rt, input, &ADDRESS);
     }
-    run_input(rt, output_of(run))
+    run_input(rt, input, output_of(run))
 }
 
 // The command `decode`: whether the text is a payload, or a frame.
@@ -45,27 +55,64 @@ fn decode(rt: &(impl Print + Env + AllocGlobal), decode: &ArgMatches) -> Result<
     show_text(rt, text, is_drawn, columns, decode.get_flag("explain"))
 }
 
+// The command `pcap` on a journal.
+fn pcap_journal<R: Source>(
+    rt: &(impl Print + Eprint + AllocGlobal),
+    input: &mut CommandInput<R>,
+    pcap: &ArgMatches,
+    address: &[u8; 6],
+) -> ExitCode {
+    match pcap_journal_input(rt, input, address) {
+        Ok(end) => {
+            if let EntriesEnd::Bad(_) = end {
+                point_to_check(rt, TextFault::NotJson, pcap);
+            }
+            ExitCode::from(end.status())
+        }
+        Err(fault) => fail(rt, fault),
+    }
+}
+
 // The command `pcap`.
-fn pcap(rt: &(impl Input + Print + Eprint + AllocGlobal), pcap: &ArgMatches) -> ExitCode {
+fn pcap<R: Source>(
+    rt: &(impl Print + Eprint + AllocGlobal),
+    input: &mut CommandInput<R>,
+    pcap: &ArgMatches,
+) -> ExitCode {
     let Some(address) = address_asked(pcap.get_str("mac")) else {
         let what = "an address is six bytes in hexadecimal, as 02:00:00:00:00:01";
         return refuse(rt, ErrorKind::ValueValidation, what);
     };
     if pcap.get_flag("journal") {
-        return match pcap_journal_input(rt, &address) {
-            Ok(end) => ExitCode::from(end.status()),
-            Err(fault) => fail(rt, fault),
-        };
+        return pcap_journal(rt, input, pcap, &address);
     }
-    done(rt, pcap_input(rt, &address))
+    let outcome = pcap_input(rt, input, &address);
+    done(rt, outcome, pcap)
+}
+
+// Does what a command is asked for that reads standard input, or the file that its word names.
+fn over_input<R>(rt: &R, name: &str, words: &ArgMatches) -> ExitCode
+where
+    R: Files<File = File> + Input + Print + Eprint + AllocGlobal,
+{
+    let Ok(mut input) = input_of(rt, words, 0) else {
+        return refuse_file(rt, words);
+    };
+    if name == "pcap" {
+        return pcap(rt, &mut input, words);
+    }
+    let outcome = run(rt, &mut input, words);
+    done(rt, outcome, words)
 }
 
 // Does what the words of the command line ask for.
-fn answer<R: Input + Print + Eprint + Env + AllocGlobal>(rt: &R, matches: &ArgMatches) -> ExitCode {
+fn answer<R>(rt: &R, matches: &ArgMatches) -> ExitCode
+where
+    R: Files<File = File> + Input + Print + Eprint + Env + AllocGlobal,
+{
     match matches.subcommand() {
-        Some(("run", words)) => done(rt, run(rt, words)),
         Some(("decode", words)) => exit_of(rt, decode(rt, words)),
-        Some(("pcap", words)) => pcap(rt, words),
+        Some((name @ ("run" | "pcap"), words)) => over_input(rt, name, words),
         _ => refuse(
             rt,
             ErrorKind::InvalidSubcommand,

@@ -1,4 +1,5 @@
 pub mod Bounds
+pub mod BurstLaws
 pub mod Groups
 pub mod Ranges
 mod Rows

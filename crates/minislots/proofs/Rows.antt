@@ -1,17 +1,19 @@
 -- Worked rows: one configuration and its units, and the first wrong field of others.
-use Rattle.std.proofs.Common.{◌≡◌, refl, Some, None}
+use Rattle.std.proofs.Common.{◌≡◌, refl, true, false, Some, None}
+use Rattle.minislots.specs.declared.bursts.Bursts.TheVariants.{Uniform, Described}
+use Rattle.minislots.specs.declared.bursts.Profile.{Profile}
 use Rattle.minislots.specs.declared.config.Config.{Config}
-use Rattle.minislots.specs.declared.config.ConfigFault.TheVariants.{Ticks, Frame, Lead}
+use Rattle.minislots.specs.declared.config.ConfigFault.TheVariants.{Ticks, Bursts, Frame, Lead}
 use Rattle.minislots.specs.declared.config.ConfigFault.TheVariants.{GrantCap, Start, DataEnd, Phy}
 use Rattle.minislots.specs.Config.{first_wrong, IsLawful}
-use Rattle.minislots.specs.Units.{slots_floor, slots_of_micros, slots_for, bytes_in, wire_of}
+use Rattle.minislots.specs.Bursts.{coded, symbols_of, slots_by, bytes_by}
+use Rattle.minislots.specs.Units.{is_short, slots_floor, slots_of_micros, slots_for, bytes_in, wire_of}
 
 -- minislots of 25 microseconds and 16 bytes, in frames of 40
 abbrev base : Config
 base = record {
   ticks = 4;
-  bytes_per_slot = 16;
-  overhead = 2;
+  bursts = Uniform 16 2;
   frame = 40;
   cycle = 20;
   req_slots = 4;
@@ -35,6 +37,93 @@ base = record {
 base_is_lawful : IsLawful base
 unfolding first_wrong
 base_is_lawful = refl
+
+-- a UCD of minislots of 64 symbols with 64-QAM profiles, whose last codewords are shortened
+abbrev short_qam64 : Profile
+short_qam64 =
+    record { preamble = 32; guard = 22; bits = 6; parity = 6; information = 76; shortened = 1 }
+
+abbrev long_qam64 : Profile
+long_qam64 =
+    record { preamble = 32; guard = 22; bits = 6; parity = 9; information = 232; shortened = 1 }
+
+abbrev described : Config
+described = record base {
+  ticks = 2;
+  bursts = Described (record { symbols = 64; short = short_qam64; long = long_qam64; unsolicited = long_qam64 });
+  short_max = 6;
+}
+
+described_is_lawful : IsLawful described
+unfolding first_wrong slots_by
+described_is_lawful = refl
+
+coded_of_64_bytes : (coded short_qam64 64 ≡ 76) × (symbols_of short_qam64 64 ≡ 156)
+coded_of_64_bytes = (refl, refl)
+
+short_burst_of_64_bytes : (is_short described 64 ≡ true) × (slots_for described 64 ≡ 3)
+unfolding slots_by
+short_burst_of_64_bytes = (refl, refl)
+
+coded_of_240_bytes : (coded long_qam64 240 ≡ 284) × (symbols_of long_qam64 240 ≡ 433)
+coded_of_240_bytes = (refl, refl)
+
+a_burst_too_long_for_short_grants_is_long : (is_short described 240 ≡ false) × (slots_for described 240 ≡ 7)
+unfolding slots_by
+a_burst_too_long_for_short_grants_is_long = (refl, refl)
+
+the_longest_short_burst : (is_short described 211 ≡ true) × (slots_for described 211 ≡ 6)
+unfolding slots_by
+the_longest_short_burst = (refl, refl)
+
+the_next_burst_is_long : (is_short described 212 ≡ false) × (slots_for described 212 ≡ 6)
+unfolding slots_by
+the_next_burst_is_long = (refl, refl)
+
+coded_of_1526_bytes : (coded long_qam64 1526 ≡ 1652) × (symbols_of long_qam64 1526 ≡ 2257)
+coded_of_1526_bytes = (refl, refl)
+
+long_burst_of_1526_bytes : slots_for described 1526 ≡ 36
+unfolding slots_by
+long_burst_of_1526_bytes = refl
+
+a_fixed_last_codeword_is_a_full_one : (coded (record long_qam64 { shortened = 0 }) 1526 ≡ 1750)
+    × (symbols_of (record long_qam64 { shortened = 0 }) 1526 ≡ 2388)
+    × (slots_by 64 (record long_qam64 { shortened = 0 }) 1526 ≡ 38)
+unfolding slots_by
+a_fixed_last_codeword_is_a_full_one = (refl, refl, refl)
+
+-- short grants by QPSK, beside which long ones are shorter
+abbrev short_qpsk : Profile
+short_qpsk = record { preamble = 32; guard = 22; bits = 2; parity = 4; information = 40; shortened = 1 }
+
+abbrev mixed : Config
+mixed = record described {
+  bursts = Described (record { symbols = 64; short = short_qpsk; long = long_qam64; unsolicited = long_qam64 });
+  short_max = 8;
+}
+
+a_short_burst_that_long_grants_carry_in_less_is_long : (coded short_qpsk 80 ≡ 96) × (symbols_of short_qpsk 80 ≡ 438)
+    × (slots_by 64 short_qpsk 80 ≡ 7) × (coded long_qam64 80 ≡ 98) × (symbols_of long_qam64 80 ≡ 185)
+    × (is_short mixed 80 ≡ false) × (slots_for mixed 80 ≡ 3)
+unfolding slots_by
+a_short_burst_that_long_grants_carry_in_less_is_long = (refl, refl, refl, refl, refl, refl, refl)
+
+bytes_in_6_and_36_slots : (bytes_in described 6 ≡ 229) × (bytes_in described 36 ≡ 1561)
+unfolding bytes_by
+bytes_in_6_and_36_slots = (refl, refl)
+
+codewords_of_16_information_bytes_at_least :
+    first_wrong (record described {
+      bursts = Described (record {
+        symbols = 64;
+        short = record short_qam64 { information = 15 };
+        long = long_qam64;
+        unsolicited = long_qam64;
+      });
+    }) ≡ Some Bursts
+unfolding first_wrong
+codewords_of_16_information_bytes_at_least = refl
 
 floor_of_790_micros : slots_floor base 790 ≡ 31
 floor_of_790_micros = refl

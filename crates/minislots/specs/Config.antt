@@ -1,32 +1,47 @@
 -- Which configurations of a channel are lawful, and which field of another is the first that is wrong.
-use Rattle.std.specs.Prelude.{◌≡◌, ℕ, ◌<◌, ◌≤◌, ◌+◌, ◌*◌, ◌%◌, ◌^◌, Bool, not, ◌&&◌, ◌||◌, nat_le, ◌==◌}
+use Rattle.std.specs.Prelude.{◌≡◌, ℕ, ◌<◌, ◌≤◌, ◌+◌, ◌*◌, ◌%◌, ◌^◌, Bool, true, not, ◌&&◌, ◌||◌, nat_le, ◌==◌}
 use Rattle.std.specs.Prelude.{List, [], ◌∷◌, Option, Some, None, Result, Ok, Err, find}
 use Rattle.minislots.specs.declared.TheConstants.{MAX_ASK}
 use Rattle.minislots.specs.declared.config.Config.{Config}
 use Rattle.minislots.specs.declared.config.ConfigFault.{ConfigFault}
-use Rattle.minislots.specs.declared.config.ConfigFault.TheVariants.{Ticks, BytesPerSlot, Overhead, Frame}
+use Rattle.minislots.specs.declared.bursts.Bursts.TheVariants.{Uniform, Described}
+use Rattle.minislots.specs.declared.bursts.Bursts as the_bursts
+use Rattle.minislots.specs.declared.config.ConfigFault.TheVariants.{Ticks, BytesPerSlot, Overhead, Bursts, Frame}
 use Rattle.minislots.specs.declared.config.ConfigFault.TheVariants.{Cycle, ReqSlots, PollSlots, Lead}
 use Rattle.minislots.specs.declared.config.ConfigFault.TheVariants.{ShortMax, Quantum, GrantCap}
 use Rattle.minislots.specs.declared.config.ConfigFault.TheVariants.{Receivers, Calls, Start, RangingStart}
 use Rattle.minislots.specs.declared.config.ConfigFault.TheVariants.{RangingEnd, DataStart, DataEnd, Phy}
+use Rattle.minislots.specs.Bursts.{HasBursts, is_within, are_descriptors, long_slots}
 use Rattle.minislots.specs.Units.{slots_for}
 
--- the number is from low to high
-abbrev pub is_within : ℕ → ℕ → ℕ → Bool
-is_within low high n = nat_le low n && nat_le n high
-
--- a minislot has 2, 4, 8, 16, 32, 64 or 128 ticks
+-- a minislot has 1, 2, 4, 8, 16, 32, 64 or 128 ticks
 abbrev pub is_ticks : ℕ → Bool
-is_ticks n = n == 2 || n == 4 || n == 8 || n == 16 || n == 32 || n == 64 || n == 128
+is_ticks n = n == 1 || n == 2 || n == 4 || n == 8 || n == 16 || n == 32 || n == 64 || n == 128
+
+-- the bytes that a minislot carries are lawful, where each burst has the same
+abbrev pub has_bytes_per_slot : the_bursts.Bursts → Bool
+has_bytes_per_slot (Uniform bytes_per_slot overhead) = is_within 1 1024 bytes_per_slot
+has_bytes_per_slot (Described d) = true
+
+-- and so is the overhead of a burst
+abbrev pub has_overhead : the_bursts.Bursts → Bool
+has_overhead (Uniform bytes_per_slot overhead) = is_within 1 64 overhead
+has_overhead (Described d) = true
+
+-- the burst descriptors are lawful, where there are some
+abbrev pub has_descriptors : the_bursts.Bursts → Bool
+has_descriptors (Uniform bytes_per_slot overhead) = true
+has_descriptors (Described d) = are_descriptors d
 
 -- whether the field of this fault is lawful
 abbrev pub is_lawful_field : Config → ConfigFault → Bool
 is_lawful_field c Ticks = is_ticks c.ticks
-is_lawful_field c BytesPerSlot = is_within 1 1024 c.bytes_per_slot
-is_lawful_field c Overhead = is_within 1 64 c.overhead
+is_lawful_field c BytesPerSlot = has_bytes_per_slot c.bursts
+is_lawful_field c Overhead = has_overhead c.bursts
+is_lawful_field c Bursts = has_descriptors c.bursts
 is_lawful_field c Frame = is_within 16 1024 c.frame
 is_lawful_field c Cycle = is_within 1 64 c.cycle
-is_lawful_field c ReqSlots = nat_le 1 c.req_slots && nat_le (c.req_slots + c.overhead + 1) c.frame
+is_lawful_field c ReqSlots = nat_le 1 c.req_slots && nat_le (c.req_slots + long_slots c.bursts 1) c.frame
 is_lawful_field c PollSlots = nat_le 1 c.poll_slots && nat_le (c.poll_slots + c.req_slots) c.frame
 is_lawful_field c Lead = nat_le (c.lead + 2 * c.frame) 4096
 is_lawful_field c ShortMax = nat_le c.short_max c.frame
@@ -44,7 +59,7 @@ is_lawful_field c Phy = nat_le c.phy 1
 
 -- the fields of a burst
 abbrev pub burst_fields : List ConfigFault
-burst_fields = Ticks ∷ BytesPerSlot ∷ Overhead ∷ []
+burst_fields = Ticks ∷ BytesPerSlot ∷ Overhead ∷ Bursts ∷ []
 
 -- the fields that lay out a frame
 abbrev pub frame_fields : List ConfigFault
@@ -69,8 +84,8 @@ channel_fields = Phy ∷ []
 -- the fields that can be wrong, in their order
 abbrev pub fields : List ConfigFault
 fields =
-    Ticks ∷ BytesPerSlot ∷ Overhead ∷ Frame ∷ Cycle ∷ ReqSlots ∷ PollSlots ∷ Lead ∷ ShortMax ∷ Quantum
-    ∷ GrantCap ∷ Receivers ∷ Calls ∷ Start ∷ RangingStart ∷ RangingEnd ∷ DataStart ∷ DataEnd ∷ Phy ∷ []
+    Ticks ∷ BytesPerSlot ∷ Overhead ∷ Bursts ∷ Frame ∷ Cycle ∷ ReqSlots ∷ PollSlots ∷ Lead ∷ ShortMax
+    ∷ Quantum ∷ GrantCap ∷ Receivers ∷ Calls ∷ Start ∷ RangingStart ∷ RangingEnd ∷ DataStart ∷ DataEnd ∷ Phy ∷ []
 
 -- the first of some fields that is wrong
 abbrev pub first_wrong_of : Config → List ConfigFault → Option ConfigFault
@@ -93,16 +108,13 @@ IsLawful c = first_wrong c ≡ None
 pub record HasBounds (c : Config) : Type 0 where
   pub ticks_positive : 0 < c.ticks
   pub ticks_most : c.ticks ≤ 128
-  pub bytes_positive : 0 < c.bytes_per_slot
-  pub bytes_most : c.bytes_per_slot ≤ 1024
-  pub overhead_positive : 0 < c.overhead
-  pub overhead_most : c.overhead ≤ 64
+  pub bursts : HasBursts c.bursts
   pub frame_least : 16 ≤ c.frame
   pub frame_most : c.frame ≤ 1024
   pub cycle_positive : 0 < c.cycle
   pub cycle_most : c.cycle ≤ 64
   pub requests_positive : 0 < c.req_slots
-  pub requests_fit : c.req_slots + c.overhead + 1 ≤ c.frame
+  pub requests_fit : c.req_slots + long_slots c.bursts 1 ≤ c.frame
   pub poll_positive : 0 < c.poll_slots
   pub poll_fits : c.poll_slots + c.req_slots ≤ c.frame
   pub lead_most : c.lead + 2 * c.frame ≤ 4096

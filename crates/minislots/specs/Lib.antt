@@ -1,3 +1,4 @@
+pub mod Bursts
 pub mod Config
 pub mod Ranges
 pub mod Units

@@ -7,6 +7,7 @@ mod fields;
 mod ranges;
 mod readers;
 
+use crate::bursts::Bursts;
 pub use ranges::FieldRule;
 use std::fmt;
 use std::marker::Model;
@@ -15,12 +16,10 @@ use thiserror::Error;
 /// The configuration of one upstream channel, as it is handed in. Each limit is this profile's own.
 #[derive(Clone, Copy, Debug, PartialEq, Eq)]
 pub struct Config {
-    /// Ticks of 6.25 microseconds in a minislot: a power of two from 2 to 128.
+    /// Ticks of 6.25 microseconds in a minislot: a power of two from 1 to 128.
     pub ticks: u32,
-    /// Bytes that a minislot carries: 1 to 1024.
-    pub bytes_per_slot: u32,
-    /// Minislots of guard time and preamble in each burst: 1 to 64.
-    pub overhead: u32,
+    /// How many minislots a burst takes.
+    pub bursts: Bursts,
     /// Minislots that one MAP describes: 16 to 1024.
     pub frame: u32,
     /// Frames after which the places of periodic flows repeat: 1 to 64.
@@ -68,6 +67,7 @@ pub enum ConfigFault {
     Ticks,
     BytesPerSlot,
     Overhead,
+    Bursts,
     Frame,
     Cycle,
     ReqSlots,
@@ -93,9 +93,11 @@ impl fmt::Display for ConfigFault {
 }
 
 /// A configuration in which each field is lawful.
-#[derive(Clone, Copy, Debug, PartialEq, Eq)]
+#[derive(Clone, Copy, Debug)]
 pub struct Checked {
     config: Config,
+    // How many numbers of bytes, from 0 on, have bursts that are short enough by the profile of short data grants.
+    sizes: u64,
 }
 
 impl Model for Checked {
@@ -103,14 +105,20 @@ impl Model for Checked {
 
     ghost Value = { Config };
 
+    ghost use Rattle.std.specs.Prelude.{◌≡◌};
+    ghost use Rattle.std.proofs.Common.{ap, sym};
     ghost use Rattle.minislots.specs.Config.{IsLawful, HasBounds};
+    ghost use Rattle.minislots.specs.Bursts.{short_sizes};
 
     ghost view = { λ c. c.config };
 
     // The bounds follow from the first part, and stand here so that each reader knows its own.
-    ghost invariant = { λ c. IsLawful c.config × HasBounds c.config };
+    ghost invariant = { λ c. IsLawful c.config × HasBounds c.config
+        × (c.sizes ≡ short_sizes c.config.bursts c.config.short_max) };
 
-    ghost inverse = { λ c. record { config = c } };
+    ghost inverse = { λ c. record { config = c; sizes = short_sizes c.bursts c.short_max } };
+
+    ghost inverse_ok = { λ c kept. ap (λ n. record c { sizes = n }) (sym kept.2) };
 }
 
 impl Config {
@@ -125,7 +133,11 @@ impl Config {
         ensures err { IfErr result (λ fault. first_wrong self ≡ Some fault) }
     {
         self.check_fields()?;
-        Ok(Checked { config: self })
+        let sizes = self.bursts.short_sizes(self.short_max);
+        Ok(Checked {
+            config: self,
+            sizes,
+        })
     }
 }
 

@@ -2,10 +2,12 @@
 //! in minislots.
 #![tactic(auto)]
 
+mod bursts;
 mod config;
 mod stamp;
 mod units;
 
+pub use bursts::{Bursts, Descriptors, Profile};
 pub use config::{Checked, Config, ConfigFault, FieldRule};
 pub use stamp::Stamp;
 pub use units::wire;

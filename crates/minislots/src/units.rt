@@ -1,7 +1,9 @@
 //! Times and bursts in minislots.
 
-ghost use Rattle.std.specs.Prelude.{◌≡◌, ◌<◌, ◌+◌, ◌-◌, ◌*◌, ◌/◌};
+ghost use Rattle.std.specs.Prelude.{◌≡◌, ℕ, ◌<◌, ◌≤◌, ◌*◌, ◌^◌};
+ghost use Rattle.minislots.specs.Bursts.{IsCapacity};
 ghost use Rattle.minislots.specs.Units.{slots_floor, slots_of_micros, slots_for, bytes_in, wire_of};
+ghost use Rattle.minislots.specs.Units.{is_short, slots_for_unsolicited};
 
 use crate::config::Checked;
 
@@ -25,19 +27,47 @@ impl Checked {
         4 * u64::from(micros) / self.quarter_micros()
     }
 
-    /// The minislots of a burst of `bytes` bytes: its overhead, and what carries the bytes.
+    /// The minislots of a data grant of `bytes` bytes: preamble, guard time and the bytes with their parity, by the burst
+    /// descriptor of its usage.
+    #[inline(always)]
     pub fn slots_for(&self, bytes: u32) -> u64
-        ensures { result ≡ slots_for self.now bytes }
+        ensures value { result ≡ slots_for self.now bytes }
+        ensures rises { (fewer : ℕ) → fewer ≤ bytes → slots_for self.now fewer ≤ result }
+        ensures small { result < 2 ^ 46 }
     {
-        u64::from(self.overhead()) + carriers(bytes, self.bytes_per_slot())
+        self.as_bursts().slots(self.short_sizes(), bytes)
     }
 
-    /// The bytes that a burst of `slots` minislots carries: none where it is no longer than its
-    /// overhead.
+    /// The most bytes of a data grant of at most `slots` minislots, or 0 where there is none.
+    #[inline(always)]
     pub fn bytes_in(&self, slots: u32) -> u64
-        ensures { result ≡ bytes_in self.now slots }
+        ensures value { result ≡ bytes_in self.now slots }
+        ensures exact { IsCapacity (slots_for self.now) slots result }
     {
-        u64::from(slots.saturating_sub(self.overhead())) * u64::from(self.bytes_per_slot())
+        self.as_bursts()
+            .bytes(self.short_max(), self.short_sizes(), slots)
+    }
+
+    /// Whether a data grant of `bytes` bytes, which has `slots` minislots ([`Checked::slots_for`]), is a short one: its
+    /// burst by the profile of short grants has at most `short_max` minislots, and no more than by that of long ones.
+    #[inline(always)]
+    pub fn is_short(&self, bytes: u32, slots: u64) -> bool
+        requires { slots ≡ slots_for self.now bytes }
+        ensures { result ≡ is_short self.now bytes }
+    {
+        self.as_bursts().is_short(self.short_sizes(), bytes, slots)
+    }
+
+    /// The minislots of an unsolicited grant of `bytes` bytes: those of a data grant, or with Advanced PHY bursts those
+    /// of the profile of its own.
+    pub fn slots_for_unsolicited(&self, bytes: u32) -> u64
+        ensures { result ≡ slots_for_unsolicited self.now bytes }
+    {
+        if self.phy() == 1 {
+            self.as_bursts().unsolicited_slots(bytes)
+        } else {
+            self.slots_for(bytes)
+        }
     }
 
     // The quarters of a microsecond in a minislot: 25 in each tick.
@@ -47,14 +77,6 @@ impl Checked {
     {
         25 * u64::from(self.ticks())
     }
-}
-
-// The minislots that carry `bytes` bytes, the last one perhaps in part.
-pub(crate) fn carriers(bytes: u32, bytes_per_slot: u32) -> u64
-    requires { 0 < bytes_per_slot }
-    ensures { result ≡ (bytes + bytes_per_slot - 1) / bytes_per_slot }
-{
-    u64::from(bytes.div_ceil(bytes_per_slot))
 }
 
 /// What stands on the wire for a minislot: the low 32 bits of its number.

@@ -7,8 +7,9 @@ use Rattle.std.proofs.lemmas.Nat.{le-div}
 use Rattle.std.proofs.Math.Nat.{mod-eq_of_lt}
 use Rattle.minislots.specs.declared.config.Config.{Config}
 use Rattle.minislots.specs.Config.{IsLawful}
-use Rattle.minislots.specs.Units.{slots_floor, slots_for}
+use Rattle.minislots.specs.Units.{slots_floor, slots_for_unsolicited}
 use Rattle.minislots.proofs.Bounds.{bounds_of}
+use Rattle.minislots.proofs.UnitLaws.{slots_for_unsolicited-positive}
 use Rattle.sched_calls.specs.declared.spec.FlowSpec.{FlowSpec}
 use Rattle.sched_calls.specs.declared.spec.FlowSpec.TheVariants.{Unsolicited, Polled, BestEffort}
 use Rattle.sched_calls.specs.declared.spec.FlowFault.{FlowFault}
@@ -73,6 +74,9 @@ fits-of frame requests slots size within h =
     let parts = or_parts (size == 0) (nat_lt (frame - requests) slots) h in
     omega (arith, ltb-false (frame - requests) slots parts.1)
 
+some-of : (size : ℕ) (is_long : Bool) → ((size == 0) || is_long) ≡ false → 0 < size
+some-of size is_long h = let parts = or_parts (size == 0) is_long h in grind (arith, nat_tests)
+
 grants-of : (grants : ℕ) → ((grants == 0) || nat_lt MAX_GRANTS grants) ≡ false → (0 < grants) × (grants ≤ 8)
 grants-of grants h =
     let parts = or_parts (grants == 0) (nat_lt MAX_GRANTS grants) h in
@@ -90,8 +94,8 @@ places_of c (Unsolicited size interval jitter grants) lawful periodic none =
       interval_positive = whole-frames (slots_floor c interval) c.frame (omega arith) frames;
       divides = divides-of c.cycle (slots_floor c interval / c.frame) cycle;
       interval_most = most-of c.cycle (slots_floor c interval / c.frame) (omega arith) (omega arith) cycle;
-      not_empty = omega arith;
-      fits = fits-of c.frame c.req_slots (slots_for c size) size (omega arith) fits;
+      not_empty = slots_for_unsolicited-positive c bounds.bursts size (some-of size _ fits);
+      fits = fits-of c.frame c.req_slots (slots_for_unsolicited c size) size (omega arith) fits;
       grants_positive = some.0;
       grants_most = some.1;
     }

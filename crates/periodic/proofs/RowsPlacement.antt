@@ -1,5 +1,5 @@
 -- Worked examples of lawful placements, and of some that are not lawful.
-use Rattle.std.proofs.Common.{◌≡◌, ℕ, ◌+◌, ◌%◌, ◌<◌, true, false, List, [], ◌∷◌, refl, sym, subst, inl, inr, lit<}
+use Rattle.std.proofs.Common.{◌≡◌, ℕ, ◌+◌, ◌%◌, ◌<◌, None, Some, List, [], ◌∷◌, refl, sym, subst, inl, inr, lit<}
 use Rattle.std.proofs.Common.{lit≤, arith}
 use Rattle.std.proofs.lemmas.Bool.{cases_lt}
 use Rattle.minislots.specs.declared.config.Config.{Config}
@@ -74,7 +74,7 @@ first_placed = record { sid = 5; spec = voice; placement = placement 804 (4 ∷ 
 
 -- a grant of these flows in a frame
 abbrev pub voice_at : ℕ → ℕ → Spot
-voice_at sid offset = record { sid = sid; poll = false; offset = offset; slots = 15 }
+voice_at sid offset = record { sid = sid; size = Some 200; offset = offset; slots = 15 }
 
 -- the second stands behind the first in the same frames
 pub the_second_flow_stands_behind_the_first : IsPlacement base (first_placed ∷ []) voice 800
@@ -156,7 +156,7 @@ polled_placed = record { sid = 9; spec = polling; placement = placement 804 (4 �
 
 -- it takes two minislots of the first frame, and nothing of the next
 pub the_spots_of_a_polled_flow : (spots_in base 20 (polled_placed ∷ [])
-    ≡ record { sid = 9; poll = true; offset = 4; slots = 2 } ∷ []) × (spots_in base 21 (polled_placed ∷ []) ≡ [])
+    ≡ record { sid = 9; size = None; offset = 4; slots = 2 } ∷ []) × (spots_in base 21 (polled_placed ∷ []) ≡ [])
 the_spots_of_a_polled_flow = (refl, refl)
 
 -- polls each five frames, at most 100 microseconds late: 4 minislots

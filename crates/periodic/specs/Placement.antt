@@ -4,7 +4,7 @@ use Rattle.std.specs.Prelude.{length, take, drop, if◌then◌else◌}
 use Rattle.std.specs.List.{AllByRecursion, flat_map}
 use Rattle.minislots.specs.declared.config.Config.{Config}
 use Rattle.sched_calls.specs.declared.spec.FlowSpec.{FlowSpec}
-use Rattle.sched_calls.specs.FlowSpec.{is_polled, interval_frames, jitter_slots, periodic_slots, grants_of}
+use Rattle.sched_calls.specs.FlowSpec.{size_of, interval_frames, jitter_slots, periodic_slots, grants_of}
 use Rattle.sched_calls.specs.declared.placement.Placement.{Placement}
 use Rattle.periodic.specs.declared.placement.Spot.{Spot}
 
@@ -40,7 +40,7 @@ starts_in c spec p place = if place % interval_frames c spec == phase_of c spec 
 abbrev pub spot_at : Config → Placed → ℕ → Spot
 spot_at c flow start = record {
   sid = flow.sid;
-  poll = is_polled flow.spec;
+  size = size_of flow.spec;
   offset = start;
   slots = periodic_slots c flow.spec;
 }

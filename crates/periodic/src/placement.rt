@@ -7,8 +7,8 @@ use thiserror::Error;
 pub struct Spot {
     /// The flow's SID.
     pub sid: u16,
-    /// A poll, or else an unsolicited grant.
-    pub poll: bool,
+    /// The bytes of an unsolicited grant, or none where it is a poll.
+    pub size: Option<u32>,
     /// The first minislot, counted in the frame.
     pub offset: u16,
     /// How many minislots.

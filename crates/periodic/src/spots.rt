@@ -4,7 +4,7 @@ ghost use Rattle.std.specs.Prelude.{◌≡◌, ℕ, ◌<◌, ◌≤◌, ◌+◌,
 ghost use Rattle.std.specs.List.Sorted.{IsPermutation, IsNonDecreasingBy};
 ghost use Rattle.minislots.specs.declared.config.Config.{Config};
 ghost use Rattle.minislots.specs.Config.{IsLawful};
-ghost use Rattle.sched_calls.specs.FlowSpec.{is_periodic, is_polled, interval_frames, jitter_slots, periodic_slots};
+ghost use Rattle.sched_calls.specs.FlowSpec.{is_periodic, size_of, interval_frames, jitter_slots, periodic_slots};
 ghost use Rattle.sched_calls.specs.FlowSpec.{grants_of, first_fault};
 ghost use Rattle.sched_calls.specs.declared.TheConstants.{MAX_PERIODIC_GRANTS};
 ghost use Rattle.periodic.specs.Placement.{starts_in, spot_at, spots_of, spots_in};
@@ -53,11 +53,14 @@ pub(crate) fn interval(config: &Checked, spec: &FlowSpec) -> u64
     }
 }
 
-// Whether the flow is polled.
-fn is_polled(spec: &FlowSpec) -> bool
-    ensures { result ≡ is_polled spec.now }
+// The bytes of one unsolicited grant of a flow.
+fn size(spec: &FlowSpec) -> Option<u32>
+    ensures { result ≡ size_of spec.now }
 {
-    matches!(spec, FlowSpec::Polled { .. })
+    match *spec {
+        FlowSpec::Unsolicited { size, .. } => Some(size),
+        _ => None,
+    }
 }
 
 // The tolerated jitter of a flow, in minislots.
@@ -83,7 +86,7 @@ pub(crate) fn slots(config: &Checked, spec: &FlowSpec) -> u64
 {
     let poll = u64::from(config.poll_slots());
     match *spec {
-        FlowSpec::Unsolicited { size, .. } => config.slots_for(size),
+        FlowSpec::Unsolicited { size, .. } => config.slots_for_unsolicited(size),
         FlowSpec::Polled { .. } => poll,
         FlowSpec::BestEffort { .. } => unreachable!(),
     }
@@ -142,7 +145,7 @@ impl PlacedFlow {
     {
         Spot {
             sid: self.sid,
-            poll: is_polled(&self.spec),
+            size: size(&self.spec),
             offset: start,
             slots: self.slots,
         }

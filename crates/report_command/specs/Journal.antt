@@ -6,7 +6,7 @@ use Rattle.sched_calls.specs.declared.reply.Entry.{Entry}
 use Rattle.sched_lines.specs.Line.{number_line}
 use Rattle.journal_entries.specs.declared.end.EntriesEnd.{EntriesEnd}
 use Rattle.journal_entries.specs.declared.end.EntriesEnd.TheVariants as ends
-use Rattle.journal_reading.specs.Judging.{FindsLegal, FindsIllegal, FindsBad}
+use Rattle.journal_entries.specs.Judging.{FindsLegal, FindsIllegal, FindsBad}
 use Rattle.report_command.specs.declared.form.Form.{Form}
 use Rattle.report_command.specs.Form.{IsSaid}
 use Rattle.report_command.specs.declared.journal.Shown.{Shown}

@@ -1,4 +1,4 @@
-//! The command over what the program has: standard input and standard output, which is written with no buffer, so that
+//! The command over what the program has: an input, and standard output, which is written with no buffer, so that
 //! nothing is left to flush.
 
 use crate::form::Form;
@@ -6,23 +6,26 @@ use crate::history::run_report;
 use crate::journal_report::run_journal_report;
 use journal_entries::EntriesEnd;
 use std::io;
-use text_stream::{RunFault, Watched};
+use text_stream::{RunFault, Source, Watched};
 
 /// The command `report`: whether the history is legal.
-pub fn report_input(rt: &(impl Input + Print + AllocGlobal), form: Form) -> Result<bool, RunFault> {
-    let mut reader = Watched::new(rt.reader());
+pub fn report_input<R: Source>(
+    rt: &(impl Print + AllocGlobal),
+    reader: &mut R,
+    form: Form,
+) -> Result<bool, RunFault> {
     let mut writer = Watched::new(io::writer(rt));
-    run_report(rt.alloc(), &mut reader, &mut writer, form)
+    run_report(rt.alloc(), reader, &mut writer, form)
 }
 
 /// The command `report` on a journal: how it ends. What is torn, and which line is bad, is told on standard error.
-pub fn report_journal_input(
-    rt: &(impl Input + Print + Eprint + AllocGlobal),
+pub fn report_journal_input<R: Source>(
+    rt: &(impl Print + Eprint + AllocGlobal),
+    reader: &mut R,
     form: Form,
 ) -> Result<EntriesEnd, RunFault> {
-    let mut reader = Watched::new(rt.reader());
     let mut writer = Watched::new(io::writer(rt));
-    let end = run_journal_report(rt.alloc(), &mut reader, &mut writer, form)?;
+    let end = run_journal_report(rt.alloc(), reader, &mut writer, form)?;
     // What is illegal stands on standard output.
     if !matches!(end, EntriesEnd::Illegal(_)) {
         end.tell(rt);

@@ -2,7 +2,7 @@
 use Rattle.std.proofs.Common.{◌≡◌, ℕ, List, Option, Some, Ok, Err}
 use Rattle.minislots.specs.declared.config.ConfigFault.{ConfigFault}
 use Rattle.text_stream.specs.declared.fault.TextFault.{TextFault}
-use Rattle.text_stream.proofs.Told.{not-told}
+use Rattle.text_stream.proofs.TextTold.{not-told}
 use Rattle.script_reading.specs.Script.{Scenario}
 use Rattle.script_reading.specs.Outcome.{outcome_of}
 use Rattle.script_reading.proofs.Told.{script-told, script-stands}

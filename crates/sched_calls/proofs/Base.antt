@@ -1,14 +1,16 @@
 -- The channel of the worked examples: minislots of 25 microseconds and 16 bytes, frames of 40 minislots.
 use Rattle.std.proofs.Common.{refl}
+use Rattle.minislots.specs.declared.bursts.Bursts.TheVariants.{Uniform}
 use Rattle.minislots.specs.declared.config.Config.{Config}
+use Rattle.minislots.specs.Bursts.{HasBursts}
 use Rattle.minislots.specs.Config.{first_wrong, IsLawful}
+use Rattle.minislots.proofs.Bounds.{bounds_of}
 
 -- the configuration of the worked examples
 abbrev pub base : Config
 base = record {
   ticks = 4;
-  bytes_per_slot = 16;
-  overhead = 2;
+  bursts = Uniform 16 2;
   frame = 40;
   cycle = 20;
   req_slots = 4;
@@ -33,3 +35,7 @@ base = record {
 pub the_base_is_lawful : IsLawful base
 unfolding first_wrong
 the_base_is_lawful = refl
+
+-- its bursts are lawful
+pub the_base_has_bursts : HasBursts base.bursts
+the_base_has_bursts = (bounds_of base the_base_is_lawful).bursts

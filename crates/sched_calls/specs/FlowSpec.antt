@@ -1,8 +1,8 @@
 -- The parameters of a flow: what they say in minislots, and which of them are refused.
 use Rattle.std.specs.Prelude.{ℕ, ◌-◌, ◌/◌, ◌%◌, Bool, true, false, not, ◌&&◌, ◌||◌, nat_lt, ◌==◌, List, [], ◌∷◌}
-use Rattle.std.specs.Prelude.{Option, is_none, find}
+use Rattle.std.specs.Prelude.{Option, None, Some, is_none, find}
 use Rattle.minislots.specs.declared.config.Config.{Config}
-use Rattle.minislots.specs.Units.{slots_for, slots_floor, slots_of_micros}
+use Rattle.minislots.specs.Units.{slots_for_unsolicited, slots_floor, slots_of_micros}
 use Rattle.sched_calls.specs.declared.spec.FlowSpec.{FlowSpec}
 use Rattle.sched_calls.specs.declared.spec.FlowSpec.TheVariants.{Unsolicited, Polled, BestEffort}
 use Rattle.sched_calls.specs.declared.spec.FlowFault.{FlowFault}
@@ -66,9 +66,15 @@ jitter_slots c (BestEffort priority rate burst) = 0
 
 -- the minislots of one unsolicited grant, or of one poll
 abbrev pub periodic_slots : Config → FlowSpec → ℕ
-periodic_slots c (Unsolicited size interval jitter grants) = slots_for c size
+periodic_slots c (Unsolicited size interval jitter grants) = slots_for_unsolicited c size
 periodic_slots c (Polled interval jitter rate burst) = c.poll_slots
 periodic_slots c (BestEffort priority rate burst) = 0
+
+-- the bytes of one unsolicited grant: none where it is a poll
+abbrev pub size_of : FlowSpec → Option ℕ
+size_of (Unsolicited size interval jitter grants) = Some size
+size_of (Polled interval jitter rate burst) = None
+size_of (BestEffort priority rate burst) = None
 
 -- the grants per interval: one poll of a polled flow
 abbrev pub grants_of : FlowSpec → ℕ
@@ -79,7 +85,7 @@ grants_of (BestEffort priority rate burst) = 0
 -- whether this fault meets the parameters
 abbrev pub has_fault : Config → FlowSpec → FlowFault → Bool
 has_fault c (Unsolicited size interval jitter grants) Size =
-    size == 0 || nat_lt (c.frame - c.req_slots) (slots_for c size)
+    size == 0 || nat_lt (c.frame - c.req_slots) (slots_for_unsolicited c size)
 has_fault c (Polled interval jitter rate burst) Size = false
 has_fault c (BestEffort priority rate burst) Size = false
 has_fault c spec IntervalNotWhole = is_periodic spec && is_none (slots_of_micros c (interval_of spec))

@@ -1,5 +1,6 @@
 //! What is asked of the scheduler.
 
+use crate::amount::Amount;
 use crate::opportunity::{Header, Usage};
 use crate::spec::FlowSpec;
 
@@ -16,11 +17,11 @@ pub enum Call {
     Admit(u16, FlowSpec),
     /// Forgets a flow with its requests, its grants and its placement.
     Remove(u16),
-    /// Hands in a bandwidth request for so many bytes, heard by this receiver at this minislot.
+    /// Hands in a bandwidth request for so much, heard by this receiver at this minislot.
     Ask {
         receiver: u8,
         sid: u16,
-        bytes: u32,
+        amount: Amount,
         heard: u64,
     },
     /// Says that this receiver has handed in every request that it heard before this minislot.

@@ -39,7 +39,10 @@ impl FlowSpec {
         match *self {
             FlowSpec::Unsolicited { size, .. } => {
                 let room = u64::from(config.frame() - config.req_slots());
-                require(0 < size && config.slots_for(size) <= room, FlowFault::Size)
+                require(
+                    0 < size && config.slots_for_unsolicited(size) <= room,
+                    FlowFault::Size,
+                )
             }
             _ => Ok(()),
         }

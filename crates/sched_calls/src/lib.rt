@@ -1,6 +1,7 @@
 //! The calls of the upstream scheduler, its replies and the entries of its history, as plain values.
 #![tactic(auto)]
 
+mod amount;
 mod call;
 mod check;
 mod frame_map;
@@ -9,6 +10,7 @@ mod placement;
 mod reply;
 mod spec;
 
+pub use amount::Amount;
 pub use call::{Call, MAX_RESERVES, MAX_SCRIPTS};
 pub use frame_map::{ByteCounts, FrameMap};
 pub use opportunity::{Header, Opportunity, Usage};

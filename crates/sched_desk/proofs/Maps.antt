@@ -49,17 +49,18 @@ module _ (c : Config) (h : List Entry) (m : FrameMap) where
   admitted (Polled interval jitter rate burst) answers = placed (Polled interval jitter rate burst) answers
   admitted (BestEffort priority rate burst) answers = not_built (replies.Admitted None) refl answers
 
-  status : (life : Option Life) (sid : ℕ) → MatchOption life ⊥ (λ l. replies.Built m ≡ flow_status (flow_in_life sid l))
+  status : (life : Option Life) (sid : ℕ) → MatchOption life ⊥ (λ l. replies.Built m
+      ≡ flow_status (flow_in_life c sid l))
       → IsNextMap c h m
   status None sid answers = absurd answers
   status (Some l) sid answers =
-      not_built (flow_status (flow_in_life sid l)) (status-not_built (flow_in_life sid l)) answers
+      not_built (flow_status (flow_in_life c sid l)) (status-not_built (flow_in_life c sid l)) answers
 
   -- a MAP that is answered is the lawful one
   answered : (call : Call) → Answers c h call (replies.Built m) → IsNextMap c h m
   answered (calls.Admit sid spec) answers = admitted spec answers
   answered (calls.Remove sid) answers = not_built replies.Removed refl answers
-  answered (calls.Ask receiver sid bytes heard) answers = not_built replies.Taken refl answers
+  answered (calls.Ask receiver sid amount heard) answers = not_built replies.Taken refl answers
   answered (calls.Heard receiver upto) answers = not_built replies.Noted refl answers
   answered (calls.Build now) answers =
       subst (IsNextMap c h) (same_Some answers.0 m (ap map_by (sym answers.2))) answers.1

@@ -37,15 +37,15 @@ module _ (c : Config) (h : List Entry) where
       by false = refl
 
   shown : (life : Option Life) (sid : ℕ) (reply : Reply)
-      → MatchOption life ⊥ (λ l. reply ≡ flow_status (flow_in_life sid l)) → map_by reply ≡ None
+      → MatchOption life ⊥ (λ l. reply ≡ flow_status (flow_in_life c sid l)) → map_by reply ≡ None
   shown None sid reply answers = absurd answers
-  shown (Some l) sid reply answers = ap map_by answers ∙ status (flow_in_life sid l)
+  shown (Some l) sid reply answers = ap map_by answers ∙ status (flow_in_life c sid l)
 
   answered : (call : Call) → ((now : ℕ) → call ≢ calls.Build now) → (reply : Reply) → Answers c h call reply
       → map_by reply ≡ None
   answered (calls.Admit sid spec) other reply answers = admitted spec reply answers
   answered (calls.Remove sid) other reply answers = ap map_by answers
-  answered (calls.Ask receiver sid bytes heard) other reply answers = ap map_by answers
+  answered (calls.Ask receiver sid amount heard) other reply answers = ap map_by answers
   answered (calls.Heard receiver upto) other reply answers = ap map_by answers
   answered (calls.Build now) other reply answers = absurd (other now refl)
   answered (calls.Skip now) other reply answers = ap map_by answers.2

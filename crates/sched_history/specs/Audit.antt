@@ -26,7 +26,7 @@ pub record IsFirstIllegal (c : Config) (h : List Entry) (i : ℕ) : Type 0 where
 abbrev pub is_told : Call → Bool
 is_told (Admit sid spec) = not (is_periodic spec)
 is_told (Remove sid) = true
-is_told (Ask receiver sid bytes heard) = true
+is_told (Ask receiver sid amount heard) = true
 is_told (Heard receiver upto) = true
 is_told (Build now) = false
 is_told (Skip now) = true

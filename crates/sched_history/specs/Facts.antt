@@ -98,13 +98,13 @@ KeepsTimes c table reply = Unit {0}
 
 -- a request that was accepted was heard at or after the acknowledge time of each of these MAPs
 abbrev pub IsHeardAfter : List FrameMap → Call → Reply → Type 0
-IsHeardAfter maps (Ask receiver sid bytes heard) Taken = AllByRecursion (λ m. m.ack ≤ heard) maps
+IsHeardAfter maps (Ask receiver sid amount heard) Taken = AllByRecursion (λ m. m.ack ≤ heard) maps
 IsHeardAfter maps call reply = Unit {0}
 
 -- What an operator may rely on after these entries
 pub record HoldsAfter (c : Config) (h : List Entry) : Type 0 where
-  pub within_asked : AllByRecursion IsWithinAsked (flows_of h)
-  pub within_rate : AllByRecursion (IsWithinRate c) (flows_of h)
+  pub within_asked : AllByRecursion IsWithinAsked (flows_of c h)
+  pub within_rate : AllByRecursion (IsWithinRate c) (flows_of c h)
   pub orderly : AllByRecursion (IsOrderly c) (maps_of h)
   pub starts_ascend : StartsAscend c (maps_of h)
   pub on_time : EachAfter (λ before e. KeepsTimes c (table_of before) e.reply) [] h

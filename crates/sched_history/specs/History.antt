@@ -44,7 +44,7 @@ flow_status f = if takes_requests f.spec then replies.Flow f.asked (granted f) (
 
 -- what the next frame has to serve
 abbrev pub demand_after : Config → List Entry → Demand
-demand_after c h = demand_at (flows_of h) (spots_in c (next_after c h / c.frame) (table_of h))
+demand_after c h = demand_at (flows_of c h) (spots_in c (next_after c h / c.frame) (table_of h))
     (waiting_in (reserves_of h)) (next_after c h)
 
 -- the MAP is the lawful one of the next frame
@@ -61,11 +61,11 @@ map_by reply = None
 abbrev pub Answers : Config → List Entry → Call → Reply → Type 0
 Answers c h (Admit sid spec) reply = AnswersAdmit c h spec reply
 Answers c h (Remove sid) reply = reply ≡ replies.Removed
-Answers c h (Ask receiver sid bytes heard) reply = reply ≡ replies.Taken
+Answers c h (Ask receiver sid amount heard) reply = reply ≡ replies.Taken
 Answers c h (Heard receiver upto) reply = reply ≡ replies.Noted
 Answers c h (Build now) reply = (m : FrameMap) × IsNextMap c h m × (reply ≡ replies.Built m)
 Answers c h (Skip now) reply = (start : ℕ) × IsFirstStart c (now + c.lead) start × (reply ≡ replies.Skipped start)
-Answers c h (Status sid) reply = MatchOption (life_of sid h) ⊥ (λ life. reply ≡ flow_status (flow_in_life sid life))
+Answers c h (Status sid) reply = MatchOption (life_of sid h) ⊥ (λ life. reply ≡ flow_status (flow_in_life c sid life))
 Answers c h (Reserve usage slots) reply = reply ≡ replies.Reserved
 Answers c h (Header header) reply = reply ≡ replies.Noted
 

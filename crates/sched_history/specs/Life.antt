@@ -1,7 +1,9 @@
 -- The lives of flows in a history: admissions, removals, requests and grants.
 use Rattle.std.specs.Prelude.{ℕ, ◌+◌, ◌&&◌, nat_lt, ◌==◌, List, [], sum_by, filter_map, flat_map, zip}
 use Rattle.std.specs.Prelude.{Option, None, Some, option_map, option_and_then, if◌then◌else◌}
+use Rattle.minislots.specs.declared.config.Config.{Config}
 use Rattle.map_codec.specs.declared.element.Element.{Element}
+use Rattle.sched_calls.specs.Amount.{requested}
 use Rattle.sched_calls.specs.declared.spec.FlowSpec.{FlowSpec}
 use Rattle.flow_book.specs.declared.flow.Grant.{Grant}
 use Rattle.flow_book.specs.Flows.{LiveFlow}
@@ -51,13 +53,13 @@ abbrev pub life_of : ℕ → List Entry → Option Life
 life_of sid h = option_and_then (λ found. life_after found.said found.after) (latest (turn_of sid) h)
 
 -- the bytes of an accepted request of this SID
-abbrev pub asked_by : ℕ → Call → Reply → ℕ
-asked_by sid (calls.Ask receiver other bytes heard) replies.Taken = if other == sid then bytes else 0
-asked_by sid call reply = 0
+abbrev pub asked_by : Config → ℕ → Call → Reply → ℕ
+asked_by c sid (calls.Ask receiver other amount heard) replies.Taken = if other == sid then requested c amount else 0
+asked_by c sid call reply = 0
 
 -- the bytes asked under this SID in these entries
-abbrev pub asked_in : ℕ → List Entry → ℕ
-asked_in sid entries = sum_by (λ e. asked_by sid e.call e.reply) entries
+abbrev pub asked_in : Config → ℕ → List Entry → ℕ
+asked_in c sid entries = sum_by (λ e. asked_by c sid e.call e.reply) entries
 
 -- the data grant that an element with this byte count is, where it is one to this SID, in a MAP that starts there
 abbrev pub grant_by : ℕ → ℕ → Element × ℕ → Option Grant
@@ -78,12 +80,12 @@ abbrev pub grants_since : ℕ → List Entry → List Grant
 grants_since sid entries = flat_map (λ e. grants_by sid e.reply) entries
 
 -- the live flow that a life is
-abbrev pub flow_in_life : ℕ → Life → LiveFlow
-flow_in_life sid life =
+abbrev pub flow_in_life : Config → ℕ → Life → LiveFlow
+flow_in_life c sid life =
     record {
       sid = sid;
       spec = life.admission.spec;
-      asked = asked_in sid life.since;
+      asked = asked_in c sid life.since;
       grants =
           grants_since sid life.since;
     }
@@ -102,8 +104,8 @@ unfoldable pub sids : List ℕ
 sids = count_from 1 last_sid
 
 -- the live flows after a history, in order of SID
-abbrev pub flows_of : List Entry → List LiveFlow
-flows_of h = filter_map (λ sid. option_map (flow_in_life sid) (life_of sid h)) sids
+abbrev pub flows_of : Config → List Entry → List LiveFlow
+flows_of c h = filter_map (λ sid. option_map (flow_in_life c sid) (life_of sid h)) sids
 
 -- the live placements after a history, in order of SID
 abbrev pub table_of : List Entry → List Placed

@@ -49,7 +49,7 @@ IsPlaceable c h (BestEffort priority rate burst) = Unit {0}
 abbrev pub TakesMemory : Config → List Entry → Call → Type 0
 TakesMemory c h (Admit sid spec) = IsPlaceable c h spec
 TakesMemory c h (Remove sid) = ⊥
-TakesMemory c h (Ask receiver sid bytes heard) = ⊥
+TakesMemory c h (Ask receiver sid amount heard) = ⊥
 TakesMemory c h (Heard receiver upto) = ⊥
 TakesMemory c h (Build now) = Unit {0}
 TakesMemory c h (Skip now) = ⊥

@@ -30,6 +30,6 @@ pub record IsPlanAfter (m : Machine) (p : PlannedBuild) : Type 0 where
   pub encodable : IsWellFormed p.map.wire
   pub config : p.config ≡ m.config
   pub flows : (stamp : Stamp) → p.flows
-      ≡ flows_of (m.history ++ record { stamp = stamp; call = Build p.clock; reply = Built p.map } ∷ [])
+      ≡ flows_of m.config (m.history ++ record { stamp = stamp; call = Build p.clock; reply = Built p.map } ∷ [])
   pub reserves : (stamp : Stamp) → aged (unmarked p.met (reserves_of m.history))
       ≡ reserves_of (m.history ++ record { stamp = stamp; call = Build p.clock; reply = Built p.map } ∷ [])

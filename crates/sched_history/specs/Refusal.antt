@@ -5,6 +5,8 @@ use Rattle.std.specs.Option.{option_or, option_map_or}
 use Rattle.minislots.specs.declared.TheConstants.{MAX_ASK}
 use Rattle.minislots.specs.declared.config.Config.{Config}
 use Rattle.sched_calls.specs.declared.TheConstants.{MAX_FLOWS}
+use Rattle.sched_calls.specs.declared.amount.Amount.{Amount}
+use Rattle.sched_calls.specs.Amount.{requested}
 use Rattle.sched_calls.specs.FlowSpec.{is_periodic, grants_of, takes_requests, first_fault}
 use Rattle.sched_calls.specs.declared.TheConstants.{MAX_PERIODIC_GRANTS}
 use Rattle.sched_calls.specs.declared.opportunity.Usage.{Usage}
@@ -49,6 +51,10 @@ last_clock = 2 ^ 60
 abbrev pub most_exponent : ℕ
 most_exponent = 15
 
+-- whether no request may ask for so much: for no bytes, or for too many
+abbrev pub is_bad_amount : Config → Amount → Bool
+is_bad_amount c amount = requested c amount == 0 || nat_lt most_bytes (requested c amount)
+
 -- whether no flow can have this SID
 abbrev pub bad_sid : ℕ → Bool
 bad_sid sid = sid == 0 || nat_lt last_sid sid
@@ -62,8 +68,8 @@ abbrev pub is_silent : ℕ → List Entry → Bool
 is_silent sid h = option_map_or (λ life. not (takes_requests life.admission.spec)) (life_of sid h) false
 
 -- the grants per interval of the live flows
-abbrev pub periodic_grants : List Entry → ℕ
-periodic_grants h = sum_by (λ f. grants_of f.spec) (flows_of h)
+abbrev pub periodic_grants : Config → List Entry → ℕ
+periodic_grants c h = sum_by (λ f. grants_of f.spec) (flows_of c h)
 
 -- whether no modem can have the SID of this usage
 abbrev pub is_to_bad_sid : Usage → Bool
@@ -80,15 +86,16 @@ refusal_of c h (Admit sid spec) = first_of (
     refused_if (bad_sid sid) BadSid ∷
     refused_if (is_live sid h) SidLive ∷
     option_map BadFlow (first_fault c spec) ∷
-    refused_if (nat_le MAX_FLOWS (length (flows_of h))) FlowsFull ∷
-    refused_if (is_periodic spec && nat_lt MAX_PERIODIC_GRANTS (periodic_grants h + grants_of spec)) PeriodicFull ∷ [])
+    refused_if (nat_le MAX_FLOWS (length (flows_of c h))) FlowsFull ∷
+    refused_if (is_periodic spec && nat_lt MAX_PERIODIC_GRANTS
+    (periodic_grants c h + grants_of spec)) PeriodicFull ∷ [])
 refusal_of c h (Remove sid) = first_of (refused_if (bad_sid sid) BadSid ∷ refused_if (not (is_live sid h)) NoFlow ∷ [])
-refusal_of c h (Ask receiver sid bytes heard) = first_of (
+refusal_of c h (Ask receiver sid amount heard) = first_of (
     refused_if (bad_sid sid) BadSid ∷
     refused_if (not (is_live sid h)) NoFlow ∷
     refused_if (is_silent sid h) NotAsking ∷
     refused_if (nat_le c.receivers receiver) BadReceiver ∷
-    refused_if (bytes == 0 || nat_lt most_bytes bytes) BadBytes ∷
+    refused_if (is_bad_amount c amount) BadBytes ∷
     refused_if (nat_lt heard (progress_of c receiver h)) (Acked (progress_of c receiver h)) ∷
     refused_if (nat_le (next_after c h) heard) (Ahead (next_after c h)) ∷ [])
 refusal_of c h (Heard receiver upto) = first_of (

@@ -49,7 +49,7 @@ pub record IsStateAfter (s : State) (h : List Entry) : Type 0 where
   pub lawful : IsLawful s.config
   pub book_config : s.book.config ≡ s.config
   pub table_config : s.table.config ≡ s.config
-  pub flows : s.book.flows ≡ flows_of h
+  pub flows : s.book.flows ≡ flows_of s.config h
   pub placed : s.table.placed ≡ table_of h
   pub next : s.next ≡ next_after s.config h
   pub places : length s.progress ≡ 16
@@ -99,7 +99,7 @@ pub record IsBuildAfter (c : Config) (h : List Entry) (p : PlannedBuild) : Type 
   pub encodable : IsWellFormed p.map.wire
   pub config : p.config ≡ c
   pub flows : (stamp : Stamp) → p.flows
-      ≡ flows_of (h ++ record { stamp = stamp; call = Build p.clock; reply = Built p.map } ∷ [])
+      ≡ flows_of c (h ++ record { stamp = stamp; call = Build p.clock; reply = Built p.map } ∷ [])
   pub reserves : (stamp : Stamp) → aged (unmarked p.met (reserves_of h))
       ≡ reserves_of (h ++ record { stamp = stamp; call = Build p.clock; reply = Built p.map } ∷ [])
 
@@ -156,9 +156,9 @@ pub record IsRecorded (old new : Machine) (stamp : Stamp) (call : Call) (reply :
   pub encodable : IsEncodable reply
 
 -- Neither the flows nor the time, the Reserves or the header of a history depend on an entry
-pub record IsQuiet (call : Call) (reply : Reply) : Type 0 where
+pub record IsQuiet (c : Config) (call : Call) (reply : Reply) : Type 0 where
   pub turns : (sid : ℕ) → turn_by sid call reply ≡ None
-  pub asks : (sid : ℕ) → asked_by sid call reply ≡ 0
+  pub asks : (sid : ℕ) → asked_by c sid call reply ≡ 0
   pub grants : (sid : ℕ) → grants_by sid reply ≡ []
   pub skips : skip_by reply ≡ None
   pub builds : is_built reply ≡ false

@@ -40,8 +40,8 @@ module _ (c : Config) (lawful : IsLawful c) (h : List Entry) where
   of_next_frame m legal next =
       let frame = (bounds_of c lawful).frame_most in
       subst (λ (n : FrameMap). AreOfFrame n.wire.elements) (sym next.2)
-      (of_frame (elements_of c (flows_of h) (next_after c h) next.0)
-      (elements_of-encodable c (demand_after c h) next.0 (omega (arith, frame)) (flows_of-in_range h)
+      (of_frame (elements_of c (flows_of c h) (next_after c h) next.0)
+      (elements_of-encodable c (demand_after c h) next.0 (omega (arith, frame)) (flows_of-in_range c h)
       (spots_in-in_range c (next_after c h / c.frame) h) (HaveStationSids-legal c h legal) next.1.each next.1.whole))
 
   -- and starts in reach of the clock

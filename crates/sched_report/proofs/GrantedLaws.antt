@@ -245,7 +245,7 @@ built_turn sid (calls.Remove other) m = refl
 built_turn sid call m = refl
 
 built_request : (sid : ℕ) (call : Call) (m : FrameMap) → request_by sid call (replies.Built m) ≡ None
-built_request sid (calls.Ask receiver other bytes heard) m = refl
+built_request sid (calls.Ask receiver other amount heard) m = refl
 built_request sid call m = refl
 
 module _ (c : Config) (old : LifeTally) (life : PastLife) (slot : ℕ) (e : Entry) (m : FrameMap)

@@ -6,6 +6,7 @@ use Rattle.std.specs.List.{cons_option}
 use Rattle.std.proofs.lemmas.List.{append-nil, length_push}
 use Rattle.std.proofs.lemmas.List.Elements.{filter_map-append}
 use Rattle.std.proofs.lemmas.List.Sums.{sum_by_push}
+use Rattle.sched_calls.specs.Amount.{requested}
 use Rattle.minislots.specs.declared.config.Config.{Config}
 use Rattle.flow_book.specs.declared.flow.Grant.{Grant}
 use Rattle.sched_calls.specs.declared.spec.FlowSpec.{FlowSpec}
@@ -41,13 +42,13 @@ none_of (Some x) never = absurd (never x refl)
 -- a request has no data grants with it
 request_ungranted : (sid : ℕ) (call : Call) (reply : Reply) (r : Request) → request_by sid call reply ≡ Some r
     → grants_by sid reply ≡ []
-request_ungranted sid (calls.Ask receiver other bytes heard) replies.Taken r is = refl
+request_ungranted sid (calls.Ask receiver other amount heard) replies.Taken r is = refl
 request_ungranted sid call reply r is = absurd (cc)
 
 -- nor unsolicited ones
 request_unsolicited : (spec : FlowSpec) (sid other : ℕ) (call : Call) (reply : Reply) (r : Request)
     → request_by other call reply ≡ Some r → unsolicited_by spec sid reply ≡ 0
-request_unsolicited spec sid other (calls.Ask receiver to bytes heard) replies.Taken r is = refl
+request_unsolicited spec sid other (calls.Ask receiver to amount heard) replies.Taken r is = refl
 request_unsolicited spec sid other call reply r is = absurd (cc)
 
 -- nor has an entry without a MAP
@@ -133,9 +134,8 @@ module _ (c : Config) (t : LifeTally) (life : PastLife) (slot : ℕ) (e : Entry)
       })
 
   -- a request may be counted
-  pub may_ask : (r : Request) → request_by life.sid e.call e.reply ≡ Some r → MayAsk t.service r
+  pub may_ask : (r : Request) → request_by life.sid e.call e.reply ≡ Some r → MayAsk c t.service r
   may_ask r asks = record {
-    config = c;
     requests = requests_in life.sid life.since;
     grants = grants_since life.sid life.since;
     is = is.service;
@@ -148,8 +148,8 @@ module _ (c : Config) (t : LifeTally) (life : PastLife) (slot : ℕ) (e : Entry)
         omega (
           arith,
           (may.within alive stays).1,
-          ap bytes_asked pushed,
-          sum_by_push (λ (r : Request). r.bytes) (requests_in life.sid life.since) r,
+          ap (bytes_asked c) pushed,
+          sum_by_push (λ (r : Request). requested c r.amount) (requests_in life.sid life.since) r,
         );
   }
 
@@ -187,8 +187,8 @@ module _ (c : Config) (t : LifeTally) (life : PastLife) (slot : ℕ) (e : Entry)
         is = is.service;
         lawful = may.lawful;
         few = omega (arith, few_requests life.sid life.since, may.few);
-        fits = omega (arith, (may.within alive stays).1, ap bytes_asked same);
-        within = omega (arith, (may.within alive stays).0, ap bytes_asked same, ap bytes_of pushed);
+        fits = omega (arith, (may.within alive stays).1, ap (bytes_asked c) same);
+        within = omega (arith, (may.within alive stays).0, ap (bytes_asked c) same, ap bytes_of pushed);
       }
 
   -- and with them the life goes on

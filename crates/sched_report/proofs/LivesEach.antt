@@ -28,7 +28,7 @@ use Rattle.sched_report.proofs.MayNotes.{may_note}
 -- a request is one
 pub is_request : (sid : ℕ) (call : Call) (reply : Reply) (r : Request) → request_by sid call reply ≡ Some r
     → IsRequest call reply
-is_request sid (calls.Ask receiver other bytes heard) replies.Taken r is = tt
+is_request sid (calls.Ask receiver other amount heard) replies.Taken r is = tt
 is_request sid call reply r is = absurd (cc)
 
 -- an admission begins a life

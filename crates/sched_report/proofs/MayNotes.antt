@@ -1,28 +1,27 @@
 -- An entry that may follow a legal history may follow each of its lives.
-use Rattle.std.proofs.Common.{◌≡◌, ℕ, zero, suc, ◌+◌, ◌*◌, ◌<◌, ◌≤◌, ◌^◌, ◌==◌, Bool, true, false, List, [], ◌∷◌, ◌++◌}
+use Rattle.std.proofs.Common.{◌≡◌, ℕ, ◌+◌, ◌*◌, ◌<◌, ◌≤◌, ◌^◌, ◌==◌, Bool, true, false, List, [], ◌∷◌, ◌++◌}
 use Rattle.std.proofs.Common.{length, find, Option, None, Some, refl, sym, ap, ◌∙◌, subst, if◌then◌else◌, arith}
-use Rattle.std.specs.Prelude.{not, nat_le, nat_lt}
 use Rattle.std.specs.List.{AllByRecursion, cons_option}
-use Rattle.std.specs.Option.{option_map, option_or}
+use Rattle.std.specs.Option.{option_map}
 use Rattle.std.proofs.lemmas.List.{length_push}
 use Rattle.std.proofs.lemmas.List.Sums.{sum_by-cons}
+use Rattle.sched_history.proofs.steps.Passed.{passed-ask}
+use Rattle.sched_calls.specs.declared.amount.Amount.{Amount}
+use Rattle.sched_calls.specs.Amount.{requested}
 use Rattle.minislots.specs.declared.config.Config.{Config}
 use Rattle.minislots.specs.Config.{IsLawful}
 use Rattle.flow_book.specs.Flows.{LiveFlow, bytes_of}
 use Rattle.map_build.proofs.EachAfterLaws.{EachAfter-push}
 use Rattle.sched_calls.specs.declared.call.Call.{Call}
 use Rattle.sched_calls.specs.declared.call.Call.TheVariants as calls
-use Rattle.sched_calls.specs.declared.reply.Refusal.{Refusal}
 use Rattle.sched_calls.specs.declared.reply.Reply.{Reply}
 use Rattle.sched_calls.specs.declared.reply.Reply.TheVariants as replies
 use Rattle.sched_calls.specs.declared.reply.Entry.{Entry}
 use Rattle.sched_calls.specs.declared.reply.TheConstants.{MAX_WHOLE_HISTORY}
 use Rattle.sched_history.specs.Life.{turn_of, Life, life_of, flow_in_life, asked_by, asked_in, grants_since, flows_of}
-use Rattle.sched_history.specs.Refusal.{refused_if, refusal_of, bad_sid, is_live, is_silent, most_bytes}
-use Rattle.sched_calls.specs.declared.reply.Refusal.TheVariants.{BadSid, NoFlow, NotAsking, BadReceiver, BadBytes}
-use Rattle.sched_calls.specs.declared.reply.Refusal.TheVariants.{Acked, Ahead}
+use Rattle.sched_history.specs.Refusal.{most_bytes}
 use Rattle.sched_history.specs.History.{IsStep, IsLegal}
-use Rattle.sched_history.specs.Time.{next_after, progress_of}
+use Rattle.sched_history.specs.Time.{next_after}
 use Rattle.sched_history.specs.Facts.{IsWithinAsked}
 use Rattle.sched_history.proofs.facts.Orderly.{next_orderly}
 use Rattle.sched_history.proofs.lives.Finding.{flow_of-flows_of}
@@ -39,37 +38,37 @@ use Rattle.sched_report.proofs.Frames.{next_start-most}
 use Rattle.sched_report.proofs.LegalLives.{IsLifeIn, no_turn}
 
 -- the bytes of a request, where there is one
-abbrev bytes_or_none : Option Request → ℕ
-bytes_or_none None = 0
-bytes_or_none (Some r) = r.bytes
+abbrev bytes_or_none : Config → Option Request → ℕ
+bytes_or_none c None = 0
+bytes_or_none c (Some r) = requested c r.amount
 
-asked_if : (b : Bool) (bytes heard : ℕ)
-    → (if b then bytes else 0)
-    ≡ bytes_or_none (if b then Some (record { bytes = bytes; heard = heard }) else None)
-asked_if true bytes heard = refl
-asked_if false bytes heard = refl
+asked_if : (c : Config) (b : Bool) (amount : Amount) (heard : ℕ)
+    → (if b then requested c amount else 0)
+    ≡ bytes_or_none c (if b then Some (record { amount = amount; heard = heard }) else None)
+asked_if c true amount heard = refl
+asked_if c false amount heard = refl
 
 -- an entry asks the bytes of its request
-asked_by-request : (sid : ℕ) (call : Call) (reply : Reply)
-    → asked_by sid call reply ≡ bytes_or_none (request_by sid call reply)
-asked_by-request sid (calls.Ask receiver other bytes heard) replies.Taken = asked_if (other == sid) bytes heard
-asked_by-request sid call reply = refl
+asked_by-request : (c : Config) (sid : ℕ) (call : Call) (reply : Reply)
+    → asked_by c sid call reply ≡ bytes_or_none c (request_by sid call reply)
+asked_by-request c sid (calls.Ask receiver other amount heard) replies.Taken = asked_if c (other == sid) amount heard
+asked_by-request c sid call reply = refl
 
-bytes-cons : (o : Option Request) (rs : List Request)
-    → bytes_asked (cons_option o rs) ≡ bytes_or_none o + bytes_asked rs
-bytes-cons None rs = omega arith
-bytes-cons (Some r) rs = sum_by-cons (λ (r : Request). r.bytes) r rs
+bytes-cons : (c : Config) (o : Option Request) (rs : List Request)
+    → bytes_asked c (cons_option o rs) ≡ bytes_or_none c o + bytes_asked c rs
+bytes-cons c None rs = omega arith
+bytes-cons c (Some r) rs = sum_by-cons (λ (r : Request). requested c r.amount) r rs
 
 -- the bytes asked are those of the requests
-asked_in-requests : (sid : ℕ) (es : List Entry) → asked_in sid es ≡ bytes_asked (requests_in sid es)
-asked_in-requests sid [] = refl
-asked_in-requests sid (e ∷ es) =
+asked_in-requests : (c : Config) (sid : ℕ) (es : List Entry) → asked_in c sid es ≡ bytes_asked c (requests_in sid es)
+asked_in-requests c sid [] = refl
+asked_in-requests c sid (e ∷ es) =
     omega (
       arith,
-      sum_by-cons (λ (e : Entry). asked_by sid e.call e.reply) e es,
-      asked_by-request sid e.call e.reply,
-      asked_in-requests sid es,
-      bytes-cons (request_by sid e.call e.reply) (requests_in sid es),
+      sum_by-cons (λ (e : Entry). asked_by c sid e.call e.reply) e es,
+      asked_by-request c sid e.call e.reply,
+      asked_in-requests c sid es,
+      bytes-cons c (request_by sid e.call e.reply) (requests_in sid es),
     )
 
 -- what holds of each member holds of one that is found
@@ -84,43 +83,19 @@ found_all P p [] x all is = absurd (cc)
 found_all P p (y ∷ xs) x all is =
     found_if P (p y) y x (find p xs) all.0 (λ later. found_all P p xs x all.1 later) is
 
--- of two refusals that are none, both are none
-neither_first : (a b : Option Refusal) → option_or a b ≡ None → b ≡ None
-neither_first None b none = none
-neither_first (Some r) b none = absurd (cc)
+request_if : (b : Bool) (amount : Amount) (heard : ℕ) (r : Request)
+    → (if b then Some (record { amount = amount; heard = heard }) else None) ≡ Some r → r.amount ≡ amount
+request_if true amount heard r is =
+    let same : record { amount = amount; heard = heard } ≡ r = cc in sym (ap (λ (r : Request). r.amount) same)
+request_if false amount heard r is = absurd (cc)
 
--- a request that is not refused asks for bytes
-some_bytes : (c : Config) (h : List Entry) (receiver sid bytes heard : ℕ)
-    → refusal_of c h (calls.Ask receiver sid bytes heard) ≡ None → 0 < bytes
-some_bytes c h receiver sid zero heard none =
-    let progress : ℕ = progress_of c receiver h in
-    let ahead : Option Refusal = option_or (refused_if (nat_le (next_after c h) heard) (Ahead (next_after c h))) None in
-    let timed : Option Refusal = option_or (refused_if (nat_lt heard progress) (Acked progress)) ahead in
-    let sized : Option Refusal = option_or (Some BadBytes) timed in
-    let received : Option Refusal = option_or (refused_if (nat_le c.receivers receiver) BadReceiver) sized in
-    let asks : Option Refusal = option_or (refused_if (is_silent sid h) NotAsking) received in
-    let live : Option Refusal = option_or (refused_if (not (is_live sid h)) NoFlow) asks in
-    let past_sid : live ≡ None = neither_first (refused_if (bad_sid sid) BadSid) live none in
-    let past_live : asks ≡ None = neither_first (refused_if (not (is_live sid h)) NoFlow) asks past_sid in
-    let past_silent : received ≡ None = neither_first (refused_if (is_silent sid h) NotAsking) received past_live in
-    let past_receiver : sized ≡ None =
-    neither_first (refused_if (nat_le c.receivers receiver) BadReceiver) sized past_silent in
-    absurd (cc past_receiver)
-some_bytes c h receiver sid (suc bytes) heard none = omega arith
-
-request_if : (b : Bool) (bytes heard : ℕ) (r : Request)
-    → (if b then Some (record { bytes = bytes; heard = heard }) else None) ≡ Some r → r.bytes ≡ bytes
-request_if true bytes heard r is =
-    let same : record { bytes = bytes; heard = heard } ≡ r = cc in sym (ap (λ (r : Request). r.bytes) same)
-request_if false bytes heard r is = absurd (cc)
-
--- so each request of a legal history does
+-- each request of a legal history asks for bytes
 positive : (c : Config) (h : List Entry) (sid : ℕ) (call : Call) (reply : Reply) (r : Request) → IsStep c h call reply
-    → request_by sid call reply ≡ Some r → 0 < r.bytes
-positive c h sid (calls.Ask receiver other bytes heard) replies.Taken r step is =
-    let some : 0 < bytes = some_bytes c h receiver other bytes heard
-    (accepted c h (calls.Ask receiver other bytes heard) replies.Taken (λ r refuses. cc) step).0 in
-    omega (arith, some, request_if (other == sid) bytes heard r is)
+    → request_by sid call reply ≡ Some r → 0 < requested c r.amount
+positive c h sid (calls.Ask receiver other amount heard) replies.Taken r step is =
+    let asks = passed-ask c h receiver other amount heard
+    (accepted c h (calls.Ask receiver other amount heard) replies.Taken (λ r refuses. cc) step).0 in
+    omega (arith, asks.some_bytes, ap (requested c) (request_if (other == sid) amount heard r is))
 positive c h sid call reply r step is = absurd (cc)
 
 module _ (c : Config) (lawful : IsLawful c) (h : List Entry) (legal : IsLegal c h) (e : Entry)
@@ -128,8 +103,8 @@ module _ (c : Config) (lawful : IsLawful c) (h : List Entry) (legal : IsLegal c 
   -- what a life that goes on was granted was asked
   granted_within : (life : PastLife) → IsLifeIn h life → life.ended ≡ false → is_turn life.sid e ≡ false
       → (bytes_of (grants_since life.sid (life.since ++ e ∷ []))
-      ≤ bytes_asked (requests_in life.sid (life.since ++ e ∷ [])))
-      × (bytes_asked (requests_in life.sid (life.since ++ e ∷ [])) < 2 ^ 64)
+      ≤ bytes_asked c (requests_in life.sid (life.since ++ e ∷ [])))
+      × (bytes_asked c (requests_in life.sid (life.since ++ e ∷ [])) < 2 ^ 64)
   granted_within life is alive stays =
       let longer : List Entry = h ++ e ∷ [] in
       let legal' : IsLegal c longer = EachAfter-push (λ before x. IsStep c before x.call x.reply) [] h e legal step in
@@ -137,19 +112,19 @@ module _ (c : Config) (lawful : IsLawful c) (h : List Entry) (legal : IsLegal c 
       let now : Life = with_since e l.0 in
       let lives : life_of life.sid longer ≡ Some now =
       life_of-stays life.sid h e (no_turn (turn_of life.sid e) stays) ∙ ap (option_map (with_since e)) l.1 in
-      let f : LiveFlow = flow_in_life life.sid now in
-      let found : find (λ (f : LiveFlow). f.sid == life.sid) (flows_of longer) ≡ Some f =
-      flow_of-flows_of life.sid longer is.least is.most ∙ ap (option_map (flow_in_life life.sid)) lives in
-      let within : IsWithinAsked f = found_all IsWithinAsked (λ (f : LiveFlow). f.sid == life.sid) (flows_of longer) f
+      let f : LiveFlow = flow_in_life c life.sid now in
+      let found : find (λ (f : LiveFlow). f.sid == life.sid) (flows_of c longer) ≡ Some f =
+      flow_of-flows_of c life.sid longer is.least is.most ∙ ap (option_map (flow_in_life c life.sid)) lives in
+      let within : IsWithinAsked f = found_all IsWithinAsked (λ (f : LiveFlow). f.sid == life.sid) (flows_of c longer) f
       (within_asked c longer legal') found in
       let few : f.asked ≤ most_bytes * length longer =
       found_all (λ (f : LiveFlow). f.asked ≤ most_bytes * length longer) (λ (f : LiveFlow). f.sid == life.sid)
-      (flows_of longer) f (flows_of-asked c lawful longer legal') found in
+      (flows_of c longer) f (flows_of-asked c lawful longer legal') found in
       let same : now.since ≡ life.since ++ e ∷ [] = ap (λ (es : List Entry). es ++ e ∷ []) l.2 in
-      subst (λ es. (bytes_of (grants_since life.sid es) ≤ bytes_asked (requests_in life.sid es))
-      × (bytes_asked (requests_in life.sid es) < 2 ^ 64)) same (
-        omega (arith, within, asked_in-requests life.sid now.since),
-        omega (arith, few, asked_in-requests life.sid now.since, length_push h e, short),
+      subst (λ es. (bytes_of (grants_since life.sid es) ≤ bytes_asked c (requests_in life.sid es))
+      × (bytes_asked c (requests_in life.sid es) < 2 ^ 64)) same (
+        omega (arith, within, asked_in-requests c life.sid now.since),
+        omega (arith, few, asked_in-requests c life.sid now.since, length_push h e, short),
       )
 
   -- its MAP, where it has one, starts in reach and is in order

@@ -34,7 +34,7 @@ no_turn_by sid call reply none = refl
 
 -- nor is anything asked
 no_request_by : (sid : ℕ) (call : Call) (reply : Reply) → named_by call reply ≡ None → request_by sid call reply ≡ None
-no_request_by sid (calls.Ask receiver other bytes heard) replies.Taken none = absurd (cc)
+no_request_by sid (calls.Ask receiver other amount heard) replies.Taken none = absurd (cc)
 no_request_by sid call reply none = refl
 
 -- an entry without a MAP that names no SID
@@ -58,7 +58,7 @@ unnamed-other sid named (calls.Remove other) replies.Removed is apart =
     let same : other ≡ named = cc in
     let fails : (other == sid) ≡ false = ne_eqb other sid (λ here. apart (sym same ∙ here)) in
     record { stays = none_under (other == sid) _ fails; silent = refl; ungranted = refl; unsolicited = λ spec. refl }
-unnamed-other sid named (calls.Ask receiver other bytes heard) replies.Taken is apart =
+unnamed-other sid named (calls.Ask receiver other amount heard) replies.Taken is apart =
     let same : other ≡ named = cc in
     let fails : (other == sid) ≡ false = ne_eqb other sid (λ here. apart (sym same ∙ here)) in
     record { stays = refl; silent = none_under (other == sid) _ fails; ungranted = refl; unsolicited = λ spec. refl }

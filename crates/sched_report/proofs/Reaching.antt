@@ -6,6 +6,7 @@ use Rattle.std.specs.List.{AllByRecursion}
 use Rattle.std.specs.Option.{option_map_or}
 use Rattle.std.proofs.lemmas.Bool.Decides.{leb_tells}
 use Rattle.std.proofs.lemmas.List.Sums.{sum_by-cons}
+use Rattle.sched_calls.specs.Amount.{requested}
 use Rattle.minislots.specs.declared.config.Config.{Config}
 use Rattle.flow_book.specs.declared.flow.Grant.{Grant}
 use Rattle.flow_book.specs.Flows.{bytes_of}
@@ -130,16 +131,19 @@ greatest_of-push [] n = refl
 greatest_of-push (m ∷ ns) n = rw (greatest_of-push ns n) (ap Some (greatest_step (greatest_of ns) m n))
 
 -- the marks with one request more
-pub marks_from-push : (asked : ℕ) (requests : List Request) (r : Request)
-    → marks_from asked (requests ++ r ∷ [])
-    ≡ marks_from asked requests ++ record { upto = asked + bytes_asked requests + r.bytes; heard = r.heard } ∷ []
-marks_from-push asked [] r = ap (λ (n : ℕ). record { upto = n + r.bytes; heard = r.heard } ∷ []) (omega arith)
-marks_from-push asked (q ∷ requests) r =
-    let sum : asked + q.bytes + bytes_asked requests ≡ asked + bytes_asked (q ∷ requests) =
-    omega (arith, sum_by-cons (λ (r : Request). r.bytes) q requests) in
-    ap (λ (ms : List Waiting). record { upto = asked + q.bytes; heard = q.heard } ∷ ms)
-    (marks_from-push (asked + q.bytes) requests r
-    ∙ ap (λ (n : ℕ). marks_from (asked + q.bytes) requests ++ record { upto = n + r.bytes; heard = r.heard } ∷ []) sum)
+pub marks_from-push : (c : Config) (asked : ℕ) (requests : List Request) (r : Request)
+    → marks_from c asked (requests ++ r ∷ []) ≡ marks_from c asked requests
+    ++ record { upto = asked + bytes_asked c requests + requested c r.amount; heard = r.heard } ∷ []
+marks_from-push c asked [] r =
+    ap (λ (n : ℕ). record { upto = n + requested c r.amount; heard = r.heard } ∷ []) (omega arith)
+marks_from-push c asked (q ∷ requests) r =
+    let upto : ℕ = asked + requested c q.amount in
+    let sum : upto + bytes_asked c requests ≡ asked + bytes_asked c (q ∷ requests) =
+    omega (arith, sum_by-cons (λ (r : Request). requested c r.amount) q requests) in
+    ap (λ (ms : List Waiting). record { upto = upto; heard = q.heard } ∷ ms)
+    (marks_from-push c upto requests r
+    ∙ ap (λ (n : ℕ). marks_from c upto requests
+    ++ record { upto = n + requested c r.amount; heard = r.heard } ∷ []) sum)
 
 -- each mark is at or after the one before it
 abbrev pub MarksAscend : ℕ → List Waiting → Type 0
@@ -147,9 +151,10 @@ MarksAscend from [] = Unit {0}
 MarksAscend from (m ∷ marks) = (from ≤ m.upto) × MarksAscend m.upto marks
 
 -- the marks of requests do
-pub marks_ascend : (asked : ℕ) (requests : List Request) → MarksAscend asked (marks_from asked requests)
-marks_ascend asked [] = tt
-marks_ascend asked (r ∷ requests) = (omega arith, marks_ascend (asked + r.bytes) requests)
+pub marks_ascend : (c : Config) (asked : ℕ) (requests : List Request)
+    → MarksAscend asked (marks_from c asked requests)
+marks_ascend c asked [] = tt
+marks_ascend c asked (r ∷ requests) = (omega arith, marks_ascend c (asked + requested c r.amount) requests)
 
 -- so they are behind some of them
 pub ascend-behind : (from : ℕ) (some marks : List Waiting) → MarksAscend from (some ++ marks) → MarksAscend 0 marks

@@ -4,6 +4,7 @@ use Rattle.sched_calls.specs.declared.spec.FlowSpec.TheVariants.{BestEffort, Uns
 use Rattle.sched_calls.proofs.Base.{base}
 use Rattle.sched_calls.specs.declared.frame_map.FrameMap.{FrameMap}
 use Rattle.sched_calls.proofs.BaseMaps.{element, base_map}
+use Rattle.sched_calls.specs.declared.amount.Amount.TheVariants.{Bytes}
 use Rattle.sched_calls.specs.declared.call.Call.TheVariants.{Ask, Build}
 use Rattle.sched_calls.specs.declared.reply.Reply.TheVariants.{Taken, Built}
 use Rattle.sched_calls.specs.declared.reply.Entry.{Entry}
@@ -22,8 +23,8 @@ granted = base_map 840 800 (element 0x3fff 1 0 ∷ element 17 6 4 ∷ element 0 
 
 -- it serves requests of 100 and of 50 bytes; one of 70 comes after it
 abbrev requests : List Entry
-requests = entry 2 (Ask 0 17 100 800) Taken ∷ entry 3 (Ask 0 17 50 810) Taken
-    ∷ entry 4 (Build 800) (Built granted) ∷ entry 5 (Ask 0 17 70 860) Taken ∷ []
+requests = entry 2 (Ask 0 17 (Bytes 100) 800) Taken ∷ entry 3 (Ask 0 17 (Bytes 50) 810) Taken
+    ∷ entry 4 (Build 800) (Built granted) ∷ entry 5 (Ask 0 17 (Bytes 70) 860) Taken ∷ []
 
 abbrev life : Bool → PastLife
 life ended = record { sid = 17; spec = BestEffort 3 0 0; upto = []; since = requests; ended = ended }
@@ -44,7 +45,7 @@ none_waits_at_the_end = refl
 one_was_dropped : dropped_in base (life true) ≡ 1
 one_was_dropped = refl
 
-seventy_bytes_are_outstanding : outstanding_in (life true) ≡ 70
+seventy_bytes_are_outstanding : outstanding_in base (life true) ≡ 70
 seventy_bytes_are_outstanding = refl
 
 its_data_grants_are_counted : granted_in (life true) ≡ 150
@@ -69,7 +70,7 @@ four_grants_are_128_bytes : granted_in voice ≡ 128
 unfolding use_of
 four_grants_are_128_bytes = refl
 
-nothing_is_outstanding : outstanding_in voice ≡ 0
+nothing_is_outstanding : outstanding_in base voice ≡ 0
 nothing_is_outstanding = refl
 
 a_poll_is_no_grant : granted_in (record voice { sid = 19 }) ≡ 0

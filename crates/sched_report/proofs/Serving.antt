@@ -7,6 +7,7 @@ use Rattle.std.specs.VecDeque.{deque_len}
 use Rattle.std.proofs.lemmas.List.{append-nil, length_push}
 use Rattle.std.proofs.lemmas.List.Elements.{filter_map-append}
 use Rattle.std.proofs.lemmas.List.Sums.{sum_by_push}
+use Rattle.sched_calls.specs.Amount.{requested}
 use Rattle.minislots.specs.declared.config.Config.{Config}
 use Rattle.flow_book.specs.declared.flow.Grant.{Grant}
 use Rattle.flow_book.specs.Flows.{bytes_of}
@@ -64,9 +65,10 @@ few_delays c grants (m ∷ marks) =
       few_delays c grants marks,
     )
 
-length-marks : (asked : ℕ) (requests : List Request) → length (marks_from asked requests) ≡ length requests
-length-marks asked [] = refl
-length-marks asked (r ∷ requests) = omega (arith, length-marks (asked + r.bytes) requests)
+length-marks : (c : Config) (asked : ℕ) (requests : List Request)
+    → length (marks_from c asked requests) ≡ length requests
+length-marks c asked [] = refl
+length-marks c asked (r ∷ requests) = omega (arith, length-marks c (asked + requested c r.amount) requests)
 
 -- the delays are those of the requests that were reached
 delays_of-served : (c : Config) (s : Service) (requests : List Request) (grants : List Grant)
@@ -90,33 +92,35 @@ few_served c s requests grants is =
       few_delays c grants is.served,
       ap length is.split,
       length-append is.served s.waiting.items,
-      length-marks 0 requests,
+      length-marks c 0 requests,
     )
 
 module _ (c : Config) (s new : Service) (requests : List Request) (grants : List Grant)
     (is : IsServiceOf c s requests grants) where
   -- with one request more, which waits
-  pub IsServiceOf-asked : (r : Request) → 0 < r.bytes → new.asks ≡ s.asks + 1 → new.asked ≡ s.asked + r.bytes
+  pub IsServiceOf-asked : (r : Request) → 0 < requested c r.amount → new.asks ≡ s.asks + 1 → new.asked
+      ≡ s.asked + requested c r.amount
       → new.granted ≡ s.granted → new.delays ≡ s.delays
-      → new.waiting.items ≡ s.waiting.items ++ record { upto = s.asked + r.bytes; heard = r.heard } ∷ []
+      → new.waiting.items ≡ s.waiting.items ++ record { upto = s.asked + requested c r.amount; heard = r.heard } ∷ []
       → new.spread.steps.items ≡ s.spread.steps.items
       → vec_len new.spread.steps + deque_len new.waiting ≤ vec_capacity new.spread.steps
       → IsServiceOf c new (requests ++ r ∷ []) grants
   IsServiceOf-asked r some asks asked granted delays waiting steps room =
-      let m : Waiting = record { upto = s.asked + r.bytes; heard = r.heard } in
-      let upto : 0 + bytes_asked requests + r.bytes ≡ s.asked + r.bytes = omega (arith, is.asked) in
-      let marks : marks_of (requests ++ r ∷ []) ≡ marks_of requests ++ m ∷ [] =
-      marks_from-push 0 requests r
-      ∙ ap (λ (n : ℕ). marks_of requests ++ record { upto = n; heard = r.heard } ∷ []) upto in
+      let m : Waiting = record { upto = s.asked + requested c r.amount; heard = r.heard } in
+      let upto : 0 + bytes_asked c requests + requested c r.amount
+      ≡ s.asked + requested c r.amount = omega (arith, is.asked) in
+      let marks : marks_of c (requests ++ r ∷ []) ≡ marks_of c requests ++ m ∷ [] =
+      marks_from-push c 0 requests r
+      ∙ ap (λ (n : ℕ). marks_of c requests ++ record { upto = n; heard = r.heard } ∷ []) upto in
       let past : bytes_of grants < m.upto = omega (arith, is.granted, is.within, some) in
       let alone : delays_among c grants (m ∷ []) ≡ [] = delays-unreached c grants (m ∷ []) (past, tt) in
       let same : delays_of c (requests ++ r ∷ []) grants ≡ delays_of c requests grants =
       ap (delays_among c grants) marks
-      ∙ filter_map-append (delay_of c grants) (marks_of requests) (m ∷ [])
+      ∙ filter_map-append (delay_of c grants) (marks_of c requests) (m ∷ [])
       ∙ ap (λ (ds : List ℕ). delays_of c requests grants ++ ds) alone ∙ append-nil (delays_of c requests grants) in
       record {
         asks = asks ∙ omega (arith, is.asks, length_push requests r);
-        asked = asked ∙ omega (arith, is.asked, sum_by_push (λ (r : Request). r.bytes) requests r);
+        asked = asked ∙ omega (arith, is.asked, sum_by_push (λ (r : Request). requested c r.amount) requests r);
         granted = granted ∙ is.granted;
         within = omega (arith, granted, asked, is.within);
         delays = subst (λ ds. AreDelays new.delays ds) (sym same)
@@ -148,7 +152,7 @@ module _ (c : Config) (s new : Service) (requests : List Request) (grants : List
       let left : List Waiting = new.waiting.items in
       let bytes : bytes_of (grants ++ g ∷ []) ≡ bytes_of grants + g.bytes =
       sum_by_push (λ (g : Grant). g.bytes) grants g in
-      let whole : marks_of requests ≡ is.served ++ (passed ++ left) =
+      let whole : marks_of c requests ≡ is.served ++ (passed ++ left) =
       is.split ∙ ap (λ (ms : List Waiting). is.served ++ ms) passes in
       let unreached_before : AreUnreached s.granted (passed ++ left) =
       subst (AreUnreached s.granted) passes is.unreached in
@@ -156,7 +160,7 @@ module _ (c : Config) (s new : Service) (requests : List Request) (grants : List
       between s.granted new.granted passed left unreached_before reached in
       let ascend : MarksAscend 0 left =
       ascend-behind 0 (is.served ++ passed) left
-      (subst (MarksAscend 0) (whole ∙ sym (append_assoc is.served passed left)) (marks_ascend 0 requests)) in
+      (subst (MarksAscend 0) (whole ∙ sym (append_assoc is.served passed left)) (marks_ascend c 0 requests)) in
       let unreached : AreUnreached new.granted left = all_unreached new.granted left behind ascend in
       let reaches : new.granted ≡ bytes_of (grants ++ g ∷ []) = omega (arith, granted, is.granted, bytes) in
       let old : delays_of c requests grants ≡ delays_among c grants is.served =

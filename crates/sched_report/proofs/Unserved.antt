@@ -66,7 +66,7 @@ module _ (c : Config) (grants : List Grant) where
 pub unserved_of-waiting : (c : Config) (s : Service) (requests : List Request) (grants : List Grant)
     → IsServiceOf c s requests grants → length s.waiting.items ≡ unserved_of c requests grants
 unserved_of-waiting c s requests grants is =
-    let marks : count_by (unserved c grants) (marks_of requests)
+    let marks : count_by (unserved c grants) (marks_of c requests)
     ≡ count_by (unserved c grants) (is.served ++ s.waiting.items) =
     ap (count_by (unserved c grants)) is.split in
     omega (

@@ -16,7 +16,7 @@ is_admit call = false
 
 -- the call hands in a request
 abbrev pub is_ask : Call → Bool
-is_ask (Ask receiver sid bytes heard) = true
+is_ask (Ask receiver sid amount heard) = true
 is_ask call = false
 
 -- the call builds a MAP

@@ -4,6 +4,7 @@ use Rattle.std.specs.Prelude.{Option, None, Some, is_none, option_map, if◌then
 use Rattle.std.specs.Option.{option_map_or}
 use Rattle.minislots.specs.declared.config.Config.{Config}
 use Rattle.minislots.specs.Units.{slots_for}
+use Rattle.sched_calls.specs.Amount.{requested}
 use Rattle.flow_book.specs.declared.flow.Grant.{Grant}
 use Rattle.flow_book.specs.Flows.{bytes_of}
 use Rattle.sched_report.specs.declared.service.Request.{Request}
@@ -12,18 +13,19 @@ use Rattle.sched_report.specs.declared.service.Delays.{Delays}
 use Rattle.sched_report.specs.declared.service.Sums.{Sums}
 
 -- the bytes of some requests
-abbrev pub bytes_asked : List Request → ℕ
-bytes_asked requests = sum_by (λ r. r.bytes) requests
+abbrev pub bytes_asked : Config → List Request → ℕ
+bytes_asked c requests = sum_by (λ r. requested c r.amount) requests
 
 -- each request with the bytes that its flow asked up to it and with it, where so many were asked before
-abbrev pub marks_from : ℕ → List Request → List Waiting
-marks_from asked [] = []
-marks_from asked (r ∷ requests) =
-    record { upto = asked + r.bytes; heard = r.heard } ∷ marks_from (asked + r.bytes) requests
+abbrev pub marks_from : Config → ℕ → List Request → List Waiting
+marks_from c asked [] = []
+marks_from c asked (r ∷ requests) =
+    record { upto = asked + requested c r.amount; heard = r.heard }
+    ∷ marks_from c (asked + requested c r.amount) requests
 
 -- each request with the bytes that its flow asked up to it and with it
-abbrev pub marks_of : List Request → List Waiting
-marks_of requests = marks_from 0 requests
+abbrev pub marks_of : Config → List Request → List Waiting
+marks_of c requests = marks_from c 0 requests
 
 -- the first data grant with which so many bytes are granted
 abbrev pub reaching : ℕ → List Grant → Option Grant
@@ -40,11 +42,11 @@ delay_of c grants mark = option_map (delay_until c mark.heard) (reaching mark.up
 
 -- the delays of the requests that were served, in the order in which they were asked
 abbrev pub delays_of : Config → List Request → List Grant → List ℕ
-delays_of c requests grants = filter_map (delay_of c grants) (marks_of requests)
+delays_of c requests grants = filter_map (delay_of c grants) (marks_of c requests)
 
 -- how many requests no grant serves
 abbrev pub unserved_of : Config → List Request → List Grant → ℕ
-unserved_of c requests grants = count_by (λ m. is_none (delay_of c grants m)) (marks_of requests)
+unserved_of c requests grants = count_by (λ m. is_none (delay_of c grants m)) (marks_of c requests)
 
 -- the least of some numbers, where there are any
 abbrev pub least_of : List ℕ → Option ℕ
@@ -65,6 +67,6 @@ pub record AreDelays (d : Delays) (delays : List ℕ) : Type 0 where
 -- these are the sums of the requests and the grants, and their delays
 pub record AreSums (c : Config) (s : Sums) (requests : List Request) (grants : List Grant) : Type 0 where
   pub asks : s.asks ≡ length requests
-  pub asked : s.asked ≡ bytes_asked requests
+  pub asked : s.asked ≡ bytes_asked c requests
   pub granted : s.granted ≡ bytes_of grants
   pub delays : AreDelays s.delays (delays_of c requests grants)

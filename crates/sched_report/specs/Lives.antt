@@ -69,8 +69,8 @@ with_entry e life =
 
 -- the accepted request of this SID that an entry is
 abbrev pub request_by : ℕ → Call → Reply → Option Request
-request_by sid (calls.Ask receiver other bytes heard) replies.Taken =
-    if other == sid then Some (record { bytes = bytes; heard = heard }) else None
+request_by sid (calls.Ask receiver other amount heard) replies.Taken =
+    if other == sid then Some (record { amount = amount; heard = heard }) else None
 request_by sid call reply = None
 
 -- the accepted requests of this SID in these entries, in order
@@ -79,7 +79,7 @@ requests_in sid es = filter_map (λ e. request_by sid e.call e.reply) es
 
 -- the entry is an accepted request, of whichever SID
 abbrev pub IsRequest : Call → Reply → Type 0
-IsRequest (calls.Ask receiver sid bytes heard) replies.Taken = Unit {0}
+IsRequest (calls.Ask receiver sid amount heard) replies.Taken = Unit {0}
 IsRequest call reply = ⊥
 
 -- the entry begins a life, of whichever SID

@@ -14,7 +14,7 @@ use Rattle.sched_report.specs.Said.{unsolicited_by}
 abbrev pub named_by : Call → Reply → Option ℕ
 named_by (calls.Admit sid spec) (replies.Admitted placement) = Some sid
 named_by (calls.Remove sid) replies.Removed = Some sid
-named_by (calls.Ask receiver sid bytes heard) replies.Taken = Some sid
+named_by (calls.Ask receiver sid amount heard) replies.Taken = Some sid
 named_by call reply = None
 
 -- The entry does nothing to a flow of this SID: it begins and ends no life, asks for nothing and grants nothing

@@ -33,9 +33,9 @@ abbrev pub dropped_in : Config → PastLife → ℕ
 dropped_in c life = if life.ended then unserved_in c life else 0
 
 -- the bytes that were asked and not granted
-abbrev pub outstanding_in : PastLife → ℕ
-outstanding_in life =
-    bytes_asked (requests_in life.sid life.since) - bytes_of (grants_since life.sid life.since)
+abbrev pub outstanding_in : Config → PastLife → ℕ
+outstanding_in c life =
+    bytes_asked c (requests_in life.sid life.since) - bytes_of (grants_since life.sid life.since)
 
 -- whether an allocation is an unsolicited grant to the unsolicited flow that lives under this SID
 abbrev pub is_grant_to : ℕ → Allocation → Bool

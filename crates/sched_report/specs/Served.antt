@@ -4,6 +4,7 @@ use Rattle.std.specs.List.{AllByRecursion}
 use Rattle.std.specs.VecDeque.{deque_len, deque_capacity}
 use Rattle.minislots.specs.declared.config.Config.{Config}
 use Rattle.minislots.specs.Config.{IsLawful}
+use Rattle.sched_calls.specs.Amount.{requested}
 use Rattle.flow_book.specs.declared.flow.Grant.{Grant}
 use Rattle.flow_book.specs.Flows.{bytes_of}
 use Rattle.sched_report.specs.declared.service.Request.{Request}
@@ -16,12 +17,12 @@ use Rattle.sched_report.specs.Steps.{AreStepsOf}
 -- before them, and none of them. There is room for a step more of each that waits
 pub record IsServiceOf (c : Config) (s : Service) (requests : List Request) (grants : List Grant) : Type 0 where
   pub asks : s.asks ≡ length requests
-  pub asked : s.asked ≡ bytes_asked requests
+  pub asked : s.asked ≡ bytes_asked c requests
   pub granted : s.granted ≡ bytes_of grants
   pub within : s.granted ≤ s.asked
   pub delays : AreDelays s.delays (delays_of c requests grants)
   pub served : List Waiting
-  pub split : marks_of requests ≡ served ++ s.waiting.items
+  pub split : marks_of c requests ≡ served ++ s.waiting.items
   pub reached : AllByRecursion (λ m. (0 < m.upto) × (m.upto ≤ s.granted)) served
   pub unreached : AllByRecursion (λ m. s.granted < m.upto) s.waiting.items
   pub steps : AreStepsOf s.spread.steps.items (delays_of c requests grants)
@@ -33,14 +34,13 @@ HasRoom s = (deque_len s.waiting < deque_capacity s.waiting)
     × (vec_len s.spread.steps + deque_len s.waiting < vec_capacity s.spread.steps)
 
 -- A request may be counted: it asks for bytes, and there are few enough
-pub record MayAsk (s : Service) (r : Request) : Type 0 where
-  pub config : Config
+pub record MayAsk (c : Config) (s : Service) (r : Request) : Type 0 where
   pub requests : List Request
   pub grants : List Grant
-  pub is : IsServiceOf config s requests grants
-  pub some : 0 < r.bytes
+  pub is : IsServiceOf c s requests grants
+  pub some : 0 < requested c r.amount
   pub few : length requests < 2 ^ 44
-  pub fits : bytes_asked requests + r.bytes < 2 ^ 64
+  pub fits : bytes_asked c requests + requested c r.amount < 2 ^ 64
 
 -- A data grant may be counted: its bytes were asked, and it starts in reach
 pub record MayGrant (c : Config) (s : Service) (g : Grant) : Type 0 where
@@ -49,8 +49,8 @@ pub record MayGrant (c : Config) (s : Service) (g : Grant) : Type 0 where
   pub is : IsServiceOf c s requests grants
   pub lawful : IsLawful c
   pub few : length requests ≤ 2 ^ 44
-  pub fits : bytes_asked requests < 2 ^ 64
-  pub within : bytes_of grants + g.bytes ≤ bytes_asked requests
+  pub fits : bytes_asked c requests < 2 ^ 64
+  pub within : bytes_of grants + g.bytes ≤ bytes_asked c requests
   pub reach : g.start < 2 ^ 63
 
 -- the first of those that wait is not reached by so many bytes

@@ -3,6 +3,7 @@ use Rattle.std.specs.Prelude.{◌≡◌, ℕ, ◌*◌, ◌<◌, ◌≤◌, ◌^�
 use Rattle.std.specs.Prelude.{if◌then◌else◌}
 use Rattle.minislots.specs.declared.config.Config.{Config}
 use Rattle.minislots.specs.Config.{IsLawful}
+use Rattle.sched_calls.specs.Amount.{requested}
 use Rattle.flow_book.specs.declared.flow.Grant.{Grant}
 use Rattle.flow_book.specs.Flows.{bytes_of}
 use Rattle.sched_calls.specs.declared.frame_map.FrameMap.{FrameMap}
@@ -42,11 +43,11 @@ pub record MayNote (c : Config) (life : PastLife) (slot : ℕ) (e : Entry) : Typ
   pub lawful : IsLawful c
   pub few : length life.since < MAX_WHOLE_HISTORY
   pub next : life.ended ≡ false → slot ≡ next_after c (life.upto ++ life.since)
-  pub some : (r : Request) → request_by life.sid e.call e.reply ≡ Some r → 0 < r.bytes
+  pub some : (r : Request) → request_by life.sid e.call e.reply ≡ Some r → 0 < requested c r.amount
   pub within : life.ended ≡ false → is_turn life.sid e ≡ false
       → (bytes_of (grants_since life.sid (life.since ++ e ∷ []))
-      ≤ bytes_asked (requests_in life.sid (life.since ++ e ∷ [])))
-      × (bytes_asked (requests_in life.sid (life.since ++ e ∷ [])) < 2 ^ 64)
+      ≤ bytes_asked c (requests_in life.sid (life.since ++ e ∷ [])))
+      × (bytes_asked c (requests_in life.sid (life.since ++ e ∷ [])) < 2 ^ 64)
   pub start : (m : FrameMap) → e.reply ≡ Built m → m.start < 2 ^ 62
   pub orderly : (m : FrameMap) → e.reply ≡ Built m → IsOrderly c m
 
@@ -57,5 +58,5 @@ pub record MayGrantAll (c : Config) (s : Service) (more : List Grant) : Type 0 w
   pub is : IsServiceOf c s requests grants
   pub lawful : IsLawful c
   pub few : length requests ≤ 2 ^ 44
-  pub fits : bytes_asked requests < 2 ^ 64
-  pub within : bytes_of (grants ++ more) ≤ bytes_asked requests
+  pub fits : bytes_asked c requests < 2 ^ 64
+  pub within : bytes_of (grants ++ more) ≤ bytes_asked c requests

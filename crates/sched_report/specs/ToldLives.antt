@@ -65,7 +65,7 @@ pub record AreLifeNumbers (c : Config) (n : LifeNumbers) (life : PastLife) : Typ
   pub priority : n.priority ≡ priority_of life.spec
   pub sums : AreSums c n.sums (requests_in life.sid life.since) (grants_since life.sid life.since)
   pub granted : n.granted ≡ granted_in life
-  pub outstanding : n.outstanding ≡ outstanding_in life
+  pub outstanding : n.outstanding ≡ outstanding_in c life
   pub waiting : n.waiting ≡ waiting_in c life
   pub dropped : n.dropped ≡ dropped_in c life
   pub middle : TellsPercentile 50 (delays_in c life) n.middle

@@ -208,15 +208,16 @@ impl LifeTally {
     }
 
     // Goes on with one entry more that has no MAP, before which the next frame starts there.
-    pub(crate) fn note(&mut self, next: u64, entry: &Entry)
-        requires may { (c : Config) × (life : PastLife) × IsLifeOf c self.old life
-            × MayNote c life next entry.now }
+    pub(crate) fn note(&mut self, config: &Checked, next: u64, entry: &Entry)
+        requires may { (life : PastLife) × IsLifeOf config.now self.old life
+            × MayNote config.now life next entry.now }
         requires room { self.old.to ≡ None → (r : Asked)
             → request_by self.old.sid entry.now.call entry.now.reply ≡ Some r
             → HasRoomFor self.old }
         requires unbuilt { HasNoMap entry.now.reply }
-        ensures life { (c : Config) (life : PastLife) → IsLifeOf c self.old life
-            → MayNote c life next entry.now → IsLifeOf c self.new (with_entry entry.now life) }
+        ensures life { (life : PastLife) → IsLifeOf config.now self.old life
+            → MayNote config.now life next entry.now
+            → IsLifeOf config.now self.new (with_entry entry.now life) }
         ensures alive { self.new.to ≡ None → self.old.to ≡ None }
         ensures sid { self.new.sid ≡ self.old.sid }
     {
@@ -228,7 +229,7 @@ impl LifeTally {
             return;
         }
         if let Some(request) = request_of(self.sid, entry) {
-            self.service.ask(request);
+            self.service.ask(config, request);
         }
     }
 
@@ -319,12 +320,12 @@ fn request_of(sid: u16, entry: &Entry) -> Option<Request>
         (
             Call::Ask {
                 sid: other,
-                bytes,
+                amount,
                 heard,
                 ..
             },
             Reply::Taken,
-        ) if other == sid => Some(Request { bytes, heard }),
+        ) if other == sid => Some(Request { amount, heard }),
         _ => None,
     }
 }

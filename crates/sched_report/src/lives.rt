@@ -163,16 +163,16 @@ fn note_map(lives: &mut [LifeTally], places: &[usize], config: &Checked, map: &F
 }
 
 // Goes on with an entry that has no MAP.
-fn note_named(lives: &mut [LifeTally], places: &[usize], next: u64, entry: &Entry)
-    requires may { (c : Config) × (ls : List PastLife) × AreLives c lives.old ls
-        × MayNoteEach c ls next entry.now }
+fn note_named(lives: &mut [LifeTally], places: &[usize], config: &Checked, next: u64, entry: &Entry)
+    requires may { (ls : List PastLife) × AreLives config.now lives.old ls
+        × MayNoteEach config.now ls next entry.now }
     requires room { IsRequest entry.now.call entry.now.reply
         → HaveRoomFor entry.now.call entry.now.reply lives.old }
     requires live { AreLive places.now lives.old }
     requires unbuilt { HasNoMap entry.now.reply }
-    ensures lives { (c : Config) (ls : List PastLife) → AreLives c lives.old ls
-        → MayNoteEach c ls next entry.now
-        → AreLives c lives.new (map (with_entry entry.now) ls) }
+    ensures lives { (ls : List PastLife) → AreLives config.now lives.old ls
+        → MayNoteEach config.now ls next entry.now
+        → AreLives config.now lives.new (map (with_entry entry.now) ls) }
     ensures live { AreLive places.now lives.new }
 {
     let Some(sid) = named_by(entry) else {
@@ -180,7 +180,7 @@ fn note_named(lives: &mut [LifeTally], places: &[usize], next: u64, entry: &Entr
     };
     let place = place_under(places, sid);
     if place < lives.len() {
-        lives[place].note(next, entry);
+        lives[place].note(config, next, entry);
     }
 }
 
@@ -205,7 +205,7 @@ pub(crate) fn note_each(
 {
     match &entry.reply {
         Reply::Built(map) => note_map(lives, places, config, map),
-        _ => note_named(lives, places, next, entry),
+        _ => note_named(lives, places, config, next, entry),
     }
 }
 

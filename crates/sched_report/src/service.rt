@@ -17,14 +17,15 @@ ghost use Rattle.sched_report.specs.Served.{IsServiceOf, HasRoom, MayAsk, MayGra
 use crate::spread::Spread;
 use flow_book::Grant;
 use minislots::Checked;
+use sched_calls::Amount;
 use std::alloc::{AllocError, Global};
 use std::collections::VecDeque;
 
-/// A request: its bytes, and the minislot at which it was heard.
+/// A request: how much it asks for, and the minislot at which it was heard.
 #[derive(Clone, Copy)]
 pub struct Request {
-    /// The bytes that it asks for.
-    pub bytes: u32,
+    /// How much it asks for.
+    pub amount: Amount,
     /// The minislot at which a receiver heard it.
     pub heard: u64,
 }
@@ -144,14 +145,14 @@ impl Service {
     }
 
     /// Counts a request, which waits.
-    pub fn ask(&mut self, request: Request)
-        requires may { MayAsk self.old request }
+    pub fn ask(&mut self, config: &Checked, request: Request)
+        requires may { MayAsk config.now self.old request }
         requires room { HasRoom self.old }
-        ensures { (c : Config) (requests : List Asked) (grants : List DataGrant)
-            → IsServiceOf c self.old requests grants
-            → IsServiceOf c self.new (requests ++ request ∷ []) grants }
+        ensures { (requests : List Asked) (grants : List DataGrant)
+            → IsServiceOf config.now self.old requests grants
+            → IsServiceOf config.now self.new (requests ++ request ∷ []) grants }
     {
-        let upto = self.asked + u64::from(request.bytes);
+        let upto = self.asked + request.amount.bytes(config);
         let heard = request.heard;
         self.waiting.push_back_reserved(Waiting { upto, heard });
         self.asks += 1;

@@ -5,3 +5,4 @@ pub mod Told
 pub mod Documents
 pub mod StormCalls
 pub mod StormOutcome
+pub mod RowsBursts

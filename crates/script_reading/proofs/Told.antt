@@ -9,7 +9,7 @@ use Rattle.text_stream.specs.declared.fault.TextFault.TheVariants.{Output}
 use Rattle.script_reading.specs.Script.{Scenario}
 use Rattle.script_reading.specs.Outcome.{outcome_of, StandsFor, HasFault, StopsScript}
 use Rattle.script_reading.specs.StormScript.{Storm, storm_outcome, GivesStorm, StopsStormScript}
-use Rattle.text_stream.proofs.Told.{all_bytes, too_many, IsTold}
+use Rattle.text_stream.proofs.TextTold.{all_bytes, too_many, IsTold}
 
 script-too_long : (text : List ℕ) → MAX_INPUT < length text → outcome_of text ≡ Err TooLong
 unfolding outcome_of

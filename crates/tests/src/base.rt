@@ -2,14 +2,16 @@
 
 pub mod draws;
 
-use minislots::{Checked, Config};
+use minislots::{Bursts, Checked, Config};
 use std::process::Abort;
 
 /// Minislots of 25 microseconds and 16 bytes, in frames of 40.
 pub const BASE: Config = Config {
     ticks: 4,
-    bytes_per_slot: 16,
-    overhead: 2,
+    bursts: Bursts::Uniform {
+        bytes_per_slot: 16,
+        overhead: 2,
+    },
     frame: 40,
     cycle: 20,
     req_slots: 4,

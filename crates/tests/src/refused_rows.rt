@@ -13,6 +13,7 @@ use crate::base::{BASE, checked};
 use crate::shared_sched_rows::version_read;
 use flow_book::FlowSpec;
 use map_snapshot::Reader;
+use sched_calls::Amount;
 use sched_history::{Call, Reply, Unrecorded};
 use shared_sched::{Closed, Desk, OpenFault, Shared, open};
 use std::alloc::AllocGlobal;
@@ -36,7 +37,7 @@ const DATA: FlowSpec = FlowSpec::BestEffort {
 const ASK: Call = Call::Ask {
     receiver: 0,
     sid: 17,
-    bytes: 100,
+    amount: Amount::Bytes(100),
     heard: 801,
 };
 

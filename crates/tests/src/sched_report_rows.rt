@@ -3,6 +3,7 @@
 use crate::base::{BASE, checked};
 use flow_book::FlowSpec;
 use minislots::Stamp;
+use sched_calls::Amount;
 use sched_history::{Call, Scheduler};
 use sched_report::Reporter;
 use std::alloc::AllocGlobal;
@@ -23,13 +24,13 @@ const CALLS: [Call; 9] = [
     Call::Ask {
         receiver: 0,
         sid: 17,
-        bytes: 100,
+        amount: Amount::Bytes(100),
         heard: 800,
     },
     Call::Ask {
         receiver: 0,
         sid: 99,
-        bytes: 100,
+        amount: Amount::Bytes(100),
         heard: 800,
     },
     Call::Build { now: 800 },

@@ -1,5 +1,7 @@
 pub mod Bytes
 pub mod Written
 pub mod Outcome
-pub mod Told
+pub mod TextTold
 pub mod Profile
+pub mod Taking
+pub mod Reading

@@ -3,7 +3,7 @@ use Rattle.std.specs.Prelude.{ℕ}
 use Rattle.minislots.specs.declared.config.ConfigFault.{ConfigFault}
 use Rattle.minislots.specs.declared.config.ConfigFault.TheVariants as fields
 
--- the number of a configuration's field, in the order of their tests
+-- the number of a configuration's field: in the order of their tests, but that burst descriptors have the last number
 abbrev pub field_number : ConfigFault → ℕ
 field_number fields.Ticks = 1
 field_number fields.BytesPerSlot = 2
@@ -24,3 +24,4 @@ field_number fields.RangingEnd = 16
 field_number fields.DataStart = 17
 field_number fields.DataEnd = 18
 field_number fields.Phy = 19
+field_number fields.Bursts = 20

@@ -4,3 +4,7 @@ pub mod Watched
 pub mod Writing
 pub mod Input
 pub mod Outcome
+pub mod Lines
+pub mod Told
+pub mod Piece
+pub mod Inside

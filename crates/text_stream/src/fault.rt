@@ -52,7 +52,8 @@ impl From<ConfigFault> for TextFault {
     }
 }
 
-/// The number of a field, in the order of the fields.
+/// The number of a field by which its fault is told. Burst descriptors have the last one, whatever their place is in
+/// the order of the tests.
 pub fn field_number(fault: ConfigFault) -> u8
     ensures { result ≡ field_number fault }
 {
@@ -76,5 +77,6 @@ pub fn field_number(fault: ConfigFault) -> u8
         ConfigFault::DataStart => 17,
         ConfigFault::DataEnd => 18,
         ConfigFault::Phy => 19,
+        ConfigFault::Bursts => 20,
     }
 }

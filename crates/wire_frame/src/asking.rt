@@ -10,7 +10,7 @@ use thiserror::Error;
 /// Why a request is no ask.
 #[derive(Clone, Copy, Debug, PartialEq, Eq, Error)]
 pub enum AskFault {
-    /// It asks for no byte: the number is 0, or a burst of so many minislots is no longer than its overhead.
+    /// It asks for no byte: the number is 0, or a burst of so many minislots carries none.
     #[error("the request asks for no byte")]
     Nothing,
     /// It asks for more than [`MAX_ASK`] bytes.
@@ -19,7 +19,7 @@ pub enum AskFault {
 }
 
 impl Request {
-    /// The bytes to ask for: what a burst of so many minislots carries by the configuration, its overhead among them,
+    /// The bytes to ask for: the most that a burst of so many minislots carries by the configuration,
     /// or so many units of `unit` bytes. Nothing is rounded or cut: what an ask cannot have is a fault.
     pub fn bytes(self, config: &Checked, unit: u32) -> Result<u32, AskFault>
         ensures { result ≡ ask_of (asked_by config.now unit self) }

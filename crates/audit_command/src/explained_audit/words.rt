@@ -4,6 +4,7 @@ ghost use Rattle.sched_calls.specs.Reply.{IsEncodable};
 
 use decode_command::put_table;
 use map_build::{FrameMap, Header, Usage};
+use sched_calls::Amount;
 use sched_history::{Call, Entry, Reply, Unrecorded};
 use sched_lines::LineBuffer;
 use std::alloc::{AllocError, Global};
@@ -21,12 +22,16 @@ fn tell_ask(
     words: &mut String,
     receiver: u8,
     sid: u16,
-    bytes: u32,
+    amount: Amount,
     heard: u64,
 ) -> Result<(), AllocError> {
+    let (number, unit) = match amount {
+        Amount::Bytes(bytes) => (bytes, "bytes"),
+        Amount::Slots(slots) => (slots, "minislots"),
+    };
     writeln!(
         words,
-        "ask for {bytes} bytes of SID {sid}, heard by receiver {receiver} at {heard}"
+        "ask for {number} {unit} of SID {sid}, heard by receiver {receiver} at {heard}"
     )
 }
 
@@ -65,9 +70,9 @@ fn tell_call(words: &mut String, call: Call) -> Result<(), AllocError> {
         Call::Ask {
             receiver,
             sid,
-            bytes,
+            amount,
             heard,
-        } => tell_ask(words, receiver, sid, bytes, heard),
+        } => tell_ask(words, receiver, sid, amount, heard),
         Call::Heard { receiver, upto } => {
             writeln!(words, "all heard by receiver {receiver} before {upto}")
         }

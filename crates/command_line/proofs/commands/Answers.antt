@@ -16,11 +16,13 @@ returns c =
     c.in_ok-audit_command.ensures in
     let report = IsCommand-sub _ _ _ (codes "mapsched") (codes "report") [] _ _ [] audit c.in_ok-subcommand-5.ensures
     c.in_ok-report_command.ensures in
-    let storm = IsCommand-sub _ _ _ (codes "mapsched") (codes "storm") [] [] _ [] report c.in_ok-subcommand-6.ensures
-    c.storm_command.ensures in
-    let check = IsCommand-sub _ _ _ (codes "mapsched") (codes "check") [] [] _ [] storm c.in_ok-subcommand-7.ensures
-    c.check_command.ensures in
+    let storm = IsCommand-sub _ _ _ (codes "mapsched") (codes "storm") [] _ _ [] report c.in_ok-subcommand-6.ensures
+    c.in_ok-storm_command.ensures in
+    let check = IsCommand-sub _ _ _ (codes "mapsched") (codes "check") [] _ _ [] storm c.in_ok-subcommand-7.ensures
+    c.in_ok-check_command.ensures in
     let pcap = IsCommand-sub _ _ _ (codes "mapsched") (codes "pcap") [] _ _ [] check c.in_ok-subcommand-8.ensures
     c.in_ok-pcap_command.ensures in
-    IfOk-weaker _ _ _ (λ r adds. IsCommand-sub _ _ r (codes "mapsched") (codes "live") [] _ _ [] pcap adds
-    c.in_ok-live_command.ensures) c.subcommand-9.ensures
+    let live = IsCommand-sub _ _ _ (codes "mapsched") (codes "live") [] _ _ [] pcap c.in_ok-subcommand-9.ensures
+    c.in_ok-live_command.ensures in
+    IfOk-weaker _ _ _ (λ r adds. IsCommand-sub _ _ r (codes "mapsched") (codes "bursts") [] _ _ [] live adds
+    c.in_ok-bursts_command.ensures) c.subcommand-10.ensures

@@ -11,5 +11,7 @@ returns c =
     c.in_ok-arg.ensures c.in_ok-frames_option.ensures.local c.in_ok-frames_option.ensures.named in
     let second = IsCommand-arg _ _ c.in_ok-frames_option-2.field-0 (codes "draw") (codes "count") _ [] first
     c.in_ok-arg-2.ensures c.in_ok-frames_option-2.ensures.local c.in_ok-frames_option-2.ensures.named in
-    IfOk-weaker _ _ _ (λ r adds. IsCommand-arg _ r _ (codes "draw") (codes "journal") _ [] second adds
-    (search rules) (search rules)) c.arg-3.ensures
+    let third = IsCommand-arg _ _ _ (codes "draw") (codes "journal") _ [] second c.in_ok-arg-3.ensures
+    (search rules) (search rules) in
+    IfOk-weaker _ _ _ (λ r adds. IsCommand-arg _ r _ (codes "draw") (codes "FILE") _ [] third adds
+    c.file_word.ensures.local c.file_word.ensures.named) c.arg-4.ensures

@@ -13,5 +13,7 @@ returns c =
     c.in_ok-arg-2.ensures c.in_ok-run_journal_option.ensures.local c.in_ok-run_journal_option.ensures.named in
     let third = IsCommand-arg _ _ c.in_ok-run_explain_option.field-0 (codes "run") (codes "explain") _ [] second
     c.in_ok-arg-3.ensures c.in_ok-run_explain_option.ensures.local c.in_ok-run_explain_option.ensures.named in
-    IfOk-weaker _ _ _ (λ r adds. IsCommand-arg _ r _ (codes "run") (codes "frames") _ [] third adds
-    c.in_ok-run_frames_option.ensures.local c.in_ok-run_frames_option.ensures.named) c.arg-4.ensures
+    let fourth = IsCommand-arg _ _ c.in_ok-run_frames_option.field-0 (codes "run") (codes "frames") _ [] third
+    c.in_ok-arg-4.ensures c.in_ok-run_frames_option.ensures.local c.in_ok-run_frames_option.ensures.named in
+    IfOk-weaker _ _ _ (λ r adds. IsCommand-arg _ r _ (codes "run") (codes "FILE") _ [] fourth adds
+    c.file_word.ensures.local c.file_word.ensures.named) c.arg-5.ensures

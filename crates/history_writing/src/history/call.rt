@@ -2,6 +2,7 @@
 
 ghost use Rattle.std.specs.Prelude.{◌≡◌, ◌++◌, OnOk, codes};
 ghost use Rattle.serde_json.specs.Data.{string, object, no_members, member};
+ghost use Rattle.sched_calls.specs.declared.amount.Amount.TheVariants.{Bytes, Slots};
 ghost use Rattle.sched_calls.specs.declared.spec.FlowSpec.TheVariants.{Unsolicited, Polled, BestEffort};
 ghost use Rattle.sched_calls.specs.declared.opportunity.Usage.TheVariants.{Initial, Station};
 ghost use Rattle.history_writing.specs.Fits.{CallFits};
@@ -10,7 +11,7 @@ ghost use Rattle.history_writing.specs.Tokens.{tokens_of};
 
 use super::count::{put_count, put_name};
 use json::Writer;
-use sched_calls::{Call, FlowSpec, Header, Usage};
+use sched_calls::{Amount, Call, FlowSpec, Header, Usage};
 use std::alloc::AllocError;
 
 #[tactic(auto, unfolding(crate::specs::Json::flow_data))]
@@ -151,7 +152,7 @@ fn put_reserve(out: &mut Writer, usage: Usage, slots: u32) -> Result<(), AllocEr
 }
 
 #[tactic(auto, unfolding(crate::specs::Json::call_data))]
-fn put_ask(
+fn put_bytes_asked(
     out: &mut Writer,
     receiver: u8,
     sid: u16,
@@ -159,7 +160,7 @@ fn put_ask(
     heard: u64,
 ) -> Result<(), AllocError>
     ensures ok { OnOk result (out.new.tokens
-        ≡ out.old.tokens ++ tokens_of (call_data (Call.Ask receiver sid bytes heard))) }
+        ≡ out.old.tokens ++ tokens_of (call_data (Call.Ask receiver sid (Bytes bytes) heard))) }
     ensures before { out.new.before ≡ out.old.before }
 {
     out.begin_object()?;
@@ -169,6 +170,46 @@ fn put_ask(
     put_count(out, "receiver", receiver as u64)?;
     put_count(out, "sid", sid as u64)?;
     out.end_object()
+}
+
+#[tactic(auto, unfolding(crate::specs::Json::call_data))]
+fn put_slots_asked(
+    out: &mut Writer,
+    receiver: u8,
+    sid: u16,
+    slots: u32,
+    heard: u64,
+) -> Result<(), AllocError>
+    ensures ok { OnOk result (out.new.tokens
+        ≡ out.old.tokens ++ tokens_of (call_data (Call.Ask receiver sid (Slots slots) heard))) }
+    ensures before { out.new.before ≡ out.old.before }
+{
+    out.begin_object()?;
+    put_name(out, "call", "ask")?;
+    put_count(out, "heard", heard)?;
+    put_count(out, "receiver", receiver as u64)?;
+    put_count(out, "sid", sid as u64)?;
+    put_count(out, "slots", slots as u64)?;
+    out.end_object()
+}
+
+// Writes a request, with its bytes or its minislots.
+#[tactic(auto, unfolding(crate::specs::Json::call_data))]
+fn put_ask(
+    out: &mut Writer,
+    receiver: u8,
+    sid: u16,
+    amount: Amount,
+    heard: u64,
+) -> Result<(), AllocError>
+    ensures ok { OnOk result (out.new.tokens
+        ≡ out.old.tokens ++ tokens_of (call_data (Call.Ask receiver sid amount heard))) }
+    ensures before { out.new.before ≡ out.old.before }
+{
+    match amount {
+        Amount::Bytes(bytes) => put_bytes_asked(out, receiver, sid, bytes, heard),
+        Amount::Slots(slots) => put_slots_asked(out, receiver, sid, slots, heard),
+    }
 }
 
 #[tactic(auto, unfolding(crate::specs::Json::call_data))]
@@ -226,9 +267,9 @@ pub fn put_call(out: &mut Writer, call: Call) -> Result<(), AllocError>
         Call::Ask {
             receiver,
             sid,
-            bytes,
+            amount,
             heard,
-        } => put_ask(out, receiver, sid, bytes, heard),
+        } => put_ask(out, receiver, sid, amount, heard),
         Call::Heard { receiver, upto } => put_heard(out, receiver, upto),
         Call::Build { now } => put_numbered(out, "build", "now", now),
         Call::Skip { now } => put_numbered(out, "skip", "now", now),

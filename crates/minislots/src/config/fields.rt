@@ -1,13 +1,14 @@
 //! The tests of a configuration's fields, in groups that follow one another.
 
 ghost use Rattle.std.specs.Prelude.{◌≡◌, ◌<◌, IsTrue, MatchResult, Some, false};
-ghost use Rattle.minislots.specs.Config.{is_within, is_ticks, is_lawful_field, first_wrong, IsLawful};
+ghost use Rattle.minislots.specs.Bursts.{HasBursts};
+ghost use Rattle.minislots.specs.Config.{is_ticks, is_lawful_field, first_wrong, IsLawful};
 ghost use Rattle.minislots.specs.Config.{burst_fields, frame_fields, grant_fields, history_fields};
 ghost use Rattle.minislots.specs.Config.{backoff_fields, channel_fields, NamesFirstWrong};
 
 use super::{Config, ConfigFault};
 use crate::MAX_ASK;
-use crate::units::carriers;
+use crate::bursts::{Bursts, is_within};
 
 // The fault where its field isn't lawful.
 fn require(is_lawful: bool, fault: ConfigFault) -> Result<(), ConfigFault>
@@ -19,13 +20,7 @@ fn require(is_lawful: bool, fault: ConfigFault) -> Result<(), ConfigFault>
 fn is_ticks(n: u32) -> bool
     ensures { result ≡ is_ticks n }
 {
-    matches!(n, 2 | 4 | 8 | 16 | 32 | 64 | 128)
-}
-
-fn is_within(low: u32, high: u32, n: u32) -> bool
-    ensures { result ≡ is_within low high n }
-{
-    low <= n && n <= high
+    matches!(n, 1 | 2 | 4 | 8 | 16 | 32 | 64 | 128)
 }
 
 impl Config {
@@ -46,15 +41,24 @@ impl Config {
         ensures { NamesFirstWrong self.now burst_fields result }
     {
         require(is_ticks(self.ticks), ConfigFault::Ticks)?;
-        require(
-            is_within(1, 1024, self.bytes_per_slot),
-            ConfigFault::BytesPerSlot,
-        )?;
-        require(is_within(1, 64, self.overhead), ConfigFault::Overhead)
+        match &self.bursts {
+            Bursts::Uniform {
+                bytes_per_slot,
+                overhead,
+            } => {
+                require(
+                    is_within(1, 1024, *bytes_per_slot),
+                    ConfigFault::BytesPerSlot,
+                )?;
+                require(is_within(1, 64, *overhead), ConfigFault::Overhead)
+            }
+            Bursts::Described(these) => require(these.are_lawful(), ConfigFault::Bursts),
+        }
     }
 
     // The fields that lay out a frame.
     fn check_frame(&self) -> Result<(), ConfigFault>
+        requires { HasBursts self.now.bursts }
         ensures { NamesFirstWrong self.now frame_fields result }
     {
         require(is_within(16, 1024, self.frame), ConfigFault::Frame)?;
@@ -67,7 +71,7 @@ impl Config {
 
     // The fields of a data grant.
     fn check_grants(&self) -> Result<(), ConfigFault>
-        requires { 0 < self.now.bytes_per_slot }
+        requires { HasBursts self.now.bursts }
         ensures { NamesFirstWrong self.now grant_fields result }
     {
         require(self.has_room_for_quantum(), ConfigFault::Quantum)?;
@@ -108,9 +112,10 @@ impl Config {
     }
 
     fn has_room_for_requests(&self) -> bool
+        requires { HasBursts self.now.bursts }
         ensures { result ≡ is_lawful_field self.now ConfigFault.ReqSlots }
     {
-        let used = u64::from(self.req_slots) + u64::from(self.overhead) + 1;
+        let used = u64::from(self.req_slots) + self.bursts.long_slots(1);
         1 <= self.req_slots && used <= u64::from(self.frame)
     }
 
@@ -128,10 +133,11 @@ impl Config {
     }
 
     fn has_room_for_quantum(&self) -> bool
-        requires { 0 < self.now.bytes_per_slot }
+        requires { HasBursts self.now.bursts }
         ensures { result ≡ is_lawful_field self.now ConfigFault.Quantum }
     {
-        let burst = u64::from(self.overhead) + carriers(self.quantum, self.bytes_per_slot);
+        let sizes = self.bursts.short_sizes(self.short_max);
+        let burst = self.bursts.slots(sizes, self.quantum);
         is_within(64, 1522, self.quantum)
             && burst + u64::from(self.req_slots) <= u64::from(self.frame)
     }

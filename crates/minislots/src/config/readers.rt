@@ -2,9 +2,11 @@
 
 ghost use Rattle.std.specs.Prelude.{◌≡◌, ◌<◌, ◌≤◌, ◌+◌, ◌*◌, ◌%◌, ◌^◌};
 ghost use Rattle.minislots.specs.declared.TheConstants.{MAX_ASK};
+ghost use Rattle.minislots.specs.Bursts.{HasBursts, long_slots, short_sizes};
 ghost use Rattle.minislots.specs.Config.{IsLawful};
 
 use super::Checked;
+use crate::bursts::Bursts;
 
 impl Checked {
     /// The ticks of 6.25 microseconds in a minislot.
@@ -16,22 +18,31 @@ impl Checked {
         self.config.ticks
     }
 
-    /// The bytes that a minislot carries.
-    pub fn bytes_per_slot(&self) -> u32
-        ensures value { result ≡ self.now.bytes_per_slot }
+    /// How many minislots a burst takes.
+    pub fn bursts(&self) -> Bursts
+        ensures value { result ≡ self.now.bursts }
         ensures lawful { IsLawful self.now }
-        ensures positive { 0 < result }
+        ensures sound { HasBursts result }
     {
-        self.config.bytes_per_slot
+        self.config.bursts
     }
 
-    /// The minislots of guard time and preamble in each burst.
-    pub fn overhead(&self) -> u32
-        ensures value { result ≡ self.now.overhead }
+    // The same where it stands, since a copy costs more than most questions to it.
+    #[inline(always)]
+    pub(crate) fn as_bursts(&self) -> &Bursts
+        ensures value { result.now ≡ self.now.bursts }
         ensures lawful { IsLawful self.now }
-        ensures positive { 0 < result }
+        ensures sound { HasBursts result.now }
     {
-        self.config.overhead
+        &self.config.bursts
+    }
+
+    // How many numbers of bytes have bursts that are short enough by the profile of short data grants.
+    #[inline(always)]
+    pub(crate) fn short_sizes(&self) -> u64
+        ensures { result ≡ short_sizes self.now.bursts self.now.short_max }
+    {
+        self.sizes
     }
 
     /// The minislots that one MAP describes.
@@ -58,7 +69,7 @@ impl Checked {
         ensures value { result ≡ self.now.req_slots }
         ensures lawful { IsLawful self.now }
         ensures positive { 0 < result }
-        ensures fits { result + self.now.overhead < self.now.frame }
+        ensures fits { result + long_slots self.now.bursts 1 ≤ self.now.frame }
     {
         self.config.req_slots
     }

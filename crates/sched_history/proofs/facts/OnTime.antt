@@ -1,5 +1,5 @@
 -- Every poll and unsolicited grant of a legal history is on time.
-use Rattle.std.proofs.Common.{◌≡◌, ℕ, ◌/◌, ◌%◌, true, false, nat_lt, map, filter, List}
+use Rattle.std.proofs.Common.{◌≡◌, ℕ, ◌/◌, ◌%◌, true, false, None, Some, nat_lt, map, filter, List}
 use Rattle.std.proofs.Common.{[], ◌∷◌, ◌++◌, refl, sym, ◌∙◌, subst, Contains, arith}
 use Rattle.std.specs.List.{AllByRecursion, zip}
 use Rattle.std.proofs.lemmas.List.Elements.{All-contains, All-from_recursion}
@@ -102,7 +102,7 @@ timely-pending c table start (f ∷ flows) (b ∷ bs) =
     ((λ periodic. absurd (omega (arith, periodic.in_frame))), timely-pending c table start flows bs)
 
 offer-is : (c : Config) (offset slots place : ℕ) (usage : Usage)
-    → is_opportunity (element_for c offset slots (Offer place usage)) ≡ true
+    → is_opportunity (element_for c offset (Offer place usage)) ≡ true
 offer-is c offset slots place Initial = refl
 offer-is c offset slots place (Station sid) = refl
 
@@ -118,13 +118,13 @@ module _ (c : Config) (d : Demand) (table : List Placed) (same : d.spots ≡ spo
   -- an allocation's element
   timely-element : (before : List Allocation) (offset slots : ℕ) (purpose : Purpose)
       → IsOfClass c d before offset slots purpose
-      → IsTimely c table d.start (element_for c offset slots purpose, (kind_of c slots purpose).bytes)
+      → IsTimely c table d.start (element_for c offset purpose, (kind_of c purpose).bytes)
   timely-element before offset slots (Poll sid) stands periodic =
-      timely-spot (record { sid = sid; poll = true; offset = offset; slots = slots })
-      (element_for c offset slots (Poll sid)) stands refl refl
-  timely-element before offset slots (UnsolicitedGrant sid) stands periodic =
-      timely-spot (record { sid = sid; poll = false; offset = offset; slots = slots })
-      (element_for c offset slots (UnsolicitedGrant sid)) stands refl refl
+      timely-spot (record { sid = sid; size = None; offset = offset; slots = slots })
+      (element_for c offset (Poll sid)) stands refl refl
+  timely-element before offset slots (UnsolicitedGrant sid size) stands periodic =
+      timely-spot (record { sid = sid; size = Some size; offset = offset; slots = slots })
+      (element_for c offset (UnsolicitedGrant sid size)) stands refl refl
   timely-element before offset slots (Offer place usage) stands periodic =
       absurd (let is = offer-is c offset slots place usage in let isnt = periodic.unreserved in cc)
   timely-element before offset slots (DataGrant sid bytes) stands periodic =

@@ -6,6 +6,7 @@ use Rattle.std.proofs.lemmas.List.{length-map}
 use Rattle.std.proofs.lemmas.List.Elements.{All-contains, All-from_recursion}
 use Rattle.std.proofs.lemmas.List.Sums.{length-filter, count_by-le-length}
 use Rattle.minislots.specs.declared.config.Config.{Config}
+use Rattle.minislots.specs.Bursts.{HasBursts}
 use Rattle.minislots.specs.Config.{IsLawful, HasBounds}
 use Rattle.minislots.proofs.Bounds.{bounds_of}
 use Rattle.sched_calls.specs.declared.TheConstants.{MAX_FLOWS}
@@ -40,9 +41,9 @@ use Rattle.sched_history.proofs.placements.SpotsFew.{spots-few}
 use Rattle.sched_history.proofs.steps.LegalBounds.{flows_of-few}
 
 -- the SIDs of the live flows fit an element
-pub flows_of-in_range : (h : List Entry) → HaveSids (flows_of h)
-flows_of-in_range h =
-    rw sids-range.2 (filter_map-below (λ (f : LiveFlow). f.sid) (flow_at h) (flow_at-sid h) (2 ^ 14) 1 sids-range.0
+pub flows_of-in_range : (c : Config) (h : List Entry) → HaveSids (flows_of c h)
+flows_of-in_range c h =
+    rw sids-range.2 (filter_map-below (λ (f : LiveFlow). f.sid) (flow_at c h) (flow_at-sid c h) (2 ^ 14) 1 sids-range.0
     (omega (arith, sids-range.1)))
 
 table_of-in_range : (h : List Entry) → AllByRecursion (λ p. p.sid < 2 ^ 14) (table_of h)
@@ -61,10 +62,10 @@ spots_in-in_range c k h =
     all-map fits (spot_at c flow) starts (all-members (λ start. flow.sid < 2 ^ 14) starts (λ start here. sid)))
 
 -- the elements of a plan's MAP: the request region, the allocations, the Null and the pending grants
-length-elements : (c : Config) (d : Demand) (plan : List Allocation) → 0 < c.overhead → IsPlan c d plan
+length-elements : (c : Config) (d : Demand) (plan : List Allocation) → HasBursts c.bursts → IsPlan c d plan
     → length d.flows ≤ MAX_FLOWS → length d.spots ≤ MAX_PERIODIC_GRANTS → length d.waiting ≤ MAX_WAITING
     → length (elements_of c d.flows d.start plan) ≤ 240
-length-elements c d plan overhead is few few_spots few_waiting =
+length-elements c d plan bursts is few few_spots few_waiting =
     let after : List LiveFlow = flows_after d.start plan d.flows in
     let asking : List LiveFlow = filter (λ (f : LiveFlow). nat_lt 0 (outstanding f)) after in
     let kept : length asking ≤ length after =
@@ -78,7 +79,7 @@ length-elements c d plan overhead is few few_spots few_waiting =
       few,
       few_spots,
       kept,
-      length-plan c d overhead plan few_waiting is.each,
+      length-plan c d bursts plan few_waiting is.each,
       length-map d.flows (flow_after d.start plan),
       length-append (map (element_of c) plan) (null_element c ∷ pending c after),
       length-map plan (element_of c),
@@ -92,13 +93,13 @@ module _ (c : Config) (conf : IsLawful c) where
       let d : Demand = demand_after c h in
       let bounds : HasBounds c = bounds_of c conf in
       subst (IsOrderly c) (sym next.2) (record {
-        within = length-elements c d next.0 bounds.overhead_positive next.1 (flows_of-few c conf h legal)
+        within = length-elements c d next.0 bounds.bursts next.1 (flows_of-few c conf h legal)
             (spots-few c conf (next_after c h / c.frame) h legal) (MayWait-legal c h legal).few;
         counted = length-bytes_of_plan c d next.0;
         unasked = IsUnasked-plan c d next.0;
         front = HasFront-plan c d next.0
             (omega (arith, bounds.frame_most)) bounds.requests_positive
-            (flows_of-in_range h)
+            (flows_of-in_range c h)
             (spots_in-in_range c (next_after c h / c.frame) h) (HaveStationSids-legal c h legal) next.1;
       })
 

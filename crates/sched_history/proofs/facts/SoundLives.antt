@@ -29,30 +29,30 @@ use Rattle.sched_history.proofs.flows.MapGrants.{plan-HasBytes, grants_of_map-pl
 
 -- the life of every SID is sound
 abbrev HasSoundLives : Config → List Entry → Type 0
-HasSoundLives c h = (sid : ℕ) (life : Life) → life_of sid h ≡ Some life → IsSoundFlow c (flow_in_life sid life)
+HasSoundLives c h = (sid : ℕ) (life : Life) → life_of sid h ≡ Some life → IsSoundFlow c (flow_in_life c sid life)
 
 -- a flow in a live SID's life
-flow_said : (sid : ℕ) (o : Option Life) (f : LiveFlow) → option_map (flow_in_life sid) o ≡ Some f
+flow_said : (c : Config) (sid : ℕ) (o : Option Life) (f : LiveFlow) → option_map (flow_in_life c sid) o ≡ Some f
     → (life : Life) × (o ≡ Some life)
-    × (flow_in_life sid life ≡ f)
-flow_said sid None f is = absurd (cc)
-flow_said sid (Some life) f is = (life, refl, cc)
+    × (flow_in_life c sid life ≡ f)
+flow_said c sid None f is = absurd (cc)
+flow_said c sid (Some life) f is = (life, refl, cc)
 
 -- the live flow of a SID is the one of its life
-pub flows_of-alone : (h : List Entry) (sid : ℕ) (life : Life) → life_of sid h ≡ Some life → (g : LiveFlow)
-    → Contains (flows_of h) g
-    → g.sid ≡ sid → g ≡ flow_in_life sid life
-flows_of-alone h sid life lives g member same =
-    let image : IsImage (λ sid. option_map (flow_in_life sid) (life_of sid h)) sids (Some g) =
-    Contains-filter_map (λ sid. option_map (flow_in_life sid) (life_of sid h)) sids g member in
-    let said : (life : Life) × (life_of image.origin h ≡ Some life) × (flow_in_life image.origin life ≡ g) =
-    flow_said image.origin (life_of image.origin h) g image.same in
+pub flows_of-alone : (c : Config) (h : List Entry) (sid : ℕ) (life : Life) → life_of sid h ≡ Some life → (g : LiveFlow)
+    → Contains (flows_of c h) g
+    → g.sid ≡ sid → g ≡ flow_in_life c sid life
+flows_of-alone c h sid life lives g member same =
+    let image : IsImage (λ sid. option_map (flow_in_life c sid) (life_of sid h)) sids (Some g) =
+    Contains-filter_map (λ sid. option_map (flow_in_life c sid) (life_of sid h)) sids g member in
+    let said : (life : Life) × (life_of image.origin h ≡ Some life) × (flow_in_life c image.origin life ≡ g) =
+    flow_said c image.origin (life_of image.origin h) g image.same in
     let number : image.origin ≡ sid = ap (λ (g : LiveFlow). g.sid) said.2 ∙ same in
     let lives' : life_of sid h ≡ Some said.0 = subst (λ s. life_of s h ≡ Some said.0) number said.1 in
     let them : said.0 ≡ life = cc in
     sym said.2
-    ∙ (subst (λ s. flow_in_life image.origin said.0 ≡ flow_in_life s life) number
-    (ap (flow_in_life image.origin) them))
+    ∙ (subst (λ s. flow_in_life c image.origin said.0 ≡ flow_in_life c s life) number
+    (ap (flow_in_life c image.origin) them))
 
 -- a flow is sound with more asked
 sound_asked : (c : Config) (f : LiveFlow) (more : ℕ) → IsSoundFlow c f
@@ -60,7 +60,7 @@ sound_asked : (c : Config) (f : LiveFlow) (more : ℕ) → IsSoundFlow c f
 sound_asked c f more sound = record { within = omega (arith, sound.within); kept = sound.kept }
 
 -- a flow without grants is sound
-sound_new : (c : Config) (sid : ℕ) (life : Life) → life.since ≡ [] → IsSoundFlow c (flow_in_life sid life)
+sound_new : (c : Config) (sid : ℕ) (life : Life) → life.since ≡ [] → IsSoundFlow c (flow_in_life c sid life)
 sound_new c sid life new = rw new (record { within = omega arith; kept = λ some i j le within. absurd (omega arith) })
 
 ungranted : (sid : ℕ) (reply : Reply) → map_by reply ≡ None → grants_by sid reply ≡ []
@@ -68,10 +68,10 @@ ungranted sid (replies.Built m) none = absurd (cc)
 ungranted sid reply none = refl
 
 module _ (c : Config) (h : List Entry) (sid : ℕ) (life : Life) (lives : life_of sid h ≡ Some life)
-    (sound : IsSoundFlow c (flow_in_life sid life)) where
+    (sound : IsSoundFlow c (flow_in_life c sid life)) where
   -- the grants of the next MAP keep a live flow sound
   sound_map : (m : FrameMap) → IsNextMap c h m → IsSoundFlow c
-      (record (flow_in_life sid life) { grants = (flow_in_life sid life).grants ++ grants_of_map sid m })
+      (record (flow_in_life c sid life) { grants = (flow_in_life c sid life).grants ++ grants_of_map sid m })
   sound_map m next =
       let plan : List Allocation = next.0 in
       let d : Demand = demand_after c h in
@@ -79,21 +79,24 @@ module _ (c : Config) (h : List Entry) (sid : ℕ) (life : Life) (lives : life_o
       ap (grants_of_map sid) next.2 ∙ grants_of_map-plan sid c d (header_after c h) (ack_after c h) plan
       (plan-HasBytes c d plan next.1) in
       rw grants
-      (sound_plan c d (flow_in_life sid life)
-      (flows_of-alone h sid life lives) [] plan next.1.each (rw append-nil sound))
+      (sound_plan c d (flow_in_life c sid life)
+      (flows_of-alone c h sid life lives) [] plan next.1.each (rw append-nil sound))
 
   -- the flow with the grants of an entry
   abbrev granted_also : Entry → LiveFlow
-  granted_also e = record (flow_in_life sid life) { grants = (flow_in_life sid life).grants ++ grants_by sid e.reply }
+  granted_also e = record (flow_in_life c sid life) {
+    grants =
+        (flow_in_life c sid life).grants ++ grants_by sid e.reply;
+  }
 
-  sound_still : (e : Entry) → map_by e.reply ≡ None → IsSoundFlow c (grown_by e (flow_in_life sid life))
+  sound_still : (e : Entry) → map_by e.reply ≡ None → IsSoundFlow c (grown_by c e (flow_in_life c sid life))
   sound_still e none =
-      sound_asked c (granted_also e) (asked_by sid e.call e.reply) (rw (ungranted sid e.reply none, append-nil) sound)
+      sound_asked c (granted_also e) (asked_by c sid e.call e.reply) (rw (ungranted sid e.reply none, append-nil) sound)
 
   -- so does each legal entry
-  sound_grown : (e : Entry) → IsStep c h e.call e.reply → IsSoundFlow c (grown_by e (flow_in_life sid life))
+  sound_grown : (e : Entry) → IsStep c h e.call e.reply → IsSoundFlow c (grown_by c e (flow_in_life c sid life))
   sound_grown e step = elim (change_by_step c h e.call e.reply step) [
-    | legal.Builds m next same ↦ sound_asked c (granted_also e) (asked_by sid e.call e.reply)
+    | legal.Builds m next same ↦ sound_asked c (granted_also e) (asked_by c sid e.call e.reply)
         (rw (ap (grants_by sid) same) (sound_map m next))
     | legal.Skips now start is first same ↦ sound_still e (ap map_by same)
     | legal.Stays still ↦ sound_still e still.0
@@ -103,17 +106,17 @@ module _ (c : Config) where
   -- a life that goes on
   goes_on : (h : List Entry) (e : Entry) (sid : ℕ) (old : Option Life) (life : Life) → life_of sid h ≡ old
       → option_map (with_since e) old ≡ Some life
-      → IsStep c h e.call e.reply → HasSoundLives c h → IsSoundFlow c (flow_in_life sid life)
+      → IsStep c h e.call e.reply → HasSoundLives c h → IsSoundFlow c (flow_in_life c sid life)
   goes_on h e sid None life was is step sound = absurd (cc)
   goes_on h e sid (Some old) life was is step sound =
       let them : with_since e old ≡ life = cc in
-      subst (λ l. IsSoundFlow c (flow_in_life sid l)) them
-      (rw (asked_in-push sid old.since e, grants_since-push sid old.since e)
+      subst (λ l. IsSoundFlow c (flow_in_life c sid l)) them
+      (rw (asked_in-push c sid old.since e, grants_since-push sid old.since e)
       (sound_grown c h sid old was (sound sid old was) e step))
 
   turned : (h : List Entry) (e : Entry) (sid : ℕ) (turn : Option Turn) (life : Life) → turn_by sid e.call e.reply ≡ turn
       → life_of sid (h ++ e ∷ []) ≡ Some life
-      → IsStep c h e.call e.reply → HasSoundLives c h → IsSoundFlow c (flow_in_life sid life)
+      → IsStep c h e.call e.reply → HasSoundLives c h → IsSoundFlow c (flow_in_life c sid life)
   turned h e sid None life is lives step sound = goes_on h e sid (life_of sid h) life refl
       (sym (life_of-stays sid h e is) ∙ lives) step sound
   turned h e sid (Some (Begins admission)) life is lives step sound =
@@ -132,19 +135,19 @@ module _ (c : Config) where
 
   -- and so every live flow
   flow_sound : (h : List Entry) (sid : ℕ) (f : LiveFlow) → IsLegal c h
-      → option_map (flow_in_life sid) (life_of sid h) ≡ Some f
+      → option_map (flow_in_life c sid) (life_of sid h) ≡ Some f
       → IsSoundFlow c f
   flow_sound h sid f legal is =
-      let said : (life : Life) × (life_of sid h ≡ Some life) × (flow_in_life sid life ≡ f) =
-      flow_said sid (life_of sid h) f is in
+      let said : (life : Life) × (life_of sid h ≡ Some life) × (flow_in_life c sid life ≡ f) =
+      flow_said c sid (life_of sid h) f is in
       subst (IsSoundFlow c) said.2 (lives_sound h legal sid said.0 said.1)
 
   -- no live flow was granted more than it asked
-  pub within_asked : (h : List Entry) → IsLegal c h → AllByRecursion IsWithinAsked (flows_of h)
-  within_asked h legal = all-chosen IsWithinAsked (λ sid. option_map (flow_in_life sid) (life_of sid h)) sids
+  pub within_asked : (h : List Entry) → IsLegal c h → AllByRecursion IsWithinAsked (flows_of c h)
+  within_asked h legal = all-chosen IsWithinAsked (λ sid. option_map (flow_in_life c sid) (life_of sid h)) sids
       (λ sid f is. (flow_sound h sid f legal is).within)
 
   -- the grants of each keep its rate ceiling
-  pub within_rate : (h : List Entry) → IsLegal c h → AllByRecursion (IsWithinRate c) (flows_of h)
-  within_rate h legal = all-chosen (IsWithinRate c) (λ sid. option_map (flow_in_life sid) (life_of sid h)) sids
+  pub within_rate : (h : List Entry) → IsLegal c h → AllByRecursion (IsWithinRate c) (flows_of c h)
+  within_rate h legal = all-chosen (IsWithinRate c) (λ sid. option_map (flow_in_life c sid) (life_of sid h)) sids
       (λ sid f is. (flow_sound h sid f legal is).kept)

@@ -3,6 +3,7 @@ use Rattle.std.proofs.Common.{◌≡◌, ◌≢◌, ℕ, ◌≤◌, List, [], �
 use Rattle.std.proofs.Common.{Some, refl, sym, ap, ◌∙◌, arith, inl, inr}
 use Rattle.std.specs.Option.{option_map, option_and_then}
 use Rattle.std.proofs.lemmas.Bool.{cases_eq}
+use Rattle.minislots.specs.declared.config.Config.{Config}
 use Rattle.minislots.specs.declared.stamp.Stamp.{Stamp}
 use Rattle.sched_calls.specs.declared.spec.FlowSpec.{FlowSpec}
 use Rattle.flow_book.specs.Flows.{LiveFlow}
@@ -34,28 +35,29 @@ module _ (stamp : Stamp) (h : List Entry) (sid : ℕ) (spec : FlowSpec) where
   admit place = record { stamp = stamp; call = calls.Admit sid spec; reply = replies.Admitted place }
 
   module _ (place : Option Placement) where
-    flow_at-admitted : flow_at (h ++ admit place ∷ []) sid ≡ Some (new_flow sid spec)
-    flow_at-admitted =
-        ap (option_map (flow_in_life sid))
+    flow_at-admitted : (c : Config) → flow_at c (h ++ admit place ∷ []) sid ≡ Some (new_flow sid spec)
+    flow_at-admitted c =
+        ap (option_map (flow_in_life c sid))
         (life_of-begins sid h (admit place) (record { spec = spec; placement = place })
         (own_turn sid (Begins (record { spec = spec; placement = place }))))
 
-    flow_at-others : (other : ℕ) → other ≢ sid → flow_at (h ++ admit place ∷ []) other ≡ flow_at h other
-    flow_at-others other differ =
-        flow_at-stays h (admit place) other
+    flow_at-others : (c : Config) (other : ℕ) → other ≢ sid → flow_at c (h ++ admit place ∷ []) other
+        ≡ flow_at c h other
+    flow_at-others c other differ =
+        flow_at-stays c h (admit place) other
         (other_turn sid other (Begins (record { spec = spec; placement = place })) differ)
-        ∙ ungrown-map (flow_at h other)
+        ∙ ungrown-map (flow_at c h other)
 
     -- an admitted flow is put in at its SID
-    pub flows_of-admit : life_of sid h ≡ None → 1 ≤ sid → sid ≤ 8191
-        → flows_of (h ++ record { stamp = stamp; call = calls.Admit sid spec; reply = replies.Admitted place } ∷ [])
-        ≡ with_flow (new_flow sid spec) (flows_of h)
-    flows_of-admit none low high =
+    pub flows_of-admit : (c : Config) → life_of sid h ≡ None → 1 ≤ sid → sid ≤ 8191
+        → flows_of c (h ++ record { stamp = stamp; call = calls.Admit sid spec; reply = replies.Admitted place } ∷ [])
+        ≡ with_flow (new_flow sid spec) (flows_of c h)
+    flows_of-admit c none low high =
         rw sids-range.2
-        (filter_map-put_in (λ f. f.sid) (flow_at h) (flow_at-sid h) (flow_at (h ++ admit place ∷ [])) sid
+        (filter_map-put_in (λ f. f.sid) (flow_at c h) (flow_at-sid c h) (flow_at c (h ++ admit place ∷ [])) sid
         (new_flow sid spec) refl
-        (ap (option_map (flow_in_life sid)) none) flow_at-admitted flow_at-others 1 sids-range.0 low
-        (omega (arith, sids-range.1))) ∙ put_in-flow (new_flow sid spec) (flows_of h)
+        (ap (option_map (flow_in_life c sid)) none) (flow_at-admitted c) (flow_at-others c) 1 sids-range.0 low
+        (omega (arith, sids-range.1))) ∙ put_in-flow (new_flow sid spec) (flows_of c h)
 
     placed_at-others : (other : ℕ) → other ≢ sid → placed_at (h ++ admit place ∷ []) other ≡ placed_at h other
     placed_at-others other differ =

@@ -27,27 +27,27 @@ granted_flow f grants more same = let none : f.asked + 0 ≡ f.asked = omega ari
 
 module _ (stamp : Stamp) (h : List Entry) (now : ℕ) (m : FrameMap) where
   -- each live flow has the data grants that the MAP has for it
-  pub flows_of-build : (start : ℕ) (plan : List Allocation)
+  pub flows_of-build : (c : Config) (start : ℕ) (plan : List Allocation)
       → ((sid : ℕ) → grants_of_map sid m ≡ grants_to start sid plan)
-      → flows_of (h ++ record { stamp = stamp; call = calls.Build now; reply = replies.Built m } ∷ [])
-      ≡ flows_after start plan (flows_of h)
-  flows_of-build start plan reads =
+      → flows_of c (h ++ record { stamp = stamp; call = calls.Build now; reply = replies.Built m } ∷ [])
+      ≡ flows_after start plan (flows_of c h)
+  flows_of-build c start plan reads =
       let e : Entry = record { stamp = stamp; call = calls.Build now; reply = replies.Built m } in
-      flows_of-grown h e (λ sid. refl) ∙ map-each (grown_by e) (flow_after start plan) (flows_of h)
+      flows_of-grown c h e (λ sid. refl) ∙ map-each (grown_by c e) (flow_after start plan) (flows_of c h)
       (λ f. granted_flow f (grants_of_map f.sid m) (grants_to start f.sid plan) (reads f.sid))
 
   -- so too for the MAP of a plan in which each data grant has some bytes
   pub flows_of-build_plan : (c : Config) (d : Demand) (header : Header) (ack : ℕ) (plan : List Allocation)
       → AllByRecursion (λ a. HasBytes a.purpose) plan → m ≡ map_of c d header ack plan
-      → flows_of (h ++ record { stamp = stamp; call = calls.Build now; reply = replies.Built m } ∷ [])
-      ≡ flows_after d.start plan (flows_of h)
+      → flows_of c (h ++ record { stamp = stamp; call = calls.Build now; reply = replies.Built m } ∷ [])
+      ≡ flows_after d.start plan (flows_of c h)
   flows_of-build_plan c d header ack plan has is =
-      flows_of-build d.start plan (λ sid. ap (grants_of_map sid) is ∙ grants_of_map-plan sid c d header ack plan has)
+      flows_of-build c d.start plan (λ sid. ap (grants_of_map sid) is ∙ grants_of_map-plan sid c d header ack plan has)
 
   -- so too for the MAP of the next frame
   pub flows_of-build_next : (c : Config) (next : IsNextMap c h m)
-      → flows_of (h ++ record { stamp = stamp; call = calls.Build now; reply = replies.Built m } ∷ [])
-      ≡ flows_after (next_after c h) next.0 (flows_of h)
+      → flows_of c (h ++ record { stamp = stamp; call = calls.Build now; reply = replies.Built m } ∷ [])
+      ≡ flows_after (next_after c h) next.0 (flows_of c h)
   flows_of-build_next c next =
       flows_of-build_plan c (demand_after c h) (header_after c h) _ next.0
       (plan-HasBytes c (demand_after c h) next.0 next.1) next.2

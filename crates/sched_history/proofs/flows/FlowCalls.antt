@@ -4,7 +4,10 @@ use Rattle.std.proofs.Common.{◌++◌, map, Option, None, Some, refl, sym, ap, 
 use Rattle.std.specs.Option.{option_map, option_and_then}
 use Rattle.std.proofs.lemmas.Bool.{cases_eq}
 use Rattle.std.proofs.lemmas.Bool.Decides.{nat_tests}
+use Rattle.minislots.specs.declared.config.Config.{Config}
 use Rattle.minislots.specs.declared.stamp.Stamp.{Stamp}
+use Rattle.sched_calls.specs.declared.amount.Amount.{Amount}
+use Rattle.sched_calls.specs.Amount.{requested}
 use Rattle.flow_book.specs.Flows.{LiveFlow}
 use Rattle.flow_book.specs.Book.{without, changed, with_asked}
 use Rattle.periodic.specs.Table.{without as without_placed}
@@ -37,22 +40,23 @@ asked_this : (sid bytes : ℕ) (f : LiveFlow)
     ≡ (if f.sid == sid then with_asked bytes f else f)
 asked_this sid bytes f = rw (eqb-sym sid f.sid) (asked_flow (f.sid == sid) bytes f)
 
-module _ (stamp : Stamp) (h : List Entry) (receiver sid bytes heard : ℕ) where
+module _ (stamp : Stamp) (h : List Entry) (receiver sid : ℕ) (amount : Amount) (heard : ℕ) where
   -- after a request the flow has asked for so many bytes more
-  pub flows_of-ask : flows_of
-      (h ++ record { stamp = stamp; call = calls.Ask receiver sid bytes heard; reply = replies.Taken } ∷ [])
-      ≡ changed sid (with_asked bytes) (flows_of h)
-  flows_of-ask =
-      let e : Entry = record { stamp = stamp; call = calls.Ask receiver sid bytes heard; reply = replies.Taken } in
-      flows_of-grown h e (λ other. refl) ∙ map-each (grown_by e) (λ f. if f.sid == sid then with_asked bytes f else f)
-      (flows_of h) (asked_this sid bytes)
+  pub flows_of-ask : (c : Config) → flows_of c
+      (h ++ record { stamp = stamp; call = calls.Ask receiver sid amount heard; reply = replies.Taken } ∷ [])
+      ≡ changed sid (with_asked (requested c amount)) (flows_of c h)
+  flows_of-ask c =
+      let e : Entry = record { stamp = stamp; call = calls.Ask receiver sid amount heard; reply = replies.Taken } in
+      flows_of-grown c h e (λ other. refl) ∙ map-each (grown_by c e)
+      (λ f. if f.sid == sid then with_asked (requested c amount) f else f)
+      (flows_of c h) (asked_this sid (requested c amount))
 
   -- and no placement changes
   pub table_of-ask : table_of
-      (h ++ record { stamp = stamp; call = calls.Ask receiver sid bytes heard; reply = replies.Taken } ∷ [])
+      (h ++ record { stamp = stamp; call = calls.Ask receiver sid amount heard; reply = replies.Taken } ∷ [])
       ≡ table_of h
   table_of-ask =
-      table_of-stays h (record { stamp = stamp; call = calls.Ask receiver sid bytes heard; reply = replies.Taken })
+      table_of-stays h (record { stamp = stamp; call = calls.Ask receiver sid amount heard; reply = replies.Taken })
       (λ other. refl)
 
 -- a turn of another SID is none
@@ -90,15 +94,17 @@ module _ (stamp : Stamp) (h : List Entry) (sid : ℕ) where
   removed = h ++ record { stamp = stamp; call = calls.Remove sid; reply = replies.Removed } ∷ []
 
   -- after a removal no flow with the SID is live, and the others stay
-  pub flows_of-remove : flows_of
-      (h ++ record { stamp = stamp; call = calls.Remove sid; reply = replies.Removed } ∷ []) ≡ without sid (flows_of h)
-  flows_of-remove =
+  pub flows_of-remove : (c : Config) → flows_of c
+      (h ++ record { stamp = stamp; call = calls.Remove sid; reply = replies.Removed } ∷ [])
+      ≡ without sid (flows_of c h)
+  flows_of-remove c =
       let e : Entry = record { stamp = stamp; call = calls.Remove sid; reply = replies.Removed } in
-      filter_map-kept (flow_at h) (flow_at removed) (λ f. not (f.sid == sid)) sids (λ other. elim (cases_eq other sid) [
-        | inl same ↦ rw same (ap (option_map (flow_in_life sid)) (life_of-ends sid h e (own_turn sid Ends))
-            ∙ sym (kept_own (λ f. f.sid) sid (flow_at h sid) (flow_at-sid h sid)))
-        | inr differ ↦ flow_at-stays h e other (other_turn sid other Ends differ) ∙ ungrown-map (flow_at h other)
-            ∙ sym (kept_other (λ f. f.sid) sid other (flow_at h other) (flow_at-sid h other) differ)
+      filter_map-kept (flow_at c h) (flow_at c removed) (λ f. not (f.sid == sid)) sids (λ other. elim
+      (cases_eq other sid) [
+        | inl same ↦ rw same (ap (option_map (flow_in_life c sid)) (life_of-ends sid h e (own_turn sid Ends))
+            ∙ sym (kept_own (λ f. f.sid) sid (flow_at c h sid) (flow_at-sid c h sid)))
+        | inr differ ↦ flow_at-stays c h e other (other_turn sid other Ends differ) ∙ ungrown-map (flow_at c h other)
+            ∙ sym (kept_other (λ f. f.sid) sid other (flow_at c h other) (flow_at-sid c h other) differ)
       ])
 
   -- nor is one placed

@@ -53,17 +53,17 @@ module _ (sid start : ℕ) where
   some_bytes false bytes g some = refl
 
   -- the data grant that an allocation's element is read as
-  grant_by-allocation : (c : Config) (offset slots : ℕ) (purpose : Purpose) → HasBytes purpose
-      → grant_by sid start (element_for c offset slots purpose, (kind_of c slots purpose).bytes)
+  grant_by-allocation : (c : Config) (offset : ℕ) (purpose : Purpose) → HasBytes purpose
+      → grant_by sid start (element_for c offset purpose, (kind_of c purpose).bytes)
       ≡ grant_to start sid purpose offset
-  grant_by-allocation c offset slots (DataGrant other bytes) has =
+  grant_by-allocation c offset (DataGrant other bytes) has =
       some_bytes (other == sid) bytes (record { start = start + offset; bytes = bytes }) has
-  grant_by-allocation c offset slots (Poll other) has = grant_by-none (element_for c offset slots (Poll other))
-  grant_by-allocation c offset slots (UnsolicitedGrant other) has =
-      grant_by-none (element_for c offset slots (UnsolicitedGrant other))
-  grant_by-allocation c offset slots (Offer place usage) has =
-      grant_by-none (element_for c offset slots (Offer place usage))
-  grant_by-allocation c offset slots Idle has = grant_by-none (element_for c offset slots Idle)
+  grant_by-allocation c offset (Poll other) has = grant_by-none (element_for c offset (Poll other))
+  grant_by-allocation c offset (UnsolicitedGrant other size) has =
+      grant_by-none (element_for c offset (UnsolicitedGrant other size))
+  grant_by-allocation c offset (Offer place usage) has =
+      grant_by-none (element_for c offset (Offer place usage))
+  grant_by-allocation c offset Idle has = grant_by-none (element_for c offset Idle)
 
   -- elements with no bytes have no data grants
   zip-none : (es : List Element) → filter_map (grant_by sid start) (zip es (map (λ e. 0) es)) ≡ []
@@ -77,7 +77,7 @@ module _ (sid start : ℕ) where
       ≡ grants_to start sid plan
   zip-plan c [] es bs has none = none
   zip-plan c (a ∷ plan) es bs has none =
-      rw (grant_by-allocation c a.offset a.slots a.purpose has.0, zip-plan c plan es bs has.1 none) refl
+      rw (grant_by-allocation c a.offset a.purpose has.0, zip-plan c plan es bs has.1 none) refl
 
 -- the data grants of the MAP with this plan are those of the plan
 pub grants_of_map-plan : (sid : ℕ) (c : Config) (d : Demand) (header : Header) (ack : ℕ) (plan : List Allocation)

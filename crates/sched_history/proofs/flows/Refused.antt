@@ -1,5 +1,6 @@
 -- A refused call changes no live flow.
 use Rattle.std.proofs.Common.{◌≡◌, ℕ, List, [], ◌∷◌, ◌++◌, None, refl}
+use Rattle.minislots.specs.declared.config.Config.{Config}
 use Rattle.minislots.specs.declared.stamp.Stamp.{Stamp}
 use Rattle.sched_calls.specs.declared.call.Call.{Call}
 use Rattle.sched_calls.specs.declared.call.Call.TheVariants as calls
@@ -15,7 +16,7 @@ use Rattle.sched_history.proofs.lives.FlowsAfter.{flows_of-quiet}
 turn_by-refused : (call : Call) (refusal : Refusal) (sid : ℕ) → turn_by sid call (replies.Refused refusal) ≡ None
 turn_by-refused (calls.Admit other spec) refusal sid = refl
 turn_by-refused (calls.Remove other) refusal sid = refl
-turn_by-refused (calls.Ask receiver other bytes heard) refusal sid = refl
+turn_by-refused (calls.Ask receiver other amount heard) refusal sid = refl
 turn_by-refused (calls.Heard receiver upto) refusal sid = refl
 turn_by-refused (calls.Build now) refusal sid = refl
 turn_by-refused (calls.Skip now) refusal sid = refl
@@ -23,22 +24,23 @@ turn_by-refused (calls.Status other) refusal sid = refl
 turn_by-refused (calls.Reserve usage slots) refusal sid = refl
 turn_by-refused (calls.Header header) refusal sid = refl
 
-asked_by-refused : (call : Call) (refusal : Refusal) (sid : ℕ) → asked_by sid call (replies.Refused refusal) ≡ 0
-asked_by-refused (calls.Admit other spec) refusal sid = refl
-asked_by-refused (calls.Remove other) refusal sid = refl
-asked_by-refused (calls.Ask receiver other bytes heard) refusal sid = refl
-asked_by-refused (calls.Heard receiver upto) refusal sid = refl
-asked_by-refused (calls.Build now) refusal sid = refl
-asked_by-refused (calls.Skip now) refusal sid = refl
-asked_by-refused (calls.Status other) refusal sid = refl
-asked_by-refused (calls.Reserve usage slots) refusal sid = refl
-asked_by-refused (calls.Header header) refusal sid = refl
+asked_by-refused : (c : Config) (call : Call) (refusal : Refusal) (sid : ℕ)
+    → asked_by c sid call (replies.Refused refusal) ≡ 0
+asked_by-refused c (calls.Admit other spec) refusal sid = refl
+asked_by-refused c (calls.Remove other) refusal sid = refl
+asked_by-refused c (calls.Ask receiver other amount heard) refusal sid = refl
+asked_by-refused c (calls.Heard receiver upto) refusal sid = refl
+asked_by-refused c (calls.Build now) refusal sid = refl
+asked_by-refused c (calls.Skip now) refusal sid = refl
+asked_by-refused c (calls.Status other) refusal sid = refl
+asked_by-refused c (calls.Reserve usage slots) refusal sid = refl
+asked_by-refused c (calls.Header header) refusal sid = refl
 
 progress_by-refused : (call : Call) (refusal : Refusal) (receiver : ℕ)
     → progress_by receiver call (replies.Refused refusal) ≡ None
 progress_by-refused (calls.Admit other spec) refusal receiver = refl
 progress_by-refused (calls.Remove other) refusal receiver = refl
-progress_by-refused (calls.Ask other sid bytes heard) refusal receiver = refl
+progress_by-refused (calls.Ask other sid amount heard) refusal receiver = refl
 progress_by-refused (calls.Heard other upto) refusal receiver = refl
 progress_by-refused (calls.Build now) refusal receiver = refl
 progress_by-refused (calls.Skip now) refusal receiver = refl
@@ -55,10 +57,10 @@ header_by-refused (calls.Header header) refusal = refl
 header_by-refused call refusal = refl
 
 -- nothing depends on a refusal
-pub IsQuiet-refused : (call : Call) (refusal : Refusal) → IsQuiet call (replies.Refused refusal)
-IsQuiet-refused call refusal = record {
+pub IsQuiet-refused : (c : Config) (call : Call) (refusal : Refusal) → IsQuiet c call (replies.Refused refusal)
+IsQuiet-refused c call refusal = record {
   turns = turn_by-refused call refusal;
-  asks = asked_by-refused call refusal;
+  asks = asked_by-refused c call refusal;
   grants = λ sid. refl;
   skips = refl;
   builds = refl;
@@ -68,8 +70,8 @@ IsQuiet-refused call refusal = record {
 }
 
 -- the live flows stay as they are
-pub flows_of-refused : (stamp : Stamp) (h : List Entry) (call : Call) (refusal : Refusal)
-    → flows_of (h ++ record { stamp = stamp; call = call; reply = replies.Refused refusal } ∷ []) ≡ flows_of h
-flows_of-refused stamp h call refusal =
-    flows_of-quiet h (record { stamp = stamp; call = call; reply = replies.Refused refusal })
-    (turn_by-refused call refusal) (asked_by-refused call refusal) (λ sid. refl)
+pub flows_of-refused : (c : Config) (stamp : Stamp) (h : List Entry) (call : Call) (refusal : Refusal)
+    → flows_of c (h ++ record { stamp = stamp; call = call; reply = replies.Refused refusal } ∷ []) ≡ flows_of c h
+flows_of-refused c stamp h call refusal =
+    flows_of-quiet c h (record { stamp = stamp; call = call; reply = replies.Refused refusal })
+    (turn_by-refused call refusal) (asked_by-refused c call refusal) (λ sid. refl)

@@ -5,6 +5,7 @@ use Rattle.std.specs.Prelude.{is_some}
 use Rattle.std.specs.List.{AllByRecursion}
 use Rattle.std.specs.Option.{option_map, option_and_then}
 use Rattle.std.proofs.lemmas.Bool.Decides.{nat_tests}
+use Rattle.minislots.specs.declared.config.Config.{Config}
 use Rattle.sched_calls.specs.declared.spec.FlowSpec.{FlowSpec}
 use Rattle.flow_book.specs.Flows.{LiveFlow, flow_of}
 use Rattle.sched_calls.specs.declared.placement.Placement.{Placement}
@@ -21,20 +22,21 @@ unfolding sids
 sids-range = (8191, refl, refl)
 
 -- the live flow that a SID is after a history
-abbrev pub flow_at : List Entry → ℕ → Option LiveFlow
-flow_at h sid = option_map (flow_in_life sid) (life_of sid h)
+abbrev pub flow_at : Config → List Entry → ℕ → Option LiveFlow
+flow_at c h sid = option_map (flow_in_life c sid) (life_of sid h)
 
 -- the placed flow that a SID is after a history
 abbrev pub placed_at : List Entry → ℕ → Option Placed
 placed_at h sid = option_and_then (placed_in_life sid) (life_of sid h)
 
-flow-number : (sid : ℕ) (o : Option Life) (f : LiveFlow) → option_map (flow_in_life sid) o ≡ Some f → f.sid ≡ sid
-flow-number sid None f is = absurd cc
-flow-number sid (Some life) f is = let same : flow_in_life sid life ≡ f = cc in sym (ap (λ g. g.sid) same)
+flow-number : (c : Config) (sid : ℕ) (o : Option Life) (f : LiveFlow) → option_map (flow_in_life c sid) o ≡ Some f
+    → f.sid ≡ sid
+flow-number c sid None f is = absurd cc
+flow-number c sid (Some life) f is = let same : flow_in_life c sid life ≡ f = cc in sym (ap (λ g. g.sid) same)
 
 -- a live flow has its SID
-pub flow_at-sid : (h : List Entry) → HasNumber (λ f. f.sid) (flow_at h)
-flow_at-sid h sid f is = flow-number sid (life_of sid h) f is
+pub flow_at-sid : (c : Config) (h : List Entry) → HasNumber (λ f. f.sid) (flow_at c h)
+flow_at-sid c h sid f is = flow-number c sid (life_of sid h) f is
 
 placement-number : (sid : ℕ) (spec : FlowSpec) (placement : Option Placement) (p : Placed)
     → option_map (λ placement. record { sid = sid; spec = spec; placement = placement }) placement ≡ Some p
@@ -52,11 +54,11 @@ pub placed_at-sid : (h : List Entry) → HasNumber (λ p. p.sid) (placed_at h)
 placed_at-sid h sid p is = placed-number sid (life_of sid h) p is
 
 -- the live flow with a SID is the one of its life
-pub flow_of-flows_of : (sid : ℕ) (h : List Entry) → 1 ≤ sid → sid ≤ 8191
-    → flow_of sid (flows_of h) ≡ option_map (flow_in_life sid) (life_of sid h)
-flow_of-flows_of sid h low high =
+pub flow_of-flows_of : (c : Config) (sid : ℕ) (h : List Entry) → 1 ≤ sid → sid ≤ 8191
+    → flow_of sid (flows_of c h) ≡ option_map (flow_in_life c sid) (life_of sid h)
+flow_of-flows_of c sid h low high =
     rw sids-range.2
-    (find-inside (λ f. f.sid) (flow_at h) (flow_at-sid h) 1 sids-range.0 sid low (omega (arith, sids-range.1)))
+    (find-inside (λ f. f.sid) (flow_at c h) (flow_at-sid c h) 1 sids-range.0 sid low (omega (arith, sids-range.1)))
 
 -- the placed flow with a SID is the one of its life
 pub find-table_of : (sid : ℕ) (h : List Entry) → 1 ≤ sid → sid ≤ 8191
@@ -66,12 +68,12 @@ find-table_of sid h low high =
     (find-inside (λ p. p.sid) (placed_at h) (placed_at-sid h) 1 sids-range.0 sid low (omega (arith, sids-range.1)))
 
 -- every live flow has a SID that a flow may have
-pub flows_of-sids : (h : List Entry) → AllByRecursion (λ f. 1 ≤ f.sid) (flows_of h)
-    × AllByRecursion (λ f. f.sid < 8192) (flows_of h)
-flows_of-sids h = rw sids-range.2 (
-  filter_map-above (λ f. f.sid) (flow_at h) (flow_at-sid h) 0 1 sids-range.0 (omega arith),
+pub flows_of-sids : (c : Config) (h : List Entry) → AllByRecursion (λ f. 1 ≤ f.sid) (flows_of c h)
+    × AllByRecursion (λ f. f.sid < 8192) (flows_of c h)
+flows_of-sids c h = rw sids-range.2 (
+  filter_map-above (λ f. f.sid) (flow_at c h) (flow_at-sid c h) 0 1 sids-range.0 (omega arith),
   filter_map-below (λ f. f.sid)
-      (flow_at h) (flow_at-sid h) 8192 1 sids-range.0 (omega (arith, sids-range.1)),
+      (flow_at c h) (flow_at-sid c h) 8192 1 sids-range.0 (omega (arith, sids-range.1)),
 )
 
 -- the SIDs of flows are those that are not refused

@@ -4,6 +4,7 @@ use Rattle.std.proofs.Common.{None, Some, refl, ap, ◌∙◌, arith, append-nil
 use Rattle.std.specs.Option.{option_map, option_and_then}
 use Rattle.std.proofs.lemmas.List.Sums.{sum_by_push}
 use Rattle.std.proofs.lemmas.Grind.{flat_map-append}
+use Rattle.minislots.specs.declared.config.Config.{Config}
 use Rattle.flow_book.specs.declared.flow.Grant.{Grant}
 use Rattle.flow_book.specs.Flows.{LiveFlow}
 use Rattle.sched_calls.specs.declared.reply.Entry.{Entry}
@@ -14,14 +15,14 @@ use Rattle.sched_history.proofs.lists.Numbered.{filter_map-same, filter_map-chan
 use Rattle.sched_history.proofs.lives.Finding.{flow_at, placed_at}
 
 -- a live flow with what an entry asks for it and grants to it
-abbrev pub grown_by : Entry → LiveFlow → LiveFlow
-grown_by e f =
-    record f { asked = f.asked + asked_by f.sid e.call e.reply; grants = f.grants ++ grants_by f.sid e.reply }
+abbrev pub grown_by : Config → Entry → LiveFlow → LiveFlow
+grown_by c e f =
+    record f { asked = f.asked + asked_by c f.sid e.call e.reply; grants = f.grants ++ grants_by f.sid e.reply }
 
 -- the bytes asked in these entries and one more
-pub asked_in-push : (sid : ℕ) (entries : List Entry) (e : Entry)
-    → asked_in sid (entries ++ e ∷ []) ≡ asked_in sid entries + asked_by sid e.call e.reply
-asked_in-push sid entries e = sum_by_push (λ x. asked_by sid x.call x.reply) entries e
+pub asked_in-push : (c : Config) (sid : ℕ) (entries : List Entry) (e : Entry)
+    → asked_in c sid (entries ++ e ∷ []) ≡ asked_in c sid entries + asked_by c sid e.call e.reply
+asked_in-push c sid entries e = sum_by_push (λ x. asked_by c sid x.call x.reply) entries e
 
 -- the grants in these entries and one more
 pub grants_since-push : (sid : ℕ) (entries : List Entry) (e : Entry)
@@ -31,38 +32,40 @@ grants_since-push sid entries e =
     ∙ ap (λ gs. grants_since sid entries ++ gs) (append-nil (grants_by sid e.reply))
 
 -- the live flow of a life with one entry more
-flow_in_life-more : (sid : ℕ) (e : Entry) (life : Life)
-    → flow_in_life sid (with_since e life) ≡ grown_by e (flow_in_life sid life)
-flow_in_life-more sid e life = rw (asked_in-push sid life.since e, grants_since-push sid life.since e) refl
+flow_in_life-more : (c : Config) (sid : ℕ) (e : Entry) (life : Life)
+    → flow_in_life c sid (with_since e life) ≡ grown_by c e (flow_in_life c sid life)
+flow_in_life-more c sid e life = rw (asked_in-push c sid life.since e, grants_since-push sid life.since e) refl
 
-grown-map : (sid : ℕ) (e : Entry) (o : Option Life)
-    → option_map (flow_in_life sid) (option_map (with_since e) o)
-    ≡ option_map (grown_by e) (option_map (flow_in_life sid) o)
-grown-map sid e None = refl
-grown-map sid e (Some life) = ap (λ (f : LiveFlow). Some f) (flow_in_life-more sid e life)
+grown-map : (c : Config) (sid : ℕ) (e : Entry) (o : Option Life)
+    → option_map (flow_in_life c sid) (option_map (with_since e) o)
+    ≡ option_map (grown_by c e) (option_map (flow_in_life c sid) o)
+grown-map c sid e None = refl
+grown-map c sid e (Some life) = ap (λ (f : LiveFlow). Some f) (flow_in_life-more c sid e life)
 
 placed-map : (sid : ℕ) (e : Entry) (o : Option Life)
     → option_and_then (placed_in_life sid) (option_map (with_since e) o) ≡ option_and_then (placed_in_life sid) o
 placed-map sid e None = refl
 placed-map sid e (Some life) = refl
 
-module _ (h : List Entry) (e : Entry) where
+module _ (c : Config) (h : List Entry) (e : Entry) where
   -- where an entry is no turn of a SID its live flow grows
   pub flow_at-stays : (sid : ℕ) → turn_by sid e.call e.reply ≡ None
-      → flow_at (h ++ e ∷ []) sid ≡ option_map (grown_by e) (flow_at h sid)
+      → flow_at c (h ++ e ∷ []) sid ≡ option_map (grown_by c e) (flow_at c h sid)
   flow_at-stays sid none =
-      ap (option_map (flow_in_life sid)) (life_of-stays sid h e none) ∙ grown-map sid e (life_of sid h)
+      ap (option_map (flow_in_life c sid)) (life_of-stays sid h e none) ∙ grown-map c sid e (life_of sid h)
 
+  -- where an entry is no turn of any SID each live flow grows
+  pub flows_of-grown : ((sid : ℕ) → turn_by sid e.call e.reply ≡ None)
+      → flows_of c (h ++ e ∷ []) ≡ map (grown_by c e) (flows_of c h)
+  flows_of-grown none =
+      filter_map-changed (flow_at c h) (flow_at c (h ++ e ∷ [])) (grown_by c e) sids (λ sid. flow_at-stays sid
+      (none sid))
+
+module _ (h : List Entry) (e : Entry) where
   -- and its placement stays
   pub placed_at-stays : (sid : ℕ) → turn_by sid e.call e.reply ≡ None → placed_at (h ++ e ∷ []) sid ≡ placed_at h sid
   placed_at-stays sid none =
       ap (option_and_then (placed_in_life sid)) (life_of-stays sid h e none) ∙ placed-map sid e (life_of sid h)
-
-  -- where an entry is no turn of any SID each live flow grows
-  pub flows_of-grown : ((sid : ℕ) → turn_by sid e.call e.reply ≡ None)
-      → flows_of (h ++ e ∷ []) ≡ map (grown_by e) (flows_of h)
-  flows_of-grown none =
-      filter_map-changed (flow_at h) (flow_at (h ++ e ∷ [])) (grown_by e) sids (λ sid. flow_at-stays sid (none sid))
 
   -- and the placements stay
   pub table_of-stays : ((sid : ℕ) → turn_by sid e.call e.reply ≡ None) → table_of (h ++ e ∷ []) ≡ table_of h
@@ -80,9 +83,9 @@ map-same k [] same = refl
 map-same k (x ∷ xs) same = rw (same x, map-same k xs same) refl
 
 -- an entry that begins and ends no life, asks for nothing and grants nothing changes no live flow
-pub flows_of-quiet : (h : List Entry) (e : Entry) → ((sid : ℕ) → turn_by sid e.call e.reply ≡ None)
-    → ((sid : ℕ) → asked_by sid e.call e.reply ≡ 0) → ((sid : ℕ) → grants_by sid e.reply ≡ [])
-    → flows_of (h ++ e ∷ []) ≡ flows_of h
-flows_of-quiet h e none asks grants = flows_of-grown h e none
-    ∙ map-same (grown_by e) (flows_of h)
-    (λ f. same_flow f (asked_by f.sid e.call e.reply) (grants_by f.sid e.reply) (asks f.sid) (grants f.sid))
+pub flows_of-quiet : (c : Config) (h : List Entry) (e : Entry) → ((sid : ℕ) → turn_by sid e.call e.reply ≡ None)
+    → ((sid : ℕ) → asked_by c sid e.call e.reply ≡ 0) → ((sid : ℕ) → grants_by sid e.reply ≡ [])
+    → flows_of c (h ++ e ∷ []) ≡ flows_of c h
+flows_of-quiet c h e none asks grants = flows_of-grown c h e none
+    ∙ map-same (grown_by c e) (flows_of c h)
+    (λ f. same_flow f (asked_by c f.sid e.call e.reply) (grants_by f.sid e.reply) (asks f.sid) (grants f.sid))

@@ -4,6 +4,7 @@ use Rattle.std.proofs.Common.{None, Some, refl, sym, ap, ◌∙◌, arith, inl, 
 use Rattle.std.proofs.lemmas.Bool.{cases_eq}
 use Rattle.std.specs.List.{filter_map}
 use Rattle.std.specs.Option.{option_and_then}
+use Rattle.minislots.specs.declared.config.Config.{Config}
 use Rattle.periodic.specs.Placement.{count_from, Placed}
 use Rattle.sched_calls.specs.declared.reply.Entry.{Entry}
 use Rattle.sched_history.specs.Life.{Life, life_of, flow_in_life, placed_in_life, sids, flows_of, table_of}
@@ -61,14 +62,14 @@ filter_map-sids-two f s t x y low up high one two others =
     rw sids-range.2 (filter_map-two f s t 1 sids-range.0 x y low up (omega (arith, sids-range.1)) one two others)
 
 -- where no SID has a life no flow is live
-pub flows_of-none : (h : List Entry) → ((sid : ℕ) → life_of sid h ≡ None) → flows_of h ≡ []
-flows_of-none h none = filter_map-sids-none (flow_at h) (λ sid. rw (none sid))
+pub flows_of-none : (c : Config) (h : List Entry) → ((sid : ℕ) → life_of sid h ≡ None) → flows_of c h ≡ []
+flows_of-none c h none = filter_map-sids-none (flow_at c h) (λ sid. rw (none sid))
 
 -- where one SID alone has a life that flow alone is live
-pub flows_of-one : (h : List Entry) (s : ℕ) (life : Life) → 1 ≤ s → s ≤ 8191 → life_of s h ≡ Some life
-    → ((sid : ℕ) → sid ≢ s → life_of sid h ≡ None) → flows_of h ≡ flow_in_life s life ∷ []
-flows_of-one h s life low high one others =
-    filter_map-sids-one (flow_at h) s (flow_in_life s life) low high (rw one) (λ sid other. rw (others sid other))
+pub flows_of-one : (c : Config) (h : List Entry) (s : ℕ) (life : Life) → 1 ≤ s → s ≤ 8191 → life_of s h ≡ Some life
+    → ((sid : ℕ) → sid ≢ s → life_of sid h ≡ None) → flows_of c h ≡ flow_in_life c s life ∷ []
+flows_of-one c h s life low high one others =
+    filter_map-sids-one (flow_at c h) s (flow_in_life c s life) low high (rw one) (λ sid other. rw (others sid other))
 
 -- where no SID has a life no flow is placed
 pub table_of-none : (h : List Entry) → ((sid : ℕ) → life_of sid h ≡ None) → table_of h ≡ []
@@ -103,12 +104,13 @@ table_of-unplaced_one h s life one unplaced others = table_of-unplaced h (λ sid
 ])
 
 -- where two SIDs alone have a life these two flows are live, in order
-pub flows_of-two : (h : List Entry) (s t : ℕ) (life life' : Life) → 1 ≤ s → s < t → t ≤ 8191 → life_of s h ≡ Some life
+pub flows_of-two : (c : Config) (h : List Entry) (s t : ℕ) (life life' : Life) → 1 ≤ s → s < t → t ≤ 8191
+    → life_of s h ≡ Some life
     → life_of t h ≡ Some life'
     → ((sid : ℕ) → sid ≢ s → sid ≢ t → life_of sid h ≡ None)
-    → flows_of h ≡ flow_in_life s life ∷ flow_in_life t life' ∷ []
-flows_of-two h s t life life' low up high one two others =
-    filter_map-sids-two (flow_at h) s t (flow_in_life s life) (flow_in_life t life') low up high (rw one) (rw two)
+    → flows_of c h ≡ flow_in_life c s life ∷ flow_in_life c t life' ∷ []
+flows_of-two c h s t life life' low up high one two others =
+    filter_map-sids-two (flow_at c h) s t (flow_in_life c s life) (flow_in_life c t life') low up high (rw one) (rw two)
     (λ sid not_s not_t. rw (others sid not_s not_t))
 
 -- where two SIDs alone have a life, with these placements, these two flows are placed, in order

@@ -159,29 +159,29 @@ grants-placed sid spec (Some p) paired ps =
     sum_by-cons (λ (f : Placed). grants_of f.spec) (record { sid = sid; spec = spec; placement = p }) ps
 
 -- a life adds its grants to both sums
-summed : (sid : ℕ) (o : Option Life) → ((life : Life) → o ≡ Some life → IsPaired life.admission)
+summed : (c : Config) (sid : ℕ) (o : Option Life) → ((life : Life) → o ≡ Some life → IsPaired life.admission)
     → (ps : List Placed) (fs : List LiveFlow) → placed_grants ps ≡ sum_by (λ f. grants_of f.spec) fs
     → placed_grants (cons_option (option_and_then (placed_in_life sid) o) ps) ≡ sum_by (λ f. grants_of f.spec)
-    (cons_option (option_map (flow_in_life sid) o) fs)
-summed sid None paired ps fs same = same
-summed sid (Some life) paired ps fs same =
+    (cons_option (option_map (flow_in_life c sid) o) fs)
+summed c sid None paired ps fs same = same
+summed c sid (Some life) paired ps fs same =
     let placed = grants-placed sid life.admission.spec life.admission.placement (paired life refl) ps in
-    let live = sum_by-cons (λ (f : LiveFlow). grants_of f.spec) (flow_in_life sid life) fs in
+    let live = sum_by-cons (λ (f : LiveFlow). grants_of f.spec) (flow_in_life c sid life) fs in
     omega (arith, placed, live, same)
 
-summed_all : (h : List Entry) (xs : List ℕ) →
+summed_all : (c : Config) (h : List Entry) (xs : List ℕ) →
     ((sid : ℕ) (life : Life) → life_of sid h ≡ Some life → IsPaired life.admission)
-    → placed_grants (filter_map (placed_at h) xs) ≡ sum_by (λ f. grants_of f.spec) (filter_map (flow_at h) xs)
-summed_all h [] paired = refl
-summed_all h (x ∷ xs) paired =
-    summed x (life_of x h) (paired x) (filter_map (placed_at h) xs) (filter_map (flow_at h) xs)
-    (summed_all h xs paired)
+    → placed_grants (filter_map (placed_at h) xs) ≡ sum_by (λ f. grants_of f.spec) (filter_map (flow_at c h) xs)
+summed_all c h [] paired = refl
+summed_all c h (x ∷ xs) paired =
+    summed c x (life_of x h) (paired x) (filter_map (placed_at h) xs) (filter_map (flow_at c h) xs)
+    (summed_all c h xs paired)
 
 -- the placed flows have the grants per interval of the live ones
-pub grants-table_of : (c : Config) (h : List Entry) → IsLegal c h → placed_grants (table_of h) ≡ periodic_grants h
-grants-table_of c h legal = summed_all h sids (λ sid life. life_of-pairs c h sid life legal)
+pub grants-table_of : (c : Config) (h : List Entry) → IsLegal c h → placed_grants (table_of h) ≡ periodic_grants c h
+grants-table_of c h legal = summed_all c h sids (λ sid life. life_of-pairs c h sid life legal)
 
 -- so have the flows that a scheduler places
 pub grants-placed_by : (s : State) (h : List Entry) → IsStateAfter s h → IsLegal s.config h
-    → placed_grants s.table.placed ≡ periodic_grants h
+    → placed_grants s.table.placed ≡ periodic_grants s.config h
 grants-placed_by s h is_after legal = ap placed_grants is_after.placed ∙ grants-table_of s.config h legal

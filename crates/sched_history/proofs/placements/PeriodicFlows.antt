@@ -16,46 +16,48 @@ use Rattle.sched_history.proofs.placements.Counts.{IsPaired, life_of-pairs}
 use Rattle.sched_history.proofs.lives.Finding.{flow_at, placed_at}
 
 -- a life adds its key to both lists, or to neither
-keyed : {K : Type 0} (kp : Placed → K) (kf : LiveFlow → K)
+keyed : {K : Type 0} (c : Config) (kp : Placed → K) (kf : LiveFlow → K)
     → ((sid : ℕ) (life : Life) (p : Placement) → kp (record { sid = sid; spec = life.admission.spec; placement = p })
     ≡ kf
-    (flow_in_life sid life))
+    (flow_in_life c sid life))
     → (sid : ℕ) (life : Life) (placement : Option Placement) (periodic : Bool) → is_some placement ≡ periodic
     → (ps : List Placed) (fs : List LiveFlow) → map kp ps ≡ map kf fs
     → map kp (cons_option
     (option_map (λ p. record { sid = sid; spec = life.admission.spec; placement = p }) placement) ps) ≡ map kf
-    (cond periodic (flow_in_life sid life ∷ fs) fs)
-keyed kp kf same sid life None periodic paired ps fs rest = rw (← paired) rest
-keyed kp kf same sid life (Some p) periodic paired ps fs rest = rw (← paired, same sid life p, rest) refl
+    (cond periodic (flow_in_life c sid life ∷ fs) fs)
+keyed c kp kf same sid life None periodic paired ps fs rest = rw (← paired) rest
+keyed c kp kf same sid life (Some p) periodic paired ps fs rest = rw (← paired, same sid life p, rest) refl
 
-keyed-life : {K : Type 0} (kp : Placed → K) (kf : LiveFlow → K)
+keyed-life : {K : Type 0} (c : Config) (kp : Placed → K) (kf : LiveFlow → K)
     → ((sid : ℕ) (life : Life) (p : Placement) → kp (record { sid = sid; spec = life.admission.spec; placement = p })
     ≡ kf
-    (flow_in_life sid life))
+    (flow_in_life c sid life))
     → (sid : ℕ) (o : Option Life) → ((life : Life) → o ≡ Some life → IsPaired life.admission)
     → (ps : List Placed) (fs : List LiveFlow)
     → map kp ps ≡ map kf (filter (λ f. is_periodic f.spec) fs)
     → map kp (cons_option (option_and_then (placed_in_life sid) o) ps) ≡ map kf
-    (filter (λ f. is_periodic f.spec) (cons_option (option_map (flow_in_life sid) o) fs))
-keyed-life kp kf same sid None paired ps fs rest = rest
-keyed-life kp kf same sid (Some life) paired ps fs rest =
-    keyed kp kf same sid life life.admission.placement (is_periodic life.admission.spec) (paired life refl) ps
+    (filter (λ f. is_periodic f.spec) (cons_option (option_map (flow_in_life c sid) o) fs))
+keyed-life c kp kf same sid None paired ps fs rest = rest
+keyed-life c kp kf same sid (Some life) paired ps fs rest =
+    keyed c kp kf same sid life life.admission.placement (is_periodic life.admission.spec) (paired life refl) ps
     (filter (λ f. is_periodic f.spec) fs) rest
 
-keyed_all : {K : Type 0} (kp : Placed → K) (kf : LiveFlow → K)
+keyed_all : {K : Type 0} (c : Config) (kp : Placed → K) (kf : LiveFlow → K)
     → ((sid : ℕ) (life : Life) (p : Placement) → kp (record { sid = sid; spec = life.admission.spec; placement = p })
     ≡ kf
-    (flow_in_life sid life))
+    (flow_in_life c sid life))
     → (h : List Entry) (xs : List ℕ) → ((sid : ℕ) (life : Life) → life_of sid h ≡ Some life → IsPaired life.admission)
-    → map kp (filter_map (placed_at h) xs) ≡ map kf (filter (λ f. is_periodic f.spec) (filter_map (flow_at h) xs))
-keyed_all kp kf same h [] paired = refl
-keyed_all kp kf same h (x ∷ xs) paired = keyed-life kp kf same x (life_of x h) (paired x) (filter_map (placed_at h) xs)
-    (filter_map (flow_at h) xs) (keyed_all kp kf same h xs paired)
+    → map kp (filter_map (placed_at h) xs) ≡ map kf (filter (λ f. is_periodic f.spec) (filter_map (flow_at c h) xs))
+keyed_all c kp kf same h [] paired = refl
+keyed_all c kp kf same h (x ∷ xs) paired = keyed-life c kp kf same x (life_of x h) (paired x) (filter_map
+    (placed_at h) xs)
+    (filter_map (flow_at c h) xs) (keyed_all c kp kf same h xs paired)
 
 -- the placed flows are the live periodic ones, in their order
-pub ArePeriodicOf-legal : (c : Config) (h : List Entry) → IsLegal c h → ArePeriodicOf (flows_of h) (table_of h)
+pub ArePeriodicOf-legal : (c : Config) (h : List Entry) → IsLegal c h → ArePeriodicOf (flows_of c h) (table_of h)
 ArePeriodicOf-legal c h legal = record {
-  sids = keyed_all (λ p. p.sid) (λ f. f.sid) (λ sid life p. refl) h sids (λ sid life. life_of-pairs c h sid life legal);
-  specs = keyed_all (λ p. p.spec) (λ f. f.spec) (λ sid life p. refl) h sids
+  sids = keyed_all c (λ p. p.sid) (λ f. f.sid) (λ sid life p. refl) h sids
+      (λ sid life. life_of-pairs c h sid life legal);
+  specs = keyed_all c (λ p. p.spec) (λ f. f.spec) (λ sid life p. refl) h sids
       (λ sid life. life_of-pairs c h sid life legal);
 }

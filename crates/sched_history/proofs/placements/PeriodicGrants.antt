@@ -66,31 +66,31 @@ few-more (Polled interval jitter rate burst) n most room few = omega (arith, roo
 few-more (BestEffort priority rate burst) n most room few = omega (arith, few)
 
 module _ (c : Config) (lawful : IsLawful c) where
-  few-after : (h new : List Entry) → EntryChange c h new → periodic_grants h ≤ MAX_PERIODIC_GRANTS
-      → periodic_grants new ≤ MAX_PERIODIC_GRANTS
+  few-after : (h new : List Entry) → EntryChange c h new → periodic_grants c h ≤ MAX_PERIODIC_GRANTS
+      → periodic_grants c new ≤ MAX_PERIODIC_GRANTS
   few-after h new change few =
       let own : LiveFlow → ℕ = λ f. grants_of f.spec in
       elim change [
         | Nothing flows next ↦ rw flows few
         | Asked sid bytes most flows next ↦ rw (
           flows,
-          sum_by-map own (λ f. if f.sid == sid then with_asked bytes f else f) (flows_of h)
+          sum_by-map own (λ f. if f.sid == sid then with_asked bytes f else f) (flows_of c h)
               (λ f. asked-spec (f.sid == sid) bytes f),
         ) few
-        | Began sid spec may flows next ↦ rw (flows, sum_by-with_flow own (new_flow sid spec) (flows_of h))
-            (few-more spec (periodic_grants h) MAX_PERIODIC_GRANTS may.few_grants few)
+        | Began sid spec may flows next ↦ rw (flows, sum_by-with_flow own (new_flow sid spec) (flows_of c h))
+            (few-more spec (periodic_grants c h) MAX_PERIODIC_GRANTS may.few_grants few)
         | Ended sid flows next ↦
-            rw flows (omega (arith, few, sum_by-filter own (λ f. not (f.sid == sid)) (flows_of h)))
+            rw flows (omega (arith, few, sum_by-filter own (λ f. not (f.sid == sid)) (flows_of c h)))
         | Described m map flows next most ↦ rw (
           flows,
-          sum_by-map own (flow_after (next_after c h) map.0) (flows_of h) (λ f. refl),
+          sum_by-map own (flow_after (next_after c h) map.0) (flows_of c h) (λ f. refl),
         ) few
         | Skipped start flows next later whole most ↦ rw flows few
       ]
 
   -- the live flows have at most so many grants per interval
-  pub periodic_grants-few : (h : List Entry) → IsLegal c h → periodic_grants h ≤ MAX_PERIODIC_GRANTS
+  pub periodic_grants-few : (h : List Entry) → IsLegal c h → periodic_grants c h ≤ MAX_PERIODIC_GRANTS
   periodic_grants-few =
-      legal_induction c (λ h. periodic_grants h ≤ MAX_PERIODIC_GRANTS)
+      legal_induction c (λ h. periodic_grants c h ≤ MAX_PERIODIC_GRANTS)
       (λ h e legal step few. few-after h (h ++ e ∷ []) (change_of c h e lawful step) few)
-      (let none : flows_of [] ≡ [] = flows_of-none [] (λ sid. refl) in rw none (omega arith))
+      (let none : flows_of c [] ≡ [] = flows_of-none c [] (λ sid. refl) in rw none (omega arith))

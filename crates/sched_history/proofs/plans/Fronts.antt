@@ -31,21 +31,21 @@ unasked-none [] = tt
 unasked-none (e ∷ es) = ((λ is. refl), unasked-none es)
 
 -- the element of an allocation has its bytes
-unasked-kind : (c : Config) (offset slots : ℕ) (purpose : Purpose)
-    → IsUnasked (element_for c offset slots purpose) (kind_of c slots purpose).bytes
-unasked-kind c offset slots (DataGrant sid bytes) =
-    λ is. absurd (let isnt = data-no_offer c offset slots sid bytes in cc)
-unasked-kind c offset slots (Poll sid) = λ is. refl
-unasked-kind c offset slots (UnsolicitedGrant sid) = λ is. refl
-unasked-kind c offset slots (Offer place usage) = λ is. refl
-unasked-kind c offset slots Idle = λ is. refl
+unasked-kind : (c : Config) (offset : ℕ) (purpose : Purpose)
+    → IsUnasked (element_for c offset purpose) (kind_of c purpose).bytes
+unasked-kind c offset (DataGrant sid bytes) =
+    λ is. absurd (let isnt = data-no_offer c offset sid bytes in cc)
+unasked-kind c offset (Poll sid) = λ is. refl
+unasked-kind c offset (UnsolicitedGrant sid size) = λ is. refl
+unasked-kind c offset (Offer place usage) = λ is. refl
+unasked-kind c offset Idle = λ is. refl
 
 unasked-plan : (c : Config) (plan : List Allocation) (es : List Element) (bs : List ℕ)
     → AllByRecursion (λ e. IsUnasked e.0 e.1) (zip es bs)
     → AllByRecursion (λ e. IsUnasked e.0 e.1) (zip (map (element_of c) plan ++ es) (map (bytes_in c) plan ++ bs))
 unasked-plan c [] es bs rest = rest
 unasked-plan c (a ∷ plan) es bs rest =
-    (unasked-kind c a.offset a.slots a.purpose, unasked-plan c plan es bs rest)
+    (unasked-kind c a.offset a.purpose, unasked-plan c plan es bs rest)
 
 module _ (c : Config) (d : Demand) where
   -- behind an element that begins before it, a plan's elements ascend up to the Null

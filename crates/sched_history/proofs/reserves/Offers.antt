@@ -1,8 +1,9 @@
 -- The opportunities that are read in the MAP of a plan are those of the plan.
-use Rattle.std.proofs.Common.{◌≡◌, ℕ, ◌+◌, ◌-◌, Bool, true, false, ◌||◌, ◌==◌, nat_le, if◌then◌else◌, List, [], ◌∷◌}
+use Rattle.std.proofs.Common.{◌≡◌, ℕ, ◌+◌, ◌-◌, Bool, true, false, ◌||◌, ◌==◌, if◌then◌else◌, List, [], ◌∷◌}
 use Rattle.std.proofs.Common.{◌++◌, map, Option, None, Some, refl, ◌∙◌, append_assoc, arith}
 use Rattle.std.specs.List.{filter_map, cons_option}
 use Rattle.minislots.specs.declared.config.Config.{Config}
+use Rattle.minislots.specs.Units.{is_short}
 use Rattle.map_codec.specs.declared.element.Element.{Element}
 use Rattle.map_codec.specs.declared.element.iuc.TheConstants.{INITIAL_MAINTENANCE, STATION_MAINTENANCE}
 use Rattle.map_codec.specs.declared.element.iuc.TheConstants.{SHORT_DATA_GRANT, LONG_DATA_GRANT}
@@ -45,13 +46,13 @@ short-other c = either (c.phy == 1) ADVANCED_SHORT_DATA_GRANT SHORT_DATA_GRANT r
 long-other : (c : Config) → IsOther (long_iuc c)
 long-other c = either (c.phy == 1) ADVANCED_LONG_DATA_GRANT LONG_DATA_GRANT refl refl
 
-data-other : (c : Config) (slots : ℕ) → IsOther (data_iuc c slots)
-data-other c slots =
-    either (nat_le slots c.short_max) (short_iuc c) (long_iuc c) (short-other c) (long-other c)
+data-other : (c : Config) (bytes : ℕ) → IsOther (data_iuc c bytes)
+data-other c bytes =
+    either (is_short c bytes) (short_iuc c) (long_iuc c) (short-other c) (long-other c)
 
-unsolicited-other : (c : Config) (slots : ℕ) → IsOther (unsolicited_iuc c slots)
-unsolicited-other c slots =
-    either (c.phy == 1) ADVANCED_UNSOLICITED_GRANT (data_iuc c slots) refl (data-other c slots)
+unsolicited-other : (c : Config) (bytes : ℕ) → IsOther (unsolicited_iuc c bytes)
+unsolicited-other c bytes =
+    either (c.phy == 1) ADVANCED_UNSOLICITED_GRANT (data_iuc c bytes) refl (data-other c bytes)
 
 -- a pending grant is no opportunity
 pub pending-other : (c : Config) (f : LiveFlow) → is_opportunity (pending_of c f) ≡ false
@@ -68,29 +69,29 @@ offers_of-pending c (f ∷ flows) =
     offers_of-other (pending_of c f) (map (pending_of c) flows) (pending-other c f) ∙ offers_of-pending c flows
 
 -- the element of an allocation
-abbrev pub element_for : Config → ℕ → ℕ → Purpose → Element
-element_for c offset slots purpose = record {
-  sid = (kind_of c slots purpose).sid;
-  iuc = (kind_of c slots purpose).iuc;
+abbrev pub element_for : Config → ℕ → Purpose → Element
+element_for c offset purpose = record {
+  sid = (kind_of c purpose).sid;
+  iuc = (kind_of c purpose).iuc;
   offset = offset;
 }
 
 -- a data grant is no opportunity
-pub data-no_offer : (c : Config) (offset slots sid bytes : ℕ)
-    → is_opportunity (element_for c offset slots (DataGrant sid bytes)) ≡ false
-data-no_offer c offset slots sid bytes = data-other c slots
+pub data-no_offer : (c : Config) (offset sid bytes : ℕ)
+    → is_opportunity (element_for c offset (DataGrant sid bytes)) ≡ false
+data-no_offer c offset sid bytes = data-other c bytes
 
 -- an allocation's element up to the next is read as the opportunity that it is
 element-offers : (c : Config) (offset slots : ℕ) (purpose : Purpose) (next : Element) (es : List Element)
     (os : List Opportunity) → next.offset ≡ offset + slots → offers_of (next ∷ es) ≡ os
-    → offers_of (element_for c offset slots purpose ∷ next ∷ es) ≡ cons_option (offer_by slots purpose) os
+    → offers_of (element_for c offset purpose ∷ next ∷ es) ≡ cons_option (offer_by slots purpose) os
 element-offers c offset slots (Poll sid) next es os at rest = rest
-element-offers c offset slots (UnsolicitedGrant sid) next es os at rest = rw (unsolicited-other c slots) rest
+element-offers c offset slots (UnsolicitedGrant sid size) next es os at rest = rw (unsolicited-other c size) rest
 element-offers c offset slots (Offer place Initial) next es os at rest =
     let long : next.offset - offset ≡ slots = omega (arith, at) in rw (long, rest) refl
 element-offers c offset slots (Offer place (Station sid)) next es os at rest =
     let long : next.offset - offset ≡ slots = omega (arith, at) in rw (long, rest) refl
-element-offers c offset slots (DataGrant sid bytes) next es os at rest = rw (data-other c slots) rest
+element-offers c offset slots (DataGrant sid bytes) next es os at rest = rw (data-other c bytes) rest
 element-offers c offset slots Idle next es os at rest = rw (long-other c) rest
 
 module _ (c : Config) (d : Demand) where

@@ -55,7 +55,7 @@ module _ (c : Config) (d : Demand) where
       → IsOfClass c d before offset slots purpose → Waited d.waiting slots purpose
   waited-one before offset slots (Offer place usage) stands o is = (place, refl, stands.may.waits ∙ is)
   waited-one before offset slots (Poll sid) stands o is = absurd cc
-  waited-one before offset slots (UnsolicitedGrant sid) stands o is = absurd cc
+  waited-one before offset slots (UnsolicitedGrant sid size) stands o is = absurd cc
   waited-one before offset slots (DataGrant sid bytes) stands o is = absurd cc
   waited-one before offset slots Idle stands o is = absurd cc
 
@@ -65,7 +65,7 @@ module _ (c : Config) (d : Demand) where
       let same : other ≡ place = ap (λ (m : Option ℕ). unwrap_or m place) at in
       sym stands.may.waits ∙ ap (slice_get d.waiting) same ∙ waits
   offered-one before offset slots (Poll sid) stands o place at waits = absurd cc
-  offered-one before offset slots (UnsolicitedGrant sid) stands o place at waits = absurd cc
+  offered-one before offset slots (UnsolicitedGrant sid size) stands o place at waits = absurd cc
   offered-one before offset slots (DataGrant sid bytes) stands o place at waits = absurd cc
   offered-one before offset slots Idle stands o place at waits = absurd cc
 

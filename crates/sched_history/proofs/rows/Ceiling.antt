@@ -10,6 +10,7 @@ use Rattle.map_build.proofs.RowsFirstGrant.{first_grant, a_first_grant_fills_the
 use Rattle.map_build.proofs.RowsCeiling.{second_grant, a_second_grant_fills_the_room, ceiling_map}
 use Rattle.map_build.proofs.RowsCeiling.{a_frame_with_a_grant_at_the_ceiling, waiting_map}
 use Rattle.map_build.proofs.RowsCeiling.{a_frame_that_idles_at_the_ceiling}
+use Rattle.sched_calls.specs.declared.amount.Amount.TheVariants.{Bytes}
 use Rattle.sched_calls.specs.declared.call.Call.TheVariants.{Admit, Ask, Build, Status}
 use Rattle.sched_calls.specs.declared.reply.Reply.TheVariants.{Admitted, Taken, Built, Flow}
 use Rattle.sched_calls.specs.declared.reply.Entry.{Entry}
@@ -25,7 +26,7 @@ spec = BestEffort 3 64000 1600
 
 -- its request
 abbrev request : Entry
-request = entry 2 (Ask 0 17 3000 801) Taken
+request = entry 2 (Ask 0 17 (Bytes 3000) 801) Taken
 
 -- the history up to the request, and then these entries
 abbrev asked : List Entry → List Entry
@@ -56,14 +57,14 @@ others sid other = rw (ne_eqb 17 sid (λ e. other (sym e))) (refl, refl, refl, r
 -- the flow is admitted
 admits : IsStep base (built ∷ []) (Admit 17 spec) (Admitted None)
 unfolding first_fault
-admits = rw (flows_of-none (built ∷ []) (λ sid. refl)) refl
+admits = rw (flows_of-none base (built ∷ []) (λ sid. refl)) refl
 
 -- 544 bytes fill the first frame
 grants_first : IsStep base (asked []) (Build 800) (Built first_grant)
 grants_first = (
   first_grant,
   IsNextMap-from_lawful base (asked []) (under_ceiling [] ∷ []) [] first_grant
-      (flows_of-one (asked []) 17 (life []) (lit≤ tt) (lit≤ tt) refl (λ sid other. (others sid other).0))
+      (flows_of-one base (asked []) 17 (life []) (lit≤ tt) (lit≤ tt) refl (λ sid other. (others sid other).0))
       (table_of-unplaced_one (asked []) 17 (life []) refl refl (λ sid other. (others sid other).0))
       (a_first_grant_fills_the_room 1600 (lit≤ tt)),
   refl,
@@ -74,7 +75,7 @@ grants_second : IsStep base (asked one) (Build 840) (Built second_grant)
 grants_second = (
   second_grant,
   IsNextMap-from_lawful base (asked one) (under_ceiling (grant 844 544 ∷ []) ∷ []) [] second_grant
-      (flows_of-one (asked one) 17 (life one) (lit≤ tt) (lit≤ tt) refl (λ sid other. (others sid other).1))
+      (flows_of-one base (asked one) 17 (life one) (lit≤ tt) (lit≤ tt) refl (λ sid other. (others sid other).1))
       (table_of-unplaced_one (asked one) 17 (life one) refl refl (λ sid other. (others sid other).1))
       a_second_grant_fills_the_room,
   refl,
@@ -85,7 +86,7 @@ grants_third : IsStep base (asked two) (Build 880) (Built ceiling_map)
 grants_third = (
   ceiling_map,
   IsNextMap-from_lawful base (asked two) (limited ∷ []) [] ceiling_map
-      (flows_of-one (asked two) 17 (life two) (lit≤ tt) (lit≤ tt) refl (λ sid other. (others sid other).2))
+      (flows_of-one base (asked two) 17 (life two) (lit≤ tt) (lit≤ tt) refl (λ sid other. (others sid other).2))
       (table_of-unplaced_one (asked two) 17 (life two) refl refl (λ sid other. (others sid other).2))
       a_frame_with_a_grant_at_the_ceiling,
   refl,
@@ -96,7 +97,7 @@ grants_nothing : IsStep base (asked three) (Build 920) (Built waiting_map)
 grants_nothing = (
   waiting_map,
   IsNextMap-from_lawful base (asked three) (exhausted ∷ []) [] waiting_map
-      (flows_of-one (asked three) 17 (life three) (lit≤ tt) (lit≤ tt) refl (λ sid other. (others sid other).3))
+      (flows_of-one base (asked three) 17 (life three) (lit≤ tt) (lit≤ tt) refl (λ sid other. (others sid other).3))
       (table_of-unplaced_one (asked three) 17 (life three) refl refl (λ sid other. (others sid other).3))
       a_frame_that_idles_at_the_ceiling,
   refl,

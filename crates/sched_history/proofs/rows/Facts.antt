@@ -12,6 +12,7 @@ use Rattle.sched_calls.specs.declared.frame_map.FrameMap.{FrameMap}
 use Rattle.map_build.specs.FrameMap.{request_region, null_element}
 use Rattle.sched_calls.specs.declared.opportunity.Usage.TheVariants.{Initial}
 use Rattle.sched_calls.proofs.BaseMaps.{element, base_map, first_map}
+use Rattle.sched_calls.specs.declared.amount.Amount.TheVariants.{Bytes}
 use Rattle.sched_calls.specs.declared.call.Call.TheVariants.{Admit, Ask, Build, Reserve}
 use Rattle.sched_calls.specs.declared.reply.Reply.TheVariants.{Admitted, Taken, Built, Reserved}
 use Rattle.sched_calls.specs.declared.reply.Entry.{Entry}
@@ -36,10 +37,10 @@ unasked_life = record { admission = record { spec = BestEffort 3 0 0; placement 
 -- is past what it asked
 pub a_grant_past_the_requests_is_refused : HoldsAfter base unasked → ⊥
 a_grant_past_the_requests_is_refused holds =
-    let flows : flows_of unasked ≡ flow_in_life 17 unasked_life ∷ [] =
-    flows_of-one unasked 17 unasked_life (lit≤ tt) (lit≤ tt) refl
+    let flows : flows_of base unasked ≡ flow_in_life base 17 unasked_life ∷ [] =
+    flows_of-one base unasked 17 unasked_life (lit≤ tt) (lit≤ tt) refl
     (λ sid other. rw (ne_eqb 17 sid (λ e. other (sym e)))) in
-    let fact : AllByRecursion IsWithinAsked (flow_in_life 17 unasked_life ∷ []) = rw flows at holds.within_asked in
+    let fact : AllByRecursion IsWithinAsked (flow_in_life base 17 unasked_life ∷ []) = rw flows at holds.within_asked in
     absurd (omega (arith, fact.0))
 
 -- the grant of 100 bytes to a flow with a burst of 64
@@ -53,10 +54,11 @@ limited_life =
 -- is past its ceiling
 pub a_grant_past_the_ceiling_is_refused : HoldsAfter base (limited ∷ asked ∷ granted ∷ []) → ⊥
 a_grant_past_the_ceiling_is_refused holds =
-    let flows : flows_of (limited ∷ asked ∷ granted ∷ []) ≡ flow_in_life 17 limited_life ∷ [] =
-    flows_of-one (limited ∷ asked ∷ granted ∷ []) 17 limited_life (lit≤ tt) (lit≤ tt) refl
+    let flows : flows_of base (limited ∷ asked ∷ granted ∷ []) ≡ flow_in_life base 17 limited_life ∷ [] =
+    flows_of-one base (limited ∷ asked ∷ granted ∷ []) 17 limited_life (lit≤ tt) (lit≤ tt) refl
     (λ sid other. rw (ne_eqb 17 sid (λ e. other (sym e)))) in
-    let fact : AllByRecursion (IsWithinRate base) (flow_in_life 17 limited_life ∷ []) = rw flows at holds.within_rate in
+    let fact : AllByRecursion (IsWithinRate base)
+    (flow_in_life base 17 limited_life ∷ []) = rw flows at holds.within_rate in
     absurd (omega (arith, fact.0 (lit< tt) 0 0 (lit≤ tt) (lit< tt)))
 
 -- the second MAP with its idle at the start of its grant
@@ -86,7 +88,8 @@ pub two_maps_of_one_frame_are_refused : HoldsAfter base (built ∷ built ∷ [])
 two_maps_of_one_frame_are_refused holds = absurd (omega (arith, holds.starts_ascend.1.0.0))
 
 -- a request accepted below the acknowledge time of a MAP before it
-pub an_acknowledged_request_is_refused : HoldsAfter base (built ∷ admitted ∷ entry 2 (Ask 0 17 100 799) Taken ∷ []) → ⊥
+pub an_acknowledged_request_is_refused : HoldsAfter base (built ∷ admitted ∷ entry 2 (Ask 0 17
+    (Bytes 100) 799) Taken ∷ []) → ⊥
 an_acknowledged_request_is_refused holds = absurd (omega (arith, holds.heard_after.1.1.0.0))
 
 only : (flow other : Placed) (k : ℕ) → k < 1 → get_or (flow ∷ []) k other ≡ other → flow ≡ other

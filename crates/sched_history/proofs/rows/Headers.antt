@@ -28,7 +28,7 @@ next = map_of_idle base header 840 800
 the_next_map_has_it : IsStep base (built ∷ set ∷ []) (calls.Build 800) (Built next)
 the_next_map_has_it = (
   next,
-  IsNextMap-from_lawful base (built ∷ set ∷ []) [] [] next (flows_of-none (built ∷ set ∷ []) (λ sid. refl))
+  IsNextMap-from_lawful base (built ∷ set ∷ []) [] [] next (flows_of-none base (built ∷ set ∷ []) (λ sid. refl))
       (table_of-none (built ∷ set ∷ []) (λ sid. refl)) (IsLawfulMap-idle base header 840 800 (lit< tt)),
   refl,
 )

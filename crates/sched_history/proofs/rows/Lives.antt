@@ -7,6 +7,7 @@ use Rattle.sched_calls.specs.FlowSpec.{first_fault}
 use Rattle.sched_calls.proofs.Base.{base}
 use Rattle.map_build.proofs.RowsFirstGrant.{fresh, first_grant, whole_grant, a_first_grant_fills_the_room}
 use Rattle.map_build.proofs.RowsFirstGrant.{a_first_grant_of_all_that_was_asked}
+use Rattle.sched_calls.specs.declared.amount.Amount.TheVariants.{Bytes}
 use Rattle.sched_calls.specs.declared.call.Call.TheVariants.{Admit, Remove, Ask, Build, Status}
 use Rattle.sched_calls.specs.declared.reply.Reply.TheVariants.{Admitted, Removed, Taken, Built, Flow}
 use Rattle.sched_calls.specs.declared.reply.Entry.{Entry}
@@ -22,7 +23,7 @@ spec = BestEffort 3 64000 600
 
 -- the first life: an admission and a request
 abbrev begun : List Entry
-begun = built ∷ entry 1 (Admit 17 spec) (Admitted None) ∷ entry 2 (Ask 0 17 3000 801) Taken ∷ []
+begun = built ∷ entry 1 (Admit 17 spec) (Admitted None) ∷ entry 2 (Ask 0 17 (Bytes 3000) 801) Taken ∷ []
 
 -- its grant, and its end
 abbrev ended : List Entry
@@ -32,7 +33,7 @@ ended = begun ++ entry 3 (Build 800) (Built first_grant) ∷ entry 4 (Remove 17)
 abbrev begun_again : List Entry
 begun_again =
     ended ++ entry 5 (Admit 17 spec) (Admitted None) ∷ entry 6 (Status 17) (Flow 0 0 0) ∷ entry 7
-    (Ask 0 17 544 841) Taken ∷ []
+    (Ask 0 17 (Bytes 544) 841) Taken ∷ []
 
 -- while it begins no other SID has a life
 others : (sid : ℕ) → sid ≢ 17 → life_of sid begun ≡ None
@@ -49,27 +50,31 @@ others_again sid other = rw (ne_eqb 17 sid (λ e. other (sym e)))
 -- the two lives
 abbrev first_life : Life
 first_life =
-    record { admission = record { spec = spec; placement = None }; since = entry 2 (Ask 0 17 3000 801) Taken ∷ [] }
+    record {
+      admission = record { spec = spec; placement = None };
+      since = entry 2 (Ask 0 17
+          (Bytes 3000) 801) Taken ∷ [];
+    }
 
 abbrev second_life : Life
 second_life =
     record {
       admission = record { spec = spec; placement = None };
       since =
-          entry 6 (Status 17) (Flow 0 0 0) ∷ entry 7 (Ask 0 17 544 841) Taken ∷ [];
+          entry 6 (Status 17) (Flow 0 0 0) ∷ entry 7 (Ask 0 17 (Bytes 544) 841) Taken ∷ [];
     }
 
 -- the flow may be admitted
 admits : IsStep base (built ∷ []) (Admit 17 spec) (Admitted None)
 unfolding first_fault
-admits = rw (flows_of-none (built ∷ []) (λ sid. refl)) refl
+admits = rw (flows_of-none base (built ∷ []) (λ sid. refl)) refl
 
 -- its first grant fills the room
 grants : IsStep base begun (Build 800) (Built first_grant)
 grants = (
   first_grant,
   IsNextMap-from_lawful base begun (fresh 600 3000 ∷ []) [] first_grant
-      (flows_of-one begun 17 first_life (lit≤ tt) (lit≤ tt) refl others)
+      (flows_of-one base begun 17 first_life (lit≤ tt) (lit≤ tt) refl others)
       (table_of-unplaced_one begun 17 first_life refl refl others) (a_first_grant_fills_the_room 600 (lit≤ tt)),
   refl,
 )
@@ -77,7 +82,7 @@ grants = (
 -- the SID may be admitted again
 admits_again : IsStep base ended (Admit 17 spec) (Admitted None)
 unfolding first_fault
-admits_again = rw (flows_of-none ended none) refl
+admits_again = rw (flows_of-none base ended none) refl
 
 -- a new life begins with nothing asked and nothing granted
 pub a_new_life_begins_at_nothing : IsStep base (ended ++ entry 5 (Admit 17 spec) (Admitted None) ∷ []) (Status 17)
@@ -89,7 +94,7 @@ grants_again : IsStep base begun_again (Build 840) (Built whole_grant)
 grants_again = (
   whole_grant,
   IsNextMap-from_lawful base begun_again (fresh 600 544 ∷ []) [] whole_grant
-      (flows_of-one begun_again 17 second_life (lit≤ tt) (lit≤ tt) refl others_again)
+      (flows_of-one base begun_again 17 second_life (lit≤ tt) (lit≤ tt) refl others_again)
       (table_of-unplaced_one begun_again 17 second_life refl refl others_again) a_first_grant_of_all_that_was_asked,
   refl,
 )

@@ -6,6 +6,7 @@ use Rattle.periodic.specs.Placement.{NoPlacement}
 use Rattle.sched_calls.specs.declared.opportunity.Header.{Header}
 use Rattle.sched_calls.specs.declared.opportunity.Usage.{Usage}
 use Rattle.sched_calls.specs.declared.call.Call.{Call}
+use Rattle.sched_calls.specs.declared.amount.Amount.{Amount}
 use Rattle.sched_calls.specs.declared.call.Call.TheVariants as calls
 use Rattle.sched_calls.specs.declared.call.Call.TheVariants.{Admit, Remove, Ask, Heard, Skip, Status, Reserve}
 use Rattle.sched_calls.specs.declared.reply.Refusal.{Refusal}
@@ -23,7 +24,8 @@ module _ (c : Config) (h : List Entry) where
   a_skip_lacks_no_memory now lacks = lacks.takes
 
   -- nor does a request
-  pub a_request_lacks_no_memory : (receiver sid bytes heard : ℕ) → MayLackMemory c h (Ask receiver sid bytes heard) → ⊥
+  pub a_request_lacks_no_memory : (receiver sid : ℕ) (amount : Amount) (heard : ℕ)
+      → MayLackMemory c h (Ask receiver sid amount heard) → ⊥
   a_request_lacks_no_memory receiver sid bytes heard lacks = lacks.takes
 
   -- nor a progress, a removal or a question for a flow's bytes

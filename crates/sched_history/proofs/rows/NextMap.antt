@@ -22,14 +22,14 @@ demand_with c h flows table = demand_at flows (spots_in c (next_after c h / c.fr
 
 -- a MAP that is lawful for the flows and placements that are live is that of the next frame
 pub IsNextMap-from_lawful : (c : Config) (h : List Entry) (flows : List LiveFlow) (table : List Placed) (m : FrameMap)
-    → flows_of h ≡ flows → table_of h ≡ table
+    → flows_of c h ≡ flows → table_of h ≡ table
     → IsLawfulMap c (demand_with c h flows table) (header_after c h) (ack_after c h) m
     → IsNextMap c h m
 IsNextMap-from_lawful c h flows table m live placed lawful = rw (live, placed) lawful
 
 -- the MAP of the next frame is lawful for the flows and placements that are live
 pub lawful-from_IsNextMap : (c : Config) (h : List Entry) (flows : List LiveFlow) (table : List Placed) (m : FrameMap)
-    → flows_of h ≡ flows → table_of h ≡ table → IsNextMap c h m
+    → flows_of c h ≡ flows → table_of h ≡ table → IsNextMap c h m
     → IsLawfulMap c (demand_with c h flows table) (header_after c h) (ack_after c h) m
 lawful-from_IsNextMap c h flows table m live placed next = rw (live, placed) at next
 
@@ -42,6 +42,6 @@ pub IsNextMap-idle : (c : Config) (h : List Entry) → c.req_slots < c.frame →
     → reserves_of h ≡ [] → header_after c h ≡ header_of c
     → IsNextMap c h (idle_map c (next_after c h) (ack_after c h))
 IsNextMap-idle c h room none unreserved unset =
-    IsNextMap-from_lawful c h [] [] (idle_map c (next_after c h) (ack_after c h)) (flows_of-none h none)
+    IsNextMap-from_lawful c h [] [] (idle_map c (next_after c h) (ack_after c h)) (flows_of-none c h none)
     (table_of-none h none)
     (rw (unreserved, unset) (IsLawfulMap-idle c (header_of c) (next_after c h) (ack_after c h) room))

@@ -33,7 +33,7 @@ meets = with_ack 800 initial_map
 the_opportunity_is_met : IsStep base (asked ∷ []) (Build 760) (Built meets)
 the_opportunity_is_met = let lawful = a_frame_with_an_opportunity_for_all in (
   meets,
-  IsNextMap-from_lawful base (asked ∷ []) [] [] meets (flows_of-none (asked ∷ []) (λ sid. refl))
+  IsNextMap-from_lawful base (asked ∷ []) [] [] meets (flows_of-none base (asked ∷ []) (λ sid. refl))
       (table_of-none (asked ∷ []) (λ sid. refl))
       (lawful.0, lawful.1, ap (with_ack 800) lawful.2),
   refl,

@@ -48,7 +48,7 @@ others_of_both sid not_first not_second =
 -- the first flow is admitted behind the request region
 pub an_unsolicited_flow_is_admitted : IsStep base [] (Admit 5 voice) (Admitted (Some (placement 804 (4 ∷ 4 ∷ []))))
 unfolding first_fault
-an_unsolicited_flow_is_admitted = rw (flows_of-none [] (λ sid. refl))
+an_unsolicited_flow_is_admitted = rw (flows_of-none base [] (λ sid. refl))
     (inl (
       placement 804 (4 ∷ 4 ∷ []),
       (rw (table_of-none [] (λ sid. refl)) the_first_flow_stands_behind_the_requests),
@@ -59,7 +59,8 @@ an_unsolicited_flow_is_admitted = rw (flows_of-none [] (λ sid. refl))
 pub a_second_unsolicited_flow_is_admitted : IsStep base (first ∷ []) (Admit 6 voice)
     (Admitted (Some (placement 804 (19 ∷ 19 ∷ []))))
 unfolding first_fault
-a_second_unsolicited_flow_is_admitted = rw (flows_of-one (first ∷ []) 5 (first_life []) (lit≤ tt) (lit≤ tt) refl others)
+a_second_unsolicited_flow_is_admitted = rw (flows_of-one base (first ∷ []) 5 (first_life []) (lit≤ tt)
+    (lit≤ tt) refl others)
     (inl (
       placement 804 (19 ∷ 19 ∷ []),
       (rw (table_of-one (first ∷ []) 5 (first_life []) first_placed (lit≤ tt) (lit≤ tt) refl refl others)
@@ -72,7 +73,7 @@ pub the_map_of_two_unsolicited_flows_may_follow : IsStep base (first ∷ second 
 the_map_of_two_unsolicited_flows_may_follow = (
   unsolicited_map,
   IsNextMap-from_lawful base (first ∷ second ∷ []) voices (first_placed ∷ second_placed ∷ []) unsolicited_map
-      (flows_of-two (first ∷ second ∷ []) 5 6 (first_life (second ∷ [])) second_life (lit≤ tt) (lit< tt)
+      (flows_of-two base (first ∷ second ∷ []) 5 6 (first_life (second ∷ [])) second_life (lit≤ tt) (lit< tt)
       (lit≤ tt) refl refl others_of_both)
       (table_of-two (first ∷ second ∷ []) 5 6 (first_life (second ∷ [])) second_life first_placed second_placed
       (lit≤ tt) (lit< tt) (lit≤ tt) refl refl refl refl others_of_both)
@@ -114,7 +115,7 @@ others_of_double sid other = rw (ne_eqb 5 sid (λ e. other (sym e)))
 pub a_flow_with_two_grants_is_admitted : IsStep base [] (Admit 5 double_voice)
     (Admitted (Some (placement 804 (4 ∷ 19 ∷ 4 ∷ 19 ∷ []))))
 unfolding first_fault
-a_flow_with_two_grants_is_admitted = rw (flows_of-none [] (λ sid. refl))
+a_flow_with_two_grants_is_admitted = rw (flows_of-none base [] (λ sid. refl))
     (inl (
       placement 804 (4 ∷ 19 ∷ 4 ∷ 19 ∷ []),
       (rw (table_of-none [] (λ sid. refl)) two_grants_of_a_frame_stand_one_behind_the_other),
@@ -126,7 +127,7 @@ pub the_map_of_a_flow_with_two_grants_may_follow : IsStep base (double ∷ []) (
 the_map_of_a_flow_with_two_grants_may_follow = (
   double_map,
   IsNextMap-from_lawful base (double ∷ []) double_voices (double_placed ∷ []) double_map
-      (flows_of-one (double ∷ []) 5 double_life (lit≤ tt) (lit≤ tt) refl others_of_double)
+      (flows_of-one base (double ∷ []) 5 double_life (lit≤ tt) (lit≤ tt) refl others_of_double)
       (table_of-one (double ∷ []) 5 double_life double_placed (lit≤ tt) (lit≤ tt) refl refl others_of_double)
       a_frame_with_two_grants_of_a_flow,
   refl,

@@ -9,6 +9,7 @@ use Rattle.map_build.specs.Plan.{demand_at}
 use Rattle.map_build.specs.FrameMap.{IsLawfulMap}
 use Rattle.map_build.proofs.RowsMaps.{all_idle, none_waits}
 use Rattle.map_build.proofs.RowsPoll.{polled, poll_map, a_frame_with_a_poll}
+use Rattle.sched_calls.specs.declared.amount.Amount.TheVariants.{Bytes}
 use Rattle.sched_calls.specs.declared.call.Call.TheVariants.{Admit, Ask, Build}
 use Rattle.sched_calls.specs.declared.reply.Reply.TheVariants.{Admitted, Taken, Built}
 use Rattle.sched_calls.specs.declared.reply.Entry.{Entry}
@@ -44,7 +45,7 @@ others sid other = rw (ne_eqb 9 sid (λ e. other (sym e))) (refl, refl)
 -- it is admitted with four polls in a cycle
 admits : IsStep base [] (Admit 9 polling) (Admitted (Some (placement 804 (4 ∷ 4 ∷ 4 ∷ 4 ∷ []))))
 unfolding first_fault
-admits = rw (flows_of-none [] (λ sid. refl))
+admits = rw (flows_of-none base [] (λ sid. refl))
     (inl (
       placement 804 (4 ∷ 4 ∷ 4 ∷ 4 ∷ []),
       (rw (table_of-none [] (λ sid. refl)) four_polls_stand_behind_the_requests),
@@ -56,7 +57,7 @@ polls : IsStep base (admission ∷ []) (Build 760) (Built poll_map)
 polls = (
   poll_map,
   IsNextMap-from_lawful base (admission ∷ []) (polled ∷ []) (polled_placed ∷ []) poll_map
-      (flows_of-one (admission ∷ []) 9 (life []) (lit≤ tt) (lit≤ tt) refl (λ sid other. (others sid other).0))
+      (flows_of-one base (admission ∷ []) 9 (life []) (lit≤ tt) (lit≤ tt) refl (λ sid other. (others sid other).0))
       (table_of-one (admission ∷ []) 9 (life []) polled_placed (lit≤ tt) (lit≤ tt) refl refl
       (λ sid other. (others sid other).0))
       a_frame_with_a_poll,
@@ -88,7 +89,7 @@ does_not_poll : IsStep base (admission ∷ with_poll ∷ []) (Build 800) (Built 
 does_not_poll = (
   idle_map base 840 800,
   IsNextMap-from_lawful base (admission ∷ with_poll ∷ []) (polled ∷ []) (polled_placed ∷ []) (idle_map base 840 800)
-      (flows_of-one (admission ∷ with_poll ∷ []) 9 (life (with_poll ∷ [])) (lit≤ tt) (lit≤ tt) refl
+      (flows_of-one base (admission ∷ with_poll ∷ []) 9 (life (with_poll ∷ [])) (lit≤ tt) (lit≤ tt) refl
       (λ sid other. (others sid other).1))
       (table_of-one (admission ∷ with_poll ∷ []) 9 (life (with_poll ∷ [])) polled_placed (lit≤ tt) (lit≤ tt) refl refl
       (λ sid other. (others sid other).1))
@@ -98,5 +99,5 @@ does_not_poll = (
 
 -- the history, with a request that was heard in the poll, is legal
 pub a_polled_flow_is_polled_and_asks : IsLegal base
-    (admission ∷ with_poll ∷ without_poll ∷ entry 3 (Ask 0 9 16 805) Taken ∷ [])
+    (admission ∷ with_poll ∷ without_poll ∷ entry 3 (Ask 0 9 (Bytes 16) 805) Taken ∷ [])
 a_polled_flow_is_polled_and_asks = (admits, (polls, (does_not_poll, (refl, tt))))

@@ -3,6 +3,7 @@ use Rattle.std.proofs.Common.{◌≡◌, List, [], ◌∷◌, ◌++◌, None, re
 use Rattle.minislots.specs.declared.config.Config.{Config}
 use Rattle.sched_calls.specs.declared.spec.FlowSpec.TheVariants.{BestEffort}
 use Rattle.sched_calls.proofs.Base.{base}
+use Rattle.sched_calls.specs.declared.amount.Amount.TheVariants.{Bytes}
 use Rattle.sched_calls.specs.declared.call.Call.TheVariants.{Admit, Ask, Heard, Build}
 use Rattle.sched_calls.specs.declared.reply.Refusal.TheVariants.{BadReceiver, Acked, Ahead, Backwards}
 use Rattle.sched_calls.specs.declared.reply.Reply.TheVariants.{Admitted, Noted, Built, Refused}
@@ -69,7 +70,7 @@ maps_carry_the_acknowledge_time = (
 )
 
 -- a request heard before the progress of its receiver is refused
-pub a_request_before_the_progress_is_refused : IsStep pair all (Ask 0 17 10 839) (Refused (Acked 840))
+pub a_request_before_the_progress_is_refused : IsStep pair all (Ask 0 17 (Bytes 10) 839) (Refused (Acked 840))
 a_request_before_the_progress_is_refused = refl
 
 -- progress does not go back

@@ -6,6 +6,7 @@ use Rattle.sched_calls.specs.declared.spec.FlowFault.TheVariants.{IntervalNotInC
 use Rattle.sched_calls.specs.FlowSpec.{first_fault}
 use Rattle.sched_calls.proofs.Base.{base}
 use Rattle.periodic.proofs.RowsPlacement.{voice, placement}
+use Rattle.sched_calls.specs.declared.amount.Amount.TheVariants.{Bytes}
 use Rattle.sched_calls.specs.declared.call.Call.TheVariants.{Admit, Remove, Ask, Status}
 use Rattle.sched_calls.specs.declared.reply.Refusal.TheVariants.{BadSid, SidLive, BadFlow, NoFlow}
 use Rattle.sched_calls.specs.declared.reply.Refusal.TheVariants.{NotAsking, BadBytes, Ahead}
@@ -14,7 +15,7 @@ use Rattle.sched_history.specs.History.{IsStep}
 use Rattle.sched_history.proofs.rows.TwoMaps.{entry, built, admitted}
 
 -- a request heard in a frame that no MAP describes is refused
-pub a_request_heard_too_late_is_refused : IsStep base (admitted ∷ []) (Ask 0 17 100 800) (Refused (Ahead 800))
+pub a_request_heard_too_late_is_refused : IsStep base (admitted ∷ []) (Ask 0 17 (Bytes 100) 800) (Refused (Ahead 800))
 a_request_heard_too_late_is_refused = refl
 
 -- a live SID is not admitted again
@@ -35,20 +36,21 @@ a_sid_that_is_not_live_is_refused = refl
 
 -- an unsolicited flow does not ask
 pub a_request_of_an_unsolicited_flow_is_refused : IsStep base
-    (entry 0 (Admit 5 voice) (Admitted (Some (placement 804 (4 ∷ 4 ∷ [])))) ∷ []) (Ask 0 5 100 799) (Refused NotAsking)
+    (entry 0 (Admit 5 voice) (Admitted (Some (placement 804 (4 ∷ 4 ∷ [])))) ∷ []) (Ask 0 5 (Bytes 100) 799)
+    (Refused NotAsking)
 a_request_of_an_unsolicited_flow_is_refused = refl
 
 -- a request is for 1 byte at least
-pub a_request_of_no_bytes_is_refused : IsStep base (built ∷ admitted ∷ []) (Ask 0 17 0 801) (Refused BadBytes)
+pub a_request_of_no_bytes_is_refused : IsStep base (built ∷ admitted ∷ []) (Ask 0 17 (Bytes 0) 801) (Refused BadBytes)
 a_request_of_no_bytes_is_refused = refl
 
 -- and for 1048560 at most
-pub a_request_of_too_many_bytes_is_refused : IsStep base (built ∷ admitted ∷ []) (Ask 0 17 1048561 801)
+pub a_request_of_too_many_bytes_is_refused : IsStep base (built ∷ admitted ∷ []) (Ask 0 17 (Bytes 1048561) 801)
     (Refused BadBytes)
 a_request_of_too_many_bytes_is_refused = refl
 
 -- 1048560 bytes can be asked for
-pub a_request_of_the_most_bytes_is_taken : IsStep base (built ∷ admitted ∷ []) (Ask 0 17 1048560 801) Taken
+pub a_request_of_the_most_bytes_is_taken : IsStep base (built ∷ admitted ∷ []) (Ask 0 17 (Bytes 1048560) 801) Taken
 a_request_of_the_most_bytes_is_taken = refl
 
 -- the first fault of the parameters is the refusal's

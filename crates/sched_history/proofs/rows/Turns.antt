@@ -7,6 +7,7 @@ use Rattle.sched_calls.proofs.Base.{base}
 use Rattle.map_build.proofs.RowsContention.{both_pending, two_flows_take_turns}
 use Rattle.map_build.proofs.RowsTurns.{lower, higher, grant_at, second_turn, third_turn}
 use Rattle.map_build.proofs.RowsTurns.{the_flow_without_a_grant_is_served, the_flow_with_the_earlier_grant_is_served}
+use Rattle.sched_calls.specs.declared.amount.Amount.TheVariants.{Bytes}
 use Rattle.sched_calls.specs.declared.call.Call.TheVariants.{Admit, Ask, Build}
 use Rattle.sched_calls.specs.declared.reply.Reply.TheVariants.{Admitted, Taken, Built}
 use Rattle.sched_calls.specs.declared.reply.Entry.{Entry}
@@ -25,7 +26,7 @@ second = entry 2 (Admit 21 (BestEffort 3 0 0)) (Admitted None)
 
 -- and two requests
 abbrev asks : List Entry
-asks = entry 3 (Ask 0 20 1000 801) Taken ∷ entry 4 (Ask 0 21 1000 801) Taken ∷ []
+asks = entry 3 (Ask 0 20 (Bytes 1000) 801) Taken ∷ entry 4 (Ask 0 21 (Bytes 1000) 801) Taken ∷ []
 
 -- the history up to them, and then these entries
 abbrev asked : List Entry → List Entry
@@ -55,12 +56,12 @@ third sid not_lower not_higher =
 -- the flows are admitted
 admits : IsStep base (built ∷ []) (Admit 20 (BestEffort 3 0 0)) (Admitted None)
 unfolding first_fault
-admits = rw (flows_of-none (built ∷ []) (λ sid. refl)) refl
+admits = rw (flows_of-none base (built ∷ []) (λ sid. refl)) refl
 
 admits_another : IsStep base (built ∷ first ∷ []) (Admit 21 (BestEffort 3 0 0)) (Admitted None)
 unfolding first_fault
 admits_another =
-    rw (flows_of-one (built ∷ first ∷ []) 20
+    rw (flows_of-one base (built ∷ first ∷ []) 20
     (record { admission = record { spec = BestEffort 3 0 0; placement = None }; since = [] }) (lit≤ tt) (lit≤ tt) refl
     (λ sid other. rw (ne_eqb 20 sid (λ e. other (sym e))))) refl
 
@@ -69,7 +70,7 @@ serves_lower : IsStep base (asked []) (Build 800) (Built both_pending)
 serves_lower = (
   both_pending,
   IsNextMap-from_lawful base (asked []) (lower [] ∷ higher [] ∷ []) [] both_pending
-      (flows_of-two (asked []) 20 21 (lower_life []) (higher_life []) (lit≤ tt) (lit< tt) (lit≤ tt) refl refl
+      (flows_of-two base (asked []) 20 21 (lower_life []) (higher_life []) (lit≤ tt) (lit< tt) (lit≤ tt) refl refl
       (λ sid l h. (third sid l h).0))
       (table_of-unplaced_two (asked []) 20 21 (lower_life []) (higher_life []) refl refl refl refl
       (λ sid l h. (third sid l h).0))
@@ -82,7 +83,8 @@ serves_other : IsStep base (asked (turn ∷ [])) (Build 840) (Built second_turn)
 serves_other = (
   second_turn,
   IsNextMap-from_lawful base (asked (turn ∷ [])) (lower (grant_at 844) ∷ higher [] ∷ []) [] second_turn
-      (flows_of-two (asked (turn ∷ [])) 20 21 (lower_life (turn ∷ [])) (higher_life (turn ∷ [])) (lit≤ tt) (lit< tt)
+      (flows_of-two base (asked (turn ∷ [])) 20 21 (lower_life (turn ∷ [])) (higher_life (turn ∷ [])) (lit≤ tt)
+      (lit< tt)
       (lit≤ tt) refl refl (λ sid l h. (third sid l h).1))
       (table_of-unplaced_two (asked (turn ∷ [])) 20 21 (lower_life (turn ∷ []))
       (higher_life (turn ∷ [])) refl refl refl refl (λ sid l h. (third sid l h).1))
@@ -96,7 +98,7 @@ serves_again = (
   third_turn,
   IsNextMap-from_lawful base (asked (turn ∷ other_turn ∷ []))
       (lower (grant_at 844) ∷ higher (grant_at 884) ∷ []) [] third_turn
-      (flows_of-two (asked (turn ∷ other_turn ∷ [])) 20 21 (lower_life (turn ∷ other_turn ∷ []))
+      (flows_of-two base (asked (turn ∷ other_turn ∷ [])) 20 21 (lower_life (turn ∷ other_turn ∷ []))
       (higher_life (turn ∷ other_turn ∷ [])) (lit≤ tt) (lit< tt) (lit≤ tt) refl refl (λ sid l h. (third sid l h).2))
       (table_of-unplaced_two (asked (turn ∷ other_turn ∷ [])) 20 21 (lower_life (turn ∷ other_turn ∷ []))
       (higher_life (turn ∷ other_turn ∷ [])) refl refl refl refl (λ sid l h. (third sid l h).2))

@@ -7,6 +7,7 @@ use Rattle.sched_calls.proofs.Base.{base}
 use Rattle.sched_calls.proofs.BaseMaps.{first_map}
 use Rattle.map_build.proofs.RowsMaps.{second_map, small, a_frame_without_flows, a_frame_with_one_grant}
 use Rattle.sched_calls.specs.declared.call.Call.{Call}
+use Rattle.sched_calls.specs.declared.amount.Amount.TheVariants.{Bytes}
 use Rattle.sched_calls.specs.declared.call.Call.TheVariants.{Admit, Ask, Build}
 use Rattle.sched_calls.specs.declared.reply.Reply.{Reply}
 use Rattle.sched_calls.specs.declared.reply.Reply.TheVariants.{Admitted, Taken, Built}
@@ -30,7 +31,7 @@ admitted = entry 1 (Admit 17 (BestEffort 3 0 0)) (Admitted None)
 
 -- it asks for 100 bytes
 abbrev pub asked : Entry
-asked = entry 2 (Ask 0 17 100 801) Taken
+asked = entry 2 (Ask 0 17 (Bytes 100) 801) Taken
 
 -- the second build, with the grant
 abbrev pub granted : Entry
@@ -40,7 +41,7 @@ granted = entry 3 (Build 800) (Built second_map)
 pub the_first_map_may_follow_nothing : IsStep base [] (Build 760) (Built first_map)
 the_first_map_may_follow_nothing = (
   first_map,
-  IsNextMap-from_lawful base [] [] [] first_map (flows_of-none [] (λ sid. refl))
+  IsNextMap-from_lawful base [] [] [] first_map (flows_of-none base [] (λ sid. refl))
       (table_of-none [] (λ sid. refl)) a_frame_without_flows,
   refl,
 )
@@ -48,10 +49,10 @@ the_first_map_may_follow_nothing = (
 -- then a flow may be admitted
 a_flow_may_be_admitted : IsStep base (built ∷ []) (Admit 17 (BestEffort 3 0 0)) (Admitted None)
 unfolding first_fault
-a_flow_may_be_admitted = rw (flows_of-none (built ∷ []) (λ sid. refl)) refl
+a_flow_may_be_admitted = rw (flows_of-none base (built ∷ []) (λ sid. refl)) refl
 
 -- then it may ask for 100 bytes
-a_flow_may_ask : IsStep base (built ∷ admitted ∷ []) (Ask 0 17 100 801) Taken
+a_flow_may_ask : IsStep base (built ∷ admitted ∷ []) (Ask 0 17 (Bytes 100) 801) Taken
 a_flow_may_ask = refl
 
 -- its life by then
@@ -67,7 +68,7 @@ the_second_map_may_follow : IsStep base (built ∷ admitted ∷ asked ∷ []) (B
 the_second_map_may_follow = (
   second_map,
   IsNextMap-from_lawful base (built ∷ admitted ∷ asked ∷ []) (small ∷ []) [] second_map
-      (flows_of-one (built ∷ admitted ∷ asked ∷ []) 17 life (lit≤ tt) (lit≤ tt) refl others)
+      (flows_of-one base (built ∷ admitted ∷ asked ∷ []) 17 life (lit≤ tt) (lit≤ tt) refl others)
       (table_of-unplaced_one (built ∷ admitted ∷ asked ∷ []) 17 life refl refl others)
       a_frame_with_one_grant,
   refl,

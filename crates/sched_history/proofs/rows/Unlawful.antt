@@ -1,7 +1,7 @@
 -- Worked examples of entries that may not stand in a history.
-use Rattle.std.proofs.Common.{◌≡◌, ℕ, [], ◌∷◌, refl, ap, ◌∙◌, lit<, arith}
+use Rattle.std.proofs.Common.{◌≡◌, ℕ, [], ◌∷◌, refl, ap, ◌∙◌, arith}
 use Rattle.std.specs.Prelude.{slice_index}
-use Rattle.sched_calls.proofs.Base.{base}
+use Rattle.sched_calls.proofs.Base.{base, the_base_has_bursts}
 use Rattle.sched_calls.specs.declared.frame_map.FrameMap.{FrameMap}
 use Rattle.sched_calls.specs.Header.{header_of}
 use Rattle.map_build.specs.Plan.{demand_at}
@@ -9,6 +9,7 @@ use Rattle.map_build.proofs.Apart.{BeginApart-nil}
 use Rattle.map_build.proofs.OneMap.{one_map}
 use Rattle.sched_calls.proofs.BaseMaps.{first_map}
 use Rattle.map_build.proofs.RowsMaps.{a_frame_without_flows}
+use Rattle.sched_calls.specs.declared.amount.Amount.TheVariants.{Bytes}
 use Rattle.sched_calls.specs.declared.call.Call.TheVariants.{Ask, Build}
 use Rattle.sched_calls.specs.declared.reply.Reply.TheVariants.{Built, Refused}
 use Rattle.sched_calls.specs.declared.reply.Refusal.TheVariants.{Ahead, Late}
@@ -29,8 +30,9 @@ late_ack = record first_map { ack = 801 }
 pub the_first_map_is_one : (m : FrameMap) → IsStep base [] (Build 760) (Built m) → m ≡ first_map
 the_first_map_is_one m (other, next, e) =
     let same : m ≡ other = cc in
-    same ∙ one_map base (demand_at [] [] [] 800) (lit< tt) BeginApart-nil (header_of base) 800 other first_map
-    (lawful-from_IsNextMap base [] [] [] other (flows_of-none [] (λ sid. refl)) (table_of-none [] (λ sid. refl)) next)
+    same ∙ one_map base (demand_at [] [] [] 800) the_base_has_bursts BeginApart-nil (header_of base) 800 other first_map
+    (lawful-from_IsNextMap base [] [] [] other (flows_of-none base [] (λ sid. refl)) (table_of-none []
+    (λ sid. refl)) next)
     a_frame_without_flows
 
 -- bytes of an idle may not stand in a history
@@ -43,7 +45,8 @@ pub another_acknowledge_time_is_no_step : IsStep base [] (Build 760) (Built late
 another_acknowledge_time_is_no_step step = omega (arith, ap (λ m. m.ack) (the_first_map_is_one late_ack step))
 
 -- a call that no test refuses may not be refused
-pub a_refusal_without_cause_is_no_step : IsStep base (built ∷ admitted ∷ []) (Ask 0 17 100 801) (Refused (Ahead 840))
+pub a_refusal_without_cause_is_no_step : IsStep base (built ∷ admitted ∷ []) (Ask 0 17 (Bytes 100) 801) (Refused
+    (Ahead 840))
     → ⊥
 a_refusal_without_cause_is_no_step step = cc
 

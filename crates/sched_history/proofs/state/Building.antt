@@ -82,7 +82,7 @@ module _ (s : State) (h : List Entry) (is_after : IsStateAfter s h) where
       (frame : IsLawfulFrame s.config (next_demand s) s.header (least (take s.config.receivers s.progress)) p) where
     -- and the flows with its data grants are those after its build
     pub flows_of-planned : p.book.flows
-        ≡ flows_of (h ++ record { stamp = stamp; call = Build now; reply = Built p.map } ∷ [])
+        ≡ flows_of s.config (h ++ record { stamp = stamp; call = Build now; reply = Built p.map } ∷ [])
     flows_of-planned =
         let has = plan-HasBytes s.config (next_demand s) frame.plan frame.is_plan in
         frame.flows ∙ ap (flows_after s.next frame.plan) is_after.flows
@@ -107,7 +107,8 @@ module _ (s : State) (h : List Entry) (is_after : IsStateAfter s h) where
     AreOfChannel-after = record {
       few = bounded.few;
       sids =
-          rw (is_after.flows) (within-both (flows_of h) (flows_of-sids h).0 (flows_of-sids h).1);
+          rw (is_after.flows) (within-both (flows_of s.config h) (flows_of-sids s.config h).0
+          (flows_of-sids s.config h).1);
     }
 
     -- the placed ones are the periodic ones

@@ -56,16 +56,16 @@ IsFlat-flow_status f =
 IsFlat-as : (r r' : Reply) → r ≡ r' → IsFlat r' → IsFlat r
 IsFlat-as r r' same is = (is.0, ap flat_of same ∙ is.1)
 
-IsFlat-status : (sid : ℕ) (o : Option Life) (r : Reply)
-    → MatchOption o ⊥ (λ life. r ≡ flow_status (flow_in_life sid life)) → IsFlat r
-IsFlat-status sid None r told = absurd told
-IsFlat-status sid (Some life) r told = IsFlat-as r _ told (IsFlat-flow_status (flow_in_life sid life))
+IsFlat-status : (c : Config) (sid : ℕ) (o : Option Life) (r : Reply)
+    → MatchOption o ⊥ (λ life. r ≡ flow_status (flow_in_life c sid life)) → IsFlat r
+IsFlat-status c sid None r told = absurd told
+IsFlat-status c sid (Some life) r told = IsFlat-as r _ told (IsFlat-flow_status (flow_in_life c sid life))
 
-status-one : (sid : ℕ) (o : Option Life) (r r' : Reply)
-    → MatchOption o ⊥ (λ life. r ≡ flow_status (flow_in_life sid life))
-    → MatchOption o ⊥ (λ life. r' ≡ flow_status (flow_in_life sid life)) → r ≡ r'
-status-one sid None r r' told other = absurd told
-status-one sid (Some life) r r' told other = told ∙ sym other
+status-one : (c : Config) (sid : ℕ) (o : Option Life) (r r' : Reply)
+    → MatchOption o ⊥ (λ life. r ≡ flow_status (flow_in_life c sid life))
+    → MatchOption o ⊥ (λ life. r' ≡ flow_status (flow_in_life c sid life)) → r ≡ r'
+status-one c sid None r r' told other = absurd told
+status-one c sid (Some life) r r' told other = told ∙ sym other
 
 start-one : (c : Config) (slot start other : ℕ) → IsFirstStart c slot start → IsFirstStart c slot other → start ≡ other
 start-one c slot start other first second =
@@ -80,12 +80,12 @@ IsFlat-told c h (Admit sid (Polled interval jitter rate burst)) r told answers =
 IsFlat-told c h (Admit sid (BestEffort priority rate burst)) r told answers =
     IsFlat-as r (replies.Admitted None) answers (flat.Admitted, refl)
 IsFlat-told c h (Remove sid) r told answers = IsFlat-as r replies.Removed answers (flat.Removed, refl)
-IsFlat-told c h (Ask receiver sid bytes heard) r told answers = IsFlat-as r replies.Taken answers (flat.Taken, refl)
+IsFlat-told c h (Ask receiver sid amount heard) r told answers = IsFlat-as r replies.Taken answers (flat.Taken, refl)
 IsFlat-told c h (Heard receiver upto) r told answers = IsFlat-as r replies.Noted answers (flat.Noted, refl)
 IsFlat-told c h (Build now) r told answers = absurd cc
 IsFlat-told c h (Skip now) r told answers =
     IsFlat-as r (replies.Skipped answers.0) answers.2 (flat.Skipped answers.0, refl)
-IsFlat-told c h (Status sid) r told answers = IsFlat-status sid (life_of sid h) r answers
+IsFlat-told c h (Status sid) r told answers = IsFlat-status c sid (life_of sid h) r answers
 IsFlat-told c h (Reserve usage slots) r told answers = IsFlat-as r replies.Reserved answers (flat.Reserved, refl)
 IsFlat-told c h (Header header) r told answers = IsFlat-as r replies.Noted answers (flat.Noted, refl)
 
@@ -96,12 +96,12 @@ told-one c h (Admit sid (Unsolicited size interval jitter grants)) r r' told ans
 told-one c h (Admit sid (Polled interval jitter rate burst)) r r' told answers other = absurd cc
 told-one c h (Admit sid (BestEffort priority rate burst)) r r' told answers other = answers ∙ sym other
 told-one c h (Remove sid) r r' told answers other = answers ∙ sym other
-told-one c h (Ask receiver sid bytes heard) r r' told answers other = answers ∙ sym other
+told-one c h (Ask receiver sid amount heard) r r' told answers other = answers ∙ sym other
 told-one c h (Heard receiver upto) r r' told answers other = answers ∙ sym other
 told-one c h (Build now) r r' told answers other = absurd cc
 told-one c h (Skip now) r r' told answers other =
     answers.2 ∙ ap (λ start. replies.Skipped start) (start-one c _ answers.0 other.0 answers.1 other.1) ∙ sym other.2
-told-one c h (Status sid) r r' told answers other = status-one sid (life_of sid h) r r' answers other
+told-one c h (Status sid) r r' told answers other = status-one c sid (life_of sid h) r r' answers other
 told-one c h (Reserve usage slots) r r' told answers other = answers ∙ sym other
 told-one c h (Header header) r r' told answers other = answers ∙ sym other
 

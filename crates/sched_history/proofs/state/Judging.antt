@@ -65,7 +65,7 @@ module _ (s : State) (h : List Entry) (e : Entry) (kept : IsKeptOf s h) where
       let step : IsStep s.config h e.call e.reply =
       subst (λ o. MatchOption o (Answers s.config h e.call e.reply) (λ r. e.reply ≡ Refused r)) (sym first) same in
       IsKeptOf-push s s h e kept refl step
-      (IsStateAfter-quiet s h kept.is_after e.stamp e.call e.reply (rw same (IsQuiet-refused e.call refusal)))
+      (IsStateAfter-quiet s h kept.is_after e.stamp e.call e.reply (rw same (IsQuiet-refused s.config e.call refusal)))
 
   module _ (short : length h < MAX_WHOLE_HISTORY) (unrefused : refusal_of s.config h e.call ≡ None) where
     -- a call that no test refuses is open

@@ -13,6 +13,8 @@ use Rattle.periodic.specs.Table.{with_placed, without as without_placed}
 use Rattle.sched_calls.specs.declared.frame_map.FrameMap.{FrameMap}
 use Rattle.sched_calls.specs.declared.opportunity.Header.{Header}
 use Rattle.sched_calls.specs.declared.opportunity.Usage.{Usage}
+use Rattle.sched_calls.specs.declared.amount.Amount.{Amount}
+use Rattle.sched_calls.specs.Amount.{requested}
 use Rattle.sched_history.specs.declared.scheduler.state.State.{State}
 use Rattle.sched_history.specs.declared.scheduler.reserves.Reserve.{Reserve as Waiting}
 use Rattle.sched_calls.specs.declared.call.Call.{Call}
@@ -44,7 +46,7 @@ module _ (s : State) (h : List Entry) (is_after : IsStateAfter s h) (stamp : Sta
   entry call reply = record { stamp = stamp; call = call; reply = reply }
 
   -- after a call on which nothing depends
-  pub IsStateAfter-quiet : (call : Call) (reply : Reply) → IsQuiet call reply
+  pub IsStateAfter-quiet : (call : Call) (reply : Reply) → IsQuiet s.config call reply
       → IsStateAfter s (h ++ record { stamp = stamp; call = call; reply = reply } ∷ [])
   IsStateAfter-quiet call reply quiet =
       let e : Entry = entry call reply in
@@ -52,7 +54,7 @@ module _ (s : State) (h : List Entry) (is_after : IsStateAfter s h) (stamp : Sta
         lawful = is_after.lawful;
         book_config = is_after.book_config;
         table_config = is_after.table_config;
-        flows = is_after.flows ∙ sym (flows_of-quiet h e quiet.turns quiet.asks quiet.grants);
+        flows = is_after.flows ∙ sym (flows_of-quiet s.config h e quiet.turns quiet.asks quiet.grants);
         placed = is_after.placed ∙ sym (table_of-stays h e quiet.turns);
         next = is_after.next ∙ sym (next_after-same s.config h e quiet.skips quiet.builds);
         places = is_after.places;
@@ -64,19 +66,19 @@ module _ (s : State) (h : List Entry) (is_after : IsStateAfter s h) (stamp : Sta
       }
 
   -- after a request
-  pub IsStateAfter-asked : (receiver sid bytes heard : ℕ) (book : BookView)
-      → book ≡ record s.book { flows = changed sid (with_asked bytes) s.book.flows }
+  pub IsStateAfter-asked : (receiver sid : ℕ) (amount : Amount) (heard : ℕ) (book : BookView)
+      → book ≡ record s.book { flows = changed sid (with_asked (requested s.config amount)) s.book.flows }
       → IsStateAfter (record s { book = book })
-      (h ++ record { stamp = stamp; call = calls.Ask receiver sid bytes heard; reply = replies.Taken } ∷ [])
-  IsStateAfter-asked receiver sid bytes heard book asked =
-      let e : Entry = entry (calls.Ask receiver sid bytes heard) replies.Taken in
+      (h ++ record { stamp = stamp; call = calls.Ask receiver sid amount heard; reply = replies.Taken } ∷ [])
+  IsStateAfter-asked receiver sid amount heard book asked =
+      let e : Entry = entry (calls.Ask receiver sid amount heard) replies.Taken in
       record {
         lawful = is_after.lawful;
         book_config = ap (λ b. b.config) asked ∙ is_after.book_config;
         table_config = is_after.table_config;
-        flows = ap (λ b. b.flows) asked ∙ ap (changed sid (with_asked bytes)) is_after.flows
-            ∙ sym (flows_of-ask stamp h receiver sid bytes heard);
-        placed = is_after.placed ∙ sym (table_of-ask stamp h receiver sid bytes heard);
+        flows = ap (λ b. b.flows) asked ∙ ap (changed sid (with_asked (requested s.config amount))) is_after.flows
+            ∙ sym (flows_of-ask stamp h receiver sid amount heard s.config);
+        placed = is_after.placed ∙ sym (table_of-ask stamp h receiver sid amount heard);
         next = is_after.next ∙ sym (next_after-same s.config h e refl refl);
         places = is_after.places;
         progress = λ other below. is_after.progress other below ∙ sym (progress_of-same s.config other h e refl);
@@ -97,7 +99,7 @@ module _ (s : State) (h : List Entry) (is_after : IsStateAfter s h) (stamp : Sta
         lawful = is_after.lawful;
         book_config = book_config ∙ is_after.book_config;
         table_config = table_config ∙ is_after.table_config;
-        flows = flows ∙ ap (without sid) is_after.flows ∙ sym (flows_of-remove stamp h sid);
+        flows = flows ∙ ap (without sid) is_after.flows ∙ sym (flows_of-remove stamp h sid s.config);
         placed = placed ∙ ap (without_placed sid) is_after.placed ∙ sym (table_of-remove stamp h sid);
         next = is_after.next ∙ sym (next_after-same s.config h e refl refl);
         places = is_after.places;
@@ -120,7 +122,7 @@ module _ (s : State) (h : List Entry) (is_after : IsStateAfter s h) (stamp : Sta
         book_config = config ∙ is_after.book_config;
         table_config = is_after.table_config;
         flows = flows ∙ ap (with_flow (new_flow sid spec)) is_after.flows
-            ∙ sym (flows_of-admit stamp h sid spec None fresh low high);
+            ∙ sym (flows_of-admit stamp h sid spec None s.config fresh low high);
         placed = is_after.placed ∙ sym (table_of-admit_unplaced stamp h sid spec fresh);
         next = is_after.next ∙ sym (next_after-same s.config h e refl refl);
         places = is_after.places;
@@ -146,7 +148,7 @@ module _ (s : State) (h : List Entry) (is_after : IsStateAfter s h) (stamp : Sta
         book_config = book_config ∙ is_after.book_config;
         table_config = table_config ∙ is_after.table_config;
         flows = flows ∙ ap (with_flow (new_flow sid spec)) is_after.flows
-            ∙ sym (flows_of-admit stamp h sid spec (Some p) fresh low high);
+            ∙ sym (flows_of-admit stamp h sid spec (Some p) s.config fresh low high);
         placed = placed ∙ ap (with_placed (record { sid = sid; spec = spec; placement = p })) is_after.placed
             ∙ sym (table_of-admit_placed stamp h sid spec p fresh low high);
         next = is_after.next ∙ sym (next_after-same s.config h e refl refl);
@@ -167,7 +169,7 @@ module _ (s : State) (h : List Entry) (is_after : IsStateAfter s h) (stamp : Sta
         lawful = is_after.lawful;
         book_config = is_after.book_config;
         table_config = is_after.table_config;
-        flows = is_after.flows ∙ sym (flows_of-quiet h e (λ sid. refl) (λ sid. refl) (λ sid. refl));
+        flows = is_after.flows ∙ sym (flows_of-quiet s.config h e (λ sid. refl) (λ sid. refl) (λ sid. refl));
         placed = is_after.placed ∙ sym (table_of-stays h e (λ sid. refl));
         next = is_after.next ∙ sym (next_after-same s.config h e refl refl);
         places = length-set s.progress receiver upto ∙ is_after.places;
@@ -191,7 +193,7 @@ module _ (s : State) (h : List Entry) (is_after : IsStateAfter s h) (stamp : Sta
         lawful = is_after.lawful;
         book_config = is_after.book_config;
         table_config = is_after.table_config;
-        flows = is_after.flows ∙ sym (flows_of-quiet h e (λ sid. refl) (λ sid. refl) (λ sid. refl));
+        flows = is_after.flows ∙ sym (flows_of-quiet s.config h e (λ sid. refl) (λ sid. refl) (λ sid. refl));
         placed = is_after.placed ∙ sym (table_of-stays h e (λ sid. refl));
         next = sym (next_after-skipped s.config h e next refl);
         places = is_after.places;
@@ -203,7 +205,8 @@ module _ (s : State) (h : List Entry) (is_after : IsStateAfter s h) (stamp : Sta
   -- after a MAP, where the flows and the Reserves are those after it
   pub IsStateAfter-built : (now : ℕ) (m : FrameMap) (book : BookView) (reserves : List Waiting)
       → book.config ≡ s.config
-      → book.flows ≡ flows_of (h ++ record { stamp = stamp; call = calls.Build now; reply = replies.Built m } ∷ [])
+      → book.flows ≡ flows_of s.config
+      (h ++ record { stamp = stamp; call = calls.Build now; reply = replies.Built m } ∷ [])
       → reserves ≡ reserves_of (h ++ record { stamp = stamp; call = calls.Build now; reply = replies.Built m } ∷ [])
       → IsStateAfter (record s { book = book; next = s.next + s.config.frame; reserves = reserves })
       (h ++ record { stamp = stamp; call = calls.Build now; reply = replies.Built m } ∷ [])
@@ -232,7 +235,7 @@ module _ (s : State) (h : List Entry) (is_after : IsStateAfter s h) (stamp : Sta
         lawful = is_after.lawful;
         book_config = is_after.book_config;
         table_config = is_after.table_config;
-        flows = is_after.flows ∙ sym (flows_of-quiet h e (λ sid. refl) (λ sid. refl) (λ sid. refl));
+        flows = is_after.flows ∙ sym (flows_of-quiet s.config h e (λ sid. refl) (λ sid. refl) (λ sid. refl));
         placed = is_after.placed ∙ sym (table_of-stays h e (λ sid. refl));
         next = is_after.next ∙ sym (next_after-same s.config h e refl refl);
         places = is_after.places;
@@ -251,7 +254,7 @@ module _ (s : State) (h : List Entry) (is_after : IsStateAfter s h) (stamp : Sta
         lawful = is_after.lawful;
         book_config = is_after.book_config;
         table_config = is_after.table_config;
-        flows = is_after.flows ∙ sym (flows_of-quiet h e (λ sid. refl) (λ sid. refl) (λ sid. refl));
+        flows = is_after.flows ∙ sym (flows_of-quiet s.config h e (λ sid. refl) (λ sid. refl) (λ sid. refl));
         placed = is_after.placed ∙ sym (table_of-stays h e (λ sid. refl));
         next = is_after.next ∙ sym (next_after-same s.config h e refl refl);
         places = is_after.places;

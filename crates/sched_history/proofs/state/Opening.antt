@@ -15,8 +15,8 @@ use Rattle.sched_history.proofs.lives.LiveFlows.{flows_of-none, table_of-none}
 use Rattle.sched_history.proofs.steps.Bounded.{IsBounded-legal}
 
 -- no flow is live before any call
-pub flows_of-open : flows_of [] ≡ []
-flows_of-open = flows_of-none [] (λ sid. refl)
+pub flows_of-open : (c : Config) → flows_of c [] ≡ []
+flows_of-open c = flows_of-none c [] (λ sid. refl)
 
 -- and none is placed
 pub table_of-open : table_of [] ≡ []
@@ -36,7 +36,7 @@ IsStateAfter-open s lawful book_config flows table_config placed next progress r
       lawful = lawful;
       book_config = book_config;
       table_config = table_config;
-      flows = flows ∙ sym flows_of-open;
+      flows = flows ∙ sym (flows_of-open s.config);
       placed = placed ∙ sym table_of-open;
       next = next ∙ sym (next-open s.config);
       places = rw progress refl;

@@ -32,23 +32,25 @@ use Rattle.sched_history.proofs.steps.Passed.{IsKnown}
 abbrev pub spec_in : Life → FlowSpec
 spec_in life = life.admission.spec
 
-spec-map : (sid : ℕ) (o : Option Life) → option_map (λ f. f.spec) (option_map (flow_in_life sid) o)
+spec-map : (c : Config) (sid : ℕ) (o : Option Life) → option_map (λ f. f.spec) (option_map (flow_in_life c sid) o)
     ≡ option_map spec_in o
-spec-map sid None = refl
-spec-map sid (Some life) = refl
+spec-map c sid None = refl
+spec-map c sid (Some life) = refl
 
-live-from_test : (sid : ℕ) (o : Option Life) → is_some o ≡ true → IsSome (option_map (flow_in_life sid) o)
-live-from_test sid None e = absurd cc
-live-from_test sid (Some life) e = refl
+live-from_test : (c : Config) (sid : ℕ) (o : Option Life) → is_some o ≡ true
+    → IsSome (option_map (flow_in_life c sid) o)
+live-from_test c sid None e = absurd cc
+live-from_test c sid (Some life) e = refl
 
 if_some-follows : {X : Type 0} (P Q : X → Type 0) (o : Option X) → ((x : X) → P x → Q x) → IfSome o P → IfSome o Q
 if_some-follows P Q None follows holds = tt
 if_some-follows P Q (Some x) follows holds = follows x holds
 
-told : (sid : ℕ) (o : Option Life) (reply : Reply) → is_some o ≡ true → IfSome (option_map (flow_in_life sid) o)
-    (λ f. flow_status f ≡ reply) → MatchOption o ⊥ (λ life. reply ≡ flow_status (flow_in_life sid life))
-told sid None reply live same = absurd cc
-told sid (Some life) reply live same = sym same
+told : (c : Config) (sid : ℕ) (o : Option Life) (reply : Reply) → is_some o ≡ true
+    → IfSome (option_map (flow_in_life c sid) o)
+    (λ f. flow_status f ≡ reply) → MatchOption o ⊥ (λ life. reply ≡ flow_status (flow_in_life c sid life))
+told c sid None reply live same = absurd cc
+told c sid (Some life) reply live same = sym same
 
 placement-some : (sid : ℕ) (spec : FlowSpec) (placement : Option Placement) → is_some placement ≡ true
     → IsSome {T = Placed} (option_map (λ p. record { sid = sid; spec = spec; placement = p }) placement)
@@ -60,22 +62,22 @@ placement-none : (sid : ℕ) (spec : FlowSpec) (placement : Option Placement) �
 placement-none sid spec None e = refl
 placement-none sid spec (Some p) e = absurd cc
 
-placed-when : (sid : ℕ) (o : Option Life) → ((life : Life) → o ≡ Some life → IsPaired life.admission)
-    → IfSome (option_map (flow_in_life sid) o) (λ f. is_periodic f.spec ≡ true
+placed-when : (c : Config) (sid : ℕ) (o : Option Life) → ((life : Life) → o ≡ Some life → IsPaired life.admission)
+    → IfSome (option_map (flow_in_life c sid) o) (λ f. is_periodic f.spec ≡ true
     → IsSome (option_and_then (placed_in_life sid) o))
-placed-when sid None paired = tt
-placed-when sid (Some life) paired = λ periodic. placement-some sid life.admission.spec life.admission.placement
+placed-when c sid None paired = tt
+placed-when c sid (Some life) paired = λ periodic. placement-some sid life.admission.spec life.admission.placement
     (paired life refl ∙ periodic)
 
 not_true : (b : Bool) → b ≢ true → b ≡ false
 not_true true h = absurd (h refl)
 not_true false h = refl
 
-unplaced-when : (sid : ℕ) (o : Option Life) → ((life : Life) → o ≡ Some life → IsPaired life.admission)
-    → IfSome (option_map (flow_in_life sid) o) (λ f. is_periodic f.spec ≢ true
+unplaced-when : (c : Config) (sid : ℕ) (o : Option Life) → ((life : Life) → o ≡ Some life → IsPaired life.admission)
+    → IfSome (option_map (flow_in_life c sid) o) (λ f. is_periodic f.spec ≢ true
     → option_and_then (placed_in_life sid) o ≡ None)
-unplaced-when sid None paired = tt
-unplaced-when sid (Some life) paired = λ aperiodic. placement-none sid life.admission.spec life.admission.placement
+unplaced-when c sid None paired = tt
+unplaced-when c sid (Some life) paired = λ aperiodic. placement-none sid life.admission.spec life.admission.placement
     (paired life refl ∙ not_true (is_periodic life.admission.spec) aperiodic)
 
 unplaced-life : (sid : ℕ) (o : Option Life) → o ≡ None → option_and_then (placed_in_life sid) o ≡ None
@@ -107,12 +109,12 @@ asked-fits s h sid bytes low short all =
 module _ (s : State) (h : List Entry) (sid : ℕ) (is_after : IsStateAfter s h) where
   module _ (good : bad_sid sid ≡ false) where
     -- the live flow of a SID that a flow may have
-    pub flow_of-after : flow_of sid s.book.flows ≡ option_map (flow_in_life sid) (life_of sid h)
-    flow_of-after = rw (is_after.flows) (flow_of-flows_of sid h (good_sid sid good).0 (good_sid sid good).1)
+    pub flow_of-after : flow_of sid s.book.flows ≡ option_map (flow_in_life s.config sid) (life_of sid h)
+    flow_of-after = rw (is_after.flows) (flow_of-flows_of s.config sid h (good_sid sid good).0 (good_sid sid good).1)
 
     -- and its parameters
     pub spec_of-after : option_map (λ f. f.spec) (flow_of sid s.book.flows) ≡ option_map spec_in (life_of sid h)
-    spec_of-after = rw (flow_of-after) (spec-map sid (life_of sid h))
+    spec_of-after = rw (flow_of-after) (spec-map s.config sid (life_of sid h))
 
     -- its placement
     pub find-after : find (λ p. p.sid == sid) s.table.placed ≡ option_and_then (placed_in_life sid) (life_of sid h)
@@ -121,7 +123,7 @@ module _ (s : State) (h : List Entry) (sid : ℕ) (is_after : IsStateAfter s h) 
     module _ (fresh : is_live sid h ≡ false) where
       -- a SID that is not live has no flow
       pub flow_of-fresh : flow_of sid s.book.flows ≡ None
-      flow_of-fresh = flow_of-after ∙ ap (option_map (flow_in_life sid)) (life_of-dead sid h fresh)
+      flow_of-fresh = flow_of-after ∙ ap (option_map (flow_in_life s.config sid)) (life_of-dead sid h fresh)
 
       -- and no placement
       pub find-fresh : find (λ p. p.sid == sid) s.table.placed ≡ None
@@ -130,19 +132,19 @@ module _ (s : State) (h : List Entry) (sid : ℕ) (is_after : IsStateAfter s h) 
   module _ (known : IsKnown h sid) where
     -- a SID that is live has a flow
     pub IsLive-after : IsLive sid s.book.flows
-    IsLive-after = rw (flow_of-after known.good) (live-from_test sid (life_of sid h) known.live)
+    IsLive-after = rw (flow_of-after known.good) (live-from_test s.config sid (life_of sid h) known.live)
 
     -- the three sums are the answer to a question for its bytes
     pub status-after : (reply : Reply) → IfSome (flow_of sid s.book.flows) (λ f. flow_status f ≡ reply)
-        → MatchOption (life_of sid h) ⊥ (λ life. reply ≡ flow_status (flow_in_life sid life))
-    status-after reply same = told sid (life_of sid h) reply known.live (rw (flow_of-after known.good) at same)
+        → MatchOption (life_of sid h) ⊥ (λ life. reply ≡ flow_status (flow_in_life s.config sid life))
+    status-after reply same = told s.config sid (life_of sid h) reply known.live (rw (flow_of-after known.good) at same)
 
     module _ (legal : IsLegal s.config h) where
       -- where its flow is periodic it has a placement
       pub IsPlaced-after : IfSome (flow_of sid s.book.flows)
           (λ f. is_periodic f.spec ≡ true → IsPlaced sid s.table.placed)
       IsPlaced-after = rw (flow_of-after known.good, find-after known.good)
-          (placed-when sid (life_of sid h) (λ life. life_of-pairs s.config h sid life legal))
+          (placed-when s.config sid (life_of sid h) (λ life. life_of-pairs s.config h sid life legal))
 
       -- else it has none
       pub unplaced-after : IfSome (flow_of sid s.book.flows)
@@ -153,7 +155,7 @@ module _ (s : State) (h : List Entry) (sid : ℕ) (is_after : IsStateAfter s h) 
           (flow_of sid s.book.flows)
           (λ f none aperiodic. without_placed-none sid s.table.placed (none aperiodic))
           (rw (flow_of-after known.good, find-after known.good)
-          (unplaced-when sid (life_of sid h) (λ life. life_of-pairs s.config h sid life legal)))
+          (unplaced-when s.config sid (life_of sid h) (λ life. life_of-pairs s.config h sid life legal)))
 
 -- a flow without a place is admitted without one
 pub answers-best_effort : (c : Config) (h : List Entry) (spec : FlowSpec) → is_periodic spec ≡ false

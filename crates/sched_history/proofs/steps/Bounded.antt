@@ -13,7 +13,7 @@ use Rattle.sched_history.proofs.facts.SoundLives.{within_asked}
 
 -- a legal history keeps to the bounds
 pub IsBounded-legal : (c : Config) (h : List Entry) → IsLawful c → IsLegal c h
-    → IsBounded c (flows_of h) (next_after c h) (length h)
+    → IsBounded c (flows_of c h) (next_after c h) (length h)
 IsBounded-legal c h lawful legal = record {
   aligned = next_after-aligned c lawful h legal;
   next_most = next_after-most c lawful h legal;

@@ -51,21 +51,22 @@ pub record Carries (c : Config) (h new : List Entry) (P Q : LiveFlow → Type 0)
 
 -- then it holds of each live flow after the entry
 pub each_after : (c : Config) (h new : List Entry) (P Q : LiveFlow → Type 0) → Carries c h new P Q
-    → EntryChange c h new → AllByRecursion P (flows_of h) → AllByRecursion Q (flows_of new)
+    → EntryChange c h new → AllByRecursion P (flows_of c h) → AllByRecursion Q (flows_of c new)
 each_after c h new P Q carries change all = elim change [
-  | Nothing flows next ↦ rw flows (all-implied P Q (flows_of h) carries.stays all)
+  | Nothing flows next ↦ rw flows (all-implied P Q (flows_of c h) carries.stays all)
   | Asked sid bytes few flows next ↦
-      rw flows (all-image P Q (λ f. if f.sid == sid then with_asked bytes f else f) (flows_of h)
+      rw flows (all-image P Q (λ f. if f.sid == sid then with_asked bytes f else f) (flows_of c h)
       (λ f holds. turned Q (f.sid == sid) (with_asked bytes f) f (carries.asks bytes f few holds)
       (carries.stays f holds)) all)
   | Began sid spec may flows next ↦
-      rw flows (all-with_flow Q (new_flow sid spec) (flows_of h) (carries.begins sid spec)
-      (all-implied P Q (flows_of h) carries.stays all))
+      rw flows (all-with_flow Q (new_flow sid spec) (flows_of c h) (carries.begins sid spec)
+      (all-implied P Q (flows_of c h) carries.stays all))
   | Ended sid flows next ↦
-      rw flows (all-filter Q (λ f. not (f.sid == sid)) (flows_of h) (all-implied P Q (flows_of h) carries.stays all))
+      rw flows (all-filter Q (λ f. not (f.sid == sid)) (flows_of c h) (all-implied P Q
+      (flows_of c h) carries.stays all))
   | Described m map flows next most ↦
-      rw flows (all-image P Q (flow_after (next_after c h) map.0) (flows_of h) (carries.grants m map next) all)
-  | Skipped start flows next later aligned most ↦ rw flows (all-implied P Q (flows_of h) carries.stays all)
+      rw flows (all-image P Q (flow_after (next_after c h) map.0) (flows_of c h) (carries.grants m map next) all)
+  | Skipped start flows next later aligned most ↦ rw flows (all-implied P Q (flows_of c h) carries.stays all)
 ]
 
 length-inserted : (b : Bool) (f g : LiveFlow) (flows rest : List LiveFlow) (n : ℕ) → length rest ≡ n + 1

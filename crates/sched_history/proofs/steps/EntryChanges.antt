@@ -9,6 +9,7 @@ use Rattle.minislots.proofs.Bounds.{bounds_of}
 use Rattle.sched_calls.specs.declared.spec.FlowSpec.{FlowSpec}
 use Rattle.sched_calls.specs.declared.spec.FlowSpec.TheVariants.{Unsolicited, Polled, BestEffort}
 use Rattle.sched_calls.specs.FlowSpec.{takes_requests}
+use Rattle.sched_calls.specs.Amount.{requested}
 use Rattle.flow_book.specs.Flows.{LiveFlow, granted, outstanding}
 use Rattle.flow_book.specs.Book.{with_flow, without, changed, new_flow, with_asked}
 use Rattle.sched_calls.specs.declared.placement.Placement.{Placement}
@@ -38,17 +39,19 @@ use Rattle.sched_history.proofs.steps.Passed.{AdmitsFlow, passed-admit, passed-a
 
 -- what an entry changes, from one history to the next
 pub data EntryChange (c : Config) (h new : List Entry) : Type 0 where
-  Nothing : flows_of new ≡ flows_of h → next_after c new ≡ next_after c h → EntryChange c h new
-  Asked : (sid bytes : ℕ) → bytes ≤ most_bytes → flows_of new ≡ changed sid (with_asked bytes) (flows_of h)
+  Nothing : flows_of c new ≡ flows_of c h → next_after c new ≡ next_after c h → EntryChange c h new
+  Asked : (sid bytes : ℕ) → bytes ≤ most_bytes → flows_of c new ≡ changed sid (with_asked bytes) (flows_of c h)
       → next_after c new ≡ next_after c h → EntryChange c h new
   Began : (sid : ℕ) (spec : FlowSpec) → AdmitsFlow c h sid spec
-      → flows_of new ≡ with_flow (new_flow sid spec) (flows_of h) → next_after c new ≡ next_after c h
+      → flows_of c new ≡ with_flow (new_flow sid spec) (flows_of c h) → next_after c new ≡ next_after c h
       → EntryChange c h new
-  Ended : (sid : ℕ) → flows_of new ≡ without sid (flows_of h) → next_after c new ≡ next_after c h → EntryChange c h new
-  Described : (m : FrameMap) (map : IsNextMap c h m) → flows_of new ≡ flows_after (next_after c h) map.0 (flows_of h)
+  Ended : (sid : ℕ) → flows_of c new ≡ without sid (flows_of c h) → next_after c new ≡ next_after c h
+      → EntryChange c h new
+  Described : (m : FrameMap) (map : IsNextMap c h m) → flows_of c new
+      ≡ flows_after (next_after c h) map.0 (flows_of c h)
       → next_after c new ≡ next_after c h + c.frame → next_after c h + c.frame ≤ last_clock + most_ahead
       → EntryChange c h new
-  Skipped : (start : ℕ) → flows_of new ≡ flows_of h → next_after c new ≡ start → next_after c h ≤ start
+  Skipped : (start : ℕ) → flows_of c new ≡ flows_of c h → next_after c new ≡ start → next_after c h ≤ start
       → start % c.frame ≡ 0 → start ≤ last_clock + most_ahead → EntryChange c h new
 
 module _ (c : Config) (lawful : IsLawful c) (stamp : Stamp) (h : List Entry) where
@@ -66,13 +69,13 @@ module _ (c : Config) (lawful : IsLawful c) (stamp : Stamp) (h : List Entry) whe
 
   refused : (call : Call) (refusal : Refusal) → EntryChange c h (after call (replies.Refused refusal))
   refused call refusal =
-      Nothing (flows_of-refused stamp h call refusal) (same_next call (replies.Refused refusal) refl refl)
+      Nothing (flows_of-refused c stamp h call refusal) (same_next call (replies.Refused refusal) refl refl)
 
   admitted : (sid : ℕ) (spec : FlowSpec) (place : Option Placement) → AdmitsFlow c h sid spec
       → EntryChange c h (after (calls.Admit sid spec) (replies.Admitted place))
   admitted sid spec place may =
       let good = good_sid sid may.good in
-      Began sid spec may (flows_of-admit stamp h sid spec place (life_of-dead sid h may.fresh) good.0 good.1)
+      Began sid spec may (flows_of-admit stamp h sid spec place c (life_of-dead sid h may.fresh) good.0 good.1)
       (same_next (calls.Admit sid spec) (replies.Admitted place) refl refl)
 
   -- the change where the reply is this one
@@ -101,7 +104,7 @@ module _ (c : Config) (lawful : IsLawful c) (stamp : Stamp) (h : List Entry) whe
       → EntryChange c h (after (calls.Status sid) (replies.Flow asked granted left))
   told sid asked granted left =
       let reply : Reply = replies.Flow asked granted left in
-      Nothing (flows_of-quiet h (entry (calls.Status sid) reply) (λ other. refl) (λ other. refl) (λ other. refl))
+      Nothing (flows_of-quiet c h (entry (calls.Status sid) reply) (λ other. refl) (λ other. refl) (λ other. refl))
       (same_next (calls.Status sid) reply refl refl)
 
   tells_sums : (sid : ℕ) (b : Bool) (asked granted left : ℕ)
@@ -110,25 +113,25 @@ module _ (c : Config) (lawful : IsLawful c) (stamp : Stamp) (h : List Entry) whe
   tells_sums sid false asked granted left = told sid 0 0 0
 
   tells : (sid : ℕ) (o : Option Life) (reply : Reply)
-      → MatchOption o ⊥ (λ life. reply ≡ flow_status (flow_in_life sid life))
+      → MatchOption o ⊥ (λ life. reply ≡ flow_status (flow_in_life c sid life))
       → EntryChange c h (after (calls.Status sid) reply)
   tells sid None reply answers = absurd answers
   tells sid (Some life) reply answers =
-      let f : LiveFlow = flow_in_life sid life in
+      let f : LiveFlow = flow_in_life c sid life in
       by_reply (calls.Status sid) reply (flow_status f) answers
       (tells_sums sid (takes_requests f.spec) f.asked (granted f) (outstanding f))
 
   -- a call that changes neither flows nor the next frame
   quiet : (call : Call) (reply : Reply) → ((sid : ℕ) → turn_by sid call reply ≡ None)
-      → ((sid : ℕ) → asked_by sid call reply ≡ 0) → ((sid : ℕ) → grants_by sid reply ≡ []) → skip_by reply ≡ None
+      → ((sid : ℕ) → asked_by c sid call reply ≡ 0) → ((sid : ℕ) → grants_by sid reply ≡ []) → skip_by reply ≡ None
       → is_built reply ≡ false → EntryChange c h (after call reply)
   quiet call reply turns asks grants skips builds =
-      Nothing (flows_of-quiet h (entry call reply) turns asks grants) (same_next call reply skips builds)
+      Nothing (flows_of-quiet c h (entry call reply) turns asks grants) (same_next call reply skips builds)
 
   heard : (receiver upto : ℕ) → EntryChange c h (after (calls.Heard receiver upto) replies.Noted)
   heard receiver upto =
       let e : Entry = entry (calls.Heard receiver upto) replies.Noted in
-      Nothing (flows_of-quiet h e (λ sid. refl) (λ sid. refl) (λ sid. refl))
+      Nothing (flows_of-quiet c h e (λ sid. refl) (λ sid. refl) (λ sid. refl))
       (same_next (calls.Heard receiver upto) replies.Noted refl refl)
 
   skips : (now start : ℕ) → IsFirstStart c (now + c.lead) start → refusal_of c h (calls.Skip now) ≡ None
@@ -139,7 +142,7 @@ module _ (c : Config) (lawful : IsLawful c) (stamp : Stamp) (h : List Entry) whe
       let bounds : HasBounds c = bounds_of c lawful in
       let near : start < now + c.lead + c.frame =
       first_start-near c (now + c.lead) (omega (arith, bounds.frame_least)) start first in
-      Skipped start (flows_of-quiet h e (λ sid. refl) (λ sid. refl) (λ sid. refl))
+      Skipped start (flows_of-quiet c h e (λ sid. refl) (λ sid. refl) (λ sid. refl))
       (next_after-skipped c h e start refl) (omega (arith, late.late, first.reached)) first.whole
       (omega (arith, late.clock, near, bounds.lead_most))
 
@@ -157,12 +160,12 @@ module _ (c : Config) (lawful : IsLawful c) (stamp : Stamp) (h : List Entry) whe
       admits sid spec reply (passed-admit c h sid spec none) answers
   answered (calls.Remove sid) reply none answers =
       by_reply (calls.Remove sid) reply replies.Removed answers
-      (Ended sid (flows_of-remove stamp h sid) (same_next (calls.Remove sid) replies.Removed refl refl))
-  answered (calls.Ask receiver sid bytes heard) reply none answers =
-      by_reply (calls.Ask receiver sid bytes heard) reply replies.Taken answers
-      (Asked sid bytes (passed-ask c h receiver sid bytes heard none).most
-      (flows_of-ask stamp h receiver sid bytes heard)
-      (same_next (calls.Ask receiver sid bytes heard) replies.Taken refl refl))
+      (Ended sid (flows_of-remove stamp h sid c) (same_next (calls.Remove sid) replies.Removed refl refl))
+  answered (calls.Ask receiver sid amount heard) reply none answers =
+      by_reply (calls.Ask receiver sid amount heard) reply replies.Taken answers
+      (Asked sid (requested c amount) (passed-ask c h receiver sid amount heard none).most
+      (flows_of-ask stamp h receiver sid amount heard c)
+      (same_next (calls.Ask receiver sid amount heard) replies.Taken refl refl))
   answered (calls.Heard receiver upto) reply none answers =
       by_reply (calls.Heard receiver upto) reply replies.Noted answers (heard receiver upto)
   answered (calls.Build now) reply none answers =

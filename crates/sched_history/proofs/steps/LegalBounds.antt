@@ -82,8 +82,8 @@ module _ (c : Config) (lawful : IsLawful c) where
   ]
 
   -- where nothing was called no flow is live
-  none-live : flows_of [] ≡ []
-  none-live = flows_of-none [] (λ sid. refl)
+  none-live : flows_of c [] ≡ []
+  none-live = flows_of-none c [] (λ sid. refl)
 
   asked-carries : (h : List Entry) (e : Entry) → Carries c h (h ++ e ∷ []) (λ f. f.asked ≤ most_bytes * length h)
       (λ f. f.asked ≤ most_bytes * length (h ++ e ∷ []))
@@ -98,8 +98,8 @@ module _ (c : Config) (lawful : IsLawful c) where
 
   -- each live flow asked for at most the most bytes of a request times the entries
   pub flows_of-asked : (h : List Entry) → IsLegal c h
-      → AllByRecursion (λ f. f.asked ≤ most_bytes * length h) (flows_of h)
-  flows_of-asked = legal_induction c (λ h. AllByRecursion (λ f. f.asked ≤ most_bytes * length h) (flows_of h))
+      → AllByRecursion (λ f. f.asked ≤ most_bytes * length h) (flows_of c h)
+  flows_of-asked = legal_induction c (λ h. AllByRecursion (λ f. f.asked ≤ most_bytes * length h) (flows_of c h))
       (λ h e legal step all. each_after c h (h ++ e ∷ []) (λ f. f.asked ≤ most_bytes * length h)
       (λ f. f.asked ≤ most_bytes * length (h ++ e ∷ []))
       (asked-carries h e) (change_of c h e lawful step) all) (rw none-live tt)
@@ -124,36 +124,37 @@ module _ (c : Config) (lawful : IsLawful c) where
 
   -- each data grant of a live flow starts before the next frame
   pub flows_of-started : (h : List Entry) → IsLegal c h
-      → AllByRecursion (HasStartedBefore (next_after c h)) (flows_of h)
-  flows_of-started = legal_induction c (λ h. AllByRecursion (HasStartedBefore (next_after c h)) (flows_of h))
+      → AllByRecursion (HasStartedBefore (next_after c h)) (flows_of c h)
+  flows_of-started = legal_induction c (λ h. AllByRecursion (HasStartedBefore (next_after c h)) (flows_of c h))
       (λ h e legal step all. let change : EntryChange c h (h ++ e ∷ []) = change_of c h e lawful step in
       each_after c h (h ++ e ∷ []) (HasStartedBefore (next_after c h)) (HasStartedBefore (next_after c (h ++ e ∷ [])))
       (started-carries h e (later-after h (h ++ e ∷ []) change)) change all) (rw none-live tt)
 
   -- so each has started by then
   pub flows_of-HasStartedBy : (h : List Entry) → IsLegal c h
-      → AllByRecursion (HasStartedBy (next_after c h)) (flows_of h)
+      → AllByRecursion (HasStartedBy (next_after c h)) (flows_of c h)
   flows_of-HasStartedBy h legal =
-      all-implied (HasStartedBefore (next_after c h)) (HasStartedBy (next_after c h)) (flows_of h)
+      all-implied (HasStartedBefore (next_after c h)) (HasStartedBy (next_after c h)) (flows_of c h)
       (λ f started. all-implied (λ (g : Grant). g.start < next_after c h)
       (λ (g : Grant). g.start ≤ next_after c h) f.grants (λ g before. omega arith) started)
       (flows_of-started h legal)
 
-  few-after : (h new : List Entry) → EntryChange c h new → length (flows_of h) ≤ MAX_FLOWS
-      → length (flows_of new) ≤ MAX_FLOWS
+  few-after : (h new : List Entry) → EntryChange c h new → length (flows_of c h) ≤ MAX_FLOWS
+      → length (flows_of c new) ≤ MAX_FLOWS
   few-after h new change within = elim change [
     | Nothing flows next ↦ rw flows within
     | Asked sid bytes few flows next ↦ rw (flows, length-map) within
     | Began sid spec may flows next ↦
-        rw flows (omega (arith, length-with_flow (new_flow sid spec) (flows_of h), may.few))
-    | Ended sid flows next ↦ rw flows (omega (arith, length-filter (λ (f : LiveFlow). not (f.sid == sid)) (flows_of h)))
+        rw flows (omega (arith, length-with_flow (new_flow sid spec) (flows_of c h), may.few))
+    | Ended sid flows next ↦
+        rw flows (omega (arith, length-filter (λ (f : LiveFlow). not (f.sid == sid)) (flows_of c h)))
     | Described m map flows next most ↦ rw (flows, length-map) within
     | Skipped start flows next later whole most ↦ rw flows within
   ]
 
   -- at most so many flows are live
-  pub flows_of-few : (h : List Entry) → IsLegal c h → length (flows_of h) ≤ MAX_FLOWS
+  pub flows_of-few : (h : List Entry) → IsLegal c h → length (flows_of c h) ≤ MAX_FLOWS
   flows_of-few =
-      legal_induction c (λ h. length (flows_of h) ≤ MAX_FLOWS)
+      legal_induction c (λ h. length (flows_of c h) ≤ MAX_FLOWS)
       (λ h e legal step within. few-after h (h ++ e ∷ []) (change_of c h e lawful step) within)
       (rw none-live (omega arith))

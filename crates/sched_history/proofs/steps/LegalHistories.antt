@@ -91,14 +91,14 @@ still_sums : (b : Bool) (asked granted left : ℕ)
 still_sums true asked granted left = (refl, refl)
 still_sums false asked granted left = (refl, refl)
 
-still_status : (sid : ℕ) (life : Option Life) (reply : Reply)
-    → MatchOption life ⊥ (λ l. reply ≡ flow_status (flow_in_life sid l))
+still_status : (c : Config) (sid : ℕ) (life : Option Life) (reply : Reply)
+    → MatchOption life ⊥ (λ l. reply ≡ flow_status (flow_in_life c sid l))
     → IsStill reply
-still_status sid None reply answers = absurd answers
-still_status sid (Some l) reply answers =
+still_status c sid None reply answers = absurd answers
+still_status c sid (Some l) reply answers =
     subst IsStill (sym answers)
-    (still_sums (takes_requests l.admission.spec) (asked_in sid l.since) (granted (flow_in_life sid l))
-    (outstanding (flow_in_life sid l)))
+    (still_sums (takes_requests l.admission.spec) (asked_in c sid l.since) (granted (flow_in_life c sid l))
+    (outstanding (flow_in_life c sid l)))
 
 -- what an accepted call has built or skipped
 pub data Change (c : Config) (h : List Entry) (call : Call) (reply : Reply) : Type 0 where
@@ -112,12 +112,12 @@ change_by_answer : (c : Config) (h : List Entry) (call : Call) (reply : Reply) �
     → Change c h call reply
 change_by_answer c h (calls.Admit sid spec) reply answers = Stays (still_admit c h spec reply answers)
 change_by_answer c h (calls.Remove sid) reply answers = Stays (subst IsStill (sym answers) (refl, refl))
-change_by_answer c h (calls.Ask receiver sid bytes heard) reply answers =
+change_by_answer c h (calls.Ask receiver sid amount heard) reply answers =
     Stays (subst IsStill (sym answers) (refl, refl))
 change_by_answer c h (calls.Heard receiver upto) reply answers = Stays (subst IsStill (sym answers) (refl, refl))
 change_by_answer c h (calls.Build now) reply answers = Builds answers.0 answers.1 answers.2
 change_by_answer c h (calls.Skip now) reply answers = Skips now answers.0 refl answers.1 answers.2
-change_by_answer c h (calls.Status sid) reply answers = Stays (still_status sid (life_of sid h) reply answers)
+change_by_answer c h (calls.Status sid) reply answers = Stays (still_status c sid (life_of sid h) reply answers)
 change_by_answer c h (calls.Reserve usage slots) reply answers = Stays (subst IsStill (sym answers) (refl, refl))
 change_by_answer c h (calls.Header header) reply answers = Stays (subst IsStill (sym answers) (refl, refl))
 

@@ -7,6 +7,8 @@ use Rattle.minislots.specs.declared.config.Config.{Config}
 use Rattle.sched_calls.specs.declared.TheConstants.{MAX_FLOWS}
 use Rattle.sched_calls.specs.declared.spec.FlowSpec.{FlowSpec}
 use Rattle.sched_calls.specs.declared.spec.FlowFault.{FlowFault}
+use Rattle.sched_calls.specs.declared.amount.Amount.{Amount}
+use Rattle.sched_calls.specs.Amount.{requested}
 use Rattle.sched_calls.specs.FlowSpec.{is_periodic, grants_of, first_fault}
 use Rattle.sched_calls.specs.declared.TheConstants.{MAX_PERIODIC_GRANTS}
 use Rattle.sched_calls.specs.declared.opportunity.Usage.{Usage}
@@ -41,6 +43,9 @@ above m n e = grind (arith, nat_tests)
 within : (m n : ℕ) → nat_lt m n ≡ false → n ≤ m
 within m n e = grind (arith, nat_tests)
 
+some : (n : ℕ) → n == 0 ≡ false → 0 < n
+some n test = grind (arith, nat_tests)
+
 kept : (b : Bool) → not b ≡ false → b ≡ true
 kept true e = refl
 kept false e = absurd cc
@@ -49,10 +54,6 @@ kept false e = absurd cc
 pub neither : (a b : Bool) → (a || b) ≡ false → (a ≡ false) × (b ≡ false)
 neither true b e = absurd cc
 neither false b e = (refl, e)
-
-either : (a b : Bool) → (a || b) ≡ false → b ≡ false
-either true b e = absurd cc
-either false b e = e
 
 both : (a b : Bool) → (a && b) ≡ false → a ≡ true → b ≡ false
 both true b e h = e
@@ -63,8 +64,8 @@ pub record AdmitsFlow (c : Config) (h : List Entry) (sid : ℕ) (spec : FlowSpec
   pub good : bad_sid sid ≡ false
   pub fresh : is_live sid h ≡ false
   pub no_fault : first_fault c spec ≡ None
-  pub few : length (flows_of h) < MAX_FLOWS
-  pub few_grants : is_periodic spec ≡ true → periodic_grants h + grants_of spec ≤ MAX_PERIODIC_GRANTS
+  pub few : length (flows_of c h) < MAX_FLOWS
+  pub few_grants : is_periodic spec ≡ true → periodic_grants c h + grants_of spec ≤ MAX_PERIODIC_GRANTS
 
 -- an admission that no test refuses passed
 pub passed-admit : (c : Config) (h : List Entry) (sid : ℕ) (spec : FlowSpec) → refusal_of c h (Admit sid spec) ≡ None
@@ -79,9 +80,9 @@ passed-admit c h sid spec e =
       good = good.0;
       fresh = fresh.0;
       no_fault = fault.0;
-      few = above MAX_FLOWS (length (flows_of h)) few.0;
-      few_grants = λ is. within MAX_PERIODIC_GRANTS (periodic_grants h + grants_of spec)
-          (both (is_periodic spec) (nat_lt MAX_PERIODIC_GRANTS (periodic_grants h + grants_of spec)) periodic.0 is);
+      few = above MAX_FLOWS (length (flows_of c h)) few.0;
+      few_grants = λ is. within MAX_PERIODIC_GRANTS (periodic_grants c h + grants_of spec)
+          (both (is_periodic spec) (nat_lt MAX_PERIODIC_GRANTS (periodic_grants c h + grants_of spec)) periodic.0 is);
     }
 
 -- A SID that may be a flow's is live
@@ -106,16 +107,18 @@ pub passed-status : (c : Config) (h : List Entry) (sid : ℕ) → refusal_of c h
 passed-status c h sid e = known h sid _ _ _ e
 
 -- A request passed
-pub record Asks (c : Config) (h : List Entry) (receiver sid bytes heard : ℕ) : Type 0 where
+pub record Asks (c : Config) (h : List Entry) (receiver sid : ℕ) (amount : Amount) (heard : ℕ) : Type 0 where
   pub known : IsKnown h sid
   pub received : receiver < c.receivers
-  pub most : bytes ≤ most_bytes
+  pub some_bytes : 0 < requested c amount
+  pub most : requested c amount ≤ most_bytes
   pub unacked : progress_of c receiver h ≤ heard
 
 -- a request that no test refuses passed
-pub passed-ask : (c : Config) (h : List Entry) (receiver sid bytes heard : ℕ)
-    → refusal_of c h (Ask receiver sid bytes heard) ≡ None → Asks c h receiver sid bytes heard
-passed-ask c h receiver sid bytes heard e =
+pub passed-ask : (c : Config) (h : List Entry) (receiver sid : ℕ) (amount : Amount) (heard : ℕ)
+    → refusal_of c h (Ask receiver sid amount heard) ≡ None → Asks c h receiver sid amount heard
+passed-ask c h receiver sid amount heard e =
+    let bytes : ℕ = requested c amount in
     let progress : ℕ = progress_of c receiver h in
     let ahead : Option Refusal = option_or (refused_if (nat_le (next_after c h) heard) (Ahead (next_after c h))) None in
     let timed : Option Refusal = option_or (refused_if (nat_lt heard progress) (Acked progress)) ahead in
@@ -129,10 +132,12 @@ passed-ask c h receiver sid bytes heard e =
     let past_receiver = passed (nat_le c.receivers receiver) BadReceiver sized past_silent in
     let past_bytes = passed (bytes == 0 || nat_lt most_bytes bytes) BadBytes timed past_receiver.1 in
     let past_progress = passed (nat_lt heard progress) (Acked progress) ahead past_bytes.1 in
+    let sizes = neither (bytes == 0) (nat_lt most_bytes bytes) past_bytes.0 in
     record {
       known = known h sid BadSid NoFlow asks e;
       received = above c.receivers receiver past_receiver.0;
-      most = within most_bytes bytes (either (bytes == 0) (nat_lt most_bytes bytes) past_bytes.0);
+      some_bytes = some bytes sizes.0;
+      most = within most_bytes bytes sizes.1;
       unacked = within heard progress past_progress.0;
     }
 
@@ -183,9 +188,6 @@ passed-skip c h now e =
     let clock = passed _ _ _ e in
     let late = passed _ _ _ clock.1 in
     record { clock = within last_clock now clock.0; late = above (now + c.lead) (next_after c h) late.0 }
-
-some : (n : ℕ) → n == 0 ≡ false → 0 < n
-some n test = grind (arith, nat_tests)
 
 -- A Reserve passed
 pub record MayReserve (c : Config) (h : List Entry) (usage : Usage) (slots : ℕ) : Type 0 where

@@ -107,9 +107,9 @@ module _ (c : Config) where
 
   heard_by : (h : List Entry) (call : Call) (reply : Reply) → IsLegal c h → IsStep c h call reply
       → IsHeardAfter (maps_of h) call reply
-  heard_by h (calls.Ask receiver sid bytes heard) replies.Taken legal step =
-      let passes : Asks c h receiver sid bytes heard = passed-ask c h receiver sid bytes heard
-      (accepted c h (calls.Ask receiver sid bytes heard) replies.Taken (λ r refuses. cc) step).0 in
+  heard_by h (calls.Ask receiver sid amount heard) replies.Taken legal step =
+      let passes : Asks c h receiver sid amount heard = passed-ask c h receiver sid amount heard
+      (accepted c h (calls.Ask receiver sid amount heard) replies.Taken (λ r refuses. cc) step).0 in
       later_acked (ack_after c h) heard (maps_of h) (omega (
         arith,
         passes.unacked,

@@ -32,7 +32,8 @@ impl State {
             Call::Admit(sid, spec) if is_periodic(spec) => self.admit_placed_flow(alloc, sid, spec),
             Call::Admit(sid, spec) => self.admit_best_effort(sid, spec),
             Call::Remove(sid) => Ok(self.forget(sid)),
-            Call::Ask { sid, bytes, .. } => {
+            Call::Ask { sid, amount, .. } => {
+                let bytes = amount.bytes(&self.config) as u32;
                 self.book.ask(sid, bytes);
                 Ok(Answer {
                     reply: Reply::Taken,

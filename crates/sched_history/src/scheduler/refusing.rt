@@ -6,11 +6,11 @@ ghost use Rattle.sched_calls.specs.declared.TheConstants.{MAX_PERIODIC_GRANTS};
 ghost use Rattle.sched_history.specs.Life.{life_of};
 ghost use Rattle.sched_history.specs.Time.{next_after, progress_of};
 ghost use Rattle.sched_history.specs.Refusal.{bad_sid, is_live, is_silent, periodic_grants, refused_if};
-ghost use Rattle.sched_history.specs.Refusal.{first_of, refusal_of, most_bytes, is_wide};
+ghost use Rattle.sched_history.specs.Refusal.{first_of, refusal_of, is_bad_amount, is_wide};
 
 use super::present::Present;
-use minislots::MAX_ASK;
-use sched_calls::{Call, FlowSpec, Header, MAX_FLOWS, MAX_PERIODIC_GRANTS, Refusal, Usage};
+use minislots::{Checked, MAX_ASK};
+use sched_calls::{Amount, Call, FlowSpec, Header, MAX_FLOWS, MAX_PERIODIC_GRANTS, Refusal, Usage};
 
 // The greatest SID of a flow.
 const LAST_SID: u16 = 8191;
@@ -42,6 +42,14 @@ pub(super) fn takes_requests(spec: FlowSpec) -> bool
     !matches!(spec, FlowSpec::Unsolicited { .. })
 }
 
+// Whether no request may ask for so much.
+fn is_bad_amount(config: &Checked, amount: Amount) -> bool
+    ensures { result ≡ is_bad_amount config.now amount }
+{
+    let bytes = amount.bytes(config);
+    bytes == 0 || bytes > u64::from(MAX_ASK)
+}
+
 // The refusal of a header's exponents.
 fn refuse_backoff(header: Header) -> Option<Refusal>
     ensures { result ≡ refused_if (is_wide header.ranging_start || is_wide header.ranging_end
@@ -69,11 +77,11 @@ impl<'a> Present<'a> {
             Call::Ask {
                 receiver,
                 sid,
-                bytes,
+                amount,
                 heard,
             } => match self.refuse_asker(sid) {
                 Some(refusal) => Some(refusal),
-                None => self.refuse_request(receiver, bytes, heard),
+                None => self.refuse_request(receiver, amount, heard),
             },
             Call::Heard { receiver, upto } => self.refuse_progress(receiver, upto),
             Call::Build { now } => self.refuse_build(now),
@@ -93,7 +101,7 @@ impl<'a> Present<'a> {
 
     // The grants per interval of the live flows.
     fn periodic_grants(&self) -> usize
-        ensures value { result ≡ periodic_grants self.now.history }
+        ensures value { result ≡ periodic_grants self.now.config self.now.history }
         ensures most { result ≤ MAX_PERIODIC_GRANTS }
     {
         self.state.table.grants()
@@ -119,7 +127,7 @@ impl<'a> Present<'a> {
     // The refusal of an admission where the grants per interval would be too many.
     fn refuse_periodic(&self, spec: FlowSpec) -> Option<Refusal>
         ensures { result ≡ refused_if (is_periodic spec && nat_lt MAX_PERIODIC_GRANTS
-            (periodic_grants self.now.history + grants_of spec)) Refusal.PeriodicFull }
+            (periodic_grants self.now.config self.now.history + grants_of spec)) Refusal.PeriodicFull }
     {
         let grants = self.periodic_grants() + usize::from(spec.grants());
         if is_periodic(spec) && grants > MAX_PERIODIC_GRANTS {
@@ -162,10 +170,10 @@ impl<'a> Present<'a> {
     }
 
     // The refusal of a request for its receiver, its bytes or its time.
-    fn refuse_request(&self, receiver: u8, bytes: u32, heard: u64) -> Option<Refusal>
+    fn refuse_request(&self, receiver: u8, amount: Amount, heard: u64) -> Option<Refusal>
         ensures { result ≡ first_of (
             refused_if (nat_le self.now.config.receivers receiver) Refusal.BadReceiver ∷
-            refused_if (bytes == 0 || nat_lt most_bytes bytes) Refusal.BadBytes ∷
+            refused_if (is_bad_amount self.now.config amount) Refusal.BadBytes ∷
             refused_if (nat_lt heard (progress_of self.now.config receiver self.now.history))
             (Refusal.Acked (progress_of self.now.config receiver self.now.history)) ∷
             refused_if (nat_le (next_after self.now.config self.now.history) heard)
@@ -175,7 +183,7 @@ impl<'a> Present<'a> {
             return Some(Refusal::BadReceiver);
         }
         let progress = self.state.progress[usize::from(receiver)];
-        if bytes == 0 || bytes > MAX_ASK {
+        if is_bad_amount(&self.state.config, amount) {
             Some(Refusal::BadBytes)
         } else if heard < progress {
             Some(Refusal::Acked(progress))

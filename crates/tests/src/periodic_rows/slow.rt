@@ -57,7 +57,7 @@ fn wanted_of(config: &Checked, spec: &FlowSpec) -> Wanted
             interval: frames_of(config, interval_us),
             grants: u64::from(grants),
             jitter: config.slots_floor(jitter_us),
-            slots: config.slots_for(size),
+            slots: config.slots_for_unsolicited(size),
         },
         FlowSpec::Polled {
             interval_us,

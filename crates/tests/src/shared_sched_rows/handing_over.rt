@@ -7,6 +7,7 @@ use crate::base::{BASE, checked};
 use flow_book::FlowSpec;
 use map_build::FrameMap;
 use minislots::Config;
+use sched_calls::Amount;
 use sched_history::{Call, Entry, HandedOver, Reply, Scheduler, Unrecorded};
 use shared_sched::{Closed, Desk, Shared, open, open_without_end};
 use std::alloc::AllocGlobal;
@@ -26,7 +27,7 @@ const DATA: FlowSpec = FlowSpec::BestEffort {
 const ASK: Call = Call::Ask {
     receiver: 0,
     sid: 17,
-    bytes: 100,
+    amount: Amount::Bytes(100),
     heard: 801,
 };
 

@@ -5,6 +5,7 @@ ghost use Rattle.std.specs.Prelude.{◌≡◌};
 use super::{close_pair, is_map, opened};
 use flow_book::FlowSpec;
 use map_snapshot::{Printed, Reader};
+use sched_calls::Amount;
 use sched_history::{Call, Entry, Refusal, Reply, Unrecorded};
 use shared_sched::{Desk, Shared};
 use std::alloc::{AllocError, AllocGlobal, Global};
@@ -34,7 +35,7 @@ fn call_at(number: usize, now: u64) -> Call {
         2 => Call::Ask {
             receiver: 0,
             sid,
-            bytes: 700,
+            amount: Amount::Bytes(700),
             heard: 801,
         },
         _ => Call::Build { now },

@@ -1,15 +1,15 @@
 -- The members are noted one by one, and make the call.
-use Rattle.std.proofs.Common.{codes, refl, sym, ap, ◌∙◌}
+use Rattle.std.proofs.Common.{◌≡◌, false, codes, refl, sym, ap, ◌∙◌}
 use Rattle.json.specs.Json.{read_key}
 use Rattle.serde_json.specs.Data.{string, number, unsigned}
 use Rattle.call_reading.specs.declared.field.Field.TheVariants.{Name}
-use Rattle.call_reading.specs.Seen.{nothing, seen_with, seen_ask}
+use Rattle.call_reading.specs.Seen.{nothing, seen_with, seen_of, seen_amount, seen_ask}
 use Rattle.call_reading.proofs.Fields.{plain_ask, plain_key}
 use Rattle.call_reading.proofs.Made.{none_said, one_more, call_ends, name_noted, ask_named}
 use Rattle.call_reading.proofs.usual_call.usual_ask.Goals as goal
 
 pub returns : goal.returns
-unfolding seen_ask
+unfolding seen_amount seen_ask
 returns c = λ depth.
     let ts = c.args.reader.now in
     let r1 = c.number_under.new.reader in
@@ -27,6 +27,8 @@ returns c = λ depth.
     (codes "call") (plain_key Name) refl))
     ((rw c.if-not-take_spelled_text.false at c.take_spelled_text.ensures)
     (codes "ask") plain_ask refl) in
+    let none : (seen_of c.nothing-found.result).has_slots ≡ false =
+    ap (λ s. s.has_slots) c.nothing-found.ensures in
     let said1 = one_more depth ts ts r1 nothing s1 (none_said depth ts) (c.in_ok-bytes.ensures depth nothing) in
     let said2 = one_more depth ts r1 r2 s1 s2 said1 name in
     let said3 = one_more depth ts r2 r3 s2 s3 said2 (c.in_ok-at.ensures depth s2) in
@@ -34,5 +36,5 @@ returns c = λ depth.
     let said5 = one_more depth ts r4 r5 s4 s5 said4 (c.in_ok-sid.ensures depth s4) in
     call_ends depth ts r5 c.take_end_object.new.self s5 c.in_ok-call.call said5
     (ap read_key (rw c.if-not-take_end_object.false at c.take_end_object.ensures))
-    (ask_named s5 refl ∙ sym c.in_ok-call.ensures)
+    (ask_named s5 refl ∙ sym (rw none at c.in_ok-call.ensures))
     refl

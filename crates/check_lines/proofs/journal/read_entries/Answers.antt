@@ -3,7 +3,7 @@ use Rattle.std.proofs.Common.{◌∷◌, ◌++◌, [], length, ap, ◌∙◌, ar
 use Rattle.sched_history.specs.Machine.{Past}
 use Rattle.journal_entries.specs.declared.end.EntriesEnd.TheVariants.{Illegal, Bad}
 use Rattle.journal_entries.specs.Next.{HasGiven}
-use Rattle.check_lines.proofs.Journals.{FindsEnd-reported}
+use Rattle.check_lines.proofs.ReadJournals.{FindsEnd-reported}
 use Rattle.check_lines.proofs.journal.read_entries.Goals as goal
 
 pub returns-in-Ok-Illegal-clause-finds : goal.returns-in-Ok-Illegal-clause-finds

@@ -1,5 +1,5 @@
 -- What was found behind the configuration.
-use Rattle.check_lines.proofs.Journals.{FindsEnd-opened}
+use Rattle.check_lines.proofs.ReadJournals.{FindsEnd-opened}
 use Rattle.check_lines.proofs.journal.read_journal.Goals as goal
 
 pub returns-in-Ok-Some-clause-finds : goal.returns-in-Ok-Some-clause-finds

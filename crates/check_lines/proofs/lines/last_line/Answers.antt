@@ -1,7 +1,7 @@
 -- Bytes without a newline are a line, where there are any.
 use Rattle.std.proofs.Common.{◌≡◌, ℕ, false, List, [], ◌∷◌, length, sym, ◌∙◌}
 use Rattle.std.specs.Prelude.{◌≢◌, ◌==◌}
-use Rattle.line_stream.proofs.Taking.{lines_of-last}
+use Rattle.text_stream.proofs.Taking.{lines_of-last}
 use Rattle.check_lines.proofs.lines.last_line.Goals as goal
 
 some : (bytes : List ℕ) → (length bytes == 0) ≡ false → bytes ≢ []

@@ -1,6 +1,6 @@
 -- The lines so far are blank, and each had a byte at least.
 use Rattle.std.proofs.Common.{◌≡◌, ◌+◌, ◌≤◌, length}
-use Rattle.line_stream.specs.Lines.{lines_of}
+use Rattle.text_stream.specs.Lines.{lines_of}
 use Rattle.live_command.specs.Spoken.{spoken}
 use Rattle.check_lines.proofs.lines.next_spoken.Given as goal
 

@@ -1,8 +1,8 @@
 -- The line ends at the first newline.
 use Rattle.std.proofs.Common.{◌+◌, take, drop, ap, ◌∙◌}
 use Rattle.std.proofs.lemmas.List.{take_rest}
-use Rattle.line_stream.specs.Lines.{lines_of}
-use Rattle.line_stream.proofs.Taking.{at_newline, lines_of-line, IsWithinLine-before}
+use Rattle.text_stream.specs.Lines.{lines_of}
+use Rattle.text_stream.proofs.Taking.{at_newline, lines_of-line, IsWithinLine-before}
 use Rattle.check_lines.proofs.lines.split_line.Goals as goal
 
 pub returns-in-Some-clause-parts : goal.returns-in-Some-clause-parts

@@ -1,6 +1,6 @@
 -- The lines so far were heard, and no read failed.
 use Rattle.std.proofs.Common.{◌≡◌}
-use Rattle.line_stream.specs.Told.{untold}
+use Rattle.text_stream.specs.Told.{untold}
 use Rattle.check_lines.specs.Live.{HearsSoFar}
 use Rattle.check_lines.proofs.live.hear_lines.Given as goal
 

@@ -1,6 +1,6 @@
 -- Lines were told, all of them blank, and no read failed.
 use Rattle.std.proofs.Common.{◌≡◌}
-use Rattle.line_stream.specs.Told.{untold}
+use Rattle.text_stream.specs.Told.{untold}
 use Rattle.check_lines.proofs.Openings.{Passes}
 use Rattle.check_lines.proofs.opening.next_numbered.Given as goal
 

@@ -12,7 +12,7 @@ pub place_of-requires-clause-live : goal.place_of-requires-clause-live
 place_of-requires-clause-live c =
     let f = live c.in-Some.flow.now in
     let flows = map live c.args.flows.now in
-    let next : IsNext c.args.config.now flows c.args.start c.args.room f = c.in-Some.ensures in
+    let next : IsNext c.args.config.now flows c.args.start c.args.room.slots f = c.in-Some.ensures in
     let here : flow_of f.sid flows ≡ Some f = flow_of-member flows f c.requires.book.sound.ascending next.live in
     rw here refl
 
@@ -20,7 +20,7 @@ pub returns-in-Some-clause-next : goal.returns-in-Some-clause-next
 returns-in-Some-clause-next c =
     let f = live c.in-Some.flow.now in
     let flows = map live c.args.flows.now in
-    let next : IsNext c.args.config.now flows c.args.start c.args.room f = c.in-Some.ensures in
+    let next : IsNext c.args.config.now flows c.args.start c.args.room.slots f = c.in-Some.ensures in
     let p : LiveFlow → Bool = λ g. g.sid == f.sid in
     let here : flow_of f.sid flows ≡ Some f = flow_of-member flows f c.requires.book.sound.ascending next.live in
     let k = position_or_len p flows in

@@ -19,8 +19,8 @@ use Rattle.flow_book.proofs.Queues.{at-within, wants-at}
 use Rattle.flow_book.proofs.Serving.{IsPassed, first-next, none-next, wanted-fits, may-is}
 use Rattle.flow_book.proofs.Steps.{all-item}
 use Rattle.flow_book.proofs.queue.first_in_turn.Goals as goal
-use Rattle.flow_book.proofs.queue.first_in_turn.Goals.{else-wanted-fits-via-else-wanted-fits}
-use Rattle.flow_book.proofs.queue.first_in_turn.Goals.{else-wanted-fits-via-then-wanted-fits+else-may_take}
+use Rattle.flow_book.proofs.queue.first_in_turn.Goals.{else-wanted-room-via-else-wanted-room}
+use Rattle.flow_book.proofs.queue.first_in_turn.Goals.{else-wanted-room-via-then-wanted-room+else-may_take}
 
 -- the one at a place of the queue, and that its own place is one of the flows'
 abbrev nobody : Waiting
@@ -83,13 +83,13 @@ returns-then-may_take-clause-next c =
     slice_get_read items (length items) w.place f refl (within items queue i c.requires.queue lt) at in
     let split : queue ≡ take i queue ++ w ∷ drop (i + 1) queue =
     sym (take-append-drop i queue) ∙ ap (λ ws. take i queue ++ ws) (drop_more queue i nobody lt) in
-    let able = may-is channel c.args.start c.args.room f w.wants c.min-wanted.result c.may_take.result
+    let able = may-is channel c.args.start c.args.room.slots f w.wants c.min-wanted.result c.may_take.result
     c.quantum.ensures.lawful (keeps channel items queue c.args.start i f c.requires.book c.requires.queue lt at)
     (started channel items queue c.args.start i f c.requires.book c.requires.queue lt at c.requires.started)
     (waits channel items queue c.args.start i f c.requires.book c.requires.queue lt at found)
     (omega arith) (omega arith) c.may_take.ensures in
     let next =
-    first-next channel c.args.start c.args.room items c.requires.book (take i queue) w (drop (i + 1) queue) f
+    first-next channel c.args.start c.args.room.slots items c.requires.book (take i queue) w (drop (i + 1) queue) f
     found (subst (IsQueue items) split c.requires.queue) c.loop-index.invariant (able.0 c.if-may_take.true) in
     rw (slice_get-map live items w.place, found) next
 
@@ -101,29 +101,29 @@ loop-index-preserved c =
     let i = c.loop-index.index in
     let w = get_or queue i nobody in
     let lt = c.loop-index-test.true in
-    let P = IsPassed channel c.args.start c.args.room items in
-    let passed : P w = λ g at' may. elim c.else-wanted-fits.branch [
-      | else-wanted-fits-via-then-wanted-fits+else-may_take v ↦ (
+    let P = IsPassed channel c.args.start c.args.room.slots items in
+    let passed : P w = λ g at' may. elim c.else-wanted-room.branch [
+      | else-wanted-room-via-then-wanted-room+else-may_take v ↦ (
           let f = v.index-flows-waiting.result in
           let at = v.index-flows-waiting.is in
           let found : slice_get items w.place ≡ Some f =
           slice_get_read items (length items) w.place f refl (within items queue i c.requires.queue lt) at in
           let e : Some g ≡ Some f = sym at' ∙ found in
           let equal : g ≡ f = cc in
-          let able = may-is channel c.args.start c.args.room f w.wants c.min-wanted.result v.may_take.result
+          let able = may-is channel c.args.start c.args.room.slots f w.wants c.min-wanted.result v.may_take.result
           c.quantum.ensures.lawful (keeps channel items queue c.args.start i f c.requires.book c.requires.queue lt at)
           (started channel items queue c.args.start i f c.requires.book c.requires.queue lt at c.requires.started)
           (waits channel items queue c.args.start i f c.requires.book c.requires.queue lt at found)
           (omega arith) (omega arith) v.may_take.ensures in
           let t : v.may_take.result ≡ true =
-          able.1 (subst (λ h. IsEligible channel c.args.start c.args.room (live h)) equal may) in
+          able.1 (subst (λ h. IsEligible channel c.args.start c.args.room.slots (live h)) equal may) in
           let no' : v.may_take.result ≡ false = v.if-may_take.false in
           absurd (cc))
-      | else-wanted-fits-via-else-wanted-fits v ↦ (
+      | else-wanted-room-via-else-wanted-room v ↦ (
           let stands = All-from_recursion (IsAt items) queue c.requires.queue.each i nobody lt in
           let wants : outstanding (live g) ≡ w.wants = wants-at items w g stands at' in
-          let fits = wanted-fits channel c.args.start c.args.room (live g) c.quantum.ensures.lawful may in
-          absurd (omega (arith, fits, wants, v.if-wanted-fits.false)))
+          let fits = wanted-fits channel c.args.start c.args.room.slots (live g) c.quantum.ensures.lawful may in
+          absurd (omega (arith, fits, wants, v.if-wanted-room.false)))
     ] in
     subst (AllByRecursion P) (sym (take_more queue i nobody lt))
     (all-push P (take i queue) w c.loop-index.invariant passed)
@@ -131,8 +131,8 @@ loop-index-preserved c =
 pub returns-clause-next : goal.returns-clause-next
 returns-clause-next c =
     let queue = c.args.queue.now in
-    let P = IsPassed c.args.config.now c.args.start c.args.room c.args.flows.now in
+    let P = IsPassed c.args.config.now c.args.start c.args.room.slots c.args.flows.now in
     let all : take c.loop-index.index queue ≡ queue = take_all _ _
     (omega (arith, c.loop-index-test.false)) in
-    none-next c.args.config.now c.args.start c.args.room c.args.flows.now c.requires.book queue c.requires.queue
+    none-next c.args.config.now c.args.start c.args.room.slots c.args.flows.now c.requires.book queue c.requires.queue
     (subst (AllByRecursion P) all c.loop-index.invariant)

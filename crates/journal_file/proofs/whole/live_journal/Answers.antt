@@ -1,7 +1,7 @@
 -- A conversation is held in a file without a line, or continues behind the journal that was found.
 use Rattle.std.proofs.Common.{◌≡◌, refl, ap, ◌∙◌, inl, inr}
 use Rattle.std.proofs.lemmas.Result.{err_from_is_err_and}
-use Rattle.line_stream.specs.Told.{AtHand, untold}
+use Rattle.text_stream.specs.Told.{AtHand, untold}
 use Rattle.journal_file.specs.Journal.{view_of, store_of}
 use Rattle.journal_file.proofs.Held.{none_at_hand, went_on, is_none, resumed_at, may_none, may_resumed}
 use Rattle.journal_file.proofs.Held.{refuses_none, refuses_resumed, ends_map, going_map}

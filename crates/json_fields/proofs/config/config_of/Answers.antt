@@ -7,6 +7,6 @@ use Rattle.json_fields.proofs.config.config_of.Goals as goal
 pub returns : goal.returns
 unfolding config_of
 returns g c = sym (
-    then _ c.in_ok-ticks.ensures (then _ c.in_ok-req_slots.ensures (then _ c.in_ok-receivers.ensures (
-    then _ c.in_ok-ranging_start.ensures (then _ c.in_ok-data_start.ensures (
-    then _ c.in_ok-phy.ensures refl))))))
+    then _ c.in_ok-ticks.ensures (then _ c.in_ok-bursts.ensures (then _ c.in_ok-req_slots.ensures (
+    then _ c.in_ok-receivers.ensures (then _ c.in_ok-ranging_start.ensures (then _ c.in_ok-data_start.ensures (
+    then _ c.in_ok-phy.ensures refl)))))))

@@ -1,7 +1,7 @@
 -- A long line has its fault.
 use Rattle.std.proofs.Common.{◌<◌, length, refl, subst}
-use Rattle.line_stream.specs.declared.TheConstants.{MAX_LINE}
-use Rattle.line_stream.specs.Told.{IsTold}
+use Rattle.text_stream.specs.declared.TheConstants.{MAX_LINE}
+use Rattle.text_stream.specs.Told.{IsTold}
 use Rattle.live_command.proofs.Saying.{call_of_long, spoken_long}
 use Rattle.live_command.proofs.answer.hear.Goals as goal
 

@@ -2,7 +2,7 @@
 use Rattle.std.proofs.Common.{◌≡◌, ℕ, List, [], Option, Ok, refl, ap, subst, ◌∙◌, inl, inr}
 use Rattle.std.proofs.lemmas.Result.{err_from_is_err_and}
 use Rattle.sched_history.specs.Machine.{Machine}
-use Rattle.line_stream.specs.Told.{AtHand, untold}
+use Rattle.text_stream.specs.Told.{AtHand, untold}
 use Rattle.live_command.specs.Held.{start_new}
 use Rattle.live_command.specs.Opening.{Opens, StopsOpening}
 use Rattle.live_command.proofs.Turning.{Talk-start, all_ok, all_err}

@@ -1,6 +1,6 @@
 -- A conversation begins with no line told.
 use Rattle.std.proofs.Common.{refl}
-use Rattle.line_stream.specs.Told.{untold}
+use Rattle.text_stream.specs.Told.{untold}
 use Rattle.live_command.specs.Talk.{start_at}
 use Rattle.live_command.proofs.Turning.{Talk-start, all_ok, all_err, on_ok, on_err-first, on_err-second}
 use Rattle.live_command.proofs.talk.converse.Goals as goal

@@ -1,6 +1,6 @@
 -- So many turns were taken, and no call has failed.
 use Rattle.std.proofs.Common.{◌≡◌}
-use Rattle.line_stream.specs.Told.{untold}
+use Rattle.text_stream.specs.Told.{untold}
 use Rattle.live_command.specs.Talk.{Start, Talk}
 use Rattle.live_command.proofs.talk.talk_on.Given as goal
 

@@ -1,6 +1,6 @@
 -- The next line is at hand, or all that waits is settled and it is read.
 use Rattle.std.proofs.lemmas.Result.{err_from_is_err_and}
-use Rattle.line_stream.proofs.Reading.{TellsWhole-at_hand, TellsNext-whole}
+use Rattle.text_stream.proofs.Reading.{TellsWhole-at_hand, TellsNext-whole}
 use Rattle.live_command.proofs.Talking.{Stopped-quiet}
 use Rattle.live_command.proofs.Turning.{TellsOn-next, next_or_end, stops_reading, stops_anywhere}
 use Rattle.live_command.proofs.turn.next_line.Goals as goal

@@ -35,7 +35,7 @@ returns-clause-only c = λ n lawful.
     let config = c.args.book.now.config in
     let demand = demand_at c.args.book.now.flows c.args.spots.now c.args.waiting.now c.args.start in
     let has = c.in_ok-draft.ensures c.args.spots.now c.args.waiting.now c.requires.placed in
-    one_map config demand (bounds_of config (rw has.config at has.ready.lawful)).overhead_positive
+    one_map config demand (bounds_of config (rw has.config at has.ready.lawful)).bursts
     (apart-in-frame config c.args.spots.now c.requires.placed) c.args.header c.args.ack n c.into_map-map.result.0 lawful
     (lawful-from_frame config demand c.args.header c.args.ack _ (returns-clause-lawful c))
 

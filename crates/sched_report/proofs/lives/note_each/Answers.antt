@@ -39,10 +39,3 @@ returns-in-Built-clause-live c =
     (λ (spec : FlowSpec) (sid : ℕ). unsolicited_of_map spec sid c.in-Built.map) c.args.lives.now c.note_map.new.lives
     c.note_map.auto.lives c.note_map.ensures
     c.args.places.now c.requires.live
-
-pub note_named-requires-clause-may : goal.note_named-requires-clause-may
-note_named-requires-clause-may c =
-    (c.args.config.now, c.requires.may.0, c.requires.may.1, c.requires.may.2)
-
-pub returns-in_default-clause-lives : goal.returns-in_default-clause-lives
-returns-in_default-clause-lives c = λ ls are may. c.note_named.ensures.lives c.args.config.now ls are may

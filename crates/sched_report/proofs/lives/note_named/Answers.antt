@@ -13,7 +13,8 @@ use Rattle.sched_report.proofs.lives.note_named.Goals as goal
 
 -- where it names none
 pub returns-in_default-clause-lives : goal.returns-in_default-clause-lives
-returns-in_default-clause-lives c = λ k ls are may.
+returns-in_default-clause-lives c = λ ls are may.
+    let k = c.args.config.now in
     AreLives-map k c.args.lives.now c.args.lives.now ls c.args.next c.args.entry.now are may refl
     (λ i t life below is may. goes_on-silent k (get_or c.args.lives.now i t) life c.args.next c.args.entry.now
     (sym c.named_by.ensures ∙ none_of _ c.in_default.not-Some) c.requires.unbuilt is may)
@@ -23,14 +24,14 @@ note-requires-clause-may c =
     let m = c.requires.may in
     let p = c.place_under-place.result in
     let inside : p < length c.args.lives.now = omega (arith, c.if-place-lives.true) in (
-      m.0,
-      get_or m.1 p no_life,
-      m.2.each p c.index-lives-place.result no_life inside,
-      m.3 p no_life (omega (arith, inside, m.2.long)),
+      get_or m.0 p no_life,
+      m.1.each p c.index-lives-place.result no_life inside,
+      m.2 p no_life (omega (arith, inside, m.1.long)),
     )
 
 pub returns-then-place-lives-clause-lives : goal.returns-then-place-lives-clause-lives
-returns-then-place-lives-clause-lives c = λ k ls are may.
+returns-then-place-lives-clause-lives c = λ ls are may.
+    let k = c.args.config.now in
     let ts = c.args.lives.now in
     let e = c.args.entry.now in
     let p = c.place_under-place.result in
@@ -44,7 +45,7 @@ returns-then-place-lives-clause-lives c = λ k ls are may.
           let same : get_or ts i t ≡ get_or ts p c.index-lives-place.result =
           ap (λ i. get_or ts i t) at ∙ get_or_default ts p t c.index-lives-place.result inside in
           subst (λ (u : LifeTally). IsLifeOf k u (with_entry e life)) (sym here)
-          (c.note.ensures.life k life (subst (λ (u : LifeTally). IsLifeOf k u life) same is) may_note)
+          (c.note.ensures.life life (subst (λ (u : LifeTally). IsLifeOf k u life) same is) may_note)
       | inr apart ↦
           subst (λ (u : LifeTally). IsLifeOf k u (with_entry e life)) (sym (get_or-set_other ts p i new t apart))
           (goes_on-apart c.args.places.now ts c.requires.live i t below k c.in-Some.sid life c.args.next e
@@ -52,7 +53,8 @@ returns-then-place-lives-clause-lives c = λ k ls are may.
     ])
 
 pub returns-else-place-lives-clause-lives : goal.returns-else-place-lives-clause-lives
-returns-else-place-lives-clause-lives c = λ k ls are may.
+returns-else-place-lives-clause-lives c = λ ls are may.
+    let k = c.args.config.now in
     let ts = c.args.lives.now in
     AreLives-map k ts ts ls c.args.next c.args.entry.now are may refl (λ i t life below is may_note.
     goes_on-apart c.args.places.now ts c.requires.live i t below k c.in-Some.sid life c.args.next c.args.entry.now

@@ -19,7 +19,7 @@ returns-then-wanted-eq0 c =
     let limits : c.min-wanted.result ≡ min (outstanding f) channel.quantum = omega arith in (
       (λ no'. absurd cc),
       (λ may.
-          let fits = fits_bytes channel bounds.bytes_positive (min (outstanding f) channel.quantum) c.args.room
+          let fits = fits_bytes channel bounds.bursts (min (outstanding f) channel.quantum) c.args.room
           may.takes.fits in
           let waits = may.waits in
           elim c.then-wanted-eq0.branch [
@@ -37,7 +37,7 @@ returns c =
     let channel = c.args.config.now in
     let limits : c.min-wanted.result ≡ min (outstanding f) channel.quantum = omega arith in
     let some : 0 < c.min-wanted.result = omega arith in
-    let carries = (bounds_of _ c.quantum.ensures.lawful).bytes_positive in
+    let carries = (bounds_of _ c.quantum.ensures.lawful).bursts in
     let fits : slots_for channel c.min-wanted.result ≤ c.args.room =
     fits_slots channel carries c.min-wanted.result c.args.room some (omega arith) in
     let most = most_of c.args.self.now.bucket c.args.start c.min-wanted.result in

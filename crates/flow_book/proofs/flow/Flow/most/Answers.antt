@@ -9,5 +9,5 @@ most-requires c = c.requires.sums.bucket.since c.args.start c.requires.started
 pub returns-clause-most : goal.returns-clause-most
 returns-clause-most c =
     most-in-bucket c.args.config.now (live c.args.self.now) c.args.self.now.bucket c.args.start c.args.room
-    c.limit-limit.result c.most.result c.limit-limit.ensures.lawful c.limit-limit.ensures.value
+    c.limit-limit.result c.most.result c.limit-limit.ensures.lawful (rw c.bytes_in.ensures.value at c.limit-limit.ensures.value)
     c.requires.sums.bucket c.requires.started c.most.ensures

@@ -13,20 +13,20 @@ take_most-bytes-requires c = c.requires.sums.bucket.since c.args.start c.require
 pub note-requires-clause-asked : goal.note-requires-clause-asked
 note-requires-clause-asked c =
     let f = live c.args.self.now in
-    let most = most-in-bucket c.args.config.now f c.args.self.now.bucket c.args.start c.args.room c.limit-limit.result
-    c.take_most-bytes.result c.limit-limit.ensures.lawful c.limit-limit.ensures.value c.requires.sums.bucket
+    let most = most-in-bucket c.args.config.now f c.args.self.now.bucket c.args.start c.args.room.slots c.limit-limit.result
+    c.take_most-bytes.result c.limit-limit.ensures.lawful (rw c.requires.room at c.limit-limit.ensures.value) c.requires.sums.bucket
     c.requires.started c.take_most-bytes.ensures.most in
-    let amount = amount-of_most c.args.config.now c.limit-limit.ensures.lawful c.args.start c.args.room f
+    let amount = amount-of_most c.args.config.now c.limit-limit.ensures.lawful c.args.start c.args.room.slots f
     c.take_most-bytes.result c.requires.may most in
     omega (arith, amount.allowed.asked, c.requires.sound.within, c.requires.sums.granted)
 
 pub returns-clause-amount : goal.returns-clause-amount
 returns-clause-amount c =
     let f = live c.args.self.now in
-    let most = most-in-bucket c.args.config.now f c.args.self.now.bucket c.args.start c.args.room c.limit-limit.result
-    c.take_most-bytes.result c.limit-limit.ensures.lawful c.limit-limit.ensures.value c.requires.sums.bucket
+    let most = most-in-bucket c.args.config.now f c.args.self.now.bucket c.args.start c.args.room.slots c.limit-limit.result
+    c.take_most-bytes.result c.limit-limit.ensures.lawful (rw c.requires.room at c.limit-limit.ensures.value) c.requires.sums.bucket
     c.requires.started c.take_most-bytes.ensures.most in
-    amount-of_most c.args.config.now c.limit-limit.ensures.lawful c.args.start c.args.room f c.take_most-bytes.result
+    amount-of_most c.args.config.now c.limit-limit.ensures.lawful c.args.start c.args.room.slots f c.take_most-bytes.result
     c.requires.may most
 
 pub returns-clause-within : goal.returns-clause-within
@@ -34,7 +34,7 @@ returns-clause-within c =
     let f = live c.args.self.now in
     let amount = returns-clause-amount c in
     subst (λ (g : LiveFlow). granted g ≤ g.asked) (sym c.note.ensures.live)
-    (granted-sound c.args.config.now c.args.start c.take_most-bytes.result c.args.room f c.requires.sound
+    (granted-sound c.args.config.now c.args.start c.take_most-bytes.result c.args.room.slots f c.requires.sound
     amount.allowed).within
 
 pub returns-clause-sums : goal.returns-clause-sums

@@ -1,12 +1,11 @@
--- The members between their braces.
+-- Bursts are of one kind or the other.
 use Rattle.history_writing.specs.HistoryText.{config_data}
-use Rattle.text_stream.proofs.Written.{where_ok}
-use Rattle.history_writing.proofs.JsonTokens.{wrapped}
 use Rattle.history_writing.proofs.history.config.put_config.Goals as goal
 
-pub returns-clause-ok : goal.returns-clause-ok
+pub returns-in-Uniform-clause-ok : goal.returns-in-Uniform-clause-ok
 unfolding config_data
-returns-clause-ok c =
-    where_ok c.end_object.result
-    (λ ended. wrapped _ _ _ _ _ c.in_ok-begin_object.ensures.ok c.in_ok-put_counts.ensures.ok ended)
-    c.end_object.ensures.ok
+returns-in-Uniform-clause-ok c = rw c.in-Uniform.is c.put_uniform.ensures.ok
+
+pub returns-in-Described-clause-ok : goal.returns-in-Described-clause-ok
+unfolding config_data
+returns-in-Described-clause-ok c = rw c.in-Described.is c.put_described.ensures.ok

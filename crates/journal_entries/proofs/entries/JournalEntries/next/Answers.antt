@@ -1,7 +1,7 @@
 -- A line that stands for an entry, one that stands for nothing, an entry that may not follow, and the end.
 use Rattle.std.proofs.Common.{◌+◌, length, ap, sym, subst, ◌∙◌, refl}
 use Rattle.sched_history.specs.Machine.{Past}
-use Rattle.line_stream.specs.Told.{untold}
+use Rattle.text_stream.specs.Told.{untold}
 use Rattle.journal_entries.specs.Journal.{FindsNoEntryIn, StandSoFar}
 use Rattle.journal_entries.proofs.Lines.{FindsLegal-torn, FindsNoEntry-long, StandSoFar-entry, FindsIllegal-entry}
 use Rattle.journal_entries.proofs.Lines.{FindsNoEntry-none, StopsJournal-taking, StopsJournal-line}

@@ -41,7 +41,7 @@ returns-in-Some-serve c =
     let unmet = c.in_default-meet.ensures in
     Chooses-grant c.args.spots.now c.args.waiting.now (c.next_stop.result - d.offset) d (ap (λ n. n - d.offset) stop)
     (omega (arith, stop, behind)) c.requires.waiting c.requires.ready.marks c.in-Some-serve.grant c.serve.new.self
-    unmet.1 (bounds_of _ c.requires.ready.lawful).overhead_positive (rw unmet.0 at c.in-Some-serve.ensures)
+    unmet.1 (bounds_of _ c.requires.ready.lawful).bursts (rw unmet.0 at c.in-Some-serve.ensures)
 
 pub returns : goal.returns
 returns c =

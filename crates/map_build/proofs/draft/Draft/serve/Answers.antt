@@ -15,7 +15,7 @@ returns c =
     (flow_of served.sid d.book.flows) (rw (start, c.from.ensures) at c.in_ok-served.ensures.next)
     (rw (start, c.from.ensures) at c.in_ok-served.ensures.amount) in
     let slots : c.slots_for.result ≡ slots_for d.book.config served.bytes =
-    c.slots_for.ensures ∙ ap (λ k. slots_for k served.bytes) (c.config.ensures.value ∙ c.in_ok-served.ensures.config) in
+    c.slots_for.ensures.value ∙ ap (λ k. slots_for k served.bytes) (c.config.ensures.value ∙ c.in_ok-served.ensures.config) in
     Serves-known c.args.waiting.now c.args.room served.sid served.bytes c.slots_for.result d _
     (omega (arith, c.if-self-waiting.false, c.requires.few)) next slots
     (Knows-grant served.sid served.bytes d _ c.in_ok-served.ensures.config

@@ -1,6 +1,11 @@
--- The bytes behind the overhead.
-use Rattle.std.proofs.Common.{rules}
+-- So many bytes, and no more, are carried.
+use Rattle.std.proofs.Common.{◌≡◌}
+use Rattle.minislots.specs.Units.{bytes_in}
+use Rattle.minislots.proofs.Bounds.{bounds_of}
+use Rattle.minislots.proofs.UnitLaws.{carries}
 use Rattle.minislots.proofs.config.Checked.bytes_in.Goals as goal
 
-pub returns : goal.returns
-returns c = search rules
+pub returns-clause-exact : goal.returns-clause-exact
+returns-clause-exact c =
+    let is : c.bytes.result ≡ bytes_in c.args.self.now c.args.slots = cc in
+    carries c.args.self.now (bounds_of c.args.self.now c.as_bursts.ensures.lawful).bursts _ _ is

@@ -18,7 +18,7 @@ invariant_of-self c =
     (subst (λ m. is_full m ≡ false) was c.requires.room)
     (subst (λ m. IsStep m.config m.history c.args.call reply) was c.requires.step) tt
     (IsStateAfter-quiet a.state a.ledger c.self.invariant.is_after c.args.stamp c.args.call reply
-    (IsQuiet-refused c.args.call c.args.refusal))
+    (IsQuiet-refused a.state.config c.args.call c.args.refusal))
 
 pub note-requires-clause-few : goal.note-requires-clause-few
 note-requires-clause-few c = room-ledger c.self.inside c.args.self.now c.self.view_is c.requires.room

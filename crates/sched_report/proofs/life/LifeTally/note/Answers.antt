@@ -9,10 +9,10 @@ use Rattle.sched_report.proofs.life.LifeTally.note.Goals as goal
 
 pub ask-requires-clause-may : goal.ask-requires-clause-may
 ask-requires-clause-may c =
-    let k = c.requires.may.0 in
-    let life = c.requires.may.1 in
-    let is = c.requires.may.2 in
-    let may = c.requires.may.3 in
+    let k = c.args.config.now in
+    let life = c.requires.may.0 in
+    let is = c.requires.may.1 in
+    let may = c.requires.may.2 in
     let e = c.args.entry.now in
     let alive : life.ended ≡ false =
     not_ended life.ended (next_after k (life.upto ++ life.since)) c.args.self.now.to is.to
@@ -29,7 +29,8 @@ ask-requires-clause-room c =
     (sym c.request_of.ensures ∙ c.in-Some.is)
 
 pub returns-in-Some-clause-life : goal.returns-in-Some-clause-life
-returns-in-Some-clause-life c = λ k life is may.
+returns-in-Some-clause-life c = λ life is may.
+    let k = c.args.config.now in
     let e = c.args.entry.now in
     let alive : life.ended ≡ false =
     not_ended life.ended (next_after k (life.upto ++ life.since)) c.args.self.now.to is.to
@@ -40,10 +41,11 @@ returns-in-Some-clause-life c = λ k life is may.
     ap (λ s. request_by s e.call e.reply) (sym is.sid) ∙ sym c.request_of.ensures ∙ c.in-Some.is in
     goes_on-asked k c.args.self.now life c.args.next e is may alive stays _ refl refl refl refl refl
     c.in-Some.request asks
-    (c.ask.ensures k (requests_in life.sid life.since) (grants_since life.sid life.since) is.service)
+    (c.ask.ensures (requests_in life.sid life.since) (grants_since life.sid life.since) is.service)
 
 pub returns-in_default-clause-life : goal.returns-in_default-clause-life
-returns-in_default-clause-life c = λ k life is may.
+returns-in_default-clause-life c = λ life is may.
+    let k = c.args.config.now in
     let e = c.args.entry.now in
     let alive : life.ended ≡ false =
     not_ended life.ended (next_after k (life.upto ++ life.since)) c.args.self.now.to is.to

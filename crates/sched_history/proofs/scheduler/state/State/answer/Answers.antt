@@ -1,5 +1,6 @@
 -- A request is counted, and each other call has its own answer.
-use Rattle.std.proofs.Common.{refl, arith}
+use Rattle.std.proofs.Common.{ℕ, refl, ap, ◌∙◌, arith}
+use Rattle.flow_book.specs.Book.{changed, with_asked}
 use Rattle.sched_history.proofs.steps.Passed.{passed-ask}
 use Rattle.sched_history.proofs.state.Present.{IsLive-after, asked-fits}
 use Rattle.sched_history.proofs.rows.Limits.{most_history}
@@ -12,16 +13,16 @@ ask-requires-clause-live c =
     let h = c.requires.0 in
     let opens = rw c.in-Ask.is at c.requires.1 in
     IsLive-after s h c.in-Ask.sid opens.is_after
-    (passed-ask s.config h c.in-Ask.receiver c.in-Ask.sid c.in-Ask.bytes c.in-Ask.heard opens.unrefused).known
+    (passed-ask s.config h c.in-Ask.receiver c.in-Ask.sid c.in-Ask.amount c.in-Ask.heard opens.unrefused).known
 
 pub ask-requires-clause-fits : goal.ask-requires-clause-fits
 ask-requires-clause-fits c =
     let s = c.args.self.now in
     let h = c.requires.0 in
     let opens = rw c.in-Ask.is at c.requires.1 in
-    let asks = passed-ask s.config h c.in-Ask.receiver c.in-Ask.sid c.in-Ask.bytes c.in-Ask.heard opens.unrefused in
-    asked-fits s h c.in-Ask.sid c.in-Ask.bytes (omega (arith, asks.most)) (omega (arith, opens.short, most_history))
-    opens.bounded.asked
+    let asks = passed-ask s.config h c.in-Ask.receiver c.in-Ask.sid c.in-Ask.amount c.in-Ask.heard opens.unrefused in
+    asked-fits s h c.in-Ask.sid c.bytes-bytes.result (omega (arith, asks.most, c.bytes-bytes.ensures))
+    (omega (arith, opens.short, most_history)) opens.bounded.asked
 
 pub returns-in-Ask-clause-answered : goal.returns-in-Ask-clause-answered
 returns-in-Ask-clause-answered c = λ h opens.
@@ -32,6 +33,10 @@ returns-in-Ask-clause-answered c = λ h opens.
       config = refl;
       answers = refl;
       encodable = tt;
-      is_after = λ stamp. IsStateAfter-asked s h opens.is_after stamp ask.receiver ask.sid ask.bytes ask.heard
-          c.ask.new.self c.ask.ensures;
+      is_after = λ stamp. IsStateAfter-asked s h opens.is_after stamp ask.receiver ask.sid ask.amount ask.heard
+          c.ask.new.self (c.ask.ensures
+          ∙ ap (λ (n : ℕ). record s.book {
+            flows = changed ask.sid
+                (with_asked n) s.book.flows;
+          }) c.bytes-bytes.ensures);
     })

@@ -65,5 +65,5 @@ returns-in-Err-NoPlace-clause-follows c = λ is h opens.
           (inr (no_placement-after s h c.args.spec opens.is_after none, refl));
       encodable = tt;
       is_after = λ stamp. IsStateAfter-quiet s h opens.is_after stamp (calls.Admit c.args.sid c.args.spec)
-          (replies.Refused NoPlace) (IsQuiet-refused (calls.Admit c.args.sid c.args.spec) NoPlace);
+          (replies.Refused NoPlace) (IsQuiet-refused s.config (calls.Admit c.args.sid c.args.spec) NoPlace);
     })

@@ -1,0 +1,3 @@
+mod Profiles
+mod Channels
+mod Ranges

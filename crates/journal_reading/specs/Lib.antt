@@ -1,2 +1,0 @@
-pub use Rattle.journal_entries.specs.Standing
-pub mod Judging
