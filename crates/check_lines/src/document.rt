@@ -98,7 +98,7 @@ fn told(found: Option<TextFault>) -> Option<RunFault>
 /// fault by which `run`, `storm` or `audit` ends on the same bytes before it does anything, or none. Writes that fault
 /// in one line, as those commands tell it, or that the file is good, and words on it behind: where the fault is and
 /// what was expected, or what the file has. Whether a history is legal and whether calls are refused is not looked at.
-pub fn run_check<R: Source, W: Sink>(
+pub(crate) fn run_check<R: Source, W: Sink>(
     alloc: Global,
     reader: &mut R,
     writer: &mut W,

@@ -21,7 +21,6 @@ mod verdict;
 mod words;
 
 pub use check::run_check_any;
-pub use document::run_check;
 pub use front::Front;
 pub use input::check_any_input;
 pub use told_input::{

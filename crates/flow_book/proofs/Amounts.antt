@@ -87,6 +87,11 @@ most-in-bucket c f b start room limit most lawful limits stands started is =
     most-is c f start room limit most (bounds_of c lawful).bursts limits
     (bucket-within c f b start room limit most stands started is)
 
+-- the cap is the same before and after it is asked what fits
+pub capped-once : (limit asked cap room left : ℕ) → room ≡ min left cap → limit ≡ min (min asked cap) room
+    → limit ≡ min (min asked cap) left
+capped-once limit asked cap room left is limits = omega arith
+
 module _ (c : Config) (lawful : IsLawful c) (start room : ℕ) where
   -- an eligible flow may be granted some bytes
   some_may : (f : LiveFlow) → IsEligible c start room f → MayGrant c f start room (min (outstanding f) c.quantum)

@@ -1,8 +1,10 @@
 -- What the fields of a flow stand for, and what is true of every book.
-use Rattle.std.specs.Prelude.{◌≡◌, ℕ, ◌+◌, ◌-◌, ◌*◌, ◌^◌, ◌<◌, ◌≤◌, List, map, Option, None, Some}
+use Rattle.std.specs.Prelude.{◌≡◌, ℕ, ◌+◌, ◌-◌, ◌*◌, ◌^◌, ◌<◌, ◌≤◌, List, map, Option, None, Some, min}
 use Rattle.std.specs.List.{AllByRecursion}
 use Rattle.minislots.specs.declared.config.Config.{Config}
+use Rattle.minislots.specs.Units.{bytes_in}
 use Rattle.flow_book.specs.declared.flow.Flow.{Flow}
+use Rattle.flow_book.specs.declared.flow.Room as the_room
 use Rattle.sched_calls.specs.FlowSpec.{rank_of, rate_of, burst_of}
 use Rattle.flow_book.specs.Flows.{LiveFlow, bytes_of, granted}
 use Rattle.flow_book.specs.Ceiling.{KeepsCeiling}
@@ -17,6 +19,10 @@ live f = record { sid = f.sid; spec = f.spec; asked = f.asked; grants = f.grants
 -- its room
 abbrev pub room_in : Flow → Room
 room_in f = record { sid = f.sid; grants = f.grants.room }
+
+-- the most bytes that the grant cap leaves to a data grant in the minislots before what comes next
+abbrev pub IsRoom : Config → the_room.Room → Type 0
+IsRoom c room = room.bytes ≡ min (bytes_in c room.slots) c.grant_cap
 
 -- A number by which flows are served: the least first, and no two the same. It stands for the flow's rank, where its
 -- last grant starts, and its SID. Flows of higher ranks come before all others, in a rank the start of the last grant

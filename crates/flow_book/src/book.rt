@@ -3,11 +3,11 @@
 ghost use Rattle.std.specs.Prelude.{◌≡◌, ◌≢◌, ℕ, ◌+◌, ◌<◌, ◌≤◌, ◌^◌, ◌==◌, [], length, IfOk, OnOk, OnErr, IfSome};
 ghost use Rattle.std.specs.Prelude.{IsSomeAnd, MatchOption, map, option_map, slice_get, nat_lt, position, true, Some};
 ghost use Rattle.std.specs.List.{AllByRecursion};
-ghost use Rattle.minislots.specs.Units.{slots_for, bytes_in};
+ghost use Rattle.minislots.specs.Units.{slots_for};
 ghost use Rattle.flow_book.specs.Flows.{flow_of, outstanding, with_grant};
 ghost use Rattle.flow_book.specs.Choice.{MayGrant, IsMost, IsAmount, IsNext, IsNextSid, NoneEligible};
 ghost use Rattle.flow_book.specs.Choice.{HasStartedBy};
-ghost use Rattle.flow_book.specs.Entry.{live, IsSoundFlow, IsBook, KeepsSums};
+ghost use Rattle.flow_book.specs.Entry.{live, IsSoundFlow, IsBook, IsRoom, KeepsSums};
 ghost use Rattle.flow_book.specs.Queue.{IsQueue, Stands};
 ghost use Rattle.flow_book.specs.Book.{IsLive, Ascend, KeepsRoom, room_of, new_flow, with_flow, without, changed};
 ghost use Rattle.flow_book.specs.Book.{with_asked};
@@ -83,7 +83,7 @@ fn next_place(
 ) -> Option<(usize, usize)>
     requires book { IsBook config.now flows.now }
     requires queue { is_queued ≡ true → IsQueue flows.now queue.now }
-    requires room { room.bytes ≡ bytes_in config.now room.slots }
+    requires room { IsRoom config.now room }
     requires started { AllByRecursion (HasStartedBy start) (map live flows.now) }
     ensures next { MatchOption result (NoneEligible config.now (map live flows.now) start room.slots)
         (λ found. IsSomeAnd (slice_get (map live flows.now) found.0)
@@ -249,7 +249,7 @@ impl Book {
     {
         let queue = &self.queue;
         let flows = &self.flows;
-        let bytes = self.config.bytes_in(room);
+        let bytes = self.config.most_in(room);
         let room = Room { slots: room, bytes };
         match next_place(queue, self.is_queued, flows, &self.config, start, room) {
             Some((place, _)) => Some(self.sid_at(place)),
@@ -316,7 +316,7 @@ impl Book {
     {
         let queue = &self.queue;
         let flows = &self.flows;
-        let bytes = self.config.bytes_in(room);
+        let bytes = self.config.most_in(room);
         let room = Room { slots: room, bytes };
         let (place, index) = next_place(queue, self.is_queued, flows, &self.config, start, room)?;
         let flow = &mut self.flows[place];

@@ -6,7 +6,6 @@ ghost use Rattle.std.specs.Prelude.{option_copied, min, ◌++◌, ◌∷◌, []}
 ghost use Rattle.std.specs.List.{AllByRecursion};
 ghost use Rattle.minislots.specs.declared.config.Config.{Config};
 ghost use Rattle.minislots.specs.Config.{IsLawful};
-ghost use Rattle.minislots.specs.Units.{bytes_in};
 ghost use Rattle.sched_calls.specs.FlowSpec.{rate_of, burst_of};
 ghost use Rattle.flow_book.specs.Flows.{granted, outstanding, with_grant};
 ghost use Rattle.flow_book.specs.Choice.{is_before, IsEligible, IsAmount, IsMost, KeepsWith};
@@ -14,6 +13,7 @@ ghost use Rattle.flow_book.specs.Choice.{IsNextOf, HasStartedBy};
 ghost use Rattle.sched_calls.specs.FlowSpec.{takes_requests};
 ghost use Rattle.flow_book.specs.Bucket.{HaveStartedBy, StandsFor, most_of};
 ghost use Rattle.flow_book.specs.Entry.{live, room_in, IsSoundFlow, IsSoundBook, IsCopy, IsTurn, KnowsTurn, KeepsSums};
+ghost use Rattle.flow_book.specs.Entry.{IsRoom};
 ghost use Rattle.flow_book.specs.Book.{KeepsRoom, new_flow};
 ghost use Rattle.flow_book.specs.declared.flow.Flow.{Flow};
 
@@ -41,7 +41,7 @@ pub struct Served {
     pub bytes: u32,
 }
 
-// The minislots before what comes next, and the most bytes of a data grant in them.
+// The minislots before what comes next, and the most bytes that the grant cap leaves to a data grant in them.
 #[derive(Clone, Copy)]
 pub(crate) struct Room {
     pub(crate) slots: u32,
@@ -196,7 +196,7 @@ impl Flow {
         requires sound { IsSoundFlow config.now (live self.old) }
         requires sums { KeepsSums config.now self.old }
         requires started { HaveStartedBy start self.old.grants.items }
-        requires room { room.bytes ≡ bytes_in config.now room.slots }
+        requires room { IsRoom config.now room }
         requires may { IsEligible config.now start room.slots (live self.old) }
         requires space { 0 < (room_in self.old).grants }
         ensures sid { result.sid ≡ self.old.sid }

@@ -5,11 +5,10 @@ ghost use Rattle.std.specs.Prelude.{ℕ, ◌≡◌, ◌≢◌, ◌<◌, ◌≤�
 ghost use Rattle.std.specs.Prelude.{IsSomeAnd, IfSome, MatchOption, slice_get};
 ghost use Rattle.std.specs.List.{AllByRecursion, position_or_len};
 ghost use Rattle.minislots.specs.declared.config.Config.{Config};
-ghost use Rattle.minislots.specs.Units.{bytes_in};
 ghost use Rattle.flow_book.specs.declared.flow.Flow.{Flow};
 ghost use Rattle.flow_book.specs.Flows.{granted, outstanding};
 ghost use Rattle.flow_book.specs.Choice.{HasStartedBy, IsNext, NoneEligible};
-ghost use Rattle.flow_book.specs.Entry.{live, IsBook};
+ghost use Rattle.flow_book.specs.Entry.{live, IsBook, IsRoom};
 ghost use Rattle.flow_book.specs.Sids.{AscendBy, put_in};
 ghost use Rattle.flow_book.specs.Queue.{IsAt, IsQueue, IsQueueAmong, IsMoved, AreSameBut};
 ghost use Rattle.flow_book.specs.Queue.{Stands, StandsBefore, moved_up, moved_down};
@@ -83,7 +82,7 @@ pub(crate) fn first_in_turn(
 ) -> Option<(usize, usize)>
     requires book { IsBook config.now flows.now }
     requires queue { IsQueue flows.now queue.now }
-    requires room { room.bytes ≡ bytes_in config.now room.slots }
+    requires room { IsRoom config.now room }
     requires started { AllByRecursion (HasStartedBy start) (map live flows.now) }
     ensures next { MatchOption result (NoneEligible config.now (map live flows.now) start room.slots)
         (λ found. IsSomeAnd (slice_get (map live flows.now) found.0)

@@ -1,6 +1,7 @@
 //! The bytes of a MAP.
 
 ghost use Rattle.std.specs.Prelude.{◌≡◌, ◌+◌, ◌≤◌, ◌++◌, length, take, drop};
+ghost use Rattle.std.specs.Int.{w32, to_be_bytes};
 ghost use Rattle.map_codec.specs.Element.{IsInRange, word_of};
 ghost use Rattle.map_codec.specs.WireMap.{header, spelling, IsWellFormed};
 
@@ -13,6 +14,15 @@ fn word(e: &Element) -> u32
     ensures { result ≡ word_of e.now }
 {
     u32::from(e.sid) * (1 << 18) + u32::from(e.iuc) * (1 << 14) + u32::from(e.offset)
+}
+
+// The bytes of a word. Apart, so that they are turned in one step, and not each of them by the fields that the word is
+// made of.
+#[inline(never)]
+fn bytes_of(word: u32) -> [u8; ELEMENT_BYTES]
+    ensures { result ≡ to_be_bytes w32 word }
+{
+    word.to_be_bytes()
 }
 
 // The bytes before the first element.
@@ -62,11 +72,7 @@ pub fn encode(map: &WireMap, out: &mut [u8; MAX_BYTES]) -> usize
 {
     put(out, 0, &fixed_bytes(map));
     for (i, e) in map.elements.as_slice().iter().enumerate() {
-        put(
-            out,
-            HEADER_BYTES + ELEMENT_BYTES * i,
-            &word(e).to_be_bytes(),
-        );
+        put(out, HEADER_BYTES + ELEMENT_BYTES * i, &bytes_of(word(e)));
     }
     HEADER_BYTES + ELEMENT_BYTES * map.elements.len()
 }

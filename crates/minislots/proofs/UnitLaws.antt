@@ -1,5 +1,5 @@
 -- Data grants in minislots and in bytes, where the channel's bursts are lawful.
-use Rattle.std.proofs.Common.{◌≡◌, ℕ, zero, suc, ◌<◌, ◌≤◌, ◌==◌, arith}
+use Rattle.std.proofs.Common.{◌≡◌, ℕ, zero, suc, ◌<◌, ◌≤◌, ◌==◌, min, arith}
 use Rattle.minislots.specs.declared.config.Config.{Config}
 use Rattle.minislots.specs.Bursts.{HasBursts, IsCapacity}
 use Rattle.minislots.specs.Units.{slots_for, bytes_in, slots_for_unsolicited}
@@ -11,6 +11,10 @@ module _ (c : Config) (bursts : HasBursts c.bursts) where
   pub fits_bytes : (n k : ℕ) → slots_for c n ≤ k → n ≤ bytes_in c k
   fits_bytes zero k h = omega arith
   fits_bytes (suc n) k h = (by_bursts c.bursts c.short_max bursts k (suc n) (omega arith)).0 h
+
+  -- minislots that a grant of the grant cap fits carry no fewer bytes
+  pub cap-is-most : (slots : ℕ) → slots_for c c.grant_cap ≤ slots → c.grant_cap ≡ min (bytes_in c slots) c.grant_cap
+  cap-is-most slots fits = omega (arith, fits_bytes c.grant_cap slots fits)
 
   -- a grant of any bytes takes some minislots
   pub slots_for-positive : (n : ℕ) → 0 < n → 0 < slots_for c n

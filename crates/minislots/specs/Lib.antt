@@ -1,4 +1,5 @@
 pub mod Bursts
 pub mod Config
 pub mod Ranges
+pub mod Sizes
 pub mod Units

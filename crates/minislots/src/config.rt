@@ -1,7 +1,9 @@
 //! The configuration of a channel, and the test that it is lawful.
 
-ghost use Rattle.std.specs.Prelude.{◌≡◌, IfOk, OnOk, IfErr};
+ghost use Rattle.std.specs.Prelude.{◌≡◌, ◌<◌, ◌^◌, IfOk, OnOk, IfErr};
+ghost use Rattle.minislots.specs.Bursts.{HasBursts};
 ghost use Rattle.minislots.specs.Config.{first_wrong, IsLawful};
+ghost use Rattle.minislots.specs.Sizes.{grant_sizes};
 
 mod fields;
 mod ranges;
@@ -25,7 +27,7 @@ pub struct Config {
     /// Frames after which the places of periodic flows repeat: 1 to 64.
     pub cycle: u32,
     /// Minislots of the request region at the head of each MAP: at least 1, with room for a burst
-    /// of one minislot behind it.
+    /// of one byte behind it.
     pub req_slots: u32,
     /// Minislots of a poll: at least 1, at most what the request region leaves.
     pub poll_slots: u32,
@@ -92,12 +94,22 @@ impl fmt::Display for ConfigFault {
     }
 }
 
+/// What data grants go by, reckoned once for a configuration.
+#[derive(Clone, Copy, Debug)]
+pub(crate) struct GrantSizes {
+    /// How many numbers of bytes, from 0 on, have bursts that are short enough by the profile of short data grants.
+    pub(crate) short: u64,
+    /// The minislots of a grant of the grant cap: most grants have so many bytes.
+    pub(crate) cap_slots: u64,
+    /// Whether such a grant is a short one.
+    pub(crate) cap_is_short: bool,
+}
+
 /// A configuration in which each field is lawful.
 #[derive(Clone, Copy, Debug)]
 pub struct Checked {
     config: Config,
-    // How many numbers of bytes, from 0 on, have bursts that are short enough by the profile of short data grants.
-    sizes: u64,
+    sizes: GrantSizes,
 }
 
 impl Model for Checked {
@@ -105,18 +117,18 @@ impl Model for Checked {
 
     ghost Value = { Config };
 
-    ghost use Rattle.std.specs.Prelude.{◌≡◌};
+    ghost use Rattle.std.specs.Prelude.{◌≡◌, ◌<◌, ◌^◌};
     ghost use Rattle.std.proofs.Common.{ap, sym};
     ghost use Rattle.minislots.specs.Config.{IsLawful, HasBounds};
-    ghost use Rattle.minislots.specs.Bursts.{short_sizes};
+    ghost use Rattle.minislots.specs.Sizes.{grant_sizes};
 
     ghost view = { λ c. c.config };
 
     // The bounds follow from the first part, and stand here so that each reader knows its own.
     ghost invariant = { λ c. IsLawful c.config × HasBounds c.config
-        × (c.sizes ≡ short_sizes c.config.bursts c.config.short_max) };
+        × (c.sizes ≡ grant_sizes c.config) × (c.sizes.cap_slots < 2 ^ 46) };
 
-    ghost inverse = { λ c. record { config = c; sizes = short_sizes c.bursts c.short_max } };
+    ghost inverse = { λ c. record { config = c; sizes = grant_sizes c } };
 
     ghost inverse_ok = { λ c kept. ap (λ n. record c { sizes = n }) (sym kept.2) };
 }
@@ -133,11 +145,26 @@ impl Config {
         ensures err { IfErr result (λ fault. first_wrong self ≡ Some fault) }
     {
         self.check_fields()?;
-        let sizes = self.bursts.short_sizes(self.short_max);
+        let sizes = self.grant_sizes();
         Ok(Checked {
             config: self,
             sizes,
         })
+    }
+
+    // What data grants go by.
+    fn grant_sizes(&self) -> GrantSizes
+        requires { HasBursts self.now.bursts }
+        ensures value { result ≡ grant_sizes self.now }
+        ensures small { result.cap_slots < 2 ^ 46 }
+    {
+        let short = self.bursts.short_sizes(self.short_max);
+        let cap_slots = self.bursts.slots(short, self.grant_cap);
+        GrantSizes {
+            short,
+            cap_slots,
+            cap_is_short: self.bursts.is_short(short, self.grant_cap, cap_slots),
+        }
     }
 }
 

@@ -1,6 +1,6 @@
 //! Times and bursts in minislots.
 
-ghost use Rattle.std.specs.Prelude.{◌≡◌, ℕ, ◌<◌, ◌≤◌, ◌*◌, ◌^◌};
+ghost use Rattle.std.specs.Prelude.{◌≡◌, ℕ, ◌<◌, ◌≤◌, ◌*◌, ◌^◌, min};
 ghost use Rattle.minislots.specs.Bursts.{IsCapacity};
 ghost use Rattle.minislots.specs.Units.{slots_floor, slots_of_micros, slots_for, bytes_in, wire_of};
 ghost use Rattle.minislots.specs.Units.{is_short, slots_for_unsolicited};
@@ -35,7 +35,10 @@ impl Checked {
         ensures rises { (fewer : ℕ) → fewer ≤ bytes → slots_for self.now fewer ≤ result }
         ensures small { result < 2 ^ 46 }
     {
-        self.as_bursts().slots(self.short_sizes(), bytes)
+        if bytes == self.grant_cap() {
+            return self.sizes().cap_slots;
+        }
+        self.as_bursts().slots(self.sizes().short, bytes)
     }
 
     /// The most bytes of a data grant of at most `slots` minislots, or 0 where there is none.
@@ -45,7 +48,19 @@ impl Checked {
         ensures exact { IsCapacity (slots_for self.now) slots result }
     {
         self.as_bursts()
-            .bytes(self.short_max(), self.short_sizes(), slots)
+            .bytes(self.short_max(), self.sizes().short, slots)
+    }
+
+    /// The most bytes that the grant cap leaves to a data grant of at most `slots` minislots.
+    #[inline(always)]
+    pub fn most_in(&self, slots: u32) -> u64
+        ensures { result ≡ min (bytes_in self.now slots) self.now.grant_cap }
+    {
+        let cap = u64::from(self.grant_cap());
+        if self.sizes().cap_slots <= u64::from(slots) {
+            return cap;
+        }
+        self.bytes_in(slots).min(cap)
     }
 
     /// Whether a data grant of `bytes` bytes, which has `slots` minislots ([`Checked::slots_for`]), is a short one: its
@@ -55,7 +70,10 @@ impl Checked {
         requires { slots ≡ slots_for self.now bytes }
         ensures { result ≡ is_short self.now bytes }
     {
-        self.as_bursts().is_short(self.short_sizes(), bytes, slots)
+        if bytes == self.grant_cap() {
+            return self.sizes().cap_is_short;
+        }
+        self.as_bursts().is_short(self.sizes().short, bytes, slots)
     }
 
     /// The minislots of an unsolicited grant of `bytes` bytes: those of a data grant, or with Advanced PHY bursts those

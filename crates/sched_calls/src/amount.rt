@@ -10,8 +10,8 @@ use minislots::Checked;
 pub enum Amount {
     /// So many bytes, as a queue-depth based request of a DOCSIS 3.0 modem tells them.
     Bytes(u32),
-    /// The most bytes of a data grant of so many minislots, as a modem before DOCSIS 3.0 asks in the minislots of the
-    /// burst that it would send.
+    /// The most bytes of a data grant of so many minislots, as a request frame tells them that asks for the minislots
+    /// of the burst that the modem would send.
     Slots(u32),
 }
 

@@ -2,10 +2,11 @@
 
 ghost use Rattle.std.specs.Prelude.{◌≡◌, ◌<◌, ◌≤◌, ◌+◌, ◌*◌, ◌%◌, ◌^◌};
 ghost use Rattle.minislots.specs.declared.TheConstants.{MAX_ASK};
-ghost use Rattle.minislots.specs.Bursts.{HasBursts, long_slots, short_sizes};
+ghost use Rattle.minislots.specs.Bursts.{HasBursts, long_slots};
 ghost use Rattle.minislots.specs.Config.{IsLawful};
+ghost use Rattle.minislots.specs.Sizes.{grant_sizes};
 
-use super::Checked;
+use super::{Checked, GrantSizes};
 use crate::bursts::Bursts;
 
 impl Checked {
@@ -37,12 +38,13 @@ impl Checked {
         &self.config.bursts
     }
 
-    // How many numbers of bytes have bursts that are short enough by the profile of short data grants.
+    // What data grants go by.
     #[inline(always)]
-    pub(crate) fn short_sizes(&self) -> u64
-        ensures { result ≡ short_sizes self.now.bursts self.now.short_max }
+    pub(crate) fn sizes(&self) -> &GrantSizes
+        ensures value { result.now ≡ grant_sizes self.now }
+        ensures small { result.now.cap_slots < 2 ^ 46 }
     {
-        self.sizes
+        &self.sizes
     }
 
     /// The minislots that one MAP describes.

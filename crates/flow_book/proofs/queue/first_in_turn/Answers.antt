@@ -13,6 +13,7 @@ use Rattle.flow_book.specs.Choice.{HasStartedBy, IsEligible}
 use Rattle.flow_book.specs.Entry.{live, IsBook, KeepsSums}
 use Rattle.flow_book.specs.Bucket.{HaveStartedBy}
 use Rattle.minislots.specs.declared.config.Config.{Config}
+use Rattle.minislots.proofs.Bounds.{bounds_of}
 use Rattle.flow_book.specs.Queue.{IsAt, IsQueue}
 use Rattle.flow_book.proofs.Order.{all-push}
 use Rattle.flow_book.proofs.Queues.{at-within, wants-at}
@@ -87,7 +88,7 @@ returns-then-may_take-clause-next c =
     c.quantum.ensures.lawful (keeps channel items queue c.args.start i f c.requires.book c.requires.queue lt at)
     (started channel items queue c.args.start i f c.requires.book c.requires.queue lt at c.requires.started)
     (waits channel items queue c.args.start i f c.requires.book c.requires.queue lt at found)
-    (omega arith) (omega arith) c.may_take.ensures in
+    (omega arith) (omega (arith, c.requires.room)) c.may_take.ensures in
     let next =
     first-next channel c.args.start c.args.room.slots items c.requires.book (take i queue) w (drop (i + 1) queue) f
     found (subst (IsQueue items) split c.requires.queue) c.loop-index.invariant (able.0 c.if-may_take.true) in
@@ -114,7 +115,7 @@ loop-index-preserved c =
           c.quantum.ensures.lawful (keeps channel items queue c.args.start i f c.requires.book c.requires.queue lt at)
           (started channel items queue c.args.start i f c.requires.book c.requires.queue lt at c.requires.started)
           (waits channel items queue c.args.start i f c.requires.book c.requires.queue lt at found)
-          (omega arith) (omega arith) v.may_take.ensures in
+          (omega arith) (omega (arith, c.requires.room)) v.may_take.ensures in
           let t : v.may_take.result ≡ true =
           able.1 (subst (λ h. IsEligible channel c.args.start c.args.room.slots (live h)) equal may) in
           let no' : v.may_take.result ≡ false = v.if-may_take.false in
@@ -123,7 +124,8 @@ loop-index-preserved c =
           let stands = All-from_recursion (IsAt items) queue c.requires.queue.each i nobody lt in
           let wants : outstanding (live g) ≡ w.wants = wants-at items w g stands at' in
           let fits = wanted-fits channel c.args.start c.args.room.slots (live g) c.quantum.ensures.lawful may in
-          absurd (omega (arith, fits, wants, v.if-wanted-room.false)))
+          let cap = (bounds_of channel c.quantum.ensures.lawful).cap_least in
+          absurd (omega (arith, fits, wants, v.if-wanted-room.false, cap, c.requires.room)))
     ] in
     subst (AllByRecursion P) (sym (take_more queue i nobody lt))
     (all-push P (take i queue) w c.loop-index.invariant passed)

@@ -11,8 +11,8 @@ loop-i-preserved c =
     let es = c.args.map.now.elements in
     let same : length c.as_slice-e-items.result.now ≡ length es = ap length c.as_slice-e-items.ensures in
     let word_at = λ (items : List Element). word_of (get_or items c.loop-i.i no_element) in
-    let piece : c.to_be_bytes.result ≡ bytes_of (get_or es c.loop-i.i no_element) =
-    c.to_be_bytes.ensures ∙ ap (to_be_bytes w32) (c.word.ensures ∙ ap word_at c.as_slice-e-items.ensures) in
+    let piece : c.bytes_of.result ≡ bytes_of (get_or es c.loop-i.i no_element) =
+    c.bytes_of.ensures ∙ ap (to_be_bytes w32) (c.word.ensures ∙ ap word_at c.as_slice-e-items.ensures) in
     let wrote = rw piece at c.put-in-loop-i.ensures in
     written_elements_more c.args.map.now _ _ _ c.loop-i.i no_element (omega arith) c.loop-i.invariant wrote
 

@@ -1,9 +1,10 @@
 -- The most that it may have is its amount: it was asked, and keeps the ceiling.
 use Rattle.std.proofs.Common.{◌≤◌, sym, subst, arith}
+use Rattle.minislots.specs.Units.{bytes_in}
 use Rattle.sched_calls.specs.FlowSpec.{rate_of, burst_of}
-use Rattle.flow_book.specs.Flows.{LiveFlow, granted}
+use Rattle.flow_book.specs.Flows.{LiveFlow, granted, outstanding}
 use Rattle.flow_book.specs.Entry.{live}
-use Rattle.flow_book.proofs.Amounts.{amount-of_most, most-in-bucket}
+use Rattle.flow_book.proofs.Amounts.{amount-of_most, most-in-bucket, capped-once}
 use Rattle.flow_book.proofs.Changes.{granted-sound}
 use Rattle.flow_book.proofs.flow.Flow.serve.Goals as goal
 
@@ -14,7 +15,8 @@ pub note-requires-clause-asked : goal.note-requires-clause-asked
 note-requires-clause-asked c =
     let f = live c.args.self.now in
     let most = most-in-bucket c.args.config.now f c.args.self.now.bucket c.args.start c.args.room.slots c.limit-limit.result
-    c.take_most-bytes.result c.limit-limit.ensures.lawful (rw c.requires.room at c.limit-limit.ensures.value) c.requires.sums.bucket
+    c.take_most-bytes.result c.limit-limit.ensures.lawful (capped-once c.limit-limit.result (outstanding f) c.args.config.now.grant_cap c.args.room.bytes (bytes_in c.args.config.now
+    c.args.room.slots) c.requires.room c.limit-limit.ensures.value) c.requires.sums.bucket
     c.requires.started c.take_most-bytes.ensures.most in
     let amount = amount-of_most c.args.config.now c.limit-limit.ensures.lawful c.args.start c.args.room.slots f
     c.take_most-bytes.result c.requires.may most in
@@ -24,7 +26,8 @@ pub returns-clause-amount : goal.returns-clause-amount
 returns-clause-amount c =
     let f = live c.args.self.now in
     let most = most-in-bucket c.args.config.now f c.args.self.now.bucket c.args.start c.args.room.slots c.limit-limit.result
-    c.take_most-bytes.result c.limit-limit.ensures.lawful (rw c.requires.room at c.limit-limit.ensures.value) c.requires.sums.bucket
+    c.take_most-bytes.result c.limit-limit.ensures.lawful (capped-once c.limit-limit.result (outstanding f) c.args.config.now.grant_cap c.args.room.bytes (bytes_in c.args.config.now
+    c.args.room.slots) c.requires.room c.limit-limit.ensures.value) c.requires.sums.bucket
     c.requires.started c.take_most-bytes.ensures.most in
     amount-of_most c.args.config.now c.limit-limit.ensures.lawful c.args.start c.args.room.slots f c.take_most-bytes.result
     c.requires.may most
