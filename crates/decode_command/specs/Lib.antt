@@ -1,3 +1,5 @@
 pub mod Table
 pub mod ExplainedFault
 pub mod Frame
+pub mod Asked
+pub mod Lines
