@@ -1,3 +1,4 @@
 pub mod RowsStops
 pub mod FrameKinds
 pub mod Addresses
+pub mod Decoding

@@ -179,3 +179,15 @@ said_one number (Some (false, told)) = said_line number told
 abbrev pub Says : {E : Type 0} → (E → Option (List ℕ)) → (E → Bool) → E → E → List ℕ → Type 0
 Says contents has_failed old new text =
     has_failed new ≡ false → (has_failed old ≡ false) × Appends (contents old) (contents new) text
+
+-- whether nothing was shown, behind a line of which this was found
+abbrev pub stays_first : Bool → Option Bool → Bool
+stays_first is_first None = is_first
+stays_first is_first (Some true) = false
+stays_first is_first (Some false) = is_first
+
+-- whether no line was wrong, behind a line of which this was found
+abbrev pub stays_well : Bool → Option Bool → Bool
+stays_well is_well None = is_well
+stays_well is_well (Some true) = is_well
+stays_well is_well (Some false) = false

@@ -1,6 +1,6 @@
 //! What is decoded of a line, and what is told of it.
 
-ghost use Rattle.std.specs.Prelude.{◌≡◌, ◌≤◌, [], List, ℕ, length, IfOk, IfErr, None, Some, false};
+ghost use Rattle.std.specs.Prelude.{◌≡◌, ◌≤◌, [], List, ℕ, length, IfOk, IfErr, Some, true};
 ghost use Rattle.text_stream.specs.declared.TheConstants.{MAX_LINE};
 ghost use Rattle.text_stream.specs.Told.{IsTold};
 ghost use Rattle.text_stream.specs.Writing.{Writes};

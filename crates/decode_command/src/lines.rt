@@ -1,13 +1,27 @@
 //! The lines of an input, each of which is decoded.
 
-ghost use Rattle.std.specs.Prelude.{IfOk, IfErr};
+ghost use Rattle.std.specs.Prelude.{◌≡◌, IfOk, IfErr};
 ghost use Rattle.text_stream.specs.RunFault.{TellsFailedRead, TellsFailedWrite};
-ghost use Rattle.decode_command.specs.Lines.{start_at, DecodedLines, StopsDecoding};
+ghost use Rattle.decode_command.specs.Lines.{start_at, DecodedLines, StopsDecoding, stays_first, stays_well};
 
 use crate::form::Form;
 use crate::line::{decode_line, tell};
 use std::alloc::Global;
 use text_stream::{Lines, RunFault, Sink, Source, TextFault};
+
+// Whether nothing was shown, behind a line of which this was found.
+fn stays_first(is_first: bool, found: Option<bool>) -> bool
+    ensures { result ≡ stays_first is_first found }
+{
+    is_first && found != Some(true)
+}
+
+// Whether no line was wrong, behind a line of which this was found.
+fn stays_well(is_well: bool, found: Option<bool>) -> bool
+    ensures { result ≡ stays_well is_well found }
+{
+    is_well && found != Some(false)
+}
 
 /// Reads lines to the reader's end and decodes each, as one that is read, without waiting for those behind it: the
 /// payload or the frame that it is, or that stands behind the word `map`. What is shown of one is what
@@ -48,14 +62,18 @@ pub fn decode_lines<R: Source, W: Sink, E: Sink>(
     let mut text = Vec::new(alloc);
     let (mut is_first, mut is_well) = (true, true);
     for line in 0..u64::MAX {
-        let Some(told) = lines.next(reader)? else {
-            return Ok(is_well);
+        let told = match lines.next(reader) {
+            Ok(Some(told)) => told,
+            Ok(None) => return Ok(is_well),
+            Err(fault) => return Err(RunFault::Text(fault)),
         };
         text.clear();
-        let found = decode_line(alloc, form, columns, told, lines.line(), &mut text)?;
+        let Ok(found) = decode_line(alloc, form, columns, told, lines.line(), &mut text) else {
+            return Err(RunFault::Text(TextFault::Memory));
+        };
         tell(writer, errors, is_first, line + 1, found, &text)?;
-        is_first = is_first && found != Some(true);
-        is_well = is_well && found != Some(false);
+        is_first = stays_first(is_first, found);
+        is_well = stays_well(is_well, found);
     }
     Err(RunFault::Text(TextFault::TooLong))
 }
