@@ -13,5 +13,5 @@ mod table;
 pub use form::Form;
 pub use frame::decode_frame;
 pub use lines::decode_lines;
-pub use shown::{show_frame, show_text};
+pub use shown::{STANDARD_INPUT, show};
 pub use table::{decode_text, put_table};

@@ -1,7 +1,7 @@
 -- Each line is decoded behind the others, and nothing is told of one that is not.
-use Rattle.std.proofs.Common.{◌≡◌, refl, sym, ap, ◌∙◌, arith}
+use Rattle.std.proofs.Common.{refl, ap, ◌∙◌, arith}
 use Rattle.text_stream.specs.Told.{AtHand, untold}
-use Rattle.decode_command.specs.Lines.{start_at, Becomes, outcome_of, shown_one, said_one, Says}
+use Rattle.decode_command.specs.Lines.{start_at}
 use Rattle.decode_command.proofs.Decoding.{Decoding-none, DecodesFront-none, Decoding-push, Decoding-stops}
 use Rattle.decode_command.proofs.Decoding.{Decoding-much}
 use Rattle.decode_command.proofs.lines.decode_lines.Goals as goal
@@ -39,7 +39,7 @@ loop-line-preserved g c =
     let shown = rw c.deref.ensures.value at c.in_ok-tell.ensures.shown in
     let said = rw c.deref.ensures.value at c.in_ok-tell.ensures.said in (
       rw (c.stays_first-is_first.ensures, c.stays_well-is_well.ensures)
-      (Decoding-push (start_at c.args.form c.args.columns (g.R.Source.remaining c.args.reader.now)
+          (Decoding-push (start_at c.args.form c.args.columns (g.R.Source.remaining c.args.reader.now)
           (g.W.Sink.contents c.args.writer.now) (g.E.Sink.contents c.args.errors.now))
           (untold at.lines (g.R.Source.remaining at.reader)) (untold c.next.new.self (g.R.Source.remaining c.next.new.reader))
           (g.W.Sink.contents at.writer) (g.W.Sink.contents c.tell.new.writer)
