@@ -1,4 +1,5 @@
 pub mod RowsStops
+pub mod RowsLines
 pub mod FrameKinds
 pub mod Addresses
 pub mod Decoding
