@@ -1,6 +1,6 @@
 -- How far the decoding of lines has come: one line more, and the end.
-use Rattle.std.proofs.Common.{◌≡◌, ℕ, ◌+◌, ◌-◌, ◌^◌, ◌<◌, ◌≤◌, Bool, true, false, ◌&&◌, List, [], ◌∷◌, ◌++◌, length, codes}
-use Rattle.std.proofs.Common.{Option, Some, None, inl, inr, refl, sym, ap, ◌∙◌, append_assoc, append-nil, arith, rules}
+use Rattle.std.proofs.Common.{◌≡◌, ℕ, ◌+◌, ◌-◌, ◌^◌, ◌≤◌, Bool, true, false, ◌&&◌, List, [], ◌∷◌, ◌++◌, length}
+use Rattle.std.proofs.Common.{Option, Some, None, inl, inr, refl, sym, ap, ◌∙◌, append_assoc, append-nil, arith}
 use Rattle.std.proofs.KnownBytes.{Appends-nil, Appends-trans}
 use Rattle.std.proofs.lemmas.List.{length-append}
 use Rattle.std.proofs.lemmas.List.Concat.{flat_map-append}
@@ -14,7 +14,7 @@ use Rattle.text_stream.specs.Lines.{lines_of, TakesLines}
 use Rattle.text_stream.specs.Told.{AtHand, untold, HasEnded, StopsLine}
 use Rattle.decode_command.specs.declared.form.Form.{Form}
 use Rattle.decode_command.specs.Lines.{Becomes, BecomeEach, shown_of, behind_gap, separated, said_line, said_from}
-use Rattle.decode_command.specs.Lines.{are_well, Start, DecodesLines, DecodedLines, DecodesFront, BreaksOff}
+use Rattle.decode_command.specs.Lines.{are_well, Start, DecodesLines, DecodedLines, DecodesFront}
 use Rattle.decode_command.specs.Lines.{ComesTooMuch, StopsDecoding, outcome_of, shown_one, said_one, stays_first}
 use Rattle.decode_command.specs.Lines.{stays_well}
 

@@ -1,8 +1,7 @@
 -- Worked rows: what of some lines is decoded, and what is shown and said of some.
-use Rattle.std.proofs.Common.{◌≡◌, ℕ, true, false, List, [], ◌∷◌, codes, Option, None, Some, refl}
+use Rattle.std.proofs.Common.{◌≡◌, true, false, [], ◌∷◌, codes, None, Some, refl, append-nil}
 use Rattle.decode_command.specs.Asked.{is_other_answer, asked_of}
-use Rattle.decode_command.specs.Table.{labelled}
-use Rattle.decode_command.specs.Lines.{separated, shown_of, said_line, said_from, are_well}
+use Rattle.decode_command.specs.Lines.{separated, said_line, said_from, are_well}
 
 -- the payload behind the word `map`
 pub line_of_a_map : asked_of (codes "map 0301") ≡ Some (codes "0301")
@@ -44,9 +43,8 @@ two_tables = refl
 
 -- one that was passed over, one that was shown and one that is wrong
 pub third_line : said_from 1 (None ∷ Some (true, codes "a\n") ∷ Some (false, codes "fault hex\n") ∷ [])
-    ≡ codes "line 3: fault hex\n"
-unfolding said_line labelled
-third_line = refl
+    ≡ said_line 3 (codes "fault hex\n")
+third_line = append-nil (said_line 3 (codes "fault hex\n"))
 
 pub one_is_wrong : are_well (None ∷ Some (false, codes "fault hex\n") ∷ Some (true, codes "a\n") ∷ []) ≡ false
 one_is_wrong = refl

@@ -1,5 +1,5 @@
 -- What of a line of an input is decoded.
-use Rattle.std.specs.Prelude.{ℕ, ◌-◌, Bool, true, false, ◌&&◌, ◌||◌, ◌==◌, nat_eq, if◌then◌else◌, List, [], ◌∷◌}
+use Rattle.std.specs.Prelude.{ℕ, ◌-◌, Bool, true, ◌&&◌, ◌||◌, ◌==◌, nat_eq, if◌then◌else◌, List, [], ◌∷◌}
 use Rattle.std.specs.Prelude.{length, take, drop, codes, Option, None, Some}
 use Rattle.std.specs.List.{starts_with, prefix_len, suffix_len}
 use Rattle.std.specs.Char.{is_ascii_whitespace}
