@@ -1,7 +1,8 @@
 -- Worked rows: what of some lines is decoded, and what is shown and said of some.
 use Rattle.std.proofs.Common.{◌≡◌, true, false, [], ◌∷◌, codes, None, Some, refl, append-nil}
 use Rattle.decode_command.specs.Asked.{is_other_answer, asked_of}
-use Rattle.decode_command.specs.Lines.{separated, said_line, said_from, are_well}
+use Rattle.decode_command.specs.Line.{said_line}
+use Rattle.decode_command.specs.Lines.{separated, said_from, are_well}
 
 -- the payload behind the word `map`
 pub line_of_a_map : asked_of (codes "map 0301") ≡ Some (codes "0301")

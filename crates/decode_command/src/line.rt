@@ -4,8 +4,8 @@ ghost use Rattle.std.specs.Prelude.{◌≡◌, ◌≤◌, [], List, ℕ, length,
 ghost use Rattle.text_stream.specs.declared.TheConstants.{MAX_LINE};
 ghost use Rattle.text_stream.specs.Told.{IsTold};
 ghost use Rattle.text_stream.specs.Writing.{Writes};
-ghost use Rattle.decode_command.specs.Lines.{Decodes, Becomes, long_text, outcome_of, behind_gap, said_line};
-ghost use Rattle.decode_command.specs.Lines.{shown_one, said_one, Says};
+ghost use Rattle.decode_command.specs.Line.{Decodes, Becomes, long_text, outcome_of, behind_gap, said_line};
+ghost use Rattle.decode_command.specs.Line.{shown_one, said_one, Says};
 
 use crate::asked::asked_of;
 use crate::form::Form;
@@ -101,7 +101,7 @@ fn put_shown<W: Sink>(writer: &mut W, is_first: bool, text: &[u8]) -> Result<(),
 }
 
 // Writes what is said of the line of this number.
-#[tactic(auto, unfolding(crate::specs::Lines::said_line))]
+#[tactic(auto, unfolding(crate::specs::Line::said_line))]
 fn put_said<E: Sink>(errors: &mut E, number: u64, text: &[u8]) -> Result<(), TextFault>
     ensures { Writes E.contents E.has_failed errors.old errors.new
         (said_line number text.now) result }
