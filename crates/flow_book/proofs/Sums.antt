@@ -11,8 +11,8 @@ use Rattle.flow_book.specs.declared.flow.Grant.{Grant}
 use Rattle.flow_book.specs.Bucket.{HaveStartedBy}
 use Rattle.flow_book.specs.Flows.{LiveFlow, bytes_of, with_grant}
 use Rattle.flow_book.specs.Choice.{last_start, MayGrant, KeepsWith}
-use Rattle.flow_book.specs.Entry.{live, IsSoundFlow, KeepsSums, IsCopy, IsBook}
-use Rattle.flow_book.proofs.Changes.{all-set, placed-sound, placed-is_sound, granted-sound}
+use Rattle.flow_book.specs.Entry.{live, asked_more, IsSoundFlow, KeepsSums, IsCopy, IsBook}
+use Rattle.flow_book.proofs.Changes.{all-set, placed-sound, placed-is_sound, asked-sound, granted-sound}
 use Rattle.flow_book.proofs.Windows.{one_more, bytes-one}
 use Rattle.flow_book.proofs.Places.{StandsAt, all-found}
 
@@ -98,6 +98,15 @@ placed-book c sid items i e f are is same sound keeps = record {
   sound = placed-sound c sid items i e f are.sound is same sound;
   sums = all-set (KeepsSums c) items i e are.sums keeps;
 }
+
+-- and so where that asked for more
+pub asked-book : (c : Config) (sid bytes heard : ℕ) (items : List Flow) (i : ℕ) (f : Flow) → IsBook c items
+    → StandsAt sid items i f → IsBook c (set items i (asked_more bytes heard f))
+asked-book c sid bytes heard items i f are is =
+    let sound = placed-is_sound c sid items i f are.sound is in
+    let keeps = placed-sums c sid items i f are is in
+    placed-book c sid items i (asked_more bytes heard f) f are is refl (asked-sound c bytes heard (live f) sound)
+    (record { granted = keeps.granted; turn = keeps.turn; bucket = keeps.bucket })
 
 -- and so where that is with a lawful grant more
 pub granted-book : (c : Config) (sid start bytes room : ℕ) (items : List Flow) (i : ℕ) (e f : Flow) → IsBook c items

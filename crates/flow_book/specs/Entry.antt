@@ -6,6 +6,7 @@ use Rattle.minislots.specs.Units.{bytes_in}
 use Rattle.flow_book.specs.declared.flow.Flow.{Flow}
 use Rattle.flow_book.specs.declared.flow.Room as the_room
 use Rattle.sched_calls.specs.FlowSpec.{rank_of, rate_of, burst_of}
+use Rattle.flow_book.specs.Batches.{with_request}
 use Rattle.flow_book.specs.Flows.{LiveFlow, bytes_of, granted}
 use Rattle.flow_book.specs.Ceiling.{KeepsCeiling}
 use Rattle.flow_book.specs.Choice.{last_start}
@@ -14,7 +15,20 @@ use Rattle.flow_book.specs.Book.{Room, Ascend}
 
 -- the live flow that the fields stand for
 abbrev pub live : Flow → LiveFlow
-live f = record { sid = f.sid; spec = f.spec; asked = f.asked; grants = f.grants.items }
+live f = record {
+  sid = f.sid;
+  spec = f.spec;
+  asked = f.asked;
+  batches = f.batches;
+  grants = f.grants.items;
+}
+
+-- it with so many bytes more that it asked, in a request that was heard at this minislot
+abbrev pub asked_more : ℕ → ℕ → Flow → Flow
+asked_more bytes heard f = record f {
+  asked = f.asked + bytes;
+  batches = with_request f.batches f.asked (bytes_of f.grants.items) bytes heard;
+}
 
 -- its room
 abbrev pub room_in : Flow → Room

@@ -1,6 +1,7 @@
 pub use Rattle.minislots.specs.Config
 pub use Rattle.minislots.specs.Units
 pub use Rattle.sched_calls.specs.FlowSpec
+pub mod Batches
 pub mod Flows
 pub mod Granted
 pub mod Ceiling

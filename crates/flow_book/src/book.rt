@@ -215,15 +215,15 @@ impl Book {
         leave(&mut self.queue, place);
     }
 
-    /// Adds bytes to what a live flow asked. The sum fits a `u64`.
-    pub fn ask(&mut self, sid: u16, bytes: u32)
+    /// Adds bytes to what a live flow asked, in a request that was heard at minislot `heard`. The sum fits a `u64`.
+    pub fn ask(&mut self, sid: u16, bytes: u32, heard: u64)
         requires live { IsLive sid self.old.flows }
         requires fits { IfSome (flow_of sid self.old.flows) (λ f. f.asked + bytes < 2 ^ 64) }
         ensures { self.new ≡ record self.old
-            { flows = changed sid (with_asked bytes) self.old.flows } }
+            { flows = changed sid (with_asked bytes heard) self.old.flows } }
     {
         let place = self.place(sid);
-        self.flows[place].asked += u64::from(bytes);
+        self.flows[place].ask(bytes, heard);
         self.is_queued = follow(&mut self.queue, self.is_queued, &self.flows, place);
     }
 

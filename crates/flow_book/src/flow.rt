@@ -1,6 +1,6 @@
 //! One live flow: what it asked, and what its data grants come to.
 
-ghost use Rattle.std.specs.Prelude.{◌≡◌, ℕ, ◌+◌, ◌-◌, ◌<◌, ◌≤◌, map, length, slice_index_or, IsTrue};
+ghost use Rattle.std.specs.Prelude.{◌≡◌, ℕ, ◌+◌, ◌-◌, ◌<◌, ◌≤◌, ◌^◌, map, length, slice_index_or, IsTrue};
 ghost use Rattle.std.specs.Prelude.{◌↔◌, Option, None, Some, true, nat_lt, ◌&&◌, MatchOption, IfSome, option_map};
 ghost use Rattle.std.specs.Prelude.{option_copied, min, ◌++◌, ◌∷◌, []};
 ghost use Rattle.std.specs.List.{AllByRecursion};
@@ -13,10 +13,11 @@ ghost use Rattle.flow_book.specs.Choice.{IsNextOf, HasStartedBy};
 ghost use Rattle.sched_calls.specs.FlowSpec.{takes_requests};
 ghost use Rattle.flow_book.specs.Bucket.{HaveStartedBy, StandsFor, most_of};
 ghost use Rattle.flow_book.specs.Entry.{live, room_in, IsSoundFlow, IsSoundBook, IsCopy, IsTurn, KnowsTurn, KeepsSums};
-ghost use Rattle.flow_book.specs.Entry.{IsRoom};
+ghost use Rattle.flow_book.specs.Entry.{IsRoom, asked_more};
 ghost use Rattle.flow_book.specs.Book.{KeepsRoom, new_flow};
 ghost use Rattle.flow_book.specs.declared.flow.Flow.{Flow};
 
+use crate::batches::Batches;
 use crate::bucket::Bucket;
 use crate::granted::GrantList;
 use minislots::Checked;
@@ -64,6 +65,8 @@ pub(crate) struct Flow {
     pub(crate) turn: u128,
     // The bytes of all requests.
     pub(crate) asked: u64,
+    // The batches of its requests.
+    batches: Batches,
     // The bytes of all data grants.
     granted: u64,
     // What the data grants leave under the rate ceiling.
@@ -82,6 +85,7 @@ impl Clone for Flow {
             sid: self.sid,
             spec: self.spec,
             asked: self.asked,
+            batches: self.batches,
             granted: self.granted,
             turn: self.turn,
             bucket: self.bucket.again(),
@@ -100,6 +104,7 @@ impl Flow {
             sid,
             spec,
             asked: 0,
+            batches: Batches::none(),
             granted: 0,
             turn: turn_of(spec.rank(), sid),
             bucket: Bucket::open(config, spec.rate(), spec.burst()),
@@ -114,6 +119,18 @@ impl Flow {
         ensures { result ≡ outstanding (live self.now) }
     {
         self.asked - self.granted
+    }
+
+    // Adds bytes to what was asked, in a request that was heard at this minislot.
+    pub(crate) fn ask(&mut self, bytes: u32, heard: u64)
+        requires sum { self.old.granted ≡ granted (live self.old) }
+        requires fits { self.old.asked + bytes < 2 ^ 64 }
+        ensures { self.new ≡ asked_more bytes heard self.old }
+    {
+        self.batches = self
+            .batches
+            .with_request(self.asked, self.granted, bytes, heard);
+        self.asked += u64::from(bytes);
     }
 
     // Whether the flow waits for bytes.

@@ -2,12 +2,14 @@
 //! of them a minislot is granted to.
 #![tactic(auto)]
 
+mod batches;
 mod book;
 mod bucket;
 mod flow;
 mod granted;
 mod queue;
 
+pub use batches::Batches;
 pub use book::Book;
 pub use bucket::Bucket;
 pub use flow::{Grant, Served};
