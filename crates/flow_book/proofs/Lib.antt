@@ -5,6 +5,7 @@ pub mod Changes
 pub mod FirstGrant
 pub mod Insertion
 pub mod Levels
+pub mod Lines
 pub mod Order
 pub mod Places
 pub mod Profile
@@ -16,6 +17,7 @@ pub mod RowsCeiling
 pub mod RowsChoice
 pub mod NextServed
 pub mod Serving
+pub mod InLine
 pub mod Shifts
 pub mod Sinking
 pub mod Started

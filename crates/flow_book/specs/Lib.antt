@@ -11,3 +11,5 @@ pub mod Choice
 pub mod Book
 pub mod Entry
 pub mod Queue
+pub mod Shown
+pub mod Line

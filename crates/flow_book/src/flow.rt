@@ -15,6 +15,7 @@ ghost use Rattle.flow_book.specs.Bucket.{HaveStartedBy, StandsFor, most_of};
 ghost use Rattle.flow_book.specs.Entry.{live, room_in, IsSoundFlow, IsSoundBook, IsCopy, IsTurn, KnowsTurn, KeepsSums};
 ghost use Rattle.flow_book.specs.Entry.{IsRoom, asked_more};
 ghost use Rattle.flow_book.specs.Book.{KeepsRoom, new_flow};
+ghost use Rattle.flow_book.specs.Shown.{since};
 ghost use Rattle.flow_book.specs.declared.flow.Flow.{Flow};
 
 use crate::batches::Batches;
@@ -119,6 +120,14 @@ impl Flow {
         ensures { result ≡ outstanding (live self.now) }
     {
         self.asked - self.granted
+    }
+
+    // The least minislot in which a request of its batches was heard.
+    pub(crate) fn since(&self) -> u64
+        requires { self.now.granted ≡ granted (live self.now) }
+        ensures { result ≡ since (live self.now) }
+    {
+        self.batches.since(self.granted)
     }
 
     // Adds bytes to what was asked, in a request that was heard at this minislot.

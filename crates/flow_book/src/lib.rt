@@ -8,9 +8,11 @@ mod bucket;
 mod flow;
 mod granted;
 mod queue;
+mod shown;
 
 pub use batches::Batches;
 pub use book::Book;
 pub use bucket::Bucket;
 pub use flow::{Grant, Served};
+pub use shown::Hidden;
 pub use sched_calls::{FlowFault, FlowSpec, MAX_FLOWS, MAX_GRANTS};
