@@ -9,6 +9,7 @@ ghost use Rattle.flow_book.specs.Choice.{MayGrant, IsMost, IsAmount, IsNext, IsN
 ghost use Rattle.flow_book.specs.Choice.{HasStartedBy};
 ghost use Rattle.flow_book.specs.Entry.{live, IsSoundFlow, IsBook, IsRoom, KeepsSums};
 ghost use Rattle.flow_book.specs.Queue.{IsQueue, Stands};
+ghost use Rattle.flow_book.specs.Shown.{IsFirstHidden, is_shown, ack_of};
 ghost use Rattle.flow_book.specs.Book.{IsLive, Ascend, KeepsRoom, room_of, new_flow, with_flow, without, changed};
 ghost use Rattle.flow_book.specs.Book.{with_asked};
 
@@ -17,6 +18,7 @@ use crate::queue::{
     Waiting, copy_of, first_in_turn, follow, follow_from, leave, make_room, make_way, queue_of,
     waiting_of,
 };
+use crate::shown::{Hidden, first_hidden, held_back, is_ahead};
 use minislots::Checked;
 use sched_calls::FlowSpec;
 use std::alloc::{AllocError, Global};
@@ -324,6 +326,37 @@ impl Book {
         let waiting = waiting_of(flow, place);
         self.is_queued = follow_from(&mut self.queue, self.is_queued, &self.flows, waiting, index);
         Some(served)
+    }
+
+    /// The first flow that waits and is not among the first `most` that do, by the least minislot in which a request of
+    /// its batches was heard, and then by SID: a MAP shows those before it by pending grants.
+    pub fn first_hidden(&self, most: usize) -> Result<Option<Hidden>, AllocError>
+        requires { most < 2 ^ 32 }
+        ensures { IfOk result (IsFirstHidden most self.now.flows) }
+    {
+        if self.is_queued && self.queue.len() <= most {
+            return Ok(None);
+        }
+        first_hidden(*self.flows.allocator(), &self.flows, most)
+    }
+
+    /// Whether the flow at a place, in the order of SIDs, waits and comes before the first that is hidden.
+    pub fn is_shown_at(&self, index: usize, hidden: &Option<Hidden>) -> bool
+        requires { index < length self.now.flows }
+        ensures { (most : ℕ) → IsFirstHidden most self.now.flows hidden.now
+            → option_map (is_shown most self.now.flows) (slice_get self.now.flows index) ≡ Some result }
+    {
+        is_ahead(&self.flows[index], hidden)
+    }
+
+    /// The acknowledge time of a MAP: the least progress, or less where a flow that is hidden waits since an earlier
+    /// minislot.
+    pub fn ack(&self, hidden: &Option<Hidden>, progress: u64) -> u64
+        ensures { (most : ℕ) → IsFirstHidden most self.now.flows hidden.now
+            → result ≡ ack_of most progress self.now.flows }
+    {
+        let _ = &self.flows;
+        held_back(hidden, progress)
     }
 
     /// Another book that shows the same configuration and flows. It has no room for grants that

@@ -1,11 +1,12 @@
 //! Which of the flows that wait a MAP shows by pending grants: the first so many, by the minislot since which they wait.
 
-ghost use Rattle.std.specs.Prelude.{◌≡◌, ◌<◌, ◌≤◌, ◌^◌, take, map, length, IfOk, OnOk};
+ghost use Rattle.std.specs.Prelude.{◌≡◌, ◌<◌, ◌≤◌, ◌^◌, ◌&&◌, take, map, IfOk, OnOk};
 ghost use Rattle.minislots.specs.declared.config.Config.{Config};
 ghost use Rattle.flow_book.specs.Entry.{live, IsBook};
-ghost use Rattle.flow_book.specs.Shown.{IsFirstHidden, number_of};
+ghost use Rattle.flow_book.specs.Shown.{IsFirstHidden, number_of, waits};
 ghost use Rattle.flow_book.specs.Sids.{AscendBy, put_in};
-ghost use Rattle.flow_book.specs.Line.{itself, sorted, numbers_of};
+ghost use Rattle.flow_book.specs.Flows.{granted};
+ghost use Rattle.flow_book.specs.Line.{itself, sorted, numbers_of, comes_first, held_back};
 
 use crate::flow::Flow;
 use std::alloc::{AllocError, Global};
@@ -70,5 +71,27 @@ pub(crate) fn first_hidden(
     match line.get(most) {
         Some(number) => Ok(Some(Hidden { number: *number })),
         None => Ok(None),
+    }
+}
+
+// Whether a flow waits, and comes before the first that is hidden.
+pub(crate) fn is_ahead(flow: &Flow, hidden: &Option<Hidden>) -> bool
+    requires sum { flow.now.granted ≡ granted (live flow.now) }
+    requires within { granted (live flow.now) ≤ flow.now.asked }
+    ensures { result ≡ (waits (live flow.now) && comes_first hidden.now (live flow.now)) }
+{
+    match hidden {
+        Some(hidden) => flow.waits() && number_of(flow.since(), flow.sid) < hidden.number,
+        None => flow.waits(),
+    }
+}
+
+// The least progress, held back by the flows that are hidden.
+pub(crate) fn held_back(hidden: &Option<Hidden>, progress: u64) -> u64
+    ensures { result ≡ held_back hidden.now progress }
+{
+    match hidden {
+        Some(hidden) => (hidden.number / SIDS).min(u128::from(progress)) as u64,
+        None => progress,
     }
 }
