@@ -1,6 +1,6 @@
 -- The flow behind the first so many that wait in line.
-use Rattle.std.proofs.Common.{◌≡◌, ◌≢◌, refl, sym, ap, ◌∙◌, subst, ℕ, zero, suc, ◌+◌, ◌*◌, ◌/◌, ◌%◌, ◌^◌, ◌<◌, ◌≤◌, lit<}
-use Rattle.std.proofs.Common.{Bool, true, false, not, cond, ◌&&◌, ◌||◌, ◌==◌, nat_lt, List, [], ◌∷◌, map, filter, length, get_or}
+use Rattle.std.proofs.Common.{◌≡◌, ◌≢◌, refl, sym, ap, ◌∙◌, subst, ℕ, zero, suc, ◌+◌, ◌/◌, ◌^◌, ◌<◌, ◌≤◌}
+use Rattle.std.proofs.Common.{Bool, true, false, not, ◌&&◌, nat_lt, List, [], ◌∷◌, map, filter, length, get_or}
 use Rattle.std.proofs.Common.{Option, Some, None, Contains, ◌++◌, append-nil, take, min, true≢false, inl, inr, arith}
 use Rattle.std.specs.List.{AllByRecursion, count_by}
 use Rattle.std.proofs.lemmas.Bool.{cond_both, cases_lt}
@@ -76,8 +76,14 @@ numbers-of all [] within = tt
 numbers-of all (f ∷ flows) within =
     cond_both (waits f) (f ∷ filter waits flows) (filter waits flows)
     (λ fs. AllByRecursion (IsOf all) (map number_in_line fs))
-    (λ yes'. ((f, within f (zero, omega arith, refl), yes', refl), numbers-of all flows (λ g has. within g (suc has.0,
-    omega (arith, has.1), has.2))))
+    (λ yes'. (
+      (f, within f (zero, omega arith, refl), yes', refl),
+      numbers-of all flows (λ g has. within g (
+        suc has.0,
+        omega (arith, has.1),
+        has.2,
+      )),
+    ))
     (λ no'. numbers-of all flows (λ g has. within g (suc has.0, omega (arith, has.1), has.2)))
 
 -- the order in line is that of the numbers
@@ -168,14 +174,22 @@ module _ (most : ℕ) (flows : List LiveFlow) (ascend : Ascend flows) (small : A
   pub few-wait : count_by waits flows ≤ most → IsFirstHidden most flows None
   few-wait few = recursion_from_All (λ f. is_hidden most flows f ≡ false) flows (λ i d lt.
       let f = get_or flows i d in
-      first (waits f) (count_before flows f) (λ waiting. omega (arith, few,
-      count-one_more (λ g. waits g && comes_before g f) waits flows i f (λ g both. both-first _ _ both) lt
-      (get_or_default flows i f d lt) (itself-after f) waiting)))
+      first (waits f) (count_before flows f) (λ waiting. omega (
+        arith,
+        few,
+        count-one_more (λ g. waits g && comes_before g f) waits flows i f (λ g both. both-first _ _ both) lt
+            (get_or_default flows i f d lt) (itself-after f) waiting,
+      )))
 
   pub none-hidden : length (sorted (numbers_of flows)) ≤ most → IsFirstHidden most flows None
   none-hidden few =
-      few-wait (omega (arith, few, length-filter waits flows, length-map (filter waits flows) number_in_line,
-      length-sorted_into [] (numbers_of flows)))
+      few-wait (omega (
+        arith,
+        few,
+        length-filter waits flows,
+        length-map (filter waits flows) number_in_line,
+        length-sorted_into [] (numbers_of flows),
+      ))
 
   -- so many that wait have lesser numbers
   abbrev below : ℕ → ℕ
@@ -262,8 +276,14 @@ module _ (most : ℕ) (flows : List LiveFlow) (ascend : Ascend flows) (small : A
   no-earlier g f has behind own hides =
       let parts = hidden-parts (waits f) (count_before flows f) hides in
       elim (cases_lt (number_in_line f) (number_in_line g)) [
-        | inl lt ↦ absurd (omega (arith, fewer-below f (number_in_line g) own parts.0 lt, parts.1, behind,
-            before-below f (little-of f own), before-below g (little-of g has)))
+        | inl lt ↦ absurd (omega (
+          arith,
+          fewer-below f (number_in_line g) own parts.0 lt,
+          parts.1,
+          behind,
+          before-below f (little-of f own),
+          before-below g (little-of g has),
+        ))
         | inr not_lt ↦ omega (arith, not_lt, little-of f own)
       ]
 

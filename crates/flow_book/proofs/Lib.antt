@@ -7,6 +7,7 @@ pub mod Insertion
 pub mod Levels
 pub mod Lines
 pub mod Order
+pub mod Pigeons
 pub mod Places
 pub mod Profile
 pub mod Queues

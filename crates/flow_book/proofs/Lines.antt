@@ -1,6 +1,6 @@
 -- Numbers that are put in order one by one, of which the first so many are kept.
 use Rattle.std.proofs.Common.{◌≡◌, refl, sym, ap, ◌∙◌, ℕ, zero, suc, ◌+◌, ◌<◌, ◌≤◌, Bool, true, false, cond, ◌==◌, nat_lt}
-use Rattle.std.proofs.Common.{List, [], ◌∷◌, ◌++◌, map, filter, find, take, length, get_or, Option, Some, None, ◌&&◌, ◌≢◌, true≢false, min, arith}
+use Rattle.std.proofs.Common.{List, [], ◌∷◌, ◌++◌, map, filter, find, take, length, get_or, Option, Some, None, ◌&&◌, ◌≢◌, true≢false, arith}
 use Rattle.std.specs.List.{AllByRecursion, count_by}
 use Rattle.std.proofs.lemmas.Bool.{cond_both}
 use Rattle.std.proofs.lemmas.Bool.Decides.{nat_tests}
@@ -8,7 +8,7 @@ use Rattle.std.proofs.lemmas.List.{take-take}
 use Rattle.std.proofs.lemmas.List.Elements.{All-from_recursion}
 use Rattle.std.proofs.lemmas.List.Sums.{sum_by-cons}
 use Rattle.flow_book.specs.Sids.{AscendBy, put_in}
-use Rattle.flow_book.specs.Line.{itself, sorted_into, sorted}
+use Rattle.flow_book.specs.Line.{itself, sorted_into}
 use Rattle.flow_book.proofs.Insertion.{all-put_in, length-put_in, ascends-put_in}
 
 -- the first so many with a number more are those of all with it
@@ -111,8 +111,12 @@ count-below (x ∷ xs) zero d up lt =
 count-below (x ∷ xs) (suc i) d up lt =
     let above : x < get_or xs i d = All-from_recursion (λ y. x < y) xs up.0 i d (omega arith) in
     let yes' : nat_lt x (get_or xs i d) ≡ true = grind (arith, nat_tests) in
-    omega (arith, count-cons (λ y. nat_lt y (get_or xs i d)) x xs, ap (λ b. cond {A = ℕ} b 1 0) yes',
-    count-below xs i d up.1 (omega arith))
+    omega (
+      arith,
+      count-cons (λ y. nat_lt y (get_or xs i d)) x xs,
+      ap (λ b. cond {A = ℕ} b 1 0) yes',
+      count-below xs i d up.1 (omega arith),
+    )
 
 module _ {X Y : Type 0} (p : Y → Bool) (h : X → Y) (w : X → Bool) where
   kept-cond : (b : Bool) (x : X) (xs : List X) (n : ℕ) → count_by p (map h xs) ≡ n
@@ -150,9 +154,21 @@ module _ {X : Type 0} where
       → i < length xs → get_or xs i x ≡ x → p x ≡ false → q x ≡ true → count_by p xs < count_by q xs
   count-one_more p q [] i x weaker lt at fails takes = absurd (omega arith)
   count-one_more p q (y ∷ xs) zero x weaker lt at fails takes =
-      omega (arith, count-cons p y xs, count-cons q y xs, ap (λ z. cond {A = ℕ} (p z) 1 0) at,
-      ap (λ z. cond {A = ℕ} (q z) 1 0) at, ap (λ b. cond {A = ℕ} b 1 0) fails, ap (λ b. cond {A = ℕ} b 1 0) takes,
-      count-more p q xs weaker)
+      omega (
+        arith,
+        count-cons p y xs,
+        count-cons q y xs,
+        ap (λ z. cond {A = ℕ} (p z) 1 0) at,
+        ap (λ z. cond {A = ℕ} (q z) 1 0) at,
+        ap (λ b. cond {A = ℕ} b 1 0) fails,
+        ap (λ b. cond {A = ℕ} b 1 0) takes,
+        count-more p q xs weaker,
+      )
   count-one_more p q (y ∷ xs) (suc i) x weaker lt at fails takes =
-      omega (arith, count-cons p y xs, count-cons q y xs, weaker-one (p y) (q y) (weaker y),
-      count-one_more p q xs i x weaker (omega arith) at fails takes)
+      omega (
+        arith,
+        count-cons p y xs,
+        count-cons q y xs,
+        weaker-one (p y) (q y) (weaker y),
+        count-one_more p q xs i x weaker (omega arith) at fails takes,
+      )

@@ -1,5 +1,5 @@
 -- The requests of a flow that wait, in two batches.
-use Rattle.std.specs.Prelude.{ℕ, ◌+◌, min, nat_le, ◌==◌, Bool, Option, None, Some, unwrap_or, if◌then◌else◌}
+use Rattle.std.specs.Prelude.{ℕ, ◌+◌, min, nat_le, ◌==◌, Bool, None, Some, unwrap_or, if◌then◌else◌}
 use Rattle.flow_book.specs.declared.batches.Batches.{Batches}
 
 -- those of a flow that has requested nothing

@@ -1,5 +1,5 @@
 -- A flow more stands in line.
-use Rattle.std.proofs.Common.{◌≡◌, ◌∙◌, ap, sym, map, take, length, ◌++◌, ◌∷◌, [], ◌+◌, ◌<◌, ◌^◌, ℕ, Vec, Global, true, false, arith}
+use Rattle.std.proofs.Common.{◌≡◌, ◌∙◌, ap, sym, map, take, ◌++◌, ◌∷◌, [], ◌+◌, ◌<◌, ◌^◌, ℕ, Vec, Global, true, false, arith}
 use Rattle.std.proofs.lemmas.List.{take_more, take_all, length-map}
 use Rattle.std.proofs.Math.ListN.{get_or-map}
 use Rattle.flow_book.specs.Entry.{live, IsSoundFlow}
