@@ -3,7 +3,7 @@ meet; and the text of their histories. A third of the channels have burst profil
 
 from drawn_bursts import profile, with_bursts
 from plain import HEADING, LAST_CLOCK, MOST_BYTES, Scheduler, line_of
-from texts import PROFILES, completed
+from texts import LEFT_OUT, MISSING, PROFILES, completed
 
 
 def shuffled(draw, members):
@@ -61,6 +61,7 @@ class Drawing:
             told |= {"bursts": bursts, **draw.choice(unread)}
         elif told["phy"] == 0 and draw.random() < 0.5:
             del told["phy"]
+        told |= {name: MISSING[name] for name in LEFT_OUT if name not in told and draw.random() < 0.3}
         return shuffled(draw, told)
 
     def drawn_config(self):
@@ -84,8 +85,15 @@ class Drawing:
             "calls": draw.choice([40, *[1000] * 6]), "start": frame * draw.choice([0, 20, 2**31 // frame, 10**12]),
             "ranging_start": draw.randint(0, 15), "ranging_end": draw.randint(0, 15), "data_start": draw.randint(0, 15),
             "data_end": draw.randint(0, 15), "channel": draw.randint(0, 255), "ucd_count": draw.randint(0, 255),
-            "phy": draw.randint(0, 1),
+            "phy": draw.randint(0, 1), **self.drawn_limits(),
         }
+
+    def drawn_limits(self):
+        """The limits that are others than those of missing fields."""
+        draw = self.draw
+        limits = {"flows": draw.choice([64, 64, 63, 65, 8191]), "pending": draw.choice([64, 64, 63, 65, 125])}
+        limits |= {"periodic": draw.choice([40, 40, 39, 41, 2560])}
+        return {name: number for name, number in limits.items() if number != MISSING[name]}
 
     def times(self):
         """An interval of whole frames that part the cycle, or mostly so, and a jitter."""

@@ -87,6 +87,10 @@ static struct mapsched_config drawn_config(void) {
   config.lead = ONE_OF(leads);
   config.short_max = (uint32_t)below(config.frame + 1);
   config.phy = (uint8_t)below(2);
+  if (is_one_in(4)) config.flows = 60 + (uint32_t)below(10);
+  if (is_one_in(4)) config.pending = 60 + (uint32_t)below(10);
+  config.periodic = 35 + (uint32_t)below(10);
+  config.has_periodic = (uint32_t)below(3);
   uint8_t *const others[] = {&config.ranging_start, &config.ranging_end, &config.data_start, &config.data_end};
   for (size_t i = 0; i < COUNT(others); i++) *others[i] = (uint8_t)below(16);
   config.channel = (uint8_t)below(256);

@@ -62,6 +62,8 @@ def compact(value):
 
 # What a text that lacks a field of the configuration means, where that is a number.
 MISSING = {it["name"]: it["missing"] for it in tables()["field"] if isinstance(it.get("missing"), int)}
+# The fields that no history has where they are those.
+LEFT_OUT = [it["name"] for it in tables()["field"] if it.get("left_out")]
 # The fields that nobody reads where `bursts` stands, and the profiles that stand in that, each with these numbers.
 UNIFORM = [name for it in tables()["field"] for name in it.get("instead_of", [])]
 PROFILES = [it["name"] for it in tables()["burst"] if "bits" not in it]
@@ -69,9 +71,11 @@ PROFILE = [it["name"] for it in tables()["profile"]]
 
 
 def completed(config):
-    """A configuration as a history has it: with all fields; `bursts` stands in the place of those that nobody reads
-    beside it, and has a profile of unsolicited grants where that is not the one of long grants."""
+    """A configuration as a history has it: with all fields but those that are left out; `bursts` stands in the place of
+    those that nobody reads beside it, and has a profile of unsolicited grants where that is not the one of long grants.
+    """
     config = {**MISSING, **config}
+    config = {key: it for key, it in config.items() if key not in LEFT_OUT or it != MISSING[key]}
     if "bursts" not in config:
         return config
     bursts = config["bursts"]

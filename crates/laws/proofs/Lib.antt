@@ -3,6 +3,7 @@ pub mod Readable
 pub mod Spelled
 pub mod RefusalNumbers
 pub mod RefusalFound
+mod Standing
 pub mod ReadBack
 pub mod HistoryAgain
 pub mod CallReadable
