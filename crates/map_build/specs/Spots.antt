@@ -5,7 +5,7 @@ use Rattle.minislots.specs.declared.config.Config.{Config}
 use Rattle.sched_calls.specs.declared.TheConstants.{MAX_FLOWS}
 use Rattle.sched_calls.specs.FlowSpec.{is_periodic}
 use Rattle.flow_book.specs.Flows.{LiveFlow}
-use Rattle.sched_calls.specs.declared.TheConstants.{MAX_PERIODIC_GRANTS}
+use Rattle.periodic.specs.declared.TheConstants.{MAX_SPOTS}
 use Rattle.periodic.specs.declared.placement.Spot.{Spot}
 use Rattle.periodic.specs.Placement.{Placed}
 use Rattle.periodic.specs.Table.{FollowInTurn}
@@ -18,7 +18,7 @@ pub record IsInFrame (c : Config) (s : Spot) : Type 0 where
 
 -- The spots are those that one frame may have, in the order of their offsets
 pub record AreInFrame (c : Config) (spots : List Spot) : Type 0 where
-  pub few : length spots ≤ MAX_PERIODIC_GRANTS
+  pub few : length spots ≤ MAX_SPOTS
   pub each : AllByRecursion (IsInFrame c) spots
   pub in_turn : FollowInTurn spots
 

@@ -15,8 +15,8 @@ ghost use Rattle.map_build.specs.Spots.{AreInFrame, AreOfChannel, HaveFlowSids, 
 use crate::MAX_WAITING;
 use crate::draft::Draft;
 use flow_book::Book;
-use periodic::{Spot, Table};
-use sched_calls::{FrameMap, Header, MAX_PERIODIC_GRANTS, Opportunity};
+use periodic::{MAX_SPOTS, Spot, Table};
+use sched_calls::{FrameMap, Header, Opportunity};
 use std::alloc::{AllocError, Global};
 
 // What stands in an array of spots before one is written.
@@ -132,7 +132,7 @@ pub fn plan_with_book(
     ensures config { IfOk result (λ p. p.book.config ≡ book.now.config) }
 {
     let start = frame * u64::from(book.config().frame());
-    let mut spots = [NO_SPOT; MAX_PERIODIC_GRANTS];
+    let mut spots = [NO_SPOT; MAX_SPOTS];
     let count = table.in_frame(frame, &mut spots);
     plan_around(alloc, book, &spots[..count], waiting, header, start, ack)
 }

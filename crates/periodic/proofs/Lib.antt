@@ -25,3 +25,4 @@ pub mod Seeking
 pub mod Marking
 pub mod Standing
 pub mod Bounding
+pub mod Counting

@@ -1,5 +1,6 @@
 -- What contracts see of a table of placements, and what is true of each.
 use Rattle.std.specs.Prelude.{◌≡◌, ℕ, ◌+◌, ◌<◌, ◌≤◌, ◌⊎◌, true, ◌==◌, List, [], ◌∷◌, sum_by, find, None, IsSome}
+use Rattle.std.specs.Prelude.{length}
 use Rattle.std.specs.List.{AllByRecursion}
 use Rattle.minislots.specs.declared.config.Config.{Config}
 use Rattle.sched_calls.specs.declared.spec.FlowSpec.{FlowSpec}
@@ -7,6 +8,7 @@ use Rattle.sched_calls.specs.declared.TheConstants.{MAX_PERIODIC_GRANTS}
 use Rattle.sched_calls.specs.declared.placement.Placement.{Placement}
 use Rattle.sched_calls.specs.FlowSpec.{is_periodic, grants_of, first_fault}
 use Rattle.flow_book.specs.Sids.{AscendBy, put_in, taken_out}
+use Rattle.periodic.specs.declared.TheConstants.{MAX_SPOTS}
 use Rattle.periodic.specs.declared.placement.Spot.{Spot}
 use Rattle.periodic.specs.Placement.{Placed, offset_of, spots_in, HasLawfulStarts, IsPlacement}
 
@@ -84,3 +86,4 @@ pub record AreSound (c : Config) (placed : List Placed) : Type 0 where
   pub most : placed_grants placed ≤ MAX_PERIODIC_GRANTS
   pub each : AllByRecursion (IsSoundPlaced c) placed
   pub apart : (k : ℕ) → AreApart (spots_in c k placed)
+  pub few : (k : ℕ) → length (spots_in c k placed) ≤ MAX_SPOTS

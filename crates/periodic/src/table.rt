@@ -6,7 +6,7 @@ ghost use Rattle.std.specs.List.{AllByRecursion};
 ghost use Rattle.std.specs.List.Sorted.{IsPermutation};
 ghost use Rattle.sched_calls.specs.FlowSpec.{is_periodic, grants_of, first_fault};
 ghost use Rattle.sched_calls.specs.declared.TheConstants.{MAX_PERIODIC_GRANTS};
-ghost use Rattle.periodic.specs.declared.TheConstants.{MAX_STARTS};
+ghost use Rattle.periodic.specs.declared.TheConstants.{MAX_SPOTS, MAX_STARTS};
 ghost use Rattle.periodic.specs.Placement.{spots_in, IsPlacement, NoPlacement};
 ghost use Rattle.periodic.specs.Choice.{IsChosen};
 ghost use Rattle.periodic.specs.Fields.{placement_at};
@@ -14,8 +14,10 @@ ghost use Rattle.periodic.specs.Search.{chosen_placement};
 ghost use Rattle.periodic.specs.Table.{placed_grants, IsPlaced, IsNotPlaced, HasPlacement, placed_at, with_placed};
 ghost use Rattle.periodic.specs.Table.{without, AreSound, IsWithinFrame, FollowInTurn};
 
+use crate::MAX_SPOTS;
 use crate::adopt::is_lawful;
 use crate::bits::Bits;
+use crate::counts::Counts;
 use crate::placement::{PlaceFault, Spot};
 use crate::search::{Chosen, choose};
 use crate::spots::{PlacedFlow, fill, mark, sort};
@@ -26,7 +28,7 @@ use std::alloc::{AllocError, Global};
 use std::marker::Model;
 
 /// The placements of one channel's periodic flows, in order of SID, with at most [`MAX_PERIODIC_GRANTS`] grants per
-/// interval. No two grants or polls take the same minislot of a frame.
+/// interval, and at most [`MAX_SPOTS`] grants and polls in each frame. No two of these take the same minislot of a frame.
 #[derive(Drop)]
 pub struct Table {
     config: Checked,
@@ -35,6 +37,8 @@ pub struct Table {
     rows: Vec<Bits>,
     // How many free minislots stand in a row there at most.
     widest: Widest,
+    // How many grants and polls they have there.
+    counts: Counts,
     // Their grants per interval.
     grants: usize,
 }
@@ -50,7 +54,7 @@ impl Model for Table {
     ghost view = { λ t. record { config = t.config; placed = map placed_of t.flows.items } };
 
     ghost invariant = { λ t. AreSoundFields t.config t.flows.items t.rows.items
-        t.widest.most t.grants };
+        t.widest.most t.counts.starts t.grants };
 }
 
 impl Table {
@@ -66,6 +70,7 @@ impl Table {
             flows: Vec::new(alloc),
             rows,
             widest: Widest::open(),
+            counts: Counts::open(),
             grants: 0,
         })
     }
@@ -196,18 +201,19 @@ impl Table {
             &self.flows[place],
             false,
         );
+        self.counts.count(&self.config, &self.flows[place], false);
         self.grants -= self.flows[place].grants;
         self.flows.retain(|flow| flow.sid != sid);
     }
 
     /// Writes what the placed flows take of frame `k`, in the order of their offsets, and answers how
     /// many spots these are. The rest of the array stays.
-    pub fn in_frame(&self, k: u64, spots: &mut [Spot; MAX_PERIODIC_GRANTS]) -> usize
+    pub fn in_frame(&self, k: u64, spots: &mut [Spot; MAX_SPOTS]) -> usize
         // Exactly the spots of the frame are written.
         ensures spots { IsPermutation (spots_in self.now.config k self.now.placed)
             (take result spots.new) }
         ensures rest { drop result spots.new ≡ drop result spots.old }
-        ensures most { result ≤ MAX_PERIODIC_GRANTS }
+        ensures most { result ≤ MAX_SPOTS }
 
         // They stand one after the other, behind the request region and within the frame.
         ensures ascending { FollowInTurn (take result spots.new) }
@@ -230,7 +236,14 @@ impl Table {
         ensures absent { IfNone result (NoPlacement self.old.config self.old.placed spec.now next) }
         ensures same { self.new ≡ self.old }
     {
-        choose(&self.rows, &mut self.widest, &self.config, spec, next)
+        choose(
+            &self.rows,
+            &self.counts,
+            &mut self.widest,
+            &self.config,
+            spec,
+            next,
+        )
     }
 
     // Whether the placement is lawful for these parameters from `next` on, beside those that stand.
@@ -242,7 +255,14 @@ impl Table {
         ensures unlawful { result ≡ false
             → IsPlacement self.now.config self.now.placed spec.now next placement.now → ⊥ }
     {
-        is_lawful(&self.rows, &self.config, spec, next, placement)
+        is_lawful(
+            &self.rows,
+            &self.counts,
+            &self.config,
+            spec,
+            next,
+            placement,
+        )
     }
 
     // Adds a flow with a placement that is lawful beside those that stand, in order of SID.
@@ -285,6 +305,7 @@ impl Table {
             &self.flows[place],
             true,
         );
+        self.counts.count(&self.config, &self.flows[place], true);
         self.grants += grants;
         Ok(Placement {
             reference,
