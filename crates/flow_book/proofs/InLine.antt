@@ -327,6 +327,38 @@ module _ (most : ℕ) (flows : List LiveFlow) (ascend : Ascend flows) (small : A
       let below = least-member progress g flows is.1.0 is.1.1 is.1.2 hides in
       omega (arith, n, above, below, least-most progress ms)
 
+  all-shown : (o : Option Hidden) → IsFirstHidden most flows o
+      → AllByRecursion (λ f. is_shown most flows f ≡ (waits f && comes_first o f)) flows
+  all-shown o is = recursion_from_All (λ f. is_shown most flows f ≡ (waits f && comes_first o f)) flows (λ i d lt.
+      shown-is o (get_or flows i d) is (i, lt, get_or_default flows i (get_or flows i d) d lt))
+
+  -- no more than so many are shown
+  pub few-shown : count_by (is_shown most flows) flows ≤ most
+  few-shown = elim (cases_lt most (length (sorted (numbers_of flows)))) [
+    | inl lt ↦
+        let ns = sorted (numbers_of flows) in
+        let n = get_or ns most 0 in
+        let is = some-hidden n lt (get_or_default ns most n 0 lt) in
+        omega (
+          arith,
+          count-same (is_shown most flows) (λ f. waits f && nat_lt (number_in_line f) n) flows
+              (all-shown (Some (record { number = n })) is),
+          count-kept (λ m. nat_lt m n) number_in_line waits flows,
+          count-sorted_into (λ m. nat_lt m n) [] (numbers_of flows),
+          count-below ns most 0 (ascends flows ascend small) lt,
+        )
+    | inr few ↦
+        omega (
+          arith,
+          count-more (is_shown most flows) waits flows
+              (λ f both. both-first (waits f) (nat_lt (count_before flows f) most) both),
+          length-filter waits flows,
+          length-map (filter waits flows) number_in_line,
+          length-sorted_into [] (numbers_of flows),
+          few,
+        )
+  ]
+
 -- what stands behind the first so many of a line stands there in the whole of it
 module _ (whole line : List ℕ) (most : ℕ) (kept : line ≡ take (most + 1) whole) where
   kept-length : length line ≡ min (most + 1) (length whole)

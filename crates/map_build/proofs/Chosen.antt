@@ -102,7 +102,7 @@ module _ (flows : List LiveFlow) (spots : List Spot) (waiting : List Opportunity
   offer-stands place o some first =
       record { some_slots = some; follows = after.ends; purpose = first; first = (behind, tt) }
 
-  grant-cond : (sid bytes : ℕ) (o : Option LiveFlow) → HasBursts d.book.config.bursts → d.grants < most_grants waiting →
+  grant-cond : (sid bytes : ℕ) (o : Option LiveFlow) → HasBursts d.book.config.bursts → d.grants < most_grants d.book.config waiting →
       NoneToMeet waiting plan (room_at d.book.config spots d.offset) →
       ((f : LiveFlow) → o ≡ Some f → f.sid ≡ sid) →
       IsSomeAnd o (λ f. IsNext d.book.config d.book.flows (d.start + d.offset) (room_at d.book.config spots d.offset) f
@@ -125,7 +125,7 @@ module _ (flows : List LiveFlow) (spots : List Spot) (waiting : List Opportunity
   }
 
   -- a data grant of its amount to the flow that is next, where no opportunity waits that fits
-  pub grant-stands : (sid bytes : ℕ) → HasBursts d.book.config.bursts → d.grants < most_grants waiting →
+  pub grant-stands : (sid bytes : ℕ) → HasBursts d.book.config.bursts → d.grants < most_grants d.book.config waiting →
       NoneToMeet waiting plan (room_at d.book.config spots d.offset) →
       IsNextAmount d (room_at d.book.config spots d.offset) sid bytes →
       Stands d.book.config (demand_at flows spots waiting d.start) plan (grant_here d sid bytes)
@@ -133,7 +133,7 @@ module _ (flows : List LiveFlow) (spots : List Spot) (waiting : List Opportunity
       (λ f found. equal f.sid sid (found-in (λ (g : LiveFlow). g.sid == sid) d.book.flows f found).1) is
 
   -- an idle up to the next stop, where nothing else may stand
-  pub idle-stands : NoneToMeet waiting plan (room_at d.book.config spots d.offset) → (most_grants waiting ≤ d.grants)
+  pub idle-stands : NoneToMeet waiting plan (room_at d.book.config spots d.offset) → (most_grants d.book.config waiting ≤ d.grants)
       ⊎ NoneEligible d.book.config d.book.flows (d.start + d.offset) (room_at d.book.config spots d.offset) →
       Stands d.book.config (demand_at flows spots waiting d.start) plan
       (record { offset = d.offset; slots = room_at d.book.config spots d.offset; purpose = Idle })

@@ -82,10 +82,13 @@ module _ (c : Config) (d : Demand) (plan : List Allocation) (old new : Draft) (a
       takes.knows.grants,
       has.after.grants,
       grants-within c d plan a.offset a.slots a.purpose stands.purpose
-          (omega (arith, has.ready.few, has.after.grants)),
+          (omega (arith, has.ready.few, has.after.grants, ap (λ k. k.pending) has.config)),
+      ap (λ k. k.pending) takes.knows.config,
+      ap (λ k. k.pending) has.config,
     );
     room = λ sid live. omega (
       arith,
+      ap (λ k. k.pending) takes.knows.config,
       takes.knows.grants,
       takes.knows.rooms sid,
       has.ready.room sid (live-after old.start sid (a ∷ []) old.book.flows (rw takes.knows.flows at live)),

@@ -2,6 +2,7 @@
 use Rattle.std.proofs.Common.{◌≡◌, ℕ, ◌≤◌, [], ◌∷◌, map, refl, inl, lit<, lit≤, arith}
 use Rattle.map_codec.specs.Element.{word_of}
 use Rattle.sched_calls.specs.declared.spec.FlowSpec.TheVariants.{BestEffort}
+use Rattle.flow_book.specs.Batches.{no_batches}
 use Rattle.flow_book.specs.Flows.{LiveFlow}
 use Rattle.flow_book.specs.Choice.{MayTake, IsNext, IsAmount}
 use Rattle.sched_calls.specs.declared.frame_map.FrameMap.{FrameMap}
@@ -16,7 +17,7 @@ use Rattle.map_build.proofs.RowsContention.{filled_by}
 
 -- a flow of 64000 bits in a second and bursts of so many bytes that asked so many
 abbrev pub fresh : ℕ → ℕ → LiveFlow
-fresh burst asked = record { sid = 17; spec = BestEffort 3 64000 burst; asked = asked; grants = [] }
+fresh burst asked = record { sid = 17; spec = BestEffort 3 64000 burst; asked = asked; batches = no_batches; grants = [] }
 
 -- it may take up to 544 bytes at once, where these are no more than its burst
 may_take : (burst asked start bytes : ℕ) → 544 ≤ burst → bytes ≤ 544 → MayTake base (fresh burst asked) start 36 bytes

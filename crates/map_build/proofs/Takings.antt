@@ -138,7 +138,7 @@ Knows-grant sid bytes old new config flows room other_room grants marks start =
 
 -- so it has that of the flow that is next
 pub Serves-known : (waiting : List Opportunity) (room sid bytes slots : ℕ) (old new : Draft) →
-    old.grants < most_grants waiting → IsNextAmount old room sid bytes → slots ≡ slots_for old.book.config bytes →
+    old.grants < most_grants old.book.config waiting → IsNextAmount old room sid bytes → slots ≡ slots_for old.book.config bytes →
     Knows (grant_here old sid bytes) old new → HasSame old new →
     Serves waiting room (record { offset = old.offset; slots = slots; purpose = DataGrant sid bytes }) old new
 Serves-known waiting room sid bytes slots old new few next long knows same = record {

@@ -4,7 +4,7 @@ use Rattle.flow_book.specs.Flows.{LiveFlow}
 use Rattle.map_build.specs.declared.draft.Draft.{Draft}
 use Rattle.map_build.specs.declared.purpose.Allocation.{Allocation}
 use Rattle.map_build.specs.Purpose.{kind_of}
-use Rattle.map_build.specs.FrameMap.{null_element, pending}
+use Rattle.map_build.specs.FrameMap.{null_element, pending_among, pending}
 
 -- a draft with an element more at its offset, of so many minislots and bytes
 pub record Puts (sid iuc slots bytes : ℕ) (old new : Draft) : Type 0 where
@@ -21,10 +21,11 @@ abbrev pub PutsAllocation : Allocation → Draft → Draft → Type 0
 PutsAllocation a old new = Puts (kind_of old.book.config a.purpose).sid
     (kind_of old.book.config a.purpose).iuc a.slots (kind_of old.book.config a.purpose).bytes old new
 
--- a draft with a pending grant more for each of these flows that has bytes outstanding
+-- a draft with a pending grant more for each of these flows that is shown
 pub record PutsPending (flows : List LiveFlow) (old new : Draft) : Type 0 where
-  pub elements : new.elements.items ≡ old.elements.items ++ pending old.book.config flows
-  pub bytes_of : new.bytes.items ≡ old.bytes.items ++ map (λ e. 0) (pending old.book.config flows)
+  pub elements : new.elements.items ≡ old.elements.items ++ pending_among old.book.config old.book.flows flows
+  pub bytes_of : new.bytes.items
+      ≡ old.bytes.items ++ map (λ e. 0) (pending_among old.book.config old.book.flows flows)
   pub offset : new.offset ≡ old.offset
   pub book : new.book ≡ old.book
   pub start : new.start ≡ old.start

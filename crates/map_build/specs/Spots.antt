@@ -2,8 +2,8 @@
 use Rattle.std.specs.Prelude.{◌≡◌, ℕ, ◌+◌, ◌<◌, ◌≤◌, List, length, map, filter}
 use Rattle.std.specs.List.{AllByRecursion}
 use Rattle.minislots.specs.declared.config.Config.{Config}
-use Rattle.sched_calls.specs.declared.TheConstants.{MAX_FLOWS}
 use Rattle.sched_calls.specs.FlowSpec.{is_periodic}
+use Rattle.flow_book.specs.Book.{Ascend}
 use Rattle.flow_book.specs.Flows.{LiveFlow}
 use Rattle.periodic.specs.declared.TheConstants.{MAX_SPOTS}
 use Rattle.periodic.specs.declared.placement.Spot.{Spot}
@@ -32,7 +32,7 @@ HaveFlowSids spots = AllByRecursion (λ s. IsFlowSid s.sid) spots
 
 -- The flows are those that one channel may have
 pub record AreOfChannel (flows : List LiveFlow) : Type 0 where
-  pub few : length flows ≤ MAX_FLOWS
+  pub ascend : Ascend flows
   pub sids : AllByRecursion (λ f. IsFlowSid f.sid) flows
 
 -- The placed flows are the periodic ones among these, in their order

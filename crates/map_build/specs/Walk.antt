@@ -26,8 +26,8 @@ pub record IsWellBegun (waiting : List Opportunity) (d : Draft) : Type 0 where
   pub near : d.start ≤ 2 ^ 61
   pub inside : d.offset ≤ d.book.config.frame
   pub marks : length d.met ≡ MAX_WAITING
-  pub few : d.grants ≤ most_grants waiting
-  pub room : (sid : ℕ) → IsLive sid d.book.flows → most_grants waiting ≤ d.grants + room_of sid d.book.rooms
+  pub few : d.grants ≤ most_grants d.book.config waiting
+  pub room : (sid : ℕ) → IsLive sid d.book.flows → most_grants d.book.config waiting ≤ d.grants + room_of sid d.book.rooms
   pub started : AllByRecursion (HasStartedBy (d.start + d.offset)) d.book.flows
 
 -- the book and the places of a draft with an allocation more
@@ -82,14 +82,14 @@ IsNextAmount d room sid bytes = IsSomeAnd (flow_of sid d.book.flows)
 
 -- no more data grant stands here, in so many minislots: there are as many as may be, or no flow is eligible
 abbrev pub NoneServed : List Opportunity → Draft → ℕ → Type 0
-NoneServed waiting d room = (most_grants waiting ≤ d.grants)
+NoneServed waiting d room = (most_grants d.book.config waiting ≤ d.grants)
     ⊎ NoneEligible d.book.config d.book.flows (d.start + d.offset) room
 
 -- the draft knows of a data grant, of its amount, to the flow that is next; its element is to come
 pub record Serves (waiting : List Opportunity) (room : ℕ) (a : Allocation) (old new : Draft) : Type 0 where
   pub knows : Knows a old new
   pub same : HasSame old new
-  pub few : old.grants < most_grants waiting
+  pub few : old.grants < most_grants old.book.config waiting
   pub sid : ℕ
   pub bytes : ℕ
   pub next : IsNextAmount old room sid bytes

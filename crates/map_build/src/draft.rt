@@ -6,6 +6,7 @@ ghost use Rattle.std.specs.List.{AllByRecursion};
 ghost use Rattle.map_codec.specs.WireMap.{FitsHeader};
 ghost use Rattle.flow_book.specs.Book.{IsLive, room_of};
 ghost use Rattle.flow_book.specs.Choice.{HasStartedBy};
+ghost use Rattle.flow_book.specs.Shown.{ack_of, IsFirstHidden};
 ghost use Rattle.periodic.specs.declared.placement.Spot.{Spot};
 ghost use Rattle.map_build.specs.declared.TheConstants.{MAX_DATA_GRANTS, MAX_WAITING};
 ghost use Rattle.sched_calls.specs.declared.opportunity.Opportunity.{Opportunity};
@@ -20,7 +21,7 @@ ghost use Rattle.map_build.specs.Walk.{HasPlan};
 use crate::purpose::{Allocation, BROADCAST, NOBODY};
 use crate::usage_codes::long_iuc;
 use crate::{MAX_DATA_GRANTS, MAX_WAITING};
-use flow_book::Book;
+use flow_book::{Book, Hidden};
 use map_codec::{Element, Elements, MAX_ELEMENTS, WireMap, iuc};
 use minislots::{Checked, wire};
 use sched_calls::{ByteCounts, FrameMap, Header};
@@ -113,36 +114,49 @@ impl Draft {
         Ok(())
     }
 
-    /// The Null, and behind it the pending grants.
-    pub(crate) fn put_end(&mut self) -> Result<(), AllocError>
+    /// The Null, and behind it the pending grants. The answer is the MAP's acknowledge time, where all receivers have
+    /// handed in what they heard before the progress.
+    pub(crate) fn put_end(&mut self, progress: u64) -> Result<u64, AllocError>
         requires { self.old.offset ≡ self.old.book.config.frame }
-        ensures { OnOk result (Ends self.old self.new) }
+        ensures ends { OnOk result (Ends self.old self.new) }
+        ensures ack { IfOk result (λ ack. ack
+            ≡ ack_of self.old.book.config.pending progress self.old.book.flows) }
     {
+        let most = self.book.config().pending() as usize;
+        let hidden = self.book.first_hidden(most)?;
         self.put(NOBODY, iuc::NULL, 0)?;
-        self.put_pending()
+        self.put_pending(&hidden)?;
+        Ok(self.book.ack(&hidden, progress))
     }
 
-    // A pending grant for each flow with bytes outstanding.
-    fn put_pending(&mut self) -> Result<(), AllocError>
-        requires { self.old.offset ≡ self.old.book.config.frame }
+    // A pending grant for each flow that is shown.
+    fn put_pending(&mut self, hidden: &Option<Hidden>) -> Result<(), AllocError>
+        requires end { self.old.offset ≡ self.old.book.config.frame }
+        requires hidden { IsFirstHidden self.old.book.config.pending self.old.book.flows hidden.now }
         ensures { OnOk result (PutsPending self.old.book.flows self.old self.new) }
     {
         let iuc = long_iuc(self.book.config());
         for place in 0..self.book.len() {
-            self.put_pending_of(place, iuc)?;
+            self.put_pending_of(place, iuc, hidden)?;
         }
         Ok(())
     }
 
-    // The pending grant of the flow at this place, of the usage code of such grants, if it has bytes outstanding.
-    fn put_pending_of(&mut self, place: usize, iuc: u8) -> Result<(), AllocError>
+    // The pending grant of the flow at this place, of the usage code of such grants, if it is shown.
+    fn put_pending_of(
+        &mut self,
+        place: usize,
+        iuc: u8,
+        hidden: &Option<Hidden>,
+    ) -> Result<(), AllocError>
         requires inside { place < length self.old.book.flows }
         requires end { self.old.offset ≡ self.old.book.config.frame }
         requires code { iuc ≡ long_iuc self.old.book.config }
+        requires hidden { IsFirstHidden self.old.book.config.pending self.old.book.flows hidden.now }
         ensures { OnOk result (IfSome (slice_get self.old.book.flows place)
             (λ f. PutsPending (f ∷ []) self.old self.new)) }
     {
-        if self.book.outstanding_at(place) == 0 {
+        if !self.book.is_shown_at(place, hidden) {
             return Ok(());
         }
         let sid = self.book.sid_at(place);

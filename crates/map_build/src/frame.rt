@@ -46,7 +46,7 @@ fn plan_around(
     waiting: &[Opportunity],
     header: Header,
     start: u64,
-    ack: u64,
+    progress: u64,
 ) -> Result<PlannedFrame, AllocError>
     requires placed { AreInFrame book.now.config spots.now }
     requires waiting { MayWait waiting.now }
@@ -54,23 +54,23 @@ fn plan_around(
     requires bounded { start ≤ 2 ^ 61 }
 
     ensures lawful { IfOk result (λ p. IsLawfulFrame book.now.config
-        (demand_at book.now.flows spots.now waiting.now start) header ack p) }
+        (demand_at book.now.flows spots.now waiting.now start) header progress p) }
     ensures only { IfOk result (λ p. (n : FrameMap) → IsLawfulMap book.now.config
-        (demand_at book.now.flows spots.now waiting.now start) header ack n → n ≡ p.map) }
+        (demand_at book.now.flows spots.now waiting.now start) header progress n → n ≡ p.map) }
     ensures encodable { AreOfChannel book.now.flows → HaveFlowSids spots.now
         → HaveStationSids waiting.now → IfOk result (λ p. IsWellFormed p.map.wire) }
     ensures config { IfOk result (λ p. p.book.config ≡ book.now.config) }
 {
     let mut draft = Draft::open(alloc, book, start)?;
     draft.fill(spots, waiting)?;
-    draft.put_end()?;
+    let ack = draft.put_end(progress)?;
     let met = draft.met;
     let (map, book) = draft.into_map(header, ack);
     Ok(PlannedFrame { map, book, met })
 }
 
 /// The lawful MAP of frame number `frame`, which starts at `frame` times the frame's minislots, with
-/// the minislot `ack` as its acknowledge time. Book and table are of one channel, the table places the
+/// the minislot `progress` before which all receivers have handed in what they heard. Book and table are of one channel, the table places the
 /// book's periodic flows, and the book's grants start before the frame. No opportunity waits for it, and its header is
 /// the configuration's.
 pub fn plan_frame(
@@ -78,7 +78,7 @@ pub fn plan_frame(
     book: &Book,
     table: &Table,
     frame: u64,
-    ack: u64,
+    progress: u64,
 ) -> Result<FrameMap, AllocError>
     requires config { table.now.config ≡ book.now.config }
     requires periodic { ArePeriodicOf book.now.flows table.now.placed }
@@ -88,14 +88,14 @@ pub fn plan_frame(
 
     ensures lawful { IfOk result (λ m. IsLawfulMap book.now.config (demand_at book.now.flows
         (spots_in book.now.config frame table.now.placed) [] (frame * book.now.config.frame))
-        (header_of book.now.config) ack m) }
+        (header_of book.now.config) progress m) }
     ensures only { IfOk result (λ m. (n : FrameMap) → IsLawfulMap book.now.config
         (demand_at book.now.flows (spots_in book.now.config frame table.now.placed) []
-        (frame * book.now.config.frame)) (header_of book.now.config) ack n → n ≡ m) }
+        (frame * book.now.config.frame)) (header_of book.now.config) progress n → n ≡ m) }
     ensures encodable { AreOfChannel book.now.flows → IfOk result (λ m. IsWellFormed m.wire) }
 {
     let header = Header::of(book.config());
-    let planned = plan_with_book(alloc, book, table, frame, ack, header, &[])?;
+    let planned = plan_with_book(alloc, book, table, frame, progress, header, &[])?;
     let PlannedFrame { map, .. } = planned;
     Ok(map)
 }
@@ -108,7 +108,7 @@ pub fn plan_with_book(
     book: &Book,
     table: &Table,
     frame: u64,
-    ack: u64,
+    progress: u64,
     header: Header,
     waiting: &[Opportunity],
 ) -> Result<PlannedFrame, AllocError>
@@ -121,10 +121,10 @@ pub fn plan_with_book(
 
     ensures lawful { IfOk result (λ p. IsLawfulFrame book.now.config
         (demand_at book.now.flows (spots_in book.now.config frame table.now.placed) waiting.now
-        (frame * book.now.config.frame)) header ack p) }
+        (frame * book.now.config.frame)) header progress p) }
     ensures only { IfOk result (λ p. (n : FrameMap) → IsLawfulMap book.now.config
         (demand_at book.now.flows (spots_in book.now.config frame table.now.placed) waiting.now
-        (frame * book.now.config.frame)) header ack n → n ≡ p.map) }
+        (frame * book.now.config.frame)) header progress n → n ≡ p.map) }
     ensures first { IfOk result (λ p. MeetsFirst book.now.config
         (spots_in book.now.config frame table.now.placed) waiting.now p.met) }
     ensures encodable { AreOfChannel book.now.flows → HaveStationSids waiting.now
@@ -134,5 +134,13 @@ pub fn plan_with_book(
     let start = frame * u64::from(book.config().frame());
     let mut spots = [NO_SPOT; MAX_SPOTS];
     let count = table.in_frame(frame, &mut spots);
-    plan_around(alloc, book, &spots[..count], waiting, header, start, ack)
+    plan_around(
+        alloc,
+        book,
+        &spots[..count],
+        waiting,
+        header,
+        start,
+        progress,
+    )
 }

@@ -1,19 +1,19 @@
 //! The walk along a frame: what stands at each offset, up to the end.
 
-ghost use Rattle.std.specs.Prelude.{◌≡◌, ◌<◌, ◌≤◌, ◌+◌, ◌^◌, ◌==◌, OnOk, find, option_copied, length};
+ghost use Rattle.std.specs.Prelude.{◌≡◌, ◌<◌, ◌≤◌, ◌+◌, ◌^◌, ◌==◌, [], OnOk, find, option_copied, length};
 ghost use Rattle.minislots.specs.declared.config.Config.{Config};
 ghost use Rattle.map_build.specs.declared.TheConstants.{MAX_WAITING};
-ghost use Rattle.map_build.specs.Plan.{next_stop};
+ghost use Rattle.map_build.specs.Plan.{next_stop, most_grants};
 ghost use Rattle.map_build.specs.Purpose.{allocation_of};
 ghost use Rattle.map_build.specs.Spots.{AreInFrame};
 ghost use Rattle.map_build.specs.Walk.{IsWellBegun, IsUnfilled, IsFilled, MeetsNext, ServesNext, Chooses};
 ghost use Rattle.map_build.specs.Opportunities.{MayWait};
 ghost use Rattle.map_build.specs.Left.{left_at, AreAhead};
 
-use crate::MAX_DATA_GRANTS;
 use crate::draft::Draft;
 use crate::opportunity::first_unmet;
 use crate::purpose::{Allocation, Purpose};
+use crate::{MAX_DATA_GRANTS, MAX_GRANTS_AND_PENDING};
 use minislots::Checked;
 use periodic::Spot;
 use sched_calls::Opportunity;
@@ -93,7 +93,7 @@ impl Draft {
         requires ready { IsWellBegun waiting.now self.old }
         ensures { ServesNext waiting.now room result self.old self.new }
     {
-        if self.grants >= MAX_DATA_GRANTS - waiting.len() {
+        if self.grants >= most_grants(self.book.config()) - waiting.len() {
             return None;
         }
         let start = self.minislot();
@@ -105,6 +105,14 @@ impl Draft {
             purpose: Purpose::DataGrant(served.sid, served.bytes),
         })
     }
+}
+
+// The most data grants of a MAP for which no opportunity waits.
+fn most_grants(config: &Checked) -> usize
+    ensures value { result ≡ most_grants config.now [] }
+    ensures least { MAX_WAITING ≤ result }
+{
+    MAX_DATA_GRANTS.min(MAX_GRANTS_AND_PENDING - config.pending() as usize)
 }
 
 // The poll or unsolicited grant of a spot.

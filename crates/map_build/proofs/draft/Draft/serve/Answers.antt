@@ -15,9 +15,15 @@ returns c =
     (flow_of served.sid d.book.flows) (rw (start, c.from.ensures) at c.in_ok-served.ensures.next)
     (rw (start, c.from.ensures) at c.in_ok-served.ensures.amount) in
     let slots : c.slots_for.result ≡ slots_for d.book.config served.bytes =
-    c.slots_for.ensures.value ∙ ap (λ k. slots_for k served.bytes) (c.config.ensures.value ∙ c.in_ok-served.ensures.config) in
+    c.slots_for.ensures.value ∙ ap (λ k. slots_for k served.bytes) (c.config-2.ensures.value ∙ c.in_ok-served.ensures.config) in
     Serves-known c.args.waiting.now c.args.room served.sid served.bytes c.slots_for.result d _
-    (omega (arith, c.if-self-waiting.false, c.requires.few)) next slots
+    (omega (
+      arith,
+      c.if-self-most_grants.false,
+      c.requires.few,
+      c.most_grants.ensures.value,
+      ap (λ k. k.pending) c.config.ensures.value,
+    )) next slots
     (Knows-grant served.sid served.bytes d _ c.in_ok-served.ensures.config
     (rw start at c.in_ok-served.ensures.flows) c.in_ok-served.ensures.room c.in_ok-served.ensures.other_room refl refl
     refl)
