@@ -62,6 +62,9 @@ def compact(value):
 
 # What a text that lacks a field of the configuration means, where that is a number.
 MISSING = {it["name"]: it["missing"] for it in tables()["field"] if isinstance(it.get("missing"), int)}
+# The most flows that may live, that a MAP shows as waiting, and grants and polls in an interval, where a text lacks
+# them. A history has one where it is another.
+LIMITS = {"flows": 64, "pending": 64, "periodic": 40}
 # The fields that nobody reads where `bursts` stands, and the profiles that stand in that, each with these numbers.
 UNIFORM = [name for it in tables()["field"] for name in it.get("instead_of", [])]
 PROFILES = [it["name"] for it in tables()["burst"] if "bits" not in it]
@@ -69,9 +72,11 @@ PROFILE = [it["name"] for it in tables()["profile"]]
 
 
 def completed(config):
-    """A configuration as a history has it: with all fields; `bursts` stands in the place of those that nobody reads
-    beside it, and has a profile of unsolicited grants where that is not the one of long grants."""
+    """A configuration as a history has it: with all fields but limits that are as where they are missing; `bursts`
+    stands in the place of those that nobody reads beside it, and has a profile of unsolicited grants where that is not
+    the one of long grants."""
     config = {**MISSING, **config}
+    config = {key: value for key, value in config.items() if key not in LIMITS or value != LIMITS[key]}
     if "bursts" not in config:
         return config
     bursts = config["bursts"]
