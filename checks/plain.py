@@ -71,6 +71,18 @@ class Wanted:
         self.sid, self.usage, self.slots, self.maps, self.met = sid, usage, slots, maps, None
 
 
+# The lawful values of the limits, whose faults go on behind those of the fields before them.
+LAWFUL, FIRST_FAULT = {"flows": (1, 8191), "pending": (1, 125), "periodic": (0, 2560)}, 21
+
+
+def fault_of(config):
+    """The number of the first limit of a configuration that is not lawful, or none."""
+    for number, (name, (least, most)) in enumerate(LAWFUL.items(), FIRST_FAULT):
+        if not least <= config.get(name, LIMITS[name]) <= most:
+            return number
+    return None
+
+
 class Refused(Exception):
     """That a call is refused, with the number of the refusal and what it tells."""
 

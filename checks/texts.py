@@ -35,7 +35,8 @@ CONFIG, FORMS, BURSTS = table("base_configuration"), table("forms_of_calls"), ta
 PLAIN, SEVERAL = table("runs"), table("runs_with_several_grants")
 CROWDS = [table("runs_of_many_flows"), table("a_run_of_many_grants"), table("a_run_of_forty_grants")]
 RANGING, BURSTY = table("runs_with_opportunities"), table("runs_with_bursts")
-RUNS = [PLAIN, SEVERAL, RANGING, BURSTY, *CROWDS]
+LIMITED = table("runs_with_many_flows")
+RUNS = [PLAIN, SEVERAL, RANGING, BURSTY, LIMITED, *CROWDS]
 REPLIES, BUILD = table("a_history_with_each_reply"), table("a_history_of_one_build")
 CALLS = read("checks/rows/calls_of_each_name")
 
