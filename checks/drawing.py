@@ -335,10 +335,12 @@ class Waiting(Limited):
         yield from self.polls()
         self.sids = self.draw.sample(range(1, 7900), min(self.config.get("flows", 64), 320) + 2)
         for sid in self.sids:
-            flow = {"kind": "best_effort", "priority": self.draw.choice([0, 3, 3, 3, 7]), "rate": 0, "burst": 0}
-            yield {"call": "admit", "sid": sid, "flow": {**flow, **(self.ceiling() if self.draw.random() < 0.1 else {})}}
-        for number in range(self.draw.choice([2, 5])):
-            for sid in [*self.draw.sample(self.sids, self.draw.choice([10, 60, len(self.sids)])), *range(8191, 8180, -1)]:
+            ceiling = self.ceiling() if self.draw.random() < 0.1 else {"rate": 0, "burst": 0}
+            flow = {"kind": "best_effort", "priority": self.draw.choice([0, 3, 3, 3, 7]), **ceiling}
+            yield {"call": "admit", "sid": sid, "flow": flow}
+        for _ in range(self.draw.choice([2, 5])):
+            some = self.draw.sample(self.sids, self.draw.choice([10, 60, len(self.sids)]))
+            for sid in [*some, *range(8191, 8180, -1)]:
                 heard = self.near(0) if self.draw.random() < 0.2 else self.plain.next - 1 - self.draw.randrange(10)
                 count = self.draw.choice([1, 16, 64, 64, 100, 100, 300, 1522])
                 yield {"call": "ask", "receiver": 0, "sid": sid, "bytes": count, "heard": max(0, heard)}

@@ -1,6 +1,6 @@
-"""What histories have reached of flows that wait, that MAPs show and that may live, and whether the laws of acknowledging
-hold. It is read in the entries alone, and knows nothing of how a MAP is made: which requests are served is counted in
-bytes, and there are no batches."""
+"""What histories have reached of flows that wait, that MAPs show and that may live, and whether the laws of
+acknowledging hold. It is read in the entries alone, and knows nothing of how a MAP is made: which requests are served
+is counted in bytes, and there are no batches."""
 
 from plain_bursts import Bursts
 from reached import ELEMENTS, GRANTS, LONG, TOGETHER, Map
@@ -11,8 +11,9 @@ STARTS, WIRE = 40, 2**32
 FLOWS = {
     "a flow is refused, for the only one that may lives", "a flow is refused, for more than 64 live",
     "a periodic flow is refused, for none may live", "a periodic flow is refused, and would not be with one grant",
-    "more than 64 flows live", "grants and polls of more than 40 in an interval", "forty starts in a frame, and no more",
-    "all flows that wait are shown", "as many flows wait as a MAP shows", "a flow is not shown", "one flow is shown",
+    "more than 64 flows live", "grants and polls of more than 40 in an interval",
+    "forty starts in a frame, and no more", "all flows that wait are shown", "as many flows wait as a MAP shows",
+    "a flow is not shown", "one flow is shown",
     "64 flows are shown and more wait", "125 flows are shown and more wait", "a flow of a higher SID is shown first",
     "a shown flow is not shown later", "a flow is shown later", "a flow that is not shown is removed",
     "a flow that is not shown asks again", "a flow that is not shown has a grant", "a polled flow is not shown",
