@@ -272,15 +272,18 @@ class Limited(Drawing):
 
     def __init__(self, random_numbers):
         super().__init__(random_numbers)
-        if self.draw.random() < 0.7:
+        if self.draw.random() < 0.8:
             self.kinds = ["best_effort"] * 8 + ["polled", "unsolicited"]
-            self.counts = [1, 16, 64, 64, 100, 200, 300, 544, 1522, 3000]
+            self.builds, self.admissions = 6, self.draw.choice([4, 12])
+            # in each frame there is room for some of what is asked for
+            most = self.plain.capacity(self.config["frame"] - self.config["req_slots"])
+            self.counts = [1, 16, 64, 100, *(max(1, most * parts // 4) for parts in (1, 1, 2, 3, 4, 5, 8, 20))]
         self.hears = self.draw.choice([0.05, 0.15, 0.25])
 
     def limits(self):
         """Limits of which any may be missing."""
-        few = {"flows": [1, *range(2, 7), 6, 6], "pending": [1, 1, 1, 2, 2, 3, 4], "periodic": [*range(6)]}
-        return {name: self.draw.choice(most) for name, most in few.items() if self.draw.random() < 0.75}
+        few = {"flows": [1, *range(2, 7), 5, 6, 6, 6], "pending": [1, 1, 1, 1, 2, 2, 3, 4], "periodic": [*range(6)]}
+        return {name: self.draw.choice(most) for name, most in few.items() if self.draw.random() < 0.85}
 
     def drawn_config(self):
         config = {**super().drawn_config(), **self.limits()}
@@ -297,10 +300,19 @@ class Limited(Drawing):
         return shuffled(self.draw, {**told, **said})
 
     def next_call(self):
-        if self.draw.random() < self.hears:
-            receiver = self.receiver()
-            return {"call": "heard", "receiver": receiver, "upto": self.near(receiver)}
-        return super().next_call()
+        drawn, receiver = self.draw.random(), self.receiver()
+        if drawn < self.hears:
+            upto = self.near(receiver) if self.draw.random() < 0.5 else self.plain.next
+            return {"call": "heard", "receiver": receiver, "upto": upto}
+        asking = [sid for sid, flow in self.plain.flows.items() if flow.kind != "unsolicited"]
+        return self.request(self.draw.choice(asking)) if drawn < 0.5 and asking else super().next_call()
+
+    def request(self, sid):
+        """A request that is not refused, but for its bytes."""
+        receiver = self.draw.randrange(self.config["receivers"])
+        least, last = self.plain.progress[receiver], self.plain.next - 1
+        heard = self.draw.randint(min(least, last), last)
+        return {"call": "ask", "receiver": receiver, "sid": sid, **self.amount(), "heard": max(0, heard)}
 
 
 class Waiting(Limited):
