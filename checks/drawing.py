@@ -334,7 +334,7 @@ class Waiting(Limited):
 
     def polls(self):
         """As many polls as frames may have and some more, or a few, and a flow with several grants in an interval."""
-        frames = 2 - self.config["cycle"] % 2
+        frames = self.draw.choice([1, 2 - self.config["cycle"] % 2])
         times = {"interval_us": 25 * self.config["frame"] * frames, "jitter_us": 0}
         late = {**times, "jitter_us": 25 * self.config["frame"], "grants": self.draw.randint(1, 8)}
         for sid in range(8191, 8191 - self.draw.choice([0, 5, 42 * frames]), -1):
