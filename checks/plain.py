@@ -46,7 +46,7 @@ class Flow:
             self.second.append((heard, self.asked))
 
     def move_on(self):
-        """Behind a MAP the second batch becomes the first where all bytes asked up to the end of that are granted."""
+        """Behind a MAP the second batch becomes the first where all bytes asked with the first are granted."""
         if self.outstanding() == 0:
             self.first, self.second = [], []
         elif self.granted() >= self.first[-1][1]:
