@@ -3,7 +3,7 @@ meet; and the text of their histories. A third of the channels have burst profil
 
 from drawn_bursts import profile, with_bursts
 from plain import HEADING, LAST_CLOCK, MOST_BYTES, Scheduler, line_of
-from texts import LEFT_OUT, MISSING, PROFILES, completed
+from texts import LEFT_OUT, LIMITS, MISSING, PROFILES, completed
 
 
 def shuffled(draw, members):
@@ -224,7 +224,7 @@ class Crowded(Drawing):
     """A script that begins with forty polls, each behind a minislot or more that is nobody's, 64 flows that ask, and up
     to sixteen Reserves: its MAP has up to 240 elements."""
 
-    MORE = (0, 10, 30)
+    MORE, FLOWS = (0, 10, 30), 64
 
     def drawn_config(self):
         frame = self.draw.randint(260, 320)
@@ -258,17 +258,130 @@ class Crowded(Drawing):
         yield self.polled(2, 3)
         yield {"call": "remove", "sid": 100}
         yield self.polled(1)
-        for sid in range(41, 65):
+        for sid in range(41, self.FLOWS + 1):
             flow = {"kind": "best_effort", "priority": 7, "rate": 0, "burst": 0}
             yield {"call": "admit", "sid": sid, "flow": flow}
         heard = self.plain.next - 1
-        for sid in range(1, 65):
+        for sid in range(1, self.FLOWS + 1):
             yield {"call": "ask", "receiver": 0, "sid": sid, "bytes": 6400, "heard": heard}
         slots = self.draw.choice([[2], [2, 2, 2, 1, 3], [2, self.config["frame"] - 1]])
         for _ in range(self.draw.choice([0, 1, 15, 16, 17, 20])):
             yield {"call": "reserve", "usage": "initial", "slots": self.draw.choice(slots)}
         yield self.build()
         yield self.build()
+
+
+class Limited(Drawing):
+    """A script on a channel that says how many flows may live, how many a MAP shows and how many grants and polls an
+    interval has: mostly few, so that many flows wait that are not shown. It hears more, and half of them begin near a
+    wrap of the minislots on the wire."""
+
+    MORE = (60, 150, 300)
+
+    def __init__(self, random_numbers):
+        super().__init__(random_numbers)
+        if self.draw.random() < 0.8:
+            self.kinds = ["best_effort"] * 8 + ["polled", "unsolicited"]
+            self.builds, self.admissions = 6, self.draw.choice([4, 12])
+            # in each frame there is room for some of what is asked for
+            most = self.plain.capacity(self.config["frame"] - self.config["req_slots"])
+            self.counts = [1, 16, 64, 100, *(max(1, most * parts // 4) for parts in (1, 1, 2, 3, 4, 5, 8, 20))]
+        self.hears = self.draw.choice([0.05, 0.15, 0.25])
+
+    def limits(self):
+        """Limits of which any may be missing."""
+        few = {"flows": [1, *range(2, 7), 5, 6, 6, 6], "pending": [1, 1, 1, 1, 2, 2, 3, 4], "periodic": [*range(6)]}
+        return {name: self.draw.choice(most) for name, most in few.items() if self.draw.random() < 0.85}
+
+    def drawn_config(self):
+        config = {**super().drawn_config(), **self.limits()}
+        if self.draw.random() < 0.4:
+            config["grant_cap"] = config["quantum"]
+        if self.draw.random() < 0.5:
+            config["start"] = config["frame"] * (2**32 // config["frame"] - self.draw.choice([0, 1, 1, 2, 3, 6]))
+        return completed(config)
+
+    def spelled(self):
+        """A limit stands there too where it is what a text means that lacks it."""
+        told = super().spelled()
+        said = {name: most for name, most in LIMITS.items() if name not in told and self.draw.random() < 0.3}
+        return shuffled(self.draw, {**told, **said})
+
+    def next_call(self):
+        drawn, receiver = self.draw.random(), self.receiver()
+        if drawn < self.hears:
+            upto = self.near(receiver) if self.draw.random() < 0.5 else self.plain.next
+            return {"call": "heard", "receiver": receiver, "upto": upto}
+        asking = [sid for sid, flow in self.plain.flows.items() if flow.kind != "unsolicited"]
+        return self.request(self.draw.choice(asking)) if drawn < 0.5 and asking else super().next_call()
+
+    def request(self, sid):
+        """A request that is not refused, but for its bytes."""
+        receiver = self.draw.randrange(self.config["receivers"])
+        least, last = self.plain.progress[receiver], self.plain.next - 1
+        heard = self.draw.randint(min(least, last), last)
+        return {"call": "ask", "receiver": receiver, "sid": sid, **self.amount(), "heard": max(0, heard)}
+
+
+class Waiting(Limited):
+    """A script that begins with up to 300 flows of which more ask than a MAP shows, in any order, with small requests
+    and large ones, and with grants and polls in most minislots of a frame."""
+
+    MORE = (0, 20, 60)
+
+    def limits(self):
+        flows = self.draw.choice([70, 130, 200, 300, 8191])
+        limits = {"flows": flows, "pending": self.draw.choice([1, 8, 63, 64, 64, 64, 65, 90, 125])}
+        return {**limits, "periodic": self.draw.choice([0, 39, 41, 60, 2560])}
+
+    def drawn_sizes(self):
+        """Frames in which more polls have room than may stand there."""
+        frame = self.draw.choice([150, 256, 400])
+        sizes = {"frame": frame, "poll_slots": 1, "ticks": 4, "calls": 3000, "lead": self.draw.choice([0, frame])}
+        return {**super().drawn_sizes(), **sizes, "start": frame * self.draw.choice([0, 20, 10**12])}
+
+    def polls(self):
+        """As many polls as frames may have and some more, or a few, and a flow with several grants in an interval."""
+        frames = self.draw.choice([1, 2 - self.config["cycle"] % 2])
+        times = {"interval_us": 25 * self.config["frame"] * frames, "jitter_us": 0}
+        late = {**times, "jitter_us": 25 * self.config["frame"], "grants": self.draw.randint(1, 8)}
+        for sid in range(8191, 8191 - self.draw.choice([0, 5, 42 * frames]), -1):
+            yield {"call": "admit", "sid": sid, "flow": {"kind": "polled", **times, "rate": 0, "burst": 0}}
+            if self.draw.random() < 0.04:
+                yield {"call": "admit", "sid": 8000, "flow": {"kind": "unsolicited", "size": 1, **late}}
+
+    def begun(self):
+        yield self.build()
+        yield from self.polls()
+        self.sids = self.draw.sample(range(1, 7900), min(self.config.get("flows", 64), 320) + 2)
+        for sid in self.sids:
+            ceiling = self.ceiling() if self.draw.random() < 0.1 else {"rate": 0, "burst": 0}
+            flow = {"kind": "best_effort", "priority": self.draw.choice([0, 3, 3, 3, 7]), **ceiling}
+            yield {"call": "admit", "sid": sid, "flow": flow}
+        for _ in range(self.draw.choice([2, 5])):
+            some = self.draw.sample(self.sids, self.draw.choice([10, 60, len(self.sids)]))
+            for sid in [*some, *range(8191, 8180, -1)]:
+                heard = self.near(0) if self.draw.random() < 0.2 else self.plain.next - 1 - self.draw.randrange(10)
+                count = self.draw.choice([1, 16, 64, 64, 100, 100, 300, 1522])
+                yield {"call": "ask", "receiver": 0, "sid": sid, "bytes": count, "heard": max(0, heard)}
+            for receiver in range(self.config["receivers"]):
+                yield {"call": "heard", "receiver": receiver, "upto": self.plain.next - self.draw.choice([0, 0, 5, 10])}
+            for _ in range(self.draw.choice([1, 1, 2, 3])):
+                yield self.build()
+
+
+class CrowdedMore(Crowded):
+    """The same with more flows, of which a MAP shows another number."""
+
+    def drawn_config(self):
+        most = self.draw.choice([1, 63, 64, 65, 80, 125, 125])
+        self.FLOWS = max(64, most) + self.draw.choice([0, 0, 1, 40])
+        return completed({**super().drawn_config(), "flows": self.FLOWS + 1, "pending": most})
+
+
+def limited_of(random_numbers):
+    """A drawn script on a channel with other limits."""
+    return random_numbers.choice([Limited] * 10 + [Waiting] * 3 + [CrowdedMore] * 2)(random_numbers)
 
 
 def drawing_of(random_numbers):

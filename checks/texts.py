@@ -35,7 +35,8 @@ CONFIG, FORMS, BURSTS = table("base_configuration"), table("forms_of_calls"), ta
 PLAIN, SEVERAL = table("runs"), table("runs_with_several_grants")
 CROWDS = [table("runs_of_many_flows"), table("a_run_of_many_grants"), table("a_run_of_forty_grants")]
 RANGING, BURSTY = table("runs_with_opportunities"), table("runs_with_bursts")
-RUNS = [PLAIN, SEVERAL, RANGING, BURSTY, *CROWDS]
+LIMITED = table("runs_with_many_flows")
+RUNS = [PLAIN, SEVERAL, RANGING, BURSTY, LIMITED, *CROWDS]
 REPLIES, BUILD = table("a_history_with_each_reply"), table("a_history_of_one_build")
 CALLS = read("checks/rows/calls_of_each_name")
 
@@ -64,6 +65,9 @@ def compact(value):
 MISSING = {it["name"]: it["missing"] for it in tables()["field"] if isinstance(it.get("missing"), int)}
 # The fields that no history has where they are those.
 LEFT_OUT = [it["name"] for it in tables()["field"] if it.get("left_out")]
+# The most flows that may live, that a MAP shows as waiting, and grants and polls in an interval, where a text lacks
+# them.
+LIMITS = {name: MISSING[name] for name in LEFT_OUT}
 # The fields that nobody reads where `bursts` stands, and the profiles that stand in that, each with these numbers.
 UNIFORM = [name for it in tables()["field"] for name in it.get("instead_of", [])]
 PROFILES = [it["name"] for it in tables()["burst"] if "bits" not in it]
