@@ -40,8 +40,8 @@ use Rattle.sched_history.proofs.steps.Passed.{AdmitsFlow, passed-admit, passed-a
 -- what an entry changes, from one history to the next
 pub data EntryChange (c : Config) (h new : List Entry) : Type 0 where
   Nothing : flows_of c new ≡ flows_of c h → next_after c new ≡ next_after c h → EntryChange c h new
-  Asked : (sid bytes : ℕ) → bytes ≤ most_bytes → flows_of c new ≡ changed sid (with_asked bytes) (flows_of c h)
-      → next_after c new ≡ next_after c h → EntryChange c h new
+  Asked : (sid bytes heard : ℕ) → bytes ≤ most_bytes
+      → flows_of c new ≡ changed sid (with_asked bytes heard) (flows_of c h) → next_after c new ≡ next_after c h → EntryChange c h new
   Began : (sid : ℕ) (spec : FlowSpec) → AdmitsFlow c h sid spec
       → flows_of c new ≡ with_flow (new_flow sid spec) (flows_of c h) → next_after c new ≡ next_after c h
       → EntryChange c h new

@@ -34,7 +34,7 @@ impl State {
             Call::Remove(sid) => Ok(self.forget(sid)),
             Call::Ask { sid, amount, .. } => {
                 let bytes = amount.bytes(&self.config) as u32;
-                self.book.ask(sid, bytes);
+                self.book.ask(sid, bytes, heard);
                 Ok(Answer {
                     reply: Reply::Taken,
                     kept: Reply::Taken,

@@ -37,6 +37,6 @@ returns-in-Ask-clause-answered c = λ h opens.
           c.ask.new.self (c.ask.ensures
           ∙ ap (λ (n : ℕ). record s.book {
             flows = changed ask.sid
-                (with_asked n) s.book.flows;
+                (with_asked n ask.heard) s.book.flows;
           }) c.bytes-bytes.ensures);
     })
