@@ -26,3 +26,4 @@ pub mod Marking
 pub mod Standing
 pub mod Bounding
 pub mod Counting
+pub mod Refilling
