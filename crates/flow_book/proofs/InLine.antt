@@ -146,6 +146,10 @@ small-of c [] sums = tt
 small-of c (f ∷ items) sums =
     (sid-small (rank_of f.spec) (last_start f.grants.items) f.sid f.turn sums.0.turn.1, small-of c items sums.1)
 
+least-of-all : (p : ℕ) (ms : List ℕ) → least_with p ms ≤ p
+least-of-all p [] = omega arith
+least-of-all p (m ∷ ms) = omega (arith, least-of-all p ms)
+
 module _ (most : ℕ) (flows : List LiveFlow) (ascend : Ascend flows) (small : AreSmall flows) where
   -- the number behind the first so many is that of the first flow that is hidden
   pub some-hidden : (n : ℕ) → most < length (sorted (numbers_of flows)) → get_or (sorted (numbers_of flows)) most n ≡ n
@@ -259,10 +263,6 @@ module _ (most : ℕ) (flows : List LiveFlow) (ascend : Ascend flows) (small : A
   least-above p n [] all = omega arith
   least-above p n (m ∷ ms) all = omega (arith, all.0, least-above p n ms all.1)
 
-  least-most : (p : ℕ) (ms : List ℕ) → least_with p ms ≤ p
-  least-most p [] = omega arith
-  least-most p (m ∷ ms) = omega (arith, least-most p ms)
-
   none-kept : (p : LiveFlow → Bool) (fs : List LiveFlow) → AllByRecursion (λ f. p f ≡ false) fs → filter p fs ≡ []
   none-kept p [] all = refl
   none-kept p (f ∷ fs) all = rw all.0 (none-kept p fs all.1)
@@ -325,7 +325,7 @@ module _ (most : ℕ) (flows : List LiveFlow) (ascend : Ascend flows) (small : A
       let ms = map since (filter (is_hidden most flows) flows) in
       let above = least-above progress (since g) ms (all-since g is.1 is.3 flows (λ f own. own)) in
       let below = least-member progress g flows is.1.0 is.1.1 is.1.2 hides in
-      omega (arith, n, above, below, least-most progress ms)
+      omega (arith, n, above, below, least-of-all progress ms)
 
   all-shown : (o : Option Hidden) → IsFirstHidden most flows o
       → AllByRecursion (λ f. is_shown most flows f ≡ (waits f && comes_first o f)) flows
@@ -358,6 +358,10 @@ module _ (most : ℕ) (flows : List LiveFlow) (ascend : Ascend flows) (small : A
           few,
         )
   ]
+
+-- the acknowledge time is at most the least progress
+pub ack-most : (most progress : ℕ) (flows : List LiveFlow) → ack_of most progress flows ≤ progress
+ack-most most progress flows = least-of-all progress (map since (filter (is_hidden most flows) flows))
 
 -- what stands behind the first so many of a line stands there in the whole of it
 module _ (whole line : List ℕ) (most : ℕ) (kept : line ≡ take (most + 1) whole) where

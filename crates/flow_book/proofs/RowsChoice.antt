@@ -2,6 +2,7 @@
 use Rattle.std.proofs.Common.{[], ◌∷◌, refl, ap, inl, inr, lit<, lit≤, arith}
 use Rattle.sched_calls.specs.declared.spec.FlowSpec.TheVariants.{Polled, BestEffort}
 use Rattle.flow_book.specs.Batches.{no_batches}
+use Rattle.flow_book.proofs.Profile.{one_request}
 use Rattle.flow_book.specs.Flows.{LiveFlow}
 use Rattle.flow_book.specs.Choice.{IsEligible, IsNext}
 use Rattle.sched_calls.proofs.Base.{base}
@@ -39,11 +40,11 @@ the_lower_priority_is_not_next next = elim (next.first.1.0 high_is_eligible) [
 
 -- two flows of one priority with 1000 bytes to be granted
 abbrev pub lower_sid : LiveFlow
-lower_sid = record { sid = 20; spec = BestEffort 3 0 0; asked = 1000; batches = no_batches; grants = [] }
+lower_sid = record { sid = 20; spec = BestEffort 3 0 0; asked = 1000; batches = one_request 1000 801; grants = [] }
 
 -- a flow of the next SID that is the same otherwise
 abbrev pub higher_sid : LiveFlow
-higher_sid = record { sid = 21; spec = BestEffort 3 0 0; asked = 1000; batches = no_batches; grants = [] }
+higher_sid = record { sid = 21; spec = BestEffort 3 0 0; asked = 1000; batches = one_request 1000 801; grants = [] }
 
 -- of equal priorities without a grant the lower SID is next
 pub the_lower_sid_is_next : IsNext base (lower_sid ∷ higher_sid ∷ []) 844 36 lower_sid

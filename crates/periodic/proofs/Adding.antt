@@ -9,7 +9,6 @@ use Rattle.minislots.specs.Config.{IsLawful}
 use Rattle.sched_calls.specs.declared.spec.FlowSpec.{FlowSpec}
 use Rattle.sched_calls.specs.FlowSpec.{is_periodic, grants_of, first_fault}
 use Rattle.flow_book.proofs.Insertion.{all-put_in, ascends-put_in}
-use Rattle.sched_calls.specs.declared.TheConstants.{MAX_PERIODIC_GRANTS}
 use Rattle.sched_calls.specs.declared.placement.Placement.{Placement}
 use Rattle.periodic.specs.declared.TheConstants.{MAX_SPOTS}
 use Rattle.periodic.specs.declared.placement.Spot.{Spot}
@@ -126,7 +125,7 @@ module _ (c : Config) (placed : List Placed) (sid : ℕ) (spec : FlowSpec) (next
   }
 
   -- with it no frame has too many starts
-  few-with : (k : ℕ) → IsLawful c → IsPlacement c placed spec next p
+  pub few-with : (k : ℕ) → IsLawful c → IsPlacement c placed spec next p
       → length (spots_in c k (with_placed new placed)) ≤ MAX_SPOTS
   few-with k lawful is =
       let place = k % c.cycle in
@@ -140,7 +139,7 @@ module _ (c : Config) (placed : List Placed) (sid : ℕ) (spec : FlowSpec) (next
 
   -- with a flow of a new SID, lawfully placed, the table is sound
   pub sound-with : IsLawful c → 0 < sid → sid ≤ 8191 → is_periodic spec ≡ true → first_fault c spec ≡ None
-      → placed_grants placed + grants_of spec ≤ MAX_PERIODIC_GRANTS → IsNotPlaced sid placed
+      → placed_grants placed + grants_of spec ≤ c.periodic → IsNotPlaced sid placed
       → IsPlacement c placed spec next p → AreSound c placed
       → AreSound c (with_placed new placed)
   sound-with lawful some most periodic none few absent is are = record {

@@ -5,7 +5,6 @@ ghost use Rattle.std.specs.Prelude.{length, take, drop, true, false, None, IfOk,
 ghost use Rattle.std.specs.List.{AllByRecursion};
 ghost use Rattle.std.specs.List.Sorted.{IsPermutation};
 ghost use Rattle.sched_calls.specs.FlowSpec.{is_periodic, grants_of, first_fault};
-ghost use Rattle.sched_calls.specs.declared.TheConstants.{MAX_PERIODIC_GRANTS};
 ghost use Rattle.periodic.specs.declared.TheConstants.{MAX_SPOTS, MAX_STARTS};
 ghost use Rattle.periodic.specs.Placement.{spots_in, IsPlacement, NoPlacement};
 ghost use Rattle.periodic.specs.Choice.{IsChosen};
@@ -23,11 +22,11 @@ use crate::search::{Chosen, choose};
 use crate::spots::{PlacedFlow, mark};
 use crate::widest::Widest;
 use minislots::Checked;
-use sched_calls::{FlowSpec, MAX_PERIODIC_GRANTS, Placement, Starts};
+use sched_calls::{FlowSpec, Placement, Starts};
 use std::alloc::{AllocError, Global};
 use std::marker::Model;
 
-/// The placements of one channel's periodic flows, in order of SID, with at most [`MAX_PERIODIC_GRANTS`] grants per
+/// The placements of one channel's periodic flows, in order of SID, with at most `periodic` of the configuration grants per
 /// interval, and at most [`MAX_SPOTS`] grants and polls in each frame. No two of these take the same minislot of a frame.
 #[derive(Drop)]
 pub struct Table {
@@ -111,14 +110,14 @@ impl Table {
     /// first nominal time at or after `next`. Of all lawful ones it takes that of the least phase, then of the least
     /// offset, then in each frame the least first start, then the least next one. The flow has a new SID from 1 to 8191
     /// and parameters without fault, its grants per interval and those of the flows that are placed are at most
-    /// [`MAX_PERIODIC_GRANTS`], and `next` is the start of a frame, at most 2^61. After a fault nothing has changed.
+    /// `periodic` of the configuration, and `next` is the start of a frame, at most 2^61. After a fault nothing has changed.
     pub fn place(&mut self, sid: u16, spec: &FlowSpec, next: u64) -> Result<Placement, PlaceFault>
         requires sid_positive { 0 < sid }
         requires sid_most { sid ≤ 8191 }
         requires is_new { IsNotPlaced sid self.old.placed }
         requires periodic { is_periodic spec.now ≡ true }
         requires no_fault { first_fault self.old.config spec.now ≡ None }
-        requires room { placed_grants self.old.placed + grants_of spec.now ≤ MAX_PERIODIC_GRANTS }
+        requires room { placed_grants self.old.placed + grants_of spec.now ≤ self.old.config.periodic }
         requires aligned { next % self.old.config.frame ≡ 0 }
         requires most { next ≤ 2 ^ 61 }
 
@@ -161,7 +160,7 @@ impl Table {
         requires is_new { IsNotPlaced sid self.old.placed }
         requires periodic { is_periodic spec.now ≡ true }
         requires no_fault { first_fault self.old.config spec.now ≡ None }
-        requires room { placed_grants self.old.placed + grants_of spec.now ≤ MAX_PERIODIC_GRANTS }
+        requires room { placed_grants self.old.placed + grants_of spec.now ≤ self.old.config.periodic }
         requires aligned { next % self.old.config.frame ≡ 0 }
         requires most { next ≤ 2 ^ 61 }
 
@@ -279,7 +278,7 @@ impl Table {
         requires is_new { IsNotPlaced sid self.old.placed }
         requires periodic { is_periodic spec ≡ true }
         requires no_fault { first_fault self.old.config spec ≡ None }
-        requires room { placed_grants self.old.placed + grants_of spec ≤ MAX_PERIODIC_GRANTS }
+        requires room { placed_grants self.old.placed + grants_of spec ≤ self.old.config.periodic }
         requires lawful { (next : ℕ) × IsPlacement self.old.config self.old.placed spec next
             (placement_at reference starts.now) }
         ensures placement { IfOk result (λ p. p ≡ placement_at reference starts.now) }

@@ -169,7 +169,7 @@ module _ (s : State) (h : List Entry) (is_after : IsStateAfter s h) (stamp : Sta
         lawful = is_after.lawful;
         book_config = is_after.book_config;
         table_config = is_after.table_config;
-        flows = is_after.flows ∙ sym (flows_of-quiet s.config h e (λ sid. refl) (λ sid. refl) (λ sid. refl));
+        flows = is_after.flows ∙ sym (flows_of-quiet s.config h e (λ sid. refl) (λ sid. refl) (λ sid asked granted b. refl) (λ sid. refl));
         placed = is_after.placed ∙ sym (table_of-stays h e (λ sid. refl));
         next = is_after.next ∙ sym (next_after-same s.config h e refl refl);
         places = length-set s.progress receiver upto ∙ is_after.places;
@@ -193,7 +193,7 @@ module _ (s : State) (h : List Entry) (is_after : IsStateAfter s h) (stamp : Sta
         lawful = is_after.lawful;
         book_config = is_after.book_config;
         table_config = is_after.table_config;
-        flows = is_after.flows ∙ sym (flows_of-quiet s.config h e (λ sid. refl) (λ sid. refl) (λ sid. refl));
+        flows = is_after.flows ∙ sym (flows_of-quiet s.config h e (λ sid. refl) (λ sid. refl) (λ sid asked granted b. refl) (λ sid. refl));
         placed = is_after.placed ∙ sym (table_of-stays h e (λ sid. refl));
         next = sym (next_after-skipped s.config h e next refl);
         places = is_after.places;
@@ -235,7 +235,7 @@ module _ (s : State) (h : List Entry) (is_after : IsStateAfter s h) (stamp : Sta
         lawful = is_after.lawful;
         book_config = is_after.book_config;
         table_config = is_after.table_config;
-        flows = is_after.flows ∙ sym (flows_of-quiet s.config h e (λ sid. refl) (λ sid. refl) (λ sid. refl));
+        flows = is_after.flows ∙ sym (flows_of-quiet s.config h e (λ sid. refl) (λ sid. refl) (λ sid asked granted b. refl) (λ sid. refl));
         placed = is_after.placed ∙ sym (table_of-stays h e (λ sid. refl));
         next = is_after.next ∙ sym (next_after-same s.config h e refl refl);
         places = is_after.places;
@@ -254,7 +254,7 @@ module _ (s : State) (h : List Entry) (is_after : IsStateAfter s h) (stamp : Sta
         lawful = is_after.lawful;
         book_config = is_after.book_config;
         table_config = is_after.table_config;
-        flows = is_after.flows ∙ sym (flows_of-quiet s.config h e (λ sid. refl) (λ sid. refl) (λ sid. refl));
+        flows = is_after.flows ∙ sym (flows_of-quiet s.config h e (λ sid. refl) (λ sid. refl) (λ sid asked granted b. refl) (λ sid. refl));
         placed = is_after.placed ∙ sym (table_of-stays h e (λ sid. refl));
         next = is_after.next ∙ sym (next_after-same s.config h e refl refl);
         places = is_after.places;

@@ -32,7 +32,9 @@ impl State {
             Call::Admit(sid, spec) if is_periodic(spec) => self.admit_placed_flow(alloc, sid, spec),
             Call::Admit(sid, spec) => self.admit_best_effort(sid, spec),
             Call::Remove(sid) => Ok(self.forget(sid)),
-            Call::Ask { sid, amount, .. } => {
+            Call::Ask {
+                sid, amount, heard, ..
+            } => {
                 let bytes = amount.bytes(&self.config) as u32;
                 self.book.ask(sid, bytes, heard);
                 Ok(Answer {
