@@ -195,7 +195,7 @@ def of_fields():
     wanted = UNIFORM + [it["name"] for it in FIELDS if it["name"] not in UNIFORM + OBJECTS + LEFT_OUT]
     yield f"{plain}: config", re.findall(r"(\w+): self\.\1,", code_of(plain)), wanted
     found = re.findall(r"(\w+): or_missing\(self\.\1, (\d+)\),", code_of(plain))
-    found += re.findall(r"if self\.has_(\w+) == 0 \{ (\d+) \} else \{ self\.\1 \}", code_of(plain))
+    found += re.findall(r"if self\.has_(\w+) == 0 \{\s+(\d+)\s+\} else \{\s+self\.\1\s", code_of(plain))
     wanted = [(it["name"], str(it["missing"])) for it in sorted(LIMITS, key=lambda it: it["name"] in FLAGGED)]
     yield f"{plain}: what may be missing", found, wanted
 

@@ -1,5 +1,5 @@
 -- The tokens of a configuration: those of its fields, some of which stand only where they are others than missing ones.
-use Rattle.std.proofs.Common.{◌≡◌, ℕ, ◌==◌, List, [], ◌∷◌, ◌++◌, codes, inl, inr, refl, ap, ◌∙◌, append_assoc}
+use Rattle.std.proofs.Common.{◌≡◌, ℕ, ◌==◌, List, [], ◌∷◌, ◌++◌, codes, inl, inr, refl, ap, ◌∙◌}
 use Rattle.std.proofs.lemmas.Bool.{cases_Bool}
 use Rattle.json.specs.Token.{Token}
 use Rattle.json.specs.Tree.{members_tokens}
@@ -9,21 +9,13 @@ use Rattle.minislots.specs.declared.bursts.Bursts.TheVariants.{Uniform, Describe
 use Rattle.minislots.specs.declared.bursts.Descriptors.{Descriptors}
 use Rattle.minislots.specs.declared.config.Config.{Config}
 use Rattle.history_writing.specs.Json.{count}
-use Rattle.history_writing.specs.HistoryText.{optional_member, front_members, back_members, members_with}
+use Rattle.history_writing.specs.HistoryText.{front_members, back_members, members_with}
 use Rattle.history_writing.specs.HistoryText.{descriptors_data}
-use Rattle.history_writing.specs.Tokens.{tokens_of, numbered, joined, optional_tokens, front_tokens, back_tokens}
+use Rattle.history_writing.specs.Tokens.{tokens_of, numbered, joined, front_tokens, back_tokens}
 
 -- the tokens of members, and of the closing brace
 abbrev tokens_in : Members → List Token
 tokens_in ms = members_tokens (members_outline ms)
-
--- those of a number that may be left out
-optional : (missing : ℕ) (key : List ℕ) (n : ℕ) (behind : Members)
-    → tokens_in (optional_member missing key n behind) ≡ optional_tokens missing key n ++ tokens_in behind
-optional missing key n behind = elim (cases_Bool (n == missing)) [
-  | inl same ↦ rw same refl
-  | inr other ↦ rw other refl
-]
 
 -- those of the fields before the overhead, and behind them
 front : (c : Config) (behind : Members) → tokens_in (front_members c behind) ≡ front_tokens c ++ tokens_in behind

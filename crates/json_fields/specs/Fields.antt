@@ -102,7 +102,7 @@ u8_or missing key d = or_number missing (get key d) (u8_at key d)
 unfoldable pub u32_or : ℕ → List ℕ → Data → Option ℕ
 u32_or missing key d = or_number missing (get key d) (u32_at key d)
 
--- the most live flows, pending grants of a MAP, and grants and polls of an interval
+-- the most live flows, pending grants of a MAP, and grants and polls of an interval: 64, 64 and 40 where they are missing
 unfoldable pub limits_of : Data → Option (ℕ × ℕ × ℕ)
 limits_of d = do
   flows ← u32_or 64 (codes "flows") d
@@ -168,7 +168,7 @@ unfoldable pub bursts_of : Data → Option Bursts
 bursts_of d = or_uniform (get (codes "bursts") d) d
 
 -- the configuration that an object stands for: it has every field but that of the physical layer, which is 0 where it
--- is missing, and the limits, which have their numbers too, and either of the two forms of its bursts
+-- is missing, and those of `limits_of`, and either of the two forms of its bursts
 unfoldable pub config_of : Data → Option Config
 config_of d = do
   slots ← slots_of d

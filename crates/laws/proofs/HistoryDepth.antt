@@ -105,10 +105,10 @@ depth-descriptors d =
       | inr stands ↦ rw stands (omega (arith, long, short, unsolicited))
     ]
 
-depth-front : (c : Config) (behind : Members) → members_depth (front_members c behind) ≡ members_depth behind
+depth-front : (c : Config) (behind : Members) → members_depth (front_members c behind) ≤ members_depth behind
 depth-front c behind = elim (cases_Bool (c.flows == 64)) [
-  | inl same ↦ rw same refl
-  | inr other ↦ rw other refl
+  | inl same ↦ rw same (omega arith)
+  | inr other ↦ rw other (omega arith)
 ]
 
 depth-back : (c : Config) → members_depth (back_members c) ≡ 0

@@ -32,8 +32,8 @@ use Rattle.history_writing.specs.Json.{count, flow_data, call_data}
 use Rattle.history_writing.specs.HistoryText.{is_same_profile, profile_data, unsolicited_member, descriptors_data}
 use Rattle.history_writing.specs.HistoryText.{optional_member, members_with, config_data}
 use Rattle.history_writing.specs.Fits.{FlowFits, CallFits, ProfileFits, BurstsFit, ConfigFits}
-use Rattle.laws.proofs.Standing.{passes_optional, found_alone, first_members, middle_members, last_members, standing}
-use Rattle.laws.proofs.Standing.{always_stands, found_there}
+use Rattle.laws.proofs.Standing.{passes_optional, first_members, middle_members, last_members, standing, always_stands}
+use Rattle.laws.proofs.Standing.{found_there, flows_alone, pending_alone, periodic_alone}
 
 -- a number that fits
 pub below-fits : (limit n : ℕ) → n < limit → below limit n ≡ Some n
@@ -215,39 +215,7 @@ has_others c b fits =
       rw (phy, byte (codes "phy") c.phy refl refl fits.phy) refl,
     )
 
--- the limits are found under their keys as if they were alone
-flows_alone : (c : Config) (b : Bursts) → get_member (codes "flows") (members_with c b)
-    ≡ get_member (codes "flows") (optional_member 64 (codes "flows") c.flows no_members)
-flows_alone c (Uniform bytes overhead) = found_alone (codes "flows") 64 c.flows _ (
-    passes_optional (codes "flows") (codes "pending") 64 c.pending _ refl
-    ∙ passes_optional (codes "flows") (codes "periodic") 40 c.periodic _ refl)
-flows_alone c (Described d) = found_alone (codes "flows") 64 c.flows _ (
-    passes_optional (codes "flows") (codes "pending") 64 c.pending _ refl
-    ∙ passes_optional (codes "flows") (codes "periodic") 40 c.periodic _ refl)
-
-pending_alone : (c : Config) (b : Bursts) → get_member (codes "pending") (members_with c b)
-    ≡ get_member (codes "pending") (optional_member 64 (codes "pending") c.pending no_members)
-pending_alone c (Uniform bytes overhead) =
-    passes_optional (codes "pending") (codes "flows") 64 c.flows _ refl
-    ∙ found_alone (codes "pending") 64 c.pending _ (
-    passes_optional (codes "pending") (codes "periodic") 40 c.periodic _ refl)
-pending_alone c (Described d) =
-    passes_optional (codes "pending") (codes "flows") 64 c.flows _ refl
-    ∙ found_alone (codes "pending") 64 c.pending _ (
-    passes_optional (codes "pending") (codes "periodic") 40 c.periodic _ refl)
-
-periodic_alone : (c : Config) (b : Bursts) → get_member (codes "periodic") (members_with c b)
-    ≡ get_member (codes "periodic") (optional_member 40 (codes "periodic") c.periodic no_members)
-periodic_alone c (Uniform bytes overhead) =
-    passes_optional (codes "periodic") (codes "flows") 64 c.flows _ refl
-    ∙ passes_optional (codes "periodic") (codes "pending") 64 c.pending _ refl
-    ∙ found_alone (codes "periodic") 40 c.periodic _ refl
-periodic_alone c (Described d) =
-    passes_optional (codes "periodic") (codes "flows") 64 c.flows _ refl
-    ∙ passes_optional (codes "periodic") (codes "pending") 64 c.pending _ refl
-    ∙ found_alone (codes "periodic") 40 c.periodic _ refl
-
--- and so they are read back
+-- the limits are read back
 limits_of-data : (c : Config) (b : Bursts) → ConfigFits c
     → limits_of (object (members_with c b)) ≡ Some (c.flows, c.pending, c.periodic)
 unfolding limits_of

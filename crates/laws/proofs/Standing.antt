@@ -36,7 +36,7 @@ passes_optional key title missing n behind other = elim (cases_Bool (n == missin
 ]
 
 -- and found, or not, as if it were alone, where its key does not stand behind it
-pub found_alone : (key : List ℕ) (missing n : ℕ) (behind : Members) → get_member key behind ≡ None
+found_alone : (key : List ℕ) (missing n : ℕ) (behind : Members) → get_member key behind ≡ None
     → get_member key (optional_member missing key n behind) ≡ get_member key (optional_member missing key n no_members)
 found_alone key missing n behind none = elim (cases_Bool (n == missing)) [
   | inl same ↦ rw same none
@@ -137,3 +137,37 @@ found_there c b key stands =
     passes_overhead key b pending_behind overhead.0
     ∙ passes_optional key (codes "pending") 64 c.pending periodic_behind pending.0
     ∙ passes_optional key (codes "periodic") 40 c.periodic last pending.1))
+
+-- a limit is found under its key as if it were alone
+pub flows_alone : (c : Config) (b : Bursts) → get_member (codes "flows") (members_with c b)
+    ≡ get_member (codes "flows") (optional_member 64 (codes "flows") c.flows no_members)
+flows_alone c (Uniform bytes overhead) = found_alone (codes "flows") 64 c.flows _ (
+    passes_optional (codes "flows") (codes "pending") 64 c.pending _ refl
+    ∙ passes_optional (codes "flows") (codes "periodic") 40 c.periodic _ refl)
+flows_alone c (Described d) = found_alone (codes "flows") 64 c.flows _ (
+    passes_optional (codes "flows") (codes "pending") 64 c.pending _ refl
+    ∙ passes_optional (codes "flows") (codes "periodic") 40 c.periodic _ refl)
+
+-- and so are the others
+pub pending_alone : (c : Config) (b : Bursts) → get_member (codes "pending") (members_with c b)
+    ≡ get_member (codes "pending") (optional_member 64 (codes "pending") c.pending no_members)
+pending_alone c (Uniform bytes overhead) =
+    passes_optional (codes "pending") (codes "flows") 64 c.flows _ refl
+    ∙ found_alone (codes "pending") 64 c.pending _ (
+    passes_optional (codes "pending") (codes "periodic") 40 c.periodic _ refl)
+pending_alone c (Described d) =
+    passes_optional (codes "pending") (codes "flows") 64 c.flows _ refl
+    ∙ found_alone (codes "pending") 64 c.pending _ (
+    passes_optional (codes "pending") (codes "periodic") 40 c.periodic _ refl)
+
+-- the last one too
+pub periodic_alone : (c : Config) (b : Bursts) → get_member (codes "periodic") (members_with c b)
+    ≡ get_member (codes "periodic") (optional_member 40 (codes "periodic") c.periodic no_members)
+periodic_alone c (Uniform bytes overhead) =
+    passes_optional (codes "periodic") (codes "flows") 64 c.flows _ refl
+    ∙ passes_optional (codes "periodic") (codes "pending") 64 c.pending _ refl
+    ∙ found_alone (codes "periodic") 40 c.periodic _ refl
+periodic_alone c (Described d) =
+    passes_optional (codes "periodic") (codes "flows") 64 c.flows _ refl
+    ∙ passes_optional (codes "periodic") (codes "pending") 64 c.pending _ refl
+    ∙ found_alone (codes "periodic") 40 c.periodic _ refl

@@ -93,7 +93,11 @@ impl PlainConfig {
     fn periodic_of(&self) -> u32
         ensures { result ≡ periodic_of self.now }
     {
-        if self.has_periodic == 0 { 40 } else { self.periodic }
+        if self.has_periodic == 0 {
+            40
+        } else {
+            self.periodic
+        }
     }
 
     // The configuration of these numbers.
