@@ -28,7 +28,8 @@ use std::alloc::{AllocError, Global};
 use std::marker::Model;
 
 /// The placements of one channel's periodic flows, in order of SID, with at most [`MAX_PERIODIC_GRANTS`] grants per
-/// interval, and at most [`MAX_SPOTS`] grants and polls in each frame. No two of these take the same minislot of a frame.
+/// interval, and at most [`MAX_SPOTS`] grants and polls in each frame. No two of these take the same minislot of a
+/// frame.
 #[derive(Drop)]
 pub struct Table {
     config: Checked,
