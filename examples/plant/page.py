@@ -5,7 +5,7 @@ from modems import MILLISECOND, SECOND
 PARTS = ("least", "middle", "p99", "greatest")
 # What refusals mean that a plant can meet.
 REFUSALS = {
-    4: "no more flows: there are 64 already",
+    4: "no more flows: as many are live as `flows` of the configuration",
     5: "too many grants: with the polls of an interval above 40",
     6: "no place: the cycle has none for this flow",
     7: "no flow with this SID is live",

@@ -14,5 +14,5 @@ pub use batches::Batches;
 pub use book::Book;
 pub use bucket::Bucket;
 pub use flow::{Grant, Served};
-pub use sched_calls::{FlowFault, FlowSpec, MAX_FLOWS, MAX_GRANTS};
+pub use sched_calls::{FlowFault, FlowSpec, MAX_GRANTS};
 pub use shown::Hidden;

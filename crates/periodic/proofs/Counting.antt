@@ -11,7 +11,7 @@ use Rattle.sched_calls.specs.declared.placement.Placement.{Placement}
 use Rattle.periodic.specs.declared.TheConstants.{MAX_SPOTS}
 use Rattle.periodic.specs.declared.search.Wanted.{Wanted}
 use Rattle.periodic.specs.Placement.{Placed, phase_of, starts_in, spot_at, spots_of, spots_in, HasLawfulStarts}
-use Rattle.periodic.specs.Placement.{KeepsFramesFew}
+use Rattle.periodic.specs.Placement.{HasFewStarts}
 use Rattle.periodic.specs.Frames.{AreCounts, AreSameBut}
 use Rattle.periodic.specs.Search.{CanBeSought, IsWantedOf, HasRoomAt}
 use Rattle.periodic.specs.Table.{placed_grants, with_placed}
@@ -23,8 +23,10 @@ pub starts-most : (c : Config) (spec : FlowSpec) (p : Placement) (place : ℕ)
     → length (starts_in c spec p place) ≤ grants_of spec
 starts-most c spec p place =
     elim (cases_eq (place % interval_frames c spec) (phase_of c spec p)) [
-      | inl nominal ↦ rw (eq-eqb (place % interval_frames c spec) (phase_of c spec p) nominal)
-          (omega (arith, length-take (grants_of spec) (drop (place / interval_frames c spec * grants_of spec) p.starts)))
+      | inl nominal ↦ (
+          let index = place / interval_frames c spec in
+          rw (eq-eqb (place % interval_frames c spec) (phase_of c spec p) nominal)
+          (omega (arith, length-take (grants_of spec) (drop (index * grants_of spec) p.starts))))
       | inr differ ↦ rw (ne_eqb (place % interval_frames c spec) (phase_of c spec p) differ) (omega arith)
     ]
 
@@ -48,7 +50,7 @@ spots-most c k (f ∷ placed) =
 
 -- where there are no more grants per interval than a frame may have starts, no frame has too many
 pub few-grants : (c : Config) (table : List Placed) (spec : FlowSpec) (p : Placement)
-    → placed_grants table + grants_of spec ≤ MAX_SPOTS → KeepsFramesFew c table spec p
+    → placed_grants table + grants_of spec ≤ MAX_SPOTS → HasFewStarts c table spec p
 few-grants c table spec p few place within =
     omega (arith, few, spots-most c place table, starts-most c spec p place)
 
@@ -84,7 +86,7 @@ module _ (c : Config) (table : List Placed) (counts : List ℕ) (spec : FlowSpec
     (at : phase_of c spec p ≡ phase) (lt : phase < w.interval) where
   -- where the frames of a placement's phase have room no frame has too many starts with it
   pub few-of-room : ((k : ℕ) → length (spots_in c k table) ≤ MAX_SPOTS) → HasRoomAt c counts w phase
-      → KeepsFramesFew c table spec p
+      → HasFewStarts c table spec p
   few-of-room few room place within = elim (cases_eq (place % interval_frames c spec) (phase_of c spec p)) [
     | inl nominal ↦ (
         let here : place % w.interval ≡ phase = ap (λ n. place % n) wanted.interval ∙ nominal ∙ at in
@@ -96,7 +98,7 @@ module _ (c : Config) (table : List Placed) (counts : List ℕ) (spec : FlowSpec
   ]
 
   -- and the other way round
-  pub room-of-few : HasLawfulStarts c spec p (λ place. spots_in c place table) → KeepsFramesFew c table spec p
+  pub room-of-few : HasLawfulStarts c spec p (λ place. spots_in c place table) → HasFewStarts c table spec p
       → HasRoomAt c counts w phase
   room-of-few starts few index within =
       let place = phase + index * w.interval in

@@ -2,6 +2,7 @@ pub mod RowsPlacement
 pub mod RowsGrants
 pub mod RowsChosen
 pub mod RowsNoPlace
+pub mod RowsFull
 pub mod Profile
 pub mod Parameters
 pub mod Fields

@@ -90,5 +90,9 @@ none-kept c f n long few = record {
   long = length-replicate n f ∙ long;
   each = λ place lt. subst (λ m. AreKept [] m (get_or (replicate n f) place no_spots).spots)
       (sym (get_or-replicate 64 place 0 0 (omega (arith, lt, few))))
-      (record { all = refl; permuted = IsPermutation-refl []; ascending = λ i j d lt lt'. absurd (omega (arith, lt')) });
+      (record {
+        all = refl;
+        permuted = IsPermutation-refl [];
+        ascending = λ i j d lt lt'. absurd (omega (arith, lt'));
+      });
 }

@@ -112,7 +112,8 @@ module _ (c : Config) (items new : List PlacedFlow) (rows marked : List Bits) (f
       → AllByRecursion (KeepsTimes c) new
       → ((k : ℕ) → AreMarked (spots_of c k f) 1 (row_at c rows k) (row_at c marked k))
       → AreFramesOf c (map placed_of new) tally spots
-      → grants ≡ placed_grants (with_placed f (map placed_of items)) → AreSoundFields c new marked bounds tally spots grants
+      → grants ≡ placed_grants (with_placed f (map placed_of items))
+      → AreSoundFields c new marked bounds tally spots grants
   fields-with is sound times marks kept sum = record {
     sound = rw is sound;
     times = times;
@@ -132,7 +133,8 @@ module _ (c : Config) (items new : List PlacedFlow) (rows marked : List Bits) (f
       → AllByRecursion (KeepsTimes c) new
       → ((k : ℕ) → AreMarked (spots_of c k f) 0 (row_at c rows k) (row_at c marked k))
       → AreFramesOf c (map placed_of new) tally spots
-      → grants ≡ placed_grants (without sid (map placed_of items)) → AreSoundFields c new marked bounds tally spots grants
+      → grants ≡ placed_grants (without sid (map placed_of items))
+      → AreSoundFields c new marked bounds tally spots grants
   fields-without sid is found times marks kept sum = record {
     sound = rw is (sound-filter c (λ g. not (g.sid == sid)) (map placed_of items) are.sound);
     times = times;

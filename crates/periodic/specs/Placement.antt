@@ -92,8 +92,8 @@ pub record HasLawfulStarts (c : Config) (spec : FlowSpec) (p : Placement) (spots
 
 -- in no frame of the cycle are there more starts than a frame may have: those of the flows of the table, and the
 -- placement's own
-abbrev pub KeepsFramesFew : Config → List Placed → FlowSpec → Placement → Type 0
-KeepsFramesFew c table spec p = (place : ℕ) → place < c.cycle
+abbrev pub HasFewStarts : Config → List Placed → FlowSpec → Placement → Type 0
+HasFewStarts c table spec p = (place : ℕ) → place < c.cycle
     → length (spots_in c place table) + length (starts_in c spec p place) ≤ MAX_SPOTS
 
 -- The placement is lawful for a flow that is admitted while the next MAP's frame starts at next, beside the flows of
@@ -105,7 +105,7 @@ pub record IsPlacement (c : Config) (table : List Placed) (spec : FlowSpec) (nex
   pub first : p.reference < next + interval_frames c spec * c.frame
   pub after_requests : c.req_slots ≤ offset_of c p
   pub starts : HasLawfulStarts c spec p (λ place. spots_in c place table)
-  pub few : KeepsFramesFew c table spec p
+  pub few : HasFewStarts c table spec p
 
 -- no placement is lawful
 abbrev pub NoPlacement : Config → List Placed → FlowSpec → ℕ → Type 0

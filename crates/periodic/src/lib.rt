@@ -12,7 +12,7 @@ mod table;
 mod widest;
 
 pub use placement::{PlaceFault, Spot};
-pub use sched_calls::{MAX_PERIODIC_GRANTS, Placement, Starts};
+pub use sched_calls::{Placement, Starts};
 pub use table::Table;
 
 /// The most grants and polls of one frame.

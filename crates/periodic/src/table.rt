@@ -26,8 +26,9 @@ use sched_calls::{FlowSpec, Placement, Starts};
 use std::alloc::{AllocError, Global};
 use std::marker::Model;
 
-/// The placements of one channel's periodic flows, in order of SID, with at most `periodic` of the configuration grants per
-/// interval, and at most [`MAX_SPOTS`] grants and polls in each frame. No two of these take the same minislot of a frame.
+/// The placements of one channel's periodic flows, in order of SID, with at most `periodic` grants per interval, as the
+/// configuration has it, and at most [`MAX_SPOTS`] grants and polls in each frame. No two of these take the same
+/// minislot of a frame.
 #[derive(Drop)]
 pub struct Table {
     config: Checked,

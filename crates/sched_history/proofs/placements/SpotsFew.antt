@@ -32,9 +32,6 @@ module _ (c : Config) (conf : IsLawful c) where
   AreFew h = (k : ℕ) → length (spots_in c k (table_of h)) ≤ MAX_SPOTS
 
   module _ (h : List Entry) (few : AreFew h) (stamp : Stamp) where
-
-
-
     same : (call : Call) (reply : Reply)
         → table_of (h ++ record { stamp = stamp; call = call; reply = reply } ∷ []) ≡ table_of h
         → AreFew (h ++ record { stamp = stamp; call = call; reply = reply } ∷ [])
@@ -61,8 +58,11 @@ module _ (c : Config) (conf : IsLawful c) where
     removed : (sid : ℕ)
         → AreFew (h ++ record { stamp = stamp; call = calls.Remove sid; reply = replies.Removed } ∷ [])
     removed sid k =
-        rw (table_of-remove stamp h sid) (omega (arith, few k,
-        spots-fewer c k (λ (f : Placed). not (f.sid == sid)) (table_of h)))
+        rw (table_of-remove stamp h sid) (omega (
+          arith,
+          few k,
+          spots-fewer c k (λ (f : Placed). not (f.sid == sid)) (table_of h),
+        ))
 
     few-more : (call : Call) (reply : Reply) → IsStep c h call reply
         → AreFew (h ++ record { stamp = stamp; call = call; reply = reply } ∷ [])

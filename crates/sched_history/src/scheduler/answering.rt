@@ -33,7 +33,10 @@ impl State {
             Call::Admit(sid, spec) => self.admit_best_effort(sid, spec),
             Call::Remove(sid) => Ok(self.forget(sid)),
             Call::Ask {
-                sid, amount, heard, ..
+                sid,
+                amount,
+                heard,
+                ..
             } => {
                 let bytes = amount.bytes(&self.config) as u32;
                 self.book.ask(sid, bytes, heard);

@@ -28,7 +28,8 @@ returns-clause-kept c = λ config placed are within.
     copied.len ∙ length-take-le count c.args.spots.now (omega arith) in
     let row : c.index.result.now ≡ get_or items place no_spots =
     c.index.ensures ∙ get_or_default items place c.index.result.now no_spots (omega (arith, are.long, within)) in
-    kept-front (spots_in config place placed) count (get_or items place no_spots).spots (c.copy_from_slice.new.self ++ _)
+    kept-front (spots_in config place placed) count (get_or items place no_spots).spots
+    (c.copy_from_slice.new.self ++ _)
     (take_at c.copy_from_slice.new.self _ count long ∙ copied.after
     ∙ ap (λ (f : FrameSpots). take count f.spots) row)
     (are.each place within)

@@ -105,7 +105,8 @@ invariant_of-self-2 c =
     omega (arith, c.mark.ensures.long, c.self.invariant.told.long, inside.rows.ok.0) in
     rw (take_at c.mark.new.rows _ inside.rows.len long)
     (fields-with inside.config inside.flows.items c.insert.new.self.items inside.rows.items c.mark.new.rows added
-    inside.widest.most c.mark.new.widest.most inside.frames.counts c.refill.new.self.counts inside.frames.spots.items c.refill.new.self.spots.items inside.grants
+    inside.widest.most c.mark.new.widest.most inside.frames.counts c.refill.new.self.counts
+    inside.frames.spots.items c.refill.new.self.spots.items inside.grants
     (inside.grants + c.at-flow.result.grants) c.self.invariant
     c.mark.ensures.long c.mark.ensures.bounded (inserted c)
     (sound-with inside.config placed a.sid a.spec lawful.0 (placement_at a.reference a.starts.now)

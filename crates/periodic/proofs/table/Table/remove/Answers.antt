@@ -1,6 +1,6 @@
 -- The flows of other SIDs are left, and the minislots of this one are free.
-use Rattle.std.proofs.Common.{◌≡◌, ℕ, ◌-◌, refl, sym, ◌∙◌, ap, subst, Bool, map, filter, not, ◌==◌, position, length, Some}
-use Rattle.std.proofs.Common.{None, arith, rules}
+use Rattle.std.proofs.Common.{◌≡◌, ℕ, ◌-◌, refl, sym, ◌∙◌, ap, subst, Bool, map, filter, not, ◌==◌, position, length}
+use Rattle.std.proofs.Common.{Some, None, arith, rules}
 use Rattle.std.proofs.lemmas.List.{take_at}
 use Rattle.std.proofs.lemmas.Fn.{filter_same}
 use Rattle.std.proofs.lemmas.List.Quantifiers.{position-Some}
@@ -94,7 +94,8 @@ invariant_of-self c =
     omega (arith, c.mark.ensures.long, c.self.invariant.told.long, inside.rows.ok.0) in
     rw (take_at c.mark.new.rows _ inside.rows.len long)
     (fields-without inside.config inside.flows.items c.retain.new.self.items inside.rows.items c.mark.new.rows
-    (placed_of flow) inside.widest.most c.mark.new.widest.most inside.frames.counts c.refill.new.self.counts inside.frames.spots.items c.refill.new.self.spots.items inside.grants
+    (placed_of flow) inside.widest.most c.mark.new.widest.most inside.frames.counts c.refill.new.self.counts
+    inside.frames.spots.items c.refill.new.self.spots.items inside.grants
     (inside.grants - c.index-2.result.now.grants) c.self.invariant c.mark.ensures.long c.mark.ensures.bounded
     c.args.sid (left c)
     (flow-found c.args.sid inside.flows.items c.in-Some.place flow stands c.index.ensures) (times c)
