@@ -71,7 +71,7 @@ def warnings(plant):
     """What a user of another plant than the usual one may not expect."""
     counts = plant.counts
     if counts.refused[4]:
-        yield (f"a channel has at most 64 live flows, so {counts.refused[4]} admissions were refused: of"
+        yield (f"this channel has at most 64 live flows, so {counts.refused[4]} admissions were refused: of"
                f" {len(plant.modems)} modems the others waited for their turn")
     if counts.refused[5] or counts.refused[6]:
         yield (f"telephones and cameras found no room: {counts.refused[5]} admissions were above 40 grants and polls,"
