@@ -48,8 +48,9 @@ pub const PCAP: &str =
     r#"Reads from standard input or FILE what `run` reads: {"config": {..}, "calls": [..]}.
 
 Writes a capture in the classic form of pcap with nanoseconds, link type DOCSIS
-(143): put it into a file, and open that in Wireshark. It has the MAC management
-message of each MAP, at the time at which its frame starts, counted from minislot 0.
+(143): put it into a file, and open that in Wireshark. It is not written to a terminal.
+It has the MAC management message of each MAP, at the time at which its frame starts,
+counted from minislot 0.
 Standard error says how many calls were not recorded.
 
 --mac 02:00:00:00:00:01 is the sender's address, six bytes in hexadecimal.
@@ -69,7 +70,7 @@ Example:
 /// The command that shows a payload.
 pub const DECODE: &str =
     "Reads one word: the payload after the MAC management header, in hexadecimal digits
-of either case.
+of either case; or, where the word is -, lines of standard input.
 
 Prints the channel, the times and a line for each element: SID, usage code,
 offset in minislots, usage. A text that is no payload gives one line: `fault hex`,
@@ -84,6 +85,12 @@ request frame `frame request`, the SID and the minislots; a queue-depth request 
 `fault frame` and the first of these: 1 length, 2 kind, 3 SID above 14 bits, 4 header
 check sequence, 5 CRC, 6 a field of the management header.
 
+With - each line is decoded, a payload or the line that `run` or `live` prints for a
+MAP; empty lines and their other answers are passed over. An empty line stands between
+what is shown of two. What is wrong is told on standard error, behind the number of
+the line, counted from 1, as `line 3: fault hex`, or `fault long` above 65536 bytes;
+the other lines are decoded all the same.
+
 Usage codes (IUC):
   1  request: where modems may ask; for one modem, a poll
   2  request_data: requests, or short data
@@ -97,7 +104,8 @@ Usage codes (IUC):
  10  aphy_long: advanced PHY, long data grant
  11  aphy_ug: advanced PHY, unsolicited grant
 
-Exit statuses: 0 a payload or frame, 1 none, 2 for the command line, 4 for the machine.
+Exit statuses: 0 a payload or frame, 1 none, or none in some line, 2 for the command
+line, 3 for the input, 4 for the machine.
 
 Example:
   ./mapsched decode --draw 03010300000003200000032000000000fffc4000000180040001c028";

@@ -4,6 +4,7 @@
 mod ends;
 mod help;
 mod input;
+mod terminals;
 
 ghost use Rattle.std.specs.Prelude.{◌≡◌, ◌∷◌, [], IfOk, false, codes};
 ghost use Rattle.command_line.specs.Taken.{IsCommand};
@@ -15,6 +16,7 @@ pub use ends::{
 };
 pub use input::{CommandInput, KEPT_DOCUMENT, KEPT_LINES, Opened, input_of};
 use std::alloc::{AllocError, Global};
+pub use terminals::{Terminals, refuse_terminal, tell_waiting, terminals_of};
 
 // A command, and what its help says before and behind its words.
 fn command<'a>(alloc: Global, name: &'a str, about: &'a str, after: &'a str) -> Command<'a>
@@ -129,7 +131,7 @@ fn payload_word<'a>(alloc: Global) -> Arg<'a>
     ensures local { result.global ≡ false }
 {
     Arg::new(alloc, "HEX").required(true).help(
-        "The payload of a MAP in hexadecimal, or with --frame a whole frame",
+        "The payload of a MAP in hexadecimal, or with --frame a whole frame, or - for lines of standard input",
     )
 }
 

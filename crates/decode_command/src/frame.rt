@@ -247,6 +247,34 @@ fn put_frame<W: Sink>(
     }
 }
 
+// Reads digits as [`decode_frame`] does its text.
+pub(crate) fn decode_frame_digits<W: Sink>(
+    alloc: Global,
+    text: &[u8],
+    columns: Option<u16>,
+    writer: &mut W,
+) -> Result<bool, RunFault>
+    ensures exact { IfOk result (λ is_frame. IsTrue is_frame ↔ IsHexOfFrame text.now) }
+    ensures shown { IfOk result (λ is_frame. MatchBool is_frame
+        (ShowsFrame columns text.now (W.contents writer.old) (W.contents writer.new))
+        (ShowsFrameFault text.now (W.contents writer.old) (W.contents writer.new))) }
+    ensures err { IfErr result
+        (λ e. (e ≡ RunFault.Text TextFault.Memory) ⊎ (e ≡ RunFault.Text TextFault.Output)) }
+    ensures failed { TellsFailedWrite result (W.has_failed writer.old) (W.has_failed writer.new) }
+    ensures quiet { IfErr result
+        (λ e. e ≡ RunFault.Text TextFault.Memory → writer.new ≡ writer.old) }
+    ensures odd { length text.now % 2 ≡ 1 → IfErr result (λ e. e ≡ RunFault.Text TextFault.Output) }
+{
+    match hex::decode(alloc, text) {
+        Ok(bytes) => put_frame(alloc, &bytes, columns, writer),
+        Err(FromHexError::OutOfMemory) => Err(RunFault::Text(TextFault::Memory)),
+        Err(_) => {
+            put(writer, b"fault hex\n")?;
+            Ok(false)
+        }
+    }
+}
+
 /// Reads a text as hexadecimal, digits of both cases, and writes what frame it is, answering true: of a MAP's frame
 /// the line `frame map` with the sender's address, and then the table of its payload as
 /// [`decode_text`](crate::decode_text) does, with the drawing where one in so many columns is asked for; of a request
@@ -277,12 +305,5 @@ pub fn decode_frame<W: Sink>(
         (λ e. e ≡ RunFault.Text TextFault.Memory → writer.new ≡ writer.old) }
     ensures odd { length text.now % 2 ≡ 1 → IfErr result (λ e. e ≡ RunFault.Text TextFault.Output) }
 {
-    match hex::decode(alloc, text) {
-        Ok(bytes) => put_frame(alloc, &bytes, columns, writer),
-        Err(FromHexError::OutOfMemory) => Err(RunFault::Text(TextFault::Memory)),
-        Err(_) => {
-            put(writer, b"fault hex\n")?;
-            Ok(false)
-        }
-    }
+    decode_frame_digits(alloc, text.as_bytes(), columns, writer)
 }

@@ -1,11 +1,33 @@
-//! The command over what the program has: standard output, which is written with no buffer, so that nothing is left to
-//! flush, and the environment.
+//! The command over what the program has: standard input, standard output and standard error, which are written with no
+//! buffer, so that nothing is left to flush, and the environment.
 
+use crate::form::Form;
 use crate::frame::decode_frame;
+use crate::lines::decode_lines;
 use crate::table::decode_text;
 use std::io;
+use std::io::ErrorKind;
 use std::rt::Env;
-use text_stream::{RunFault, Watched};
+use text_stream::{RunFault, Sink, Watched};
+
+/// The word for standard input in the place of a text.
+pub const STANDARD_INPUT: &str = "-";
+
+// Standard error, to which text is written.
+#[derive(Drop)]
+struct Errors<'a, R> {
+    to: &'a R,
+}
+
+impl<R: Eprint> Sink for Errors<'_, R> {
+    fn write_some(&mut self, bytes: &[u8]) -> io::Result<usize> {
+        let Ok(text) = str::from_utf8(bytes) else {
+            return Err(ErrorKind::InvalidData.into());
+        };
+        self.to.eprint(text)?;
+        Ok(bytes.len())
+    }
+}
 
 // The columns of the terminal, as far as the environment tells them.
 fn columns_told(rt: &impl Env) -> Option<u16> {
@@ -22,27 +44,52 @@ fn columns_of(rt: &impl Env, is_drawn: bool, columns: Option<u16>) -> Option<u16
     columns.or_else(|| columns_told(rt)).or(Some(80))
 }
 
-/// The command `decode` with a whole frame: whether the text is one.
-pub fn show_frame(
-    rt: &(impl Print + Env + AllocGlobal),
+// Decodes a text.
+fn show_text(
+    rt: &(impl Print + AllocGlobal),
     text: &str,
-    is_drawn: bool,
+    form: Form,
     columns: Option<u16>,
 ) -> Result<bool, RunFault> {
-    let columns = columns_of(rt, is_drawn, columns);
-    decode_frame(rt.alloc(), text, columns, &mut Watched::new(io::writer(rt)))
+    let mut writer = Watched::new(io::writer(rt));
+    match form {
+        Form::Payload => decode_text(rt.alloc(), text, columns, false, &mut writer),
+        Form::Explained => decode_text(rt.alloc(), text, columns, true, &mut writer),
+        Form::Frame => decode_frame(rt.alloc(), text, columns, &mut writer),
+    }
 }
 
-/// The command `decode`: whether the text is a payload. A drawing has so many columns, or those of the terminal, or
-/// 80; a fault is explained where that is asked for.
-pub fn show_text(
-    rt: &(impl Print + Env + AllocGlobal),
+// Decodes the lines of standard input.
+fn show_lines(
+    rt: &(impl Input + Print + Eprint + AllocGlobal),
+    form: Form,
+    columns: Option<u16>,
+) -> Result<bool, RunFault> {
+    let mut reader = Watched::new(rt.reader());
+    let mut writer = Watched::new(io::writer(rt));
+    let mut errors = Errors { to: rt };
+    decode_lines(
+        rt.alloc(),
+        form,
+        columns,
+        &mut reader,
+        &mut writer,
+        &mut errors,
+    )
+}
+
+/// The command `decode`: whether the text, or each line of standard input, is a payload, or a frame. A drawing has so
+/// many columns, or those of the terminal, or 80.
+pub fn show(
+    rt: &(impl Input + Print + Eprint + Env + AllocGlobal),
     text: &str,
+    form: Form,
     is_drawn: bool,
     columns: Option<u16>,
-    is_explained: bool,
 ) -> Result<bool, RunFault> {
     let columns = columns_of(rt, is_drawn, columns);
-    let mut writer = Watched::new(io::writer(rt));
-    decode_text(rt.alloc(), text, columns, is_explained, &mut writer)
+    if text == STANDARD_INPUT {
+        return show_lines(rt, form, columns);
+    }
+    show_text(rt, text, form, columns)
 }

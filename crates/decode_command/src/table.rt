@@ -249,6 +249,35 @@ fn put_decoded<W: Sink>(
     }
 }
 
+// Reads digits as [`decode_text`] does its text.
+pub(crate) fn decode_digits<W: Sink>(
+    alloc: Global,
+    text: &[u8],
+    columns: Option<u16>,
+    is_explained: bool,
+    writer: &mut W,
+) -> Result<bool, RunFault>
+    ensures exact { IfOk result (λ is_payload. IsTrue is_payload ↔ IsHexOfPayload text.now) }
+    ensures shown { IfOk result (λ is_payload. MatchBool is_payload
+        (ShowsMap columns text.now (W.contents writer.old) (W.contents writer.new))
+        (ShowsFault is_explained text.now (W.contents writer.old) (W.contents writer.new))) }
+    ensures err { IfErr result
+        (λ e. (e ≡ RunFault.Text TextFault.Memory) ⊎ (e ≡ RunFault.Text TextFault.Output)) }
+    ensures failed { TellsFailedWrite result (W.has_failed writer.old) (W.has_failed writer.new) }
+    ensures quiet { IfErr result
+        (λ e. e ≡ RunFault.Text TextFault.Memory → writer.new ≡ writer.old) }
+    ensures odd { length text.now % 2 ≡ 1 → IfErr result (λ e. e ≡ RunFault.Text TextFault.Output) }
+{
+    match hex::decode(alloc, text) {
+        Ok(bytes) => put_decoded(alloc, &bytes, columns, is_explained, writer),
+        Err(FromHexError::OutOfMemory) => Err(RunFault::Text(TextFault::Memory)),
+        Err(fault) => {
+            put_hex_text(writer, fault, is_explained)?;
+            Ok(false)
+        }
+    }
+}
+
 /// Reads a text as hexadecimal, digits of both cases, and writes the table of the MAP payload that
 /// it is, and behind it the drawing of its frame where one in so many columns is asked for, answering true; or
 /// the one line of what is wrong with it, answering false: `fault hex`, or `fault`, the number of the payload's
@@ -280,12 +309,5 @@ pub fn decode_text<W: Sink>(
         (λ e. e ≡ RunFault.Text TextFault.Memory → writer.new ≡ writer.old) }
     ensures odd { length text.now % 2 ≡ 1 → IfErr result (λ e. e ≡ RunFault.Text TextFault.Output) }
 {
-    match hex::decode(alloc, text) {
-        Ok(bytes) => put_decoded(alloc, &bytes, columns, is_explained, writer),
-        Err(FromHexError::OutOfMemory) => Err(RunFault::Text(TextFault::Memory)),
-        Err(fault) => {
-            put_hex_text(writer, fault, is_explained)?;
-            Ok(false)
-        }
-    }
+    decode_digits(alloc, text.as_bytes(), columns, is_explained, writer)
 }

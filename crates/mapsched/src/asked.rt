@@ -2,6 +2,7 @@
 
 use bursts_command::BurstsForm;
 use clap::ArgMatches;
+use decode_command::Form as DecodeForm;
 use live_command::Wording;
 use pcap_command::ADDRESS;
 use report_command::Form;
@@ -45,6 +46,17 @@ pub(crate) fn wording_of(live: &ArgMatches) -> Wording {
         return Wording::Frames(ADDRESS);
     }
     Wording::Plain
+}
+
+/// As what the command `decode` is asked to decode.
+pub(crate) fn decode_form_of(decode: &ArgMatches) -> DecodeForm {
+    if decode.get_flag("frame") {
+        return DecodeForm::Frame;
+    }
+    if decode.get_flag("explain") {
+        return DecodeForm::Explained;
+    }
+    DecodeForm::Payload
 }
 
 /// The form in which the command `bursts` is asked for its numbers.

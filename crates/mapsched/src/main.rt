@@ -5,12 +5,15 @@
 mod asked;
 mod over_input;
 
-use asked::{bursts_form_of, sizes_of, wording_of};
+use asked::{bursts_form_of, decode_form_of, sizes_of, wording_of};
 use bursts_command::bursts_input;
 use clap::ArgMatches;
 use clap::error::ErrorKind;
-use command_line::{done, exit_of, explain, fail, matches_of, refuse, words_of};
-use decode_command::{show_frame, show_text};
+use command_line::{
+    Terminals, done, exit_of, explain, fail, matches_of, refuse, tell_waiting, terminals_of,
+    words_of,
+};
+use decode_command::{STANDARD_INPUT, show};
 use journal_file::live_journal_input;
 use live_command::live_input;
 use over_input::over_input;
@@ -21,21 +24,35 @@ use std::sync::Wait;
 use std::thread::Threads;
 use text_stream::{RunFault, TextFault};
 
-// The command `decode`: whether the text is a payload, or a frame.
+// The command `decode`: whether the text, or each line of standard input, is a payload, or a frame.
 #[inline(never)]
-fn show(rt: &(impl Print + Env + AllocGlobal), decode: &ArgMatches) -> Result<bool, RunFault> {
+fn decode(
+    rt: &(impl Input + Print + Eprint + Env + AllocGlobal),
+    decode: &ArgMatches,
+    terminals: Terminals,
+) -> Result<bool, RunFault> {
     let text = decode.get_str("HEX").unwrap_or("");
-    let is_drawn = decode.get_flag("draw");
-    let columns = decode.get_one("columns");
-    if decode.get_flag("frame") {
-        return show_frame(rt, text, is_drawn, columns);
+    if text == STANDARD_INPUT {
+        tell_waiting(rt, "decode", decode, terminals);
     }
-    show_text(rt, text, is_drawn, columns, decode.get_flag("explain"))
+    let columns = decode.get_one("columns");
+    show(
+        rt,
+        text,
+        decode_form_of(decode),
+        decode.get_flag("draw"),
+        columns,
+    )
 }
 
 // The command `bursts`.
 #[inline(never)]
-fn bursts(rt: &(impl Input + Print + AllocGlobal), bursts: &ArgMatches) -> Result<(), RunFault> {
+fn bursts(
+    rt: &(impl Input + Print + Eprint + AllocGlobal),
+    bursts: &ArgMatches,
+    terminals: Terminals,
+) -> Result<(), RunFault> {
+    tell_waiting(rt, "bursts", bursts, terminals);
     let Ok(sizes) = sizes_of(rt.alloc(), bursts) else {
         return Err(RunFault::Text(TextFault::Memory));
     };
@@ -63,7 +80,9 @@ fn live_journal<R: Files<File = File> + Input + Print + Eprint + AllocGlobal>(
 fn live<R: Files<File = File> + Input + Print + Eprint + AllocGlobal>(
     rt: &R,
     live: &ArgMatches,
+    terminals: Terminals,
 ) -> ExitCode {
+    tell_waiting(rt, "live", live, terminals);
     if let Some(path) = live.get_str("journal") {
         return live_journal(rt, path, live);
     }
@@ -78,15 +97,15 @@ fn live<R: Files<File = File> + Input + Print + Eprint + AllocGlobal>(
 
 // Does what the words of the command line ask for. No command is put into this function, nor the form for journals into
 // that of its command: a frame on the stack has the room of all that is put into a function.
-fn answer<R>(rt: &R, matches: &ArgMatches) -> ExitCode
+fn answer<R>(rt: &R, matches: &ArgMatches, terminals: Terminals) -> ExitCode
 where
     R: Files<File = File> + Input + Print + Eprint + Env + AllocGlobal + Threads + Wait + Sync,
 {
     match matches.subcommand() {
-        Some(("decode", decode)) => exit_of(rt, show(rt, decode)),
-        Some(("live", words)) => live(rt, words),
-        Some(("bursts", words)) => done(rt, bursts(rt, words), words),
-        Some((name, words)) => over_input(rt, name, words),
+        Some(("decode", words)) => exit_of(rt, decode(rt, words, terminals)),
+        Some(("live", words)) => live(rt, words, terminals),
+        Some(("bursts", words)) => done(rt, bursts(rt, words, terminals), words),
+        Some((name, words)) => over_input(rt, name, words, terminals),
         // The command line lets nothing else through.
         None => refuse(rt, ErrorKind::InvalidSubcommand, "unrecognized subcommand"),
     }
@@ -97,7 +116,7 @@ fn main(rt: HostRuntime) -> ExitCode {
         return fail(&rt, RunFault::Text(TextFault::Memory));
     };
     match matches_of(rt.alloc(), &words) {
-        Ok(matches) => answer(&rt, &matches),
+        Ok(matches) => answer(&rt, &matches, terminals_of(rt)),
         Err(error) => explain(&rt, error),
     }
 }

@@ -8,8 +8,8 @@ use check_lines::{Documents, Journals, Reads, check_any_input, tell_input};
 use clap::ArgMatches;
 use clap::error::ErrorKind;
 use command_line::{
-    CommandInput, KEPT_DOCUMENT, KEPT_LINES, exit_of, fail, input_of, point_to_check, refuse,
-    refuse_file,
+    CommandInput, KEPT_DOCUMENT, KEPT_LINES, Terminals, exit_of, fail, input_of, point_to_check,
+    refuse, refuse_file, refuse_terminal, tell_waiting,
 };
 use draw_command::{draw_input, draw_journal_input};
 use journal_entries::EntriesEnd;
@@ -257,14 +257,23 @@ fn check<R: Source + Drop>(
 }
 
 /// Does what a command is asked for that reads standard input, or the file that its word names.
-pub(crate) fn over_input<R>(rt: &R, name: &str, words: &ArgMatches) -> ExitCode
+pub(crate) fn over_input<R>(
+    rt: &R,
+    name: &str,
+    words: &ArgMatches,
+    terminals: Terminals,
+) -> ExitCode
 where
     R: Files<File = File> + Input + Print + Eprint + AllocGlobal + Threads + Wait + Sync,
 {
+    if name == "pcap" && terminals.output {
+        return refuse_terminal(rt);
+    }
     let reads = reads_of(name, words);
     let Ok(input) = input_of(rt, words, most_kept(name, reads)) else {
         return refuse_file(rt, words);
     };
+    tell_waiting(rt, name, words, terminals);
     let mut given = Given {
         input,
         reads,

@@ -6,10 +6,10 @@
 use clap::ArgMatches;
 use clap::error::ErrorKind;
 use command_line::{
-    CommandInput, done, exit_of, explain, fail, input_of, matches_of, point_to_check, refuse,
-    refuse_file, words_of,
+    CommandInput, Terminals, done, exit_of, explain, fail, input_of, matches_of, point_to_check,
+    refuse, refuse_file, refuse_terminal, tell_waiting, terminals_of, words_of,
 };
-use decode_command::{show_frame, show_text};
+use decode_command::{Form, STANDARD_INPUT, show};
 use journal_entries::EntriesEnd;
 use pcap_command::{ADDRESS, address_asked, frames_input, pcap_input, pcap_journal_input};
 use run_command::{RunOutput, Words, run_input};
@@ -44,15 +44,29 @@ fn run<R: Source>(
     run_input(rt, input, output_of(run))
 }
 
-// The command `decode`: whether the text is a payload, or a frame.
-fn decode(rt: &(impl Print + Env + AllocGlobal), decode: &ArgMatches) -> Result<bool, RunFault> {
-    let text = decode.get_str("HEX").unwrap_or("");
-    let is_drawn = decode.get_flag("draw");
-    let columns = decode.get_one("columns");
+// As what the command `decode` is asked to decode.
+fn form_of(decode: &ArgMatches) -> Form {
     if decode.get_flag("frame") {
-        return show_frame(rt, text, is_drawn, columns);
+        return Form::Frame;
     }
-    show_text(rt, text, is_drawn, columns, decode.get_flag("explain"))
+    if decode.get_flag("explain") {
+        return Form::Explained;
+    }
+    Form::Payload
+}
+
+// The command `decode`: whether the text, or each line of standard input, is a payload, or a frame.
+fn decode(
+    rt: &(impl Input + Print + Eprint + Env + AllocGlobal),
+    decode: &ArgMatches,
+    terminals: Terminals,
+) -> Result<bool, RunFault> {
+    let text = decode.get_str("HEX").unwrap_or("");
+    if text == STANDARD_INPUT {
+        tell_waiting(rt, "decode", decode, terminals);
+    }
+    let columns = decode.get_one("columns");
+    show(rt, text, form_of(decode), decode.get_flag("draw"), columns)
 }
 
 // The command `pcap` on a journal.
@@ -91,13 +105,17 @@ fn pcap<R: Source>(
 }
 
 // Does what a command is asked for that reads standard input, or the file that its word names.
-fn over_input<R>(rt: &R, name: &str, words: &ArgMatches) -> ExitCode
+fn over_input<R>(rt: &R, name: &str, words: &ArgMatches, terminals: Terminals) -> ExitCode
 where
     R: Files<File = File> + Input + Print + Eprint + AllocGlobal,
 {
+    if name == "pcap" && terminals.output {
+        return refuse_terminal(rt);
+    }
     let Ok(mut input) = input_of(rt, words, 0) else {
         return refuse_file(rt, words);
     };
+    tell_waiting(rt, name, words, terminals);
     if name == "pcap" {
         return pcap(rt, &mut input, words);
     }
@@ -106,13 +124,13 @@ where
 }
 
 // Does what the words of the command line ask for.
-fn answer<R>(rt: &R, matches: &ArgMatches) -> ExitCode
+fn answer<R>(rt: &R, matches: &ArgMatches, terminals: Terminals) -> ExitCode
 where
     R: Files<File = File> + Input + Print + Eprint + Env + AllocGlobal,
 {
     match matches.subcommand() {
-        Some(("decode", words)) => exit_of(rt, decode(rt, words)),
-        Some((name @ ("run" | "pcap"), words)) => over_input(rt, name, words),
+        Some(("decode", words)) => exit_of(rt, decode(rt, words, terminals)),
+        Some((name @ ("run" | "pcap"), words)) => over_input(rt, name, words, terminals),
         _ => refuse(
             rt,
             ErrorKind::InvalidSubcommand,
@@ -126,7 +144,7 @@ fn main(rt: HostRuntime) -> ExitCode {
         return fail(&rt, RunFault::Text(TextFault::Memory));
     };
     match matches_of(rt.alloc(), &words) {
-        Ok(matches) => answer(&rt, &matches),
+        Ok(matches) => answer(&rt, &matches, terminals_of(rt)),
         Err(error) => explain(&rt, error),
     }
 }

@@ -1,5 +1,5 @@
--- What is shown of a text.
+-- A text is its bytes.
 use Rattle.decode_command.proofs.frame.decode_frame.Goals as goal
 
-pub returns-in-Ok-clause-exact : goal.returns-in-Ok-clause-exact
-returns-in-Ok-clause-exact g c = rw (c.in-Ok.ensures.ok, ← c.deref.ensures.value) c.put_frame.ensures.exact
+pub returns-clause-exact : goal.returns-clause-exact
+returns-clause-exact g c = rw c.as_bytes.ensures.value at c.decode_frame_digits.ensures.exact
