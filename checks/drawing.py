@@ -327,7 +327,7 @@ class Waiting(Limited):
     """A script that begins with up to 300 flows of which more ask than a MAP shows, in any order, with small requests
     and large ones, and with grants and polls in most minislots of a frame."""
 
-    MORE = (0, 20, 60)
+    MORE, MOST = (0, 20, 60), 320
 
     def limits(self):
         flows = self.draw.choice([70, 130, 200, 300, 8191])
@@ -353,7 +353,7 @@ class Waiting(Limited):
     def begun(self):
         yield self.build()
         yield from self.polls()
-        self.sids = self.draw.sample(range(1, 7900), min(self.config.get("flows", 64), 320) + 2)
+        self.sids = self.draw.sample(range(1, 7900), min(self.config.get("flows", 64), self.MOST) + 2)
         for sid in self.sids:
             ceiling = self.ceiling() if self.draw.random() < 0.1 else {"rate": 0, "burst": 0}
             flow = {"kind": "best_effort", "priority": self.draw.choice([0, 3, 3, 3, 7]), **ceiling}
@@ -368,6 +368,27 @@ class Waiting(Limited):
                 yield {"call": "heard", "receiver": receiver, "upto": self.plain.next - self.draw.choice([0, 0, 5, 10])}
             for _ in range(self.draw.choice([1, 1, 2, 3])):
                 yield self.build()
+
+
+class Thousands(Waiting):
+    """The same with thousands of flows."""
+
+    MORE, MOST = (100,), 7000
+
+    def limits(self):
+        flows = self.draw.choice([2000, 7000, 8191])
+        return {"flows": flows, "pending": self.draw.choice([64, 125]), "periodic": self.draw.choice([60, 2560])}
+
+    def drawn_sizes(self):
+        return {**super().drawn_sizes(), "calls": 100000}
+
+    def next_call(self):
+        """What a script of this kind begins with comes first."""
+        self.first = getattr(self, "first", None) or super().begun()
+        return next(self.first, None) or super().next_call()
+
+    def begun(self):
+        return iter(())
 
 
 class CrowdedMore(Crowded):
