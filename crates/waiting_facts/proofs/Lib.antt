@@ -1,0 +1,5 @@
+pub mod Since
+pub mod WaitingLives
+pub mod HeldBack
+pub mod LateFlows
+pub mod Waits
