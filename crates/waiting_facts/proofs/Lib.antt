@@ -2,4 +2,5 @@ pub mod Since
 pub mod WaitingLives
 pub mod HeldBack
 pub mod LateFlows
+pub mod HeldBackMaps
 pub mod Waits

@@ -1,10 +1,10 @@
 -- The batches of a flow's requests: since when it waits, with grants and with a request more.
-use Rattle.std.proofs.Common.{◌≡◌, ◌≢◌, ℕ, ◌+◌, ◌<◌, ◌≤◌, min, nat_le, ◌==◌, Bool, true, false, Option, None, Some}
-use Rattle.std.proofs.Common.{unwrap_or, cond, refl, subst, inl, inr, ap, ◌∙◌, arith}
+use Rattle.std.proofs.Common.{◌≡◌, ◌≢◌, ℕ, ◌+◌, ◌<◌, ◌≤◌, min, nat_le, ◌==◌, true, false, Option, None, Some}
+use Rattle.std.proofs.Common.{unwrap_or, refl, subst, inl, inr, ap, ◌∙◌, arith}
 use Rattle.std.proofs.lemmas.Bool.{cases_eq, cases_lt}
 use Rattle.std.proofs.lemmas.Bool.Decides.{nat_tests}
 use Rattle.flow_book.specs.declared.batches.Batches.{Batches}
-use Rattle.flow_book.specs.Batches.{is_over, with_request, since_of}
+use Rattle.flow_book.specs.Batches.{with_request, since_of}
 
 over : (b : Batches) (granted : ℕ) → b.end ≤ granted → since_of b granted ≡ unwrap_or b.second b.first
 over b granted le = let test : nat_le b.end granted ≡ true = grind (arith, nat_tests) in rw test refl
@@ -116,26 +116,26 @@ module _ (b : Batches) (asked granted bytes heard : ℕ) (ends : b.end ≤ asked
   pub in-new : (upto earlier : ℕ) → IsIn b asked granted upto earlier → IsIn new (asked + bytes) granted upto earlier
   in-new upto earlier is = elim (cases_eq asked granted) [
     | inl same ↦ rw (alone same) (record {
-        counted = omega (arith, is.counted);
-        first = λ lt within. absurd (omega (arith, is.counted));
-        second = λ lt behind. absurd (omega (arith, is.counted));
-      })
+      counted = omega (arith, is.counted);
+      first = λ lt within. absurd (omega (arith, is.counted));
+      second = λ lt behind. absurd (omega (arith, is.counted));
+    })
     | inr other ↦ elim (cases_lt granted b.end) [
       | inl some ↦ rw (joins-both other some) (record {
-          counted = omega (arith, is.counted);
-          first = λ lt within. is.first lt within;
-          second = λ lt behind. (
-            min (unwrap_or b.second heard) heard,
-            refl,
-            (let s = is.second lt behind in omega (arith, s.2, ap (λ o. unwrap_or o heard) s.1)),
-          );
-        })
+        counted = omega (arith, is.counted);
+        first = λ lt within. is.first lt within;
+        second = λ lt behind. (
+          min (unwrap_or b.second heard) heard,
+          refl,
+          (let s = is.second lt behind in omega (arith, s.2, ap (λ o. unwrap_or o heard) s.1)),
+        );
+      })
       | inr none ↦ rw (joins other (omega arith)) (record {
-          counted = omega (arith, is.counted);
-          first = λ lt within. let s = is.second lt (omega arith) in
-              omega (arith, s.2, ap (λ o. unwrap_or o b.first) s.1);
-          second = λ lt behind. absurd (omega (arith, is.counted));
-        })
+        counted = omega (arith, is.counted);
+        first = λ lt within. let s = is.second lt (omega arith) in
+            omega (arith, s.2, ap (λ o. unwrap_or o b.first) s.1);
+        second = λ lt behind. absurd (omega (arith, is.counted));
+      })
     ]
   ]
 
@@ -143,21 +143,21 @@ module _ (b : Batches) (asked granted bytes heard : ℕ) (ends : b.end ≤ asked
   pub in-last : 0 < bytes → IsIn new (asked + bytes) granted (asked + bytes) heard
   in-last some_bytes = elim (cases_eq asked granted) [
     | inl same ↦ rw (alone same) (record {
-        counted = omega arith;
-        first = λ lt within. omega arith;
-        second = λ lt behind. absurd (omega arith);
-      })
+      counted = omega arith;
+      first = λ lt within. omega arith;
+      second = λ lt behind. absurd (omega arith);
+    })
     | inr other ↦ elim (cases_lt granted b.end) [
       | inl some ↦ rw (joins-both other some) (record {
-          counted = omega arith;
-          first = λ lt within. absurd (omega arith);
-          second = λ lt behind. (min (unwrap_or b.second heard) heard, refl, omega arith);
-        })
+        counted = omega arith;
+        first = λ lt within. absurd (omega arith);
+        second = λ lt behind. (min (unwrap_or b.second heard) heard, refl, omega arith);
+      })
       | inr none ↦ rw (joins other (omega arith)) (record {
-          counted = omega arith;
-          first = λ lt within. absurd (omega arith);
-          second = λ lt behind. (heard, refl, omega arith);
-        })
+        counted = omega arith;
+        first = λ lt within. absurd (omega arith);
+        second = λ lt behind. (heard, refl, omega arith);
+      })
     ]
   ]
 

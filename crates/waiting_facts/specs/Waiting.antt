@@ -26,8 +26,8 @@ HoldsWhereHeard sid P call reply = Unit {0}
 -- it holds of each accepted request in the entries of a life that waits with so many bytes granted: the bytes asked up
 -- to it, its own among them, are more
 abbrev pub HoldsOfEachWaiting : Config → ℕ → ℕ → (ℕ → Type 0) → List Entry → Type 0
-HoldsOfEachWaiting c sid granted P entries = EachAfter
-    (λ before e. granted < asked_in c sid (before ++ e ∷ []) → HoldsWhereHeard sid P e.call e.reply) [] entries
+HoldsOfEachWaiting c sid served P entries = EachAfter
+    (λ before e. served < asked_in c sid (before ++ e ∷ []) → HoldsWhereHeard sid P e.call e.reply) [] entries
 
 -- A MAP has a pending grant of this flow, behind its Null
 pub record HasPending (c : Config) (m : FrameMap) (f : LiveFlow) : Type 0 where
