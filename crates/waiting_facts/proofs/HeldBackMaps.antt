@@ -1,6 +1,6 @@
 -- The acknowledge time and the pending grants of the MAP that an entry builds, by the flows after it.
-use Rattle.std.proofs.Common.{◌≡◌, ℕ, zero, suc, ◌+◌, ◌<◌, ◌≤◌, ◌^◌, Bool, true, List, [], ◌∷◌, ◌++◌, map, filter, length}
-use Rattle.std.proofs.Common.{get_or, Contains, None, refl, sym, ap, ◌∙◌, subst, cond}
+use Rattle.std.proofs.Common.{◌≡◌, ℕ, zero, suc, ◌+◌, ◌<◌, ◌≤◌, ◌^◌, Bool, true, List, [], ◌∷◌, ◌++◌, map, filter}
+use Rattle.std.proofs.Common.{length, get_or, Contains, None, refl, sym, ap, ◌∙◌, subst, cond}
 use Rattle.std.proofs.Common.{arith}
 use Rattle.std.specs.List.{AllByRecursion, count_by}
 use Rattle.std.proofs.lemmas.Bool.{cond_both}
@@ -92,8 +92,8 @@ module _ (c : Config) (h : List Entry) (e : Entry) (m : FrameMap) (same : e.repl
   grown-built : (f : LiveFlow) → grown_by c e f ≡ flow_after (next_after c h) plan f
   grown-built f =
       let none : f.asked + 0 ≡ f.asked = omega arith in
-      rw (same, asked-built c f.sid e.call m, batches-built c f.sid e.call m f.batches f.asked (granted f), none, reads f.sid)
-      refl
+      let batches = batches-built c f.sid e.call m f.batches f.asked (granted f) in
+      rw (same, asked-built c f.sid e.call m, batches, none, reads f.sid) refl
 
   -- the flows after the MAP
   flows-built : after ≡ flows_after (next_after c h) plan (flows_of c h)

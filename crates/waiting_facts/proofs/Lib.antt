@@ -4,3 +4,4 @@ pub mod HeldBack
 pub mod LateFlows
 pub mod HeldBackMaps
 pub mod Waits
+mod RowsWaiting

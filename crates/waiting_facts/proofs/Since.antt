@@ -69,7 +69,8 @@ both-waited : (end first : ℕ) (o : Option ℕ) (granted heard slot : ℕ) {sin
     → since_of (record { end = end; first = first; second = Some (min (unwrap_or o heard) heard) }) granted < slot
     → since ≡ min first (unwrap_or o first) → since < slot
 both-waited end first o granted heard slot le some earlier is =
-    let at = not-over (record { end = end; first = first; second = Some (min (unwrap_or o heard) heard) }) granted some in
+    let b : Batches = record { end = end; first = first; second = Some (min (unwrap_or o heard) heard) } in
+    let at = not-over b granted some in
     omega (arith, is, second-waited o first heard slot le (omega (arith, at, earlier)))
 
 joined-waited : (asked first heard granted slot : ℕ) {since : ℕ} → slot ≤ heard

@@ -17,8 +17,8 @@ use Rattle.sched_calls.specs.declared.call.Call.TheVariants as calls
 use Rattle.sched_calls.specs.declared.reply.Reply.{Reply}
 use Rattle.sched_calls.specs.declared.reply.Reply.TheVariants as replies
 use Rattle.sched_calls.specs.declared.reply.Entry.{Entry}
-use Rattle.sched_history.specs.Life.{Admission, Turn, Begins, Ends, turn_by, Life, life_of, asked_by, asked_in, grants_by}
-use Rattle.sched_history.specs.Life.{grants_since, batches_by, batches_in}
+use Rattle.sched_history.specs.Life.{Admission, Turn, Begins, Ends, turn_by, Life, life_of, asked_by}
+use Rattle.sched_history.specs.Life.{asked_in, grants_by, grants_since, batches_by, batches_in}
 use Rattle.sched_history.specs.Refusal.{bad_sid}
 use Rattle.sched_history.specs.History.{IsStep, IsLegal}
 use Rattle.sched_history.proofs.steps.LegalHistories.{accepted, legal_induction}
@@ -56,7 +56,6 @@ asks_some c h call reply step = tt
 abbrev IsRequestIn : ℕ → Batches → ℕ → ℕ → ℕ → Entry → Type 0
 IsRequestIn sid b asked granted upto e = HoldsWhereHeard sid (IsIn b asked granted upto) e.call e.reply
 
--- whose life begins has a SID that a flow may have
 own_turn : (same : Bool) (turn : Turn) {begun : Turn} → (if same then Some turn else None) ≡ Some begun → same ≡ true
 own_turn true turn is = refl
 own_turn false turn is = absurd cc
@@ -65,6 +64,7 @@ ends_no : (same : Bool) (admission : Admission) → (if same then Some Ends else
 ends_no true admission is = absurd cc
 ends_no false admission is = absurd cc
 
+-- where a life begins the SID is one that a flow may have
 begins-good : (c : Config) (h : List Entry) (sid : ℕ) (call : Call) (reply : Reply) (admission : Admission)
     → turn_by sid call reply ≡ Some (Begins admission) → IsStep c h call reply → bad_sid sid ≡ false
 begins-good c h sid (calls.Admit other spec) (replies.Admitted placement) admission is step =

@@ -24,7 +24,8 @@ use Rattle.sched_history.specs.Life.{batches_in, flow_in_life, flows_of}
 use Rattle.sched_history.specs.Time.{ack_after}
 use Rattle.sched_history.specs.History.{IsNextMap, map_by, IsStep, IsLegal}
 use Rattle.sched_history.specs.Facts.{maps_of, IsHeardAfter}
-use Rattle.sched_history.proofs.steps.LegalHistories.{Builds, Skips, Stays, change_by_step, legal_induction, IsNextMap-from_step}
+use Rattle.sched_history.proofs.steps.LegalHistories.{Builds, Skips, Stays, change_by_step}
+use Rattle.sched_history.proofs.steps.LegalHistories.{legal_induction, IsNextMap-from_step}
 use Rattle.sched_history.proofs.time.AckTimes.{maps_acked, heard_after}
 use Rattle.sched_history.proofs.time.NextFrames.{maps_of-built, maps_of-unbuilt}
 use Rattle.sched_history.proofs.lives.Finding.{good_sid, flow_of-flows_of}
