@@ -25,8 +25,8 @@ use Rattle.sched_history.proofs.steps.LegalHistories.{accepted, legal_induction}
 use Rattle.sched_history.proofs.steps.Passed.{passed-admit, passed-ask}
 use Rattle.sched_history.proofs.lives.LivesAfter.{with_since, life_of-stays, life_of-begins, life_of-ends}
 use Rattle.sched_history.proofs.lives.FlowsAfter.{asked_in-push, batches_in-push, grants_since-push}
-use Rattle.waiting_facts.specs.Waiting.{HoldsWhereHeard}
-use Rattle.waiting_facts.proofs.Since.{IsIn, in-granted, ends-new, in-new, in-last}
+use Rattle.laws.specs.Waiting.{HoldsWhereHeard}
+use Rattle.laws.proofs.Since.{IsIn, in-granted, ends-new, in-new, in-last}
 
 -- what follows of each minislot
 pub heard-implied : (sid : ℕ) (P Q : ℕ → Type 0) → ((heard : ℕ) → P heard → Q heard) → (call : Call) (reply : Reply)

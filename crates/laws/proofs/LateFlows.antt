@@ -22,9 +22,9 @@ use Rattle.sched_history.specs.Life.{flow_in_life, sids, flows_of}
 use Rattle.sched_history.proofs.lives.LivesAfter.{life_of-begins, life_of-ends}
 use Rattle.sched_history.proofs.lives.Finding.{flow_at}
 use Rattle.sched_history.proofs.lives.FlowsAfter.{grown_by, flow_at-stays}
-use Rattle.waiting_facts.proofs.Since.{since-rises, waited}
-use Rattle.waiting_facts.proofs.WaitingLives.{HaveBatches}
-use Rattle.waiting_facts.proofs.HeldBack.{late, late-parts, late-is}
+use Rattle.laws.proofs.Since.{since-rises, waited}
+use Rattle.laws.proofs.WaitingLives.{HaveBatches}
+use Rattle.laws.proofs.HeldBack.{late, late-parts, late-is}
 
 -- what is there now passes the test only where what was there before does
 abbrev AddsNone : {Y : Type 0} → (Y → Bool) → Option Y → Option Y → Type 0

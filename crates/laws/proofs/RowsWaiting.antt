@@ -9,7 +9,7 @@ use Rattle.sched_calls.specs.declared.frame_map.FrameMap.{FrameMap}
 use Rattle.sched_calls.specs.declared.reply.Entry.{Entry}
 use Rattle.sched_calls.specs.declared.reply.Reply.TheVariants as replies
 use Rattle.sched_history.specs.Life.{Admission}
-use Rattle.waiting_facts.specs.Waiting.{ShowsRequests}
+use Rattle.laws.specs.Waiting.{ShowsRequests}
 
 -- a request of flow 5 for 100 bytes that was heard at 30
 abbrev asked : Stamp → Entry

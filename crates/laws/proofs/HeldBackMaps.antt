@@ -33,9 +33,9 @@ use Rattle.sched_history.proofs.lives.Finding.{flows_of-channel}
 use Rattle.sched_history.proofs.lives.FlowsAfter.{grown_by, flows_of-grown}
 use Rattle.sched_history.proofs.flows.FlowCalls.{map-each}
 use Rattle.sched_history.proofs.flows.MapGrants.{plan-HasBytes, grants_of_map-plan}
-use Rattle.waiting_facts.specs.Waiting.{HasPending}
-use Rattle.waiting_facts.proofs.HeldBack.{late, late-shown, few-late}
-use Rattle.waiting_facts.proofs.LateFlows.{one-weaker}
+use Rattle.laws.specs.Waiting.{HasPending}
+use Rattle.laws.proofs.HeldBack.{late, late-shown, few-late}
+use Rattle.laws.proofs.LateFlows.{one-weaker}
 
 count-implied : {X : Type 0} (p q : X → Bool) (xs : List X) → AllByRecursion (λ x. p x ≡ true → q x ≡ true) xs
     → count_by p xs ≤ count_by q xs

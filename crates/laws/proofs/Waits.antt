@@ -29,12 +29,12 @@ use Rattle.sched_history.proofs.steps.LegalHistories.{legal_induction, IsNextMap
 use Rattle.sched_history.proofs.time.AckTimes.{maps_acked, heard_after}
 use Rattle.sched_history.proofs.time.NextFrames.{maps_of-built, maps_of-unbuilt}
 use Rattle.sched_history.proofs.lives.Finding.{good_sid, flow_of-flows_of}
-use Rattle.waiting_facts.specs.Waiting.{HoldsWhereHeard, HasPending, ShowsRequests, IsEveryWait}
-use Rattle.waiting_facts.proofs.Since.{IsIn, since-in}
-use Rattle.waiting_facts.proofs.WaitingLives.{HasBatches, heard-implied, each-implied, have_batches}
-use Rattle.waiting_facts.proofs.HeldBack.{late, late-is}
-use Rattle.waiting_facts.proofs.HeldBackMaps.{ack-built, few-built, whole-progress, falls-not, shows}
-use Rattle.waiting_facts.proofs.LateFlows.{IsHeardFrom, no_more_late}
+use Rattle.laws.specs.Waiting.{HoldsWhereHeard, HasPending, ShowsRequests, IsEveryWait}
+use Rattle.laws.proofs.Since.{IsIn, since-in}
+use Rattle.laws.proofs.WaitingLives.{HasBatches, heard-implied, each-implied, have_batches}
+use Rattle.laws.proofs.HeldBack.{late, late-is}
+use Rattle.laws.proofs.HeldBackMaps.{ack-built, few-built, whole-progress, falls-not, shows}
+use Rattle.laws.proofs.LateFlows.{IsHeardFrom, no_more_late}
 
 -- what holds of each member with those before it, and of the last
 each-parts : {X : Type 0} (P : List X → X → Type 0) (before xs : List X) (x : X) → EachAfter P before (xs ++ x ∷ [])

@@ -1,6 +1,6 @@
 //! The law of the acknowledge times and pending grants of MAPs.
 
-ghost use Rattle.waiting_facts.specs.Waiting.{IsEveryWait};
+ghost use Rattle.laws.specs.Waiting.{IsEveryWait};
 
 /// The law of the acknowledge times and pending grants of the MAPs of a legal history, however many flows wait. The
 /// acknowledge time of a MAP is at most the least progress of all receivers, and is that where no more flows wait after
