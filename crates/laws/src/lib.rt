@@ -1,5 +1,5 @@
-//! The laws of histories and journals, which are written and read, of what the commands mean for one another, and of what
-//! waits.
+//! The laws of histories and journals, which are written and read, of requests that wait, and of what the commands mean
+//! for one another.
 #![tactic(auto)]
 
 mod commands;
