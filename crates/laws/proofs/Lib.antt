@@ -28,3 +28,10 @@ pub mod FoundAgain
 mod RowsLawful
 pub mod Agreement
 pub mod Judging
+pub mod Since
+pub mod WaitingLives
+pub mod HeldBack
+pub mod LateFlows
+pub mod HeldBackMaps
+pub mod Waits
+mod RowsWaiting
