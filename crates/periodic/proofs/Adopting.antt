@@ -12,7 +12,7 @@ use Rattle.sched_calls.specs.declared.placement.Placement.{Placement}
 use Rattle.periodic.specs.declared.search.Wanted.{Wanted}
 use Rattle.periodic.specs.Placement.{Placed, phase_of, offset_of, FollowFrom, IsPlacement}
 use Rattle.periodic.specs.Rows.{AreRowsOf}
-use Rattle.periodic.specs.Frames.{AreCounts}
+use Rattle.periodic.specs.Counts.{AreCounts}
 use Rattle.periodic.specs.Search.{CanBeSought, IsWantedOf, AreStarts, HasRoomAt}
 use Rattle.periodic.specs.Table.{AreSound}
 use Rattle.periodic.proofs.Choosing.{starts-of-lawful, lawful-of-starts}
@@ -54,8 +54,8 @@ gone-all P slots first from i starts none gone = gone.gives (rw (drop_all i star
 
 module _ (c : Config) (table : List Placed) (rows : List Bits) (counts : List ℕ) (spec : FlowSpec) (p : Placement)
     (next : ℕ) (w : Wanted) (lawful : IsLawful c) (sound : AreSound c table) (are : AreRowsOf c table rows)
-    (counted : AreCounts c table counts) (sought : CanBeSought c w) (wanted : IsWantedOf c spec w) (phase offset : ℕ)
-    (at : phase_of c spec p ≡ phase) (from : offset_of c p ≡ offset) (lt : phase < w.interval)
+    (counted : AreCounts c table counts) (sought : CanBeSought c w) (wanted : IsWantedOf c spec w) (phase offset : ℕ) (at : phase_of c spec p ≡ phase) (from : offset_of c p ≡ offset)
+    (lt : phase < w.interval)
   where
     -- a placement that keeps to its window, with starts that are lawful in the rows and for which there is room, is
     -- lawful

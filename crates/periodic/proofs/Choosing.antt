@@ -15,7 +15,7 @@ use Rattle.periodic.specs.Placement.{FollowFrom, AreLawfulStarts, HasLawfulStart
 use Rattle.periodic.specs.Choice.{StartsEarlier, AreEarlier, IsChosen}
 use Rattle.periodic.specs.Table.{AreSound}
 use Rattle.periodic.specs.Rows.{row_at, AreRowsOf}
-use Rattle.periodic.specs.Frames.{AreCounts}
+use Rattle.periodic.specs.Counts.{AreCounts}
 use Rattle.periodic.specs.Search.{CanBeSought, IsWantedOf, IsStartOf, AreStartsIn, AreStarts, HasRoomAt, NonePhase}
 use Rattle.periodic.specs.Search.{IsFirstFound, AreNoLater, IsReference, starts_of}
 use Rattle.periodic.proofs.Counting.{few-of-room, room-of-few}
@@ -168,8 +168,8 @@ module _ (c : Config) (table : List Placed) (rows : List Bits) (counts : List �
       refl refl
       (phase-within p) is.starts)
 
-  module _ (f : Found) (p other : Placement) (found : IsFirstFound c rows counts w f)
-      (same : p.starts ≡ starts_of f.row) (phase : phase_of c spec p ≡ f.phase) (offset : offset_of c p ≡ f.offset)
+  module _ (f : Found) (p other : Placement) (found : IsFirstFound c rows counts w f) (same : p.starts ≡ starts_of f.row)
+      (phase : phase_of c spec p ≡ f.phase) (offset : offset_of c p ≡ f.offset)
       (even : phase_of c spec other ≡ phase_of c spec p) (level : offset_of c other ≡ offset_of c p)
       (may : IsPlacement c table spec next other) where
     -- what is found first has no later starts in a nominal frame than another placement of its phase and offset

@@ -1,8 +1,9 @@
 -- How many starts a frame has, with a flow and without it.
-use Rattle.std.proofs.Common.{◌≡◌, sym, ap, ◌∙◌, subst, ℕ, ◌+◌, ◌*◌, ◌/◌, ◌%◌, ◌<◌, ◌≤◌, Bool, nat_lt, List, []}
-use Rattle.std.proofs.Common.{◌∷◌, ◌++◌, drop, filter, length, get_or, refl, inl, inr, arith}
+use Rattle.std.proofs.Common.{◌≡◌, sym, ap, ◌∙◌, subst, ℕ, ◌+◌, ◌*◌, ◌/◌, ◌%◌, ◌<◌, ◌≤◌, Bool, true, nat_lt, List, []}
+use Rattle.std.proofs.Common.{◌∷◌, drop, filter, length, get_or, set, inl, inr, arith}
 use Rattle.std.proofs.lemmas.Bool.{cases_eq, cond_both, eq-eqb, ne_eqb}
-use Rattle.std.proofs.lemmas.List.{length-append, length-map, length-take}
+use Rattle.std.proofs.lemmas.Grind.{get_or-set_at}
+use Rattle.std.proofs.lemmas.List.{length-append, length-map, length-take, get_or-set_other}
 use Rattle.std.proofs.lemmas.List.Sums.{sum_by-cons}
 use Rattle.minislots.specs.declared.config.Config.{Config}
 use Rattle.sched_calls.specs.declared.spec.FlowSpec.{FlowSpec}
@@ -12,10 +13,10 @@ use Rattle.periodic.specs.declared.TheConstants.{MAX_SPOTS}
 use Rattle.periodic.specs.declared.search.Wanted.{Wanted}
 use Rattle.periodic.specs.Placement.{Placed, phase_of, starts_in, spot_at, spots_of, spots_in, HasLawfulStarts}
 use Rattle.periodic.specs.Placement.{HasFewStarts}
-use Rattle.periodic.specs.Frames.{AreCounts, AreSameBut}
+use Rattle.periodic.specs.Counts.{AreCounts, AreCounted, MayCount, AreCountedTo}
 use Rattle.periodic.specs.Search.{CanBeSought, IsWantedOf, HasRoomAt}
 use Rattle.periodic.specs.Table.{placed_grants, with_placed}
-use Rattle.periodic.proofs.Fields.{spots-here}
+use Rattle.periodic.proofs.Fields.{count-here}
 use Rattle.periodic.proofs.Groups.{frame-phase, frame-within, frame-of, index-within}
 
 -- a flow has no more starts in a frame than grants in an interval
@@ -23,10 +24,8 @@ pub starts-most : (c : Config) (spec : FlowSpec) (p : Placement) (place : ℕ)
     → length (starts_in c spec p place) ≤ grants_of spec
 starts-most c spec p place =
     elim (cases_eq (place % interval_frames c spec) (phase_of c spec p)) [
-      | inl nominal ↦ (
-          let index = place / interval_frames c spec in
-          rw (eq-eqb (place % interval_frames c spec) (phase_of c spec p) nominal)
-          (omega (arith, length-take (grants_of spec) (drop (index * grants_of spec) p.starts))))
+      | inl nominal ↦ rw (eq-eqb (place % interval_frames c spec) (phase_of c spec p) nominal)
+          (omega (arith, length-take (grants_of spec) (drop (place / interval_frames c spec * grants_of spec) p.starts)))
       | inr differ ↦ rw (ne_eqb (place % interval_frames c spec) (phase_of c spec p) differ) (omega arith)
     ]
 
@@ -108,27 +107,34 @@ module _ (c : Config) (table : List Placed) (counts : List ℕ) (spec : FlowSpec
       let own = (starts.each place low nominal).count in
       omega (arith, few place low, counted place low, own, wanted.grants)
 
--- a flow takes nothing of a frame that is none of its phase
-pub spots-none : (c : Config) (place : ℕ) (f : Placed) → place < c.cycle
-    → (place % interval_frames c f.spec ≡ phase_of c f.spec f.placement → ⊥) → spots_of c place f ≡ []
-spots-none c place f within differ =
-    spots-here c place f within
-    ∙ rw (ne_eqb (place % interval_frames c f.spec) (phase_of c f.spec f.placement) differ) refl
+module _ (c : Config) (f : Placed) (taken : Bool) (old counts : List ℕ) (place n : ℕ) (below : place < length counts)
+    (are : AreCountedTo c f taken old counts place) where
+  -- a flow's starts are counted in one frame more
+  pub counted-more : AreCounted taken (get_or counts place 0) (length (spots_of c place f)) n
+      → AreCountedTo c f taken old (set counts place n) (place + 1)
+  counted-more is = record {
+    counted = λ j lt. elim (cases_eq j place) [
+      | inl same ↦ (
+          let here = subst (λ m. AreCounted taken m (length (spots_of c place f)) n) (are.rest place (omega arith)) is in
+          subst (AreCounted taken (get_or old j 0) (length (spots_of c j f)))
+          (sym (get_or-set_at counts place j n 0 same below))
+          (subst (λ k. AreCounted taken (get_or old k 0) (length (spots_of c k f)) n) (sym same) here))
+      | inr other ↦ subst (AreCounted taken (get_or old j 0) (length (spots_of c j f)))
+          (sym (get_or-set_other counts place j n 0 other)) (are.counted j (omega (arith, other)))
+    ];
+    rest = λ j le. get_or-set_other counts place j n 0 (λ same. absurd (omega (arith, same, le)))
+        ∙ are.rest j (omega arith);
+  }
 
--- with a flow that takes nothing of a frame it has the same spots
-pub same-spots-with : (c : Config) (k : ℕ) (f : Placed) (placed : List Placed) → spots_of c k f ≡ []
-    → spots_in c k placed ≡ spots_in c k (with_placed f placed)
-same-spots-with c k f [] none = sym (ap (λ ss. ss ++ []) none)
-same-spots-with c k f (g ∷ placed) none =
-    cond_both (nat_lt f.sid g.sid) (f ∷ g ∷ placed) (g ∷ with_placed f placed)
-    (λ fs. spots_in c k (g ∷ placed) ≡ spots_in c k fs)
-    (λ low. sym (ap (λ ss. ss ++ spots_in c k (g ∷ placed)) none))
-    (λ high. ap (λ ss. spots_of c k g ++ ss) (same-spots-with c k f placed none))
+module _ (c : Config) (f : Placed) (placed : List Placed) (counts : List ℕ) (are : AreCounts c placed counts) where
+  -- where no frame has too many starts with a flow its starts may be counted
+  pub may-count : HasFewStarts c placed f.spec f.placement → MayCount c f true counts
+  may-count few place within = omega (arith, are place within, few place within, count-here c place f within)
 
--- with one flow more no frames but those of its phase have other spots
-pub same-but-with : (c : Config) (interval phase : ℕ) (f : Placed) (placed new : List Placed)
-    → interval ≡ interval_frames c f.spec → phase ≡ phase_of c f.spec f.placement → new ≡ with_placed f placed
-    → AreSameBut c interval phase placed new
-same-but-with c interval phase f placed new frames turn is place within differ =
-    rw is (same-spots-with c place f placed (spots-none c place f within
-    (λ nominal. differ (ap (λ n. place % n) frames ∙ nominal ∙ sym turn))))
+  -- with them counted the counts are those with the flow
+  pub counts-with : (new : List ℕ) → ((place : ℕ) → place < c.cycle
+      → AreCounted true (get_or counts place 0) (length (spots_of c place f)) (get_or new place 0))
+      → AreCounts c (with_placed f placed) new
+  counts-with new more place within =
+      let here : get_or new place 0 ≡ get_or counts place 0 + length (spots_of c place f) = more place within in
+      omega (arith, here, are place within, spots-with c place f placed)

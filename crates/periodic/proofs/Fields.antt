@@ -10,18 +10,19 @@ use Rattle.std.proofs.lemmas.List.Elements.{All-from_recursion}
 use Rattle.minislots.specs.declared.config.Config.{Config}
 use Rattle.flow_book.proofs.Steps.{all-item, taken-item}
 use Rattle.periodic.specs.declared.TheConstants.{MAX_SPOTS}
+use Rattle.periodic.specs.declared.bits.Bits.{Bits}
 use Rattle.periodic.specs.declared.spots.PlacedFlow.{PlacedFlow}
 use Rattle.periodic.specs.Placement.{Placed, starts_in, spot_at, spots_of, spots_in}
-use Rattle.periodic.specs.Table.{IsSoundPlaced, AreSound}
-use Rattle.periodic.specs.Fields.{placed_of, KeepsTimes, IsSoundFlow, AreSoundFlows}
+use Rattle.periodic.specs.Table.{IsSoundPlaced}
+use Rattle.periodic.specs.Fields.{placed_of, KeepsTimes, IsSoundFlow, AreSoundFlows, AreSoundFields}
 
 -- the flows of a sound table are sound
-pub sound-flows : (c : Config) (flows : List PlacedFlow) (placed : List Placed) → map placed_of flows ≡ placed
-    → AreSound c placed → AllByRecursion (KeepsTimes c) flows → AreSoundFlows c flows
-sound-flows c flows placed is sound times = record {
-  each = rw is sound.each;
-  times = times;
-  few = rw is sound.few;
+pub sound-flows : (c : Config) (flows : List PlacedFlow) (rows : List Bits) (most counts : List ℕ)
+    (grants : ℕ) → AreSoundFields c flows rows most counts grants → AreSoundFlows c flows
+sound-flows c flows rows most counts grants are = record {
+  each = are.sound.each;
+  times = are.times;
+  few = are.sound.few;
 }
 
 -- one of them is

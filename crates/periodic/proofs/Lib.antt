@@ -1,8 +1,8 @@
 pub mod RowsPlacement
 pub mod RowsGrants
 pub mod RowsChosen
-pub mod RowsNoPlace
 pub mod RowsFull
+pub mod RowsNoPlace
 pub mod Profile
 pub mod Parameters
 pub mod Fields
@@ -27,4 +27,3 @@ pub mod Marking
 pub mod Standing
 pub mod Bounding
 pub mod Counting
-pub mod Refilling

@@ -15,12 +15,11 @@ use Rattle.minislots.specs.declared.config.Config.{Config}
 use Rattle.sched_calls.specs.declared.spec.FlowSpec.{FlowSpec}
 use Rattle.flow_book.proofs.Places.{some-place}
 use Rattle.periodic.specs.declared.bits.Bits.{Bits}
-use Rattle.periodic.specs.declared.cycle.FrameSpots.{FrameSpots}
 use Rattle.periodic.specs.declared.spots.PlacedFlow.{PlacedFlow}
 use Rattle.periodic.specs.Placement.{Placed, spots_of}
 use Rattle.periodic.specs.Table.{placed_grants, IsPlaced, placed_at, with_placed, without, IsSoundPlaced, AreSound}
 use Rattle.periodic.specs.Rows.{row_at, AreMarked, AreBounds}
-use Rattle.periodic.specs.Frames.{AreFramesOf}
+use Rattle.periodic.specs.Counts.{AreCounts}
 use Rattle.periodic.specs.Fields.{placed_of, placement_at, KeepsTimes, IsSoundFlow, AreSoundFields}
 use Rattle.periodic.proofs.Occupied.{tells-with}
 use Rattle.periodic.proofs.Vacated.{tells-without}
@@ -103,18 +102,17 @@ marked-for c k bit g f given rows new is same marked =
     (subst (λ bs. AreMarked (spots_of c k (placed_of g)) bit (row_at c bs k) (row_at c new k)) same marked)
 
 module _ (c : Config) (items new : List PlacedFlow) (rows marked : List Bits) (f : Placed)
-    (most bounds counts tally : List ℕ) (frames spots : List FrameSpots) (before grants : ℕ)
-    (are : AreSoundFields c items rows most counts frames before)
+    (most bounds counts tally : List ℕ) (before grants : ℕ)
+    (are : AreSoundFields c items rows most counts before)
     (long : length marked ≡ c.cycle) (bounded : AreBounds c marked bounds) where
   -- with one flow more, whose minislots are marked as taken, the fields are sound
   pub fields-with : map placed_of new ≡ with_placed f (map placed_of items)
       → AreSound c (with_placed f (map placed_of items))
       → AllByRecursion (KeepsTimes c) new
       → ((k : ℕ) → AreMarked (spots_of c k f) 1 (row_at c rows k) (row_at c marked k))
-      → AreFramesOf c (map placed_of new) tally spots
-      → grants ≡ placed_grants (with_placed f (map placed_of items))
-      → AreSoundFields c new marked bounds tally spots grants
-  fields-with is sound times marks kept sum = record {
+      → AreCounts c (with_placed f (map placed_of items)) tally
+      → grants ≡ placed_grants (with_placed f (map placed_of items)) → AreSoundFields c new marked bounds tally grants
+  fields-with is sound times marks counted sum = record {
     sound = rw is sound;
     times = times;
     told = record {
@@ -123,7 +121,7 @@ module _ (c : Config) (items new : List PlacedFlow) (rows marked : List Bits) (f
           (marks k));
     };
     bounded = bounded;
-    kept = kept;
+    counted = rw is counted;
     summed = rw is sum;
   }
 
@@ -132,10 +130,9 @@ module _ (c : Config) (items new : List PlacedFlow) (rows marked : List Bits) (f
       → find (λ g. g.sid == sid) (map placed_of items) ≡ Some f
       → AllByRecursion (KeepsTimes c) new
       → ((k : ℕ) → AreMarked (spots_of c k f) 0 (row_at c rows k) (row_at c marked k))
-      → AreFramesOf c (map placed_of new) tally spots
-      → grants ≡ placed_grants (without sid (map placed_of items))
-      → AreSoundFields c new marked bounds tally spots grants
-  fields-without sid is found times marks kept sum = record {
+      → AreCounts c (without sid (map placed_of items)) tally
+      → grants ≡ placed_grants (without sid (map placed_of items)) → AreSoundFields c new marked bounds tally grants
+  fields-without sid is found times marks counted sum = record {
     sound = rw is (sound-filter c (λ g. not (g.sid == sid)) (map placed_of items) are.sound);
     times = times;
     told = record {
@@ -144,6 +141,6 @@ module _ (c : Config) (items new : List PlacedFlow) (rows marked : List Bits) (f
           are.sound.ascending (are.sound.apart k) (are.told.each k) (marks k));
     };
     bounded = bounded;
-    kept = kept;
+    counted = rw is counted;
     summed = rw is sum;
   }

@@ -11,8 +11,7 @@ use Rattle.periodic.specs.declared.spots.PlacedFlow.{PlacedFlow}
 use Rattle.periodic.specs.Placement.{Placed, phase_of, spots_in}
 use Rattle.periodic.specs.Table.{placed_grants, IsSoundPlaced, AreSound}
 use Rattle.periodic.specs.Rows.{AreRowsOf, AreBounds}
-use Rattle.periodic.specs.declared.cycle.FrameSpots.{FrameSpots}
-use Rattle.periodic.specs.Frames.{AreFramesOf}
+use Rattle.periodic.specs.Counts.{AreCounts}
 
 -- the placement of this reference and these starts
 abbrev pub placement_at : ℕ → List ℕ → Placement
@@ -46,11 +45,11 @@ pub record AreSoundFlows (c : Config) (flows : List PlacedFlow) : Type 0 where
   pub few : (k : ℕ) → length (spots_in c k (placed_in flows)) ≤ MAX_SPOTS
 
 -- What is true of the fields of every table
-pub record AreSoundFields (c : Config) (flows : List PlacedFlow) (rows : List Bits) (most counts : List ℕ)
-    (frames : List FrameSpots) (grants : ℕ) : Type 0 where
+pub record AreSoundFields (c : Config) (flows : List PlacedFlow) (rows : List Bits) (most counts : List ℕ) (grants : ℕ)
+    : Type 0 where
   pub sound : AreSound c (placed_in flows)
   pub times : AllByRecursion (KeepsTimes c) flows
   pub told : AreRowsOf c (placed_in flows) rows
   pub bounded : AreBounds c rows most
-  pub kept : AreFramesOf c (placed_in flows) counts frames
+  pub counted : AreCounts c (placed_in flows) counts
   pub summed : grants ≡ placed_grants (placed_in flows)

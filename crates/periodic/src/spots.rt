@@ -126,7 +126,7 @@ impl PlacedFlow {
     }
 
     // Where the flow starts in the frame at this place of the cycle.
-    fn starts(&self, place: u64) -> &[u16]
+    pub(crate) fn starts(&self, place: u64) -> &[u16]
         requires sound { (c : Config) × IsSoundFlow c self.now × (place < c.cycle) }
         ensures { (c : Config) → IsSoundFlow c self.now → place < c.cycle
             → result.now ≡ starts_in c self.now.spec self.now.placement place }
@@ -137,13 +137,6 @@ impl PlacedFlow {
         }
         let first = (place / self.interval) as usize * self.grants;
         &starts[first..first + self.grants]
-    }
-
-    // The frames of its interval, and in which of them it has its nominal times.
-    pub(crate) fn nominal(&self) -> (u64, u64)
-        ensures { result ≡ (self.now.interval, self.now.phase) }
-    {
-        (self.interval, self.phase)
     }
 
     // What the flow takes from this start on.
@@ -204,7 +197,6 @@ pub(crate) fn fill(
 ) -> usize
     requires sound { AreSoundFlows config.now flows.now }
     ensures spots { take result spots.new ≡ spots_in config.now k (placed_in flows.now) }
-    ensures exact { result ≡ length (spots_in config.now k (placed_in flows.now)) }
     ensures rest { drop result spots.new ≡ drop result spots.old }
     ensures most { result ≤ MAX_SPOTS }
     ensures lawful { IsLawful config.now }

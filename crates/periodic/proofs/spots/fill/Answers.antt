@@ -1,6 +1,6 @@
 -- Each flow's spots are written behind those before it.
 use Rattle.std.proofs.Common.{◌≡◌, ◌∙◌, sym, ap, ℕ, ◌%◌, ◌<◌, ◌++◌, length, take, map, arith}
-use Rattle.std.proofs.lemmas.List.{length-take-le, take_all}
+use Rattle.std.proofs.lemmas.List.{length-take-le}
 use Rattle.flow_book.proofs.Steps.{taken-item}
 use Rattle.periodic.specs.Placement.{spots_of, spots_in}
 use Rattle.periodic.specs.Fields.{placed_of}
@@ -58,11 +58,3 @@ loop-flow-preserved c =
           c.loop-flow.invariant.rest;
       most = c.put-count.ensures.most;
     })
-
-pub returns-clause-exact : goal.returns-clause-exact
-returns-clause-exact c =
-    let inv = c.loop-flow.invariant in
-    let all : take c.loop-flow.flow-index c.args.flows.now ≡ c.args.flows.now =
-    take_all c.loop-flow.flow-index c.args.flows.now (omega arith) in
-    sym (length-take-le c.loop-flow.count c.loop-flow.spots (omega (arith, inv.most, inv.long)))
-    ∙ ap length inv.spots ∙ ap (λ fs. length (spots_in c.args.config.now c.args.k (map placed_of fs))) all

@@ -1,15 +1,13 @@
 -- The new flow stands in order of SID, its minislots are taken, and the table is sound.
-use Rattle.std.proofs.Common.{◌≡◌, ◌∙◌, ap, subst, ℕ, ◌+◌, map, length, arith}
+use Rattle.std.proofs.Common.{◌≡◌, ◌∙◌, sym, ap, subst, ◌+◌, true, map, length, get_or, arith}
 use Rattle.std.proofs.lemmas.List.{take_at}
-use Rattle.sched_calls.specs.FlowSpec.{interval_frames, grants_of}
-use Rattle.periodic.specs.Placement.{Placed, phase_of}
-use Rattle.periodic.specs.Frames.{AreFramesOf}
+use Rattle.sched_calls.specs.FlowSpec.{grants_of}
+use Rattle.periodic.specs.Placement.{Placed, spots_of}
+use Rattle.periodic.specs.Counts.{AreCounted, MayCount}
 use Rattle.periodic.specs.Table.{placed_grants, placed_at, with_placed}
 use Rattle.periodic.specs.Fields.{placed_of, placement_at}
 use Rattle.periodic.proofs.Adding.{grants-with, new-sound, sound-with}
-use Rattle.periodic.proofs.Counting.{same-but-with}
-use Rattle.periodic.proofs.Fields.{sound-flows}
-use Rattle.periodic.proofs.Parameters.{places_of}
+use Rattle.periodic.proofs.Counting.{may-count, counts-with}
 use Rattle.periodic.proofs.Standing.{above-place, put-in, placed-at, sound-at, times-with, marked-for, fields-with}
 use Rattle.periodic.proofs.table.Table.add.Goals as goal
 
@@ -34,6 +32,37 @@ mark-requires-clause-sound c =
     (placement_at a.reference a.starts.now) c.requires.sid_positive c.requires.sid_most c.requires.periodic
     (rw (← c.self.view_is) at c.requires.no_fault) lawful.1)
     c.at-flow.ensures.times
+
+pub count-requires-clause-sound : goal.count-requires-clause-sound
+count-requires-clause-sound c =
+    let a = c.args in
+    let inside = c.self.inside in
+    let place = above-place a.sid inside.flows.items c.deref.result.now c.place_above.result c.len.result
+    c.unwrap_or-place.result c.deref.ensures.value c.place_above.ensures (omega (arith, c.self.inside.flows.ok.0))
+    c.unwrap_or-place.ensures in
+    let lawful = rw (← c.self.view_is) at c.requires.lawful in
+    sound-at inside.flows.items c.insert.new.self.items c.unwrap_or-place.result a.sid a.spec a.reference a.starts.now
+    c.from_vec.result (c.from_vec.ensures ∙ c.in_ok-kept.ensures.items) place c.at-flow.result
+    c.at-flow.ensures.placed inside.config c.index-2.result.now c.in_ok-insert.ensures.items c.index-2.ensures
+    (new-sound inside.config (map placed_of inside.flows.items) a.sid a.spec lawful.0
+    (placement_at a.reference a.starts.now) c.requires.sid_positive c.requires.sid_most c.requires.periodic
+    (rw (← c.self.view_is) at c.requires.no_fault) lawful.1)
+    c.at-flow.ensures.times
+
+pub count-requires-clause-may : goal.count-requires-clause-may
+count-requires-clause-may c =
+    let a = c.args in
+    let inside = c.self.inside in
+    let place = above-place a.sid inside.flows.items c.deref.result.now c.place_above.result c.len.result
+    c.unwrap_or-place.result c.deref.ensures.value c.place_above.ensures (omega (arith, c.self.inside.flows.ok.0))
+    c.unwrap_or-place.ensures in
+    let here = placed-at inside.flows.items c.insert.new.self.items c.unwrap_or-place.result a.sid a.spec a.reference
+    a.starts.now c.from_vec.result (c.from_vec.ensures ∙ c.in_ok-kept.ensures.items) place c.at-flow.result
+    c.at-flow.ensures.placed c.index-2.result.now c.in_ok-insert.ensures.items c.index-2.ensures in
+    let lawful = rw (← c.self.view_is) at c.requires.lawful in
+    subst (λ f. MayCount inside.config f true inside.counts.starts) (sym here)
+    (may-count inside.config (placed_at a.sid a.spec (placement_at a.reference a.starts.now))
+    (map placed_of inside.flows.items) inside.counts.starts c.self.invariant.counted lawful.1.few)
 
 inserted : (c : goal.After-from_vec-2) → map placed_of c.insert.new.self.items
     ≡ with_placed (placed_at c.args.sid c.args.spec (placement_at c.args.reference c.args.starts.now))
@@ -65,28 +94,6 @@ summed c =
     let more = grants-with (placed_at a.sid a.spec (placement_at a.reference a.starts.now)) placed in
     omega (arith, c.self.invariant.summed, own c, more)
 
--- the frames of its phase are written anew
-kept : (c : goal.After-from_vec-2) → AreFramesOf c.self.inside.config (map placed_of c.insert.new.self.items)
-    c.refill.new.self.counts c.refill.new.self.spots.items
-kept c =
-    let a = c.args in
-    let config = c.self.inside.config in
-    let placed = map placed_of c.self.inside.flows.items in
-    let added = placed_at a.sid a.spec (placement_at a.reference a.starts.now) in
-    let made = c.at-flow.ensures.placed in
-    let times = c.at-flow.ensures.times in
-    let frames : c.nominal-interval.result.0 ≡ interval_frames config a.spec =
-    ap (λ (n : ℕ × ℕ). n.0) c.nominal-interval.ensures ∙ times.interval
-    ∙ ap (λ (f : Placed). interval_frames config f.spec) made in
-    let turn : c.nominal-interval.result.1 ≡ phase_of config a.spec added.placement =
-    ap (λ (n : ℕ × ℕ). n.1) c.nominal-interval.ensures ∙ times.phase
-    ∙ ap (λ (f : Placed). phase_of config f.spec f.placement) made in
-    subst (λ items. AreFramesOf config (map placed_of items) c.refill.new.self.counts c.refill.new.self.spots.items)
-    c.deref-2.ensures.value
-    (c.refill.ensures placed c.self.invariant.kept
-    (same-but-with config c.nominal-interval.result.0 c.nominal-interval.result.1 added placed
-    (map placed_of c.deref-2.result.now) frames turn (ap (map placed_of) c.deref-2.ensures.value ∙ inserted c)))
-
 pub invariant_of-self-2 : goal.invariant_of-self-2
 invariant_of-self-2 c =
     let a = c.args in
@@ -100,13 +107,15 @@ invariant_of-self-2 c =
     let here = placed-at inside.flows.items c.insert.new.self.items c.unwrap_or-place.result a.sid a.spec a.reference
     a.starts.now c.from_vec.result starts place c.at-flow.result c.at-flow.ensures.placed c.index.result.now
     c.in_ok-insert.ensures.items c.index.ensures in
+    let counted = placed-at inside.flows.items c.insert.new.self.items c.unwrap_or-place.result a.sid a.spec a.reference
+    a.starts.now c.from_vec.result starts place c.at-flow.result c.at-flow.ensures.placed c.index-2.result.now
+    c.in_ok-insert.ensures.items c.index-2.ensures in
     let lawful = rw (← c.self.view_is) at c.requires.lawful in
     let long : length c.mark.new.rows ≡ inside.rows.len =
     omega (arith, c.mark.ensures.long, c.self.invariant.told.long, inside.rows.ok.0) in
     rw (take_at c.mark.new.rows _ inside.rows.len long)
     (fields-with inside.config inside.flows.items c.insert.new.self.items inside.rows.items c.mark.new.rows added
-    inside.widest.most c.mark.new.widest.most inside.frames.counts c.refill.new.self.counts
-    inside.frames.spots.items c.refill.new.self.spots.items inside.grants
+    inside.widest.most c.mark.new.widest.most inside.counts.starts c.count.new.self.starts inside.grants
     (inside.grants + c.at-flow.result.grants) c.self.invariant
     c.mark.ensures.long c.mark.ensures.bounded (inserted c)
     (sound-with inside.config placed a.sid a.spec lawful.0 (placement_at a.reference a.starts.now)
@@ -119,45 +128,7 @@ invariant_of-self-2 c =
     c.in_ok-insert.ensures.items c.self.invariant.times c.at-flow.ensures.times)
     (λ k. marked-for inside.config k 1 c.index.result.now added c.deref_mut.result.now inside.rows.items c.mark.new.rows
     here c.deref_mut.ensures.value (c.mark.ensures.marked k))
-    (kept c)
+    (counts-with inside.config added placed inside.counts.starts c.self.invariant.counted c.count.new.self.starts
+    (λ k within. subst (λ f. AreCounted true (get_or inside.counts.starts k 0) (length (spots_of inside.config k f))
+    (get_or c.count.new.self.starts k 0)) counted (c.count.ensures k within)))
     (summed c))
-
-pub refill-requires-clause-positive : goal.refill-requires-clause-positive
-refill-requires-clause-positive c =
-    let config = c.self.inside.config in
-    let times = c.at-flow.ensures.times in
-    let spec = ap (λ (f : Placed). interval_frames config f.spec) c.at-flow.ensures.placed in
-    let places = places_of config c.args.spec times.lawful c.requires.periodic
-    (rw (← c.self.view_is) at c.requires.no_fault) in
-    omega (
-      arith,
-      ap (λ (n : ℕ × ℕ). n.0) c.nominal-interval.ensures,
-      times.interval,
-      spec,
-      places.interval_positive,
-    )
-
-pub refill-requires-clause-sound : goal.refill-requires-clause-sound
-refill-requires-clause-sound c =
-    let a = c.args in
-    let inside = c.self.inside in
-    let items = inside.flows.items in
-    let placed = map placed_of items in
-    let place = above-place a.sid items c.deref.result.now c.place_above.result c.len.result c.unwrap_or-place.result
-    c.deref.ensures.value c.place_above.ensures (omega (arith, c.self.inside.flows.ok.0)) c.unwrap_or-place.ensures in
-    let starts = c.from_vec.ensures ∙ c.in_ok-kept.ensures.items in
-    let flow = c.at-flow.ensures in
-    let lawful = rw (← c.self.view_is) at c.requires.lawful in
-    let p = placement_at a.reference a.starts.now in
-    let in-order = put-in items c.insert.new.self.items c.unwrap_or-place.result a.sid a.spec a.reference a.starts.now
-    c.from_vec.result starts place c.at-flow.result flow.placed c.in_ok-insert.ensures.items in
-    let times = times-with items c.insert.new.self.items c.unwrap_or-place.result a.sid a.spec a.reference a.starts.now
-    c.from_vec.result starts place c.at-flow.result flow.placed inside.config c.in_ok-insert.ensures.items
-    c.self.invariant.times flow.times in
-    sound-flows inside.config c.deref-2.result.now (with_placed (placed_at a.sid a.spec p) placed)
-    (ap (map placed_of) c.deref-2.ensures.value ∙ in-order)
-    (sound-with inside.config placed a.sid a.spec lawful.0 p flow.times.lawful c.requires.sid_positive
-    c.requires.sid_most c.requires.periodic (rw (← c.self.view_is) at c.requires.no_fault)
-    (rw (← c.self.view_is) at c.requires.room) (rw (← c.self.view_is) at c.requires.is_new) lawful.1
-    c.self.invariant.sound)
-    (rw c.deref-2.ensures.value times)
