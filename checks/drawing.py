@@ -16,7 +16,7 @@ def shuffled(draw, members):
 class Drawing:
     """A script that is drawn call by call, where the plain scheduler stands."""
 
-    MORE = (0, 30, 150, 300)
+    MORE, FRAMES = (0, 30, 150, 300), (16, 40, 64, 100, 150, 256)
 
     def __init__(self, random_numbers):
         self.draw = random_numbers
@@ -71,7 +71,7 @@ class Drawing:
 
     def drawn_sizes(self):
         draw = self.draw
-        frame = draw.choice([16, 40, 64, 100, 150, 256])
+        frame = draw.choice(self.FRAMES)
         overhead, per_slot = draw.randint(1, 4), draw.choice([8, 16, 32, 64, 100])
         region = draw.randint(1, min(8, frame - overhead - 9))
         quantum = draw.randint(64, max(64, min(1522, (frame - region - overhead) * per_slot)))
@@ -327,7 +327,7 @@ class Waiting(Limited):
     """A script that begins with up to 300 flows of which more ask than a MAP shows, in any order, with small requests
     and large ones, and with grants and polls in most minislots of a frame."""
 
-    MORE, MOST = (0, 20, 60), 320
+    MORE, MOST, FRAMES = (0, 20, 60), 320, (150, 256, 400)
 
     def limits(self):
         flows = self.draw.choice([70, 130, 200, 300, 8191])
@@ -336,9 +336,10 @@ class Waiting(Limited):
 
     def drawn_sizes(self):
         """Frames in which more polls have room than may stand there."""
-        frame = self.draw.choice([150, 256, 400])
-        sizes = {"frame": frame, "poll_slots": 1, "ticks": 4, "calls": 3000, "lead": self.draw.choice([0, frame])}
-        return {**super().drawn_sizes(), **sizes, "start": frame * self.draw.choice([0, 20, 10**12])}
+        sizes = super().drawn_sizes()
+        frame = sizes["frame"]
+        times = {"lead": self.draw.choice([0, frame]), "start": frame * self.draw.choice([0, 20, 10**12])}
+        return {**sizes, "poll_slots": 1, "ticks": 4, "calls": 3000, **times}
 
     def polls(self):
         """As many polls as frames may have and some more, or a few, and a flow with several grants in an interval."""
@@ -365,7 +366,8 @@ class Waiting(Limited):
                 count = self.draw.choice([1, 16, 64, 64, 100, 100, 300, 1522])
                 yield {"call": "ask", "receiver": 0, "sid": sid, "bytes": count, "heard": max(0, heard)}
             for receiver in range(self.config["receivers"]):
-                yield {"call": "heard", "receiver": receiver, "upto": self.plain.next - self.draw.choice([0, 0, 5, 10])}
+                upto = max(0, self.plain.next - self.draw.choice([0, 0, 5, 10]))
+                yield {"call": "heard", "receiver": receiver, "upto": upto}
             for _ in range(self.draw.choice([1, 1, 2, 3])):
                 yield self.build()
 

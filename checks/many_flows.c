@@ -49,7 +49,7 @@ static struct mapsched_call best_effort(uint16_t sid) {
 /* One grant in the 64 frames of a cycle, or in each frame. */
 static struct mapsched_call voice(uint16_t sid, int is_each) {
   return (struct mapsched_call){.kind = MAPSCHED_ADMIT, .flow = MAPSCHED_UNSOLICITED, .sid = sid, .size = 232,
-    .interval_us = is_each ? 25600 : 64 * 25600, .jitter_us = 64 * 25600, .grants = 1};
+    .interval_us = is_each ? 25600 : 64 * 25600, .grants = 1};
 }
 
 static struct mapsched_call ask(uint16_t sid, uint32_t bytes, uint64_t next) {
