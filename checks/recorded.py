@@ -36,7 +36,7 @@ class Talk:
         drawing = kind(random.Random(seed))
         drawing.config["calls"] = calls or drawing.draw.choice([1, 7, 40, 1000])
         drawing.plain.config["calls"] = NO_END
-        self.config, self.calls, self.answers = drawing.config, [], []
+        self.config, self.calls, self.answers, self.plain = drawing.config, [], [], drawing.plain
         for _ in range(length):
             call = drawing.next_call()
             self.calls.append(compact(call).encode() + b"\n")
