@@ -66,7 +66,7 @@ impl Counts {
             (length (spots_of config.now place (placed_of flow.now))) (get_or self.new.starts place 0) }
     {
         for place in 0..u64::from(config.cycle()) {
-            let starts = flow.starts(place).len();
+            let starts = flow.count(place);
             let row = place as usize;
             self.starts[row] = counted(self.starts[row], starts, taken);
         }

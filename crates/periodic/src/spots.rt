@@ -126,7 +126,7 @@ impl PlacedFlow {
     }
 
     // Where the flow starts in the frame at this place of the cycle.
-    pub(crate) fn starts(&self, place: u64) -> &[u16]
+    fn starts(&self, place: u64) -> &[u16]
         requires sound { (c : Config) × IsSoundFlow c self.now × (place < c.cycle) }
         ensures { (c : Config) → IsSoundFlow c self.now → place < c.cycle
             → result.now ≡ starts_in c self.now.spec self.now.placement place }
@@ -137,6 +137,18 @@ impl PlacedFlow {
         }
         let first = (place / self.interval) as usize * self.grants;
         &starts[first..first + self.grants]
+    }
+
+    // How many starts the flow has in the frame at this place of the cycle.
+    pub(crate) fn count(&self, place: u64) -> usize
+        requires sound { (c : Config) × IsSoundFlow c self.now × (place < c.cycle) }
+        ensures { (c : Config) → IsSoundFlow c self.now → place < c.cycle
+            → result ≡ length (starts_in c self.now.spec self.now.placement place) }
+    {
+        if place % self.interval != self.phase {
+            return 0;
+        }
+        self.grants
     }
 
     // What the flow takes from this start on.

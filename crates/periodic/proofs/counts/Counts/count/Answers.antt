@@ -1,5 +1,5 @@
 -- The starts of one frame more are counted.
-use Rattle.std.proofs.Common.{◌≡◌, ◌∙◌, sym, ap, subst, ℕ, ◌<◌, List, length, get_or, arith}
+use Rattle.std.proofs.Common.{◌≡◌, ◌∙◌, sym, subst, ℕ, ◌<◌, length, get_or, arith}
 use Rattle.std.proofs.lemmas.List.{length-set}
 use Rattle.minislots.specs.declared.config.Config.{Config}
 use Rattle.minislots.proofs.Bounds.{bounds_of}
@@ -11,9 +11,9 @@ use Rattle.periodic.proofs.Fields.{count-here}
 use Rattle.periodic.proofs.counts.Counts.count.Goals as goal
 
 -- as many starts as the flow has spots there
-here : (c : Config) (place : ℕ) (f : Placed) (starts : List ℕ) → place < c.cycle
-    → starts ≡ starts_in c f.spec f.placement place → length starts ≡ length (spots_of c place f)
-here c place f starts within is = ap length is ∙ sym (count-here c place f within)
+here : (c : Config) (place : ℕ) (f : Placed) (starts : ℕ) → place < c.cycle
+    → starts ≡ length (starts_in c f.spec f.placement place) → starts ≡ length (spots_of c place f)
+here c place f starts within is = is ∙ sym (count-here c place f within)
 
 pub bounds-self-row : goal.bounds-self-row
 bounds-self-row c = omega (arith, c.cycle.ensures.value, (bounds_of _ c.cycle.ensures.lawful).cycle_most)
@@ -24,8 +24,8 @@ counted-requires c =
     let place = c.loop-place.place in
     let f = placed_of c.args.flow.now in
     let below : place < config.cycle = omega (arith, c.cycle.ensures.value) in
-    let starts = here config place f c.starts-starts.result.now below
-    (c.starts-starts.ensures config c.requires.sound below) in
+    let starts = here config place f c.count-starts.result below
+    (c.count-starts.ensures config c.requires.sound below) in
     subst (MayBeCounted c.args.taken (get_or c.loop-place.self.starts place 0)) (sym starts)
     (subst (λ n. MayBeCounted c.args.taken n (length (spots_of config place f)))
     (sym (c.loop-place.invariant.counted.rest place (omega arith))) (c.requires.may place below))
@@ -42,8 +42,8 @@ loop-place-preserved c =
     let counts = c.loop-place.self.starts in
     let inv = c.loop-place.invariant in
     let below : place < config.cycle = omega (arith, c.cycle.ensures.value) in
-    let starts = here config place f c.starts-starts.result.now below
-    (c.starts-starts.ensures config c.requires.sound below) in
+    let starts = here config place f c.count-starts.result below
+    (c.count-starts.ensures config c.requires.sound below) in
     record {
       long = length-set counts place c.counted.result ∙ inv.long;
       counted = counted-more config f c.args.taken c.args.self.now.starts counts place c.counted.result
