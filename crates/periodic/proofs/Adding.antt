@@ -125,7 +125,7 @@ module _ (c : Config) (placed : List Placed) (sid : ℕ) (spec : FlowSpec) (next
   }
 
   -- with it no frame has too many starts
-  few-with : (k : ℕ) → IsLawful c → IsPlacement c placed spec next p
+  pub few-with : (k : ℕ) → IsLawful c → IsPlacement c placed spec next p
       → length (spots_in c k (with_placed new placed)) ≤ MAX_SPOTS
   few-with k lawful is =
       let place = k % c.cycle in
