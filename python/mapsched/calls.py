@@ -252,10 +252,10 @@ _USAGES = ["initial", "station"]
 _MINISLOTS = {"heard", "upto", "now"}
 # The fields that are not read where there are burst descriptors, and what the struct has for profiles.
 _NOT_WITH_BURSTS = {"bytes_per_slot", "overhead"}
-# A value of `flows` and `pending` that is a fault, where 0 is none in the struct.
-_NOT_LAWFUL = 2**32 - 1
 _PROFILES = {"short": "short_data", "long": "long_data", "unsolicited": "unsolicited"}
 # checks/tables: names end
+# A value of `flows` and `pending` that is a fault, where 0 is none in the struct.
+_NOT_LAWFUL = 2**32 - 1
 _CALL_TYPES, _FLOW_TYPES = list(_CALLS.values()), list(_FLOWS.values())
 
 
