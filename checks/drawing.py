@@ -3,7 +3,7 @@ meet; and the text of their histories. A third of the channels have burst profil
 
 from drawn_bursts import profile, with_bursts
 from plain import HEADING, LAST_CLOCK, MOST_BYTES, Scheduler, line_of
-from texts import PROFILES, completed
+from texts import LEFT_OUT, LIMITS, MISSING, PROFILES, completed
 
 
 def shuffled(draw, members):
@@ -16,7 +16,7 @@ def shuffled(draw, members):
 class Drawing:
     """A script that is drawn call by call, where the plain scheduler stands."""
 
-    MORE = (0, 30, 150, 300)
+    MORE, FRAMES = (0, 30, 150, 300), (16, 40, 64, 100, 150, 256)
 
     def __init__(self, random_numbers):
         self.draw = random_numbers
@@ -61,6 +61,7 @@ class Drawing:
             told |= {"bursts": bursts, **draw.choice(unread)}
         elif told["phy"] == 0 and draw.random() < 0.5:
             del told["phy"]
+        told |= {name: MISSING[name] for name in LEFT_OUT if name not in told and draw.random() < 0.3}
         return shuffled(draw, told)
 
     def drawn_config(self):
@@ -70,7 +71,7 @@ class Drawing:
 
     def drawn_sizes(self):
         draw = self.draw
-        frame = draw.choice([16, 40, 64, 100, 150, 256])
+        frame = draw.choice(self.FRAMES)
         overhead, per_slot = draw.randint(1, 4), draw.choice([8, 16, 32, 64, 100])
         region = draw.randint(1, min(8, frame - overhead - 9))
         quantum = draw.randint(64, max(64, min(1522, (frame - region - overhead) * per_slot)))
@@ -84,8 +85,15 @@ class Drawing:
             "calls": draw.choice([40, *[1000] * 6]), "start": frame * draw.choice([0, 20, 2**31 // frame, 10**12]),
             "ranging_start": draw.randint(0, 15), "ranging_end": draw.randint(0, 15), "data_start": draw.randint(0, 15),
             "data_end": draw.randint(0, 15), "channel": draw.randint(0, 255), "ucd_count": draw.randint(0, 255),
-            "phy": draw.randint(0, 1),
+            "phy": draw.randint(0, 1), **self.drawn_limits(),
         }
+
+    def drawn_limits(self):
+        """The limits that are others than those of missing fields."""
+        draw = self.draw
+        limits = {"flows": draw.choice([64, 64, 63, 65, 8191]), "pending": draw.choice([64, 64, 63, 65, 125])}
+        limits |= {"periodic": draw.choice([40, 40, 39, 41, 2560])}
+        return {name: number for name, number in limits.items() if number != MISSING[name]}
 
     def times(self):
         """An interval of whole frames that part the cycle, or mostly so, and a jitter."""
@@ -216,7 +224,7 @@ class Crowded(Drawing):
     """A script that begins with forty polls, each behind a minislot or more that is nobody's, 64 flows that ask, and up
     to sixteen Reserves: its MAP has up to 240 elements."""
 
-    MORE = (0, 10, 30)
+    MORE, FLOWS = (0, 10, 30), 64
 
     def drawn_config(self):
         frame = self.draw.randint(260, 320)
@@ -250,17 +258,153 @@ class Crowded(Drawing):
         yield self.polled(2, 3)
         yield {"call": "remove", "sid": 100}
         yield self.polled(1)
-        for sid in range(41, 65):
+        for sid in range(41, self.FLOWS + 1):
             flow = {"kind": "best_effort", "priority": 7, "rate": 0, "burst": 0}
             yield {"call": "admit", "sid": sid, "flow": flow}
         heard = self.plain.next - 1
-        for sid in range(1, 65):
+        for sid in range(1, self.FLOWS + 1):
             yield {"call": "ask", "receiver": 0, "sid": sid, "bytes": 6400, "heard": heard}
         slots = self.draw.choice([[2], [2, 2, 2, 1, 3], [2, self.config["frame"] - 1]])
         for _ in range(self.draw.choice([0, 1, 15, 16, 17, 20])):
             yield {"call": "reserve", "usage": "initial", "slots": self.draw.choice(slots)}
         yield self.build()
         yield self.build()
+
+
+class Limited(Drawing):
+    """A script on a channel that says how many flows may live, how many a MAP shows and how many grants and polls an
+    interval has: mostly few, so that many flows wait that are not shown. It hears more, and half of them begin near a
+    wrap of the minislots on the wire."""
+
+    MORE = (60, 150, 300)
+
+    def __init__(self, random_numbers):
+        super().__init__(random_numbers)
+        if self.draw.random() < 0.8:
+            self.kinds = ["best_effort"] * 8 + ["polled", "unsolicited"]
+            self.builds, self.admissions = 6, self.draw.choice([4, 12])
+            # in each frame there is room for some of what is asked for
+            most = self.plain.capacity(self.config["frame"] - self.config["req_slots"])
+            self.counts = [1, 16, 64, 100, *(max(1, most * parts // 4) for parts in (1, 1, 2, 3, 4, 5, 8, 20))]
+        self.hears = self.draw.choice([0.05, 0.15, 0.25])
+
+    def limits(self):
+        """Limits of which any may be missing."""
+        few = {"flows": [1, *range(2, 7), 5, 6, 6, 6], "pending": [1, 1, 1, 1, 2, 2, 3, 4], "periodic": [*range(6)]}
+        return {name: self.draw.choice(most) for name, most in few.items() if self.draw.random() < 0.85}
+
+    def drawn_config(self):
+        config = {**super().drawn_config(), **self.limits()}
+        if self.draw.random() < 0.4:
+            config["grant_cap"] = config["quantum"]
+        if self.draw.random() < 0.5:
+            config["start"] = config["frame"] * (2**32 // config["frame"] - self.draw.choice([0, 1, 1, 2, 3, 6]))
+        return completed(config)
+
+    def spelled(self):
+        """A limit stands there too where it is what a text means that lacks it."""
+        told = super().spelled()
+        said = {name: most for name, most in LIMITS.items() if name not in told and self.draw.random() < 0.3}
+        return shuffled(self.draw, {**told, **said})
+
+    def next_call(self):
+        drawn, receiver = self.draw.random(), self.receiver()
+        if drawn < self.hears:
+            upto = self.near(receiver) if self.draw.random() < 0.5 else self.plain.next
+            return {"call": "heard", "receiver": receiver, "upto": upto}
+        asking = [sid for sid, flow in self.plain.flows.items() if flow.kind != "unsolicited"]
+        return self.request(self.draw.choice(asking)) if drawn < 0.5 and asking else super().next_call()
+
+    def request(self, sid):
+        """A request that is not refused, but for its bytes."""
+        receiver = self.draw.randrange(self.config["receivers"])
+        least, last = self.plain.progress[receiver], self.plain.next - 1
+        heard = self.draw.randint(min(least, last), last)
+        return {"call": "ask", "receiver": receiver, "sid": sid, **self.amount(), "heard": max(0, heard)}
+
+
+class Waiting(Limited):
+    """A script that begins with up to 300 flows of which more ask than a MAP shows, in any order, with small requests
+    and large ones, and with grants and polls in most minislots of a frame."""
+
+    MORE, MOST, FRAMES = (0, 20, 60), 320, (150, 256, 400)
+
+    def limits(self):
+        flows = self.draw.choice([70, 130, 200, 300, 8191])
+        limits = {"flows": flows, "pending": self.draw.choice([1, 8, 63, 64, 64, 64, 65, 90, 125])}
+        return {**limits, "periodic": self.draw.choice([0, 39, 41, 60, 2560])}
+
+    def drawn_sizes(self):
+        """Frames in which more polls have room than may stand there."""
+        sizes = super().drawn_sizes()
+        frame = sizes["frame"]
+        times = {"lead": self.draw.choice([0, frame]), "start": frame * self.draw.choice([0, 20, 10**12])}
+        return {**sizes, "poll_slots": 1, "ticks": 4, "calls": 3000, **times}
+
+    def polls(self):
+        """As many polls as frames may have and some more, or a few, and a flow with several grants in an interval."""
+        frames = self.draw.choice([1, 2 - self.config["cycle"] % 2])
+        times = {"interval_us": 25 * self.config["frame"] * frames, "jitter_us": 0}
+        late = {**times, "jitter_us": 25 * self.config["frame"], "grants": self.draw.randint(1, 8)}
+        for sid in range(8191, 8191 - self.draw.choice([0, 5, 42 * frames]), -1):
+            yield {"call": "admit", "sid": sid, "flow": {"kind": "polled", **times, "rate": 0, "burst": 0}}
+            if self.draw.random() < 0.04:
+                yield {"call": "admit", "sid": 8000, "flow": {"kind": "unsolicited", "size": 1, **late}}
+
+    def begun(self):
+        yield self.build()
+        yield from self.polls()
+        self.sids = self.draw.sample(range(1, 7900), min(self.config.get("flows", 64), self.MOST) + 2)
+        for sid in self.sids:
+            ceiling = self.ceiling() if self.draw.random() < 0.1 else {"rate": 0, "burst": 0}
+            flow = {"kind": "best_effort", "priority": self.draw.choice([0, 3, 3, 3, 7]), **ceiling}
+            yield {"call": "admit", "sid": sid, "flow": flow}
+        for _ in range(self.draw.choice([2, 5])):
+            some = self.draw.sample(self.sids, self.draw.choice([10, 60, len(self.sids)]))
+            for sid in [*some, *range(8191, 8180, -1)]:
+                heard = self.near(0) if self.draw.random() < 0.2 else self.plain.next - 1 - self.draw.randrange(10)
+                count = self.draw.choice([1, 16, 64, 64, 100, 100, 300, 1522])
+                yield {"call": "ask", "receiver": 0, "sid": sid, "bytes": count, "heard": max(0, heard)}
+            for receiver in range(self.config["receivers"]):
+                upto = max(0, self.plain.next - self.draw.choice([0, 0, 5, 10]))
+                yield {"call": "heard", "receiver": receiver, "upto": upto}
+            for _ in range(self.draw.choice([1, 1, 2, 3])):
+                yield self.build()
+
+
+class Thousands(Waiting):
+    """The same with thousands of flows."""
+
+    MORE, MOST = (100,), 7000
+
+    def limits(self):
+        flows = self.draw.choice([2000, 7000, 8191])
+        return {"flows": flows, "pending": self.draw.choice([64, 125]), "periodic": self.draw.choice([60, 2560])}
+
+    def drawn_sizes(self):
+        return {**super().drawn_sizes(), "calls": 100000}
+
+    def next_call(self):
+        """What a script of this kind begins with comes first."""
+        self.first = getattr(self, "first", None) or super().begun()
+        return next(self.first, None) or super().next_call()
+
+    def begun(self):
+        return iter(())
+
+
+class CrowdedMore(Crowded):
+    """The same with more flows, of which a MAP shows another number."""
+
+    def drawn_config(self):
+        most = self.draw.choice([1, 63, 64, 65, 80, 125, 125])
+        self.FLOWS = max(64, most) + self.draw.choice([0, 0, 1, 40])
+        return completed({**super().drawn_config(), "flows": self.FLOWS + 1, "pending": most})
+
+
+def limited_of(random_numbers):
+    """A drawn script on a channel with other limits."""
+    return random_numbers.choice([Limited] * 10 + [Waiting] * 3 + [CrowdedMore] * 2)(random_numbers)
 
 
 def drawing_of(random_numbers):

@@ -3,11 +3,7 @@
  * channel with frames of 1024 minislots of 25 microseconds, and admissions and removals all along. Its burst
  * descriptors are read where `has_bursts` is not 0: minislots of 32 symbols, 24 bytes with their parity, in 64-QAM.
  */
-#define _POSIX_C_SOURCE 200809L
-#include <mapsched.h>
-#include <stdio.h>
-#include <stdlib.h>
-#include <time.h>
+#include "calling.h"
 
 #define PROFILE(k, t) \
   {.preamble = 32, .guard = 22, .bits = 6, .information = (k), .parity = (t), .shortened = 1}
@@ -84,28 +80,4 @@ static struct mapsched_call drawn(uint64_t next) {
 static uint64_t next_after(const struct mapsched_reply *reply, uint64_t next) {
   if (reply->kind == MAPSCHED_BUILT) return reply->value + config.frame;
   return reply->kind == MAPSCHED_SKIPPED ? reply->value : next;
-}
-
-/* The nanoseconds of a clock. */
-static double now(clockid_t clock) {
-  struct timespec at;
-  clock_gettime(clock, &at);
-  return (double)at.tv_sec * 1e9 + (double)at.tv_nsec;
-}
-
-static void fail(const char *what) {
-  fprintf(stderr, "%s\n", what);
-  exit(1);
-}
-
-/* Makes a call, which is recorded. */
-static void make(struct mapsched_scheduler *scheduler, uint64_t ticket, const struct mapsched_call *call,
-                 struct mapsched_reply *reply) {
-  struct mapsched_stamp stamp = {.ticket = ticket};
-  if (mapsched_call(scheduler, &stamp, call, reply) != MAPSCHED_OK) fail("a call is not recorded");
-}
-
-static void open(struct mapsched_scheduler *scheduler, const struct mapsched_config *of) {
-  *scheduler = (struct mapsched_scheduler){0};
-  if (mapsched_open(scheduler, of) != MAPSCHED_OK) fail("no scheduler");
 }

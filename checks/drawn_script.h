@@ -65,6 +65,23 @@ static void draw_bursts(struct mapsched_config *config) {
   if (mapsched_check(&drawn) == MAPSCHED_OK) *config = drawn;
 }
 
+/* Limits in one configuration of four, mostly low ones, of which any may be missing; some begin near a wrap of the
+ * minislots on the wire. The other numbers of a script are drawn as without limits. */
+static void draw_limits(struct mapsched_config *config) {
+  static const uint32_t flows[] = {0, 1, 2, 3, 4, 6, 64, 100, MAPSCHED_MAX_SID}, pending[] = {0, 1, 1, 2, 4, 64, 125};
+  static const uint32_t periodic[] = {0, 1, 3, 5, 40, 60, 2560};
+  uint64_t kept = state;
+  state ^= UINT64_C(0x2545f4914f6cdd1d);
+  if (is_one_in(4)) {
+    config->flows = ONE_OF(flows);
+    config->pending = ONE_OF(pending);
+    config->has_periodic = (uint8_t)below(3);
+    config->periodic = ONE_OF(periodic);
+    if (is_one_in(2)) config->start = config->frame * ((UINT64_C(1) << 32) / config->frame - below(4));
+  }
+  state = kept;
+}
+
 /* A lawful configuration. */
 static struct mapsched_config drawn_config(void) {
   static const uint32_t frames[] = {16, 40, 40, 64, 100, 150, 256, 1024}, slots[] = {8, 16, 32, 64, 100};
@@ -87,6 +104,10 @@ static struct mapsched_config drawn_config(void) {
   config.lead = ONE_OF(leads);
   config.short_max = (uint32_t)below(config.frame + 1);
   config.phy = (uint8_t)below(2);
+  if (is_one_in(4)) config.flows = 60 + (uint32_t)below(10);
+  if (is_one_in(4)) config.pending = 60 + (uint32_t)below(10);
+  config.periodic = 35 + (uint32_t)below(10);
+  config.has_periodic = (uint32_t)below(3);
   uint8_t *const others[] = {&config.ranging_start, &config.ranging_end, &config.data_start, &config.data_end};
   for (size_t i = 0; i < COUNT(others); i++) *others[i] = (uint8_t)below(16);
   config.channel = (uint8_t)below(256);
@@ -97,6 +118,7 @@ static struct mapsched_config drawn_config(void) {
     config.bytes_per_slot = config.overhead = (uint32_t)below(3000);
     if (!is_one_in(3)) draw_bursts(&config);
   }
+  draw_limits(&config);
   return config;
 }
 

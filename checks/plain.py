@@ -5,10 +5,11 @@ is slow, and says what the program has to say."""
 import itertools
 
 from plain_bursts import Bursts, ceiling_of
-from texts import completed
+from texts import LIMITS, completed
 
 ALL_MODEMS, BROADCAST_IUC, INITIAL, STATION, NULL = 0x3FFF, 1, 3, 4, 7
-MOST_FLOWS, MOST_PERIODIC, MOST_GRANTS = 64, 40, 93
+# The most periodic starts in a place of the cycle, data grants of a MAP, and data and pending grants of one together.
+MOST_STARTS, MOST_GRANTS, MOST_TOGETHER = 40, 93, 157
 MOST_BYTES, LAST_CLOCK, AHEAD = 1048560, 2**60, 4096
 MOST_RESERVES, MOST_WAITING, LAST_MAP = 64, 16, 64
 HEADING = ["ucd_count", "ranging_start", "ranging_end", "data_start", "data_end"]
@@ -16,10 +17,12 @@ MICROS_OF_TICK = 25, 4
 
 
 class Flow:
-    """A live flow: its parameters, what it asked, its data grants as (start, bytes), and its place in the cycle."""
+    """A live flow: its parameters, what it asked, its data grants as (start, bytes), and its place in the cycle. Its
+    requests that wait are in two batches, each as (minislot at which it was heard, bytes asked with it)."""
 
     def __init__(self, spec):
         self.spec, self.kind, self.asked, self.grants = spec, spec["kind"], 0, []
+        self.first, self.second = [], []
         self.phase = self.offset = self.interval = 0
         self.starts = {}
 
@@ -32,6 +35,26 @@ class Flow:
 
     def outstanding(self):
         return self.asked - self.granted()
+
+    def ask(self, count, heard):
+        """A request: it is the first batch alone where nothing was outstanding, and else joins the second."""
+        is_first = self.outstanding() == 0
+        self.asked += count
+        if is_first:
+            self.first, self.second = [(heard, self.asked)], []
+        else:
+            self.second.append((heard, self.asked))
+
+    def move_on(self):
+        """Behind a MAP the second batch becomes the first where all bytes asked with the first are granted."""
+        if self.outstanding() == 0:
+            self.first, self.second = [], []
+        elif self.granted() >= self.first[-1][1]:
+            self.first, self.second = self.second, []
+
+    def since(self):
+        """The least minislot at which a request of its batches was heard."""
+        return min(heard for heard, _ in self.first + self.second)
 
     def rank(self):
         return 8 if self.kind == "polled" else self.spec["priority"]
@@ -48,6 +71,18 @@ class Wanted:
         self.sid, self.usage, self.slots, self.maps, self.met = sid, usage, slots, maps, None
 
 
+# The lawful values of the limits, whose faults go on behind those of the fields before them.
+LAWFUL, FIRST_FAULT = {"flows": (1, 8191), "pending": (1, 125), "periodic": (0, 2560)}, 21
+
+
+def fault_of(config):
+    """The number of the first limit of a configuration that is not lawful, or none."""
+    for number, (name, (least, most)) in enumerate(LAWFUL.items(), FIRST_FAULT):
+        if not least <= config.get(name, LIMITS[name]) <= most:
+            return number
+    return None
+
+
 class Refused(Exception):
     """That a call is refused, with the number of the refusal and what it tells."""
 
@@ -59,11 +94,12 @@ def refuse(number, *value):
 class Scheduler:
     """The scheduler of a configuration, which is a lawful one. Each call gives the reply as a history has it."""
 
-    # How many minislots a burst takes.
-    Bursts = Bursts
+    # How many minislots a burst takes, and how long a flow waits.
+    Bursts, Flow = Bursts, Flow
 
     def __init__(self, config):
         self.config = completed(config)
+        self.limits = {name: self.config.get(name, most) for name, most in LIMITS.items()}
         self.bursts = self.Bursts(self.config)
         self.frame, self.next = config["frame"], config["start"]
         self.progress = [config["start"]] * config["receivers"]
@@ -104,17 +140,21 @@ class Scheduler:
         if sid in self.flows:
             refuse(2)
         self.check_parameters(spec)
-        if len(self.flows) >= MOST_FLOWS:
+        if len(self.flows) >= self.limits["flows"]:
             refuse(4)
-        flow = Flow(spec)
+        flow = self.Flow(spec)
         if flow.kind == "best_effort":
             self.flows[sid] = flow
             return {"kind": "admitted"}
-        if sum(it.each() for it in self.flows.values() if it.kind != "best_effort") + flow.each() > MOST_PERIODIC:
+        if self.periodic() + flow.each() > self.limits["periodic"]:
             refuse(5)
         reply = self.place(flow) or refuse(6)
         self.flows[sid] = flow
         return reply
+
+    def periodic(self):
+        """How many grants and polls the live flows have in an interval, all together."""
+        return sum(it.each() for it in self.flows.values() if it.kind != "best_effort")
 
     def check_parameters(self, spec):
         config, kind = self.config, spec["kind"]
@@ -154,7 +194,7 @@ class Scheduler:
             refuse(11, self.progress[call["receiver"]])
         if call["heard"] >= self.next:
             refuse(12, self.next)
-        flow.asked += count
+        flow.ask(count, call["heard"])
         return {"kind": "taken"}
 
     def asked(self, call):
@@ -234,11 +274,18 @@ class Scheduler:
                 taken.update(range(start, start + self.slots_of_flow(flow)))
         return taken
 
+    def has_room_for_starts(self, flow, places):
+        """Whether these places of the cycle have no more starts than they may have, those of the flow among them."""
+        live = [sum(len(it.starts.get(place, ())) for it in self.flows.values()) for place in places]
+        return max(live) + flow.each() <= MOST_STARTS
+
     def place(self, flow):
         flow.interval = self.slots_of(flow.spec["interval_us"])[0] // self.frame
         taken = [self.taken_in(place) for place in range(self.config["cycle"])]
         for phase in range(flow.interval):
             places = range(phase, self.config["cycle"], flow.interval)
+            if not self.has_room_for_starts(flow, places):
+                continue
             for offset in range(self.config["req_slots"], self.frame):
                 found = {place: self.starts_in(flow, offset, taken[place]) for place in places}
                 if all(found.values()):
@@ -333,12 +380,16 @@ class Scheduler:
     def grant_at(self, start, room, waiting):
         """The data grant to the flow that is served, or none."""
         granted = sum(len(flow.grants_since(self.next)) for flow in self.flows.values())
-        sid = self.next_flow(start, room) if granted < MOST_GRANTS - len(waiting) else None
+        sid = self.next_flow(start, room) if granted < self.most_grants() - len(waiting) else None
         if sid is None:
             return None
         count = self.most(self.flows[sid], start, room)
         self.flows[sid].grants.append((start, count))
         return sid, self.usage(count), count, self.slots_for(count)
+
+    def most_grants(self):
+        """The most data grants of a MAP without opportunities."""
+        return min(MOST_GRANTS, MOST_TOGETHER - self.limits["pending"])
 
     def idle_at(self, room):
         return 0, self.long_usage(), 0, room
@@ -368,13 +419,29 @@ class Scheduler:
         self.maps += 1
         return elements, counts
 
+    def in_order(self):
+        """The flows that wait, those first that have waited since the least minislot."""
+        waiting = [(flow.since(), sid) for sid, flow in self.flows.items() if flow.outstanding() > 0]
+        return [sid for _, sid in sorted(waiting)]
+
+    def shown(self, waiting):
+        """Those of the flows that wait, in their order, to which a MAP has pending grants."""
+        return waiting[: self.limits["pending"]]
+
+    def acknowledged(self, hidden):
+        """The acknowledge time of a MAP behind which these flows wait that it does not show."""
+        return min([*self.progress, *(self.flows[sid].since() for sid in hidden)])
+
     def map_of(self, start):
         elements, counts = self.fill(start, self.periodic_in(start))
         elements.append((0, NULL, self.frame))
-        waiting = [sid for sid in sorted(self.flows) if self.flows[sid].outstanding() > 0]
-        elements += [(sid, self.long_usage(), self.frame) for sid in waiting]
-        counts += [0] * (1 + len(waiting))
-        ack = min(self.progress)
+        for flow in self.flows.values():
+            flow.move_on()
+        waiting = self.in_order()
+        shown = self.shown(waiting)
+        elements += [(sid, self.long_usage(), self.frame) for sid in sorted(shown)]
+        counts += [0] * (1 + len(shown))
+        ack = self.acknowledged([sid for sid in waiting if sid not in shown])
         return {"kind": "map", "start": start, "ack": ack, "hex": self.payload(start, ack, elements), "bytes": counts}
 
     def payload(self, start, ack, elements):

@@ -5,6 +5,8 @@ is made."""
 MODEMS, REQUEST, INITIAL, STATION, NULL = 0x3FFF, 1, 3, 4, 7
 SHORT, LONG, UNSOLICITED = (5, 9), (6, 10), 11
 WAITING, LAST_MAP, GRANTS, ELEMENTS, MOST_BYTES = 16, 64, 93, 240, 1048560
+# Data and pending grants together, and the latter where a configuration does not say how many.
+TOGETHER, PENDING = 157, 64
 HEADING = ("ucd_count", "ranging_start", "ranging_end", "data_start", "data_end")
 
 WANTED = {
@@ -58,6 +60,7 @@ class Map:
         parts = [(it >> 18, it >> 14 & 15, it & 0x3FFF) for it in words]
         self.elements = len(parts)
         null = [usage for _, usage, _ in parts].index(NULL)
+        self.pending = parts[null + 1 :]
         ends = [offset for _, _, offset in parts[1:]]
         self.front = [(*part, end - part[2], count) for part, end, count in zip(parts[:null], ends, reply["bytes"])]
         self.opportunities = [it for it in self.front if it[1] in (INITIAL, STATION)]
@@ -205,7 +208,7 @@ class Reached:
             self.says("a modem without a flow ranges", usage == STATION and sid not in self.live)
 
     def counts(self, found, first):
-        most = GRANTS - len(first)
+        most = min(GRANTS, TOGETHER - self.config.get("pending", PENDING)) - len(first)
         self.breaks("more elements than 240", found.elements > ELEMENTS)
         self.breaks("more opportunities than wait", len(found.opportunities) > len(first))
         self.breaks("more data grants than opportunities leave", len(found.grants) > most)

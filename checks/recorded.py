@@ -29,13 +29,14 @@ PLAIN_RUNS = script("plain_runs")
 
 
 class Talk:
-    """A drawn conversation: its calls, an answer to each, and its journal, as the plain scheduler has them."""
+    """A drawn conversation: its calls, an answer to each, and its journal, as the plain scheduler has them. Its channel
+    may be one of another kind (drawing.py)."""
 
-    def __init__(self, seed, length, calls=None):
-        drawing = PLAIN_RUNS.Drawing(random.Random(seed))
+    def __init__(self, seed, length, calls=None, kind=PLAIN_RUNS.Drawing):
+        drawing = kind(random.Random(seed))
         drawing.config["calls"] = calls or drawing.draw.choice([1, 7, 40, 1000])
         drawing.plain.config["calls"] = NO_END
-        self.config, self.calls, self.answers = drawing.config, [], []
+        self.config, self.calls, self.answers, self.plain = drawing.config, [], [], drawing.plain
         for _ in range(length):
             call = drawing.next_call()
             self.calls.append(compact(call).encode() + b"\n")

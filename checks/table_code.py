@@ -10,10 +10,10 @@ import re
 
 from kit import HERE
 from table_texts import (
-    BASE, BURSTS, CALLS, FIELDS, FLOWS, GROUPS, MEMBER, MEMBERS, MISSING, NUMBERED, OBJECTS, PROFILES, REASONS,
-    REFUSALS, STATUSES, SYMBOLS, TABLES, class_of, instead, words_of_group,
+    BASE, BURSTS, CALLS, FIELDS, FLAGGED, FLOWS, GROUPS, LIMITS, MEMBER, MEMBERS, MISSING, NUMBERED, OBJECTS, PROFILES,
+    REASONS, REFUSALS, STATUSES, SYMBOLS, TABLES, by_size, class_of, instead, limits as limits_in_c, words_of_group,
 )
-from texts import PROFILE, UNIFORM, field_of, read, rows
+from texts import LEFT_OUT, PROFILE, UNIFORM, field_of, read, rows
 
 
 def number_of(text):
@@ -152,17 +152,21 @@ def of_bursts():
 def of_writing():
     """The keys and the numbers of a configuration in the text of a history, those of a profile first."""
     writer = "crates/history_writing/src/history/config.rt"
-    text, others = code_of(writer), sorted({*BASE, *MISSING} - {*UNIFORM})
-    keys = re.findall(r'^    "(\w+)",$', text, re.M)
+    text, others = code_of(writer), sorted({*BASE, *MISSING} - {*UNIFORM} - {*LEFT_OUT})
+    keys = [it for names in re.findall(r"^static \w+: \[&str; \d+\] = \[(.*?)\];", text, re.M | re.S)
+            for it in re.findall(r'"(\w+)"', names)]
     yield f"{writer}: keys", keys, sorted(PROFILE) + others
+    found = re.findall(r'put_optional\(out, "(\w+)", config\.(\w+) as u64, (\d+)\)', text)
+    wanted = [(name, name, str(MISSING[name])) for name in sorted(LEFT_OUT)]
+    yield f"{writer}: what may be left out", found, wanted
     numbers = re.findall(r"^        (?:config|profile)\.(\w+)", text, re.M)
     yield f"{writer}: numbers", numbers, sorted(PROFILE) + others
-    more = {*UNIFORM, *OBJECTS, *(it["name"] for it in BURSTS)}
+    more = {*UNIFORM, *OBJECTS, *LEFT_OUT, *(it["name"] for it in BURSTS)}
     yield f"{writer}: other keys", {*re.findall(r'"(\w+)"', text)} - {*keys}, more
 
 
 def of_fields():
-    by_place = [it for bits in (32, 64, 8) for it in FIELDS if it.get("bits") == bits]
+    by_place = [(it, f"u{bits}") for bits, names in by_size() for it in names]
     numbered = [class_of(it) for it in NUMBERED]
     config, plain = "crates/minislots/src/config.rt", "crates/mapsched_c/src/config.rt"
     had = [it for it in tested() if it["name"] not in UNIFORM]
@@ -176,8 +180,9 @@ def of_fields():
         yield f"the range of {name} in minislots", found, [least, most]
     yield "fields without a range in minislots", [*wanted], []
     yield "crates/text_stream/src/fault.rt", arms("crates/text_stream/src/fault.rt", "ConfigFault"), counted(numbered)
-    told, wanted = "crates/live_command/src/field.rt", [(class_of(it["name"]), it["name"]) for it in FIELDS]
-    yield f"{told}: Field", re.findall(r'Field::(\w+) => "(\w+)",', code_of(told)), wanted[:-1]
+    told, wanted = "crates/live_command/src/field.rt", [it["name"] for it in FIELDS if it["name"] not in OBJECTS]
+    found = re.findall(r'Field::(\w+) => "(\w+)",', code_of(told))
+    yield f"{told}: Field", found, [(class_of(it), it) for it in wanted]
     yield f"{told}: Member", re.findall(r'Member::\w+ => "(\w+)",', code_of(told)), PROFILE
     ordered = sorted(FIELDS, key=lambda it: it["name"] not in NUMBERED)
     yield "crates/json_fields/src/forms.rt: CONFIGS", forms_of_fields("CONFIGS"), [*map(form_of_field, ordered)]
@@ -185,9 +190,14 @@ def of_fields():
     names = {it["name"] for it in (*FIELDS, *BURSTS)} | {*PROFILE}
     yield "crates/json_fields/src/config.rt, bursts.rt", set(re.findall(r'"(\w+)"', reader)) - {"config"}, names
     behind = [it for name in OBJECTS for it in [(f"has_{name}", "u32"), (name, f"Plain{class_of(name)}")]]
-    yield f"{plain}: PlainConfig", members(plain, "pub struct PlainConfig {"), in_order(by_place) + behind
-    wanted = UNIFORM + [it["name"] for it in FIELDS if it["name"] not in UNIFORM + OBJECTS]
+    behind += [(name, "u32") for name, _ in limits_in_c()]
+    yield f"{plain}: PlainConfig", members(plain, "pub struct PlainConfig {"), by_place + behind
+    wanted = UNIFORM + [it["name"] for it in FIELDS if it["name"] not in UNIFORM + OBJECTS + LEFT_OUT]
     yield f"{plain}: config", re.findall(r"(\w+): self\.\1,", code_of(plain)), wanted
+    found = re.findall(r"(\w+): or_missing\(self\.\1, (\d+)\),", code_of(plain))
+    found += re.findall(r"if self\.has_(\w+) == 0 \{\s+(\d+)\s+\} else \{\s+self\.\1\s", code_of(plain))
+    wanted = [(it["name"], str(it["missing"])) for it in sorted(LIMITS, key=lambda it: it["name"] in FLAGGED)]
+    yield f"{plain}: what may be missing", found, wanted
 
 
 def of_tests():

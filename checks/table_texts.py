@@ -6,7 +6,7 @@ import re
 import textwrap
 
 from kit import tables
-from texts import MISSING, PROFILE, UNIFORM, compact, read
+from texts import LEFT_OUT, MISSING, PROFILE, UNIFORM, compact, read
 
 TABLES = tables()
 FIELDS, CALLS, FLOWS, MEMBERS = (TABLES[it] for it in ("field", "call", "flow", "member"))
@@ -16,6 +16,9 @@ NUMBERED = [it["name"] for it in FIELDS if it.get("number", True)]
 MEMBER = {it["name"]: it for it in MEMBERS}
 # The fields that are objects.
 OBJECTS = [it["name"] for it in FIELDS if "bits" not in it]
+# The fields that stand behind the others in C, and those of them that go by a flag, since 0 is lawful.
+LIMITS = [it for it in FIELDS if it["name"] in LEFT_OUT]
+FLAGGED = [it["name"] for it in LIMITS if it["range"][0] == 0]
 # The members of `bursts` that are numbers, and those that are profiles, with their names in C.
 SYMBOLS = [it["name"] for it in BURSTS if "bits" in it]
 PROFILES = {it["name"]: it["c"] for it in BURSTS if "bits" not in it}
@@ -209,8 +212,21 @@ def c_statuses():
 
 
 def by_size():
-    """The fields by their sizes, in an order that leaves no gaps."""
-    return [(bits, [it["name"] for it in FIELDS if it.get("bits") == bits]) for bits in (32, 64, 8)]
+    """The fields but the limits by their sizes, in an order that leaves no gaps."""
+    rows = [it for it in FIELDS if it["name"] not in LEFT_OUT]
+    return [(bits, [it["name"] for it in rows if it.get("bits") == bits]) for bits in (32, 64, 8)]
+
+
+def limits():
+    """The limits as C has them, each with what is to be said of a 0 in it; a flag stands before its limit."""
+    told = []
+    for it in LIMITS:
+        name, missing = it["name"], it["missing"]
+        if name in FLAGGED:
+            told += [(f"has_{name}", f"0: {name} is not read, and is {missing}"), (name, None)]
+        else:
+            told.append((name, f"0: {missing}"))
+    return told
 
 
 def c_members(kind, names):
@@ -235,6 +251,7 @@ def c_config():
     for name in OBJECTS:
         note = f"0: {' and '.join(UNIFORM)} are read, and not {name}"
         members += [noted([f"uint32_t has_{name};"], [note], "  "), [f"  struct mapsched_{name} {name};"]]
+    members.append(noted([f"uint32_t {name};" for name, _ in limits()], [note for _, note in limits()], "  "))
     return [*c_bursts(), "", *c_struct("config", *members)]
 
 
@@ -292,6 +309,7 @@ def python_config_numbers():
     fields = [fields_of_struct(f"c_uint{bits}", names) for bits, names in by_size()]
     for it in OBJECTS:
         fields.append([f'        ("has_{it}", c_uint32),', f'        ("{it}", {class_of(it)}Numbers),'])
+    fields.append(fields_of_struct("c_uint32", [name for name, _ in limits()]))
     return [
         *struct_of_ctypes("profile", fields_of_struct("c_uint32", PROFILE)), "", "",
         *struct_of_ctypes("bursts", fields_of_struct("c_uint32", SYMBOLS), profiles), "", "",
@@ -325,9 +343,10 @@ def dataclass(name, told, members, rest=()):
 
 def python_fields():
     must = [f"    {name}: int" for name in BASE if name not in UNIFORM]
-    missing = [f"    {name}: int = {number}" for name, number in MISSING.items()]
+    missing = {name: f"    {name}: int = {number}" for name, number in MISSING.items()}
+    last = [missing.pop(name) for name in LEFT_OUT]
     objects = [f"    {name}: Optional[{class_of(name)}] = None" for name in OBJECTS]
-    return [*must, *missing, *(f"    {name}: Optional[int] = None" for name in UNIFORM), *objects]
+    return [*must, *missing.values(), *(f"    {name}: Optional[int] = None" for name in UNIFORM), *objects, *last]
 
 
 def python_bursts():
@@ -418,7 +437,7 @@ def example_names():
     (_, words), (_, longs), (_, bytes_) = by_size()
     lists = {"KINDS": [it["name"] for it in CALLS], "FLOWS": [it["name"] for it in FLOWS]}
     lists |= {"USAGES": MEMBER["usage"]["names"], "WORDS": words, "LONGS": longs, "BYTES": bytes_}
-    lists |= {"SYMBOLS": SYMBOLS, "PROFILES": PROFILES, "PROFILE": PROFILE}
+    lists |= {"SYMBOLS": SYMBOLS, "PROFILES": PROFILES, "PROFILE": PROFILE, "LIMITS": [name for name, _ in limits()]}
     lines = [line for name, of in lists.items() for line in listed(f"{name} = [", quoted(of), "]")]
     places = []
     for it in TABLES["place"]:
@@ -427,7 +446,8 @@ def example_names():
         places += [f'("{FORMS[it["bits"]]}", [{", ".join(quoted(them))}])' for them in names]
     lines += listed("PLACES = [", places, "]")
     missing = {it["name"]: it["missing"] for it in MEMBERS if "missing" in it}
-    for name, of in {"CONFIG": {**MISSING, **dict.fromkeys(UNIFORM, 0)}, "FLOW": missing}.items():
+    config = {**MISSING, **{f"has_{name}": 1 for name in FLAGGED}, **dict.fromkeys(UNIFORM, 0)}
+    for name, of in {"CONFIG": config, "FLOW": missing}.items():
         lines += listed(f"MISSING_IN_{name} = {{", [f'"{it}": {number}' for it, number in of.items()], "}")
     return lines
 

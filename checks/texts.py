@@ -35,7 +35,8 @@ CONFIG, FORMS, BURSTS = table("base_configuration"), table("forms_of_calls"), ta
 PLAIN, SEVERAL = table("runs"), table("runs_with_several_grants")
 CROWDS = [table("runs_of_many_flows"), table("a_run_of_many_grants"), table("a_run_of_forty_grants")]
 RANGING, BURSTY = table("runs_with_opportunities"), table("runs_with_bursts")
-RUNS = [PLAIN, SEVERAL, RANGING, BURSTY, *CROWDS]
+LIMITED = table("runs_with_many_flows")
+RUNS = [PLAIN, SEVERAL, RANGING, BURSTY, LIMITED, *CROWDS]
 REPLIES, BUILD = table("a_history_with_each_reply"), table("a_history_of_one_build")
 CALLS = read("checks/rows/calls_of_each_name")
 
@@ -62,6 +63,11 @@ def compact(value):
 
 # What a text that lacks a field of the configuration means, where that is a number.
 MISSING = {it["name"]: it["missing"] for it in tables()["field"] if isinstance(it.get("missing"), int)}
+# The fields that no history has where they are those.
+LEFT_OUT = [it["name"] for it in tables()["field"] if it.get("left_out")]
+# The most flows that may live, that a MAP shows as waiting, and grants and polls in an interval, where a text lacks
+# them.
+LIMITS = {name: MISSING[name] for name in LEFT_OUT}
 # The fields that nobody reads where `bursts` stands, and the profiles that stand in that, each with these numbers.
 UNIFORM = [name for it in tables()["field"] for name in it.get("instead_of", [])]
 PROFILES = [it["name"] for it in tables()["burst"] if "bits" not in it]
@@ -69,9 +75,11 @@ PROFILE = [it["name"] for it in tables()["profile"]]
 
 
 def completed(config):
-    """A configuration as a history has it: with all fields; `bursts` stands in the place of those that nobody reads
-    beside it, and has a profile of unsolicited grants where that is not the one of long grants."""
+    """A configuration as a history has it: with all fields but those that are left out; `bursts` stands in the place of
+    those that nobody reads beside it, and has a profile of unsolicited grants where that is not the one of long grants.
+    """
     config = {**MISSING, **config}
+    config = {key: it for key, it in config.items() if key not in LEFT_OUT or it != MISSING[key]}
     if "bursts" not in config:
         return config
     bursts = config["bursts"]

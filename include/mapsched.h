@@ -41,7 +41,7 @@ extern "C" {
 #define MAPSCHED_MAX_PRIORITY 7
 #define MAPSCHED_MAX_REQUEST_BYTES 1048560
 #define MAPSCHED_MAX_CLOCK (UINT64_C(1) << 60)
-#define MAPSCHED_MAX_FLOWS 64
+#define MAPSCHED_MAX_FLOWS 8191
 #define MAPSCHED_MAX_RECEIVERS 16
 #define MAPSCHED_MAX_CALLS 16777216
 #define MAPSCHED_MAX_SEATS 64
@@ -49,7 +49,7 @@ extern "C" {
 
 /* How many fields of a configuration can be wrong, and faults a payload, the numbers of a MAP and a request have. */
 /* checks/tables: counts begin */
-#define MAPSCHED_CONFIG_FIELDS 20
+#define MAPSCHED_CONFIG_FIELDS 23
 #define MAPSCHED_PAYLOAD_FAULTS 7
 #define MAPSCHED_MAP_FAULTS 5
 #define MAPSCHED_REQUEST_FAULTS 4
@@ -78,7 +78,7 @@ enum mapsched_status {
   MAPSCHED_HANDED_OVER = 18,  /* an entry, or one of a history, is no longer kept: it was let go */
   MAPSCHED_NO_TURN = 19,      /* the worker is not in its turn */
   MAPSCHED_KEEPS_ALL = 20,    /* the scheduler of the workplace keeps its whole history: nothing was let go */
-  MAPSCHED_BAD_CONFIG = 100,  /* and the number of the first wrong field: 101 to 120, by docs/REFERENCE.md */
+  MAPSCHED_BAD_CONFIG = 100,  /* and the number of the first wrong field: 101 to 123, by docs/REFERENCE.md */
   MAPSCHED_BAD_PAYLOAD = 200, /* and the number of the first fault: 201 to 207, by docs/REFERENCE.md */
   MAPSCHED_BAD_MAP = 300,     /* and the number of the first fault of numbers that are no MAP: 301 to 305 */
   MAPSCHED_BAD_REQUEST = 400  /* and the number of the first fault of bytes that are no request frame: 401 to 404 */
@@ -103,6 +103,10 @@ struct mapsched_config {
   uint8_t receivers, ranging_start, ranging_end, data_start, data_end, channel, ucd_count, phy;
   uint32_t has_bursts; /* 0: bytes_per_slot and overhead are read, and not bursts */
   struct mapsched_bursts bursts;
+  uint32_t flows;        /* 0: 64 */
+  uint32_t pending;      /* 0: 64 */
+  uint32_t has_periodic; /* 0: periodic is not read, and is 40 */
+  uint32_t periodic;
 };
 /* checks/tables: configuration end */
 
@@ -379,7 +383,7 @@ static inline const char *mapsched_status_text(uint32_t status) {
   static const char *const fields[] = {
       "ticks", "bytes_per_slot", "overhead", "frame", "cycle", "req_slots", "poll_slots", "lead", "short_max",
       "quantum", "grant_cap", "receivers", "calls", "start", "ranging_start", "ranging_end", "data_start", "data_end",
-      "phy", "bursts",
+      "phy", "bursts", "flows", "pending", "periodic",
   };
   static const char *const faults[] = {
       "too short", "too many elements", "wrong length", "an expansion", "a descent", "no null", "a second null",

@@ -455,6 +455,17 @@ int main(void) {
   WANT(mapsched_check(&config) == MAPSCHED_OK);
   WANT(mapsched_check(&wrong) == MAPSCHED_BAD_CONFIG + 1 && strcmp(mapsched_status_text(101), "ticks") == 0);
   wrong = lawful();
+  wrong.flows = 8192;
+  wrong.pending = 126;
+  wrong.periodic = 2561;
+  WANT(mapsched_check(&wrong) == MAPSCHED_BAD_CONFIG + 21 && strcmp(mapsched_status_text(121), "flows") == 0);
+  wrong.flows = 8191;
+  WANT(mapsched_check(&wrong) == MAPSCHED_BAD_CONFIG + 22 && strcmp(mapsched_status_text(122), "pending") == 0);
+  wrong.pending = 0;
+  WANT(mapsched_check(&wrong) == MAPSCHED_OK);
+  wrong.has_periodic = 2;
+  WANT(mapsched_check(&wrong) == MAPSCHED_BAD_CONFIG + 23 && strcmp(mapsched_status_text(123), "periodic") == 0);
+  wrong = lawful();
   wrong.phy = 2;
   WANT(mapsched_check(&wrong) == MAPSCHED_BAD_CONFIG + 19 && strcmp(mapsched_status_text(119), "phy") == 0);
 

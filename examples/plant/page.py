@@ -5,7 +5,7 @@ from modems import MILLISECOND, SECOND
 PARTS = ("least", "middle", "p99", "greatest")
 # What refusals mean that a plant can meet.
 REFUSALS = {
-    4: "no more flows: there are 64 already",
+    4: "no more flows: as many are live as `flows` of the configuration",
     5: "too many grants: with the polls of an interval above 40",
     6: "no place: the cycle has none for this flow",
     7: "no flow with this SID is live",
@@ -71,7 +71,7 @@ def warnings(plant):
     """What a user of another plant than the usual one may not expect."""
     counts = plant.counts
     if counts.refused[4]:
-        yield (f"a channel has at most 64 live flows, so {counts.refused[4]} admissions were refused: of"
+        yield (f"this channel has at most 64 live flows, so {counts.refused[4]} admissions were refused: of"
                f" {len(plant.modems)} modems the others waited for their turn")
     if counts.refused[5] or counts.refused[6]:
         yield (f"telephones and cameras found no room: {counts.refused[5]} admissions were above 40 grants and polls,"

@@ -77,6 +77,9 @@ class Config:
     bytes_per_slot: Optional[int] = None
     overhead: Optional[int] = None
     bursts: Optional[Bursts] = None
+    flows: int = 64
+    pending: int = 64
+    periodic: int = 40
     # checks/tables: fields end
 
     def __post_init__(self) -> None:
@@ -85,7 +88,8 @@ class Config:
 
     def numbers(self) -> ConfigNumbers:
         """The struct for the library; ValueError where a value does not fit."""
-        values = _values(self)
+        values = {"has_periodic": 1} | _values(self)
+        values |= {name: _NOT_LAWFUL for name in ("flows", "pending") if values[name] == 0}
         bursts = values.pop("bursts")
         if bursts is None:
             return fill(ConfigNumbers(), **values)
@@ -250,6 +254,8 @@ _MINISLOTS = {"heard", "upto", "now"}
 _NOT_WITH_BURSTS = {"bytes_per_slot", "overhead"}
 _PROFILES = {"short": "short_data", "long": "long_data", "unsolicited": "unsolicited"}
 # checks/tables: names end
+# A value of `flows` and `pending` that is a fault, where 0 is none in the struct.
+_NOT_LAWFUL = 2**32 - 1
 _CALL_TYPES, _FLOW_TYPES = list(_CALLS.values()), list(_FLOWS.values())
 
 

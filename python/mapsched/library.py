@@ -40,6 +40,7 @@ class ConfigNumbers(Structure):
         *((name, c_uint8) for name in ("channel", "ucd_count", "phy")),
         ("has_bursts", c_uint32),
         ("bursts", BurstsNumbers),
+        *((name, c_uint32) for name in ("flows", "pending", "has_periodic", "periodic")),
     ]
 # checks/tables: configuration end
 

@@ -126,6 +126,20 @@ class Module(unittest.TestCase):
         for told in ({"bytes": 100}, {"slots": 9}):
             self.assertRaises(TypeError, Ask, 0, 17, **told)
 
+    def test_as_many_flows_live_as_there_are_sids(self):
+        flow = BestEffort(priority=3, rate=0, burst=0)
+        with Scheduler(Config(**{**vars(CONFIG), "calls": 20000, "flows": 8191, "pending": 2})) as scheduler:
+            scheduler.call(Build(760))
+            for sid in range(1, 8192):
+                self.assertEqual(scheduler.call(Admit(sid, flow)).line, "admitted")
+            for heard, sid in enumerate((8191, 1, 4000, 4001), 801):
+                self.assertEqual(scheduler.call(Ask(0, sid, 1000, heard)), Taken())
+            found = mapsched.decode(scheduler.call(Build(800)).payload)
+            self.assertEqual(mapsched.audit(scheduler.history_text()).entries, 1 + 8191 + 4 + 1)
+        rows = [("request", 0x3FFF, 0), ("long", 1, 4), ("null", 0, 40), ("long", 1, 40), ("long", 8191, 40)]
+        self.assertEqual([(it.usage, it.sid, it.offset) for it in found.elements], rows)
+        self.assertEqual(found.ack, 800)
+
     def test_burst_descriptors_say_what_a_grant_takes(self):
         sizes = {64: ("short", 3), 211: ("short", 6), 212: ("long", 6), 240: ("long", 7), 1526: ("long", 36)}
         with Scheduler(with_bursts(BURSTS)) as scheduler:

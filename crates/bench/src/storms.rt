@@ -38,6 +38,9 @@ pub(crate) const WIDE: Config = Config {
     channel: 3,
     ucd_count: 1,
     phy: 0,
+    flows: 64,
+    pending: 64,
+    periodic: 40,
 };
 
 // Where sixteen workers make theirs.

@@ -43,7 +43,7 @@ later_lawful : (c : Config) (d : Descriptors) (p : Profile) → AreLawful (recor
 later_lawful c d p of_frame =
     let (frame, (cycle, (requests, (polls, (lead, (short, of_grants)))))) = of_frame in
     let (quantum, (cap, (receivers, (calls, (start, of_backoffs))))) = of_grants in
-    let (ranging_start, (ranging_end, (data_start, (data_end, of_channel)))) = of_backoffs in (
+    let (ranging_start, (ranging_end, (data_start, (data_end, (phy, of_flows))))) = of_backoffs in (
       frame,
       (
         cycle,
@@ -67,7 +67,7 @@ later_lawful c d p of_frame =
                           start,
                           (
                             ranging_start,
-                            (ranging_end, (data_start, (data_end, (refl, tt)))),
+                            (ranging_end, (data_start, (data_end, (refl, of_flows)))),
                           ),
                         ),
                       ),

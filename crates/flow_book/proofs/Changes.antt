@@ -102,8 +102,9 @@ placed-is_sound c sid items i f are is =
     all-found (IsSoundFlow c) (λ g. g.sid == sid) (map live items) (live f) are.each is.found
 
 -- to ask for more keeps a flow sound
-pub asked-sound : (c : Config) (bytes : ℕ) (f : LiveFlow) → IsSoundFlow c f → IsSoundFlow c (with_asked bytes f)
-asked-sound c bytes f is = record { within = omega (arith, is.within); kept = is.kept }
+pub asked-sound : (c : Config) (bytes heard : ℕ) (f : LiveFlow) → IsSoundFlow c f
+    → IsSoundFlow c (with_asked bytes heard f)
+asked-sound c bytes heard f is = record { within = omega (arith, is.within); kept = is.kept }
 
 -- a book of these flows and rooms
 abbrev pub view-of : Config → List LiveFlow → List Room → BookView

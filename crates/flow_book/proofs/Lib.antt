@@ -5,7 +5,12 @@ pub mod Changes
 pub mod FirstGrant
 pub mod Insertion
 pub mod Levels
+pub mod Lines
+pub mod Matching
 pub mod Order
+pub mod Overlays
+pub mod Pendings
+pub mod Pigeons
 pub mod Places
 pub mod Profile
 pub mod Queues
@@ -16,12 +21,14 @@ pub mod RowsCeiling
 pub mod RowsChoice
 pub mod NextServed
 pub mod Serving
+pub mod InLine
 pub mod Shifts
 pub mod Sinking
 pub mod Started
 pub mod Steps
 pub mod Searches
 pub mod Sums
+pub mod TakenOver
 pub mod Turns
 pub mod Unlimited
 pub mod Windows

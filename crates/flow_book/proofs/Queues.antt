@@ -17,9 +17,10 @@ use Rattle.flow_book.specs.declared.queue.Waiting.{Waiting}
 use Rattle.sched_calls.specs.FlowSpec.{rank_of}
 use Rattle.flow_book.specs.Choice.{last_start}
 use Rattle.flow_book.specs.Flows.{outstanding}
+use Rattle.flow_book.specs.Bucket.{BucketView}
 use Rattle.flow_book.specs.Entry.{live, IsBook, KeepsSums, KnowsTurn}
 use Rattle.flow_book.specs.Sids.{AscendBy, put_in}
-use Rattle.flow_book.specs.Queue.{entry_of, IsAt, IsIn, IsQueue, IsQueueAmong, AreSameBut, Stands, StandsBefore}
+use Rattle.flow_book.specs.Queue.{entry_of, IsAt, IsIn, IsQueue, IsQueueAmong, AreSameBut}
 use Rattle.flow_book.proofs.Insertion.{all-put_in, ascends-put_in}
 use Rattle.flow_book.proofs.Searches.{below}
 use Rattle.flow_book.proofs.Turns.{turn-sid}
@@ -29,14 +30,14 @@ abbrev pub with-one : Waiting → List Waiting → List Waiting
 with-one w queue = put_in (λ v. v.turn) w queue
 
 -- the one that is put in is in the queue
-in-new : (w : Waiting) (queue : List Waiting) → IsIn w.place (with-one w queue)
+pub in-new : (w : Waiting) (queue : List Waiting) → IsIn w.place (with-one w queue)
 in-new w [] = inl refl
 in-new w (v ∷ queue) =
     cond_both (nat_lt w.turn v.turn) (w ∷ v ∷ queue) (v ∷ with-one w queue) (IsIn w.place)
     (λ low. inl refl) (λ high. inr (in-new w queue))
 
 -- and those that were
-in-old : (place : ℕ) (w : Waiting) (queue : List Waiting) → IsIn place queue → IsIn place (with-one w queue)
+pub in-old : (place : ℕ) (w : Waiting) (queue : List Waiting) → IsIn place queue → IsIn place (with-one w queue)
 in-old place w [] here = absurd here
 in-old place w (v ∷ queue) (inl here) =
     cond_both (nat_lt w.turn v.turn) (w ∷ v ∷ queue) (v ∷ with-one w queue) (IsIn place)
@@ -67,7 +68,7 @@ module _ {X : Type 0} where
   all-both P Q R (x ∷ xs) step ps qs = (step x ps.0 qs.0, all-both P Q R xs step ps.1 qs.1)
 
 -- others than the one that is taken out stay
-in-rest : (place : ℕ) (queue : List Waiting) (i : ℕ) (d : Waiting) → i < length queue → (get_or queue i d).place ≢ place
+pub in-rest : (place : ℕ) (queue : List Waiting) (i : ℕ) (d : Waiting) → i < length queue → (get_or queue i d).place ≢ place
     → IsIn place queue → IsIn place (remove queue i)
 in-rest place [] i d lt differ here = absurd here
 in-rest place (w ∷ queue) zero d lt differ (inl here) = absurd (differ here)
@@ -75,13 +76,13 @@ in-rest place (w ∷ queue) zero d lt differ (inr rest) = rest
 in-rest place (w ∷ queue) (suc i) d lt differ (inl here) = inl here
 in-rest place (w ∷ queue) (suc i) d lt differ (inr rest) = inr (in-rest place queue i d (omega arith) differ rest)
 
-some-within : (items : List Flow) (place : ℕ) (e : ℕ × ℕ) → option_map entry_of (slice_get items place) ≡ Some e
+some-within : (items : List Flow) (place : ℕ) (e : ℕ × ℕ × BucketView) → option_map entry_of (slice_get items place) ≡ Some e
     → place < length items
 some-within [] place e at = absurd (cc)
 some-within (f ∷ items) zero e at = omega arith
 some-within (f ∷ items) (suc place) e at = omega (arith, some-within items place e at)
 
-same-some : (d e : ℕ × ℕ) → Some d ≡ Some e → d ≡ e
+same-some : (d e : ℕ × ℕ × BucketView) → Some d ≡ Some e → d ≡ e
 same-some d e same = cc
 
 -- where none in the queue has the place none has it
@@ -97,44 +98,37 @@ none-at place queue none =
 module _ (items : List Flow) where
   -- its place is one of the flows'
   pub at-within : (w : Waiting) → IsAt items w → w.place < length items
-  at-within w at = some-within items w.place (w.turn, w.wants) at
+  at-within w at = some-within items w.place (w.turn, w.wants, w.bucket) at
 
   -- there is a flow at its place
   pub flow-at : (w : Waiting) (o : Option Flow) → slice_get items w.place ≡ o → IsAt items w
       → (f : Flow) × (slice_get items w.place ≡ Some f)
   flow-at w None e at =
-      let no : option_map entry_of None ≡ Some (w.turn, w.wants) = ap (option_map entry_of) (sym e) ∙ at in absurd (cc)
+      let no : option_map entry_of None ≡ Some (w.turn, w.wants, w.bucket) = ap (option_map entry_of) (sym e) ∙ at in absurd (cc)
   flow-at w (Some f) e at = (f, e)
 
-  entry-at : (w : Waiting) (f : Flow) → IsAt items w → slice_get items w.place ≡ Some f
-      → entry_of f ≡ (w.turn, w.wants)
-  entry-at w f at found = same-some (entry_of f) (w.turn, w.wants) (ap (option_map entry_of) (sym found) ∙ at)
+  -- its entry
+  pub entry-at : (w : Waiting) (f : Flow) → IsAt items w → slice_get items w.place ≡ Some f
+      → entry_of f ≡ (w.turn, w.wants, w.bucket)
+  entry-at w f at found = same-some (entry_of f) (w.turn, w.wants, w.bucket) (ap (option_map entry_of) (sym found) ∙ at)
 
   -- the flow that waits has this turn
   pub turn-at : (w : Waiting) (f : Flow) → IsAt items w → slice_get items w.place ≡ Some f → f.turn ≡ w.turn
-  turn-at w f at found = ap (λ (e : ℕ × ℕ). e.0) (entry-at w f at found)
+  turn-at w f at found = ap (λ (e : ℕ × ℕ × BucketView). e.0) (entry-at w f at found)
 
   -- and waits for these bytes
   pub wants-at : (w : Waiting) (f : Flow) → IsAt items w → slice_get items w.place ≡ Some f
       → outstanding (live f) ≡ w.wants
-  wants-at w f at found = ap (λ (e : ℕ × ℕ). e.1) (entry-at w f at found)
+  wants-at w f at found = ap (λ (e : ℕ × ℕ × BucketView). e.1) (entry-at w f at found)
+
+  -- and it has this bucket
+  pub bucket-at : (w : Waiting) (f : Flow) → IsAt items w → slice_get items w.place ≡ Some f → f.bucket ≡ w.bucket
+  bucket-at w f at found = ap (λ (e : ℕ × ℕ × BucketView). e.2) (entry-at w f at found)
 
   -- at one place there is one turn
-  -- where a flow stands in the queue its turn stands too
-  pub stands-before : (queue : List Waiting) (index : ℕ) (w : Waiting) (f : Flow) → IsQueue items queue
-      → Stands queue index w.place → slice_get items w.place ≡ Some f → f.turn ≤ w.turn → StandsBefore queue index w
-  stands-before queue index w f is stands found late = record {
-    stands = stands;
-    earlier = λ d.
-        let at : IsAt items (get_or queue index d) =
-        All-from_recursion (IsAt items) queue is.each index d stands.within in
-        let turn = turn-at (get_or queue index d) f at (ap (slice_get items) (stands.here d) ∙ found) in
-        omega (arith, turn, late);
-  }
-
-  same-turn : (v w : Waiting) → IsAt items v → IsAt items w → v.place ≡ w.place → v.turn ≡ w.turn
+  pub same-turn : (v w : Waiting) → IsAt items v → IsAt items w → v.place ≡ w.place → v.turn ≡ w.turn
   same-turn v w at at' same =
-      ap (λ (e : ℕ × ℕ). e.0) (same-some (v.turn, v.wants) (w.turn, w.wants)
+      ap (λ (e : ℕ × ℕ × BucketView). e.0) (same-some (v.turn, v.wants, v.bucket) (w.turn, w.wants, w.bucket)
       (sym at ∙ ap (λ k. option_map entry_of (slice_get items k)) same ∙ at'))
 
   later : (w : Waiting) (queue : List Waiting) → IsAt items w → AllByRecursion (IsAt items) queue
@@ -208,12 +202,12 @@ same-but (f ∷ items) (suc place) e (suc other) differ = same-but items place e
 
 -- a flow that is put at a place has there what is told of it
 pub stands-at : (items : List Flow) (w : Waiting) (place : ℕ) (e : Flow) → place < length items → w.turn ≡ e.turn
-    → w.wants ≡ outstanding (live e) → w.place ≡ place → IsAt (set items place e) w
-stands-at items w place e lt turn wants at =
+    → w.wants ≡ outstanding (live e) → w.bucket ≡ e.bucket → w.place ≡ place → IsAt (set items place e) w
+stands-at items w place e lt turn wants bucket at =
     let here : slice_get (set items place e) place ≡ Some e =
     slice_get-get_or (set items place e) place e (omega (arith, length-set items place e))
     ∙ ap Some (get_or-set_same items place e e lt) in
-    rw (at, turn, wants, here) refl
+    rw (at, turn, wants, bucket, here) refl
 
 none-found : (turn : ℕ) (queue : List Waiting) → AllByRecursion (λ v. v.turn ≢ turn) queue
     → find (λ v. v.turn == turn) queue ≡ None
@@ -231,20 +225,16 @@ module _ (c : Config) (items : List Flow) (are : IsBook c items) where
       let is : get_or items place f ≡ f = cc in
       (subst (KeepsSums c) is (All-from_recursion (KeepsSums c) items are.sums place f within)).turn
 
-  -- flows of one turn are at one place
-  one-place : (i j : ℕ) (f g : Flow) → slice_get items i ≡ Some f → slice_get items j ≡ Some g → f.turn ≡ g.turn → i ≡ j
-  one-place i j f g at at' same =
+  -- flows of one SID are at one place
+  pub place-of-sid : (i j : ℕ) (f g : Flow) → slice_get items i ≡ Some f → slice_get items j ≡ Some g → f.sid ≡ g.sid
+      → i ≡ j
+  place-of-sid i j f g at at' sids =
       let p = slice_get_within items i f at in
       let q = slice_get_within items j g at' in
       let e : Some (get_or items i f) ≡ Some f = sym (slice_get-get_or items i f p) ∙ at in
       let e' : Some (get_or items j f) ≡ Some g = sym (slice_get-get_or items j f q) ∙ at' in
       let is : get_or items i f ≡ f = cc in
       let is' : get_or items j f ≡ g = cc in
-      let knows = knows-at i f at in
-      let knows' = knows-at j g at' in
-      let sids : f.sid ≡ g.sid =
-      turn-sid (rank_of f.spec) (rank_of g.spec) (last_start f.grants.items) (last_start g.grants.items) f.sid g.sid
-      f.turn knows.1 (rw (sym same) at knows'.1) in
       let mine = ap (λ (h : Flow). h.sid) is in
       let yours = ap (λ (h : Flow). h.sid) is' in
       elim (cases_lt i j) [
@@ -260,6 +250,15 @@ module _ (c : Config) (items : List Flow) (are : IsBook c items) where
           ))
         ]
       ]
+
+  -- and so are flows of one turn
+  pub one-place : (i j : ℕ) (f g : Flow) → slice_get items i ≡ Some f → slice_get items j ≡ Some g → f.turn ≡ g.turn
+      → i ≡ j
+  one-place i j f g at at' same =
+      let knows = knows-at i f at in
+      let knows' = knows-at j g at' in
+      place-of-sid i j f g at at' (turn-sid (rank_of f.spec) (rank_of g.spec) (last_start f.grants.items)
+      (last_start g.grants.items) f.sid g.sid f.turn knows.1 (rw (sym same) at knows'.1))
 
   module _ (some more : ℕ → Type 0) (queue : List Waiting) (place : ℕ) (f : Flow)
       (here : slice_get items place ≡ Some f)
@@ -284,9 +283,9 @@ module _ (c : Config) (items : List Flow) (are : IsBook c items) where
 
     -- a queue with the flow at one more place
     pub put-among : (w : Waiting) → w.place ≡ place → w.turn ≡ f.turn → w.wants ≡ outstanding (live f)
-        → (some place → ⊥) → more place → IsQueueAmong items more (with-one w queue)
-    put-among w at turn wants out new =
-        let stands : IsAt items w = rw (at, turn, wants, here) refl in
+        → w.bucket ≡ f.bucket → (some place → ⊥) → more place → IsQueueAmong items more (with-one w queue)
+    put-among w at turn wants bucket out new =
+        let stands : IsAt items w = rw (at, turn, wants, bucket, here) refl in
         let differ = rw (sym turn) at (all-differ out queue is.each is.among) in
         record {
           ascending = ascends-put_in (λ v. v.turn) w queue (none-found w.turn queue differ) is.ascending;

@@ -2,6 +2,7 @@
 use Rattle.std.proofs.Common.{ℕ, zero, suc, ◌+◌, ◌*◌, ◌<◌, ◌≤◌, List, [], ◌∷◌, refl, inl, lit<, lit≤, arith}
 use Rattle.sched_calls.specs.declared.spec.FlowSpec.TheVariants.{Polled, BestEffort}
 use Rattle.flow_book.specs.declared.flow.Grant.{Grant}
+use Rattle.flow_book.proofs.Profile.{one_request}
 use Rattle.flow_book.specs.Flows.{LiveFlow, bytes_of}
 use Rattle.flow_book.specs.Ceiling.{window, start_of}
 use Rattle.flow_book.specs.Choice.{MayTake, MayGrant, IsAmount, IsEligible, IsNext}
@@ -9,7 +10,7 @@ use Rattle.sched_calls.proofs.Base.{base}
 
 -- a flow of 64000 bits in a second and bursts of 1600 bytes that asked 3000 bytes, with these grants
 abbrev pub under_ceiling : List Grant → LiveFlow
-under_ceiling grants = record { sid = 17; spec = BestEffort 3 64000 1600; asked = 3000; grants = grants }
+under_ceiling grants = record { sid = 17; spec = BestEffort 3 64000 1600; asked = 3000; batches = one_request 3000 801; grants = grants }
 
 -- a grant
 abbrev pub grant : ℕ → ℕ → Grant

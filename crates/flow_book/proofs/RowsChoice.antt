@@ -1,6 +1,8 @@
 -- Worked examples of which flow is served first.
 use Rattle.std.proofs.Common.{[], ◌∷◌, refl, ap, inl, inr, lit<, lit≤, arith}
 use Rattle.sched_calls.specs.declared.spec.FlowSpec.TheVariants.{Polled, BestEffort}
+use Rattle.flow_book.specs.Batches.{no_batches}
+use Rattle.flow_book.proofs.Profile.{one_request}
 use Rattle.flow_book.specs.Flows.{LiveFlow}
 use Rattle.flow_book.specs.Choice.{IsEligible, IsNext}
 use Rattle.sched_calls.proofs.Base.{base}
@@ -8,11 +10,11 @@ use Rattle.flow_book.proofs.Unlimited.{IsEligible-unlimited}
 
 -- a flow of priority 1 with 544 bytes to be granted
 abbrev pub low : LiveFlow
-low = record { sid = 20; spec = BestEffort 1 0 0; asked = 544; grants = [] }
+low = record { sid = 20; spec = BestEffort 1 0 0; asked = 544; batches = no_batches; grants = [] }
 
 -- a flow of priority 5 with as many
 abbrev pub high : LiveFlow
-high = record { sid = 21; spec = BestEffort 5 0 0; asked = 544; grants = [] }
+high = record { sid = 21; spec = BestEffort 5 0 0; asked = 544; batches = no_batches; grants = [] }
 
 -- either may be served behind the request region
 low_is_eligible : IsEligible base 844 36 low
@@ -38,11 +40,11 @@ the_lower_priority_is_not_next next = elim (next.first.1.0 high_is_eligible) [
 
 -- two flows of one priority with 1000 bytes to be granted
 abbrev pub lower_sid : LiveFlow
-lower_sid = record { sid = 20; spec = BestEffort 3 0 0; asked = 1000; grants = [] }
+lower_sid = record { sid = 20; spec = BestEffort 3 0 0; asked = 1000; batches = one_request 1000 801; grants = [] }
 
 -- a flow of the next SID that is the same otherwise
 abbrev pub higher_sid : LiveFlow
-higher_sid = record { sid = 21; spec = BestEffort 3 0 0; asked = 1000; grants = [] }
+higher_sid = record { sid = 21; spec = BestEffort 3 0 0; asked = 1000; batches = one_request 1000 801; grants = [] }
 
 -- of equal priorities without a grant the lower SID is next
 pub the_lower_sid_is_next : IsNext base (lower_sid ∷ higher_sid ∷ []) 844 36 lower_sid
@@ -54,11 +56,11 @@ the_lower_sid_is_next = record {
 
 -- a flow of priority 7, the highest, with 544 bytes to be granted
 abbrev pub highest : LiveFlow
-highest = record { sid = 20; spec = BestEffort 7 0 0; asked = 544; grants = [] }
+highest = record { sid = 20; spec = BestEffort 7 0 0; asked = 544; batches = no_batches; grants = [] }
 
 -- a polled flow of a higher SID with as many
 abbrev pub polled_waiting : LiveFlow
-polled_waiting = record { sid = 21; spec = Polled 5000 0 0 0; asked = 544; grants = [] }
+polled_waiting = record { sid = 21; spec = Polled 5000 0 0 0; asked = 544; batches = no_batches; grants = [] }
 
 polled_is_eligible : IsEligible base 844 36 polled_waiting
 polled_is_eligible = IsEligible-unlimited base polled_waiting 844 36 refl refl (lit< tt) (lit≤ tt)

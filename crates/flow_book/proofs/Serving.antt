@@ -1,8 +1,10 @@
 -- The first in the queue that may be served is the flow that is served first.
 use Rattle.std.proofs.Common.{◌≡◌, refl, sym, ap, ◌∙◌, ℕ, suc, ◌<◌, ◌≤◌, min, true, nat_eq, IsTrue, ◌↔◌}
 use Rattle.std.proofs.Common.{◌⊎◌, inl, inr, Contains}
-use Rattle.std.proofs.Common.{List, [], ◌∷◌, ◌++◌, map, slice_get, Some, Bool, arith}
+use Rattle.std.proofs.Common.{List, [], ◌∷◌, ◌++◌, map, slice_get, Some, Bool, length, get_or, ◌==◌, arith}
+use Rattle.std.proofs.lemmas.Bool.{eq-eqb}
 use Rattle.std.proofs.lemmas.Bool.Decides.{nat_tests}
+use Rattle.std.proofs.lemmas.List.Elements.{All-from_recursion}
 use Rattle.std.specs.List.{AllByRecursion}
 use Rattle.std.proofs.lemmas.Option.{slice_get_within, get_or_from_slice_get}
 use Rattle.std.proofs.Math.ListN.{get_or-map}
@@ -16,14 +18,15 @@ use Rattle.minislots.specs.Units.{bytes_in}
 use Rattle.minislots.proofs.Bounds.{bounds_of}
 use Rattle.minislots.proofs.UnitLaws.{fits_bytes, fits_slots}
 use Rattle.flow_book.specs.Flows.{LiveFlow, outstanding}
-use Rattle.flow_book.specs.Choice.{last_start, is_before, IsEligible, IsNext, NoneEligible}
+use Rattle.flow_book.specs.Choice.{last_start, is_before, IsEligible, IsNext, NoneEligible, HasStartedBy}
 use Rattle.flow_book.specs.Entry.{live, IsBook, KeepsSums, KnowsTurn}
 use Rattle.flow_book.specs.Bucket.{HaveStartedBy, most_of}
 use Rattle.flow_book.specs.Sids.{AscendBy}
-use Rattle.flow_book.specs.Queue.{IsAt, IsIn, IsQueue}
+use Rattle.flow_book.specs.Queue.{IsAt, IsIn, IsQueue, HasStartedQueue}
 use Rattle.flow_book.proofs.Amounts.{eligible-is, bucket-within}
 use Rattle.flow_book.proofs.Turns.{less-first}
-use Rattle.flow_book.proofs.Queues.{all-both, turn-at, knows-at}
+use Rattle.flow_book.proofs.Steps.{all-item}
+use Rattle.flow_book.proofs.Queues.{all-both, at-within, flow-at, turn-at, wants-at, bucket-at, knows-at}
 
 -- what holds of the flow at each place holds of each
 all-places : (P : LiveFlow → Type 0) (items : List Flow)
@@ -99,6 +102,52 @@ may-is c start room f wants wanted may lawful keeps started asks is fits decides
     let e : most ≡ wanted = grind (arith, nat_tests) in
     decides.1 (able.serves, some, e) in
     (yes', back)
+
+-- what is known of the flow of an entry of the queue
+pub record StandsIn (c : Config) (items : List Flow) (start : ℕ) (w : Waiting) : Type 0 where
+  pub flow : Flow
+  pub at : slice_get items w.place ≡ Some flow
+  pub keeps : KeepsSums c flow
+  pub started : HaveStartedBy start flow.grants.items
+  pub turn : flow.turn ≡ w.turn
+  pub wants : outstanding (live flow) ≡ w.wants
+  pub bucket : flow.bucket ≡ w.bucket
+
+-- an entry of the queue has a flow
+pub stands-in : (c : Config) (items : List Flow) (queue : List Waiting) (start i : ℕ) (w : Waiting)
+    → HasStartedQueue c items queue start → i < length queue → w ≡ get_or queue i w → StandsIn c items start w
+stands-in c items queue start i w is lt here =
+    let at : IsAt items w = rw here (All-from_recursion (IsAt items) queue is.order.each i w lt) in
+    let found = flow-at items w (slice_get items w.place) refl at in
+    let f = found.0 in
+    let within = at-within items w at in
+    let read : f ≡ get_or items w.place f = sym (get_or_from_slice_get items w.place f f found.1) in
+    record {
+      flow = f;
+      at = found.1;
+      keeps = rw read (All-from_recursion (KeepsSums c) items is.book.sums w.place f within);
+      started = all-item live items w.place f within read (HasStartedBy start) is.started;
+      turn = turn-at items w f at found.1;
+      wants = wants-at items w f at found.1;
+      bucket = bucket-at items w f at found.1;
+    }
+
+equal : (m n : ℕ) → (m == n) ≡ true → m ≡ n
+equal m n same = grind (arith, nat_tests)
+
+-- it may be served where the bytes that it waits for, or the quantum, fit and keep the ceiling
+pub entry-may : (c : Config) (start room : ℕ) (items : List Flow) (w : Waiting) (wanted : ℕ) (may : Bool) → IsLawful c
+    → (is : StandsIn c items start w) → wanted ≡ min w.wants c.quantum → 0 < wanted → wanted ≤ bytes_in c room
+    → may ≡ (most_of w.bucket start wanted == wanted)
+    → IsTrue may ↔ IsEligible c start room (live is.flow)
+entry-may c start room items w wanted may lawful is limits some fits tested =
+    let f = is.flow in
+    let takes : takes_requests f.spec ≡ true = is.keeps.asks (omega (arith, is.wants, limits, some)) in
+    let most : most_of f.bucket start wanted ≡ most_of w.bucket start wanted =
+    ap (λ b. most_of b start wanted) is.bucket in
+    may-is c start room f w.wants wanted may lawful is.keeps is.started is.wants limits fits
+    ((λ t. (takes, some, most ∙ equal (most_of w.bucket start wanted) wanted (sym tested ∙ t))),
+    (λ p. tested ∙ eq-eqb (most_of w.bucket start wanted) wanted (sym most ∙ p.2)))
 
 module _ (c : Config) (start room : ℕ) (items : List Flow) (are : IsBook c items) where
   -- a place in the queue that may be served is not passed

@@ -65,7 +65,7 @@ module _ {X : Type 0} where
 
 -- the one that waits stands at another place
 moved : (ℕ → ℕ) → Waiting → Waiting
-moved to w = record { turn = w.turn; wants = w.wants; place = to w.place }
+moved to w = record { turn = w.turn; wants = w.wants; place = to w.place; bucket = w.bucket }
 
 ascends-moved : (to : ℕ → ℕ) (queue : List Waiting) → AscendBy (λ w. w.turn) queue
     → AscendBy (λ w. w.turn) (map (moved to) queue)
@@ -219,27 +219,13 @@ filter-at sid (f ∷ items) i up at =
     let here : (get_or (f ∷ items) i f).sid ≡ sid = grind (arith, nat_tests) in
     (found.0, filter-remove sid (f ∷ items) i f up found.0 here)
 
-cons-is : {X : Type 0} (x y : X) (xs ys : List X) → x ∷ xs ≡ y ∷ ys → (x ≡ y) × (xs ≡ ys)
-cons-is x y xs ys same = (cc, cc)
-
--- flows that show the same and have the same turns are the same to the queue
-same-entries : (old new : List Flow) → map live new ≡ map live old
-    → map (λ (f : Flow). f.turn) new ≡ map (λ (f : Flow). f.turn) old → map entry_of new ≡ map entry_of old
-same-entries [] [] shown turns = refl
-same-entries [] (g ∷ new) shown turns = absurd (cc)
-same-entries (f ∷ old) [] shown turns = absurd (cc)
-same-entries (f ∷ old) (g ∷ new) shown turns =
-    let both = cons-is (live g) (live f) (map live new) (map live old) shown in
-    let and = cons-is g.turn f.turn (map (λ (h : Flow). h.turn) new) (map (λ (h : Flow). h.turn) old) turns in
-    let wants : outstanding (live g) ≡ outstanding (live f) = ap outstanding both.0 in
-    rw (wants, and.0, same-entries old new both.1 and.1)
-
+-- flows that show the same and have the same entries are the same to the queue
 module _ (old new : List Flow) (shown : map live new ≡ map live old)
-    (turns : map (λ (f : Flow). f.turn) new ≡ map (λ (f : Flow). f.turn) old) where
+    (entries : map entry_of new ≡ map entry_of old) where
   same-each : (queue : List Waiting) → AllByRecursion (IsAt old) queue → AllByRecursion (IsAt new) queue
   same-each [] all = tt
   same-each (w ∷ queue) all = (
-    sym (slice_get-map entry_of new w.place) ∙ ap (λ es. slice_get es w.place) (same-entries old new shown turns)
+    sym (slice_get-map entry_of new w.place) ∙ ap (λ es. slice_get es w.place) entries
         ∙ slice_get-map entry_of old w.place ∙ all.0,
     same-each queue all.1,
   )

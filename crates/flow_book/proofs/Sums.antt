@@ -1,18 +1,19 @@
 -- What flows keep beside their grants stays theirs.
-use Rattle.std.proofs.Common.{◌≡◌, refl, sym, ap, ◌∙◌, ℕ, zero, suc, ◌+◌, ◌<◌, ◌==◌, List, [], ◌∷◌, ◌++◌, map, Some}
+use Rattle.std.proofs.Common.{◌≡◌, true, refl, sym, ap, ◌∙◌, ℕ, zero, suc, ◌+◌, ◌<◌, ◌==◌, List, [], ◌∷◌, ◌++◌, map, Some}
 use Rattle.std.proofs.Common.{◌≤◌, length, get_or, set}
 use Rattle.std.specs.List.{AllByRecursion, AllZip, insert}
 use Rattle.std.specs.Option.{IfSome}
 use Rattle.std.proofs.lemmas.List.Elements.{All-from_recursion}
 use Rattle.std.proofs.lemmas.List.Sums.{sum_by-append}
 use Rattle.minislots.specs.declared.config.Config.{Config}
+use Rattle.sched_calls.specs.FlowSpec.{takes_requests}
 use Rattle.flow_book.specs.declared.flow.Flow.{Flow}
 use Rattle.flow_book.specs.declared.flow.Grant.{Grant}
 use Rattle.flow_book.specs.Bucket.{HaveStartedBy}
 use Rattle.flow_book.specs.Flows.{LiveFlow, bytes_of, with_grant}
 use Rattle.flow_book.specs.Choice.{last_start, MayGrant, KeepsWith}
-use Rattle.flow_book.specs.Entry.{live, IsSoundFlow, KeepsSums, IsCopy, IsBook}
-use Rattle.flow_book.proofs.Changes.{all-set, placed-sound, placed-is_sound, granted-sound}
+use Rattle.flow_book.specs.Entry.{live, asked_more, IsSoundFlow, KeepsSums, IsCopy, IsBook}
+use Rattle.flow_book.proofs.Changes.{all-set, placed-sound, placed-is_sound, asked-sound, granted-sound}
 use Rattle.flow_book.proofs.Windows.{one_more, bytes-one}
 use Rattle.flow_book.proofs.Places.{StandsAt, all-found}
 
@@ -49,40 +50,18 @@ pub placed-sums : (c : Config) (sid : ℕ) (items : List Flow) (i : ℕ) (f : Fl
 placed-sums c sid items i f are is = all-found (KeepsSums c) (λ g. g.sid == sid) items f are.sums is.fields
 
 -- and so does a copy
-copy-sums : (c : Config) (f g : Flow) → IsCopy f g → KeepsSums c f → KeepsSums c g
+pub copy-sums : (c : Config) (f g : Flow) → IsCopy f g → KeepsSums c f → KeepsSums c g
 copy-sums c f g is keeps =
     let grants : g.grants.items ≡ f.grants.items = ap (λ (h : LiveFlow). h.grants) is.same in
     let spec : g.spec ≡ f.spec = ap (λ (h : LiveFlow). h.spec) is.same in
     let sid : g.sid ≡ f.sid = ap (λ (h : LiveFlow). h.sid) is.same in
+    let asked : g.asked ≡ f.asked = ap (λ (h : LiveFlow). h.asked) is.same in
     record {
+      asks = rw (asked, spec) keeps.asks;
       granted = is.granted ∙ keeps.granted ∙ ap bytes_of (sym grants);
       turn = rw (spec, grants, sid, is.turn) keeps.turn;
       bucket = rw (spec, grants, is.bucket) keeps.bucket;
     }
-
--- copies of flows show the same and keep the same
-pub copies-live : (fs gs : List Flow) → AllZip IsCopy fs gs → map live gs ≡ map live fs
-copies-live [] [] are = refl
-copies-live [] (g ∷ gs) are = absurd are
-copies-live (f ∷ fs) [] are = absurd are
-copies-live (f ∷ fs) (g ∷ gs) are = let is : IsCopy f g = are.0 in rw (is.same, copies-live fs gs are.1)
-
--- and have the same turns
-pub copies-turns : (fs gs : List Flow) → AllZip IsCopy fs gs
-    → map (λ (f : Flow). f.turn) gs ≡ map (λ (f : Flow). f.turn) fs
-copies-turns [] [] are = refl
-copies-turns [] (g ∷ gs) are = absurd are
-copies-turns (f ∷ fs) [] are = absurd are
-copies-turns (f ∷ fs) (g ∷ gs) are =
-    let is : IsCopy f g = are.0 in rw (is.turn, copies-turns fs gs are.1)
-
--- copies of accounts that keep their sums keep them
-pub copies-sums : (c : Config) (fs gs : List Flow) → AllZip IsCopy fs gs → AllByRecursion (KeepsSums c) fs
-    → AllByRecursion (KeepsSums c) gs
-copies-sums c [] [] are all = tt
-copies-sums c [] (g ∷ gs) are all = absurd are
-copies-sums c (f ∷ fs) [] are all = absurd are
-copies-sums c (f ∷ fs) (g ∷ gs) are all = (copy-sums c f g are.0 all.0, copies-sums c fs gs are.1 all.1)
 
 -- flows keep their sums where a copy of one takes its place
 pub copied-set : (c : Config) (items : List Flow) (i : ℕ) (e d : Flow) → i < length items → IsCopy (get_or items i d) e
@@ -98,6 +77,15 @@ placed-book c sid items i e f are is same sound keeps = record {
   sound = placed-sound c sid items i e f are.sound is same sound;
   sums = all-set (KeepsSums c) items i e are.sums keeps;
 }
+
+-- and so where that asked for more
+pub asked-book : (c : Config) (sid bytes heard : ℕ) (items : List Flow) (i : ℕ) (f : Flow) → IsBook c items
+    → StandsAt sid items i f → takes_requests f.spec ≡ true → IsBook c (set items i (asked_more bytes heard f))
+asked-book c sid bytes heard items i f are is takes =
+    let sound = placed-is_sound c sid items i f are.sound is in
+    let keeps = placed-sums c sid items i f are is in
+    placed-book c sid items i (asked_more bytes heard f) f are is refl (asked-sound c bytes heard (live f) sound)
+    (record { asks = λ some. takes; granted = keeps.granted; turn = keeps.turn; bucket = keeps.bucket })
 
 -- and so where that is with a lawful grant more
 pub granted-book : (c : Config) (sid start bytes room : ℕ) (items : List Flow) (i : ℕ) (e f : Flow) → IsBook c items

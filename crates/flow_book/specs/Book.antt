@@ -2,7 +2,8 @@
 use Rattle.std.specs.Prelude.{ℕ, ◌+◌, ◌≤◌, ◌==◌, List, [], map, find, option_map, unwrap_or, IsSome, if◌then◌else◌}
 use Rattle.minislots.specs.declared.config.Config.{Config}
 use Rattle.sched_calls.specs.declared.spec.FlowSpec.{FlowSpec}
-use Rattle.flow_book.specs.Flows.{LiveFlow, flow_of}
+use Rattle.flow_book.specs.Batches.{no_batches, with_request}
+use Rattle.flow_book.specs.Flows.{LiveFlow, flow_of, granted}
 use Rattle.flow_book.specs.Sids.{AscendBy, put_in, taken_out}
 
 -- how many more grants of this flow fit with no memory
@@ -38,11 +39,14 @@ changed sid change flows = map (λ f. if f.sid == sid then change f else f) flow
 
 -- a flow just admitted
 abbrev pub new_flow : ℕ → FlowSpec → LiveFlow
-new_flow sid spec = record { sid = sid; spec = spec; asked = 0; grants = [] }
+new_flow sid spec = record { sid = sid; spec = spec; asked = 0; batches = no_batches; grants = [] }
 
--- a flow that asked for so many bytes more
-abbrev pub with_asked : ℕ → LiveFlow → LiveFlow
-with_asked bytes f = record f { asked = f.asked + bytes }
+-- a flow that asked for so many bytes more, in a request that was heard at this minislot
+abbrev pub with_asked : ℕ → ℕ → LiveFlow → LiveFlow
+with_asked bytes heard f = record f {
+  asked = f.asked + bytes;
+  batches = with_request f.batches f.asked (granted f) bytes heard;
+}
 
 -- the room of the flow with this SID
 abbrev pub room_of : ℕ → List Room → ℕ

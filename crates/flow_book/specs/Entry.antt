@@ -1,11 +1,12 @@
 -- What the fields of a flow stand for, and what is true of every book.
-use Rattle.std.specs.Prelude.{◌≡◌, ℕ, ◌+◌, ◌-◌, ◌*◌, ◌^◌, ◌<◌, ◌≤◌, List, map, Option, None, Some, min}
+use Rattle.std.specs.Prelude.{◌≡◌, true, ℕ, ◌+◌, ◌-◌, ◌*◌, ◌^◌, ◌<◌, ◌≤◌, List, map, Option, None, Some, min}
 use Rattle.std.specs.List.{AllByRecursion}
 use Rattle.minislots.specs.declared.config.Config.{Config}
 use Rattle.minislots.specs.Units.{bytes_in}
 use Rattle.flow_book.specs.declared.flow.Flow.{Flow}
 use Rattle.flow_book.specs.declared.flow.Room as the_room
-use Rattle.sched_calls.specs.FlowSpec.{rank_of, rate_of, burst_of}
+use Rattle.sched_calls.specs.FlowSpec.{rank_of, rate_of, burst_of, takes_requests}
+use Rattle.flow_book.specs.Batches.{with_request}
 use Rattle.flow_book.specs.Flows.{LiveFlow, bytes_of, granted}
 use Rattle.flow_book.specs.Ceiling.{KeepsCeiling}
 use Rattle.flow_book.specs.Choice.{last_start}
@@ -14,7 +15,20 @@ use Rattle.flow_book.specs.Book.{Room, Ascend}
 
 -- the live flow that the fields stand for
 abbrev pub live : Flow → LiveFlow
-live f = record { sid = f.sid; spec = f.spec; asked = f.asked; grants = f.grants.items }
+live f = record {
+  sid = f.sid;
+  spec = f.spec;
+  asked = f.asked;
+  batches = f.batches;
+  grants = f.grants.items;
+}
+
+-- it with so many bytes more that it asked, in a request that was heard at this minislot
+abbrev pub asked_more : ℕ → ℕ → Flow → Flow
+asked_more bytes heard f = record f {
+  asked = f.asked + bytes;
+  batches = with_request f.batches f.asked (bytes_of f.grants.items) bytes heard;
+}
 
 -- its room
 abbrev pub room_in : Flow → Room
@@ -37,8 +51,9 @@ abbrev pub KnowsTurn : Flow → Type 0
 KnowsTurn f = (rank_of f.spec ≤ 255) × IsTurn (rank_of f.spec) (last_start f.grants.items) f.sid f.turn
 
 -- what a flow keeps beside its grants is theirs: their bytes, its turn after the last one, and the bucket of its rate
--- and burst that stands for them
+-- and burst that stands for them; and only a flow that takes requests has asked for bytes
 pub record KeepsSums (c : Config) (f : Flow) : Type 0 where
+  pub asks : 0 < f.asked → takes_requests f.spec ≡ true
   pub granted : f.granted ≡ bytes_of f.grants.items
   pub turn : KnowsTurn f
   pub bucket : StandsFor c (rate_of f.spec) (burst_of f.spec) f.bucket f.grants.items

@@ -1,13 +1,16 @@
 -- The live flows, each with what it asked and was granted.
 use Rattle.std.specs.Prelude.{ℕ, ◌-◌, ◌==◌, List, [], ◌∷◌, ◌++◌, sum_by, find, Option}
 use Rattle.sched_calls.specs.declared.spec.FlowSpec.{FlowSpec}
+use Rattle.flow_book.specs.declared.batches.Batches.{Batches}
 use Rattle.flow_book.specs.declared.flow.Grant.{Grant}
 
--- a live flow: its SID and parameters, the bytes that it asked, and its data grants in order
+-- a live flow: its SID and parameters, the bytes that it asked, the batches of its requests, and its data grants in
+-- order
 pub record LiveFlow : Type 0 where
   pub sid : ℕ
   pub spec : FlowSpec
   pub asked : ℕ
+  pub batches : Batches
   pub grants : List Grant
 
 -- the bytes of some grants

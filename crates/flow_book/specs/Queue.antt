@@ -1,21 +1,23 @@
 -- The flows that wait for bytes, in the order in which they are served.
-use Rattle.std.specs.Prelude.{◌≡◌, ◌≢◌, ℕ, ◌<◌, ◌⊎◌, Bool, true, List, [], ◌∷◌, Some, option_map, slice_get}
+use Rattle.std.specs.Prelude.{◌≡◌, ◌≢◌, ℕ, ◌<◌, ◌⊎◌, Bool, true, List, [], ◌∷◌, Some, option_map, slice_get, map}
 use Rattle.std.specs.Prelude.{◌+◌, ◌-◌, ◌≤◌, nat_le, nat_lt, if◌then◌else◌, length, slice_index_or}
 use Rattle.std.specs.List.{AllByRecursion}
 use Rattle.minislots.specs.declared.config.Config.{Config}
 use Rattle.flow_book.specs.declared.flow.Flow.{Flow}
 use Rattle.flow_book.specs.declared.queue.Waiting.{Waiting}
 use Rattle.flow_book.specs.Flows.{outstanding}
+use Rattle.flow_book.specs.Bucket.{BucketView}
+use Rattle.flow_book.specs.Choice.{HasStartedBy, IsNext}
 use Rattle.flow_book.specs.Entry.{live, IsBook}
 use Rattle.flow_book.specs.Sids.{AscendBy, put_in}
 
--- a flow's turn, and the bytes that it waits for
-abbrev pub entry_of : Flow → ℕ × ℕ
-entry_of f = (f.turn, outstanding (live f))
+-- a flow's turn, the bytes that it waits for, and its bucket
+abbrev pub entry_of : Flow → ℕ × ℕ × BucketView
+entry_of f = (f.turn, outstanding (live f), f.bucket)
 
--- there is a flow at its place, and these are its turn and the bytes that it waits for
+-- there is a flow at its place, and these are its turn, the bytes that it waits for, and its bucket
 abbrev pub IsAt : List Flow → Waiting → Type 0
-IsAt items w = option_map entry_of (slice_get items w.place) ≡ Some (w.turn, w.wants)
+IsAt items w = option_map entry_of (slice_get items w.place) ≡ Some (w.turn, w.wants, w.bucket)
 
 -- the place is one of those in the queue
 abbrev pub IsIn : ℕ → List Waiting → Type 0
@@ -40,15 +42,19 @@ pub record IsMoved (items : List Flow) (w : Waiting) (queue : List Waiting) : Ty
   pub among : IsQueueAmong items (λ other. other ≢ w.place) others
   pub is : queue ≡ put_in (λ v. v.turn) w others
 
--- the flow at this place among the flows stands here in the queue
-pub record Stands (queue : List Waiting) (index place : ℕ) : Type 0 where
-  pub within : index < length queue
-  pub here : (d : Waiting) → (slice_index_or queue index d).place ≡ place
+-- The flows are a book's and the queue is theirs, and all their grants have started by this minislot
+pub record HasStartedQueue (c : Config) (items : List Flow) (queue : List Waiting) (start : ℕ) : Type 0 where
+  pub book : IsBook c items
+  pub order : IsQueue items queue
+  pub started : AllByRecursion (HasStartedBy start) (map live items)
 
--- one of the same place stands here in the queue, of a turn no later
-pub record StandsBefore (queue : List Waiting) (index : ℕ) (w : Waiting) : Type 0 where
-  pub stands : Stands queue index w.place
-  pub earlier : (d : Waiting) → (slice_index_or queue index d).turn ≤ w.turn
+-- the flow that is served first, in so many minislots, stands here in the queue
+pub record IsFirstInTurn (c : Config) (items : List Flow) (queue : List Waiting) (start room index : ℕ) : Type 0 where
+  pub waiting : Waiting
+  pub here : slice_get queue index ≡ Some waiting
+  pub flow : Flow
+  pub at : slice_get items waiting.place ≡ Some flow
+  pub next : IsNext c (map live items) start room (live flow)
 
 -- its place is one more where a flow was put in at this place or before it
 abbrev pub moved_up : ℕ → Waiting → Waiting

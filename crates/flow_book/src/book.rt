@@ -1,22 +1,23 @@
 //! The live flows of a channel, in order of SID.
 
 ghost use Rattle.std.specs.Prelude.{◌≡◌, ◌≢◌, ℕ, ◌+◌, ◌<◌, ◌≤◌, ◌^◌, ◌==◌, [], length, IfOk, OnOk, OnErr, IfSome};
-ghost use Rattle.std.specs.Prelude.{IsSomeAnd, MatchOption, map, option_map, slice_get, nat_lt, position, true, Some};
+ghost use Rattle.std.specs.Prelude.{IsSomeAnd, MatchOption, map, filter, option_map, slice_get, nat_lt, position, true, Some};
 ghost use Rattle.std.specs.List.{AllByRecursion};
 ghost use Rattle.minislots.specs.Units.{slots_for};
+ghost use Rattle.sched_calls.specs.FlowSpec.{takes_requests};
 ghost use Rattle.flow_book.specs.Flows.{flow_of, outstanding, with_grant};
 ghost use Rattle.flow_book.specs.Choice.{MayGrant, IsMost, IsAmount, IsNext, IsNextSid, NoneEligible};
 ghost use Rattle.flow_book.specs.Choice.{HasStartedBy};
 ghost use Rattle.flow_book.specs.Entry.{live, IsSoundFlow, IsBook, IsRoom, KeepsSums};
-ghost use Rattle.flow_book.specs.Queue.{IsQueue, Stands};
+ghost use Rattle.flow_book.specs.Queue.{IsQueue};
+ghost use Rattle.flow_book.specs.Shown.{is_shown, ack_of};
 ghost use Rattle.flow_book.specs.Book.{IsLive, Ascend, KeepsRoom, room_of, new_flow, with_flow, without, changed};
 ghost use Rattle.flow_book.specs.Book.{with_asked};
 
-use crate::flow::{Flow, Room, Served, first_eligible, reserve_each};
-use crate::queue::{
-    Waiting, copy_of, first_in_turn, follow, follow_from, leave, make_room, make_way, queue_of,
-    waiting_of,
-};
+use crate::flow::{Flow, Room, first_eligible, reserve_each};
+use crate::overlay::Overlay;
+use crate::queue::{Waiting, copy_of, first_in_turn, follow, leave, make_room, make_way, queue_of};
+use crate::shown::Shown;
 use minislots::Checked;
 use sched_calls::FlowSpec;
 use std::alloc::{AllocError, Global};
@@ -71,8 +72,7 @@ fn place_of(flows: &[Flow], sid: u16) -> usize
     }
 }
 
-// The place of the flow that the data grant of [`Book::eligible`] goes to, and where it stands in the queue if that is
-// known.
+// The place of the flow that the data grant of [`Book::eligible`] goes to.
 fn next_place(
     queue: &[Waiting],
     is_queued: bool,
@@ -80,21 +80,21 @@ fn next_place(
     config: &Checked,
     start: u64,
     room: Room,
-) -> Option<(usize, usize)>
+) -> Option<usize>
     requires book { IsBook config.now flows.now }
     requires queue { is_queued ≡ true → IsQueue flows.now queue.now }
     requires room { IsRoom config.now room }
     requires started { AllByRecursion (HasStartedBy start) (map live flows.now) }
-    ensures next { MatchOption result (NoneEligible config.now (map live flows.now) start room.slots)
-        (λ found. IsSomeAnd (slice_get (map live flows.now) found.0)
+    ensures { MatchOption result (NoneEligible config.now (map live flows.now) start room.slots)
+        (λ place. IsSomeAnd (slice_get (map live flows.now) place)
         (IsNext config.now (map live flows.now) start room.slots)) }
-    ensures stands { is_queued ≡ true → IfSome result (λ found. Stands queue.now found.1 found.0) }
 {
     if is_queued {
-        return first_in_turn(queue, flows, config, start, room);
+        let index = first_in_turn(queue, config, start, room)?;
+        return Some(queue[index].place);
     }
     match first_eligible(flows, config, start, room.slots) {
-        Some(flow) => Some((place_of(flows, flow.sid), 0)),
+        Some(flow) => Some(place_of(flows, flow.sid)),
         None => None,
     }
 }
@@ -215,15 +215,17 @@ impl Book {
         leave(&mut self.queue, place);
     }
 
-    /// Adds bytes to what a live flow asked. The sum fits a `u64`.
-    pub fn ask(&mut self, sid: u16, bytes: u32)
+    /// Adds bytes to what a live flow asked that takes requests, in a request that was heard at minislot `heard`. The sum
+    /// fits a `u64`.
+    pub fn ask(&mut self, sid: u16, bytes: u32, heard: u64)
         requires live { IsLive sid self.old.flows }
         requires fits { IfSome (flow_of sid self.old.flows) (λ f. f.asked + bytes < 2 ^ 64) }
+        requires asks { IfSome (flow_of sid self.old.flows) (λ f. takes_requests f.spec ≡ true) }
         ensures { self.new ≡ record self.old
-            { flows = changed sid (with_asked bytes) self.old.flows } }
+            { flows = changed sid (with_asked bytes heard) self.old.flows } }
     {
         let place = self.place(sid);
-        self.flows[place].asked += u64::from(bytes);
+        self.flows[place].ask(bytes, heard);
         self.is_queued = follow(&mut self.queue, self.is_queued, &self.flows, place);
     }
 
@@ -252,7 +254,7 @@ impl Book {
         let bytes = self.config.most_in(room);
         let room = Room { slots: room, bytes };
         match next_place(queue, self.is_queued, flows, &self.config, start, room) {
-            Some((place, _)) => Some(self.sid_at(place)),
+            Some(place) => Some(self.sid_at(place)),
             None => None,
         }
     }
@@ -293,51 +295,44 @@ impl Book {
         self.is_queued = follow(&mut self.queue, self.is_queued, &self.flows, place);
     }
 
-    /// Grants the flow that is next at minislot `start`, with `room` minislots before what comes next
-    /// ([`Book::eligible`]), the most bytes that it may have there ([`Book::most`]), and answers to whom
-    /// they went. `None` where no flow may be served: then nothing changes. Room for the grant was made
-    /// by [`Book::reserve`], and all grants start at or before `start`.
-    pub fn serve(&mut self, start: u64, room: u32) -> Option<Served>
-        requires room { (sid : ℕ) → IsLive sid self.old.flows → 0 < room_of sid self.old.rooms }
-        requires started { AllByRecursion (HasStartedBy start) self.old.flows }
-
-        ensures next { IsNextSid self.old.config start room self.old.flows
-            (option_map (λ s. s.sid) result) }
-        ensures amount { IfSome result (λ s. IfSome (flow_of s.sid self.old.flows)
-            (λ f. IsAmount self.old.config f start room s.bytes)) }
-        ensures flows { IfSome result (λ s. self.new.flows ≡ changed s.sid
-            (with_grant (record { start = start; bytes = s.bytes })) self.old.flows) }
-        ensures none { result ≡ None → self.new ≡ self.old }
-        ensures config { self.new.config ≡ self.old.config }
-        ensures room { IfSome result (λ s.
-            room_of s.sid self.new.rooms + 1 ≡ room_of s.sid self.old.rooms) }
-        ensures other_room { IfSome result (λ s. (other : ℕ)
-            → other ≢ s.sid → room_of other self.new.rooms ≡ room_of other self.old.rooms) }
+    /// The flows with the data grants of a MAP, none yet. The book stays as it is.
+    pub fn overlay(&self) -> Result<Overlay, AllocError>
+        ensures { IfOk result (λ overlay. overlay ≡ record {
+          config = self.now.config;
+          before = self.now.flows;
+          flows = self.now.flows;
+        }) }
     {
-        let queue = &self.queue;
-        let flows = &self.flows;
-        let bytes = self.config.most_in(room);
-        let room = Room { slots: room, bytes };
-        let (place, index) = next_place(queue, self.is_queued, flows, &self.config, start, room)?;
-        let flow = &mut self.flows[place];
-        let served = flow.serve(&self.config, start, room);
-        let waiting = waiting_of(flow, place);
-        self.is_queued = follow_from(&mut self.queue, self.is_queued, &self.flows, waiting, index);
-        Some(served)
+        let queue = if self.is_queued {
+            copy_of(&self.queue)?
+        } else {
+            queue_of(*self.flows.allocator(), &self.flows)?
+        };
+        Ok(Overlay::over(self.config, &self.flows, queue))
     }
 
-    /// Another book that shows the same configuration and flows. It has no room for grants that
-    /// isn't made by [`Book::reserve`].
-    pub fn copy(&self) -> Result<Book, AllocError>
-        ensures config { IfOk result (λ copy. copy.config ≡ self.now.config) }
-        ensures flows { IfOk result (λ copy. copy.flows ≡ self.now.flows) }
+    /// The flows that the MAP of an overlay shows by pending grants, in order of SID, and its acknowledge time, where all
+    /// receivers have handed in what they heard before the progress. The overlay was made of this book, whose flows have
+    /// not changed since.
+    pub fn show(&self, overlay: &Overlay, progress: u64) -> Result<Shown, AllocError>
+        requires { overlay.now.before ≡ self.now.flows }
+        ensures pending { IfOk result (λ s. map (λ p. p.sid) s.pending.items ≡ map (λ f. f.sid)
+            (filter (is_shown overlay.now.config.pending overlay.now.flows) overlay.now.flows)) }
+        ensures ack { IfOk result
+            (λ s. s.ack ≡ ack_of overlay.now.config.pending progress overlay.now.flows) }
     {
-        Ok(Book {
-            config: self.config,
-            flows: self.flows.clone()?,
-            queue: copy_of(&self.queue, self.flows.len())?,
-            is_queued: self.is_queued,
-        })
+        overlay.show(&self.flows, progress)
+    }
+
+    /// Takes the data grants of a planned MAP in: the flows are those of the overlay then. The overlay was made of this
+    /// book, whose flows have not changed since.
+    pub fn take_in(&mut self, overlay: Overlay)
+        requires config { overlay.config ≡ self.old.config }
+        requires before { overlay.before ≡ self.old.flows }
+        ensures flows { self.new.flows ≡ overlay.flows }
+        ensures config { self.new.config ≡ self.old.config }
+    {
+        self.is_queued = overlay.put_into(&mut self.flows, &mut self.queue);
     }
 
     // The live flow with this SID.

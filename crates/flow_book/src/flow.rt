@@ -1,6 +1,6 @@
 //! One live flow: what it asked, and what its data grants come to.
 
-ghost use Rattle.std.specs.Prelude.{◌≡◌, ℕ, ◌+◌, ◌-◌, ◌<◌, ◌≤◌, map, length, slice_index_or, IsTrue};
+ghost use Rattle.std.specs.Prelude.{◌≡◌, ℕ, ◌+◌, ◌-◌, ◌<◌, ◌≤◌, ◌^◌, map, length, slice_index_or, IsTrue};
 ghost use Rattle.std.specs.Prelude.{◌↔◌, Option, None, Some, true, nat_lt, ◌&&◌, MatchOption, IfSome, option_map};
 ghost use Rattle.std.specs.Prelude.{option_copied, min, ◌++◌, ◌∷◌, []};
 ghost use Rattle.std.specs.List.{AllByRecursion};
@@ -8,17 +8,21 @@ ghost use Rattle.minislots.specs.declared.config.Config.{Config};
 ghost use Rattle.minislots.specs.Config.{IsLawful};
 ghost use Rattle.sched_calls.specs.FlowSpec.{rate_of, burst_of};
 ghost use Rattle.flow_book.specs.Flows.{granted, outstanding, with_grant};
-ghost use Rattle.flow_book.specs.Choice.{is_before, IsEligible, IsAmount, IsMost, KeepsWith};
+ghost use Rattle.flow_book.specs.Choice.{is_before, IsEligible, IsMost, KeepsWith};
 ghost use Rattle.flow_book.specs.Choice.{IsNextOf, HasStartedBy};
 ghost use Rattle.sched_calls.specs.FlowSpec.{takes_requests};
-ghost use Rattle.flow_book.specs.Bucket.{HaveStartedBy, StandsFor, most_of};
-ghost use Rattle.flow_book.specs.Entry.{live, room_in, IsSoundFlow, IsSoundBook, IsCopy, IsTurn, KnowsTurn, KeepsSums};
-ghost use Rattle.flow_book.specs.Entry.{IsRoom};
+ghost use Rattle.flow_book.specs.Bucket.{HaveStartedBy, StandsFor};
+ghost use Rattle.flow_book.specs.Entry.{live, room_in, IsSoundFlow, IsSoundBook, IsTurn, KnowsTurn, KeepsSums};
+ghost use Rattle.flow_book.specs.Entry.{asked_more};
+ghost use Rattle.flow_book.specs.Queue.{entry_of};
 ghost use Rattle.flow_book.specs.Book.{KeepsRoom, new_flow};
+ghost use Rattle.flow_book.specs.Batches.{since_of};
 ghost use Rattle.flow_book.specs.declared.flow.Flow.{Flow};
 
+use crate::batches::Batches;
 use crate::bucket::Bucket;
 use crate::granted::GrantList;
+use crate::queue::Waiting;
 use minislots::Checked;
 use sched_calls::FlowSpec;
 use std::alloc::AllocError;
@@ -52,7 +56,7 @@ pub(crate) struct Room {
 const TURNS: u128 = 1 << 65;
 
 // The SIDs of a turn.
-const SIDS: u128 = 1 << 16;
+pub(crate) const SIDS: u128 = 1 << 16;
 
 // The turns of all SIDs of a rank.
 const RANKS: u128 = TURNS * SIDS;
@@ -64,30 +68,16 @@ pub(crate) struct Flow {
     pub(crate) turn: u128,
     // The bytes of all requests.
     pub(crate) asked: u64,
+    // The batches of its requests.
+    batches: Batches,
     // The bytes of all data grants.
     granted: u64,
     // What the data grants leave under the rate ceiling.
-    bucket: Bucket,
+    pub(crate) bucket: Bucket,
     pub(crate) spec: FlowSpec,
     pub(crate) sid: u16,
     // The data grants, in order, for contracts alone.
     pub(crate) grants: GrantList,
-}
-
-impl Clone for Flow {
-    ghost is_clone = { λ f g. IsCopy f g };
-
-    fn clone(&self) -> Result<Flow, AllocError> {
-        Ok(Flow {
-            sid: self.sid,
-            spec: self.spec,
-            asked: self.asked,
-            granted: self.granted,
-            turn: self.turn,
-            bucket: self.bucket.again(),
-            grants: GrantList::with_room(&self.grants, &0),
-        })
-    }
 }
 
 impl Flow {
@@ -100,6 +90,7 @@ impl Flow {
             sid,
             spec,
             asked: 0,
+            batches: Batches::none(),
             granted: 0,
             turn: turn_of(spec.rank(), sid),
             bucket: Bucket::open(config, spec.rate(), spec.burst()),
@@ -114,6 +105,26 @@ impl Flow {
         ensures { result ≡ outstanding (live self.now) }
     {
         self.asked - self.granted
+    }
+
+    // The least minislot in which a request was heard of those of its batches that are not over, where so many of the
+    // bytes that it asked are outstanding.
+    pub(crate) fn since_with(&self, wants: u64) -> u64
+        ensures { result ≡ since_of self.now.batches (self.now.asked - wants) }
+    {
+        self.batches.since(self.asked.saturating_sub(wants))
+    }
+
+    // Adds bytes to what was asked, in a request that was heard at this minislot.
+    pub(crate) fn ask(&mut self, bytes: u32, heard: u64)
+        requires sum { self.old.granted ≡ granted (live self.old) }
+        requires fits { self.old.asked + bytes < 2 ^ 64 }
+        ensures { self.new ≡ asked_more bytes heard self.old }
+    {
+        self.batches = self
+            .batches
+            .with_request(self.asked, self.granted, bytes, heard);
+        self.asked += u64::from(bytes);
     }
 
     // Whether the flow waits for bytes.
@@ -182,37 +193,20 @@ impl Flow {
         self.bucket.has(start, wanted)
     }
 
-    // Whether the flow takes requests, and the ceiling is kept with so many bytes of them at this minislot.
-    pub(crate) fn may_take(&self, start: u64, wanted: u32) -> bool
-        requires { self.now.bucket.since ≤ start }
-        ensures { IsTrue result ↔ (takes_requests self.now.spec ≡ true) × (0 < wanted)
-            × (most_of self.now.bucket start wanted ≡ wanted) }
+    // Gives the flow the data grants that a MAP adds, and what the queue has of it with them.
+    pub(crate) fn take_over(&mut self, waiting: &Waiting, grants: GrantList)
+        requires { waiting.now.wants ≤ self.old.asked }
+        ensures { self.new ≡ record self.old {
+          turn = waiting.now.turn;
+          granted = self.old.asked - waiting.now.wants;
+          bucket = waiting.now.bucket;
+          grants = grants;
+        } }
     {
-        self.spec.takes_requests() && wanted > 0 && self.bucket.has(start, wanted)
-    }
-
-    // Grants the flow, which may be served, the most bytes that it may have. There is room for the grant.
-    pub(crate) fn serve(&mut self, config: &Checked, start: u64, room: Room) -> Served
-        requires sound { IsSoundFlow config.now (live self.old) }
-        requires sums { KeepsSums config.now self.old }
-        requires started { HaveStartedBy start self.old.grants.items }
-        requires room { IsRoom config.now room }
-        requires may { IsEligible config.now start room.slots (live self.old) }
-        requires space { 0 < (room_in self.old).grants }
-        ensures sid { result.sid ≡ self.old.sid }
-        ensures amount { IsAmount config.now (live self.old) start room.slots result.bytes }
-        ensures live { live self.new
-            ≡ with_grant (record { start = start; bytes = result.bytes }) (live self.old) }
-        ensures space { (room_in self.new).grants + 1 ≡ (room_in self.old).grants }
-        ensures sums { KeepsSums config.now self.new }
-        ensures within { granted (live self.new) ≤ self.new.asked }
-        ensures later { self.old.turn ≤ self.new.turn }
-    {
-        let limit = self.limit(config, room.bytes);
-        let bytes = self.bucket.take_most(start, limit);
-        self.note(start, bytes);
-        let sid = self.sid;
-        Served { sid, bytes }
+        self.turn = waiting.turn;
+        self.granted = self.asked - waiting.wants;
+        self.bucket = waiting.bucket.again();
+        self.grants = grants;
     }
 
     // Adds a data grant, for which there is room, of bytes that were asked. The grants start at or before
@@ -239,12 +233,11 @@ impl Flow {
             ≡ with_grant (record { start = start; bytes = bytes }) (live self.old) }
         ensures room { (room_in self.new).grants + 1 ≡ (room_in self.old).grants }
         ensures sums { (c : Config)
+            → (0 < self.old.asked → takes_requests self.old.spec ≡ true)
             → self.old.granted ≡ granted (live self.old) → KnowsTurn self.old
             → StandsFor c (rate_of self.old.spec) (burst_of self.old.spec) self.old.bucket
             (self.old.grants.items ++ record { start = start; bytes = bytes } ∷ [])
             → KeepsSums c self.new }
-        ensures later { KnowsTurn self.old → HaveStartedBy start self.old.grants.items
-            → self.old.turn ≤ self.new.turn }
     {
         self.granted += u64::from(bytes);
         self.turn = turn_after(self.turn, start);
@@ -277,7 +270,7 @@ pub(crate) fn first_eligible<'a>(
 // Gives each flow room for so many more grants.
 pub(crate) fn reserve_each(flows: &mut [Flow], grants: usize)
     ensures same { map live flows.new ≡ map live flows.old }
-    ensures turns { map (λ f. f.turn) flows.new ≡ map (λ f. f.turn) flows.old }
+    ensures entries { map entry_of flows.new ≡ map entry_of flows.old }
     ensures room { (k : ℕ) (d : Flow) → k < length flows.new
         → grants ≤ (room_in (slice_index_or flows.new k d)).grants }
     ensures kept { KeepsRoom (map room_in flows.old) (map room_in flows.new) }
@@ -304,7 +297,7 @@ fn turn_of(rank: u8, sid: u16) -> u128
 }
 
 // The turn of a flow that had this one, after a data grant that starts there: of the same rank and SID.
-fn turn_after(turn: u128, start: u64) -> u128
+pub(crate) fn turn_after(turn: u128, start: u64) -> u128
     ensures after { (rank sid : ℕ) (last : Option ℕ)
         → IsTurn rank last sid turn → IsTurn rank (Some start) sid result }
     ensures later { (rank sid : ℕ) (last : Option ℕ)

@@ -2,13 +2,21 @@
 //! of them a minislot is granted to.
 #![tactic(auto)]
 
+mod batches;
 mod book;
 mod bucket;
 mod flow;
+mod flow_list;
 mod granted;
+mod overlay;
 mod queue;
+mod shown;
+mod taking;
 
+pub use batches::Batches;
 pub use book::Book;
 pub use bucket::Bucket;
 pub use flow::{Grant, Served};
-pub use sched_calls::{FlowFault, FlowSpec, MAX_FLOWS, MAX_GRANTS};
+pub use overlay::Overlay;
+pub use sched_calls::{FlowFault, FlowSpec, MAX_GRANTS};
+pub use shown::{Pending, Shown};

@@ -2,30 +2,62 @@
 
 ghost use Rattle.std.specs.Prelude.{◌==◌, nat_lt, position, true, false, ◌+◌, ◌^◌, insert};
 ghost use Rattle.std.specs.Prelude.{ℕ, ◌≡◌, ◌≢◌, ◌<◌, ◌≤◌, List, remove, slice_index_or, map, length, OnOk, IfOk};
-ghost use Rattle.std.specs.Prelude.{IsSomeAnd, IfSome, MatchOption, slice_get};
+ghost use Rattle.std.specs.Prelude.{IfSome, MatchOption, Option, Some, min};
 ghost use Rattle.std.specs.List.{AllByRecursion, position_or_len};
 ghost use Rattle.minislots.specs.declared.config.Config.{Config};
+ghost use Rattle.minislots.specs.Config.{IsLawful};
 ghost use Rattle.flow_book.specs.declared.flow.Flow.{Flow};
 ghost use Rattle.flow_book.specs.Flows.{granted, outstanding};
-ghost use Rattle.flow_book.specs.Choice.{HasStartedBy, IsNext, NoneEligible};
-ghost use Rattle.flow_book.specs.Entry.{live, IsBook, IsRoom};
+ghost use Rattle.flow_book.specs.Choice.{NoneEligible};
+ghost use Rattle.flow_book.specs.Bucket.{most_of, HasOneMore};
+ghost use Rattle.flow_book.specs.Entry.{live, IsBook, IsRoom, IsTurn};
 ghost use Rattle.flow_book.specs.Sids.{AscendBy, put_in};
-ghost use Rattle.flow_book.specs.Queue.{IsAt, IsQueue, IsQueueAmong, IsMoved, AreSameBut};
-ghost use Rattle.flow_book.specs.Queue.{Stands, StandsBefore, moved_up, moved_down};
+ghost use Rattle.flow_book.specs.Queue.{IsQueue, IsQueueAmong, IsMoved, AreSameBut, moved_up, moved_down};
+ghost use Rattle.flow_book.specs.Queue.{HasStartedQueue, IsFirstInTurn};
 
-use crate::flow::{Flow, Room};
+use crate::bucket::Bucket;
+use crate::flow::{Flow, Room, SIDS, turn_after};
 use minislots::Checked;
 use std::alloc::{AllocError, Global};
 
-// So many that wait take 1,024 bytes: an allocator often finds no more than these soon.
-const FEW: usize = 32;
-
-// A flow that waits for bytes: its turn, the bytes that it waits for, and its place among the flows.
+// A flow that waits for bytes: its turn, the bytes that it waits for, its place among the flows, and what its ceiling
+// leaves to it.
 #[derive(Clone, Copy)]
 pub(crate) struct Waiting {
     pub(crate) turn: u128,
     pub(crate) wants: u64,
     pub(crate) place: usize,
+    pub(crate) bucket: Bucket,
+}
+
+impl Waiting {
+    // The SID of the flow.
+    pub(crate) fn sid(&self) -> u16
+        ensures { (rank : ℕ) (last : Option ℕ) (sid : ℕ) → IsTurn rank last sid self.now.turn → result ≡ sid }
+    {
+        (self.turn % SIDS) as u16
+    }
+
+    // Grants the flow, from this minislot on, the most bytes that it may have of so many at most, and answers how many
+    // they are.
+    pub(crate) fn serve(&mut self, start: u64, most: u64) -> u32
+        requires since { self.old.bucket.since ≤ start }
+        requires most { most < 2 ^ 32 }
+        ensures bytes { result ≡ most_of self.old.bucket start (min self.old.wants most) }
+        ensures wants { self.new.wants + result ≡ self.old.wants }
+        ensures place { self.new.place ≡ self.old.place }
+        ensures bucket { HasOneMore self.old.bucket self.new.bucket start result }
+        ensures turn { (rank : ℕ) (last : Option ℕ) (sid : ℕ)
+            → IsTurn rank last sid self.old.turn → IsTurn rank (Some start) sid self.new.turn }
+        ensures later { (rank : ℕ) (last : Option ℕ) (sid : ℕ) → IsTurn rank last sid self.old.turn
+            → IfSome last (λ m. m ≤ start) → self.old.turn ≤ self.new.turn }
+    {
+        let limit = self.wants.min(most) as u32;
+        let bytes = self.bucket.take_most(start, limit);
+        self.wants -= u64::from(bytes);
+        self.turn = turn_after(self.turn, start);
+        bytes
+    }
 }
 
 // The place in the queue of the first of a later turn, or its end.
@@ -61,47 +93,42 @@ pub(crate) fn queue_of(alloc: Global, flows: &[Flow]) -> Result<Vec<Waiting>, Al
 {
     let mut queue = Vec::with_capacity(alloc, flows.len())?;
     for place in 0..flows.len() {
-        let flow = &flows[place];
-        let wants = flow.outstanding();
-        if wants > 0 {
-            let turn = flow.turn;
-            put_in_turn(&mut queue, Waiting { turn, wants, place })?;
+        let waiting = waiting_of(&flows[place], place);
+        if waiting.wants > 0 {
+            put_in_turn(&mut queue, waiting)?;
         }
     }
     Ok(queue)
 }
 
-// The place of the flow that is served first at this minislot, of those in the queue that may be served, and where it
-// stands in the queue.
+// Where in the queue the flow stands that is served first at this minislot, of those that may be served.
 pub(crate) fn first_in_turn(
     queue: &[Waiting],
-    flows: &[Flow],
     config: &Checked,
     start: u64,
     room: Room,
-) -> Option<(usize, usize)>
-    requires book { IsBook config.now flows.now }
-    requires queue { IsQueue flows.now queue.now }
+) -> Option<usize>
     requires room { IsRoom config.now room }
-    requires started { AllByRecursion (HasStartedBy start) (map live flows.now) }
-    ensures next { MatchOption result (NoneEligible config.now (map live flows.now) start room.slots)
-        (λ found. IsSomeAnd (slice_get (map live flows.now) found.0)
-        (IsNext config.now (map live flows.now) start room.slots)) }
-    ensures stands { IfSome result (λ found. Stands queue.now found.1 found.0) }
+    requires started { (items : List Flow) × HasStartedQueue config.now items queue.now start }
+    ensures next { (items : List Flow) → HasStartedQueue config.now items queue.now start
+        → MatchOption result (NoneEligible config.now (map live items) start room.slots)
+        (IsFirstInTurn config.now items queue.now start room.slots) }
+    ensures within { IfSome result (λ index. index < length queue.now) }
+    ensures lawful { IsLawful config.now }
 {
     let quantum = u64::from(config.quantum());
     for index in 0..queue.len() {
         let waiting = &queue[index];
         let wanted = waiting.wants.min(quantum);
-        if wanted <= room.bytes && flows[waiting.place].may_take(start, wanted as u32) {
-            return Some((waiting.place, index));
+        if wanted > 0 && wanted <= room.bytes && waiting.bucket.has(start, wanted as u32) {
+            return Some(index);
         }
     }
     None
 }
 
 // Moves the one at this place in the queue, of a turn no earlier than before, behind those of turns no later.
-fn move_back(queue: &mut [Waiting], index: usize, waiting: Waiting)
+pub(crate) fn move_back(queue: &mut [Waiting], index: usize, waiting: Waiting)
     requires within { index < length queue.old }
     requires before { (k : ℕ) (d : Waiting)
         → k < index → (slice_index_or queue.old k d).turn ≤ waiting.turn }
@@ -143,11 +170,9 @@ fn put_again(queue: &mut Vec<Waiting>, flows: &[Flow], place: usize) -> Result<(
         × AreSameBut place before flows.now × IsQueue before queue.old.items }
     ensures { OnOk result (IsQueue flows.now queue.new.items) }
 {
-    let flow = &flows[place];
-    let wants = flow.outstanding();
-    if wants > 0 {
-        let turn = flow.turn;
-        move_to_turn(queue, Waiting { turn, wants, place })?;
+    let waiting = waiting_of(&flows[place], place);
+    if waiting.wants > 0 {
+        move_to_turn(queue, waiting)?;
         return Ok(());
     }
     take_out(queue, place);
@@ -161,11 +186,13 @@ pub(crate) fn waiting_of(flow: &Flow, place: usize) -> Waiting
     ensures turn { result.turn ≡ flow.now.turn }
     ensures wants { result.wants ≡ outstanding (live flow.now) }
     ensures place { result.place ≡ place }
+    ensures bucket { result.bucket ≡ flow.now.bucket }
 {
     Waiting {
         turn: flow.turn,
         wants: flow.outstanding(),
         place,
+        bucket: flow.bucket.again(),
     }
 }
 
@@ -231,16 +258,11 @@ pub(crate) fn make_room(queue: &mut Vec<Waiting>, flows: usize) -> Result<(), Al
     queue.reserve(flows.saturating_sub(queue.len()).saturating_add(1))
 }
 
-// A copy of the queue, with room for so many flows, or for a few where fewer wait.
-pub(crate) fn copy_of(queue: &Vec<Waiting>, flows: usize) -> Result<Vec<Waiting>, AllocError>
+// A copy of the queue.
+pub(crate) fn copy_of(queue: &Vec<Waiting>) -> Result<Vec<Waiting>, AllocError>
     ensures { IfOk result (λ copy. copy.items ≡ queue.now.items) }
 {
-    let room = if queue.len() < FEW {
-        flows.min(FEW)
-    } else {
-        flows
-    };
-    let mut copy = Vec::with_capacity(*queue.allocator(), room)?;
+    let mut copy = Vec::with_capacity(*queue.allocator(), queue.len())?;
     copy.extend_from_slice(queue)?;
     Ok(copy)
 }
@@ -259,26 +281,4 @@ pub(crate) fn follow(
     ensures { result ≡ true → IsQueue flows.now queue.new.items }
 {
     is_queued && put_again(queue, flows, place).is_ok()
-}
-
-// The same, of one that stood here in the queue, at a turn no later.
-pub(crate) fn follow_from(
-    queue: &mut Vec<Waiting>,
-    is_queued: bool,
-    flows: &[Flow],
-    waiting: Waiting,
-    index: usize,
-) -> bool
-    requires book { (c : Config) × IsBook c flows.now }
-    requires at { IsAt flows.now waiting }
-    requires queue { is_queued ≡ true → (before : List Flow)
-        × AreSameBut waiting.place before flows.now × IsQueue before queue.old.items }
-    requires stands { is_queued ≡ true → StandsBefore queue.old.items index waiting }
-    ensures { result ≡ true → IsQueue flows.now queue.new.items }
-{
-    if is_queued && waiting.wants > 0 {
-        move_back(queue, index, waiting);
-        return true;
-    }
-    follow(queue, is_queued, flows, waiting.place)
 }

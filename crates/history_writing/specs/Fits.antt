@@ -86,6 +86,9 @@ pub record ConfigFits (c : Config) : Type 0 where
   pub channel : c.channel < 2 ^ 8
   pub ucd_count : c.ucd_count < 2 ^ 8
   pub phy : c.phy < 2 ^ 8
+  pub flows : c.flows < 2 ^ 32
+  pub pending : c.pending < 2 ^ 32
+  pub periodic : c.periodic < 2 ^ 32
 
 -- the numbers of a placement fit their types, where there is one
 abbrev pub PlacementFits : Option Placement → Type 0

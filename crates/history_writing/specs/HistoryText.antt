@@ -34,24 +34,30 @@ descriptors_data d = object (
     member (codes "long") (profile_data d.long) (member (codes "short") (profile_data d.short) (
     member (codes "symbols") (count d.symbols) (unsolicited_member d))))
 
+-- a number that stands only where it is another than the one of a missing member, and others behind it
+abbrev pub optional_member : ℕ → List ℕ → ℕ → Members → Members
+optional_member missing key n behind = if n == missing then behind else member key (count n) behind
+
 -- the fields of a configuration between its bursts and the overhead, and others behind them
 abbrev pub front_members : Config → Members → Members
 front_members c behind =
     member (codes "calls") (count c.calls) (
     member (codes "channel") (count c.channel) (member (codes "cycle") (count c.cycle) (
     member (codes "data_end") (count c.data_end) (member (codes "data_start") (count c.data_start) (
+    optional_member 64 (codes "flows") c.flows (
     member (codes "frame") (count c.frame) (member (codes "grant_cap") (count c.grant_cap) (
-    member (codes "lead") (count c.lead) behind)))))))
+    member (codes "lead") (count c.lead) behind))))))))
 
 -- the fields behind the overhead
 abbrev pub back_members : Config → Members
 back_members c =
+    optional_member 64 (codes "pending") c.pending (optional_member 40 (codes "periodic") c.periodic (
     member (codes "phy") (count c.phy) (member (codes "poll_slots") (count c.poll_slots) (
     member (codes "quantum") (count c.quantum) (
     member (codes "ranging_end") (count c.ranging_end) (member (codes "ranging_start") (count c.ranging_start) (
     member (codes "receivers") (count c.receivers) (member (codes "req_slots") (count c.req_slots) (
     member (codes "short_max") (count c.short_max) (member (codes "start") (count c.start) (
-    member (codes "ticks") (count c.ticks) (member (codes "ucd_count") (count c.ucd_count) no_members))))))))))
+    member (codes "ticks") (count c.ticks) (member (codes "ucd_count") (count c.ucd_count) no_members))))))))))))
 
 -- a configuration with these bursts
 abbrev pub members_with : Config → Bursts → Members
@@ -59,7 +65,7 @@ members_with c (Uniform bytes_per_slot overhead) = member (codes "bytes_per_slot
     (front_members c (member (codes "overhead") (count overhead) (back_members c)))
 members_with c (Described d) = member (codes "bursts") (descriptors_data d) (front_members c (back_members c))
 
--- a configuration: a member for each field
+-- a configuration: a member for each field, but for a limit that is the one of a missing member
 unfoldable pub config_data : Config → Data
 config_data c = object (members_with c c.bursts)
 

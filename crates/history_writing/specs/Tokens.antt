@@ -1,5 +1,5 @@
 -- What is written of a JSON value, token by token.
-use Rattle.std.specs.Prelude.{ℕ, List, [], ◌∷◌, ◌++◌, decimal, codes, if◌then◌else◌}
+use Rattle.std.specs.Prelude.{ℕ, ◌==◌, List, [], ◌∷◌, ◌++◌, decimal, codes, if◌then◌else◌}
 use Rattle.std.specs.Borrow.{Bor}
 use Rattle.json.specs.Token.{Token}
 use Rattle.json.specs.Tree.{json_tokens}
@@ -16,6 +16,10 @@ tokens_of d = json_tokens (outline d)
 -- a whole number under a title
 abbrev pub numbered : List ℕ → ℕ → List Token
 numbered title n = Token.key title ∷ Token.number (decimal n) ∷ []
+
+-- the same, where it is another than the one of a missing member
+abbrev pub optional_tokens : ℕ → List ℕ → ℕ → List Token
+optional_tokens missing title n = if n == missing then [] else numbered title n
 
 -- whole numbers, each under the key of its place
 abbrev pub counted : List (Bor (List ℕ)) → List ℕ → List Token
@@ -42,13 +46,14 @@ abbrev pub front_tokens : Config → List Token
 front_tokens c = joined (
     numbered (codes "calls") c.calls ∷ numbered (codes "channel") c.channel ∷ numbered (codes "cycle") c.cycle
     ∷ numbered (codes "data_end") c.data_end ∷ numbered (codes "data_start") c.data_start
-    ∷ numbered (codes "frame") c.frame ∷ numbered (codes "grant_cap") c.grant_cap
+    ∷ optional_tokens 64 (codes "flows") c.flows ∷ numbered (codes "frame") c.frame ∷ numbered (codes "grant_cap") c.grant_cap
     ∷ numbered (codes "lead") c.lead ∷ [])
 
 -- the fields behind the overhead
 abbrev pub back_tokens : Config → List Token
 back_tokens c = joined (
-    numbered (codes "phy") c.phy ∷ numbered (codes "poll_slots") c.poll_slots ∷ numbered (codes "quantum") c.quantum
+    optional_tokens 64 (codes "pending") c.pending ∷ optional_tokens 40 (codes "periodic") c.periodic
+    ∷ numbered (codes "phy") c.phy ∷ numbered (codes "poll_slots") c.poll_slots ∷ numbered (codes "quantum") c.quantum
     ∷ numbered (codes "ranging_end") c.ranging_end ∷ numbered (codes "ranging_start") c.ranging_start
     ∷ numbered (codes "receivers") c.receivers ∷ numbered (codes "req_slots") c.req_slots
     ∷ numbered (codes "short_max") c.short_max ∷ numbered (codes "start") c.start

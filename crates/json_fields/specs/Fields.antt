@@ -98,6 +98,18 @@ or_number missing (Some found) there = there
 unfoldable pub u8_or : ℕ → List ℕ → Data → Option ℕ
 u8_or missing key d = or_number missing (get key d) (u8_at key d)
 
+-- the same, where it fits 32 bits
+unfoldable pub u32_or : ℕ → List ℕ → Data → Option ℕ
+u32_or missing key d = or_number missing (get key d) (u32_at key d)
+
+-- the most live flows, pending grants of a MAP, and grants and polls of an interval: 64, 64 and 40 where they are missing
+unfoldable pub limits_of : Data → Option (ℕ × ℕ × ℕ)
+limits_of d = do
+  flows ← u32_or 64 (codes "flows") d
+  pending ← u32_or 64 (codes "pending") d
+  periodic ← u32_or 40 (codes "periodic") d
+  Some (flows, pending, periodic)
+
 -- the burst descriptor that an object stands for
 unfoldable pub profile_of : Data → Option Profile
 profile_of d = do
@@ -156,7 +168,7 @@ unfoldable pub bursts_of : Data → Option Bursts
 bursts_of d = or_uniform (get (codes "bursts") d) d
 
 -- the configuration that an object stands for: it has every field but that of the physical layer, which is 0 where it
--- is missing, and either of the two forms of its bursts
+-- is missing, and those of `limits_of`, and either of the two forms of its bursts
 unfoldable pub config_of : Data → Option Config
 config_of d = do
   slots ← slots_of d
@@ -166,6 +178,7 @@ config_of d = do
   ranging ← windows_of (codes "ranging_start") (codes "ranging_end") d
   backoff ← windows_of (codes "data_start") (codes "data_end") d
   phy ← u8_or 0 (codes "phy") d
+  limits ← limits_of d
   Some (record {
     ticks = slots.0;
     bursts = bursts;
@@ -187,4 +200,7 @@ config_of d = do
     channel = counts.3;
     ucd_count = counts.4;
     phy = phy;
+    flows = limits.0;
+    pending = limits.1;
+    periodic = limits.2;
   })

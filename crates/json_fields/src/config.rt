@@ -2,10 +2,10 @@
 
 ghost use Rattle.std.specs.Prelude.{◌≡◌, codes, option_and_then};
 ghost use Rattle.serde_json.specs.Find.{get};
-ghost use Rattle.json_fields.specs.Fields.{slots_of, sizes_of, counts_of, windows_of, config_of};
+ghost use Rattle.json_fields.specs.Fields.{slots_of, sizes_of, counts_of, windows_of, limits_of, config_of};
 
 use super::bursts::bursts_of;
-use super::field::{member, number_u8, number_u8_or, number_u32, number_u64};
+use super::field::{member, number_u8, number_u8_or, number_u32, number_u32_or, number_u64};
 use super::tree::Tree;
 use minislots::Config;
 
@@ -74,8 +74,21 @@ fn windows_of<T: Tree>(value: &T, first: &str, last: &str) -> Option<(u8, u8)>
     Some((number_u8(value, first)?, number_u8(value, last)?))
 }
 
+// The most live flows, pending grants of a MAP, and grants and polls of an interval.
+#[tactic(auto, unfolding(crate::specs::Fields::limits_of))]
+fn limits_of<T: Tree>(value: &T) -> Option<(u32, u32, u32)>
+    ensures { result ≡ limits_of (T.shown value.now) }
+{
+    Some((
+        number_u32_or(value, "flows", 64)?,
+        number_u32_or(value, "pending", 64)?,
+        number_u32_or(value, "periodic", 40)?,
+    ))
+}
+
 /// The configuration that an object stands for: each field is there, and fits its type. The physical layer is 0 where
-/// it is missing. Where there are burst descriptors, nobody reads the bytes of a minislot and the overhead.
+/// it is missing, and there are at most 64 flows, 64 pending grants and 40 periodic grants where those are. Where there
+/// are burst descriptors, nobody reads the bytes of a minislot and the overhead.
 #[tactic(auto, unfolding(crate::specs::Fields::config_of))]
 pub fn config_of<T: Tree>(value: &T) -> Option<Config>
     ensures { result ≡ config_of (T.shown value.now) }
@@ -87,6 +100,7 @@ pub fn config_of<T: Tree>(value: &T) -> Option<Config>
     let (ranging_start, ranging_end) = windows_of(value, "ranging_start", "ranging_end")?;
     let (data_start, data_end) = windows_of(value, "data_start", "data_end")?;
     let phy = number_u8_or(value, "phy", 0)?;
+    let (flows, pending, periodic) = limits_of(value)?;
     Some(Config {
         ticks,
         bursts,
@@ -108,6 +122,9 @@ pub fn config_of<T: Tree>(value: &T) -> Option<Config>
         channel,
         ucd_count,
         phy,
+        flows,
+        pending,
+        periodic,
     })
 }
 

@@ -2,7 +2,7 @@
 
 ghost use Rattle.std.specs.Prelude.{◌≡◌, option_map};
 ghost use Rattle.serde_json.specs.Find.{get};
-ghost use Rattle.json_fields.specs.Fields.{number_at, u8_at, u16_at, u32_at, u64_at, u8_or, text_at};
+ghost use Rattle.json_fields.specs.Fields.{number_at, u8_at, u16_at, u32_at, u64_at, u8_or, u32_or, text_at};
 
 use super::tree::Tree;
 
@@ -63,6 +63,17 @@ pub fn number_u32<T: Tree>(value: &T, key: &str) -> Option<u32>
     ensures { result ≡ u32_at key.now (T.shown value.now) }
 {
     u32::try_from(number(value, key)?).ok()
+}
+
+/// The number under this key, where it fits, and this one where the key is missing.
+#[tactic(auto, unfolding(crate::specs::Fields::u32_or))]
+pub fn number_u32_or<T: Tree>(value: &T, key: &str, missing: u32) -> Option<u32>
+    ensures { result ≡ u32_or missing key.now (T.shown value.now) }
+{
+    if member(value, key).is_none() {
+        return Some(missing);
+    }
+    number_u32(value, key)
 }
 
 /// The number under this key.

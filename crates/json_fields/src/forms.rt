@@ -122,7 +122,7 @@ pub static BURSTS: [Form; 1] = [(
     ],
 )];
 
-/// The one form of a configuration. Its first twenty members are those that can be wrong, by the numbers of their
+/// The one form of a configuration. All its members but the last two can be wrong, and stand by the numbers of their
 /// faults.
 pub static CONFIGS: [Form; 1] = [(
     "",
@@ -147,6 +147,9 @@ pub static CONFIGS: [Form; 1] = [(
         ("data_end", U8, MUST),
         ("phy", U8, Missing::Number(0)),
         ("bursts", Holds::Object(Sort::Bursts), Missing::Nothing),
+        ("flows", U32, Missing::Number(64)),
+        ("pending", U32, Missing::Number(64)),
+        ("periodic", U32, Missing::Number(40)),
         ("channel", U8, MUST),
         ("ucd_count", U8, MUST),
     ],

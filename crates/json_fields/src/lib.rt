@@ -10,6 +10,8 @@ mod plain;
 mod tree;
 
 pub use config::{config_in, config_of};
-pub use field::{member, number_u8, number_u8_or, number_u16, number_u32, number_u64, text};
+pub use field::{
+    member, number_u8, number_u8_or, number_u16, number_u32, number_u32_or, number_u64, text,
+};
 pub use plain::{Plain, Stop, read_plain};
 pub use tree::Tree;

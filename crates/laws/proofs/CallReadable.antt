@@ -1,11 +1,12 @@
 -- The JSON values of configurations and calls are read again in their texts: their numbers fit 64 bits, their names are
 -- ASCII, and their keys are in order.
 use Rattle.std.proofs.Common.{◌≡◌, ℕ, ◌<◌, ◌≤◌, ◌^◌, List, [], ◌∷◌, map, IsUtf8, refl}
-use Rattle.std.proofs.Common.{true, inl, inr, arith}
+use Rattle.std.proofs.Common.{◌==◌, true, inl, inr, arith}
 use Rattle.std.specs.Prelude.{codes}
 use Rattle.std.specs.List.{AllByRecursion}
+use Rattle.std.proofs.lemmas.Bool.{cases_Bool}
 use Rattle.json.proofs.Printed.Utf8.{are_ascii, IsUtf8-are_ascii}
-use Rattle.serde_json.specs.Data.{Members, object, member}
+use Rattle.serde_json.specs.Data.{Members, object, no_members, member}
 use Rattle.serde_json.specs.View.{items_of}
 use Rattle.minislots.specs.declared.bursts.Bursts.{Bursts}
 use Rattle.minislots.specs.declared.bursts.Bursts.TheVariants.{Uniform, Described}
@@ -21,9 +22,9 @@ use Rattle.sched_calls.specs.declared.call.Call.TheVariants.{Admit, Remove, Ask,
 use Rattle.sched_calls.specs.declared.call.Call.TheVariants.{Reserve, Header}
 use Rattle.history_writing.specs.Json.{count, flow_data, call_data}
 use Rattle.history_writing.specs.HistoryText.{profile_data, descriptors_data, front_members, back_members}
-use Rattle.history_writing.specs.HistoryText.{members_with, config_data}
+use Rattle.history_writing.specs.HistoryText.{optional_member, members_with, config_data}
 use Rattle.history_writing.specs.Fits.{FlowFits, CallFits, ProfileFits, BurstsFit, ConfigFits}
-use Rattle.laws.proofs.Readable.{IsReadable, AreReadable, MembersReadable}
+use Rattle.laws.proofs.Readable.{IsReadable, AreReadable, MembersReadable, put_each}
 use Rattle.laws.proofs.ReadBack.{unsolicited_stands}
 
 -- narrower numbers
@@ -233,6 +234,14 @@ descriptors_readable d fits =
           rw stands (refl, (refl, long, (refl, short, (refl, symbols, (refl, unsolicited, tt)))))
     ]
 
+-- a number that may be left out
+optional_readable : (missing : ℕ) (key : List ℕ) (n : ℕ) (behind : Members) → are_ascii key ≡ true → n < 2 ^ 64
+    → MembersReadable behind → MembersReadable (optional_member missing key n behind)
+optional_readable missing key n behind ascii fits readable = elim (cases_Bool (n == missing)) [
+  | inl same ↦ rw same readable
+  | inr other ↦ rw other (ascii, fits, readable)
+]
+
 front_readable : (c : Config) (behind : Members) → ConfigFits c → MembersReadable behind
     → MembersReadable (front_members c behind)
 front_readable c behind fits readable = (
@@ -250,7 +259,7 @@ front_readable c behind fits readable = (
         (
           refl,
           of_byte c.data_start fits.data_start,
-          (
+          optional_readable 64 (codes "flows") c.flows _ refl (of_word c.flows fits.flows) (
             refl,
             of_word c.frame fits.frame,
             (
@@ -266,37 +275,41 @@ front_readable c behind fits readable = (
 )
 
 back_readable : (c : Config) → ConfigFits c → MembersReadable (back_members c)
-back_readable c fits = (
-  refl,
-  of_byte c.phy fits.phy,
-  (
-    refl,
-    of_word c.poll_slots fits.poll_slots,
-    (
+back_readable c fits =
+    optional_readable 64 (codes "pending") c.pending _ refl (of_word c.pending fits.pending)
+    (optional_readable 40 (codes "periodic") c.periodic _ refl (of_word c.periodic fits.periodic) (
       refl,
-      of_word c.quantum fits.quantum,
+      of_byte c.phy fits.phy,
       (
         refl,
-        of_byte c.ranging_end fits.ranging_end,
+        of_word c.poll_slots fits.poll_slots,
         (
           refl,
-          of_byte c.ranging_start fits.ranging_start,
+          of_word c.quantum fits.quantum,
           (
             refl,
-            of_byte c.receivers fits.receivers,
+            of_byte c.ranging_end fits.ranging_end,
             (
               refl,
-              of_word c.req_slots fits.req_slots,
+              of_byte c.ranging_start fits.ranging_start,
               (
                 refl,
-                of_word c.short_max fits.short_max,
+                of_byte c.receivers fits.receivers,
                 (
                   refl,
-                  fits.start,
+                  of_word c.req_slots fits.req_slots,
                   (
                     refl,
-                    of_word c.ticks fits.ticks,
-                    (refl, of_byte c.ucd_count fits.ucd_count, tt),
+                    of_word c.short_max fits.short_max,
+                    (
+                      refl,
+                      fits.start,
+                      (
+                        refl,
+                        of_word c.ticks fits.ticks,
+                        (refl, of_byte c.ucd_count fits.ucd_count, tt),
+                      ),
+                    ),
                   ),
                 ),
               ),
@@ -304,23 +317,72 @@ back_readable c fits = (
           ),
         ),
       ),
-    ),
-  ),
-)
+    ))
+
+-- the members are in the order of their keys, whichever are left out
+in_order : (c : Config) (bursts : Bursts) → put_each (members_with c bursts) no_members ≡ members_with c bursts
+in_order c (Uniform bytes_per_slot overhead) =
+    elim (cases_Bool (c.flows == 64)) [
+      | inl a ↦ elim (cases_Bool (c.pending == 64)) [
+        | inl b ↦ elim (cases_Bool (c.periodic == 40)) [
+          | inl d ↦ rw (a, b, d) refl
+          | inr d ↦ rw (a, b, d) refl
+        ]
+        | inr b ↦ elim (cases_Bool (c.periodic == 40)) [
+          | inl d ↦ rw (a, b, d) refl
+          | inr d ↦ rw (a, b, d) refl
+        ]
+      ]
+      | inr a ↦ elim (cases_Bool (c.pending == 64)) [
+        | inl b ↦ elim (cases_Bool (c.periodic == 40)) [
+          | inl d ↦ rw (a, b, d) refl
+          | inr d ↦ rw (a, b, d) refl
+        ]
+        | inr b ↦ elim (cases_Bool (c.periodic == 40)) [
+          | inl d ↦ rw (a, b, d) refl
+          | inr d ↦ rw (a, b, d) refl
+        ]
+      ]
+    ]
+in_order c (Described these) =
+    elim (cases_Bool (c.flows == 64)) [
+      | inl a ↦ elim (cases_Bool (c.pending == 64)) [
+        | inl b ↦ elim (cases_Bool (c.periodic == 40)) [
+          | inl d ↦ rw (a, b, d) refl
+          | inr d ↦ rw (a, b, d) refl
+        ]
+        | inr b ↦ elim (cases_Bool (c.periodic == 40)) [
+          | inl d ↦ rw (a, b, d) refl
+          | inr d ↦ rw (a, b, d) refl
+        ]
+      ]
+      | inr a ↦ elim (cases_Bool (c.pending == 64)) [
+        | inl b ↦ elim (cases_Bool (c.periodic == 40)) [
+          | inl d ↦ rw (a, b, d) refl
+          | inr d ↦ rw (a, b, d) refl
+        ]
+        | inr b ↦ elim (cases_Bool (c.periodic == 40)) [
+          | inl d ↦ rw (a, b, d) refl
+          | inr d ↦ rw (a, b, d) refl
+        ]
+      ]
+    ]
 
 members_readable : (c : Config) (bursts : Bursts) → ConfigFits c → BurstsFit bursts
     → IsReadable (object (members_with c bursts))
 members_readable c (Uniform bytes_per_slot overhead) fits small =
     let behind = member (codes "overhead") (count overhead) (back_members c) in (
-      refl,
+      in_order c (Uniform bytes_per_slot overhead),
       (
         refl,
         of_word bytes_per_slot small.0,
         front_readable c behind fits (refl, of_word overhead small.1, back_readable c fits),
       ),
     )
-members_readable c (Described d) fits small =
-    (refl, (refl, descriptors_readable d small, front_readable c (back_members c) fits (back_readable c fits)))
+members_readable c (Described d) fits small = (
+  in_order c (Described d),
+  (refl, descriptors_readable d small, front_readable c (back_members c) fits (back_readable c fits)),
+)
 
 -- a configuration is read again in its text
 pub config_readable : (c : Config) → ConfigFits c → IsReadable (config_data c)

@@ -1,8 +1,9 @@
 -- How many bytes the line of a configuration and of an entry has at most.
 use Rattle.std.proofs.Common.{◌≡◌, ℕ, ◌+◌, ◌*◌, ◌≤◌, List, [], ◌∷◌, length, map, Option, None, Some, refl, arith}
-use Rattle.std.proofs.Common.{inl, inr}
+use Rattle.std.proofs.Common.{◌==◌, inl, inr}
 use Rattle.std.specs.Prelude.{codes}
-use Rattle.serde_json.specs.Data.{object}
+use Rattle.std.proofs.lemmas.Bool.{cases_Bool}
+use Rattle.serde_json.specs.Data.{Members, object, member}
 use Rattle.serde_json.specs.View.{items_of}
 use Rattle.hex.specs.Hex.{lower_digits}
 use Rattle.hex.proofs.HexLemmas.{length-encode_with}
@@ -29,8 +30,9 @@ use Rattle.sched_lines.specs.Line.{refusal_number, refusal_value}
 use Rattle.history_writing.specs.Json.{count, counts, flow_data, call_data, plain_data, placed_data, map_data}
 use Rattle.history_writing.specs.Json.{refused_data, reply_data}
 use Rattle.history_writing.specs.HistoryText.{profile_data, descriptors_data, members_with, config_data, entry_data}
+use Rattle.history_writing.specs.HistoryText.{front_members, back_members}
 use Rattle.laws.proofs.ReadBack.{unsolicited_stands}
-use Rattle.laws.proofs.TextRoom.{room, items_room}
+use Rattle.laws.proofs.TextRoom.{room, items_room, members_room}
 
 -- a placement has at most 512 starts, and a MAP at most 240 elements, with a byte count for each
 abbrev pub IsShort : Reply → Type 0
@@ -118,9 +120,34 @@ room-descriptors d =
       | inr stands ↦ rw stands (omega (arith, long, short, unsolicited))
     ]
 
+room-front : (c : Config) (behind : Members) → members_room (front_members c behind) ≤ members_room behind + 1000
+room-front c behind = elim (cases_Bool (c.flows == 64)) [
+  | inl same ↦ rw same (omega arith)
+  | inr other ↦ rw other (omega arith)
+]
+
+room-back : (c : Config) → members_room (back_members c) ≤ 1500
+room-back c = elim (cases_Bool (c.pending == 64)) [
+  | inl a ↦ elim (cases_Bool (c.periodic == 40)) [
+    | inl b ↦ rw (a, b) (omega arith)
+    | inr b ↦ rw (a, b) (omega arith)
+  ]
+  | inr a ↦ elim (cases_Bool (c.periodic == 40)) [
+    | inl b ↦ rw (a, b) (omega arith)
+    | inr b ↦ rw (a, b) (omega arith)
+  ]
+]
+
 room-with : (c : Config) (bursts : Bursts) → room (object (members_with c bursts)) ≤ 5000
-room-with c (Uniform bytes_per_slot overhead) = omega arith
-room-with c (Described d) = let descriptors = room-descriptors d in omega (arith, descriptors)
+room-with c (Uniform bytes_per_slot overhead) =
+    let front = room-front c (member (codes "overhead") (count overhead) (back_members c)) in
+    let back = room-back c in
+    omega (arith, front, back)
+room-with c (Described d) =
+    let front = room-front c (back_members c) in
+    let back = room-back c in
+    let descriptors = room-descriptors d in
+    omega (arith, front, back, descriptors)
 
 -- and for a configuration
 pub room-config : (c : Config) → room (config_data c) ≤ 5000

@@ -1,7 +1,9 @@
 -- The JSON value of a history nests no deeper than five levels.
 use Rattle.std.proofs.Common.{◌≡◌, ℕ, ◌≤◌, max, List, [], ◌∷◌, map, Option, Some, None, refl, ap, arith}
-use Rattle.std.proofs.Common.{inl, inr}
-use Rattle.serde_json.specs.Data.{object, depth, items_depth}
+use Rattle.std.proofs.Common.{◌==◌, inl, inr}
+use Rattle.std.specs.Prelude.{codes}
+use Rattle.std.proofs.lemmas.Bool.{cases_Bool}
+use Rattle.serde_json.specs.Data.{Members, object, member, depth, items_depth, members_depth}
 use Rattle.serde_json.specs.View.{items_of}
 use Rattle.minislots.specs.declared.bursts.Bursts.{Bursts}
 use Rattle.minislots.specs.declared.bursts.Bursts.TheVariants.{Uniform, Described}
@@ -24,7 +26,7 @@ use Rattle.history_writing.specs.Json.{refused_data}
 use Rattle.history_writing.specs.Json.{reply_data}
 use Rattle.sched_lines.specs.Line.{refusal_number, refusal_value}
 use Rattle.history_writing.specs.HistoryText.{profile_data, descriptors_data, members_with, config_data, entry_data}
-use Rattle.history_writing.specs.HistoryText.{entries_data, history_data}
+use Rattle.history_writing.specs.HistoryText.{front_members, back_members, entries_data, history_data}
 use Rattle.laws.proofs.ReadBack.{unsolicited_stands}
 
 depth-numbers : (ns : List ℕ) → items_depth (items_of (map count ns)) ≡ 0
@@ -103,9 +105,34 @@ depth-descriptors d =
       | inr stands ↦ rw stands (omega (arith, long, short, unsolicited))
     ]
 
+depth-front : (c : Config) (behind : Members) → members_depth (front_members c behind) ≤ members_depth behind
+depth-front c behind = elim (cases_Bool (c.flows == 64)) [
+  | inl same ↦ rw same (omega arith)
+  | inr other ↦ rw other (omega arith)
+]
+
+depth-back : (c : Config) → members_depth (back_members c) ≡ 0
+depth-back c = elim (cases_Bool (c.pending == 64)) [
+  | inl a ↦ elim (cases_Bool (c.periodic == 40)) [
+    | inl b ↦ rw (a, b) refl
+    | inr b ↦ rw (a, b) refl
+  ]
+  | inr a ↦ elim (cases_Bool (c.periodic == 40)) [
+    | inl b ↦ rw (a, b) refl
+    | inr b ↦ rw (a, b) refl
+  ]
+]
+
 depth-with : (c : Config) (bursts : Bursts) → depth (object (members_with c bursts)) ≤ 3
-depth-with c (Uniform bytes_per_slot overhead) = omega arith
-depth-with c (Described d) = let descriptors = depth-descriptors d in omega (arith, descriptors)
+depth-with c (Uniform bytes_per_slot overhead) =
+    let front = depth-front c (member (codes "overhead") (count overhead) (back_members c)) in
+    let back = depth-back c in
+    omega (arith, front, back)
+depth-with c (Described d) =
+    let front = depth-front c (back_members c) in
+    let back = depth-back c in
+    let descriptors = depth-descriptors d in
+    omega (arith, front, back, descriptors)
 
 -- a configuration nests no deeper than three levels
 pub depth-config : (c : Config) → depth (config_data c) ≤ 3

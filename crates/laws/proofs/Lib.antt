@@ -3,6 +3,7 @@ pub mod Readable
 pub mod Spelled
 pub mod RefusalNumbers
 pub mod RefusalFound
+mod Standing
 pub mod ReadBack
 pub mod HistoryAgain
 pub mod CallReadable
@@ -27,3 +28,10 @@ pub mod FoundAgain
 mod RowsLawful
 pub mod Agreement
 pub mod Judging
+pub mod Since
+pub mod WaitingLives
+pub mod HeldBack
+pub mod LateFlows
+pub mod HeldBackMaps
+pub mod Waits
+mod RowsWaiting

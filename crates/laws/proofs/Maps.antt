@@ -13,6 +13,7 @@ use Rattle.sched_calls.specs.declared.opportunity.Header.{Header}
 use Rattle.map_build.specs.declared.purpose.Allocation.{Allocation}
 use Rattle.map_build.specs.declared.purpose.Purpose.{Purpose}
 use Rattle.map_build.specs.declared.purpose.Purpose.TheVariants.{Poll, UnsolicitedGrant, Offer, DataGrant, Idle}
+use Rattle.flow_book.proofs.InLine.{ack-most}
 use Rattle.map_build.specs.EachAfter.{EachAfter}
 use Rattle.sched_calls.specs.Header.{header_of}
 use Rattle.map_build.specs.Purpose.{bytes_in}
@@ -25,7 +26,7 @@ use Rattle.sched_calls.specs.declared.reply.Reply.{Reply}
 use Rattle.sched_calls.specs.declared.reply.Reply.TheVariants as replies
 use Rattle.sched_calls.specs.declared.reply.Entry.{Entry}
 use Rattle.sched_history.specs.Latest.{Found, latest}
-use Rattle.sched_history.specs.Time.{next_after}
+use Rattle.sched_history.specs.Time.{next_after, ack_after}
 use Rattle.sched_history.specs.Reserves.{header_by, header_after}
 use Rattle.sched_history.specs.History.{IsLegal, IsNextMap, demand_after}
 use Rattle.sched_history.proofs.facts.Orderly.{next_orderly, flows_of-in_range, spots_in-in_range}
@@ -153,6 +154,7 @@ next_fits c h m lawful config_fits legal fits next =
       ack = omega (
         arith,
         ap (λ (m : FrameMap). m.ack) next.2,
+        ack-most c.pending (ack_after c h) (flows_after d.start next.0 d.flows),
         ack_after-most c h legal,
         next_after-most c lawful h legal,
       );

@@ -1,12 +1,13 @@
 -- A history is written as a script is read: what stands there of a configuration, a flow or a call stands for it again,
 -- and each configuration with its calls has a script.
-use Rattle.std.proofs.Common.{◌≡◌, ◌⊎◌, ℕ, ◌+◌, ◌<◌, ◌^◌, true, List, [], ◌∷◌, map, Some, Ok, inl, inr, refl, sym, ap}
-use Rattle.std.proofs.Common.{arith}
+use Rattle.std.proofs.Common.{◌≡◌, ◌⊎◌, ℕ, ◌+◌, ◌<◌, ◌^◌, ◌==◌, true, List, [], ◌∷◌, map, None, Some, Ok, inl, inr}
+use Rattle.std.proofs.Common.{refl, sym, ap, ◌∙◌, arith}
 use Rattle.std.specs.Prelude.{codes}
 use Rattle.std.specs.List.{AllByRecursion}
 use Rattle.std.proofs.lemmas.Bool.{lt-ltb, cases_Bool}
 use Rattle.std.proofs.lemmas.Bool.Decides.{nat_tests}
 use Rattle.serde_json.specs.Data.{Data, array, object, no_members, member}
+use Rattle.serde_json.specs.Find.{get, get_member}
 use Rattle.serde_json.specs.View.{items_of}
 use Rattle.minislots.specs.declared.bursts.Bursts.{Bursts}
 use Rattle.minislots.specs.declared.bursts.Bursts.TheVariants.{Uniform, Described}
@@ -22,15 +23,17 @@ use Rattle.sched_calls.specs.declared.call.Call.TheVariants.{Admit, Remove, Ask,
 use Rattle.sched_calls.specs.declared.call.Call.TheVariants.{Reserve, Header}
 use Rattle.json_fields.specs.Fields.{below, number_at, u8_at, u16_at, u32_at, u64_at, text_at, slots_of, sizes_of}
 use Rattle.json_fields.specs.Fields.{counts_of, windows_of, u8_or, profile_of, profile_at, descriptors_of, uniform_of}
-use Rattle.json_fields.specs.Fields.{bursts_of, config_of}
+use Rattle.json_fields.specs.Fields.{bursts_of, u32_or, limits_of, config_of}
 use Rattle.call_reading.specs.Calls.{unsolicited_of, polled_of, best_effort_of, flow_of, admit_call, remove_call}
 use Rattle.call_reading.specs.Calls.{amount_of, ask_call, heard_call, build_call, skip_call, status_call, usage_of}
 use Rattle.call_reading.specs.Calls.{reserve_call, header_call, call_of}
 use Rattle.script_reading.specs.Script.{calls_of, script_of}
-use Rattle.history_writing.specs.Json.{flow_data, call_data}
+use Rattle.history_writing.specs.Json.{count, flow_data, call_data}
 use Rattle.history_writing.specs.HistoryText.{is_same_profile, profile_data, unsolicited_member, descriptors_data}
-use Rattle.history_writing.specs.HistoryText.{front_members, back_members, members_with, config_data}
+use Rattle.history_writing.specs.HistoryText.{optional_member, members_with, config_data}
 use Rattle.history_writing.specs.Fits.{FlowFits, CallFits, ProfileFits, BurstsFit, ConfigFits}
+use Rattle.laws.proofs.Standing.{passes_optional, first_members, middle_members, last_members, standing, always_stands}
+use Rattle.laws.proofs.Standing.{found_there, flows_alone, pending_alone, periodic_alone}
 
 -- a number that fits
 pub below-fits : (limit n : ℕ) → n < limit → below limit n ≡ Some n
@@ -125,13 +128,56 @@ descriptors_of-data d fits =
       | inr stands ↦ rw stands (rw (profile_of-data d.unsolicited fits.3) refl)
     ])))
 
+-- a number that always stands is found
+found : (c : Config) (b : Bursts) (key : List ℕ) (n : ℕ) → always_stands key ≡ true
+    → get_member key (standing c) ≡ Some (count n) → number_at key (object (members_with c b)) ≡ Some n
+unfolding number_at
+found c b key n stands there = rw (found_there c b key stands ∙ there) refl
+
+found_byte : (c : Config) (b : Bursts) (key : List ℕ) (n : ℕ) → always_stands key ≡ true
+    → get_member key (standing c) ≡ Some (count n) → n < 2 ^ 8 → u8_at key (object (members_with c b)) ≡ Some n
+unfolding u8_at
+found_byte c b key n stands there fits = rw (found c b key n stands there) (below-fits (2 ^ 8) n fits)
+
+found_word : (c : Config) (b : Bursts) (key : List ℕ) (n : ℕ) → always_stands key ≡ true
+    → get_member key (standing c) ≡ Some (count n) → n < 2 ^ 32 → u32_at key (object (members_with c b)) ≡ Some n
+unfolding u32_at
+found_word c b key n stands there fits = rw (found c b key n stands there) (below-fits (2 ^ 32) n fits)
+
+found_long : (c : Config) (b : Bursts) (key : List ℕ) (n : ℕ) → always_stands key ≡ true
+    → get_member key (standing c) ≡ Some (count n) → n < 2 ^ 64 → u64_at key (object (members_with c b)) ≡ Some n
+unfolding u64_at
+found_long c b key n stands there fits = rw (found c b key n stands there) (below-fits (2 ^ 64) n fits)
+
 -- bursts are read back
 bursts_of-data : (c : Config) (bursts : Bursts) → BurstsFit bursts
     → bursts_of (object (members_with c bursts)) ≡ Some bursts
 unfolding bursts_of uniform_of u32_at number_at
 bursts_of-data c (Uniform bytes_per_slot overhead) fits =
-    rw (below-fits (2 ^ 32) bytes_per_slot fits.0) (rw (below-fits (2 ^ 32) overhead fits.1) refl)
+    let none : get_member (codes "bursts") (members_with c (Uniform bytes_per_slot overhead)) ≡ None =
+    passes_optional (codes "bursts") (codes "flows") 64 c.flows _ refl
+    ∙ passes_optional (codes "bursts") (codes "pending") 64 c.pending _ refl
+    ∙ passes_optional (codes "bursts") (codes "periodic") 40 c.periodic _ refl in
+    let spent : get_member (codes "overhead") (members_with c (Uniform bytes_per_slot overhead))
+    ≡ Some (count overhead) = passes_optional (codes "overhead") (codes "flows") 64 c.flows _ refl in
+    rw (none, spent) (
+    rw (below-fits (2 ^ 32) bytes_per_slot fits.0) (rw (below-fits (2 ^ 32) overhead fits.1) refl))
 bursts_of-data c (Described d) fits = rw (descriptors_of-data d fits) refl
+
+-- a limit is read back: where it is left out it is the one of a missing member
+optional_of-data : (missing : ℕ) (key : List ℕ) (n : ℕ) (d : Data) → n < 2 ^ 32
+    → get key d ≡ get_member key (optional_member missing key n no_members)
+    → get_member key (member key (count n) no_members) ≡ Some (count n) → u32_or missing key d ≡ Some n
+unfolding u32_or u32_at number_at
+optional_of-data missing key n d fits is there = elim (cases_Bool (n == missing)) [
+  | inl same ↦
+      let none : get key d ≡ None = is ∙ rw same refl in
+      let as_missing : missing ≡ n = grind (arith, nat_tests) in
+      rw none (ap Some as_missing)
+  | inr other ↦
+      let some : get key d ≡ Some (count n) = is ∙ rw other there in
+      rw some (rw (below-fits (2 ^ 32) n fits) refl)
+]
 
 -- what stands there beside the bursts is that of the configuration
 abbrev HasOthers : Config → Data → Type 0
@@ -142,43 +188,50 @@ HasOthers c d = (slots_of d ≡ Some (c.ticks, c.frame, c.cycle))
     × (windows_of (codes "data_start") (codes "data_end") d ≡ Some (c.data_start, c.data_end))
     × (u8_or 0 (codes "phy") d ≡ Some c.phy)
 
-has_others : (c : Config) → ConfigFits c → HasOthers c (object (front_members c (back_members c)))
-unfolding slots_of sizes_of counts_of windows_of u8_or u8_at u32_at u64_at number_at
-has_others c fits = (
-  rw (below-fits (2 ^ 32) c.ticks fits.ticks) (
-      rw (below-fits (2 ^ 32) c.frame fits.frame) (
-      rw (below-fits (2 ^ 32) c.cycle fits.cycle) refl)),
-  rw (below-fits (2 ^ 32) c.req_slots fits.req_slots) (
-      rw (below-fits (2 ^ 32) c.poll_slots fits.poll_slots) (
-      rw (below-fits (2 ^ 32) c.lead fits.lead) (
-      rw (below-fits (2 ^ 32) c.short_max fits.short_max) (
-      rw (below-fits (2 ^ 32) c.quantum fits.quantum) (
-      rw (below-fits (2 ^ 32) c.grant_cap fits.grant_cap) refl))))),
-  rw (below-fits (2 ^ 8) c.receivers fits.receivers) (
-      rw (below-fits (2 ^ 32) c.calls fits.calls) (
-      rw (below-fits (2 ^ 64) c.start fits.start) (
-      rw (below-fits (2 ^ 8) c.channel fits.channel) (
-      rw (below-fits (2 ^ 8) c.ucd_count fits.ucd_count) refl)))),
-  rw (below-fits (2 ^ 8) c.ranging_start fits.ranging_start) (
-      rw (below-fits (2 ^ 8) c.ranging_end fits.ranging_end) refl),
-  rw (below-fits (2 ^ 8) c.data_start fits.data_start) (
-      rw (below-fits (2 ^ 8) c.data_end fits.data_end) refl),
-  rw (below-fits (2 ^ 8) c.phy fits.phy) refl,
-)
+has_others : (c : Config) (b : Bursts) → ConfigFits c → HasOthers c (object (members_with c b))
+unfolding slots_of sizes_of counts_of windows_of u8_or first_members middle_members last_members
+has_others c b fits =
+    let byte = found_byte c b in
+    let word = found_word c b in
+    let phy = found_there c b (codes "phy") refl in (
+      rw (word (codes "ticks") c.ticks refl refl fits.ticks) (
+          rw (word (codes "frame") c.frame refl refl fits.frame) (
+          rw (word (codes "cycle") c.cycle refl refl fits.cycle) refl)),
+      rw (word (codes "req_slots") c.req_slots refl refl fits.req_slots) (
+          rw (word (codes "poll_slots") c.poll_slots refl refl fits.poll_slots) (
+          rw (word (codes "lead") c.lead refl refl fits.lead) (
+          rw (word (codes "short_max") c.short_max refl refl fits.short_max) (
+          rw (word (codes "quantum") c.quantum refl refl fits.quantum) (
+          rw (word (codes "grant_cap") c.grant_cap refl refl fits.grant_cap) refl))))),
+      rw (byte (codes "receivers") c.receivers refl refl fits.receivers) (
+          rw (word (codes "calls") c.calls refl refl fits.calls) (
+          rw (found_long c b (codes "start") c.start refl refl fits.start) (
+          rw (byte (codes "channel") c.channel refl refl fits.channel) (
+          rw (byte (codes "ucd_count") c.ucd_count refl refl fits.ucd_count) refl)))),
+      rw (byte (codes "ranging_start") c.ranging_start refl refl fits.ranging_start) (
+          rw (byte (codes "ranging_end") c.ranging_end refl refl fits.ranging_end) refl),
+      rw (byte (codes "data_start") c.data_start refl refl fits.data_start) (
+          rw (byte (codes "data_end") c.data_end refl refl fits.data_end) refl),
+      rw (phy, byte (codes "phy") c.phy refl refl fits.phy) refl,
+    )
 
--- whatever its bursts are
-has_others_with : (c : Config) (bursts : Bursts) → ConfigFits c → HasOthers c (object (members_with c bursts))
-unfolding slots_of sizes_of counts_of windows_of u8_or u8_at u32_at u64_at number_at
-has_others_with c (Uniform bytes_per_slot overhead) fits = has_others c fits
-has_others_with c (Described d) fits = has_others c fits
+-- the limits are read back
+limits_of-data : (c : Config) (b : Bursts) → ConfigFits c
+    → limits_of (object (members_with c b)) ≡ Some (c.flows, c.pending, c.periodic)
+unfolding limits_of
+limits_of-data c b fits =
+    let d = object (members_with c b) in
+    rw (optional_of-data 64 (codes "flows") c.flows d fits.flows (flows_alone c b) refl) (
+    rw (optional_of-data 64 (codes "pending") c.pending d fits.pending (pending_alone c b) refl) (
+    rw (optional_of-data 40 (codes "periodic") c.periodic d fits.periodic (periodic_alone c b) refl) refl))
 
 -- a configuration is read back
 pub config_of-data : (c : Config) → ConfigFits c → config_of (config_data c) ≡ Some c
 unfolding config_of config_data
 config_of-data c fits =
-    let others = has_others_with c c.bursts fits in
+    let others = has_others c c.bursts fits in
     rw others.0 (rw (bursts_of-data c c.bursts fits.bursts) (
-    rw others.1 (rw others.2 (rw others.3 (rw others.4 (rw others.5 refl))))))
+    rw others.1 (rw others.2 (rw others.3 (rw others.4 (rw others.5 (rw (limits_of-data c c.bursts fits) refl)))))))
 
 -- calls are read back, from any number on
 pub calls_of-data : (n : ℕ) (calls : List Call) → AllByRecursion CallFits calls

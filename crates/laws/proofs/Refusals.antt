@@ -6,9 +6,7 @@ use Rattle.minislots.specs.declared.config.Config.{Config}
 use Rattle.sched_calls.specs.declared.spec.FlowFault.{FlowFault}
 use Rattle.sched_calls.specs.declared.spec.FlowFault.TheVariants.{Size, IntervalNotWhole, IntervalNotFrames}
 use Rattle.sched_calls.specs.declared.spec.FlowFault.TheVariants.{IntervalNotInCycle, Priority, Burst, Grants}
-use Rattle.sched_calls.specs.declared.TheConstants.{MAX_FLOWS}
 use Rattle.sched_calls.specs.FlowSpec.{is_periodic, grants_of, first_fault}
-use Rattle.sched_calls.specs.declared.TheConstants.{MAX_PERIODIC_GRANTS}
 use Rattle.sched_calls.specs.declared.call.TheConstants.{MAX_RESERVES}
 use Rattle.sched_calls.specs.declared.call.Call.{Call}
 use Rattle.sched_calls.specs.declared.call.Call.TheVariants as calls
@@ -77,8 +75,8 @@ module _ (c : Config) (h : List Entry) (next-small : next_after c h < 2 ^ 64)
       refused (bad_sid sid) BadSid _ refusal is tt (λ is.
       refused (is_live sid h) SidLive _ refusal is tt (λ is.
       faulty (first_fault c spec) _ refusal is (λ is.
-      refused (nat_le MAX_FLOWS (length (flows_of c h))) FlowsFull _ refusal is tt (λ is.
-      refused (is_periodic spec && nat_lt MAX_PERIODIC_GRANTS (periodic_grants c h + grants_of spec)) PeriodicFull _
+      refused (nat_le c.flows (length (flows_of c h))) FlowsFull _ refusal is tt (λ is.
+      refused (is_periodic spec && nat_lt c.periodic (periodic_grants c h + grants_of spec)) PeriodicFull _
       refusal is tt (no_more refusal)))))
   refusal_fits (calls.Remove sid) refusal is = unknown sid _ refusal is (no_more refusal)
   refusal_fits (calls.Ask receiver sid amount heard) refusal is =

@@ -28,6 +28,9 @@ base_fits = record {
   channel = omega arith;
   ucd_count = omega arith;
   phy = omega arith;
+  flows = omega arith;
+  pending = omega arith;
+  periodic = omega arith;
 }
 
 -- it is legal under a lawful configuration

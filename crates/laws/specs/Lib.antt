@@ -5,3 +5,4 @@ pub mod CutJournal
 pub mod ResumedJournal
 pub mod Agree
 pub mod Judged
+pub mod Waiting

@@ -13,7 +13,7 @@ use Rattle.live_command.specs.declared.field.Usage.{Usage}
 use Rattle.live_command.specs.declared.field.Usage.TheVariants as usages
 use Rattle.live_command.specs.declared.field.Field.TheVariants as field
 use Rattle.live_command.specs.Difference.{numbers, first_of, profile_numbers, described_numbers, uniform_numbers}
-use Rattle.live_command.specs.Difference.{bursts_numbers, numbers_between, differences_of}
+use Rattle.live_command.specs.Difference.{bursts_numbers, numbers_between, numbers_behind, differences_of}
 
 chosen : (same : Bool) (d : Difference) (x y : Option Difference)
     → (if same then option_or x y else Some d) ≡ option_or (if same then x else Some d) y
@@ -103,14 +103,14 @@ same_record : (a b : Config) → a.ticks ≡ b.ticks → a.bursts ≡ b.bursts �
     → a.quantum ≡ b.quantum → a.grant_cap ≡ b.grant_cap → a.receivers ≡ b.receivers → a.calls ≡ b.calls
     → a.start ≡ b.start → a.ranging_start ≡ b.ranging_start → a.ranging_end ≡ b.ranging_end
     → a.data_start ≡ b.data_start → a.data_end ≡ b.data_end → a.channel ≡ b.channel → a.ucd_count ≡ b.ucd_count
-    → a.phy ≡ b.phy → b ≡ a
+    → a.phy ≡ b.phy → a.flows ≡ b.flows → a.pending ≡ b.pending → a.periodic ≡ b.periodic → b ≡ a
 same_record a b ticks of_bursts frame cycle req_slots poll_slots lead short_max quantum grant_cap receivers calls
-    start ranging_start ranging_end data_start data_end channel ucd_count phy = search rules
+    start ranging_start ranging_end data_start data_end channel ucd_count phy flows pending periodic = search rules
 
--- so where no number between the bursts differs
-same_between : (a b : Config) → a.ticks ≡ b.ticks → a.bursts ≡ b.bursts → are_alike (numbers_between a b) ≡ true
-    → b ≡ a
-same_between a b ticks of_bursts between =
+-- so where no number between the bursts, and none behind them differs
+same_others : (a b : Config) → a.ticks ≡ b.ticks → a.bursts ≡ b.bursts → are_alike (numbers_between a b) ≡ true
+    → are_alike (numbers_behind a b) ≡ true → b ≡ a
+same_others a b ticks of_bursts between behind =
     let frame = number_at a.frame b.frame _ between in
     let cycle = number_at a.cycle b.cycle _ frame.1 in
     let req_slots = number_at a.req_slots b.req_slots _ cycle.1 in
@@ -129,9 +129,12 @@ same_between a b ticks of_bursts between =
     let channel = number_at a.channel b.channel _ data_end.1 in
     let ucd_count = number_at a.ucd_count b.ucd_count _ channel.1 in
     let phy = number_at a.phy b.phy _ ucd_count.1 in
+    let flows = number_at a.flows b.flows _ behind in
+    let pending = number_at a.pending b.pending _ flows.1 in
+    let periodic = number_at a.periodic b.periodic _ pending.1 in
     same_record a b ticks of_bursts frame.0 cycle.0 req_slots.0 poll_slots.0 lead.0 short_max.0 quantum.0
     grant_cap.0 receivers.0 calls.0 start.0 ranging_start.0 ranging_end.0 data_start.0 data_end.0 channel.0
-    ucd_count.0 phy.0
+    ucd_count.0 phy.0 flows.0 pending.0 periodic.0
 
 -- and so are configurations
 pub same_config : (a b : Config) → first_of (differences_of a b) ≡ None → b ≡ a
@@ -140,12 +143,13 @@ same_config a b none =
     let uniform = uniform_numbers a.bursts b.bursts in
     let between = numbers_between a b in
     let described = bursts_numbers a.bursts b.bursts in
-    let fourth = parts ((first ++ uniform) ++ between) described none in
+    let fifth = parts (((first ++ uniform) ++ between) ++ described) (numbers_behind a b) none in
+    let fourth = parts ((first ++ uniform) ++ between) described fifth.0 in
     let third = parts (first ++ uniform) between fourth.0 in
     let second = parts first uniform third.0 in
     let of_ticks = number_at a.ticks b.ticks true (alike first second.0) in
     let of_bursts = same_bursts a.bursts b.bursts second.1 fourth.1 in
-    same_between a b of_ticks.0 (sym of_bursts) (alike between third.1)
+    same_others a b of_ticks.0 (sym of_bursts) (alike between third.1) (alike (numbers_behind a b) fifth.1)
 
 is_same : (n : ℕ) → (n == n) ≡ true
 is_same n = search rules
@@ -205,9 +209,12 @@ none_of_same c =
     ) refl in
     let first : List Difference = numbers field.Ticks c.ticks c.ticks ∷ [] in
     let uniform = uniform_numbers c.bursts c.bursts in
+    let described = bursts_numbers c.bursts c.bursts in
     let front = same_numbers first uniform (rw (is_same c.ticks) refl) bursts.0 in
-    same_numbers ((first ++ uniform) ++ numbers_between c c) (bursts_numbers c.bursts c.bursts)
-    (same_numbers (first ++ uniform) (numbers_between c c) front between) bursts.1
+    same_numbers (((first ++ uniform) ++ numbers_between c c) ++ described) (numbers_behind c c)
+    (same_numbers ((first ++ uniform) ++ numbers_between c c) described
+    (same_numbers (first ++ uniform) (numbers_between c c) front between) bursts.1)
+    (rw (is_same c.flows, is_same c.pending, is_same c.periodic) refl)
 
 -- so where there is one, the configurations differ
 pub differ : (a b : Config) (r : Option Difference) → r ≡ first_of (differences_of a b) → IfSome r (λ d. b ≢ a)
@@ -218,14 +225,16 @@ differ a b (Some d) is = λ same.
     cc
 
 -- the first difference, part by part
-pub first_by_parts : (a b : Config) → first_of (differences_of a b) ≡ option_or (option_or (option_or
+pub first_by_parts : (a b : Config) → first_of (differences_of a b) ≡ option_or (option_or (option_or (option_or
     (first_of (numbers field.Ticks a.ticks b.ticks ∷ [])) (first_of (uniform_numbers a.bursts b.bursts)))
-    (first_of (numbers_between a b))) (first_of (bursts_numbers a.bursts b.bursts))
+    (first_of (numbers_between a b))) (first_of (bursts_numbers a.bursts b.bursts))) (first_of (numbers_behind a b))
 first_by_parts a b =
     let first : List Difference = numbers field.Ticks a.ticks b.ticks ∷ [] in
     let uniform = uniform_numbers a.bursts b.bursts in
     let between = numbers_between a b in
     let described = bursts_numbers a.bursts b.bursts in
-    first_of_append ((first ++ uniform) ++ between) described
+    let behind = numbers_behind a b in
+    first_of_append (((first ++ uniform) ++ between) ++ described) behind
+    ∙ ap (λ x. option_or x (first_of behind)) (first_of_append ((first ++ uniform) ++ between) described
     ∙ ap (λ x. option_or x (first_of described)) (first_of_append (first ++ uniform) between
-    ∙ ap (λ x. option_or x (first_of between)) (first_of_append first uniform))
+    ∙ ap (λ x. option_or x (first_of between)) (first_of_append first uniform)))

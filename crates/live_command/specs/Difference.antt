@@ -67,7 +67,12 @@ numbers_between a b = numbers field.Frame a.frame b.frame ∷ numbers field.Cycl
     ∷ numbers field.DataEnd a.data_end b.data_end ∷ numbers field.Channel a.channel b.channel
     ∷ numbers field.UcdCount a.ucd_count b.ucd_count ∷ numbers field.Phy a.phy b.phy ∷ []
 
+-- the fields behind the bursts
+abbrev pub numbers_behind : Config → Config → List Difference
+numbers_behind a b = numbers field.Flows a.flows b.flows ∷ numbers field.Pending a.pending b.pending
+    ∷ numbers field.Periodic a.periodic b.periodic ∷ []
+
 -- the fields of a journal's configuration and of one that is handed in
 abbrev pub differences_of : Config → Config → List Difference
-differences_of a b = (((numbers field.Ticks a.ticks b.ticks ∷ []) ++ uniform_numbers a.bursts b.bursts)
-    ++ numbers_between a b) ++ bursts_numbers a.bursts b.bursts
+differences_of a b = ((((numbers field.Ticks a.ticks b.ticks ∷ []) ++ uniform_numbers a.bursts b.bursts)
+    ++ numbers_between a b) ++ bursts_numbers a.bursts b.bursts) ++ numbers_behind a b

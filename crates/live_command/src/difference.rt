@@ -2,7 +2,8 @@
 
 ghost use Rattle.std.specs.Prelude.{◌≡◌, ◌≢◌, None, IfSome};
 ghost use Rattle.live_command.specs.Difference.{numbers, first_of, profile_numbers, described_numbers};
-ghost use Rattle.live_command.specs.Difference.{uniform_numbers, bursts_numbers, numbers_between, differences_of};
+ghost use Rattle.live_command.specs.Difference.{uniform_numbers, bursts_numbers, numbers_between, numbers_behind};
+ghost use Rattle.live_command.specs.Difference.{differences_of};
 
 use crate::field::{Field, Member, Usage};
 use minislots::{Bursts, Config, Descriptors, Profile};
@@ -181,6 +182,17 @@ fn first_between(journal: &Config, given: &Config) -> Option<Difference>
     ])
 }
 
+// The first of those behind the bursts.
+fn first_behind(journal: &Config, given: &Config) -> Option<Difference>
+    ensures { result ≡ first_of (numbers_behind journal.now given.now) }
+{
+    first_of(&[
+        small(Field::Flows, journal.flows, given.flows),
+        small(Field::Pending, journal.pending, given.pending),
+        small(Field::Periodic, journal.periodic, given.periodic),
+    ])
+}
+
 /// The first field in which the configuration of a journal and one that is handed in differ, in the order in which the
 /// fields are documented.
 #[tactic(auto, using(crate::proofs::Differing::same_config))]
@@ -193,4 +205,5 @@ pub fn first_difference(journal: &Config, given: &Config) -> Option<Difference>
         .or(first_uniform(&journal.bursts, &given.bursts))
         .or(first_between(journal, given))
         .or(first_in_bursts(&journal.bursts, &given.bursts))
+        .or(first_behind(journal, given))
 }

@@ -84,6 +84,9 @@ pub enum Field {
     Symbols,
     /// A number of a profile, in the bursts.
     Profile(Usage, Member),
+    Flows,
+    Pending,
+    Periodic,
 }
 
 impl Field {
@@ -115,6 +118,9 @@ impl Field {
             Field::Phy => "phy",
             Field::Symbols => "bursts.symbols",
             Field::Bursts | Field::Profile(_, _) => "bursts",
+            Field::Flows => "flows",
+            Field::Pending => "pending",
+            Field::Periodic => "periodic",
         }
     }
 }

@@ -7,11 +7,10 @@ use Rattle.minislots.specs.Config.{IsLawful, HasBounds}
 use Rattle.minislots.proofs.Bounds.{bounds_of}
 use Rattle.map_codec.specs.declared.element.iuc.TheConstants.{REQUEST}
 use Rattle.flow_book.specs.Flows.{LiveFlow}
-use Rattle.flow_book.specs.Book.{IsLive, room_of}
 use Rattle.flow_book.specs.Choice.{HasStartedBy}
 use Rattle.periodic.specs.declared.placement.Spot.{Spot}
 use Rattle.map_build.specs.declared.draft.Draft.{Draft}
-use Rattle.map_build.specs.declared.TheConstants.{MAX_DATA_GRANTS, MAX_WAITING}
+use Rattle.map_build.specs.declared.TheConstants.{MAX_WAITING}
 use Rattle.map_build.specs.Plan.{Demand}
 use Rattle.map_build.specs.Spots.{IsInFrame, AreInFrame}
 use Rattle.map_build.specs.Draft.{Puts}
@@ -26,18 +25,18 @@ begun-taken c (s ∷ spots) offset le each = (
   begun-taken c spots offset le each.1,
 )
 
--- the book of a draft, before anything stands in the frame
+-- the flows of a draft, before anything stands in the frame
 pub record IsBegun (c : Config) (flows : List LiveFlow) (start : ℕ) (d : Draft) : Type 0 where
   pub lawful : IsLawful c
   pub bounded : start ≤ 2 ^ 61
-  pub config : d.book.config ≡ c
-  pub flows_are : d.book.flows ≡ flows
+  pub config : d.overlay.config ≡ c
+  pub before : d.overlay.before ≡ flows
+  pub flows_are : d.overlay.flows ≡ flows
   pub starts : d.start ≡ start
   pub offset : d.offset ≡ 0
   pub grants : d.grants ≡ 0
   pub elements : d.elements.items ≡ []
   pub bytes_of : d.bytes.items ≡ []
-  pub room : (sid : ℕ) → IsLive sid d.book.flows → MAX_DATA_GRANTS ≤ room_of sid d.book.rooms
   pub marks : length d.met ≡ MAX_WAITING
   pub unmarked : (place : ℕ) → slice_get d.met place ≡ Some true → ⊥
   pub started : AllByRecursion (HasStartedBy start) flows
@@ -61,11 +60,12 @@ pub HasPlan-begun : (c : Config) (d : Demand) (old new : Draft) → IsBegun c d.
     Puts 16383 REQUEST c.req_slots 0 old new → AreInFrame c d.spots → HasPlan c d [] new
 HasPlan-begun c d old new begun puts are =
     let bounds : HasBounds c = bounds_of c begun.lawful in
-    let same : new.book.config ≡ c = ap (λ b. b.config) puts.book ∙ begun.config in
+    let same : new.overlay.config ≡ c = ap (λ b. b.config) puts.overlay ∙ begun.config in
     let at : new.offset ≡ c.req_slots = omega (arith, puts.offset, begun.offset) in
-    let flows_are : new.book.flows ≡ d.flows = ap (λ b. b.flows) puts.book ∙ begun.flows_are in
+    let flows_are : new.overlay.flows ≡ d.flows = ap (λ b. b.flows) puts.overlay ∙ begun.flows_are in
     record {
       config = same;
+      before = ap (λ b. b.before) puts.overlay ∙ begun.before;
       starts = puts.start ∙ begun.starts;
       ready = record {
         lawful = rw same begun.lawful;
@@ -73,7 +73,6 @@ HasPlan-begun c d old new begun puts are =
         inside = omega (arith, at, bounds.requests_fit, ap (λ k. k.frame) same);
         marks = ap (λ (met : List Bool). length met) puts.met ∙ begun.marks;
         few = omega (arith, puts.grants, begun.grants);
-        room = λ sid live. rw puts.book (omega (arith, begun.room sid (rw puts.book at live)));
         started = rw (flows_are, at, puts.start, begun.starts) (started-flows d.start (d.start + c.req_slots) d.flows
             (omega arith) begun.started);
       };

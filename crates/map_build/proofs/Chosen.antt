@@ -93,30 +93,30 @@ waiting-some (w ∷ waiting) zero o all is = let same : w ≡ o = cc in subst (�
 waiting-some (w ∷ waiting) (suc place) o all is = waiting-some waiting place o all.1 is
 
 module _ (flows : List LiveFlow) (spots : List Spot) (waiting : List Opportunity) (plan : List Allocation) (d : Draft)
-    (after : IsAfter flows plan d) (behind : 0 < room_at d.book.config spots d.offset) where
+    (after : IsAfter flows plan d) (behind : 0 < room_at d.overlay.config spots d.offset) where
   -- the first opportunity that waits and fits
   pub offer-stands : (place : ℕ) (o : Opportunity) → 0 < o.slots →
-      IsFirstToMeet waiting plan (room_at d.book.config spots d.offset) place o →
-      Stands d.book.config (demand_at flows spots waiting d.start) plan
+      IsFirstToMeet waiting plan (room_at d.overlay.config spots d.offset) place o →
+      Stands d.overlay.config (demand_at flows spots waiting d.start) plan
       (record { offset = d.offset; slots = o.slots; purpose = Offer place o.usage })
   offer-stands place o some first =
       record { some_slots = some; follows = after.ends; purpose = first; first = (behind, tt) }
 
-  grant-cond : (sid bytes : ℕ) (o : Option LiveFlow) → HasBursts d.book.config.bursts → d.grants < most_grants waiting →
-      NoneToMeet waiting plan (room_at d.book.config spots d.offset) →
+  grant-cond : (sid bytes : ℕ) (o : Option LiveFlow) → HasBursts d.overlay.config.bursts → d.grants < most_grants d.overlay.config waiting →
+      NoneToMeet waiting plan (room_at d.overlay.config spots d.offset) →
       ((f : LiveFlow) → o ≡ Some f → f.sid ≡ sid) →
-      IsSomeAnd o (λ f. IsNext d.book.config d.book.flows (d.start + d.offset) (room_at d.book.config spots d.offset) f
-      × IsAmount d.book.config f (d.start + d.offset) (room_at d.book.config spots d.offset) bytes) →
-      Stands d.book.config (demand_at flows spots waiting d.start) plan (grant_here d sid bytes)
+      IsSomeAnd o (λ f. IsNext d.overlay.config d.overlay.flows (d.start + d.offset) (room_at d.overlay.config spots d.offset) f
+      × IsAmount d.overlay.config f (d.start + d.offset) (room_at d.overlay.config spots d.offset) bytes) →
+      Stands d.overlay.config (demand_at flows spots waiting d.start) plan (grant_here d sid bytes)
   grant-cond sid bytes None bursts few none named is = absurd is
   grant-cond sid bytes (Some f) bursts few none named is = record {
-    some_slots = slots_for-positive d.book.config bursts bytes is.1.allowed.positive;
+    some_slots = slots_for-positive d.overlay.config bursts bytes is.1.allowed.positive;
     follows = after.ends;
     purpose = (
       omega (arith, few, after.grants),
       f,
       named f refl,
-      subst (λ fs. IsNext d.book.config fs (d.start + d.offset) (room_at d.book.config spots d.offset) f)
+      subst (λ fs. IsNext d.overlay.config fs (d.start + d.offset) (room_at d.overlay.config spots d.offset) f)
           after.flows_now is.0,
       is.1,
       refl,
@@ -125,18 +125,18 @@ module _ (flows : List LiveFlow) (spots : List Spot) (waiting : List Opportunity
   }
 
   -- a data grant of its amount to the flow that is next, where no opportunity waits that fits
-  pub grant-stands : (sid bytes : ℕ) → HasBursts d.book.config.bursts → d.grants < most_grants waiting →
-      NoneToMeet waiting plan (room_at d.book.config spots d.offset) →
-      IsNextAmount d (room_at d.book.config spots d.offset) sid bytes →
-      Stands d.book.config (demand_at flows spots waiting d.start) plan (grant_here d sid bytes)
-  grant-stands sid bytes bursts few none is = grant-cond sid bytes (flow_of sid d.book.flows) bursts few none
-      (λ f found. equal f.sid sid (found-in (λ (g : LiveFlow). g.sid == sid) d.book.flows f found).1) is
+  pub grant-stands : (sid bytes : ℕ) → HasBursts d.overlay.config.bursts → d.grants < most_grants d.overlay.config waiting →
+      NoneToMeet waiting plan (room_at d.overlay.config spots d.offset) →
+      IsNextAmount d (room_at d.overlay.config spots d.offset) sid bytes →
+      Stands d.overlay.config (demand_at flows spots waiting d.start) plan (grant_here d sid bytes)
+  grant-stands sid bytes bursts few none is = grant-cond sid bytes (flow_of sid d.overlay.flows) bursts few none
+      (λ f found. equal f.sid sid (found-in (λ (g : LiveFlow). g.sid == sid) d.overlay.flows f found).1) is
 
   -- an idle up to the next stop, where nothing else may stand
-  pub idle-stands : NoneToMeet waiting plan (room_at d.book.config spots d.offset) → (most_grants waiting ≤ d.grants)
-      ⊎ NoneEligible d.book.config d.book.flows (d.start + d.offset) (room_at d.book.config spots d.offset) →
-      Stands d.book.config (demand_at flows spots waiting d.start) plan
-      (record { offset = d.offset; slots = room_at d.book.config spots d.offset; purpose = Idle })
+  pub idle-stands : NoneToMeet waiting plan (room_at d.overlay.config spots d.offset) → (most_grants d.overlay.config waiting ≤ d.grants)
+      ⊎ NoneEligible d.overlay.config d.overlay.flows (d.start + d.offset) (room_at d.overlay.config spots d.offset) →
+      Stands d.overlay.config (demand_at flows spots waiting d.start) plan
+      (record { offset = d.offset; slots = room_at d.overlay.config spots d.offset; purpose = Idle })
   idle-stands none served = record {
     some_slots = behind;
     follows = after.ends;
@@ -148,8 +148,8 @@ module _ (flows : List LiveFlow) (spots : List Spot) (waiting : List Opportunity
         (
           elim served [
             | inl full ↦ inl (omega (arith, full, after.grants))
-            | inr nobody ↦ inr (subst (λ fs. NoneEligible d.book.config fs (d.start + d.offset)
-                (room_at d.book.config spots d.offset)) after.flows_now nobody)
+            | inr nobody ↦ inr (subst (λ fs. NoneEligible d.overlay.config fs (d.start + d.offset)
+                (room_at d.overlay.config spots d.offset)) after.flows_now nobody)
           ],
           tt,
         ),
@@ -162,20 +162,20 @@ same-draft d = record { elements = refl; bytes_of = refl; offset = refl }
 
 -- the spot that begins here stands next
 pub Chooses-spot : (spots : List Spot) (waiting : List Opportunity) (s : Spot) (d : Draft) →
-    AreInFrame d.book.config spots → Contains spots s → s.offset ≡ d.offset →
+    AreInFrame d.overlay.config spots → Contains spots s → s.offset ≡ d.offset →
     Chooses spots waiting (allocation_of s) d d
 Chooses-spot spots waiting s d are is here = record {
   knows = Knows-spot s d;
   same = same-draft d;
   here = here;
   stands = λ flows plan after.
-      spot-stands d.book.config (demand_at flows spots waiting d.start) plan s are is (here ∙ after.ends);
+      spot-stands d.overlay.config (demand_at flows spots waiting d.start) plan s are is (here ∙ after.ends);
 }
 
 module _ (spots : List Spot) (waiting : List Opportunity) (room : ℕ) (old : Draft)
-    (room_is : room ≡ room_at old.book.config spots old.offset) (some : 0 < room) (may : MayWait waiting)
+    (room_is : room ≡ room_at old.overlay.config spots old.offset) (some : 0 < room) (may : MayWait waiting)
     (long : length old.met ≡ 16) where
-  behind : 0 < room_at old.book.config spots old.offset
+  behind : 0 < room_at old.overlay.config spots old.offset
   behind = omega (arith, room_is)
 
   -- where no spot does, the first opportunity that waits and fits
@@ -193,12 +193,12 @@ module _ (spots : List Spot) (waiting : List Opportunity) (room : ℕ) (old : Dr
   }
 
   none-fits : NoneUnmet waiting old.met room → (flows : List LiveFlow) (plan : List Allocation) →
-      IsAfter flows plan old → NoneToMeet waiting plan (room_at old.book.config spots old.offset)
+      IsAfter flows plan old → NoneToMeet waiting plan (room_at old.overlay.config spots old.offset)
   none-fits none flows plan after =
       subst (NoneToMeet waiting plan) room_is (none-to-meet waiting old.met plan room may long after.met none)
 
   -- where there is none, a data grant of its amount to the flow that is next
-  pub Chooses-grant : (a : Allocation) (new : Draft) → NoneUnmet waiting old.met room → HasBursts old.book.config.bursts →
+  pub Chooses-grant : (a : Allocation) (new : Draft) → NoneUnmet waiting old.met room → HasBursts old.overlay.config.bursts →
       Serves waiting room a old new → Chooses spots waiting a old new
   Chooses-grant a new none bursts serves = record {
     knows = serves.knows;

@@ -19,8 +19,8 @@ use Rattle.map_build.proofs.Standings.{spot-within, spots-apart}
 
 -- one data grant more is at most the most
 pub grants-within : (c : Config) (d : Demand) (before : List Allocation) (offset slots : ℕ) (purpose : Purpose) →
-    IsOfClass c d before offset slots purpose → grants_in before ≤ most_grants d.waiting →
-    grants_in before + grants_in (allocation offset slots purpose ∷ []) ≤ most_grants d.waiting
+    IsOfClass c d before offset slots purpose → grants_in before ≤ most_grants c d.waiting →
+    grants_in before + grants_in (allocation offset slots purpose ∷ []) ≤ most_grants c d.waiting
 grants-within c d before offset slots (Poll sid) stands few = omega arith
 grants-within c d before offset slots (UnsolicitedGrant sid size) stands few = omega arith
 grants-within c d before offset slots (Offer place usage) stands few = omega arith

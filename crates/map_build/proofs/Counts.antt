@@ -1,14 +1,14 @@
--- How many allocations a lawful plan has: at most 93 data grants and opportunities, the spots, and an idle before each
+-- How many allocations a lawful plan has: so many data grants and opportunities, the spots, and an idle before each
 -- spot and at the end.
 use Rattle.std.proofs.Common.{◌≡◌, ℕ, zero, suc, ◌+◌, ◌*◌, ◌<◌, ◌≤◌, ◌⊎◌, inl, inr, Bool, true, false, nat_le, List}
-use Rattle.std.proofs.Common.{[], ◌∷◌, ◌++◌, length, Contains, if◌then◌else◌, refl, ap, ◌∙◌, arith}
+use Rattle.std.proofs.Common.{[], ◌∷◌, ◌++◌, length, Contains, if◌then◌else◌, refl, ap, ◌∙◌, ◌-◌, min, arith}
 use Rattle.std.proofs.lemmas.Bool.Decides.{nat_tests}
 use Rattle.std.proofs.lemmas.List.Sums.{sum_by_push}
 use Rattle.minislots.specs.declared.config.Config.{Config}
 use Rattle.minislots.specs.Bursts.{HasBursts}
 use Rattle.periodic.specs.declared.placement.Spot.{Spot}
 use Rattle.map_build.specs.EachAfter.{EachAfter}
-use Rattle.map_build.specs.declared.TheConstants.{MAX_DATA_GRANTS, MAX_WAITING}
+use Rattle.map_build.specs.declared.TheConstants.{MAX_DATA_GRANTS, MAX_GRANTS_AND_PENDING, MAX_WAITING}
 use Rattle.map_build.specs.declared.purpose.Allocation.{Allocation}
 use Rattle.map_build.specs.declared.purpose.Purpose.{Purpose}
 use Rattle.map_build.specs.declared.purpose.Purpose.TheVariants.{Poll, UnsolicitedGrant, Offer, DataGrant, Idle}
@@ -68,12 +68,12 @@ module _ (c : Config) (d : Demand) (bursts : HasBursts c.bursts) where
   -- how many more allocations there may be
   abbrev IsFew : ℕ → ℕ → ℕ → ℕ → ℕ → Type 0
   IsFew idles end grants waits more =
-      more + grants ≤ most_grants d.waiting + 2 * spots_from end d.spots + idles + waits
+      more + grants ≤ most_grants c d.waiting + 2 * spots_from end d.spots + idles + waits
 
   few-step : (idles : ℕ) (before : List Allocation) (offset slots : ℕ) (purpose : Purpose) (more : ℕ) → 0 < slots →
-      grants_in before ≤ most_grants d.waiting →
+      grants_in before ≤ most_grants c d.waiting →
       IsVacant idles offset → IsOfClass c d before offset slots purpose →
-      ((idles' : ℕ) → grants_in before + grants_in (allocation offset slots purpose ∷ []) ≤ most_grants d.waiting →
+      ((idles' : ℕ) → grants_in before + grants_in (allocation offset slots purpose ∷ []) ≤ most_grants c d.waiting →
       IsVacant idles' (offset + slots) →
       IsFew idles' (offset + slots) (grants_in before + grants_in (allocation offset slots purpose ∷ []))
       (left_over (before ++ allocation offset slots purpose ∷ [])) more) →
@@ -124,7 +124,7 @@ module _ (c : Config) (d : Demand) (bursts : HasBursts c.bursts) where
     | inr full ↦ absurd (omega (arith, stands))
   ]
 
-  few-allocations : (idles : ℕ) (before plan : List Allocation) → grants_in before ≤ most_grants d.waiting →
+  few-allocations : (idles : ℕ) (before plan : List Allocation) → grants_in before ≤ most_grants c d.waiting →
       IsVacant idles (end_of c before) → EachAfter (Stands c d) before plan →
       IsFew idles (end_of c before) (grants_in before) (left_over before) (length plan)
   few-allocations idles before [] few vacant each = omega arith
@@ -133,7 +133,7 @@ module _ (c : Config) (d : Demand) (bursts : HasBursts c.bursts) where
       omega (arith, each.0.follows, end_of-push c before a) in
       let grants : grants_in (before ++ a ∷ []) ≡ grants_in before + grants_in (a ∷ []) =
       omega (arith, sum_by_push (λ (b : Allocation). if is_data_grant b.purpose then 1 else 0) before a) in
-      let rest : (idles' : ℕ) → grants_in before + grants_in (a ∷ []) ≤ most_grants d.waiting
+      let rest : (idles' : ℕ) → grants_in before + grants_in (a ∷ []) ≤ most_grants c d.waiting
       → IsVacant idles' (a.offset + a.slots) →
       IsFew idles' (a.offset + a.slots) (grants_in before + grants_in (a ∷ [])) (left_over (before ++ a ∷ []))
       (length plan) =
@@ -144,10 +144,10 @@ module _ (c : Config) (d : Demand) (bursts : HasBursts c.bursts) where
       each.0.purpose rest in
       rw (← each.0.follows) (omega (arith, step))
 
-  -- a lawful plan has at most 93 data grants and opportunities, the spots, and one idle more than spots
-  pub length-plan : (plan : List Allocation) → length d.waiting ≤ MAX_WAITING → EachAfter (Stands c d) [] plan →
-      length plan ≤ MAX_DATA_GRANTS + 2 * length d.spots + 1
-  length-plan plan few each = omega (
+  -- a lawful plan has at most so many data grants and opportunities, the spots, and one idle more than spots
+  pub length-plan : (plan : List Allocation) → length d.waiting ≤ MAX_WAITING → c.pending ≤ 125 → EachAfter (Stands c d) [] plan →
+      length plan ≤ min MAX_DATA_GRANTS (MAX_GRANTS_AND_PENDING - c.pending) + 2 * length d.spots + 1
+  length-plan plan few pending each = omega (
     arith,
     few-allocations 1 [] plan (omega arith) (inl (omega arith)) each,
     spots_from-most (end_of c []) d.spots,

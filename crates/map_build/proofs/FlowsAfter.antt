@@ -95,16 +95,6 @@ pub flow_of-after : (start sid : ℕ) (plan : List Allocation) (flows : List Liv
     flow_of sid (flows_after start plan flows) ≡ option_map (flow_after start plan) (flow_of sid flows)
 flow_of-after start sid plan flows = find-map (flow_after start plan) (λ (f : LiveFlow). f.sid == sid) flows
 
-live-option : (change : LiveFlow → LiveFlow) (o : Option LiveFlow) → IsSome (option_map change o) → IsSome o
-live-option change None live = live
-live-option change (Some f) live = refl
-
--- no flow becomes live by a plan
-pub live-after : (start sid : ℕ) (plan : List Allocation) (flows : List LiveFlow) →
-    IsLive sid (flows_after start plan flows) → IsLive sid flows
-live-after start sid plan flows live = live-option (flow_after start plan) (flow_of sid flows)
-    (rw (flow_of-after start sid plan flows) at live)
-
 started-if : (b : Bool) (g : Grant) (later : ℕ) → g.start ≤ later →
     AllByRecursion (λ g. g.start ≤ later) (granted_if b g)
 started-if true g later le = (le, tt)

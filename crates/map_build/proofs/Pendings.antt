@@ -1,94 +1,62 @@
--- The pending grants of flows, as they are gone through.
-use Rattle.std.proofs.Common.{◌≡◌, ℕ, ◌+◌, ◌<◌, true, false, nat_lt, List, [], ◌∷◌, ◌++◌, length, take, slice_get}
-use Rattle.std.proofs.Common.{get_or, Option, None, Some, option_map, refl, ap, ◌∙◌, arith}
-use Rattle.std.specs.Option.{IfSome}
-use Rattle.std.proofs.lemmas.Bool.Decides.{nat_tests}
-use Rattle.std.proofs.lemmas.List.{map-append, append_assoc, append-nil, take_more}
-use Rattle.std.proofs.lemmas.List.Elements.{filter-append}
-use Rattle.std.proofs.lemmas.Option.{slice_get-get_or}
+-- The pending grants of the flows that are shown, one after the other.
+use Rattle.std.proofs.Common.{◌≡◌, ℕ, ◌+◌, ◌<◌, List, [], ◌∷◌, ◌++◌, length, take, map, filter, get_or, refl, sym, ap, ◌∙◌, arith}
+use Rattle.std.proofs.lemmas.List.{map-append, append_assoc, take_more}
+use Rattle.flow_book.specs.Flows.{LiveFlow}
+use Rattle.flow_book.specs.Shown.{is_shown}
 use Rattle.minislots.specs.declared.config.Config.{Config}
-use Rattle.sched_calls.specs.declared.spec.FlowSpec.TheVariants.{BestEffort}
-use Rattle.flow_book.specs.Flows.{LiveFlow, outstanding}
-use Rattle.flow_book.specs.Book.{BookView}
 use Rattle.map_build.specs.declared.draft.Draft.{Draft}
 use Rattle.map_build.specs.UsageCodes.{long_iuc}
-use Rattle.map_build.specs.FrameMap.{pending_of, pending}
-use Rattle.map_build.specs.Draft.{Puts, PutsPending}
+use Rattle.map_build.specs.FrameMap.{null_element, pending, pending_to, pending_of}
+use Rattle.map_build.specs.Draft.{Puts, PutsPending, Ends}
 
--- the pending grants of a list with one flow more
-pending-push : (c : Config) (flows : List LiveFlow) (f : LiveFlow) →
-    pending c (flows ++ f ∷ []) ≡ pending c flows ++ pending c (f ∷ [])
-pending-push c flows f = rw (filter-append, map-append) refl
-
-pending-some : (c : Config) (f : LiveFlow) → 0 < outstanding f → pending c (f ∷ []) ≡ pending_of c f ∷ []
-pending-some c f waits = let test : nat_lt 0 (outstanding f) ≡ true = grind (arith, nat_tests) in rw test refl
-
-pending-none : (c : Config) (f : LiveFlow) → outstanding f ≡ 0 → pending c (f ∷ []) ≡ []
-pending-none c f none = let test : nat_lt 0 (outstanding f) ≡ false = grind (arith, nat_tests) in rw test refl
-
--- a flow with bytes outstanding has a pending grant
-pub PutsPending-some : (sid left : ℕ) (old new : Draft) → old.offset ≡ old.book.config.frame → 0 < left →
-    Puts sid (long_iuc old.book.config) 0 0 old new →
-    (o : Option LiveFlow) → option_map (λ f. f.sid) o ≡ Some sid → option_map outstanding o ≡ Some left →
-    IfSome o (λ f. PutsPending (f ∷ []) old new)
-PutsPending-some sid left old new end waits puts None named is = tt
-PutsPending-some sid left old new end waits puts (Some f) named is =
-    let name : f.sid ≡ sid = cc in
-    let same : outstanding f ≡ left = cc in
-    let some = pending-some old.book.config f (omega (arith, same)) in
-    record {
-      elements = puts.elements ∙ rw (some, end, name) refl;
-      bytes_of = puts.bytes_of ∙ rw some refl;
-      offset = omega (arith, puts.offset);
-      book = puts.book;
-      start = puts.start;
-      grants = puts.grants;
-      met = puts.met;
-    }
-
--- and one without has none
-pub PutsPending-none : (left : ℕ) (d : Draft) → left ≡ 0 → (o : Option LiveFlow) →
-    option_map outstanding o ≡ Some left → IfSome o (λ f. PutsPending (f ∷ []) d d)
-PutsPending-none left d zero None is = tt
-PutsPending-none left d zero (Some f) is =
-    let none : outstanding f ≡ 0 = cc in
-    let no_element = pending-none d.book.config f none in
-    record {
-      elements = rw (no_element, append-nil) refl;
-      bytes_of = rw (no_element, append-nil) refl;
-      offset = refl;
-      book = refl;
-      start = refl;
-      grants = refl;
-      met = refl;
-    }
-
--- the pending grants of some flows, and then of one more
-PutsPending-both : (flows : List LiveFlow) (f : LiveFlow) (old mid new : Draft) → PutsPending flows old mid →
-    PutsPending (f ∷ []) mid new → PutsPending (flows ++ f ∷ []) old new
-PutsPending-both flows f old mid new first last = record {
-  elements = last.elements ∙ rw (first.elements, ap (λ b. b.config) first.book, pending-push, append_assoc) refl;
-  bytes_of = last.bytes_of
-      ∙ rw (first.bytes_of, ap (λ b. b.config) first.book, pending-push, map-append, append_assoc) refl;
-  offset = last.offset ∙ first.offset;
-  book = last.book ∙ first.book;
-  start = last.start ∙ first.start;
-  grants = last.grants ∙ first.grants;
-  met = last.met ∙ first.met;
+-- the pending grants to some SIDs, and then to one more
+pub PutsPending-more : (sids : List ℕ) (sid : ℕ) (old mid new : Draft) → mid.offset ≡ mid.overlay.config.frame
+    → PutsPending sids old mid → Puts sid (long_iuc old.overlay.config) 0 0 mid new
+    → PutsPending (sids ++ sid ∷ []) old new
+PutsPending-more sids sid old mid new end first puts = record {
+  elements = puts.elements ∙ rw (
+    end,
+    first.elements,
+    ap (λ o. o.config) first.overlay,
+    map-append,
+    append_assoc,
+  ) refl;
+  bytes_of = puts.bytes_of ∙ rw (first.bytes_of, map-append, append_assoc) refl;
+  offset = omega (arith, puts.offset, first.offset);
+  overlay = puts.overlay ∙ first.overlay;
+  start = puts.start ∙ first.start;
+  grants = puts.grants ∙ first.grants;
+  met = puts.met ∙ first.met;
 }
 
--- what a place past the end is read as
-abbrev no_flow : LiveFlow
-no_flow = record { sid = 0; spec = BestEffort 0 0 0; asked = 0; grants = [] }
+pendings-to : (c : Config) (flows : List LiveFlow) → map (pending_to c) (map (λ (f : LiveFlow). f.sid) flows)
+    ≡ map (pending_of c) flows
+pendings-to c [] = refl
+pendings-to c (f ∷ flows) = ap (λ es. pending_of c f ∷ es) (pendings-to c flows)
 
--- of the flows up to a place, and then of the one in it
-pub PutsPending-more : (i : ℕ) (old mid new : Draft) → i < length old.book.flows →
-    PutsPending (take i old.book.flows) old mid →
-    IfSome (slice_get mid.book.flows i) (λ f. PutsPending (f ∷ []) mid new) →
-    PutsPending (take (i + 1) old.book.flows) old new
-PutsPending-more i old mid new lt first after =
-    let flows : List LiveFlow = old.book.flows in
-    let at : slice_get mid.book.flows i ≡ Some (get_or flows i no_flow) =
-    ap (λ (b : BookView). slice_get b.flows i) first.book ∙ slice_get-get_or flows i no_flow lt in
-    let last : PutsPending (get_or flows i no_flow ∷ []) mid new = rw at at after in
-    rw (take_more flows i no_flow lt) (PutsPending-both (take i flows) (get_or flows i no_flow) old mid new first last)
+zeros : (c : Config) (flows : List LiveFlow) → map (λ (sid : ℕ). 0) (map (λ (f : LiveFlow). f.sid) flows)
+    ≡ map {B = ℕ} (λ e. 0) (map (pending_of c) flows)
+zeros c [] = refl
+zeros c (f ∷ flows) = ap (λ ns. 0 ∷ ns) (zeros c flows)
+
+-- a draft with the Null, and then with the pending grants to the flows that are shown, is at its end
+pub ends-pending : (old mid new : Draft) (sids : List ℕ) → old.offset ≡ old.overlay.config.frame
+    → Puts 0 7 0 0 old mid
+    → sids ≡ map (λ f. f.sid) (filter (is_shown old.overlay.config.pending old.overlay.flows) old.overlay.flows)
+    → PutsPending sids mid new → Ends old new
+ends-pending old mid new sids end null is puts = record {
+  elements = puts.elements ∙ rw (
+    null.elements,
+    ap (λ o. o.config) null.overlay,
+    end,
+    is,
+    pendings-to,
+    append_assoc,
+  ) refl;
+  bytes_of = puts.bytes_of ∙ rw (null.bytes_of, is, zeros old.overlay.config, append_assoc) refl;
+  offset = omega (arith, puts.offset, null.offset);
+  overlay = puts.overlay ∙ null.overlay;
+  start = puts.start ∙ null.start;
+  grants = puts.grants ∙ null.grants;
+  met = puts.met ∙ null.met;
+}

@@ -1,15 +1,18 @@
 -- The MAP of a draft that is filled and ended is lawful, and a lawful MAP is well formed.
-use Rattle.std.proofs.Common.{◌≡◌, ℕ, ◌≤◌, List, [], ◌∷◌, map, filter, length, nat_lt, Contains, Bool, refl, sym}
+use Rattle.std.proofs.Common.{◌≡◌, ℕ, ◌<◌, ◌≤◌, List, [], ◌∷◌, map, filter, length, Contains, refl, sym}
 use Rattle.std.proofs.Common.{ap, subst, ◌∙◌, arith}
 use Rattle.std.specs.List.{AllByRecursion}
 use Rattle.std.proofs.lemmas.List.{length-append, length-map}
-use Rattle.std.proofs.lemmas.List.Sums.{length-filter, count_by-le-length}
+use Rattle.std.proofs.lemmas.List.Sums.{length-filter}
 use Rattle.minislots.specs.declared.config.Config.{Config}
 use Rattle.minislots.specs.Bursts.{HasBursts}
 use Rattle.minislots.specs.Config.{IsLawful, HasBounds}
 use Rattle.minislots.proofs.Bounds.{bounds_of}
 use Rattle.map_codec.specs.WireMap.{IsWellFormed, FitsHeader}
-use Rattle.flow_book.specs.Flows.{LiveFlow, outstanding}
+use Rattle.flow_book.specs.Flows.{LiveFlow}
+use Rattle.flow_book.specs.Book.{Ascend}
+use Rattle.flow_book.specs.Shown.{is_shown, ack_of}
+use Rattle.flow_book.proofs.InLine.{AreSmall, few-shown}
 use Rattle.periodic.specs.declared.placement.Spot.{Spot}
 use Rattle.map_build.specs.declared.draft.Draft.{Draft}
 use Rattle.map_build.specs.declared.frame.PlannedFrame.{PlannedFrame}
@@ -19,7 +22,7 @@ use Rattle.sched_calls.specs.declared.opportunity.Opportunity.{Opportunity}
 use Rattle.map_build.specs.declared.purpose.Allocation.{Allocation}
 use Rattle.map_build.specs.Purpose.{element_of, allocation_of}
 use Rattle.map_build.specs.Opportunities.{HaveStationSids}
-use Rattle.map_build.specs.Plan.{Demand, demand_at, end_of, flow_after, flows_after, IsPlan}
+use Rattle.map_build.specs.Plan.{Demand, demand_at, end_of, flows_after, IsPlan}
 use Rattle.map_build.specs.FrameMap.{null_element, pending_of, pending, elements_of, bytes_of_plan, map_with}
 use Rattle.map_build.specs.FrameMap.{AreMet, IsLawfulMap, IsLawfulFrame}
 use Rattle.map_build.specs.Spots.{IsInFrame, AreInFrame, IsFlowSid, HaveFlowSids, AreOfChannel}
@@ -48,7 +51,7 @@ module _ (c : Config) (d : Demand) (plan : List Allocation) (filled ended : Draf
     due = all-taken c d.spots plan filled.offset full are.each has.taken;
   }
 
-  flows-are : filled.book.flows ≡ flows_after d.start plan d.flows
+  flows-are : filled.overlay.flows ≡ flows_after d.start plan d.flows
   flows-are = has.after.flows_now ∙ ap (λ s. flows_after s plan d.flows) has.starts
 
   elements-are : ended.elements.items ≡ elements_of c d.flows d.start plan
@@ -58,44 +61,48 @@ module _ (c : Config) (d : Demand) (plan : List Allocation) (filled ended : Draf
   bytes-are = ends.bytes_of ∙ rw (has.config, flows-are, has.bytes_of) refl
 
   -- the MAP of the draft is the lawful one, its book has the data grants, and its marks are those of the plan
-  lawful-frame : (header : Header) (ack : ℕ) (p : PlannedFrame) →
-      p.map ≡ map_with ended.book.config header ended.start ack ended.elements.items ended.bytes.items →
-      p.book ≡ ended.book → p.met ≡ ended.met → IsLawfulFrame c d header ack p
-  lawful-frame header ack p made book marks = record {
+  lawful-frame : (header : Header) (progress ack : ℕ) (p : PlannedFrame) →
+      ack ≡ ack_of filled.overlay.config.pending progress filled.overlay.flows →
+      p.map ≡ map_with ended.overlay.config header ended.start ack ended.elements.items ended.bytes.items →
+      p.overlay ≡ ended.overlay → p.met ≡ ended.met → IsLawfulFrame c d header progress p
+  lawful-frame header progress ack p held made book marks = record {
     plan = plan;
     is_plan = plan-is;
-    map = made ∙ rw (elements-are, bytes-are, ends.book, ends.start, has.config, has.starts) refl;
-    flows = ap (λ b. b.flows) book ∙ ap (λ b. b.flows) ends.book ∙ flows-are;
+    map = made ∙ rw (held, elements-are, bytes-are, ends.overlay, ends.start, flows-are, has.config, has.starts) refl;
+    before = ap (λ b. b.before) book ∙ ap (λ b. b.before) ends.overlay ∙ has.before;
+    flows = ap (λ b. b.flows) book ∙ ap (λ b. b.flows) ends.overlay ∙ flows-are;
     met = subst (AreMet plan) (sym (marks ∙ ends.met)) has.after.met;
   }
 
 -- a draft with the plan of nothing has the flows
-begun-flows : (c : Config) (d : Demand) (draft : Draft) → HasPlan c d [] draft → draft.book.flows ≡ d.flows
+pub begun-flows : (c : Config) (d : Demand) (draft : Draft) → HasPlan c d [] draft → draft.overlay.flows ≡ d.flows
 begun-flows c d draft has = has.after.flows_now ∙ flows_after-nil draft.start d.flows
 
 -- so it has the plan of nothing for its own
 pub begun-here : (c : Config) (d : Demand) (draft : Draft) → HasPlan c d [] draft →
-    HasPlan draft.book.config (demand_at draft.book.flows d.spots d.waiting draft.start) [] draft
+    HasPlan draft.overlay.config (demand_at draft.overlay.flows d.spots d.waiting draft.start) [] draft
 begun-here c d draft has =
-    subst (λ s. HasPlan draft.book.config (demand_at draft.book.flows d.spots d.waiting s) [] draft) (sym has.starts)
-    (subst (λ fs. HasPlan draft.book.config (demand_at fs d.spots d.waiting d.start) [] draft)
+    subst (λ s. HasPlan draft.overlay.config (demand_at draft.overlay.flows d.spots d.waiting s) [] draft) (sym has.starts)
+    (subst (λ fs. HasPlan draft.overlay.config (demand_at fs d.spots d.waiting d.start) [] draft)
     (sym (begun-flows c d draft has))
     (subst (λ k. HasPlan k d [] draft) (sym has.config) has))
 
 -- a frame that is filled ends where the frame does
 pub filled-full : (spots : List Spot) (waiting : List Opportunity) (begun filled : Draft) →
-    IsFilled spots waiting begun filled → filled.offset ≡ filled.book.config.frame
+    IsFilled spots waiting begun filled → filled.offset ≡ filled.overlay.config.frame
 filled-full spots waiting begun filled is = is.2 ∙ ap (λ k. k.frame) (sym is.1.config)
 
 -- a draft that is begun, filled and ended has the lawful MAP, its data grants and its marks
-pub planned : (c : Config) (d : Demand) (header : Header) (ack : ℕ) (begun filled ended : Draft) (p : PlannedFrame) →
+pub planned : (c : Config) (d : Demand) (header : Header) (progress ack : ℕ) (begun filled ended : Draft)
+    (p : PlannedFrame) →
     AreInFrame c d.spots → HasPlan c d [] begun → IsFilled d.spots d.waiting begun filled → Ends filled ended →
-    p.map ≡ map_with ended.book.config header ended.start ack ended.elements.items ended.bytes.items →
-    p.book ≡ ended.book → p.met ≡ ended.met → IsLawfulFrame c d header ack p
-planned c d header ack begun filled ended p are has (plan, filling, full) ends made book marks =
+    ack ≡ ack_of filled.overlay.config.pending progress filled.overlay.flows →
+    p.map ≡ map_with ended.overlay.config header ended.start ack ended.elements.items ended.bytes.items →
+    p.overlay ≡ ended.overlay → p.met ≡ ended.met → IsLawfulFrame c d header progress p
+planned c d header progress ack begun filled ended p are has (plan, filling, full) ends held made book marks =
     lawful-frame c d plan filled ended are
     (rw (has.config, begun-flows c d begun has, has.starts) at filling) (full ∙ ap (λ k. k.frame) has.config) ends
-    header ack p made book marks
+    header progress ack p held made book marks
 
 -- the MAP of a lawful frame is lawful
 pub lawful-from_frame : (c : Config) (d : Demand) (header : Header) (ack : ℕ) (p : PlannedFrame) →
@@ -116,26 +123,44 @@ spot-sids-short : (spots : List Spot) → HaveFlowSids spots → HaveSpotSids sp
 spot-sids-short [] all = tt
 spot-sids-short (s ∷ spots) all = (omega (arith, all.0.1), spot-sids-short spots all.1)
 
-few-pending : (c : Config) (flows : List LiveFlow) → length (pending c flows) ≤ length flows
-few-pending c flows =
-    let waits : LiveFlow → Bool = λ f. nat_lt 0 (outstanding f) in
+-- with data grants more the flows ascend, and their SIDs are short
+module _ (start : ℕ) (plan : List Allocation) where
+  above-after : (n : ℕ) (flows : List LiveFlow) → AllByRecursion (λ f. n < f.sid) flows →
+      AllByRecursion (λ f. n < f.sid) (flows_after start plan flows)
+  above-after n [] all = tt
+  above-after n (f ∷ flows) all = (all.0, above-after n flows all.1)
+
+  ascend-after : (flows : List LiveFlow) → Ascend flows → Ascend (flows_after start plan flows)
+  ascend-after [] ascend = tt
+  ascend-after (f ∷ flows) ascend = (above-after f.sid flows ascend.0, ascend-after flows ascend.1)
+
+  small-after : (flows : List LiveFlow) → AllByRecursion (λ f. IsFlowSid f.sid) flows →
+      AreSmall (flows_after start plan flows)
+  small-after [] all = tt
+  small-after (f ∷ flows) all = (omega (arith, all.0.1), small-after flows all.1)
+
+few-pending : (c : Config) (flows : List LiveFlow) → Ascend flows → AreSmall flows →
+    length (pending c flows) ≤ c.pending
+few-pending c flows ascend small =
     omega (
       arith,
-      length-map (filter waits flows) (pending_of c),
-      length-filter waits flows,
-      count_by-le-length waits flows,
+      length-map (filter (is_shown c.pending flows) flows) (pending_of c),
+      length-filter (is_shown c.pending flows) flows,
+      few-shown c.pending flows ascend small,
     )
 
 -- the elements of a lawful plan are few
-pub few-elements : (c : Config) (d : Demand) (plan : List Allocation) → HasBursts c.bursts → length d.spots ≤ 40 →
-    length d.flows ≤ 64 → length d.waiting ≤ 16 → IsPlan c d plan → length (elements_of c d.flows d.start plan) ≤ 240
-few-elements c d plan bursts places live few is = omega (
+pub few-elements : (c : Config) (d : Demand) (plan : List Allocation) → HasBursts c.bursts → c.pending ≤ 125 →
+    length d.spots ≤ 40 → AreOfChannel d.flows → length d.waiting ≤ 16 → IsPlan c d plan →
+    length (elements_of c d.flows d.start plan) ≤ 240
+few-elements c d plan bursts pendings places channel few is = omega (
   arith,
-  length-plan c d bursts plan few is.each,
+  pendings,
+  length-plan c d bursts plan few pendings is.each,
   length-append (map (element_of c) plan) (null_element c ∷ pending c (flows_after d.start plan d.flows)),
   length-map plan (element_of c),
-  few-pending c (flows_after d.start plan d.flows),
-  length-map d.flows (flow_after d.start plan),
+  few-pending c (flows_after d.start plan d.flows) (ascend-after d.start plan d.flows channel.ascend)
+      (small-after d.start plan d.flows channel.sids),
 )
 
 -- a lawful MAP of flows of a channel is well formed
@@ -150,7 +175,7 @@ lawful-encodable c d header ack m lawful are few (plan, is, made) fits channel p
     (spot-sids-short d.spots places) stations is.each is.whole) in
     record {
       fits = fits;
-      count = rw elements (few-elements c d plan bounds.bursts are.few channel.few few is);
+      count = rw elements (few-elements c d plan bounds.bursts bounds.pending_most are.few channel few is);
       in_range = good.in_range;
       one_null = good.one_null;
       ascends = good.ascends;

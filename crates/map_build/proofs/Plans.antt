@@ -12,7 +12,7 @@ use Rattle.map_build.specs.FrameMap.{AreMet}
 use Rattle.map_build.specs.Spots.{AreInFrame}
 use Rattle.map_build.specs.Walk.{IsWellBegun, IsAfter, Takes, HasPlan}
 use Rattle.map_build.proofs.EachAfterLaws.{EachAfter-push}
-use Rattle.map_build.proofs.FlowsAfter.{flows_after-push, live-after, started-after}
+use Rattle.map_build.proofs.FlowsAfter.{flows_after-push, started-after}
 use Rattle.map_build.proofs.Clear.{grants-within, IsClear, clear-purpose, contains-more, taken-all}
 use Rattle.map_build.proofs.Offers.{met-here, met-push}
 
@@ -82,16 +82,12 @@ module _ (c : Config) (d : Demand) (plan : List Allocation) (old new : Draft) (a
       takes.knows.grants,
       has.after.grants,
       grants-within c d plan a.offset a.slots a.purpose stands.purpose
-          (omega (arith, has.ready.few, has.after.grants)),
-    );
-    room = λ sid live. omega (
-      arith,
-      takes.knows.grants,
-      takes.knows.rooms sid,
-      has.ready.room sid (live-after old.start sid (a ∷ []) old.book.flows (rw takes.knows.flows at live)),
+          (omega (arith, has.ready.few, has.after.grants, ap (λ k. k.pending) has.config)),
+      ap (λ k. k.pending) takes.knows.config,
+      ap (λ k. k.pending) has.config,
     );
     started = rw (takes.knows.flows, takes.knows.start, takes.offset)
-        (started-after old.start (old.start + old.offset) (old.start + (old.offset + a.slots)) a old.book.flows
+        (started-after old.start (old.start + old.offset) (old.start + (old.offset + a.slots)) a old.overlay.flows
         (omega arith) (omega (arith, here)) has.ready.started);
   }
 
@@ -99,6 +95,7 @@ module _ (c : Config) (d : Demand) (plan : List Allocation) (old new : Draft) (a
   pub HasPlan-push : HasPlan c d (plan ++ a ∷ []) new
   HasPlan-push = record {
     config = takes.knows.config ∙ has.config;
+    before = takes.knows.before ∙ has.before;
     starts = takes.knows.start ∙ has.starts;
     ready = ready-push;
     after = after-push;

@@ -3,6 +3,7 @@ use Rattle.std.proofs.Common.{◌≡◌, ℕ, List, [], ◌∷◌, map, Some, sl
 use Rattle.map_codec.specs.Element.{word_of}
 use Rattle.map_codec.specs.WireMap.{header, spelling}
 use Rattle.sched_calls.specs.declared.spec.FlowSpec.TheVariants.{BestEffort}
+use Rattle.flow_book.proofs.Profile.{one_request}
 use Rattle.flow_book.specs.Flows.{LiveFlow}
 use Rattle.sched_calls.specs.declared.frame_map.FrameMap.{FrameMap}
 use Rattle.sched_calls.specs.declared.opportunity.Opportunity.{Opportunity}
@@ -61,7 +62,7 @@ the_bytes_of_a_frame_without_flows = refl
 
 -- a best effort flow without a ceiling that asked 100 bytes
 abbrev pub small : LiveFlow
-small = record { sid = 17; spec = BestEffort 3 0 0; asked = 100; grants = [] }
+small = record { sid = 17; spec = BestEffort 3 0 0; asked = 100; batches = one_request 100 801; grants = [] }
 
 -- a frame with its grant of nine minislots
 abbrev pub one_grant : List Allocation

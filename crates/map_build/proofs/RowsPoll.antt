@@ -2,6 +2,7 @@
 use Rattle.std.proofs.Common.{◌≡◌, None, List, [], ◌∷◌, map, refl, inr, lit<, arith}
 use Rattle.map_codec.specs.Element.{word_of}
 use Rattle.sched_calls.specs.declared.spec.FlowSpec.TheVariants.{Polled}
+use Rattle.flow_book.specs.Batches.{no_batches}
 use Rattle.flow_book.specs.Flows.{LiveFlow}
 use Rattle.periodic.specs.declared.placement.Spot.{Spot}
 use Rattle.sched_calls.specs.declared.frame_map.FrameMap.{FrameMap}
@@ -17,7 +18,7 @@ use Rattle.map_build.proofs.RowsMaps.{none_waits}
 
 -- a polled flow of 5000 microseconds that asked nothing yet
 abbrev pub polled : LiveFlow
-polled = record { sid = 9; spec = Polled 5000 0 0 0; asked = 0; grants = [] }
+polled = record { sid = 9; spec = Polled 5000 0 0 0; asked = 0; batches = no_batches; grants = [] }
 
 -- its poll, two minislots behind the request region
 abbrev pub its_poll : Spot

@@ -2,6 +2,7 @@
 use Rattle.std.proofs.Common.{◌≡◌, ℕ, List, [], ◌∷◌, map, refl, inl, inr, lit<, lit≤, arith}
 use Rattle.map_codec.specs.Element.{word_of}
 use Rattle.sched_calls.specs.declared.spec.FlowSpec.TheVariants.{BestEffort}
+use Rattle.flow_book.proofs.Profile.{one_request}
 use Rattle.flow_book.specs.declared.flow.Grant.{Grant}
 use Rattle.flow_book.specs.Flows.{LiveFlow}
 use Rattle.flow_book.specs.Choice.{IsNext, IsAmount}
@@ -20,11 +21,11 @@ use Rattle.map_build.proofs.RowsContention.{filled_by}
 
 -- flows 20 and 21 of one priority, each with 1000 bytes asked and these grants
 abbrev pub lower : List Grant → LiveFlow
-lower grants = record { sid = 20; spec = BestEffort 3 0 0; asked = 1000; grants = grants }
+lower grants = record { sid = 20; spec = BestEffort 3 0 0; asked = 1000; batches = one_request 1000 801; grants = grants }
 
 -- a flow of the next SID that is the same otherwise
 abbrev pub higher : List Grant → LiveFlow
-higher grants = record { sid = 21; spec = BestEffort 3 0 0; asked = 1000; grants = grants }
+higher grants = record { sid = 21; spec = BestEffort 3 0 0; asked = 1000; batches = one_request 1000 801; grants = grants }
 
 -- a grant of 544 bytes at this minislot
 abbrev pub grant_at : ℕ → List Grant

@@ -121,6 +121,7 @@ frame-reordered c d others header ack p moved is = record {
   plan = is.plan;
   is_plan = plan-reordered c (with_spots others d) d.spots is.plan (IsPermutation-sym d.spots others moved) is.is_plan;
   map = is.map;
+  before = is.before;
   flows = is.flows;
   met = is.met;
 }

@@ -7,7 +7,7 @@ use Rattle.std.proofs.lemmas.Bool.Decides.{nat_tests}
 use Rattle.std.proofs.lemmas.List.{length-set}
 use Rattle.minislots.specs.Units.{slots_for}
 use Rattle.flow_book.specs.Flows.{with_grant}
-use Rattle.flow_book.specs.Book.{BookView, Room, room_of, changed}
+use Rattle.flow_book.specs.Book.{changed}
 use Rattle.periodic.specs.declared.placement.Spot.{Spot}
 use Rattle.map_build.specs.declared.draft.Draft.{Draft}
 use Rattle.sched_calls.specs.declared.opportunity.Opportunity.{Opportunity}
@@ -25,9 +25,9 @@ Knows-nothing : (a : Allocation) (d : Draft) → grants_in (a ∷ []) ≡ 0 →
     ((sid : ℕ) → grants_to d.start sid (a ∷ []) ≡ []) → place_of a.purpose ≡ None → Knows a d d
 Knows-nothing a d grants none nowhere = record {
   config = refl;
-  flows = sym (flows_after-none d.start a d.book.flows none);
+  before = refl;
+  flows = sym (flows_after-none d.start a d.overlay.flows none);
   grants = omega (arith, grants);
-  rooms = λ sid. omega arith;
   marks = refl;
   met = λ place is. inl is;
   kept = λ place is. is;
@@ -78,16 +78,16 @@ set-old (b ∷ met) (suc i) (suc j) is = elim (set-old met i j is) [
 
 -- a draft with the mark of a place knows of the opportunity of that place
 pub Knows-offer : (place : ℕ) (o : Opportunity) (old new : Draft) → place < length old.met →
-    new.met ≡ set old.met place true → new.book ≡ old.book → new.grants ≡ old.grants → new.start ≡ old.start →
+    new.met ≡ set old.met place true → new.overlay ≡ old.overlay → new.grants ≡ old.grants → new.start ≡ old.start →
     Knows (offer_here old place o) old new
 Knows-offer place o old new lt marks book grants start =
     let a : Allocation = offer_here old place o in
     let it : IsMetIn (a ∷ []) place = (a, (zero, omega arith, refl), refl) in
     record {
       config = ap (λ b. b.config) book;
-      flows = ap (λ b. b.flows) book ∙ sym (flows_after-none old.start a old.book.flows (λ other. refl));
+      before = ap (λ b. b.before) book;
+      flows = ap (λ b. b.flows) book ∙ sym (flows_after-none old.start a old.overlay.flows (λ other. refl));
       grants = omega (arith, grants);
-      rooms = λ sid. omega (arith, ap (λ (b : BookView). room_of sid b.rooms) book);
       marks = ap (λ (met : List Bool). length met) marks ∙ length-set old.met place true;
       met = λ other is. elim (set-old old.met place other (rw marks at is)) [
         | inl before ↦ inl before
@@ -100,35 +100,20 @@ Knows-offer place o old new lt marks book grants start =
       start = start;
     }
 
-room-cond : (old new : List Room) (sid other : ℕ) (b : Bool) → (other == sid) ≡ b →
-    room_of sid new + 1 ≡ room_of sid old → (other ≢ sid → room_of other new ≡ room_of other old) →
-    room_of other old ≤ room_of other new + 1
-room-cond old new sid other true test here there =
-    let same : sid ≡ other = grind (arith, nat_tests) in
-    omega (arith, subst (λ n. room_of n new + 1 ≡ room_of n old) same here)
-room-cond old new sid other false test here there =
-    let apart : other ≢ sid = λ e. grind (arith, nat_tests) in omega (arith, there apart)
-
--- a draft whose book has a data grant more knows of it
-pub Knows-grant : (sid bytes : ℕ) (old new : Draft) → new.book.config ≡ old.book.config →
-    new.book.flows ≡ changed sid (with_grant (record { start = old.start + old.offset; bytes = bytes })) old.book.flows
-    → room_of sid new.book.rooms + 1 ≡ room_of sid old.book.rooms →
-    ((other : ℕ) → other ≢ sid → room_of other new.book.rooms ≡ room_of other old.book.rooms) →
+-- a draft whose overlay has a data grant more knows of it
+pub Knows-grant : (sid bytes : ℕ) (old new : Draft) → new.overlay.config ≡ old.overlay.config →
+    new.overlay.before ≡ old.overlay.before →
+    new.overlay.flows ≡ changed sid (with_grant (record { start = old.start + old.offset; bytes = bytes })) old.overlay.flows →
     new.grants ≡ old.grants + 1 → new.met ≡ old.met → new.start ≡ old.start →
     Knows (grant_here old sid bytes) old new
-Knows-grant sid bytes old new config flows room other_room grants marks start =
+Knows-grant sid bytes old new config before flows grants marks start =
     let a : Allocation = grant_here old sid bytes in
     let one : grants_in (a ∷ []) ≡ 1 = refl in
     record {
       config = config;
-      flows = flows ∙ sym (flows_after-grant old.start sid old.offset a.slots bytes old.book.flows);
+      before = before;
+      flows = flows ∙ sym (flows_after-grant old.start sid old.offset a.slots bytes old.overlay.flows);
       grants = omega (arith, grants, one);
-      rooms = λ other.
-          omega (
-            arith,
-            room-cond old.book.rooms new.book.rooms sid other (other == sid) refl room (other_room other),
-            one,
-          );
       marks = ap (λ (met : List Bool). length met) marks;
       met = λ place is. inl (rw marks at is);
       kept = λ place is. rw marks is;
@@ -138,7 +123,7 @@ Knows-grant sid bytes old new config flows room other_room grants marks start =
 
 -- so it has that of the flow that is next
 pub Serves-known : (waiting : List Opportunity) (room sid bytes slots : ℕ) (old new : Draft) →
-    old.grants < most_grants waiting → IsNextAmount old room sid bytes → slots ≡ slots_for old.book.config bytes →
+    old.grants < most_grants old.overlay.config waiting → IsNextAmount old room sid bytes → slots ≡ slots_for old.overlay.config bytes →
     Knows (grant_here old sid bytes) old new → HasSame old new →
     Serves waiting room (record { offset = old.offset; slots = slots; purpose = DataGrant sid bytes }) old new
 Serves-known waiting room sid bytes slots old new few next long knows same = record {
@@ -156,10 +141,10 @@ pub Takes-put : (a : Allocation) (old mid new : Draft) → Knows a old mid → H
     PutsAllocation a mid new → Takes a old new
 Takes-put a old mid new knows same here puts = record {
   knows = record {
-    config = ap (λ b. b.config) puts.book ∙ knows.config;
-    flows = ap (λ b. b.flows) puts.book ∙ knows.flows;
+    config = ap (λ b. b.config) puts.overlay ∙ knows.config;
+    before = ap (λ b. b.before) puts.overlay ∙ knows.before;
+    flows = ap (λ b. b.flows) puts.overlay ∙ knows.flows;
     grants = puts.grants ∙ knows.grants;
-    rooms = λ sid. omega (arith, knows.rooms sid, ap (λ (b : BookView). room_of sid b.rooms) puts.book);
     marks = ap (λ (met : List Bool). length met) puts.met ∙ knows.marks;
     met = λ place is. knows.met place (rw puts.met at is);
     kept = λ place is. rw puts.met (knows.kept place is);

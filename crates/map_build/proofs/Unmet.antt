@@ -59,7 +59,7 @@ module _ (waiting : List Opportunity) (met : List Bool) (room place : ℕ) where
 
 -- a draft with the mark of the first such place knows of its opportunity
 pub Meets-marked : (waiting : List Opportunity) (room place : ℕ) (o : Opportunity) (old new : Draft) →
-    (first : IsFirstUnmet waiting old.met room place) → new.met ≡ set old.met place true → new.book ≡ old.book →
+    (first : IsFirstUnmet waiting old.met room place) → new.met ≡ set old.met place true → new.overlay ≡ old.overlay →
     new.grants ≡ old.grants → new.start ≡ old.start → HasSame old new →
     Meets waiting room (offer_here old place (get_or waiting place o)) old new
 Meets-marked waiting room place o old new first marks book grants start same = record {

@@ -43,7 +43,7 @@ module _ (c : Config) (d : Demand) (left : List Spot) (plan : List Allocation) (
   chosen-fits = omega (arith, clear.0, chosen.here, chosen.same.offset)
 
   -- a data grant has the minislots that its bytes take
-  pub chosen-length : HasLength mid.book.config a.slots a.purpose
+  pub chosen-length : HasLength mid.overlay.config a.slots a.purpose
   chosen-length = rw (chosen.knows.config, has.config) (length-of c (with_spots left d) plan a.offset a.slots a.purpose
       stands.purpose)
 

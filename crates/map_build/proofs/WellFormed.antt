@@ -1,5 +1,5 @@
 -- The MAP of a plan is well formed: its elements are in range, ascend, and have one Null.
-use Rattle.std.proofs.Common.{◌≡◌, ℕ, zero, suc, ◌^◌, ◌<◌, ◌≤◌, Bool, true, false, nat_lt, List, [], ◌∷◌, ◌++◌, map}
+use Rattle.std.proofs.Common.{◌≡◌, ℕ, zero, suc, ◌^◌, ◌<◌, ◌≤◌, Bool, true, false, List, [], ◌∷◌, ◌++◌, map}
 use Rattle.std.proofs.Common.{filter, length, if◌then◌else◌, ◌==◌, Some, refl, subst, ◌∙◌, arith, append_assoc}
 use Rattle.map_codec.specs.declared.element.iuc.TheConstants.{SHORT_DATA_GRANT, LONG_DATA_GRANT}
 use Rattle.map_codec.specs.declared.element.iuc.TheConstants.{ADVANCED_SHORT_DATA_GRANT, ADVANCED_LONG_DATA_GRANT}
@@ -12,7 +12,8 @@ use Rattle.minislots.specs.declared.config.Config.{Config}
 use Rattle.minislots.specs.Units.{is_short}
 use Rattle.map_codec.specs.declared.element.Element.{Element}
 use Rattle.map_codec.specs.Element.{IsInRange, is_null, nulls, element_at, Ascends}
-use Rattle.flow_book.specs.Flows.{LiveFlow, outstanding}
+use Rattle.flow_book.specs.Flows.{LiveFlow}
+use Rattle.flow_book.specs.Shown.{is_shown}
 use Rattle.flow_book.proofs.Removal.{all-filter}
 use Rattle.periodic.specs.declared.placement.Spot.{Spot}
 use Rattle.map_build.specs.EachAfter.{EachAfter}
@@ -192,11 +193,10 @@ pub elements_of-encodable : (c : Config) (d : Demand) (plan : List Allocation) �
     HaveSids d.flows → HaveSpotSids d.spots → HaveStationSids d.waiting →
     EachAfter (Stands c d) [] plan → end_of c plan ≡ c.frame → AreEncodable (elements_of c d.flows d.start plan)
 elements_of-encodable c d plan below sids places stations each whole =
-    let waiting : List LiveFlow = filter (λ (f : LiveFlow). nat_lt 0 (outstanding f))
-    (flows_after d.start plan d.flows) in
+    let all : List LiveFlow = flows_after d.start plan d.flows in
+    let waiting : List LiveFlow = filter (is_shown c.pending all) all in
     let sids_waiting : HaveSids waiting =
-    all-filter (λ (g : LiveFlow). g.sid < 2 ^ 14) (λ (f : LiveFlow). nat_lt 0 (outstanding f))
-    (flows_after d.start plan d.flows) (sids_after d.start plan d.flows sids) in
+    all-filter (λ (g : LiveFlow). g.sid < 2 ^ 14) (is_shown c.pending all) all (sids_after d.start plan d.flows sids) in
     let tail : List Element = null_element c ∷ map (pending_of c) waiting in
     let null_in_range : IsInRange (null_element c) = record { sid = omega arith; iuc = omega arith; offset = below } in
     let region_in_range : IsInRange request_region =

@@ -1,12 +1,13 @@
 -- The lawful MAP of a frame.
-use Rattle.std.specs.Prelude.{◌≡◌, ℕ, nat_lt, Bool, true, List, ◌∷◌, ◌++◌, map, filter}
+use Rattle.std.specs.Prelude.{◌≡◌, ℕ, Bool, true, List, ◌∷◌, ◌++◌, map, filter}
 use Rattle.std.specs.Prelude.{Some}
 use Rattle.std.specs.List.{slice_get}
 use Rattle.minislots.specs.declared.config.Config.{Config}
 use Rattle.minislots.specs.Units.{wire_of}
 use Rattle.map_codec.specs.declared.element.Element.{Element}
 use Rattle.map_codec.specs.declared.element.iuc.TheConstants.{REQUEST, NULL}
-use Rattle.flow_book.specs.Flows.{LiveFlow, outstanding}
+use Rattle.flow_book.specs.Flows.{LiveFlow}
+use Rattle.flow_book.specs.Shown.{is_shown, ack_of}
 use Rattle.map_build.specs.declared.frame.PlannedFrame.{PlannedFrame}
 use Rattle.sched_calls.specs.declared.frame_map.FrameMap.{FrameMap}
 use Rattle.sched_calls.specs.declared.opportunity.Header.{Header}
@@ -23,13 +24,17 @@ request_region = record { sid = broadcast; iuc = REQUEST; offset = 0 }
 abbrev pub null_element : Config → Element
 null_element c = record { sid = 0; iuc = NULL; offset = c.frame }
 
+-- the pending grant to an SID
+abbrev pub pending_to : Config → ℕ → Element
+pending_to c sid = record { sid = sid; iuc = long_iuc c; offset = c.frame }
+
 -- the pending grant of a flow
 abbrev pub pending_of : Config → LiveFlow → Element
-pending_of c f = record { sid = f.sid; iuc = long_iuc c; offset = c.frame }
+pending_of c f = pending_to c f.sid
 
--- a pending grant for each flow with bytes outstanding
+-- a pending grant for each flow that is shown
 abbrev pub pending : Config → List LiveFlow → List Element
-pending c flows = map (pending_of c) (filter (λ f. nat_lt 0 (outstanding f)) flows)
+pending c flows = map (pending_of c) (filter (is_shown c.pending flows) flows)
 
 -- the elements of the MAP with this plan
 abbrev pub elements_of : Config → List LiveFlow → ℕ → List Allocation → List Element
@@ -61,14 +66,15 @@ map_with c header start ack elements bytes = record {
   bytes = bytes;
 }
 
--- the MAP with this plan
+-- the MAP with this plan, where all receivers have handed in what they heard before the progress
 abbrev pub map_of : Config → Demand → Header → ℕ → List Allocation → FrameMap
-map_of c d header ack plan = map_with c header d.start ack (elements_of c d.flows d.start plan)
-    (bytes_of_plan c d.flows d.start plan)
+map_of c d header progress plan =
+    map_with c header d.start (ack_of c.pending progress (flows_after d.start plan d.flows))
+    (elements_of c d.flows d.start plan) (bytes_of_plan c d.flows d.start plan)
 
--- The MAP is lawful for a frame that has this to serve, with this header and acknowledge time
+-- The MAP is lawful for a frame that has this to serve, with this header and least progress
 abbrev pub IsLawfulMap : Config → Demand → Header → ℕ → FrameMap → Type 0
-IsLawfulMap c d header ack m = (plan : List Allocation) × IsPlan c d plan × (m ≡ map_of c d header ack plan)
+IsLawfulMap c d header progress m = (plan : List Allocation) × IsPlan c d plan × (m ≡ map_of c d header progress plan)
 
 -- the places at which these are true are those of the opportunities in the plan
 pub record AreMet (plan : List Allocation) (met : List Bool) : Type 0 where
@@ -76,9 +82,10 @@ pub record AreMet (plan : List Allocation) (met : List Bool) : Type 0 where
   pub all : (place : ℕ) → IsMetIn plan place → slice_get met place ≡ Some true
 
 -- The MAP is lawful, and so are the live flows with its data grants and the opportunities that it has
-pub record IsLawfulFrame (c : Config) (d : Demand) (header : Header) (ack : ℕ) (p : PlannedFrame) : Type 0 where
+pub record IsLawfulFrame (c : Config) (d : Demand) (header : Header) (progress : ℕ) (p : PlannedFrame) : Type 0 where
   pub plan : List Allocation
   pub is_plan : IsPlan c d plan
-  pub map : p.map ≡ map_of c d header ack plan
-  pub flows : p.book.flows ≡ flows_after d.start plan d.flows
+  pub map : p.map ≡ map_of c d header progress plan
+  pub before : p.overlay.before ≡ d.flows
+  pub flows : p.overlay.flows ≡ flows_after d.start plan d.flows
   pub met : AreMet plan p.met

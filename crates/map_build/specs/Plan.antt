@@ -9,7 +9,7 @@ use Rattle.flow_book.specs.declared.flow.Grant.{Grant}
 use Rattle.flow_book.specs.Flows.{LiveFlow}
 use Rattle.flow_book.specs.Choice.{NoneEligible, IsNext, IsAmount}
 use Rattle.periodic.specs.declared.placement.Spot.{Spot}
-use Rattle.map_build.specs.declared.TheConstants.{MAX_DATA_GRANTS}
+use Rattle.map_build.specs.declared.TheConstants.{MAX_DATA_GRANTS, MAX_GRANTS_AND_PENDING}
 use Rattle.sched_calls.specs.declared.opportunity.Opportunity.{Opportunity}
 use Rattle.map_build.specs.declared.purpose.Allocation.{Allocation}
 use Rattle.map_build.specs.declared.purpose.Purpose.{Purpose}
@@ -31,9 +31,10 @@ abbrev pub demand_at : List LiveFlow → List Spot → List Opportunity → ℕ 
 demand_at flows spots waiting start =
     record { start = start; flows = flows; spots = spots; waiting = waiting }
 
--- the most data grants of its MAP: each opportunity that waits takes the place of one
-abbrev pub most_grants : List Opportunity → ℕ
-most_grants waiting = MAX_DATA_GRANTS - length waiting
+-- the most data grants of its MAP, beside the pending grants that it may have: each opportunity that waits takes the
+-- place of one
+abbrev pub most_grants : Config → List Opportunity → ℕ
+most_grants c waiting = min MAX_DATA_GRANTS (MAX_GRANTS_AND_PENDING - c.pending) - length waiting
 
 -- how many data grants there are
 abbrev pub grants_in : List Allocation → ℕ
@@ -95,7 +96,7 @@ pub record IsFirstToMeet (waiting : List Opportunity) (before : List Allocation)
 abbrev pub NoneOf : Config → Demand → List Allocation → ℕ → Class → Type 0
 NoneOf c d before offset Placed = 0 < room_at c d.spots offset
 NoneOf c d before offset Reserved = NoneToMeet d.waiting before (room_at c d.spots offset)
-NoneOf c d before offset Requested = (most_grants d.waiting ≤ grants_in before)
+NoneOf c d before offset Requested = (most_grants c d.waiting ≤ grants_in before)
     ⊎ NoneEligible c (flows_after d.start before d.flows) (d.start + offset) (room_at c d.spots offset)
 NoneOf c d before offset Left = ⊥
 
@@ -106,7 +107,7 @@ IsOfClass c d before offset slots (UnsolicitedGrant sid size) =
     IsSpot d.spots sid (Some size) offset slots
 IsOfClass c d before offset slots (Offer place usage) =
     IsFirstToMeet d.waiting before (room_at c d.spots offset) place (record { usage = usage; slots = slots })
-IsOfClass c d before offset slots (DataGrant sid bytes) = (grants_in before < most_grants d.waiting)
+IsOfClass c d before offset slots (DataGrant sid bytes) = (grants_in before < most_grants c d.waiting)
     × (f : LiveFlow) × (f.sid ≡ sid)
     × IsNext c (flows_after d.start before d.flows) (d.start + offset) (room_at c d.spots offset) f
     × IsAmount c f (d.start + offset) (room_at c d.spots offset) bytes × (slots ≡ slots_for c bytes)

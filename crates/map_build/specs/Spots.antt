@@ -2,10 +2,10 @@
 use Rattle.std.specs.Prelude.{◌≡◌, ℕ, ◌+◌, ◌<◌, ◌≤◌, List, length, map, filter}
 use Rattle.std.specs.List.{AllByRecursion}
 use Rattle.minislots.specs.declared.config.Config.{Config}
-use Rattle.sched_calls.specs.declared.TheConstants.{MAX_FLOWS}
 use Rattle.sched_calls.specs.FlowSpec.{is_periodic}
+use Rattle.flow_book.specs.Book.{Ascend}
 use Rattle.flow_book.specs.Flows.{LiveFlow}
-use Rattle.sched_calls.specs.declared.TheConstants.{MAX_PERIODIC_GRANTS}
+use Rattle.periodic.specs.declared.TheConstants.{MAX_SPOTS}
 use Rattle.periodic.specs.declared.placement.Spot.{Spot}
 use Rattle.periodic.specs.Placement.{Placed}
 use Rattle.periodic.specs.Table.{FollowInTurn}
@@ -18,7 +18,7 @@ pub record IsInFrame (c : Config) (s : Spot) : Type 0 where
 
 -- The spots are those that one frame may have, in the order of their offsets
 pub record AreInFrame (c : Config) (spots : List Spot) : Type 0 where
-  pub few : length spots ≤ MAX_PERIODIC_GRANTS
+  pub few : length spots ≤ MAX_SPOTS
   pub each : AllByRecursion (IsInFrame c) spots
   pub in_turn : FollowInTurn spots
 
@@ -32,7 +32,7 @@ HaveFlowSids spots = AllByRecursion (λ s. IsFlowSid s.sid) spots
 
 -- The flows are those that one channel may have
 pub record AreOfChannel (flows : List LiveFlow) : Type 0 where
-  pub few : length flows ≤ MAX_FLOWS
+  pub ascend : Ascend flows
   pub sids : AllByRecursion (λ f. IsFlowSid f.sid) flows
 
 -- The placed flows are the periodic ones among these, in their order

@@ -6,7 +6,6 @@ use Rattle.minislots.specs.declared.config.Config.{Config}
 use Rattle.minislots.specs.Config.{IsLawful}
 use Rattle.minislots.specs.Units.{slots_for}
 use Rattle.flow_book.specs.Flows.{LiveFlow, flow_of}
-use Rattle.flow_book.specs.Book.{IsLive, room_of}
 use Rattle.flow_book.specs.Choice.{IsNext, IsAmount, NoneEligible, HasStartedBy}
 use Rattle.periodic.specs.declared.placement.Spot.{Spot}
 use Rattle.map_build.specs.declared.TheConstants.{MAX_WAITING}
@@ -20,22 +19,21 @@ use Rattle.map_build.specs.Opportunities.{IsFirstUnmet, NoneUnmet}
 use Rattle.map_build.specs.Plan.{Demand, demand_at, most_grants, grants_in, end_of, flows_after, IsMetIn, Stands}
 use Rattle.map_build.specs.FrameMap.{request_region, AreMet}
 
--- the draft has a mark for each place and room for all grants of its MAP, and none starts later than where it is
+-- the draft has a mark for each place, and no grant of its flows starts later than where it is
 pub record IsWellBegun (waiting : List Opportunity) (d : Draft) : Type 0 where
-  pub lawful : IsLawful d.book.config
+  pub lawful : IsLawful d.overlay.config
   pub near : d.start ≤ 2 ^ 61
-  pub inside : d.offset ≤ d.book.config.frame
+  pub inside : d.offset ≤ d.overlay.config.frame
   pub marks : length d.met ≡ MAX_WAITING
-  pub few : d.grants ≤ most_grants waiting
-  pub room : (sid : ℕ) → IsLive sid d.book.flows → most_grants waiting ≤ d.grants + room_of sid d.book.rooms
-  pub started : AllByRecursion (HasStartedBy (d.start + d.offset)) d.book.flows
+  pub few : d.grants ≤ most_grants d.overlay.config waiting
+  pub started : AllByRecursion (HasStartedBy (d.start + d.offset)) d.overlay.flows
 
--- the book and the places of a draft with an allocation more
+-- the flows and the places of a draft with an allocation more
 pub record Knows (a : Allocation) (old new : Draft) : Type 0 where
-  pub config : new.book.config ≡ old.book.config
-  pub flows : new.book.flows ≡ flows_after old.start (a ∷ []) old.book.flows
+  pub config : new.overlay.config ≡ old.overlay.config
+  pub before : new.overlay.before ≡ old.overlay.before
+  pub flows : new.overlay.flows ≡ flows_after old.start (a ∷ []) old.overlay.flows
   pub grants : new.grants ≡ old.grants + grants_in (a ∷ [])
-  pub rooms : (sid : ℕ) → room_of sid old.book.rooms ≤ room_of sid new.book.rooms + grants_in (a ∷ [])
   pub marks : length new.met ≡ length old.met
   pub met : (place : ℕ) → slice_get new.met place ≡ Some true
       → (slice_get old.met place ≡ Some true) ⊎ IsMetIn (a ∷ []) place
@@ -70,26 +68,26 @@ MeetsNext waiting room (Some a) old new = Meets waiting room a old new
 abbrev pub grant_here : Draft → ℕ → ℕ → Allocation
 grant_here d sid bytes = record {
   offset = d.offset;
-  slots = slots_for d.book.config bytes;
+  slots = slots_for d.overlay.config bytes;
   purpose = DataGrant sid bytes;
 }
 
 -- the flow with this SID is next here, in so many minislots, and these are the bytes that it gets
 abbrev pub IsNextAmount : Draft → ℕ → ℕ → ℕ → Type 0
-IsNextAmount d room sid bytes = IsSomeAnd (flow_of sid d.book.flows)
-    (λ f. IsNext d.book.config d.book.flows (d.start + d.offset) room f
-    × IsAmount d.book.config f (d.start + d.offset) room bytes)
+IsNextAmount d room sid bytes = IsSomeAnd (flow_of sid d.overlay.flows)
+    (λ f. IsNext d.overlay.config d.overlay.flows (d.start + d.offset) room f
+    × IsAmount d.overlay.config f (d.start + d.offset) room bytes)
 
 -- no more data grant stands here, in so many minislots: there are as many as may be, or no flow is eligible
 abbrev pub NoneServed : List Opportunity → Draft → ℕ → Type 0
-NoneServed waiting d room = (most_grants waiting ≤ d.grants)
-    ⊎ NoneEligible d.book.config d.book.flows (d.start + d.offset) room
+NoneServed waiting d room = (most_grants d.overlay.config waiting ≤ d.grants)
+    ⊎ NoneEligible d.overlay.config d.overlay.flows (d.start + d.offset) room
 
 -- the draft knows of a data grant, of its amount, to the flow that is next; its element is to come
 pub record Serves (waiting : List Opportunity) (room : ℕ) (a : Allocation) (old new : Draft) : Type 0 where
   pub knows : Knows a old new
   pub same : HasSame old new
-  pub few : old.grants < most_grants waiting
+  pub few : old.grants < most_grants old.overlay.config waiting
   pub sid : ℕ
   pub bytes : ℕ
   pub next : IsNextAmount old room sid bytes
@@ -102,8 +100,8 @@ ServesNext waiting room (Some a) old new = Serves waiting room a old new
 
 -- the draft is where this plan ends, and its book has the plan's grants
 pub record IsAfter (flows : List LiveFlow) (plan : List Allocation) (d : Draft) : Type 0 where
-  pub flows_now : d.book.flows ≡ flows_after d.start plan flows
-  pub ends : d.offset ≡ end_of d.book.config plan
+  pub flows_now : d.overlay.flows ≡ flows_after d.start plan flows
+  pub ends : d.offset ≡ end_of d.overlay.config plan
   pub grants : d.grants ≡ grants_in plan
   pub met : AreMet plan d.met
 
@@ -113,13 +111,13 @@ pub record Chooses (spots : List Spot) (waiting : List Opportunity) (a : Allocat
   pub same : HasSame old new
   pub here : a.offset ≡ old.offset
   pub stands : (flows : List LiveFlow) (plan : List Allocation) → IsAfter flows plan old →
-      Stands old.book.config (demand_at flows spots waiting old.start) plan a
+      Stands old.overlay.config (demand_at flows spots waiting old.start) plan a
 
 -- a draft with an allocation more, of which its book knows
 pub record Takes (a : Allocation) (old new : Draft) : Type 0 where
   pub knows : Knows a old new
-  pub elements : new.elements.items ≡ old.elements.items ++ element_of old.book.config a ∷ []
-  pub bytes_of : new.bytes.items ≡ old.bytes.items ++ bytes_in old.book.config a ∷ []
+  pub elements : new.elements.items ≡ old.elements.items ++ element_of old.overlay.config a ∷ []
+  pub bytes_of : new.bytes.items ≡ old.bytes.items ++ bytes_in old.overlay.config a ∷ []
   pub offset : new.offset ≡ old.offset + a.slots
 
 -- the spots before this minislot are in the plan
@@ -128,7 +126,8 @@ AreTaken spots plan offset = AllByRecursion (λ s. s.offset < offset → Contain
 
 -- The draft has the request region and this plan, lawful up to where the draft is
 pub record HasPlan (c : Config) (d : Demand) (plan : List Allocation) (draft : Draft) : Type 0 where
-  pub config : draft.book.config ≡ c
+  pub config : draft.overlay.config ≡ c
+  pub before : draft.overlay.before ≡ d.flows
   pub starts : draft.start ≡ d.start
   pub ready : IsWellBegun d.waiting draft
   pub after : IsAfter d.flows plan draft
@@ -139,10 +138,10 @@ pub record HasPlan (c : Config) (d : Demand) (plan : List Allocation) (draft : D
 
 -- the draft has the request region alone
 abbrev pub IsUnfilled : List Spot → List Opportunity → Draft → Type 0
-IsUnfilled spots waiting d = HasPlan d.book.config (demand_at d.book.flows spots waiting d.start) [] d
+IsUnfilled spots waiting d = HasPlan d.overlay.config (demand_at d.overlay.flows spots waiting d.start) [] d
 
 -- a draft whose frame is filled by a plan
 abbrev pub IsFilled : List Spot → List Opportunity → Draft → Draft → Type 0
 IsFilled spots waiting old new = (plan : List Allocation)
-    × HasPlan old.book.config (demand_at old.book.flows spots waiting old.start) plan new
-    × (new.offset ≡ old.book.config.frame)
+    × HasPlan old.overlay.config (demand_at old.overlay.flows spots waiting old.start) plan new
+    × (new.offset ≡ old.overlay.config.frame)

@@ -1,13 +1,12 @@
 //! The MAP of one frame while it is made.
 
-ghost use Rattle.std.specs.Prelude.{◌≡◌, ℕ, ◌<◌, ◌≤◌, ◌+◌, ◌^◌, List, [], ◌∷◌, IfOk, OnOk, IfSome};
-ghost use Rattle.std.specs.Prelude.{length, slice_get};
+ghost use Rattle.std.specs.Prelude.{◌≡◌, ◌<◌, ◌≤◌, ◌+◌, ◌^◌, List, [], IfOk, OnOk, map};
 ghost use Rattle.std.specs.List.{AllByRecursion};
 ghost use Rattle.map_codec.specs.WireMap.{FitsHeader};
-ghost use Rattle.flow_book.specs.Book.{IsLive, room_of};
 ghost use Rattle.flow_book.specs.Choice.{HasStartedBy};
+ghost use Rattle.flow_book.specs.Shown.{ack_of};
 ghost use Rattle.periodic.specs.declared.placement.Spot.{Spot};
-ghost use Rattle.map_build.specs.declared.TheConstants.{MAX_DATA_GRANTS, MAX_WAITING};
+ghost use Rattle.map_build.specs.declared.TheConstants.{MAX_WAITING};
 ghost use Rattle.sched_calls.specs.declared.opportunity.Opportunity.{Opportunity};
 ghost use Rattle.map_build.specs.Plan.{demand_at};
 ghost use Rattle.map_build.specs.Purpose.{HasLength};
@@ -19,8 +18,8 @@ ghost use Rattle.map_build.specs.Walk.{HasPlan};
 
 use crate::purpose::{Allocation, BROADCAST, NOBODY};
 use crate::usage_codes::long_iuc;
-use crate::{MAX_DATA_GRANTS, MAX_WAITING};
-use flow_book::Book;
+use crate::MAX_WAITING;
+use flow_book::{Book, Overlay, Pending};
 use map_codec::{Element, Elements, MAX_ELEMENTS, WireMap, iuc};
 use minislots::{Checked, wire};
 use sched_calls::{ByteCounts, FrameMap, Header};
@@ -33,7 +32,7 @@ const FEW_ELEMENTS: usize = 170;
 #[derive(Drop)]
 pub(crate) struct Draft {
     /// The flows, with the data grants of the MAP so far.
-    pub(crate) book: Book,
+    pub(crate) overlay: Overlay,
     /// The minislot at which the frame starts.
     pub(crate) start: u64,
     pub(crate) elements: Vec<Element>,
@@ -47,18 +46,6 @@ pub(crate) struct Draft {
     pub(crate) met: [bool; MAX_WAITING],
 }
 
-// A copy of the book, with room for all data grants of a MAP.
-fn copy_with_room(book: &Book) -> Result<Book, AllocError>
-    ensures config { IfOk result (λ copy. copy.config ≡ book.now.config) }
-    ensures flows { IfOk result (λ copy. copy.flows ≡ book.now.flows) }
-    ensures room { IfOk result (λ copy. (sid : ℕ) → IsLive sid copy.flows →
-        MAX_DATA_GRANTS ≤ room_of sid copy.rooms) }
-{
-    let mut copy = book.copy()?;
-    copy.reserve(MAX_DATA_GRANTS)?;
-    Ok(copy)
-}
-
 impl Draft {
     /// The request region alone.
     pub(crate) fn open(alloc: Global, book: &Book, start: u64) -> Result<Draft, AllocError>
@@ -69,7 +56,7 @@ impl Draft {
             → HasPlan book.now.config (demand_at book.now.flows spots waiting start) [] d) }
     {
         let mut draft = Draft {
-            book: copy_with_room(book)?,
+            overlay: book.overlay()?,
             start,
             elements: Vec::with_capacity(alloc, FEW_ELEMENTS)?,
             bytes: Vec::with_capacity(alloc, usize::from(MAX_ELEMENTS))?,
@@ -77,7 +64,7 @@ impl Draft {
             grants: 0,
             met: [false; MAX_WAITING],
         };
-        let requests = draft.book.config().req_slots() as u16;
+        let requests = draft.overlay.config().req_slots() as u16;
         draft.put_slots(BROADCAST, iuc::REQUEST, requests, 0)?;
         Ok(draft)
     }
@@ -85,11 +72,11 @@ impl Draft {
     /// The element of an allocation more, which begins at the offset that is reached.
     pub(crate) fn put_allocation(&mut self, allocation: Allocation) -> Result<(), AllocError>
         requires fits { self.old.offset + allocation.slots < 2 ^ 16 }
-        requires length { HasLength self.old.book.config allocation.slots allocation.purpose }
+        requires length { HasLength self.old.overlay.config allocation.slots allocation.purpose }
         ensures { OnOk result (PutsAllocation allocation self.old self.new) }
     {
         let Allocation { slots, purpose, .. } = allocation;
-        let kind = purpose.kind(self.book.config(), slots);
+        let kind = purpose.kind(self.overlay.config(), slots);
         self.put_slots(kind.sid, kind.iuc, slots, kind.bytes)
     }
 
@@ -113,52 +100,42 @@ impl Draft {
         Ok(())
     }
 
-    /// The Null, and behind it the pending grants.
-    pub(crate) fn put_end(&mut self) -> Result<(), AllocError>
-        requires { self.old.offset ≡ self.old.book.config.frame }
-        ensures { OnOk result (Ends self.old self.new) }
+    /// The Null, and behind it the pending grants. The answer is the MAP's acknowledge time, where all receivers have
+    /// handed in what they heard before the progress. The book is the one that the draft was opened for.
+    pub(crate) fn put_end(&mut self, book: &Book, progress: u64) -> Result<u64, AllocError>
+        requires full { self.old.offset ≡ self.old.overlay.config.frame }
+        requires before { self.old.overlay.before ≡ book.now.flows }
+        ensures ends { OnOk result (Ends self.old self.new) }
+        ensures ack { IfOk result (λ ack. ack
+            ≡ ack_of self.old.overlay.config.pending progress self.old.overlay.flows) }
     {
+        let shown = book.show(&self.overlay, progress)?;
         self.put(NOBODY, iuc::NULL, 0)?;
-        self.put_pending()
+        self.put_pending(&shown.pending)?;
+        Ok(shown.ack)
     }
 
-    // A pending grant for each flow with bytes outstanding.
-    fn put_pending(&mut self) -> Result<(), AllocError>
-        requires { self.old.offset ≡ self.old.book.config.frame }
-        ensures { OnOk result (PutsPending self.old.book.flows self.old self.new) }
+    // A pending grant to each of these flows.
+    fn put_pending(&mut self, pending: &[Pending]) -> Result<(), AllocError>
+        requires { self.old.offset ≡ self.old.overlay.config.frame }
+        ensures { OnOk result (PutsPending (map (λ p. p.sid) pending.now) self.old self.new) }
     {
-        let iuc = long_iuc(self.book.config());
-        for place in 0..self.book.len() {
-            self.put_pending_of(place, iuc)?;
+        let iuc = long_iuc(self.overlay.config());
+        for one in pending {
+            self.put(one.sid, iuc, 0)?;
         }
         Ok(())
     }
 
-    // The pending grant of the flow at this place, of the usage code of such grants, if it has bytes outstanding.
-    fn put_pending_of(&mut self, place: usize, iuc: u8) -> Result<(), AllocError>
-        requires inside { place < length self.old.book.flows }
-        requires end { self.old.offset ≡ self.old.book.config.frame }
-        requires code { iuc ≡ long_iuc self.old.book.config }
-        ensures { OnOk result (IfSome (slice_get self.old.book.flows place)
-            (λ f. PutsPending (f ∷ []) self.old self.new)) }
-    {
-        if self.book.outstanding_at(place) == 0 {
-            return Ok(());
-        }
-        let sid = self.book.sid_at(place);
-        self.put(sid, iuc, 0)?;
-        Ok(())
-    }
-
-    /// The MAP with the elements of the draft, and its book.
-    pub(crate) fn into_map(self, header: Header, ack: u64) -> (FrameMap, Book)
-        ensures made { result.0 ≡ map_with self.book.config header self.start ack
+    /// The MAP with the elements of the draft, and its overlay.
+    pub(crate) fn into_map(self, header: Header, ack: u64) -> (FrameMap, Overlay)
+        ensures made { result.0 ≡ map_with self.overlay.config header self.start ack
             self.elements.items self.bytes.items }
         ensures fits { FitsHeader result.0.wire }
-        ensures book { result.1 ≡ self.book }
+        ensures overlay { result.1 ≡ self.overlay }
     {
         let Draft {
-            book,
+            overlay,
             start,
             elements,
             bytes,
@@ -167,10 +144,10 @@ impl Draft {
         let map = FrameMap {
             start,
             ack,
-            wire: wire_map(book.config(), header, start, ack, elements),
+            wire: wire_map(overlay.config(), header, start, ack, elements),
             bytes: ByteCounts::from_vec(bytes),
         };
-        (map, book)
+        (map, overlay)
     }
 }
 

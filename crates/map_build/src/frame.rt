@@ -14,9 +14,9 @@ ghost use Rattle.map_build.specs.Spots.{AreInFrame, AreOfChannel, HaveFlowSids, 
 
 use crate::MAX_WAITING;
 use crate::draft::Draft;
-use flow_book::Book;
-use periodic::{Spot, Table};
-use sched_calls::{FrameMap, Header, MAX_PERIODIC_GRANTS, Opportunity};
+use flow_book::{Book, Overlay};
+use periodic::{MAX_SPOTS, Spot, Table};
+use sched_calls::{FrameMap, Header, Opportunity};
 use std::alloc::{AllocError, Global};
 
 // What stands in an array of spots before one is written.
@@ -32,8 +32,8 @@ const NO_SPOT: Spot = Spot {
 pub struct PlannedFrame {
     /// The MAP.
     pub map: FrameMap,
-    /// The book with the data grants of the MAP.
-    pub book: Book,
+    /// The flows with the data grants of the MAP.
+    pub overlay: Overlay,
     /// Which of the opportunities that waited for the MAP it has, by their places.
     pub met: [bool; MAX_WAITING],
 }
@@ -46,7 +46,7 @@ fn plan_around(
     waiting: &[Opportunity],
     header: Header,
     start: u64,
-    ack: u64,
+    progress: u64,
 ) -> Result<PlannedFrame, AllocError>
     requires placed { AreInFrame book.now.config spots.now }
     requires waiting { MayWait waiting.now }
@@ -54,23 +54,23 @@ fn plan_around(
     requires bounded { start ≤ 2 ^ 61 }
 
     ensures lawful { IfOk result (λ p. IsLawfulFrame book.now.config
-        (demand_at book.now.flows spots.now waiting.now start) header ack p) }
+        (demand_at book.now.flows spots.now waiting.now start) header progress p) }
     ensures only { IfOk result (λ p. (n : FrameMap) → IsLawfulMap book.now.config
-        (demand_at book.now.flows spots.now waiting.now start) header ack n → n ≡ p.map) }
+        (demand_at book.now.flows spots.now waiting.now start) header progress n → n ≡ p.map) }
     ensures encodable { AreOfChannel book.now.flows → HaveFlowSids spots.now
         → HaveStationSids waiting.now → IfOk result (λ p. IsWellFormed p.map.wire) }
-    ensures config { IfOk result (λ p. p.book.config ≡ book.now.config) }
+    ensures config { IfOk result (λ p. p.overlay.config ≡ book.now.config) }
 {
     let mut draft = Draft::open(alloc, book, start)?;
     draft.fill(spots, waiting)?;
-    draft.put_end()?;
+    let ack = draft.put_end(book, progress)?;
     let met = draft.met;
-    let (map, book) = draft.into_map(header, ack);
-    Ok(PlannedFrame { map, book, met })
+    let (map, overlay) = draft.into_map(header, ack);
+    Ok(PlannedFrame { map, overlay, met })
 }
 
 /// The lawful MAP of frame number `frame`, which starts at `frame` times the frame's minislots, with
-/// the minislot `ack` as its acknowledge time. Book and table are of one channel, the table places the
+/// the minislot `progress` before which all receivers have handed in what they heard. Book and table are of one channel, the table places the
 /// book's periodic flows, and the book's grants start before the frame. No opportunity waits for it, and its header is
 /// the configuration's.
 pub fn plan_frame(
@@ -78,7 +78,7 @@ pub fn plan_frame(
     book: &Book,
     table: &Table,
     frame: u64,
-    ack: u64,
+    progress: u64,
 ) -> Result<FrameMap, AllocError>
     requires config { table.now.config ≡ book.now.config }
     requires periodic { ArePeriodicOf book.now.flows table.now.placed }
@@ -88,14 +88,14 @@ pub fn plan_frame(
 
     ensures lawful { IfOk result (λ m. IsLawfulMap book.now.config (demand_at book.now.flows
         (spots_in book.now.config frame table.now.placed) [] (frame * book.now.config.frame))
-        (header_of book.now.config) ack m) }
+        (header_of book.now.config) progress m) }
     ensures only { IfOk result (λ m. (n : FrameMap) → IsLawfulMap book.now.config
         (demand_at book.now.flows (spots_in book.now.config frame table.now.placed) []
-        (frame * book.now.config.frame)) (header_of book.now.config) ack n → n ≡ m) }
+        (frame * book.now.config.frame)) (header_of book.now.config) progress n → n ≡ m) }
     ensures encodable { AreOfChannel book.now.flows → IfOk result (λ m. IsWellFormed m.wire) }
 {
     let header = Header::of(book.config());
-    let planned = plan_with_book(alloc, book, table, frame, ack, header, &[])?;
+    let planned = plan_with_book(alloc, book, table, frame, progress, header, &[])?;
     let PlannedFrame { map, .. } = planned;
     Ok(map)
 }
@@ -108,7 +108,7 @@ pub fn plan_with_book(
     book: &Book,
     table: &Table,
     frame: u64,
-    ack: u64,
+    progress: u64,
     header: Header,
     waiting: &[Opportunity],
 ) -> Result<PlannedFrame, AllocError>
@@ -121,18 +121,26 @@ pub fn plan_with_book(
 
     ensures lawful { IfOk result (λ p. IsLawfulFrame book.now.config
         (demand_at book.now.flows (spots_in book.now.config frame table.now.placed) waiting.now
-        (frame * book.now.config.frame)) header ack p) }
+        (frame * book.now.config.frame)) header progress p) }
     ensures only { IfOk result (λ p. (n : FrameMap) → IsLawfulMap book.now.config
         (demand_at book.now.flows (spots_in book.now.config frame table.now.placed) waiting.now
-        (frame * book.now.config.frame)) header ack n → n ≡ p.map) }
+        (frame * book.now.config.frame)) header progress n → n ≡ p.map) }
     ensures first { IfOk result (λ p. MeetsFirst book.now.config
         (spots_in book.now.config frame table.now.placed) waiting.now p.met) }
     ensures encodable { AreOfChannel book.now.flows → HaveStationSids waiting.now
         → IfOk result (λ p. IsWellFormed p.map.wire) }
-    ensures config { IfOk result (λ p. p.book.config ≡ book.now.config) }
+    ensures config { IfOk result (λ p. p.overlay.config ≡ book.now.config) }
 {
     let start = frame * u64::from(book.config().frame());
-    let mut spots = [NO_SPOT; MAX_PERIODIC_GRANTS];
+    let mut spots = [NO_SPOT; MAX_SPOTS];
     let count = table.in_frame(frame, &mut spots);
-    plan_around(alloc, book, &spots[..count], waiting, header, start, ack)
+    plan_around(
+        alloc,
+        book,
+        &spots[..count],
+        waiting,
+        header,
+        start,
+        progress,
+    )
 }

@@ -15,5 +15,8 @@ pub use sched_calls::{ByteCounts, FrameMap, Header, Opportunity, Usage};
 /// The most data grants of one MAP, where no opportunity waits for it. Each that waits takes the place of one.
 pub const MAX_DATA_GRANTS: usize = 93;
 
+/// The most data grants and pending grants of one MAP together.
+pub const MAX_GRANTS_AND_PENDING: usize = 157;
+
 /// The most opportunities that wait for one MAP.
 pub const MAX_WAITING: usize = 16;

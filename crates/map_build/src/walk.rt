@@ -1,19 +1,20 @@
 //! The walk along a frame: what stands at each offset, up to the end.
 
-ghost use Rattle.std.specs.Prelude.{◌≡◌, ◌<◌, ◌≤◌, ◌+◌, ◌^◌, ◌==◌, OnOk, find, option_copied, length};
+ghost use Rattle.std.specs.Prelude.{◌≡◌, ◌<◌, ◌≤◌, ◌+◌, ◌^◌, ◌==◌, List, [], OnOk, find, option_copied, length};
 ghost use Rattle.minislots.specs.declared.config.Config.{Config};
+ghost use Rattle.sched_calls.specs.declared.opportunity.Opportunity.{Opportunity as Offered};
 ghost use Rattle.map_build.specs.declared.TheConstants.{MAX_WAITING};
-ghost use Rattle.map_build.specs.Plan.{next_stop};
+ghost use Rattle.map_build.specs.Plan.{next_stop, most_grants};
 ghost use Rattle.map_build.specs.Purpose.{allocation_of};
 ghost use Rattle.map_build.specs.Spots.{AreInFrame};
 ghost use Rattle.map_build.specs.Walk.{IsWellBegun, IsUnfilled, IsFilled, MeetsNext, ServesNext, Chooses};
 ghost use Rattle.map_build.specs.Opportunities.{MayWait};
 ghost use Rattle.map_build.specs.Left.{left_at, AreAhead};
 
-use crate::MAX_DATA_GRANTS;
 use crate::draft::Draft;
 use crate::opportunity::first_unmet;
 use crate::purpose::{Allocation, Purpose};
+use crate::{MAX_DATA_GRANTS, MAX_GRANTS_AND_PENDING};
 use minislots::Checked;
 use periodic::Spot;
 use sched_calls::Opportunity;
@@ -23,15 +24,16 @@ impl Draft {
     /// Fills the frame from the offset that is reached. The spots that are left there go with it, and the
     /// opportunities that wait for its MAP.
     pub(crate) fn fill(&mut self, spots: &[Spot], waiting: &[Opportunity]) -> Result<(), AllocError>
-        requires placed { AreInFrame self.old.book.config spots.now }
+        requires placed { AreInFrame self.old.overlay.config spots.now }
         requires waiting { MayWait waiting.now }
         requires unfilled { IsUnfilled spots.now waiting.now self.old }
         ensures { OnOk result (IsFilled spots.now waiting.now self.old self.new) }
     {
-        let frame = self.book.config().frame() as u16;
+        let frame = self.overlay.config().frame() as u16;
+        let most = most_grants(self.overlay.config()) - waiting.len();
         let mut left = spots;
         while self.offset < frame {
-            let next = self.next(left, waiting);
+            let next = self.next(left, waiting, most);
             self.put_allocation(next)?;
             left = left_at(left, self.offset);
         }
@@ -39,23 +41,25 @@ impl Draft {
     }
 
     // What stands at the offset that is reached, by class: the spot that begins there, else the first opportunity that
-    // waits and fits, else a data grant to the flow that is next, else an idle. The spots are those that are left.
-    fn next(&mut self, spots: &[Spot], waiting: &[Opportunity]) -> Allocation
-        requires placed { AreInFrame self.old.book.config spots.now }
+    // waits and fits, else a data grant to the flow that is next, where the MAP may have one more, else an idle. The
+    // spots are those that are left.
+    fn next(&mut self, spots: &[Spot], waiting: &[Opportunity], most: usize) -> Allocation
+        requires most { most ≡ most_grants self.old.overlay.config waiting.now }
+        requires placed { AreInFrame self.old.overlay.config spots.now }
         requires waiting { MayWait waiting.now }
         requires ahead { AreAhead self.old.offset spots.now }
         requires ready { IsWellBegun waiting.now self.old }
-        requires inside { self.old.offset < self.old.book.config.frame }
+        requires inside { self.old.offset < self.old.overlay.config.frame }
         ensures { Chooses spots.now waiting.now result self.old self.new }
     {
         if let Some(spot) = spot_at(spots, self.offset) {
             return allocation_of(*spot);
         }
-        let room = next_stop(spots, self.offset, self.book.config()) - self.offset;
+        let room = next_stop(spots, self.offset, self.overlay.config()) - self.offset;
         if let Some(offer) = self.meet(waiting, room) {
             return offer;
         }
-        if let Some(grant) = self.serve(waiting, room) {
+        if let Some(grant) = self.serve(most, room) {
             return grant;
         }
         Allocation {
@@ -87,24 +91,34 @@ impl Draft {
         self.start + u64::from(self.offset)
     }
 
-    // The data grant of the book to the flow that is next, where one more may stand beside the opportunities that wait.
-    fn serve(&mut self, waiting: &[Opportunity], room: u16) -> Option<Allocation>
-        requires few { length waiting.now ≤ MAX_WAITING }
-        requires ready { IsWellBegun waiting.now self.old }
-        ensures { ServesNext waiting.now room result self.old self.new }
+    // The data grant of the book to the flow that is next, where the MAP has fewer than the most that it may have.
+    fn serve(&mut self, most: usize, room: u16) -> Option<Allocation>
+        requires ready { (waiting : List Offered)
+            × IsWellBegun waiting self.old × (most ≡ most_grants self.old.overlay.config waiting) }
+        ensures { (waiting : List Offered) → IsWellBegun waiting self.old
+            → most ≡ most_grants self.old.overlay.config waiting
+            → ServesNext waiting room result self.old self.new }
     {
-        if self.grants >= MAX_DATA_GRANTS - waiting.len() {
+        if self.grants >= most {
             return None;
         }
         let start = self.minislot();
-        let served = self.book.serve(start, u32::from(room))?;
+        let served = self.overlay.serve(start, u32::from(room))?;
         self.grants += 1;
         Some(Allocation {
             offset: self.offset,
-            slots: self.book.config().slots_for(served.bytes) as u16,
+            slots: self.overlay.config().slots_for(served.bytes) as u16,
             purpose: Purpose::DataGrant(served.sid, served.bytes),
         })
     }
+}
+
+// The most data grants of a MAP for which no opportunity waits.
+fn most_grants(config: &Checked) -> usize
+    ensures value { result ≡ most_grants config.now [] }
+    ensures least { MAX_WAITING ≤ result }
+{
+    MAX_DATA_GRANTS.min(MAX_GRANTS_AND_PENDING - config.pending() as usize)
 }
 
 // The poll or unsolicited grant of a spot.

@@ -14,6 +14,14 @@ use Rattle.mapsched_c.specs.Bursts.{descriptors_of}
 abbrev pub bursts_of : PlainConfig → Bursts
 bursts_of c = if c.has_bursts == 0 then Uniform c.bytes_per_slot c.overhead else Described (descriptors_of c.bursts)
 
+-- the number that stands, or the one of a missing field where it is 0
+abbrev pub or_missing : ℕ → ℕ → ℕ
+or_missing number missing = if number == 0 then missing else number
+
+-- the most grants and polls of an interval by these numbers
+abbrev pub periodic_of : PlainConfig → ℕ
+periodic_of c = if c.has_periodic == 0 then 40 else c.periodic
+
 -- the configuration of these numbers
 abbrev pub config_of : PlainConfig → Config
 config_of c = record {
@@ -37,6 +45,9 @@ config_of c = record {
   channel = c.channel;
   ucd_count = c.ucd_count;
   phy = c.phy;
+  flows = or_missing c.flows 64;
+  pending = or_missing c.pending 64;
+  periodic = periodic_of c;
 }
 
 -- the status is that of the configuration: lawful, or its first wrong field

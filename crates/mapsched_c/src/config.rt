@@ -1,7 +1,7 @@
 //! A configuration in plain numbers.
 
 ghost use Rattle.std.specs.Prelude.{◌≡◌};
-ghost use Rattle.mapsched_c.specs.Config.{bursts_of, config_of};
+ghost use Rattle.mapsched_c.specs.Config.{bursts_of, or_missing, periodic_of, config_of};
 
 use crate::bursts::PlainBursts;
 use minislots::{Bursts, Config};
@@ -57,6 +57,21 @@ pub struct PlainConfig {
     pub has_bursts: u32,
     /// The burst descriptors, where there are some.
     pub bursts: PlainBursts,
+    /// The most live flows: 64 where it is 0.
+    pub flows: u32,
+    /// The most pending grants of a MAP: 64 where it is 0.
+    pub pending: u32,
+    /// Whether there is a limit of periodic grants: 0 where there is none.
+    pub has_periodic: u32,
+    /// The most grants and polls of an interval, all periodic flows together: 40 where there is no limit.
+    pub periodic: u32,
+}
+
+// The number that stands, or the one of a missing field where it is 0.
+fn or_missing(number: u32, missing: u32) -> u32
+    ensures { result ≡ or_missing number missing }
+{
+    if number == 0 { missing } else { number }
 }
 
 impl PlainConfig {
@@ -71,6 +86,17 @@ impl PlainConfig {
             }
         } else {
             Bursts::Described(self.bursts.descriptors())
+        }
+    }
+
+    // The most grants and polls of an interval by these numbers.
+    fn periodic_of(&self) -> u32
+        ensures { result ≡ periodic_of self.now }
+    {
+        if self.has_periodic == 0 {
+            40
+        } else {
+            self.periodic
         }
     }
 
@@ -99,6 +125,9 @@ impl PlainConfig {
             channel: self.channel,
             ucd_count: self.ucd_count,
             phy: self.phy,
+            flows: or_missing(self.flows, 64),
+            pending: or_missing(self.pending, 64),
+            periodic: self.periodic_of(),
         }
     }
 }

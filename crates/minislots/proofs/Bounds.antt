@@ -111,7 +111,7 @@ bounds_of c h =
     let (quantum, (cap, of_history)) = of_grants in
     let (receivers, (calls, (start, of_backoffs))) = of_history in
     let (ranging_start, (ranging_end, (data_start, (data_end, of_channel)))) = of_backoffs in
-    let (phy, end) = of_channel in
+    let (phy, (flows, (pending, (periodic, end)))) = of_channel in
     record {
       ticks_positive = omega (arith, ticks_within c.ticks ticks);
       ticks_most = (ticks_within c.ticks ticks).1;
@@ -142,4 +142,9 @@ bounds_of c h =
       data_start_most = at_most _ _ data_start;
       data_end_most = at_most _ _ data_end;
       phy_most = at_most _ _ phy;
+      flows_positive = (within 1 8191 c.flows flows).0;
+      flows_most = (within 1 8191 c.flows flows).1;
+      pending_positive = (within 1 125 c.pending pending).0;
+      pending_most = (within 1 125 c.pending pending).1;
+      periodic_most = at_most _ _ periodic;
     }

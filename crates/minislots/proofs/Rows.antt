@@ -5,6 +5,7 @@ use Rattle.minislots.specs.declared.bursts.Profile.{Profile}
 use Rattle.minislots.specs.declared.config.Config.{Config}
 use Rattle.minislots.specs.declared.config.ConfigFault.TheVariants.{Ticks, Bursts, Frame, Lead}
 use Rattle.minislots.specs.declared.config.ConfigFault.TheVariants.{GrantCap, Start, DataEnd, Phy}
+use Rattle.minislots.specs.declared.config.ConfigFault.TheVariants.{Flows, Pending, Periodic}
 use Rattle.minislots.specs.Config.{first_wrong, IsLawful}
 use Rattle.minislots.specs.Bursts.{coded, symbols_of, slots_by, bytes_by}
 use Rattle.minislots.specs.Units.{is_short, slots_floor, slots_of_micros, slots_for, bytes_in, wire_of}
@@ -32,6 +33,9 @@ base = record {
   channel = 3;
   ucd_count = 1;
   phy = 0;
+  flows = 64;
+  pending = 64;
+  periodic = 40;
 }
 
 base_is_lawful : IsLawful base
@@ -178,6 +182,38 @@ phy_of_2 : first_wrong (record base { phy = 2 }) ≡ Some Phy
 unfolding first_wrong
 phy_of_2 = refl
 
-phy_is_the_last_field : first_wrong (record base { data_end = 16; phy = 2 }) ≡ Some DataEnd
+phy_after_the_backoffs : first_wrong (record base { data_end = 16; phy = 2 }) ≡ Some DataEnd
 unfolding first_wrong
-phy_is_the_last_field = refl
+phy_after_the_backoffs = refl
+
+the_most_flows : IsLawful (record base { flows = 8191; pending = 125; periodic = 2560 })
+unfolding first_wrong
+the_most_flows = refl
+
+the_fewest_flows : IsLawful (record base { flows = 1; pending = 1; periodic = 0 })
+unfolding first_wrong
+the_fewest_flows = refl
+
+no_flows : first_wrong (record base { flows = 0; pending = 0; periodic = 2561 }) ≡ Some Flows
+unfolding first_wrong
+no_flows = refl
+
+flows_of_8192 : first_wrong (record base { flows = 8192 }) ≡ Some Flows
+unfolding first_wrong
+flows_of_8192 = refl
+
+no_pending_grants : first_wrong (record base { pending = 0; periodic = 2561 }) ≡ Some Pending
+unfolding first_wrong
+no_pending_grants = refl
+
+pending_of_126 : first_wrong (record base { pending = 126 }) ≡ Some Pending
+unfolding first_wrong
+pending_of_126 = refl
+
+periodic_of_2561 : first_wrong (record base { periodic = 2561 }) ≡ Some Periodic
+unfolding first_wrong
+periodic_of_2561 = refl
+
+flows_after_phy : first_wrong (record base { phy = 2; flows = 0 }) ≡ Some Phy
+unfolding first_wrong
+flows_after_phy = refl

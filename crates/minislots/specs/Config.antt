@@ -11,6 +11,7 @@ use Rattle.minislots.specs.declared.config.ConfigFault.TheVariants.{Cycle, ReqSl
 use Rattle.minislots.specs.declared.config.ConfigFault.TheVariants.{ShortMax, Quantum, GrantCap}
 use Rattle.minislots.specs.declared.config.ConfigFault.TheVariants.{Receivers, Calls, Start, RangingStart}
 use Rattle.minislots.specs.declared.config.ConfigFault.TheVariants.{RangingEnd, DataStart, DataEnd, Phy}
+use Rattle.minislots.specs.declared.config.ConfigFault.TheVariants.{Flows, Pending, Periodic}
 use Rattle.minislots.specs.Bursts.{HasBursts, is_within, are_descriptors, long_slots}
 use Rattle.minislots.specs.Units.{slots_for}
 
@@ -56,6 +57,9 @@ is_lawful_field c RangingEnd = nat_le c.ranging_end 15
 is_lawful_field c DataStart = nat_le c.data_start 15
 is_lawful_field c DataEnd = nat_le c.data_end 15
 is_lawful_field c Phy = nat_le c.phy 1
+is_lawful_field c Flows = is_within 1 8191 c.flows
+is_lawful_field c Pending = is_within 1 125 c.pending
+is_lawful_field c Periodic = nat_le c.periodic 2560
 
 -- the fields of a burst
 abbrev pub burst_fields : List ConfigFault
@@ -81,11 +85,16 @@ backoff_fields = RangingStart ∷ RangingEnd ∷ DataStart ∷ DataEnd ∷ []
 abbrev pub channel_fields : List ConfigFault
 channel_fields = Phy ∷ []
 
+-- the fields of how many flows there may be, how many a MAP shows, and how many periodic grants an interval has
+abbrev pub flow_fields : List ConfigFault
+flow_fields = Flows ∷ Pending ∷ Periodic ∷ []
+
 -- the fields that can be wrong, in their order
 abbrev pub fields : List ConfigFault
 fields =
     Ticks ∷ BytesPerSlot ∷ Overhead ∷ Bursts ∷ Frame ∷ Cycle ∷ ReqSlots ∷ PollSlots ∷ Lead ∷ ShortMax
-    ∷ Quantum ∷ GrantCap ∷ Receivers ∷ Calls ∷ Start ∷ RangingStart ∷ RangingEnd ∷ DataStart ∷ DataEnd ∷ Phy ∷ []
+    ∷ Quantum ∷ GrantCap ∷ Receivers ∷ Calls ∷ Start ∷ RangingStart ∷ RangingEnd ∷ DataStart ∷ DataEnd ∷ Phy
+    ∷ Flows ∷ Pending ∷ Periodic ∷ []
 
 -- the first of some fields that is wrong
 abbrev pub first_wrong_of : Config → List ConfigFault → Option ConfigFault
@@ -135,3 +144,8 @@ pub record HasBounds (c : Config) : Type 0 where
   pub data_start_most : c.data_start ≤ 15
   pub data_end_most : c.data_end ≤ 15
   pub phy_most : c.phy ≤ 1
+  pub flows_positive : 0 < c.flows
+  pub flows_most : c.flows ≤ 8191
+  pub pending_positive : 0 < c.pending
+  pub pending_most : c.pending ≤ 125
+  pub periodic_most : c.periodic ≤ 2560

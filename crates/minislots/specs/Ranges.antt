@@ -7,6 +7,7 @@ use Rattle.minislots.specs.declared.config.ConfigFault.TheVariants.{Cycle, ReqSl
 use Rattle.minislots.specs.declared.config.ConfigFault.TheVariants.{ShortMax, Quantum, GrantCap}
 use Rattle.minislots.specs.declared.config.ConfigFault.TheVariants.{Receivers, Calls, Start, RangingStart}
 use Rattle.minislots.specs.declared.config.ConfigFault.TheVariants.{RangingEnd, DataStart, DataEnd, Phy}
+use Rattle.minislots.specs.declared.config.ConfigFault.TheVariants.{Flows, Pending, Periodic}
 use Rattle.minislots.specs.declared.config.ranges.FieldRule.{FieldRule}
 use Rattle.minislots.specs.declared.config.ranges.FieldRule.TheVariants.{Any, PowerOfTwo, WholeFrames}
 use Rattle.minislots.specs.declared.bursts.Bursts as the_bursts
@@ -37,6 +38,9 @@ count_before RangingEnd = 16
 count_before DataStart = 17
 count_before DataEnd = 18
 count_before Phy = 19
+count_before Flows = 20
+count_before Pending = 21
+count_before Periodic = 22
 
 -- the fields before this one
 abbrev pub fields_before : ConfigFault → List ConfigFault
@@ -82,6 +86,9 @@ with_value c RangingEnd n = record c { ranging_end = n }
 with_value c DataStart n = record c { data_start = n }
 with_value c DataEnd n = record c { data_end = n }
 with_value c Phy n = record c { phy = n }
+with_value c Flows n = record c { flows = n }
+with_value c Pending n = record c { pending = n }
+with_value c Periodic n = record c { periodic = n }
 
 -- the number is a power of two, where it is below 256
 abbrev pub is_power_of_two : ℕ → Bool

@@ -61,6 +61,12 @@ pub struct Config {
     /// The channel's physical layer, which decides the usage codes of data and unsolicited grants: 0 for a channel
     /// of TDMA bursts alone, 1 for one with Advanced PHY bursts.
     pub phy: u8,
+    /// The most live flows: 1 to 8191.
+    pub flows: u32,
+    /// The most pending grants of a MAP: 1 to 125.
+    pub pending: u32,
+    /// The most grants and polls of an interval, all periodic flows together: at most 2560.
+    pub periodic: u32,
 }
 
 /// The first field of a configuration that has no lawful value, in the order of the fields.
@@ -86,6 +92,9 @@ pub enum ConfigFault {
     DataStart,
     DataEnd,
     Phy,
+    Flows,
+    Pending,
+    Periodic,
 }
 
 impl fmt::Display for ConfigFault {

@@ -1,21 +1,23 @@
 -- One flow is added to those placed.
-use Rattle.std.proofs.Common.{◌≡◌, ℕ, ◌+◌, ◌%◌, ◌<◌, ◌≤◌, true, nat_lt, List, [], ◌∷◌, ◌++◌, None, arith}
+use Rattle.std.proofs.Common.{◌≡◌, ap, ℕ, ◌+◌, ◌%◌, ◌<◌, ◌≤◌, true, nat_lt, List, [], ◌∷◌, ◌++◌, None, length, arith}
 use Rattle.std.specs.List.{AllByRecursion}
 use Rattle.std.proofs.lemmas.Bool.{cond_both}
+use Rattle.std.proofs.lemmas.List.{length-map}
 use Rattle.std.proofs.lemmas.List.Sums.{sum_by-cons}
 use Rattle.minislots.specs.declared.config.Config.{Config}
 use Rattle.minislots.specs.Config.{IsLawful}
 use Rattle.sched_calls.specs.declared.spec.FlowSpec.{FlowSpec}
 use Rattle.sched_calls.specs.FlowSpec.{is_periodic, grants_of, first_fault}
 use Rattle.flow_book.proofs.Insertion.{all-put_in, ascends-put_in}
-use Rattle.sched_calls.specs.declared.TheConstants.{MAX_PERIODIC_GRANTS}
 use Rattle.sched_calls.specs.declared.placement.Placement.{Placement}
+use Rattle.periodic.specs.declared.TheConstants.{MAX_SPOTS}
 use Rattle.periodic.specs.declared.placement.Spot.{Spot}
 use Rattle.periodic.specs.Placement.{Placed, offset_of, starts_in, spot_at, spots_of, spots_in, AreLawfulStarts}
 use Rattle.periodic.specs.Placement.{IsPlacement}
 use Rattle.periodic.specs.Table.{placed_grants, IsNotPlaced, with_placed, IsApart, AreApart, IsSoundPlaced, AreSound}
 use Rattle.periodic.proofs.Joined.{all-append, all-left, all-right, all-weaker, all-both, all-turned, all-map}
 use Rattle.periodic.proofs.Joined.{turned, apart-append, apart-left, apart-right, apart-between}
+use Rattle.periodic.proofs.Counting.{spots-with}
 use Rattle.periodic.proofs.Frames.{IsStartIn, starts-here, in-cycle, spots_of-apart, spots_in-place}
 
 -- the grants per interval with one flow more
@@ -122,9 +124,22 @@ module _ (c : Config) (placed : List Placed) (sid : ℕ) (spec : FlowSpec) (next
     };
   }
 
+  -- with it no frame has too many starts
+  pub few-with : (k : ℕ) → IsLawful c → IsPlacement c placed spec next p
+      → length (spots_in c k (with_placed new placed)) ≤ MAX_SPOTS
+  few-with k lawful is =
+      let place = k % c.cycle in
+      omega (
+        arith,
+        is.few place (in-cycle c k lawful),
+        ap length (spots_in-place c k placed),
+        length-map (starts_in c spec p place) (spot_at c new),
+        spots-with c k new placed,
+      )
+
   -- with a flow of a new SID, lawfully placed, the table is sound
   pub sound-with : IsLawful c → 0 < sid → sid ≤ 8191 → is_periodic spec ≡ true → first_fault c spec ≡ None
-      → placed_grants placed + grants_of spec ≤ MAX_PERIODIC_GRANTS → IsNotPlaced sid placed
+      → placed_grants placed + grants_of spec ≤ c.periodic → IsNotPlaced sid placed
       → IsPlacement c placed spec next p → AreSound c placed
       → AreSound c (with_placed new placed)
   sound-with lawful some most periodic none few absent is are = record {
@@ -134,4 +149,5 @@ module _ (c : Config) (placed : List Placed) (sid : ℕ) (spec : FlowSpec) (next
     apart = λ k. apart-with c k new placed
         (spots_of-apart c k new (λ place. spots_in c place placed) lawful is.starts) (spots-free k lawful is)
         (are.apart k);
+    few = λ k. few-with k lawful is;
   }

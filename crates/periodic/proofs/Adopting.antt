@@ -12,9 +12,11 @@ use Rattle.sched_calls.specs.declared.placement.Placement.{Placement}
 use Rattle.periodic.specs.declared.search.Wanted.{Wanted}
 use Rattle.periodic.specs.Placement.{Placed, phase_of, offset_of, FollowFrom, IsPlacement}
 use Rattle.periodic.specs.Rows.{AreRowsOf}
-use Rattle.periodic.specs.Search.{CanBeSought, IsWantedOf, AreStarts}
+use Rattle.periodic.specs.Counts.{AreCounts}
+use Rattle.periodic.specs.Search.{CanBeSought, IsWantedOf, AreStarts, HasRoomAt}
 use Rattle.periodic.specs.Table.{AreSound}
 use Rattle.periodic.proofs.Choosing.{starts-of-lawful, lawful-of-starts}
+use Rattle.periodic.proofs.Counting.{few-of-room, room-of-few}
 
 -- each of these starts is one of those that there may be, and they follow from this minislot on
 abbrev pub AreInTurn : (ℕ → Type 0) → ℕ → ℕ → List ℕ → Type 0
@@ -50,26 +52,28 @@ pub gone-all : (P : ℕ → Type 0) (slots first from i : ℕ) (starts : List �
     → IsGoneThrough P slots first from starts (drop i starts) → AreInTurn P slots first starts
 gone-all P slots first from i starts none gone = gone.gives (rw (drop_all i starts none) (tt, tt))
 
-module _ (c : Config) (table : List Placed) (rows : List Bits) (spec : FlowSpec) (p : Placement) (next : ℕ) (w : Wanted)
-    (lawful : IsLawful c) (sound : AreSound c table) (are : AreRowsOf c table rows) (sought : CanBeSought c w)
-    (wanted : IsWantedOf c spec w) (phase offset : ℕ) (at : phase_of c spec p ≡ phase) (from : offset_of c p ≡ offset)
+module _ (c : Config) (table : List Placed) (rows : List Bits) (counts : List ℕ) (spec : FlowSpec) (p : Placement)
+    (next : ℕ) (w : Wanted) (lawful : IsLawful c) (sound : AreSound c table) (are : AreRowsOf c table rows)
+    (counted : AreCounts c table counts) (sought : CanBeSought c w) (wanted : IsWantedOf c spec w) (phase offset : ℕ) (at : phase_of c spec p ≡ phase) (from : offset_of c p ≡ offset)
     (lt : phase < w.interval)
   where
-    -- a placement that keeps to its window, with starts that are lawful in the rows, is lawful
+    -- a placement that keeps to its window, with starts that are lawful in the rows and for which there is room, is
+    -- lawful
     pub placement-judged : next ≤ p.reference → p.reference - next < w.interval * c.frame → c.req_slots ≤ offset
-        → AreStarts c rows w phase offset p.starts → IsPlacement c table spec next p
-    placement-judged late within after each =
+        → HasRoomAt c counts w phase → AreStarts c rows w phase offset p.starts → IsPlacement c table spec next p
+    placement-judged late within after room each =
         let frames : w.interval * c.frame ≡ interval_frames c spec * c.frame = ap (λ m. m * c.frame) wanted.interval in
         record {
           not_before = late;
           first = omega arith;
           after_requests = subst (λ m. c.req_slots ≤ m) (sym from) after;
           starts = lawful-of-starts c table rows spec w lawful sound are sought wanted p phase offset at from lt each;
+          few = few-of-room c table counts spec w p phase counted sought wanted at lt sound.few room;
         }
 
     -- and a lawful one does
     pub judged-placement : IsPlacement c table spec next p → (next ≤ p.reference)
-        × (p.reference - next < w.interval * c.frame) × (c.req_slots ≤ offset)
+        × (p.reference - next < w.interval * c.frame) × (c.req_slots ≤ offset) × HasRoomAt c counts w phase
         × AreStarts c rows w phase offset p.starts
     judged-placement is =
         let frames : w.interval * c.frame ≡ interval_frames c spec * c.frame =
@@ -77,5 +81,6 @@ module _ (c : Config) (table : List Placed) (rows : List Bits) (spec : FlowSpec)
           is.not_before,
           omega (arith, is.not_before, is.first),
           subst (λ m. c.req_slots ≤ m) from is.after_requests,
+          room-of-few c table counts spec w p phase counted sought wanted at lt is.starts is.few,
           starts-of-lawful c table rows spec w lawful sound are sought wanted p phase offset at from lt is.starts,
         )

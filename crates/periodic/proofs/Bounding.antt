@@ -11,7 +11,7 @@ use Rattle.periodic.specs.declared.search.Wanted.{Wanted}
 use Rattle.periodic.specs.Bits.{bit_of, IsClear}
 use Rattle.periodic.specs.Placement.{group_at}
 use Rattle.periodic.specs.Rows.{no_bits, row_at, HaveAtMost, AreBounds}
-use Rattle.periodic.specs.Search.{CanBeSought, IsFreeStart, IsStartOf, AreStartsIn, NoneBelow, NonePhase}
+use Rattle.periodic.specs.Search.{CanBeSought, IsFreeStart, IsStartOf, AreStartsIn, NoneBelow, HasRoomAt, NonePhase}
 use Rattle.periodic.proofs.Groups.{frame-within}
 
 module _ (c : Config) (start end most : ℕ) (old new : List ℕ)
@@ -130,10 +130,12 @@ turned-away c rows most w phase index bounds sought lt within narrow offset afte
     omega (arith, narrow, bounds place low first.0 w.slots (omega (arith, after, free.after)) free.within free.clear)
 
 -- one phase more has none
-pub none-more : (c : Config) (rows : List Bits) (w : Wanted) (phase : ℕ) → NonePhase c rows w phase
-    → NoneBelow c rows w phase c.frame → NonePhase c rows w (phase + 1)
-none-more c rows w phase before here other lt = elim (cases_lt other phase) [
+pub none-more : (c : Config) (rows : List Bits) (counts : List ℕ) (w : Wanted) (phase : ℕ)
+    → NonePhase c rows counts w phase → (HasRoomAt c counts w phase → NoneBelow c rows w phase c.frame)
+    → NonePhase c rows counts w (phase + 1)
+none-more c rows counts w phase before here other lt = elim (cases_lt other phase) [
   | inl early ↦ before other early
   | inr late ↦ (
-      let same : phase ≡ other = omega arith in subst (λ n. NoneBelow c rows w n c.frame) same here)
+      let same : phase ≡ other = omega arith in
+      subst (λ n. HasRoomAt c counts w n → NoneBelow c rows w n c.frame) same here)
 ]

@@ -15,8 +15,10 @@ use Rattle.periodic.specs.Placement.{FollowFrom, AreLawfulStarts, HasLawfulStart
 use Rattle.periodic.specs.Choice.{StartsEarlier, AreEarlier, IsChosen}
 use Rattle.periodic.specs.Table.{AreSound}
 use Rattle.periodic.specs.Rows.{row_at, AreRowsOf}
-use Rattle.periodic.specs.Search.{CanBeSought, IsWantedOf, IsStartOf, AreStartsIn, AreStarts, NoneBelow, IsFirstFound}
-use Rattle.periodic.specs.Search.{AreNoLater, IsReference, starts_of}
+use Rattle.periodic.specs.Counts.{AreCounts}
+use Rattle.periodic.specs.Search.{CanBeSought, IsWantedOf, IsStartOf, AreStartsIn, AreStarts, HasRoomAt, NonePhase}
+use Rattle.periodic.specs.Search.{IsFirstFound, AreNoLater, IsReference, starts_of}
+use Rattle.periodic.proofs.Counting.{few-of-room, room-of-few, no-starts}
 use Rattle.periodic.proofs.Earlier.{none-before-none, none-before}
 use Rattle.periodic.proofs.Frames.{spots-within}
 use Rattle.periodic.proofs.Groups.{frame-phase, frame-index, frame-within, frame-of, index-within}
@@ -28,12 +30,6 @@ pub starts-at : (c : Config) (spec : FlowSpec) (p : Placement) (place : ℕ)
     → place % interval_frames c spec ≡ phase_of c spec p
     → starts_in c spec p place ≡ group_at (grants_of spec) (place / interval_frames c spec) p.starts
 starts-at c spec p place nominal = rw (eq-eqb (place % interval_frames c spec) (phase_of c spec p) nominal) refl
-
--- at another frame there are none
-pub no-starts : (c : Config) (spec : FlowSpec) (p : Placement) (place : ℕ)
-    → (place % interval_frames c spec ≡ phase_of c spec p → ⊥) → starts_in c spec p place ≡ []
-no-starts c spec p place differ =
-    rw (ne_eqb (place % interval_frames c spec) (phase_of c spec p) differ) refl
 
 module _ (c : Config) (table : List Placed) (rows : List Bits) (spec : FlowSpec) (w : Wanted) (lawful : IsLawful c)
     (sound : AreSound c table) (are : AreRowsOf c table rows) (sought : CanBeSought c w)
@@ -144,23 +140,29 @@ module _ (c : Config) (table : List Placed) (rows : List Bits) (spec : FlowSpec)
         subst (λ o. AreLawfulStarts c spec o (spots_in c place table) (starts_in c spec p place)) (sym from) there;
   }
 
-module _ (c : Config) (table : List Placed) (rows : List Bits) (spec : FlowSpec) (next : ℕ) (w : Wanted)
-    (lawful : IsLawful c) (sound : AreSound c table) (are : AreRowsOf c table rows) (sought : CanBeSought c w)
-    (wanted : IsWantedOf c spec w) where
+module _ (c : Config) (table : List Placed) (rows : List Bits) (counts : List ℕ) (spec : FlowSpec) (next : ℕ)
+    (w : Wanted) (lawful : IsLawful c) (sound : AreSound c table) (are : AreRowsOf c table rows)
+    (counted : AreCounts c table counts) (sought : CanBeSought c w) (wanted : IsWantedOf c spec w) where
   phase-within : (p : Placement) → phase_of c spec p < w.interval
   phase-within p =
       let some = sought.interval_positive in omega (arith, wanted.interval, some)
 
+  -- the frames of a lawful placement's phase have room
+  room-there : (p : Placement) (phase : ℕ) → phase_of c spec p ≡ phase → phase < w.interval
+      → IsPlacement c table spec next p → HasRoomAt c counts w phase
+  room-there p phase at lt is =
+      room-of-few c table counts spec w p phase counted sought wanted at lt is.starts is.few
+
   -- where no phase has lawful starts no placement is lawful
-  pub none-lawful : 0 < c.frame → ((phase : ℕ) → phase < w.interval → NoneBelow c rows w phase c.frame)
-      → NoPlacement c table spec next
+  pub none-lawful : 0 < c.frame → NonePhase c rows counts w w.interval → NoPlacement c table spec next
   none-lawful frame none p is =
-      none (phase_of c spec p) (phase-within p) (offset_of c p) is.after_requests (omega arith) p.starts
+      none (phase_of c spec p) (phase-within p) (room-there p (phase_of c spec p) refl (phase-within p) is)
+      (offset_of c p) is.after_requests (omega arith) p.starts
       (starts-of-lawful c table rows spec w lawful sound are sought wanted p (phase_of c spec p) (offset_of c p)
       refl refl
       (phase-within p) is.starts)
 
-  module _ (f : Found) (p other : Placement) (found : IsFirstFound c rows w f) (same : p.starts ≡ starts_of f.row)
+  module _ (f : Found) (p other : Placement) (found : IsFirstFound c rows counts w f) (same : p.starts ≡ starts_of f.row)
       (phase : phase_of c spec p ≡ f.phase) (offset : offset_of c p ≡ f.offset)
       (even : phase_of c spec other ≡ phase_of c spec p) (level : offset_of c other ≡ offset_of c p)
       (may : IsPlacement c table spec next other) where
@@ -196,7 +198,7 @@ module _ (c : Config) (table : List Placed) (rows : List Bits) (spec : FlowSpec)
         ]
 
   -- what is found first is chosen
-  pub found-chosen : (f : Found) (reference : ℕ) → 0 < c.frame → IsFirstFound c rows w f
+  pub found-chosen : (f : Found) (reference : ℕ) → 0 < c.frame → IsFirstFound c rows counts w f
       → IsReference c w.interval next f.phase f.offset reference
       → IsChosen c table spec next (record { reference = reference; starts = starts_of f.row })
   found-chosen f reference frame found is =
@@ -212,10 +214,13 @@ module _ (c : Config) (table : List Placed) (rows : List Bits) (spec : FlowSpec)
           after_requests = (let after = found.at_phase.after_requests in omega arith);
           starts = lawful-of-starts c table rows spec w lawful sound are sought wanted p f.phase f.offset phase offset
               found.phase_within found.at_phase.starts.lawful;
+          few = few-of-room c table counts spec w p f.phase counted sought wanted phase found.phase_within sound.few
+              found.room;
         };
         first = λ other may before. elim before [
-          | inl lower ↦ found.before (phase_of c spec other) (omega arith) (offset_of c other) may.after_requests
-              (omega arith) other.starts
+          | inl lower ↦ found.before (phase_of c spec other) (omega arith)
+              (room-there other (phase_of c spec other) refl (phase-within other) may) (offset_of c other)
+              may.after_requests (omega arith) other.starts
               (starts-of-lawful c table rows spec w lawful sound are sought wanted other (phase_of c spec other)
               (offset_of c other) refl refl (phase-within other) may.starts)
           | inr later ↦ elim later.1 [

@@ -8,23 +8,21 @@ use Rattle.std.proofs.lemmas.List.{take_more_set, drop-drop}
 use Rattle.std.proofs.Math.Nat.{mod-eq_of_lt}
 use Rattle.std.proofs.lemmas.List.Elements.{All-from_recursion}
 use Rattle.minislots.specs.declared.config.Config.{Config}
-use Rattle.minislots.specs.Config.{IsLawful}
 use Rattle.flow_book.proofs.Steps.{all-item, taken-item}
-use Rattle.sched_calls.specs.declared.TheConstants.{MAX_PERIODIC_GRANTS}
+use Rattle.periodic.specs.declared.TheConstants.{MAX_SPOTS}
 use Rattle.periodic.specs.declared.bits.Bits.{Bits}
 use Rattle.periodic.specs.declared.spots.PlacedFlow.{PlacedFlow}
 use Rattle.periodic.specs.Placement.{Placed, starts_in, spot_at, spots_of, spots_in}
 use Rattle.periodic.specs.Table.{IsSoundPlaced}
 use Rattle.periodic.specs.Fields.{placed_of, KeepsTimes, IsSoundFlow, AreSoundFlows, AreSoundFields}
-use Rattle.periodic.proofs.Frames.{spots-few}
 
 -- the flows of a sound table are sound
-pub sound-flows : (c : Config) (flows : List PlacedFlow) (rows : List Bits) (most : List ℕ)
-    (grants : ℕ) → AreSoundFields c flows rows most grants → AreSoundFlows c flows
-sound-flows c flows rows most grants are = record {
+pub sound-flows : (c : Config) (flows : List PlacedFlow) (rows : List Bits) (most counts : List ℕ)
+    (grants : ℕ) → AreSoundFields c flows rows most counts grants → AreSoundFlows c flows
+sound-flows c flows rows most counts grants are = record {
   each = are.sound.each;
   times = are.times;
-  most = are.sound.most;
+  few = are.sound.few;
 }
 
 -- one of them is
@@ -57,16 +55,15 @@ front-few c k flows n =
 
 -- there is room for them
 pub spots-room : (c : Config) (k : ℕ) (flows : List PlacedFlow) (i : ℕ) (f : PlacedFlow) → i < length flows
-    → f ≡ get_or flows i f → AreSoundFlows c flows → IsLawful c
-    → length (spots_in c k (map placed_of (take i flows))) + length (spots_of c k (placed_of f)) ≤ MAX_PERIODIC_GRANTS
-spots-room c k flows i f within is are lawful =
+    → f ≡ get_or flows i f → AreSoundFlows c flows
+    → length (spots_in c k (map placed_of (take i flows))) + length (spots_of c k (placed_of f)) ≤ MAX_SPOTS
+spots-room c k flows i f within is are =
     let taken = taken-item placed_of flows i f within is in
-    let few = spots-few c k (map placed_of flows) lawful are.each in
     let front = front-few c k flows (i + 1) in
     let more = ap length (spots-more c k (map placed_of (take i flows)) (placed_of f)) in
     let both = length-append (spots_in c k (map placed_of (take i flows))) (spots_of c k (placed_of f)) in
     let same = ap (λ gs. length (spots_in c k gs)) taken in
-    omega (arith, few, front, more, both, same, are.most)
+    omega (arith, front, more, both, same, are.few k)
 
 -- one spot more is written behind those before it
 pub put-more : {X : Type 0} (h : ℕ → X) (starts : List ℕ) (i : ℕ) (front spots : List X) (next : ℕ) (s : X)

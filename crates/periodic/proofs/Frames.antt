@@ -3,8 +3,6 @@ use Rattle.std.proofs.Common.{◌≡◌, ap, ℕ, ◌+◌, ◌%◌, ◌<◌, ◌
 use Rattle.std.proofs.Common.{length, map, inl, inr, arith}
 use Rattle.std.specs.List.{AllByRecursion, flat_map}
 use Rattle.std.proofs.lemmas.Bool.{cases_eq, ne_eqb}
-use Rattle.std.proofs.lemmas.List.{length-append, length-map}
-use Rattle.std.proofs.lemmas.List.Sums.{sum_by-cons}
 use Rattle.std.proofs.Math.Nat.{mod-mod}
 use Rattle.minislots.specs.declared.config.Config.{Config}
 use Rattle.minislots.specs.Config.{IsLawful}
@@ -13,7 +11,7 @@ use Rattle.sched_calls.specs.FlowSpec.{interval_frames, jitter_slots, periodic_s
 use Rattle.periodic.specs.declared.placement.Spot.{Spot}
 use Rattle.periodic.specs.Placement.{Placed, phase_of, offset_of, starts_in, spot_at, spots_of, spots_in}
 use Rattle.periodic.specs.Placement.{IsLawfulStart, FollowFrom, HasLawfulStarts}
-use Rattle.periodic.specs.Table.{placed_grants, IsSoundPlaced, IsWithinFrame, IsApart, AreApart}
+use Rattle.periodic.specs.Table.{IsSoundPlaced, IsWithinFrame, IsApart, AreApart}
 use Rattle.periodic.proofs.Parameters.{places_of}
 use Rattle.periodic.proofs.Joined.{all-append, all-weaker, all-map}
 
@@ -108,15 +106,3 @@ spots_of-place c k f = ap (λ n. map (spot_at c f) (starts_in c f.spec f.placeme
 pub spots_in-place : (c : Config) (k : ℕ) (placed : List Placed) → spots_in c (k % c.cycle) placed ≡ spots_in c k placed
 spots_in-place c k placed =
     ap (λ n. flat_map (λ (f : Placed). map (spot_at c f) (starts_in c f.spec f.placement n)) placed) (mod-mod k c.cycle)
-
--- the spots of a frame are no more than the grants per interval
-pub spots-few : (c : Config) (k : ℕ) (placed : List Placed) → IsLawful c → AllByRecursion (IsSoundPlaced c) placed
-    → length (spots_in c k placed) ≤ placed_grants placed
-spots-few c k [] lawful sound = omega arith
-spots-few c k (f ∷ placed) lawful sound =
-    let here = starts-here c (k % c.cycle) f (λ place. []) (in-cycle c k lawful) sound.0.starts in
-    let rest = spots-few c k placed lawful sound.1 in
-    let joined = length-append (spots_of c k f) (spots_in c k placed) in
-    let mapped = length-map (starts_in c f.spec f.placement (k % c.cycle)) (spot_at c f) in
-    let sum = sum_by-cons (λ (g : Placed). grants_of g.spec) f placed in
-    omega (arith, here.most, rest, joined, mapped, sum)

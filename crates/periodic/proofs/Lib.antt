@@ -1,6 +1,7 @@
 pub mod RowsPlacement
 pub mod RowsGrants
 pub mod RowsChosen
+pub mod RowsFull
 pub mod RowsNoPlace
 pub mod Profile
 pub mod Parameters
@@ -25,3 +26,4 @@ pub mod Seeking
 pub mod Marking
 pub mod Standing
 pub mod Bounding
+pub mod Counting

@@ -1,11 +1,10 @@
 -- The limits in figures, which the definitions name by the constants of the code.
 use Rattle.std.proofs.Common.{◌≡◌, ℕ, refl}
-use Rattle.sched_calls.specs.declared.TheConstants.{MAX_PERIODIC_GRANTS}
-use Rattle.periodic.specs.declared.TheConstants.{MAX_STARTS}
+use Rattle.periodic.specs.declared.TheConstants.{MAX_SPOTS, MAX_STARTS}
 
--- the most grants per interval of a table
-pub most_periodic_grants : ◌≡◌ {A = ℕ} MAX_PERIODIC_GRANTS 40
-most_periodic_grants = refl
+-- the most starts of a frame
+pub most_spots : ◌≡◌ {A = ℕ} MAX_SPOTS 40
+most_spots = refl
 
 -- the most starts of a placement
 pub most_starts : ◌≡◌ {A = ℕ} MAX_STARTS 512

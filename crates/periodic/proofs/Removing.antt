@@ -9,6 +9,7 @@ use Rattle.flow_book.proofs.Removal.{all-filter, ascends-filter}
 use Rattle.periodic.specs.declared.placement.Spot.{Spot}
 use Rattle.periodic.specs.Placement.{Placed, spots_of, spots_in}
 use Rattle.periodic.specs.Table.{placed_grants, IsApart, AreApart, IsSoundPlaced, AreSound}
+use Rattle.periodic.proofs.Counting.{spots-fewer}
 use Rattle.periodic.proofs.Joined.{all-append, all-left, all-right, all-weaker}
 use Rattle.periodic.proofs.Joined.{apart-append, apart-left, apart-right, apart-between}
 
@@ -55,4 +56,5 @@ sound-filter c p placed are = record {
   most = (let fewer = fewer-grants p placed in omega (arith, fewer, are.most));
   each = all-filter (IsSoundPlaced c) p placed are.each;
   apart = λ k. apart-filter c k p placed (are.apart k);
+  few = λ k. (let fewer = spots-fewer c k p placed in omega (arith, fewer, are.few k));
 }

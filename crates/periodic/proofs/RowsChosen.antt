@@ -7,7 +7,8 @@ use Rattle.sched_calls.proofs.Base.{base}
 use Rattle.sched_calls.specs.declared.placement.Placement.{Placement}
 use Rattle.periodic.specs.Placement.{Placed, phase_of, offset_of, spots_in, starts_in, AreLawfulStarts, IsPlacement}
 use Rattle.periodic.specs.Choice.{AreEarlier, IsChosen}
-use Rattle.periodic.proofs.Choosing.{no-starts}
+use Rattle.periodic.proofs.Counting.{no-starts}
+use Rattle.periodic.proofs.Counting.{few-grants}
 use Rattle.periodic.proofs.Earlier.{none-before-none}
 use Rattle.periodic.proofs.RowsGrants.{double_voice, two_grants_of_a_frame_stand_one_behind_the_other}
 use Rattle.periodic.proofs.RowsPlacement.{voice, placement, first_placed, voice_at, each-of-two, one-start, AreLawfulAt}
@@ -107,6 +108,7 @@ a_start_a_minislot_later = record {
     count = refl;
     each = each-of-two (AreLawfulAt voice (placement 804 (4 ∷ 5 ∷ [])) []) 0 (lit< tt) here there;
   };
+  few = few-grants base [] voice (placement 804 (4 ∷ 5 ∷ [])) (lit≤ tt);
 } where
   here : AreLawfulStarts base voice 4 [] (4 ∷ [])
   here = one-start base voice 4 [] 4 refl

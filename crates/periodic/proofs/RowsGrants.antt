@@ -6,6 +6,7 @@ use Rattle.sched_calls.specs.declared.spec.FlowSpec.TheVariants.{Unsolicited}
 use Rattle.sched_calls.proofs.Base.{base}
 use Rattle.periodic.specs.Placement.{AreLawfulStarts, IsPlacement}
 use Rattle.periodic.specs.Placement.{spots_in}
+use Rattle.periodic.proofs.Counting.{few-grants}
 use Rattle.periodic.proofs.RowsPlacement.{placement, each-of-two, AreLawfulAt, voice_at}
 
 -- two grants of 15 minislots in each of these frames, at most 32 minislots late
@@ -23,6 +24,7 @@ two_grants_of_a_frame_stand_one_behind_the_other = record {
     count = refl;
     each = each-of-two (AreLawfulAt double_voice (placement 804 (4 ∷ 19 ∷ 4 ∷ 19 ∷ [])) []) 0 (lit< tt) here here;
   };
+  few = few-grants base [] double_voice (placement 804 (4 ∷ 19 ∷ 4 ∷ 19 ∷ [])) (lit≤ tt);
 } where
   here : AreLawfulStarts base double_voice 4 [] (4 ∷ 19 ∷ [])
   here = record {

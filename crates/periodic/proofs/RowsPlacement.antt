@@ -11,6 +11,7 @@ use Rattle.sched_calls.specs.declared.placement.Placement.{Placement}
 use Rattle.periodic.specs.declared.placement.Spot.{Spot}
 use Rattle.periodic.specs.Placement.{Placed, IsLawfulStart, AreLawfulStarts, IsPlacement, starts_in}
 use Rattle.periodic.specs.Placement.{offset_of, spots_in}
+use Rattle.periodic.proofs.Counting.{few-grants}
 
 -- grants of 200 bytes, 15 minislots, each ten frames, at most 32 minislots late
 abbrev pub voice : FlowSpec
@@ -63,6 +64,7 @@ the_first_flow_stands_behind_the_requests = record {
     count = refl;
     each = each-of-two (AreLawfulAt voice (placement 804 (4 ∷ 4 ∷ [])) []) 0 (lit< tt) here here;
   };
+  few = few-grants base [] voice (placement 804 (4 ∷ 4 ∷ [])) (lit≤ tt);
 } where
   here : AreLawfulStarts base voice 4 [] (4 ∷ [])
   here = one-start base voice 4 [] 4 refl
@@ -87,6 +89,7 @@ the_second_flow_stands_behind_the_first = record {
     count = refl;
     each = each-of-two (AreLawfulAt voice (placement 804 (19 ∷ 19 ∷ [])) (first_placed ∷ [])) 0 (lit< tt) here here;
   };
+  few = few-grants base (first_placed ∷ []) voice (placement 804 (19 ∷ 19 ∷ [])) (lit≤ tt);
 } where
   here : AreLawfulStarts base voice 4 (voice_at 5 4 ∷ []) (19 ∷ [])
   here = one-start base voice 4 (voice_at 5 4 ∷ []) 19 refl (record {
@@ -126,6 +129,7 @@ the_third_flow_stands_a_frame_later = record {
     each = each-of-two (AreLawfulAt voice (placement 844 (4 ∷ 4 ∷ [])) (first_placed ∷ second_placed ∷ [])) 1 (lit< tt)
         here here;
   };
+  few = few-grants base (first_placed ∷ second_placed ∷ []) voice (placement 844 (4 ∷ 4 ∷ [])) (lit≤ tt);
 } where
   here : AreLawfulStarts base voice 4 [] (4 ∷ [])
   here = one-start base voice 4 [] 4 refl
@@ -145,6 +149,7 @@ four_polls_stand_behind_the_requests = record {
     count = refl;
     each = each-of-four (AreLawfulAt polling (placement 804 (4 ∷ 4 ∷ 4 ∷ 4 ∷ [])) []) here here here here;
   };
+  few = few-grants base [] polling (placement 804 (4 ∷ 4 ∷ 4 ∷ 4 ∷ [])) (lit≤ tt);
 } where
   here : AreLawfulStarts base polling 4 [] (4 ∷ [])
   here = one-start base polling 4 [] 4 refl
@@ -175,6 +180,7 @@ a_poll_starts_late_by_its_jitter = record {
     each = each-of-four (AreLawfulAt late_polling (placement 815 (19 ∷ 15 ∷ 19 ∷ 15 ∷ [])) (first_placed ∷ [])) behind
         alone behind alone;
   };
+  few = few-grants base (first_placed ∷ []) late_polling (placement 815 (19 ∷ 15 ∷ 19 ∷ 15 ∷ [])) (lit≤ tt);
 } where
   behind : AreLawfulStarts base late_polling 15 (voice_at 5 4 ∷ []) (19 ∷ [])
   behind = one-start base late_polling 15 (voice_at 5 4 ∷ []) 19 refl (record {

@@ -17,9 +17,10 @@ use Rattle.flow_book.proofs.Places.{some-place}
 use Rattle.periodic.specs.declared.bits.Bits.{Bits}
 use Rattle.periodic.specs.declared.spots.PlacedFlow.{PlacedFlow}
 use Rattle.periodic.specs.Placement.{Placed, spots_of}
-use Rattle.periodic.specs.Table.{placed_grants, IsPlaced, placed_at, with_placed, without, AreSound}
+use Rattle.periodic.specs.Table.{placed_grants, IsPlaced, placed_at, with_placed, without, IsSoundPlaced, AreSound}
 use Rattle.periodic.specs.Rows.{row_at, AreMarked, AreBounds}
-use Rattle.periodic.specs.Fields.{placed_of, placement_at, KeepsTimes, AreSoundFields}
+use Rattle.periodic.specs.Counts.{AreCounts}
+use Rattle.periodic.specs.Fields.{placed_of, placement_at, KeepsTimes, IsSoundFlow, AreSoundFields}
 use Rattle.periodic.proofs.Occupied.{tells-with}
 use Rattle.periodic.proofs.Vacated.{tells-without}
 use Rattle.periodic.proofs.Removing.{sound-filter}
@@ -59,6 +60,14 @@ module _ (items new : List PlacedFlow) (place sid : ℕ) (spec : FlowSpec) (refe
       → placed_of f ≡ placed_at sid spec (placement_at reference starts)
   placed-at f is here = ap placed_of (flow-at f is here) ∙ made-as
 
+  -- and is sound
+  pub sound-at : (c : Config) (f : PlacedFlow) → new ≡ insert items place g → f ≡ get_or new place f
+      → IsSoundPlaced c (placed_at sid spec (placement_at reference starts)) → KeepsTimes c g → IsSoundFlow c f
+  sound-at c f is here sound times = record {
+    sound = subst (IsSoundPlaced c) (sym (placed-at f is here)) sound;
+    times = subst (KeepsTimes c) (sym (flow-at f is here)) times;
+  }
+
   -- all keep what follows from their placements
   pub times-with : (c : Config) → new ≡ insert items place g → AllByRecursion (KeepsTimes c) items → KeepsTimes c g
       → AllByRecursion (KeepsTimes c) new
@@ -93,15 +102,17 @@ marked-for c k bit g f given rows new is same marked =
     (subst (λ bs. AreMarked (spots_of c k (placed_of g)) bit (row_at c bs k) (row_at c new k)) same marked)
 
 module _ (c : Config) (items new : List PlacedFlow) (rows marked : List Bits) (f : Placed)
-    (most bounds : List ℕ) (before grants : ℕ) (are : AreSoundFields c items rows most before)
+    (most bounds counts tally : List ℕ) (before grants : ℕ)
+    (are : AreSoundFields c items rows most counts before)
     (long : length marked ≡ c.cycle) (bounded : AreBounds c marked bounds) where
   -- with one flow more, whose minislots are marked as taken, the fields are sound
   pub fields-with : map placed_of new ≡ with_placed f (map placed_of items)
       → AreSound c (with_placed f (map placed_of items))
       → AllByRecursion (KeepsTimes c) new
       → ((k : ℕ) → AreMarked (spots_of c k f) 1 (row_at c rows k) (row_at c marked k))
-      → grants ≡ placed_grants (with_placed f (map placed_of items)) → AreSoundFields c new marked bounds grants
-  fields-with is sound times marks sum = record {
+      → AreCounts c (with_placed f (map placed_of items)) tally
+      → grants ≡ placed_grants (with_placed f (map placed_of items)) → AreSoundFields c new marked bounds tally grants
+  fields-with is sound times marks counted sum = record {
     sound = rw is sound;
     times = times;
     told = record {
@@ -110,6 +121,7 @@ module _ (c : Config) (items new : List PlacedFlow) (rows marked : List Bits) (f
           (marks k));
     };
     bounded = bounded;
+    counted = rw is counted;
     summed = rw is sum;
   }
 
@@ -118,8 +130,9 @@ module _ (c : Config) (items new : List PlacedFlow) (rows marked : List Bits) (f
       → find (λ g. g.sid == sid) (map placed_of items) ≡ Some f
       → AllByRecursion (KeepsTimes c) new
       → ((k : ℕ) → AreMarked (spots_of c k f) 0 (row_at c rows k) (row_at c marked k))
-      → grants ≡ placed_grants (without sid (map placed_of items)) → AreSoundFields c new marked bounds grants
-  fields-without sid is found times marks sum = record {
+      → AreCounts c (without sid (map placed_of items)) tally
+      → grants ≡ placed_grants (without sid (map placed_of items)) → AreSoundFields c new marked bounds tally grants
+  fields-without sid is found times marks counted sum = record {
     sound = rw is (sound-filter c (λ g. not (g.sid == sid)) (map placed_of items) are.sound);
     times = times;
     told = record {
@@ -128,5 +141,6 @@ module _ (c : Config) (items new : List PlacedFlow) (rows marked : List Bits) (f
           are.sound.ascending (are.sound.apart k) (are.told.each k) (marks k));
     };
     bounded = bounded;
+    counted = rw is counted;
     summed = rw is sum;
   }

@@ -6,6 +6,7 @@ use Rattle.minislots.specs.declared.config.Config.{Config}
 use Rattle.sched_calls.specs.declared.spec.FlowSpec.{FlowSpec}
 use Rattle.sched_calls.specs.FlowSpec.{size_of, interval_frames, jitter_slots, periodic_slots, grants_of}
 use Rattle.sched_calls.specs.declared.placement.Placement.{Placement}
+use Rattle.periodic.specs.declared.TheConstants.{MAX_SPOTS}
 use Rattle.periodic.specs.declared.placement.Spot.{Spot}
 
 -- a periodic flow with its placement
@@ -89,15 +90,22 @@ pub record HasLawfulStarts (c : Config) (spec : FlowSpec) (p : Placement) (spots
   pub each : (place : ℕ) → place < c.cycle → place % interval_frames c spec ≡ phase_of c spec p
       → AreLawfulStarts c spec (offset_of c p) (spots place) (starts_in c spec p place)
 
+-- in no frame of the cycle are there more starts than a frame may have: those of the flows of the table, and the
+-- placement's own
+abbrev pub HasFewStarts : Config → List Placed → FlowSpec → Placement → Type 0
+HasFewStarts c table spec p = (place : ℕ) → place < c.cycle
+    → length (spots_in c place table) + length (starts_in c spec p place) ≤ MAX_SPOTS
+
 -- The placement is lawful for a flow that is admitted while the next MAP's frame starts at next, beside the flows of
 -- the table. Its reference is the flow's first nominal time from there on, as a minislot: at next or later, and less
 -- than one interval later. That minislot gives the flow's frame in the interval (`phase_of`) and its offset in the
--- frame (`offset_of`), which lies behind the request region; and the starts are lawful
+-- frame (`offset_of`), which lies behind the request region; the starts are lawful, and no frame has too many
 pub record IsPlacement (c : Config) (table : List Placed) (spec : FlowSpec) (next : ℕ) (p : Placement) : Type 0 where
   pub not_before : next ≤ p.reference
   pub first : p.reference < next + interval_frames c spec * c.frame
   pub after_requests : c.req_slots ≤ offset_of c p
   pub starts : HasLawfulStarts c spec p (λ place. spots_in c place table)
+  pub few : HasFewStarts c table spec p
 
 -- no placement is lawful
 abbrev pub NoPlacement : Config → List Placed → FlowSpec → ℕ → Type 0

@@ -1,10 +1,11 @@
 -- The search for a placement: what is tried, and what it finds.
-use Rattle.std.specs.Prelude.{◌≡◌, ℕ, ◌+◌, ◌<◌, ◌≤◌, ◌*◌, ◌/◌, ◌%◌, List, [], ◌∷◌, take, length}
+use Rattle.std.specs.Prelude.{◌≡◌, ℕ, ◌+◌, ◌<◌, ◌≤◌, ◌*◌, ◌/◌, ◌%◌, List, [], ◌∷◌, take, length, get_or}
 use Rattle.std.specs.List.{AllByRecursion}
 use Rattle.minislots.specs.declared.config.Config.{Config}
 use Rattle.sched_calls.specs.declared.spec.FlowSpec.{FlowSpec}
 use Rattle.sched_calls.specs.FlowSpec.{interval_frames, jitter_slots, periodic_slots, grants_of}
 use Rattle.sched_calls.specs.declared.placement.Placement.{Placement}
+use Rattle.periodic.specs.declared.TheConstants.{MAX_SPOTS}
 use Rattle.periodic.specs.declared.bits.Bits.{Bits}
 use Rattle.periodic.specs.declared.search.Wanted.{Wanted}
 use Rattle.periodic.specs.declared.row.Row.{Row}
@@ -100,9 +101,15 @@ NoStarts c rows w phase offset = (starts : List ℕ) → AreStarts c rows w phas
 abbrev pub NoneBelow : Config → List Bits → Wanted → ℕ → ℕ → Type 0
 NoneBelow c rows w phase below = (offset : ℕ) → c.req_slots ≤ offset → offset < below → NoStarts c rows w phase offset
 
--- nor at any phase below this one
-abbrev pub NonePhase : Config → List Bits → Wanted → ℕ → Type 0
-NonePhase c rows w below = (phase : ℕ) → phase < below → NoneBelow c rows w phase c.frame
+-- each frame of a phase may have the starts that are wanted beside those counted there
+abbrev pub HasRoomAt : Config → List ℕ → Wanted → ℕ → Type 0
+HasRoomAt c counts w phase = (index : ℕ) → index < c.cycle / w.interval
+    → get_or counts (phase + index * w.interval) 0 + w.grants ≤ MAX_SPOTS
+
+-- nor at any phase below this one whose frames may have them
+abbrev pub NonePhase : Config → List Bits → List ℕ → Wanted → ℕ → Type 0
+NonePhase c rows counts w below =
+    (phase : ℕ) → phase < below → HasRoomAt c counts w phase → NoneBelow c rows w phase c.frame
 
 -- the starts of a row
 abbrev pub starts_of : Row → List ℕ
@@ -122,11 +129,12 @@ pub record IsFirstAtPhase (c : Config) (rows : List Bits) (w : Wanted) (f : Foun
   pub starts : AreFirstStarts c rows w f.phase f.offset (starts_of f.row)
   pub before : NoneBelow c rows w f.phase f.offset
 
--- The first lawful starts at the least offset of the least phase
-pub record IsFirstFound (c : Config) (rows : List Bits) (w : Wanted) (f : Found) : Type 0 where
+-- The first lawful starts at the least offset of the least phase whose frames may have them
+pub record IsFirstFound (c : Config) (rows : List Bits) (counts : List ℕ) (w : Wanted) (f : Found) : Type 0 where
   pub phase_within : f.phase < w.interval
+  pub room : HasRoomAt c counts w f.phase
   pub at_phase : IsFirstAtPhase c rows w f
-  pub before : NonePhase c rows w f.phase
+  pub before : NonePhase c rows counts w f.phase
 
 -- the placement that was chosen
 abbrev pub chosen_placement : Chosen → Placement

@@ -1,12 +1,13 @@
 -- What contracts see of a table of placements, and what is true of each.
 use Rattle.std.specs.Prelude.{◌≡◌, ℕ, ◌+◌, ◌<◌, ◌≤◌, ◌⊎◌, true, ◌==◌, List, [], ◌∷◌, sum_by, find, None, IsSome}
+use Rattle.std.specs.Prelude.{length}
 use Rattle.std.specs.List.{AllByRecursion}
 use Rattle.minislots.specs.declared.config.Config.{Config}
 use Rattle.sched_calls.specs.declared.spec.FlowSpec.{FlowSpec}
-use Rattle.sched_calls.specs.declared.TheConstants.{MAX_PERIODIC_GRANTS}
 use Rattle.sched_calls.specs.declared.placement.Placement.{Placement}
 use Rattle.sched_calls.specs.FlowSpec.{is_periodic, grants_of, first_fault}
 use Rattle.flow_book.specs.Sids.{AscendBy, put_in, taken_out}
+use Rattle.periodic.specs.declared.TheConstants.{MAX_SPOTS}
 use Rattle.periodic.specs.declared.placement.Spot.{Spot}
 use Rattle.periodic.specs.Placement.{Placed, offset_of, spots_in, HasLawfulStarts, IsPlacement}
 
@@ -81,6 +82,7 @@ pub record IsSoundPlaced (c : Config) (f : Placed) : Type 0 where
 -- What is true of the placed flows of every table
 pub record AreSound (c : Config) (placed : List Placed) : Type 0 where
   pub ascending : Ascend placed
-  pub most : placed_grants placed ≤ MAX_PERIODIC_GRANTS
+  pub most : placed_grants placed ≤ c.periodic
   pub each : AllByRecursion (IsSoundPlaced c) placed
   pub apart : (k : ℕ) → AreApart (spots_in c k placed)
+  pub few : (k : ℕ) → length (spots_in c k placed) ≤ MAX_SPOTS

@@ -3,6 +3,7 @@
 
 mod adopt;
 mod bits;
+mod counts;
 mod placement;
 mod row;
 mod search;
@@ -11,8 +12,14 @@ mod table;
 mod widest;
 
 pub use placement::{PlaceFault, Spot};
-pub use sched_calls::{MAX_PERIODIC_GRANTS, Placement, Starts};
+pub use sched_calls::{Placement, Starts};
 pub use table::Table;
+
+/// The most grants and polls of one frame.
+pub const MAX_SPOTS: usize = 40;
+
+/// The most frames of a cycle.
+const MAX_CYCLE: usize = 64;
 
 /// The most starts of one placement: all grants of a flow in each frame of the longest cycle.
 const MAX_STARTS: usize = 512;

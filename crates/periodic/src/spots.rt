@@ -6,18 +6,19 @@ ghost use Rattle.minislots.specs.declared.config.Config.{Config};
 ghost use Rattle.minislots.specs.Config.{IsLawful};
 ghost use Rattle.sched_calls.specs.FlowSpec.{is_periodic, size_of, interval_frames, jitter_slots, periodic_slots};
 ghost use Rattle.sched_calls.specs.FlowSpec.{grants_of, first_fault};
-ghost use Rattle.sched_calls.specs.declared.TheConstants.{MAX_PERIODIC_GRANTS};
+ghost use Rattle.periodic.specs.declared.TheConstants.{MAX_SPOTS};
 ghost use Rattle.periodic.specs.Placement.{starts_in, spot_at, spots_of, spots_in};
 ghost use Rattle.periodic.specs.Bits.{bit_for};
 ghost use Rattle.periodic.specs.Rows.{row_at, AreMarked, HaveAtMost, AreBounds};
 ghost use Rattle.periodic.specs.Table.{placed_at};
 ghost use Rattle.periodic.specs.Fields.{placed_of, placed_in, KeepsTimes, IsSoundFlow, AreSoundFlows};
 
+use crate::MAX_SPOTS;
 use crate::bits::Bits;
 use crate::placement::Spot;
 use crate::widest::{self, Widest};
 use minislots::Checked;
-use sched_calls::{FlowSpec, MAX_PERIODIC_GRANTS, Placement};
+use sched_calls::{FlowSpec, Placement};
 
 // A periodic flow with its placement, and what follows from both, so that a frame is told without a division by the
 // channel's numbers.
@@ -27,8 +28,8 @@ pub(crate) struct PlacedFlow {
     pub(crate) spec: FlowSpec,
     pub(crate) placement: Placement,
     // The frames of its interval, and in which of them it has its nominal times.
-    interval: u64,
-    phase: u64,
+    pub(crate) interval: u64,
+    pub(crate) phase: u64,
     // The minislots of one grant or poll, and how many a nominal frame has.
     slots: u16,
     pub(crate) grants: usize,
@@ -152,14 +153,14 @@ impl PlacedFlow {
     }
 
     // Writes what the flow takes of the frame at this place behind so many spots, and answers how many there are then.
-    fn put(&self, place: u64, spots: &mut [Spot; MAX_PERIODIC_GRANTS], count: usize) -> usize
+    fn put(&self, place: u64, spots: &mut [Spot; MAX_SPOTS], count: usize) -> usize
         requires sound { (c : Config) × IsSoundFlow c self.now × (place < c.cycle)
-            × (count + length (spots_of c place (placed_of self.now)) ≤ MAX_PERIODIC_GRANTS) }
+            × (count + length (spots_of c place (placed_of self.now)) ≤ MAX_SPOTS) }
         ensures spots { (c : Config) → IsSoundFlow c self.now → place < c.cycle → take result
             spots.new ≡ take count spots.old ++ spots_of c place (placed_of self.now) }
         ensures rest { drop result spots.new ≡ drop result spots.old }
         ensures more { count ≤ result }
-        ensures most { result ≤ MAX_PERIODIC_GRANTS }
+        ensures most { result ≤ MAX_SPOTS }
     {
         let mut next = count;
         for start in self.starts(place) {
@@ -192,12 +193,12 @@ pub(crate) fn fill(
     flows: &[PlacedFlow],
     config: &Checked,
     k: u64,
-    spots: &mut [Spot; MAX_PERIODIC_GRANTS],
+    spots: &mut [Spot; MAX_SPOTS],
 ) -> usize
     requires sound { AreSoundFlows config.now flows.now }
     ensures spots { take result spots.new ≡ spots_in config.now k (placed_in flows.now) }
     ensures rest { drop result spots.new ≡ drop result spots.old }
-    ensures most { result ≤ MAX_PERIODIC_GRANTS }
+    ensures most { result ≤ MAX_SPOTS }
     ensures lawful { IsLawful config.now }
 {
     let place = k % u64::from(config.cycle());

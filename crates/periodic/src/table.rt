@@ -5,8 +5,7 @@ ghost use Rattle.std.specs.Prelude.{length, take, drop, true, false, None, IfOk,
 ghost use Rattle.std.specs.List.{AllByRecursion};
 ghost use Rattle.std.specs.List.Sorted.{IsPermutation};
 ghost use Rattle.sched_calls.specs.FlowSpec.{is_periodic, grants_of, first_fault};
-ghost use Rattle.sched_calls.specs.declared.TheConstants.{MAX_PERIODIC_GRANTS};
-ghost use Rattle.periodic.specs.declared.TheConstants.{MAX_STARTS};
+ghost use Rattle.periodic.specs.declared.TheConstants.{MAX_SPOTS, MAX_STARTS};
 ghost use Rattle.periodic.specs.Placement.{spots_in, IsPlacement, NoPlacement};
 ghost use Rattle.periodic.specs.Choice.{IsChosen};
 ghost use Rattle.periodic.specs.Fields.{placement_at};
@@ -14,19 +13,22 @@ ghost use Rattle.periodic.specs.Search.{chosen_placement};
 ghost use Rattle.periodic.specs.Table.{placed_grants, IsPlaced, IsNotPlaced, HasPlacement, placed_at, with_placed};
 ghost use Rattle.periodic.specs.Table.{without, AreSound, IsWithinFrame, FollowInTurn};
 
+use crate::MAX_SPOTS;
 use crate::adopt::is_lawful;
 use crate::bits::Bits;
+use crate::counts::Counts;
 use crate::placement::{PlaceFault, Spot};
 use crate::search::{Chosen, choose};
 use crate::spots::{PlacedFlow, fill, mark, sort};
 use crate::widest::Widest;
 use minislots::Checked;
-use sched_calls::{FlowSpec, MAX_PERIODIC_GRANTS, Placement, Starts};
+use sched_calls::{FlowSpec, Placement, Starts};
 use std::alloc::{AllocError, Global};
 use std::marker::Model;
 
-/// The placements of one channel's periodic flows, in order of SID, with at most [`MAX_PERIODIC_GRANTS`] grants per
-/// interval. No two grants or polls take the same minislot of a frame.
+/// The placements of one channel's periodic flows, in order of SID, with at most `periodic` grants per interval, as the
+/// configuration has it, and at most [`MAX_SPOTS`] grants and polls in each frame. No two of these take the same
+/// minislot of a frame.
 #[derive(Drop)]
 pub struct Table {
     config: Checked,
@@ -35,6 +37,8 @@ pub struct Table {
     rows: Vec<Bits>,
     // How many free minislots stand in a row there at most.
     widest: Widest,
+    // How many grants and polls they have there.
+    counts: Counts,
     // Their grants per interval.
     grants: usize,
 }
@@ -50,7 +54,7 @@ impl Model for Table {
     ghost view = { λ t. record { config = t.config; placed = map placed_of t.flows.items } };
 
     ghost invariant = { λ t. AreSoundFields t.config t.flows.items t.rows.items
-        t.widest.most t.grants };
+        t.widest.most t.counts.starts t.grants };
 }
 
 impl Table {
@@ -66,6 +70,7 @@ impl Table {
             flows: Vec::new(alloc),
             rows,
             widest: Widest::open(),
+            counts: Counts::open(),
             grants: 0,
         })
     }
@@ -105,14 +110,14 @@ impl Table {
     /// first nominal time at or after `next`. Of all lawful ones it takes that of the least phase, then of the least
     /// offset, then in each frame the least first start, then the least next one. The flow has a new SID from 1 to 8191
     /// and parameters without fault, its grants per interval and those of the flows that are placed are at most
-    /// [`MAX_PERIODIC_GRANTS`], and `next` is the start of a frame, at most 2^61. After a fault nothing has changed.
+    /// `periodic` of the configuration, and `next` is the start of a frame, at most 2^61. After a fault nothing has changed.
     pub fn place(&mut self, sid: u16, spec: &FlowSpec, next: u64) -> Result<Placement, PlaceFault>
         requires sid_positive { 0 < sid }
         requires sid_most { sid ≤ 8191 }
         requires is_new { IsNotPlaced sid self.old.placed }
         requires periodic { is_periodic spec.now ≡ true }
         requires no_fault { first_fault self.old.config spec.now ≡ None }
-        requires room { placed_grants self.old.placed + grants_of spec.now ≤ MAX_PERIODIC_GRANTS }
+        requires room { placed_grants self.old.placed + grants_of spec.now ≤ self.old.config.periodic }
         requires aligned { next % self.old.config.frame ≡ 0 }
         requires most { next ≤ 2 ^ 61 }
 
@@ -155,7 +160,7 @@ impl Table {
         requires is_new { IsNotPlaced sid self.old.placed }
         requires periodic { is_periodic spec.now ≡ true }
         requires no_fault { first_fault self.old.config spec.now ≡ None }
-        requires room { placed_grants self.old.placed + grants_of spec.now ≤ MAX_PERIODIC_GRANTS }
+        requires room { placed_grants self.old.placed + grants_of spec.now ≤ self.old.config.periodic }
         requires aligned { next % self.old.config.frame ≡ 0 }
         requires most { next ≤ 2 ^ 61 }
 
@@ -196,18 +201,19 @@ impl Table {
             &self.flows[place],
             false,
         );
+        self.counts.count(&self.config, &self.flows[place], false);
         self.grants -= self.flows[place].grants;
         self.flows.retain(|flow| flow.sid != sid);
     }
 
     /// Writes what the placed flows take of frame `k`, in the order of their offsets, and answers how
     /// many spots these are. The rest of the array stays.
-    pub fn in_frame(&self, k: u64, spots: &mut [Spot; MAX_PERIODIC_GRANTS]) -> usize
+    pub fn in_frame(&self, k: u64, spots: &mut [Spot; MAX_SPOTS]) -> usize
         // Exactly the spots of the frame are written.
         ensures spots { IsPermutation (spots_in self.now.config k self.now.placed)
             (take result spots.new) }
         ensures rest { drop result spots.new ≡ drop result spots.old }
-        ensures most { result ≤ MAX_PERIODIC_GRANTS }
+        ensures most { result ≤ MAX_SPOTS }
 
         // They stand one after the other, behind the request region and within the frame.
         ensures ascending { FollowInTurn (take result spots.new) }
@@ -230,7 +236,14 @@ impl Table {
         ensures absent { IfNone result (NoPlacement self.old.config self.old.placed spec.now next) }
         ensures same { self.new ≡ self.old }
     {
-        choose(&self.rows, &mut self.widest, &self.config, spec, next)
+        choose(
+            &self.rows,
+            &self.counts,
+            &mut self.widest,
+            &self.config,
+            spec,
+            next,
+        )
     }
 
     // Whether the placement is lawful for these parameters from `next` on, beside those that stand.
@@ -242,7 +255,14 @@ impl Table {
         ensures unlawful { result ≡ false
             → IsPlacement self.now.config self.now.placed spec.now next placement.now → ⊥ }
     {
-        is_lawful(&self.rows, &self.config, spec, next, placement)
+        is_lawful(
+            &self.rows,
+            &self.counts,
+            &self.config,
+            spec,
+            next,
+            placement,
+        )
     }
 
     // Adds a flow with a placement that is lawful beside those that stand, in order of SID.
@@ -258,7 +278,7 @@ impl Table {
         requires is_new { IsNotPlaced sid self.old.placed }
         requires periodic { is_periodic spec ≡ true }
         requires no_fault { first_fault self.old.config spec ≡ None }
-        requires room { placed_grants self.old.placed + grants_of spec ≤ MAX_PERIODIC_GRANTS }
+        requires room { placed_grants self.old.placed + grants_of spec ≤ self.old.config.periodic }
         requires lawful { (next : ℕ) × IsPlacement self.old.config self.old.placed spec next
             (placement_at reference starts.now) }
         ensures placement { IfOk result (λ p. p ≡ placement_at reference starts.now) }
@@ -285,6 +305,7 @@ impl Table {
             &self.flows[place],
             true,
         );
+        self.counts.count(&self.config, &self.flows[place], true);
         self.grants += grants;
         Ok(Placement {
             reference,

@@ -9,12 +9,10 @@ ghost use Rattle.periodic.specs.Bits.{bit_of, bit_for, IsClear};
 ghost use Rattle.periodic.specs.Rows.{HaveAtMost, AreBounds};
 ghost use Rattle.periodic.specs.Search.{CanBeSought};
 
+use crate::MAX_CYCLE;
 use crate::bits::Bits;
 use crate::search::Wanted;
 use minislots::Checked;
-
-// The most frames of a cycle.
-const MAX_CYCLE: usize = 64;
 
 // For each frame of the cycle a bound of the free minislots that stand in a row behind the request region.
 #[derive(Clone, Copy)]

@@ -29,6 +29,9 @@ base = record {
   channel = 3;
   ucd_count = 1;
   phy = 0;
+  flows = 64;
+  pending = 64;
+  periodic = 40;
 }
 
 -- it is lawful

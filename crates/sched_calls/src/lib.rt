@@ -18,11 +18,5 @@ pub use placement::{Placement, Starts};
 pub use reply::{Entry, MAX_ENTRIES, MAX_WHOLE_HISTORY, Refusal, Reply, Unrecorded};
 pub use spec::{FlowFault, FlowSpec};
 
-/// The most flows that are live at a time on one channel.
-pub const MAX_FLOWS: usize = 64;
-
 /// The most grants of an unsolicited flow in one nominal interval.
 pub const MAX_GRANTS: u8 = 8;
-
-/// The most grants per interval of the live periodic flows, and so the most spots of one frame.
-pub const MAX_PERIODIC_GRANTS: usize = 40;

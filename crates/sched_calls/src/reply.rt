@@ -27,10 +27,9 @@ pub enum Refusal {
     SidLive,
     /// The parameters of the flow are refused.
     BadFlow(FlowFault),
-    /// [`MAX_FLOWS`](crate::MAX_FLOWS) flows are live.
+    /// As many flows are live as `flows` of the configuration.
     FlowsFull,
-    /// The grants per interval of the live periodic flows and of this one are more than
-    /// [`MAX_PERIODIC_GRANTS`](crate::MAX_PERIODIC_GRANTS).
+    /// The grants per interval of the live periodic flows and of this one are more than `periodic` of the configuration.
     PeriodicFull,
     /// No lawful placement exists.
     NoPlace,

@@ -1,12 +1,14 @@
 -- The lives of flows in a history: admissions, removals, requests and grants.
-use Rattle.std.specs.Prelude.{ℕ, ◌+◌, ◌&&◌, nat_lt, ◌==◌, List, [], sum_by, filter_map, flat_map, zip}
+use Rattle.std.specs.Prelude.{ℕ, ◌+◌, ◌&&◌, nat_lt, ◌==◌, List, [], ◌∷◌, ◌++◌, sum_by, filter_map, flat_map, zip}
 use Rattle.std.specs.Prelude.{Option, None, Some, option_map, option_and_then, if◌then◌else◌}
 use Rattle.minislots.specs.declared.config.Config.{Config}
 use Rattle.map_codec.specs.declared.element.Element.{Element}
 use Rattle.sched_calls.specs.Amount.{requested}
 use Rattle.sched_calls.specs.declared.spec.FlowSpec.{FlowSpec}
 use Rattle.flow_book.specs.declared.flow.Grant.{Grant}
-use Rattle.flow_book.specs.Flows.{LiveFlow}
+use Rattle.flow_book.specs.declared.batches.Batches.{Batches}
+use Rattle.flow_book.specs.Batches.{no_batches, with_request}
+use Rattle.flow_book.specs.Flows.{LiveFlow, bytes_of}
 use Rattle.sched_calls.specs.declared.placement.Placement.{Placement}
 use Rattle.periodic.specs.Placement.{count_from, Placed}
 use Rattle.sched_calls.specs.declared.frame_map.FrameMap.{FrameMap}
@@ -79,6 +81,24 @@ grants_by sid reply = []
 abbrev pub grants_since : ℕ → List Entry → List Grant
 grants_since sid entries = flat_map (λ e. grants_by sid e.reply) entries
 
+-- the batches of the requests of this SID after an entry, of a flow that had asked and was granted so many bytes: a MAP
+-- leaves them, since which of them are over is read in what is granted
+abbrev pub batches_by : Config → ℕ → Call → Reply → Batches → ℕ → ℕ → Batches
+batches_by c sid (calls.Ask receiver other amount heard) replies.Taken b asked granted =
+    if other == sid then with_request b asked granted (requested c amount) heard else b
+batches_by c sid call reply b asked granted = b
+
+-- the batches after more entries of a life, which follow these
+abbrev pub batches_after : Config → ℕ → Batches → List Entry → List Entry → Batches
+batches_after c sid b before [] = b
+batches_after c sid b before (e ∷ entries) = batches_after c sid
+    (batches_by c sid e.call e.reply b (asked_in c sid before) (bytes_of (grants_since sid before)))
+    (before ++ e ∷ []) entries
+
+-- the batches of the requests of this SID in these entries
+abbrev pub batches_in : Config → ℕ → List Entry → Batches
+batches_in c sid entries = batches_after c sid no_batches [] entries
+
 -- the live flow that a life is
 abbrev pub flow_in_life : Config → ℕ → Life → LiveFlow
 flow_in_life c sid life =
@@ -86,6 +106,7 @@ flow_in_life c sid life =
       sid = sid;
       spec = life.admission.spec;
       asked = asked_in c sid life.since;
+      batches = batches_in c sid life.since;
       grants =
           grants_since sid life.since;
     }

@@ -13,11 +13,12 @@ use Rattle.sched_history.specs.Refusal.{refusal_of}
 use Rattle.sched_history.specs.History.{IsNextMap}
 use Rattle.sched_history.specs.Machine.{Machine, is_full}
 
--- a build's clock and its MAP, the live flows of the channel after it, and marks at the Reserves that it meets
+-- a build's clock and its MAP, the live flows of the channel before and after it, and marks at the Reserves that it meets
 pub record PlannedBuild : Type 0 where
   pub config : Config
   pub clock : ℕ
   pub map : FrameMap
+  pub before : List LiveFlow
   pub flows : List LiveFlow
   pub met : List Bool
 
@@ -29,6 +30,7 @@ pub record IsPlanAfter (m : Machine) (p : PlannedBuild) : Type 0 where
   pub lawful : IsNextMap m.config m.history p.map
   pub encodable : IsWellFormed p.map.wire
   pub config : p.config ≡ m.config
+  pub before : p.before ≡ flows_of m.config m.history
   pub flows : (stamp : Stamp) → p.flows
       ≡ flows_of m.config (m.history ++ record { stamp = stamp; call = Build p.clock; reply = Built p.map } ∷ [])
   pub reserves : (stamp : Stamp) → aged (unmarked p.met (reserves_of m.history))

@@ -4,11 +4,9 @@ use Rattle.std.specs.Prelude.{length, sum_by, Option, None, Some, is_some, optio
 use Rattle.std.specs.Option.{option_or, option_map_or}
 use Rattle.minislots.specs.declared.TheConstants.{MAX_ASK}
 use Rattle.minislots.specs.declared.config.Config.{Config}
-use Rattle.sched_calls.specs.declared.TheConstants.{MAX_FLOWS}
 use Rattle.sched_calls.specs.declared.amount.Amount.{Amount}
 use Rattle.sched_calls.specs.Amount.{requested}
 use Rattle.sched_calls.specs.FlowSpec.{is_periodic, grants_of, takes_requests, first_fault}
-use Rattle.sched_calls.specs.declared.TheConstants.{MAX_PERIODIC_GRANTS}
 use Rattle.sched_calls.specs.declared.opportunity.Usage.{Usage}
 use Rattle.sched_calls.specs.declared.opportunity.Usage.TheVariants.{Initial, Station}
 use Rattle.sched_calls.specs.declared.call.TheConstants.{MAX_RESERVES}
@@ -86,8 +84,8 @@ refusal_of c h (Admit sid spec) = first_of (
     refused_if (bad_sid sid) BadSid ∷
     refused_if (is_live sid h) SidLive ∷
     option_map BadFlow (first_fault c spec) ∷
-    refused_if (nat_le MAX_FLOWS (length (flows_of c h))) FlowsFull ∷
-    refused_if (is_periodic spec && nat_lt MAX_PERIODIC_GRANTS
+    refused_if (nat_le c.flows (length (flows_of c h))) FlowsFull ∷
+    refused_if (is_periodic spec && nat_lt c.periodic
     (periodic_grants c h + grants_of spec)) PeriodicFull ∷ [])
 refusal_of c h (Remove sid) = first_of (refused_if (bad_sid sid) BadSid ∷ refused_if (not (is_live sid h)) NoFlow ∷ [])
 refusal_of c h (Ask receiver sid amount heard) = first_of (

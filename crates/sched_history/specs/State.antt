@@ -6,7 +6,7 @@ use Rattle.minislots.specs.declared.config.Config.{Config}
 use Rattle.minislots.specs.declared.stamp.Stamp.{Stamp}
 use Rattle.minislots.specs.Config.{IsLawful}
 use Rattle.map_codec.specs.WireMap.{IsWellFormed}
-use Rattle.sched_calls.specs.declared.TheConstants.{MAX_FLOWS}
+use Rattle.flow_book.specs.declared.batches.Batches.{Batches}
 use Rattle.flow_book.specs.Flows.{LiveFlow}
 use Rattle.flow_book.specs.Choice.{HasStartedBy}
 use Rattle.periodic.specs.Placement.{spots_in}
@@ -20,7 +20,7 @@ use Rattle.sched_calls.specs.declared.reply.TheConstants.{MAX_WHOLE_HISTORY}
 use Rattle.sched_calls.specs.declared.reply.Reply.{Reply}
 use Rattle.sched_calls.specs.declared.reply.Reply.TheVariants.{Built}
 use Rattle.sched_calls.specs.declared.reply.Entry.{Entry}
-use Rattle.sched_history.specs.Life.{turn_by, asked_by, grants_by, flows_of, table_of}
+use Rattle.sched_history.specs.Life.{turn_by, asked_by, grants_by, batches_by, flows_of, table_of}
 use Rattle.sched_history.specs.Time.{skip_by, is_built, progress_by, next_after, progress_of}
 use Rattle.sched_history.specs.Reserves.{reserve_by, header_by, header_after, reserves_of, waiting_in, aged, unmarked}
 use Rattle.sched_history.specs.Refusal.{most_bytes, most_ahead, last_clock, refusal_of}
@@ -42,7 +42,7 @@ pub record IsBounded (c : Config) (flows : List LiveFlow) (next calls : ℕ) : T
   pub asked : AllByRecursion (λ f. f.asked ≤ most_bytes * calls) flows
   pub started : AllByRecursion (HasStartedBy next) flows
   pub within : AllByRecursion IsWithinAsked flows
-  pub few : length flows ≤ MAX_FLOWS
+  pub few : length flows ≤ c.flows
 
 -- The fields are what the definitions read in a history
 pub record IsStateAfter (s : State) (h : List Entry) : Type 0 where
@@ -98,6 +98,7 @@ pub record IsBuildAfter (c : Config) (h : List Entry) (p : PlannedBuild) : Type 
   pub lawful : IsNextMap c h p.map
   pub encodable : IsWellFormed p.map.wire
   pub config : p.config ≡ c
+  pub before : p.before ≡ flows_of c h
   pub flows : (stamp : Stamp) → p.flows
       ≡ flows_of c (h ++ record { stamp = stamp; call = Build p.clock; reply = Built p.map } ∷ [])
   pub reserves : (stamp : Stamp) → aged (unmarked p.met (reserves_of h))
@@ -159,6 +160,7 @@ pub record IsRecorded (old new : Machine) (stamp : Stamp) (call : Call) (reply :
 pub record IsQuiet (c : Config) (call : Call) (reply : Reply) : Type 0 where
   pub turns : (sid : ℕ) → turn_by sid call reply ≡ None
   pub asks : (sid : ℕ) → asked_by c sid call reply ≡ 0
+  pub batches : (sid asked granted : ℕ) (b : Batches) → batches_by c sid call reply b asked granted ≡ b
   pub grants : (sid : ℕ) → grants_by sid reply ≡ []
   pub skips : skip_by reply ≡ None
   pub builds : is_built reply ≡ false

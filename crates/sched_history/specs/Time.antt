@@ -47,7 +47,7 @@ least [] = 0
 least (x ∷ []) = x
 least (x ∷ y ∷ xs) = min x (least (y ∷ xs))
 
--- the acknowledge time: the least progress of all receivers
+-- the least progress of all receivers
 abbrev pub ack_after : Config → List Entry → ℕ
 ack_after c h = least (map (λ receiver. progress_of c receiver h) (count_from 0 c.receivers))
 

@@ -1,10 +1,8 @@
 -- What a refusal means, in words behind its line.
 use Rattle.std.specs.Prelude.{ℕ, List, [], ◌∷◌, ◌++◌, codes, decimal, Option, Some, None, Ok, Err}
-use Rattle.sched_calls.specs.declared.TheConstants.{MAX_FLOWS}
 use Rattle.sched_calls.specs.declared.spec.FlowFault.{FlowFault}
 use Rattle.sched_calls.specs.declared.spec.FlowFault.TheVariants.{Size, IntervalNotWhole, IntervalNotFrames}
 use Rattle.sched_calls.specs.declared.spec.FlowFault.TheVariants.{IntervalNotInCycle, Priority, Burst, Grants}
-use Rattle.sched_calls.specs.declared.TheConstants.{MAX_PERIODIC_GRANTS}
 use Rattle.sched_calls.specs.declared.call.TheConstants.{MAX_RESERVES}
 use Rattle.sched_calls.specs.declared.reply.Refusal.{Refusal}
 use Rattle.sched_calls.specs.declared.reply.Refusal.TheVariants.{BadSid, SidLive, BadFlow, FlowsFull, PeriodicFull}
@@ -32,8 +30,8 @@ abbrev pub words_before : Refusal → List ℕ
 words_before BadSid = codes "bad SID: it is 0 or above 8191"
 words_before SidLive = codes "the SID is live already"
 words_before (BadFlow fault) = fault_words fault
-words_before FlowsFull = codes "no more flows: there are "
-words_before PeriodicFull = codes "too many grants: in an interval those of the periodic flows would be above "
+words_before FlowsFull = codes "no more flows: as many are live as `flows` of the configuration"
+words_before PeriodicFull = codes "too many grants: in an interval they would be above `periodic` of the configuration"
 words_before NoPlace = codes "no place: the cycle has none that is lawful for this flow"
 words_before NoFlow = codes "no flow with this SID is live"
 words_before NotAsking = codes "a flow of unsolicited grants does not ask"
@@ -50,13 +48,13 @@ words_before BadLength = codes "bad length: it is 0, or more than a frame has be
 words_before ReservesFull = codes "no more reserves: there are "
 words_before BadBackoff = codes "bad backoff: an exponent is above 15"
 
--- the number that it tells: how many flows or grants there can be, or a minislot
+-- the number that it tells: how many Reserves can wait, or a minislot
 abbrev pub number_told : Refusal → Option ℕ
 number_told BadSid = None
 number_told SidLive = None
 number_told (BadFlow fault) = None
-number_told FlowsFull = Some MAX_FLOWS
-number_told PeriodicFull = Some MAX_PERIODIC_GRANTS
+number_told FlowsFull = None
+number_told PeriodicFull = None
 number_told NoPlace = None
 number_told NoFlow = None
 number_told NotAsking = None
@@ -78,7 +76,7 @@ abbrev pub words_behind : Refusal → List ℕ
 words_behind BadSid = []
 words_behind SidLive = []
 words_behind (BadFlow fault) = []
-words_behind FlowsFull = codes " already"
+words_behind FlowsFull = []
 words_behind PeriodicFull = []
 words_behind NoPlace = []
 words_behind NoFlow = []

@@ -8,9 +8,7 @@ ghost use Rattle.text_stream.specs.Writing.{Writes};
 
 use crate::line::put_answer;
 use itoa::Buffer;
-use sched_calls::{
-    FlowFault, MAX_FLOWS, MAX_PERIODIC_GRANTS, MAX_RESERVES, Refusal, Reply, Unrecorded,
-};
+use sched_calls::{FlowFault, MAX_RESERVES, Refusal, Reply, Unrecorded};
 use text_stream::{Sink, TextFault, put};
 
 // What is wrong with a flow's parameters.
@@ -36,9 +34,9 @@ fn words_before(refusal: Refusal) -> &'static [u8]
         Refusal::BadSid => b"bad SID: it is 0 or above 8191",
         Refusal::SidLive => b"the SID is live already",
         Refusal::BadFlow(fault) => fault_words(fault),
-        Refusal::FlowsFull => b"no more flows: there are ",
+        Refusal::FlowsFull => b"no more flows: as many are live as `flows` of the configuration",
         Refusal::PeriodicFull => {
-            b"too many grants: in an interval those of the periodic flows would be above "
+            b"too many grants: in an interval they would be above `periodic` of the configuration"
         }
         Refusal::NoPlace => b"no place: the cycle has none that is lawful for this flow",
         Refusal::NoFlow => b"no flow with this SID is live",
@@ -59,13 +57,11 @@ fn words_before(refusal: Refusal) -> &'static [u8]
     }
 }
 
-// The number that it tells: how many flows or grants there can be, or a minislot.
+// The number that it tells: how many Reserves can wait, or a minislot.
 fn number_told(refusal: Refusal) -> Option<u64>
     ensures { result ≡ number_told refusal }
 {
     match refusal {
-        Refusal::FlowsFull => Some(MAX_FLOWS as u64),
-        Refusal::PeriodicFull => Some(MAX_PERIODIC_GRANTS as u64),
         Refusal::ReservesFull => Some(MAX_RESERVES as u64),
         Refusal::Acked(slot)
         | Refusal::Ahead(slot)
@@ -82,7 +78,7 @@ fn words_behind(refusal: Refusal) -> &'static [u8]
     ensures { result.now ≡ words_behind refusal }
 {
     match refusal {
-        Refusal::FlowsFull | Refusal::ReservesFull | Refusal::Backwards(_) => b" already",
+        Refusal::ReservesFull | Refusal::Backwards(_) => b" already",
         Refusal::Ahead(_) => b", and what is heard must lie before it",
         Refusal::TooEarly(_) => b", and its end is more than 4096 minislots past the clock",
         Refusal::Late(_) => b", and the clock with its lead is past it",

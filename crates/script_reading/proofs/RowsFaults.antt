@@ -11,7 +11,7 @@ use Rattle.sched_calls.specs.declared.call.Call.TheVariants.{Build}
 use Rattle.text_stream.specs.declared.fault.TextFault.{TextFault}
 use Rattle.text_stream.specs.declared.fault.TextFault.TheVariants.{Input, NotJson, Shape, Config, Memory}
 use Rattle.json_fields.specs.Fields.{config_of, slots_of, sizes_of, counts_of, windows_of, u8_or, u8_at, u16_at, u32_at}
-use Rattle.json_fields.specs.Fields.{u64_at, number_at, text_at, bursts_of, uniform_of}
+use Rattle.json_fields.specs.Fields.{u64_at, number_at, text_at, bursts_of, uniform_of, limits_of, u32_or}
 use Rattle.call_reading.specs.Calls.{call_of, build_call}
 use Rattle.script_reading.specs.Script.{calls_of, script_of}
 use Rattle.text_stream.specs.Input.{value_of}
@@ -41,9 +41,9 @@ abbrev whole : List ℕ
 whole = document (codes "4") (codes "\"calls\":[" ++ (build ++ codes "]"))
 
 a_script : outcome_of whole ≡ Ok (record { config = base; calls = Build 760 ∷ [] })
-unfolding outcome_of text_outcome value_of script_of calls_of config_of slots_of bursts_of uniform_of
-    sizes_of counts_of windows_of u8_or u8_at u16_at u32_at u64_at number_at text_at call_of build_call first_wrong
-    is_utf8 chars encode_utf8 serde_json_on_literals
+unfolding outcome_of text_outcome value_of script_of calls_of config_of slots_of bursts_of uniform_of sizes_of
+    counts_of windows_of limits_of u8_or u32_or u8_at u16_at u32_at u64_at number_at text_at call_of build_call
+    first_wrong is_utf8 chars encode_utf8 serde_json_on_literals
 a_script = refl
 
 -- nothing but the machine stops its reading
@@ -57,15 +57,15 @@ a_script_has_no_fault new fault stops = elim (script-told whole new fault stops)
 
 -- a text that is no JSON, and one that is but is no script
 a_broken_text : outcome_of (codes "{") ≡ Err NotJson
-unfolding outcome_of text_outcome value_of script_of calls_of config_of slots_of bursts_of uniform_of
-    sizes_of counts_of windows_of u8_or u8_at u16_at u32_at u64_at number_at text_at call_of build_call first_wrong
-    is_utf8 chars encode_utf8 serde_json_on_literals
+unfolding outcome_of text_outcome value_of script_of calls_of config_of slots_of bursts_of uniform_of sizes_of
+    counts_of windows_of limits_of u8_or u32_or u8_at u16_at u32_at u64_at number_at text_at call_of build_call
+    first_wrong is_utf8 chars encode_utf8 serde_json_on_literals
 a_broken_text = refl
 
 an_empty_object : outcome_of (codes "{}") ≡ Err (Shape 0)
-unfolding outcome_of text_outcome value_of script_of calls_of config_of slots_of bursts_of uniform_of
-    sizes_of counts_of windows_of u8_or u8_at u16_at u32_at u64_at number_at text_at call_of build_call first_wrong
-    is_utf8 chars encode_utf8 serde_json_on_literals
+unfolding outcome_of text_outcome value_of script_of calls_of config_of slots_of bursts_of uniform_of sizes_of
+    counts_of windows_of limits_of u8_or u32_or u8_at u16_at u32_at u64_at number_at text_at call_of build_call
+    first_wrong is_utf8 chars encode_utf8 serde_json_on_literals
 an_empty_object = refl
 
 -- that it is no JSON does not stop an empty object
@@ -81,9 +81,9 @@ abbrev two_broken : List ℕ
 two_broken = document (codes "3") (codes "\"calls\":[" ++ (broken ++ (codes "," ++ (broken ++ codes "]"))))
 
 the_first_broken_call : outcome_of two_broken ≡ Err (Shape 1)
-unfolding outcome_of text_outcome value_of script_of calls_of config_of slots_of bursts_of uniform_of
-    sizes_of counts_of windows_of u8_or u8_at u16_at u32_at u64_at number_at text_at call_of build_call first_wrong
-    is_utf8 chars encode_utf8 serde_json_on_literals
+unfolding outcome_of text_outcome value_of script_of calls_of config_of slots_of bursts_of uniform_of sizes_of
+    counts_of windows_of limits_of u8_or u32_or u8_at u16_at u32_at u64_at number_at text_at call_of build_call
+    first_wrong is_utf8 chars encode_utf8 serde_json_on_literals
 the_first_broken_call = refl
 
 -- it stops at the first of them, and not for its configuration
@@ -103,9 +103,9 @@ its_configuration_does_not_stop_it new stops = elim (script-told two_broken new 
 
 -- the same without a call: now it is the configuration
 a_wrong_configuration : outcome_of (document (codes "3") (codes "\"calls\":[]")) ≡ Err (Config Ticks)
-unfolding outcome_of text_outcome value_of script_of calls_of config_of slots_of bursts_of uniform_of
-    sizes_of counts_of windows_of u8_or u8_at u16_at u32_at u64_at number_at text_at call_of build_call first_wrong
-    is_utf8 chars encode_utf8 serde_json_on_literals
+unfolding outcome_of text_outcome value_of script_of calls_of config_of slots_of bursts_of uniform_of sizes_of
+    counts_of windows_of limits_of u8_or u32_or u8_at u16_at u32_at u64_at number_at text_at call_of build_call
+    first_wrong is_utf8 chars encode_utf8 serde_json_on_literals
 a_wrong_configuration = refl
 
 -- two scripts of a storm: the second has a call that is none, which is the second of all
@@ -114,8 +114,8 @@ storm = document (codes "4") (codes "\"scripts\":[[" ++ (build ++ (codes "],[" +
 
 the_second_call_of_a_storm : storm_outcome storm ≡ Err (Shape 2)
 unfolding storm_outcome storm_text value_of storm_of are_scripts scripts_of calls_of config_of slots_of bursts_of
-    uniform_of sizes_of counts_of windows_of u8_or u8_at u16_at u32_at u64_at number_at text_at call_of build_call
-    first_wrong is_utf8 chars encode_utf8 serde_json_on_literals
+    uniform_of sizes_of counts_of windows_of limits_of u8_or u32_or u8_at u16_at u32_at u64_at number_at text_at
+    call_of build_call first_wrong is_utf8 chars encode_utf8 serde_json_on_literals
 the_second_call_of_a_storm = refl
 
 it_stops_at_the_second_call : (new : Option (List ℕ)) (n : ℕ) → StopsStormScript (Some storm) new (Shape n) → n ≡ 2

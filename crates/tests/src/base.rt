@@ -30,6 +30,9 @@ pub const BASE: Config = Config {
     channel: 3,
     ucd_count: 1,
     phy: 0,
+    flows: 64,
+    pending: 64,
+    periodic: 40,
 };
 
 /// The configuration, which is lawful.

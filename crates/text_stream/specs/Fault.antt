@@ -3,7 +3,8 @@ use Rattle.std.specs.Prelude.{ℕ}
 use Rattle.minislots.specs.declared.config.ConfigFault.{ConfigFault}
 use Rattle.minislots.specs.declared.config.ConfigFault.TheVariants as fields
 
--- the number of a configuration's field: in the order of their tests, but that burst descriptors have the last number
+-- the number of a configuration's field: in the order of their tests, but that burst descriptors come behind the
+-- physical layer
 abbrev pub field_number : ConfigFault → ℕ
 field_number fields.Ticks = 1
 field_number fields.BytesPerSlot = 2
@@ -25,3 +26,6 @@ field_number fields.DataStart = 17
 field_number fields.DataEnd = 18
 field_number fields.Phy = 19
 field_number fields.Bursts = 20
+field_number fields.Flows = 21
+field_number fields.Pending = 22
+field_number fields.Periodic = 23

@@ -52,8 +52,8 @@ impl From<ConfigFault> for TextFault {
     }
 }
 
-/// The number of a field by which its fault is told. Burst descriptors have the last one, whatever their place is in
-/// the order of the tests.
+/// The number of a field by which its fault is told. Burst descriptors come behind the physical layer, whatever their
+/// place is in the order of the tests.
 pub fn field_number(fault: ConfigFault) -> u8
     ensures { result ≡ field_number fault }
 {
@@ -78,5 +78,8 @@ pub fn field_number(fault: ConfigFault) -> u8
         ConfigFault::DataEnd => 18,
         ConfigFault::Phy => 19,
         ConfigFault::Bursts => 20,
+        ConfigFault::Flows => 21,
+        ConfigFault::Pending => 22,
+        ConfigFault::Periodic => 23,
     }
 }

@@ -7,7 +7,7 @@ ghost use Rattle.history_writing.specs.HistoryText.{config_data, members_with, p
 ghost use Rattle.history_writing.specs.HistoryText.{is_same_profile};
 ghost use Rattle.history_writing.specs.Tokens.{tokens_of, front_tokens, back_tokens, unsolicited_tokens};
 
-use super::count::{put_count, put_counts};
+use super::count::{put_count, put_counts, put_optional};
 use json::Writer;
 use minislots::{Bursts, Config, Descriptors, Profile};
 use std::alloc::AllocError;
@@ -22,19 +22,13 @@ static PROFILE: [&str; 6] = [
     "shortened",
 ];
 
-// The keys of the fields between the bursts and the overhead, in ascending order.
-static FRONT: [&str; 8] = [
-    "calls",
-    "channel",
-    "cycle",
-    "data_end",
-    "data_start",
-    "frame",
-    "grant_cap",
-    "lead",
-];
+// The keys of the fields between the bursts and the most flows, in ascending order.
+static FRONT: [&str; 5] = ["calls", "channel", "cycle", "data_end", "data_start"];
 
-// The keys of those behind the overhead.
+// The keys of those between the most flows and the overhead.
+static MIDDLE: [&str; 3] = ["frame", "grant_cap", "lead"];
+
+// The keys of those behind the most periodic grants.
 static BACK: [&str; 11] = [
     "phy",
     "poll_slots",
@@ -120,11 +114,15 @@ fn put_front(out: &mut Writer, config: &Config) -> Result<(), AllocError>
         config.cycle as u64,
         config.data_end as u64,
         config.data_start as u64,
+    ];
+    put_counts(out, &FRONT, &numbers)?;
+    put_optional(out, "flows", config.flows as u64, 64)?;
+    let numbers = [
         config.frame as u64,
         config.grant_cap as u64,
         config.lead as u64,
     ];
-    put_counts(out, &FRONT, &numbers)
+    put_counts(out, &MIDDLE, &numbers)
 }
 
 // Writes the fields behind the overhead.
@@ -145,6 +143,8 @@ fn put_back(out: &mut Writer, config: &Config) -> Result<(), AllocError>
         config.ticks as u64,
         config.ucd_count as u64,
     ];
+    put_optional(out, "pending", config.pending as u64, 64)?;
+    put_optional(out, "periodic", config.periodic as u64, 40)?;
     put_counts(out, &BACK, &numbers)
 }
 
@@ -181,7 +181,7 @@ fn put_described(out: &mut Writer, config: &Config, these: &Descriptors) -> Resu
     out.end_object()
 }
 
-/// Writes a configuration: a member for each field.
+/// Writes a configuration: a member for each field, but for a limit that is the one of a missing member.
 #[tactic(auto, unfolding(crate::specs::HistoryText::config_data))]
 pub(crate) fn put_config(out: &mut Writer, config: &Config) -> Result<(), AllocError>
     ensures ok { OnOk result

@@ -4,7 +4,7 @@ ghost use Rattle.std.specs.Prelude.{◌≡◌, ◌<◌, ◌^◌, ◌++◌, ◌�
 ghost use Rattle.std.specs.List.{AllByRecursion};
 ghost use Rattle.json.specs.Token.{key};
 ghost use Rattle.history_writing.specs.Json.{count, counts};
-ghost use Rattle.history_writing.specs.Tokens.{tokens_of, counted, numbered, titled};
+ghost use Rattle.history_writing.specs.Tokens.{tokens_of, counted, numbered, optional_tokens, titled};
 
 use itoa::Buffer;
 use json::Writer;
@@ -46,6 +46,23 @@ pub fn put_count(out: &mut Writer, title: &str, number: u64) -> Result<(), Alloc
 {
     out.key(title)?;
     put_number(out, number)
+}
+
+/// Writes a whole number under this title where it is another than the one of a missing member.
+pub fn put_optional(
+    out: &mut Writer,
+    title: &str,
+    number: u64,
+    missing: u64,
+) -> Result<(), AllocError>
+    ensures ok { OnOk result
+        (out.new.tokens ≡ out.old.tokens ++ optional_tokens missing title.now number) }
+    ensures before { out.new.before ≡ out.old.before }
+{
+    if number == missing {
+        return Ok(());
+    }
+    put_count(out, title, number)
 }
 
 /// Writes whole numbers, each under the key at its place.

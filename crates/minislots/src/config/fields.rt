@@ -4,7 +4,7 @@ ghost use Rattle.std.specs.Prelude.{◌≡◌, ◌<◌, IsTrue, MatchResult, Som
 ghost use Rattle.minislots.specs.Bursts.{HasBursts};
 ghost use Rattle.minislots.specs.Config.{is_ticks, is_lawful_field, first_wrong, IsLawful};
 ghost use Rattle.minislots.specs.Config.{burst_fields, frame_fields, grant_fields, history_fields};
-ghost use Rattle.minislots.specs.Config.{backoff_fields, channel_fields, NamesFirstWrong};
+ghost use Rattle.minislots.specs.Config.{backoff_fields, channel_fields, flow_fields, NamesFirstWrong};
 
 use super::{Config, ConfigFault};
 use crate::MAX_ASK;
@@ -33,7 +33,8 @@ impl Config {
         self.check_grants()?;
         self.check_history()?;
         self.check_backoffs()?;
-        self.check_channel()
+        self.check_channel()?;
+        self.check_flows()
     }
 
     // The fields of a burst.
@@ -109,6 +110,15 @@ impl Config {
         ensures { NamesFirstWrong self.now channel_fields result }
     {
         require(self.phy <= 1, ConfigFault::Phy)
+    }
+
+    // The fields of how many flows there may be, and how much of them a MAP and an interval have.
+    fn check_flows(&self) -> Result<(), ConfigFault>
+        ensures { NamesFirstWrong self.now flow_fields result }
+    {
+        require(is_within(1, 8191, self.flows), ConfigFault::Flows)?;
+        require(is_within(1, 125, self.pending), ConfigFault::Pending)?;
+        require(self.periodic <= 2560, ConfigFault::Periodic)
     }
 
     fn has_room_for_requests(&self) -> bool

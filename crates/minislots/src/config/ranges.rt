@@ -66,6 +66,9 @@ impl Config {
             ConfigFault::DataStart => (0, 15),
             ConfigFault::DataEnd => (0, 15),
             ConfigFault::Phy => (0, 1),
+            ConfigFault::Flows => (1, 8191),
+            ConfigFault::Pending => (1, 125),
+            ConfigFault::Periodic => (0, 2560),
         };
         Some(range)
     }

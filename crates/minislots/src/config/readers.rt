@@ -208,4 +208,33 @@ impl Checked {
     {
         self.config.phy
     }
+
+    /// The most live flows.
+    pub fn flows(&self) -> u32
+        ensures value { result ≡ self.now.flows }
+        ensures lawful { IsLawful self.now }
+        ensures positive { 0 < result }
+        ensures most { result ≤ 8191 }
+    {
+        self.config.flows
+    }
+
+    /// The most pending grants of a MAP.
+    pub fn pending(&self) -> u32
+        ensures value { result ≡ self.now.pending }
+        ensures lawful { IsLawful self.now }
+        ensures positive { 0 < result }
+        ensures most { result ≤ 125 }
+    {
+        self.config.pending
+    }
+
+    /// The most grants and polls of an interval, all periodic flows together.
+    pub fn periodic(&self) -> u32
+        ensures value { result ≡ self.now.periodic }
+        ensures lawful { IsLawful self.now }
+        ensures most { result ≤ 2560 }
+    {
+        self.config.periodic
+    }
 }

@@ -9,6 +9,7 @@ use Rattle.minislots.proofs.Bounds.{bounds_of}
 use Rattle.map_codec.specs.declared.element.Element.{Element}
 use Rattle.sched_calls.specs.FlowSpec.{interval_frames}
 use Rattle.flow_book.specs.Flows.{LiveFlow, outstanding}
+use Rattle.flow_book.specs.Shown.{is_shown}
 use Rattle.periodic.specs.declared.placement.Spot.{Spot}
 use Rattle.periodic.specs.Placement.{Placed, phase_of, starts_in, spot_at, spots_of, spots_in}
 use Rattle.periodic.proofs.Frames.{IsStartIn, starts-here, in-cycle}
@@ -147,8 +148,8 @@ module _ (c : Config) (d : Demand) (table : List Placed) (same : d.spots ≡ spo
       → KeepsTimes c table (replies.Built (map_of c d header ack plan))
   timely-map header ack plan each =
       let tail : List Element = pending c (flows_after d.start plan d.flows) in
-      let asking : List LiveFlow =
-      filter (λ (f : LiveFlow). nat_lt 0 (outstanding f)) (flows_after d.start plan d.flows) in (
+      let flows : List LiveFlow = flows_after d.start plan d.flows in
+      let asking : List LiveFlow = filter (is_shown c.pending flows) flows in (
         (λ (periodic : IsPeriodic c request_region 0). absurd
             (let bad : bad_sid broadcast ≡ false = periodic.to_flow in cc)),
         timely-plan [] plan (null_element c ∷ tail) (0 ∷ map (λ e. 0) tail) each (

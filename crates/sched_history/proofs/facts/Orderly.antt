@@ -4,15 +4,12 @@ use Rattle.std.proofs.Common.{[], ◌∷◌, ◌++◌, sym, ap, subst, length-ap
 use Rattle.std.specs.List.{AllByRecursion}
 use Rattle.std.proofs.lemmas.List.{length-map}
 use Rattle.std.proofs.lemmas.List.Elements.{All-contains, All-from_recursion}
-use Rattle.std.proofs.lemmas.List.Sums.{length-filter, count_by-le-length}
 use Rattle.minislots.specs.declared.config.Config.{Config}
 use Rattle.minislots.specs.Bursts.{HasBursts}
 use Rattle.minislots.specs.Config.{IsLawful, HasBounds}
 use Rattle.minislots.proofs.Bounds.{bounds_of}
-use Rattle.sched_calls.specs.declared.TheConstants.{MAX_FLOWS}
 use Rattle.flow_book.specs.Flows.{LiveFlow, outstanding}
 use Rattle.flow_book.proofs.Order.{all-push}
-use Rattle.sched_calls.specs.declared.TheConstants.{MAX_PERIODIC_GRANTS}
 use Rattle.periodic.specs.declared.placement.Spot.{Spot}
 use Rattle.periodic.specs.Placement.{Placed, starts_in, spot_at, spots_of, spots_in}
 use Rattle.periodic.proofs.Joined.{all-map}
@@ -22,7 +19,7 @@ use Rattle.map_build.specs.declared.purpose.Allocation.{Allocation}
 use Rattle.map_build.specs.Purpose.{element_of}
 use Rattle.map_build.specs.Plan.{Demand, flow_after, flows_after, IsPlan}
 use Rattle.map_build.specs.FrameMap.{null_element, pending_of, pending, elements_of}
-use Rattle.map_build.proofs.Counts.{length-plan}
+use Rattle.map_build.proofs.Planned.{few-elements}
 use Rattle.map_build.proofs.WellFormed.{HaveSids, HaveSpotSids}
 use Rattle.sched_calls.specs.declared.reply.Entry.{Entry}
 use Rattle.sched_history.specs.Life.{flows_of, table_of}
@@ -32,13 +29,12 @@ use Rattle.sched_history.specs.Facts.{maps_of, IsOrderly}
 use Rattle.sched_history.proofs.steps.LegalHistories.{Builds, Skips, Stays, change_by_step, legal_induction}
 use Rattle.sched_history.proofs.time.NextFrames.{maps_of-built, maps_of-unbuilt}
 use Rattle.sched_history.proofs.lists.Numbered.{filter_map-below}
-use Rattle.sched_history.proofs.lives.Finding.{sids-range, flow_at, flow_at-sid, placed_at, placed_at-sid}
+use Rattle.sched_history.proofs.lives.Finding.{sids-range, flow_at, flow_at-sid, placed_at, placed_at-sid, flows_of-channel}
 use Rattle.map_build.proofs.SameSpots.{all-members}
 use Rattle.sched_history.proofs.lists.Members.{all-flat_map}
 use Rattle.sched_history.proofs.plans.Fronts.{HasFront-plan, IsUnasked-plan, length-bytes_of_plan}
 use Rattle.sched_history.proofs.reserves.GoodReserves.{MayWait-legal, HaveStationSids-legal}
 use Rattle.sched_history.proofs.placements.SpotsFew.{spots-few}
-use Rattle.sched_history.proofs.steps.LegalBounds.{flows_of-few}
 
 -- the SIDs of the live flows fit an element
 pub flows_of-in_range : (c : Config) (h : List Entry) → HaveSids (flows_of c h)
@@ -61,31 +57,6 @@ spots_in-in_range c k h =
     let starts : List ℕ = starts_in c flow.spec flow.placement (k % c.cycle) in
     all-map fits (spot_at c flow) starts (all-members (λ start. flow.sid < 2 ^ 14) starts (λ start here. sid)))
 
--- the elements of a plan's MAP: the request region, the allocations, the Null and the pending grants
-length-elements : (c : Config) (d : Demand) (plan : List Allocation) → HasBursts c.bursts → IsPlan c d plan
-    → length d.flows ≤ MAX_FLOWS → length d.spots ≤ MAX_PERIODIC_GRANTS → length d.waiting ≤ MAX_WAITING
-    → length (elements_of c d.flows d.start plan) ≤ 240
-length-elements c d plan bursts is few few_spots few_waiting =
-    let after : List LiveFlow = flows_after d.start plan d.flows in
-    let asking : List LiveFlow = filter (λ (f : LiveFlow). nat_lt 0 (outstanding f)) after in
-    let kept : length asking ≤ length after =
-    omega (
-      arith,
-      length-filter (λ (f : LiveFlow). nat_lt 0 (outstanding f)) after,
-      count_by-le-length (λ (f : LiveFlow). nat_lt 0 (outstanding f)) after,
-    ) in
-    omega (
-      arith,
-      few,
-      few_spots,
-      kept,
-      length-plan c d bursts plan few_waiting is.each,
-      length-map d.flows (flow_after d.start plan),
-      length-append (map (element_of c) plan) (null_element c ∷ pending c after),
-      length-map plan (element_of c),
-      length-map asking (pending_of c),
-    )
-
 module _ (c : Config) (conf : IsLawful c) where
   -- the next MAP is orderly
   pub next_orderly : (h : List Entry) (m : FrameMap) → IsLegal c h → IsNextMap c h m → IsOrderly c m
@@ -93,8 +64,9 @@ module _ (c : Config) (conf : IsLawful c) where
       let d : Demand = demand_after c h in
       let bounds : HasBounds c = bounds_of c conf in
       subst (IsOrderly c) (sym next.2) (record {
-        within = length-elements c d next.0 bounds.bursts next.1 (flows_of-few c conf h legal)
-            (spots-few c conf (next_after c h / c.frame) h legal) (MayWait-legal c h legal).few;
+        within = few-elements c d next.0 bounds.bursts bounds.pending_most
+            (spots-few c conf (next_after c h / c.frame) h legal) (flows_of-channel c h) (MayWait-legal c h legal).few
+            next.1;
         counted = length-bytes_of_plan c d next.0;
         unasked = IsUnasked-plan c d next.0;
         front = HasFront-plan c d next.0

@@ -5,6 +5,7 @@ use Rattle.std.specs.List.{AllByRecursion}
 use Rattle.std.specs.Option.{option_map}
 use Rattle.std.proofs.lemmas.List.{append-nil}
 use Rattle.minislots.specs.declared.config.Config.{Config}
+use Rattle.flow_book.specs.declared.batches.Batches.{Batches}
 use Rattle.flow_book.specs.Flows.{LiveFlow}
 use Rattle.flow_book.specs.Entry.{IsSoundFlow}
 use Rattle.sched_calls.specs.declared.frame_map.FrameMap.{FrameMap}
@@ -22,7 +23,7 @@ use Rattle.sched_history.specs.Facts.{IsWithinAsked, IsWithinRate}
 use Rattle.sched_history.proofs.steps.LegalHistories as legal
 use Rattle.sched_history.proofs.steps.LegalHistories.{change_by_step, legal_induction}
 use Rattle.sched_history.proofs.lives.LivesAfter.{with_since, life_of-stays, life_of-begins, life_of-ends}
-use Rattle.sched_history.proofs.lives.FlowsAfter.{grown_by, asked_in-push, grants_since-push}
+use Rattle.sched_history.proofs.lives.FlowsAfter.{grown_by, asked_in-push, batches_in-push, grants_since-push}
 use Rattle.sched_history.proofs.lists.Members.{IsImage, Contains-filter_map, all-chosen}
 use Rattle.sched_history.proofs.plans.SoundPlans.{sound_plan}
 use Rattle.sched_history.proofs.flows.MapGrants.{plan-HasBytes, grants_of_map-plan}
@@ -55,9 +56,9 @@ flows_of-alone c h sid life lives g member same =
     (ap (flow_in_life c image.origin) them))
 
 -- a flow is sound with more asked
-sound_asked : (c : Config) (f : LiveFlow) (more : ℕ) → IsSoundFlow c f
-    → IsSoundFlow c (record f { asked = f.asked + more })
-sound_asked c f more sound = record { within = omega (arith, sound.within); kept = sound.kept }
+sound_asked : (c : Config) (f : LiveFlow) (more : ℕ) (batches : Batches) → IsSoundFlow c f
+    → IsSoundFlow c (record f { asked = f.asked + more; batches = batches })
+sound_asked c f more batches sound = record { within = omega (arith, sound.within); kept = sound.kept }
 
 -- a flow without grants is sound
 sound_new : (c : Config) (sid : ℕ) (life : Life) → life.since ≡ [] → IsSoundFlow c (flow_in_life c sid life)
@@ -91,12 +92,12 @@ module _ (c : Config) (h : List Entry) (sid : ℕ) (life : Life) (lives : life_o
 
   sound_still : (e : Entry) → map_by e.reply ≡ None → IsSoundFlow c (grown_by c e (flow_in_life c sid life))
   sound_still e none =
-      sound_asked c (granted_also e) (asked_by c sid e.call e.reply) (rw (ungranted sid e.reply none, append-nil) sound)
+      sound_asked c (granted_also e) (asked_by c sid e.call e.reply) _ (rw (ungranted sid e.reply none, append-nil) sound)
 
   -- so does each legal entry
   sound_grown : (e : Entry) → IsStep c h e.call e.reply → IsSoundFlow c (grown_by c e (flow_in_life c sid life))
   sound_grown e step = elim (change_by_step c h e.call e.reply step) [
-    | legal.Builds m next same ↦ sound_asked c (granted_also e) (asked_by c sid e.call e.reply)
+    | legal.Builds m next same ↦ sound_asked c (granted_also e) (asked_by c sid e.call e.reply) _
         (rw (ap (grants_by sid) same) (sound_map m next))
     | legal.Skips now start is first same ↦ sound_still e (ap map_by same)
     | legal.Stays still ↦ sound_still e still.0
@@ -111,7 +112,7 @@ module _ (c : Config) where
   goes_on h e sid (Some old) life was is step sound =
       let them : with_since e old ≡ life = cc in
       subst (λ l. IsSoundFlow c (flow_in_life c sid l)) them
-      (rw (asked_in-push c sid old.since e, grants_since-push sid old.since e)
+      (rw (asked_in-push c sid old.since e, batches_in-push c sid old.since e, grants_since-push sid old.since e)
       (sound_grown c h sid old was (sound sid old was) e step))
 
   turned : (h : List Entry) (e : Entry) (sid : ℕ) (turn : Option Turn) (life : Life) → turn_by sid e.call e.reply ≡ turn

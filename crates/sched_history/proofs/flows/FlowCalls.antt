@@ -8,7 +8,8 @@ use Rattle.minislots.specs.declared.config.Config.{Config}
 use Rattle.minislots.specs.declared.stamp.Stamp.{Stamp}
 use Rattle.sched_calls.specs.declared.amount.Amount.{Amount}
 use Rattle.sched_calls.specs.Amount.{requested}
-use Rattle.flow_book.specs.Flows.{LiveFlow}
+use Rattle.flow_book.specs.Batches.{with_request}
+use Rattle.flow_book.specs.Flows.{LiveFlow, granted}
 use Rattle.flow_book.specs.Book.{without, changed, with_asked}
 use Rattle.periodic.specs.Table.{without as without_placed}
 use Rattle.sched_calls.specs.declared.call.Call.TheVariants as calls
@@ -27,29 +28,34 @@ map-each j k [] same = refl
 map-each j k (x ∷ xs) same = rw (same x, map-each j k xs same) refl
 
 -- a flow that asks, or another
-asked_flow : (b : Bool) (bytes : ℕ) (f : LiveFlow)
-    → record f { asked = f.asked + cond {A = ℕ} b bytes 0; grants = f.grants ++ [] } ≡ cond b (with_asked bytes f) f
-asked_flow true bytes f = rw (append-nil f.grants) refl
-asked_flow false bytes f = let none : f.asked + 0 ≡ f.asked = omega arith in rw (none, append-nil f.grants) refl
+asked_flow : (b : Bool) (bytes heard : ℕ) (f : LiveFlow) → record f {
+  asked = f.asked + cond {A = ℕ} b bytes 0;
+  batches = cond b (with_request f.batches f.asked (granted f) bytes heard) f.batches;
+  grants = f.grants ++ [];
+} ≡ cond b (with_asked bytes heard f) f
+asked_flow true bytes heard f = rw (append-nil f.grants) refl
+asked_flow false bytes heard f = let none : f.asked + 0 ≡ f.asked = omega arith in rw (none, append-nil f.grants) refl
 
 eqb-sym : (m n : ℕ) → (m == n) ≡ (n == m)
 eqb-sym m n = grind (arith, nat_tests)
 
-asked_this : (sid bytes : ℕ) (f : LiveFlow)
-    → record f { asked = f.asked + (if sid == f.sid then bytes else 0); grants = f.grants ++ [] }
-    ≡ (if f.sid == sid then with_asked bytes f else f)
-asked_this sid bytes f = rw (eqb-sym sid f.sid) (asked_flow (f.sid == sid) bytes f)
+asked_this : (sid bytes heard : ℕ) (f : LiveFlow) → record f {
+  asked = f.asked + (if sid == f.sid then bytes else 0);
+  batches = if sid == f.sid then with_request f.batches f.asked (granted f) bytes heard else f.batches;
+  grants = f.grants ++ [];
+} ≡ (if f.sid == sid then with_asked bytes heard f else f)
+asked_this sid bytes heard f = rw (eqb-sym sid f.sid) (asked_flow (f.sid == sid) bytes heard f)
 
 module _ (stamp : Stamp) (h : List Entry) (receiver sid : ℕ) (amount : Amount) (heard : ℕ) where
   -- after a request the flow has asked for so many bytes more
   pub flows_of-ask : (c : Config) → flows_of c
       (h ++ record { stamp = stamp; call = calls.Ask receiver sid amount heard; reply = replies.Taken } ∷ [])
-      ≡ changed sid (with_asked (requested c amount)) (flows_of c h)
+      ≡ changed sid (with_asked (requested c amount) heard) (flows_of c h)
   flows_of-ask c =
       let e : Entry = record { stamp = stamp; call = calls.Ask receiver sid amount heard; reply = replies.Taken } in
       flows_of-grown c h e (λ other. refl) ∙ map-each (grown_by c e)
-      (λ f. if f.sid == sid then with_asked (requested c amount) f else f)
-      (flows_of c h) (asked_this sid (requested c amount))
+      (λ f. if f.sid == sid then with_asked (requested c amount) heard f else f)
+      (flows_of c h) (asked_this sid (requested c amount) heard)
 
   -- and no placement changes
   pub table_of-ask : table_of

@@ -2,12 +2,13 @@
 use Rattle.std.proofs.Common.{◌≡◌, ℕ, List, [], ◌∷◌, ◌++◌, None, refl}
 use Rattle.minislots.specs.declared.config.Config.{Config}
 use Rattle.minislots.specs.declared.stamp.Stamp.{Stamp}
+use Rattle.flow_book.specs.declared.batches.Batches.{Batches}
 use Rattle.sched_calls.specs.declared.call.Call.{Call}
 use Rattle.sched_calls.specs.declared.call.Call.TheVariants as calls
 use Rattle.sched_calls.specs.declared.reply.Refusal.{Refusal}
 use Rattle.sched_calls.specs.declared.reply.Reply.TheVariants as replies
 use Rattle.sched_calls.specs.declared.reply.Entry.{Entry}
-use Rattle.sched_history.specs.Life.{turn_by, asked_by, flows_of}
+use Rattle.sched_history.specs.Life.{turn_by, batches_by, asked_by, flows_of}
 use Rattle.sched_history.specs.Time.{progress_by}
 use Rattle.sched_history.specs.Reserves.{reserve_by, header_by}
 use Rattle.sched_history.specs.State.{IsQuiet}
@@ -36,6 +37,11 @@ asked_by-refused c (calls.Status other) refusal sid = refl
 asked_by-refused c (calls.Reserve usage slots) refusal sid = refl
 asked_by-refused c (calls.Header header) refusal sid = refl
 
+batches_by-refused : (c : Config) (call : Call) (refusal : Refusal) (sid asked granted : ℕ) (b : Batches)
+    → batches_by c sid call (replies.Refused refusal) b asked granted ≡ b
+batches_by-refused c (calls.Ask receiver other amount heard) refusal sid asked granted b = refl
+batches_by-refused c call refusal sid asked granted b = refl
+
 progress_by-refused : (call : Call) (refusal : Refusal) (receiver : ℕ)
     → progress_by receiver call (replies.Refused refusal) ≡ None
 progress_by-refused (calls.Admit other spec) refusal receiver = refl
@@ -61,6 +67,7 @@ pub IsQuiet-refused : (c : Config) (call : Call) (refusal : Refusal) → IsQuiet
 IsQuiet-refused c call refusal = record {
   turns = turn_by-refused call refusal;
   asks = asked_by-refused c call refusal;
+  batches = batches_by-refused c call refusal;
   grants = λ sid. refl;
   skips = refl;
   builds = refl;
@@ -74,4 +81,4 @@ pub flows_of-refused : (c : Config) (stamp : Stamp) (h : List Entry) (call : Cal
     → flows_of c (h ++ record { stamp = stamp; call = call; reply = replies.Refused refusal } ∷ []) ≡ flows_of c h
 flows_of-refused c stamp h call refusal =
     flows_of-quiet c h (record { stamp = stamp; call = call; reply = replies.Refused refusal })
-    (turn_by-refused call refusal) (asked_by-refused c call refusal) (λ sid. refl)
+    (turn_by-refused call refusal) (asked_by-refused c call refusal) (batches_by-refused c call refusal) (λ sid. refl)

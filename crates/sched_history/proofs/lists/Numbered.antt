@@ -1,11 +1,12 @@
 -- What f gives of ascending numbers, where each value has its number as its key.
 use Rattle.std.proofs.Common.{◌≡◌, ◌≢◌, ℕ, zero, suc, ◌+◌, ◌≤◌, ◌<◌, Bool, true, false, nat_lt, ◌==◌, if◌then◌else◌}
 use Rattle.std.proofs.Common.{cond, List, [], ◌∷◌, map, filter, find, Option, None}
-use Rattle.std.proofs.Common.{Some, refl, sym, ◌∙◌, arith, inl, inr, ◌⊎◌}
+use Rattle.std.proofs.Common.{Some, refl, sym, subst, ◌∙◌, arith, inl, inr, ◌⊎◌}
 use Rattle.std.specs.List.{AllByRecursion, filter_map, cons_option}
 use Rattle.std.specs.Option.{option_map, option_and_then}
 use Rattle.std.proofs.lemmas.Bool.{cases_eq}
 use Rattle.std.proofs.lemmas.Bool.Decides.{nat_tests}
+use Rattle.flow_book.specs.Sids.{AscendBy}
 use Rattle.periodic.specs.Placement.{count_from}
 
 -- the value where it passes the test
@@ -84,6 +85,11 @@ module _ {Y : Type 0} (key : Y → ℕ) where
   put_in-behind y None k ys has above = refl
   put_in-behind y (Some z) k ys has above = let own : key z ≡ k = has z refl in grind (arith, nat_tests)
 
+  ascends-cons : {first : ℕ} (o : Option Y) (ys : List Y) → ((y : Y) → o ≡ Some y → key y ≡ first)
+      → AllByRecursion (λ y. first < key y) ys → AscendBy key ys → AscendBy key (cons_option o ys)
+  ascends-cons None ys own above up = up
+  ascends-cons (Some y) ys own above up = (subst (λ n. AllByRecursion (λ z. n < key z) ys) (sym (own y refl)) above, up)
+
   module _ (f : ℕ → Option Y) (has : HasNumber key f) where
     -- values above a number have a higher key
     pub filter_map-above : (bound first n : ℕ) → bound < first
@@ -93,6 +99,13 @@ module _ {Y : Type 0} (key : Y → ℕ) where
         all-cons_option (λ y. bound < key y) (f first) (filter_map f (count_from (first + 1) n))
         (λ y is. let own : key y ≡ first = has first y is in omega arith)
         (filter_map-above bound (first + 1) n (omega arith))
+
+    -- and they stand in the order of their keys
+    pub filter_map-ascends : (first n : ℕ) → AscendBy key (filter_map f (count_from first n))
+    filter_map-ascends first zero = tt
+    filter_map-ascends first (suc n) =
+        ascends-cons (f first) (filter_map f (count_from (first + 1) n)) (has first)
+        (filter_map-above first (first + 1) n (omega arith)) (filter_map-ascends (first + 1) n)
 
     -- and below the last number none has a higher one
     pub filter_map-below : (bound first n : ℕ) → first + n ≤ bound

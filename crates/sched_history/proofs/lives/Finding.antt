@@ -1,19 +1,20 @@
 -- The live flows and placements are found by their SIDs, and ascend.
 use Rattle.std.proofs.Common.{◌≡◌, ℕ, ◌≤◌, ◌<◌, false, ◌==◌, List, find}
-use Rattle.std.proofs.Common.{Option, None, Some, refl, sym, ap, arith}
+use Rattle.std.proofs.Common.{Option, None, Some, refl, sym, ap, arith, [], ◌∷◌}
 use Rattle.std.specs.Prelude.{is_some}
 use Rattle.std.specs.List.{AllByRecursion}
 use Rattle.std.specs.Option.{option_map, option_and_then}
 use Rattle.std.proofs.lemmas.Bool.Decides.{nat_tests}
 use Rattle.minislots.specs.declared.config.Config.{Config}
 use Rattle.sched_calls.specs.declared.spec.FlowSpec.{FlowSpec}
+use Rattle.map_build.specs.Spots.{IsFlowSid, AreOfChannel}
 use Rattle.flow_book.specs.Flows.{LiveFlow, flow_of}
 use Rattle.sched_calls.specs.declared.placement.Placement.{Placement}
 use Rattle.periodic.specs.Placement.{count_from, Placed}
 use Rattle.sched_calls.specs.declared.reply.Entry.{Entry}
 use Rattle.sched_history.specs.Life.{Life, life_of, flow_in_life, placed_in_life, sids, flows_of, table_of}
 use Rattle.sched_history.specs.Refusal.{bad_sid, is_live}
-use Rattle.sched_history.proofs.lists.Numbered.{HasNumber, filter_map-above, filter_map-below}
+use Rattle.sched_history.proofs.lists.Numbered.{HasNumber, filter_map-above, filter_map-ascends, filter_map-below}
 use Rattle.sched_history.proofs.lists.Numbered.{find-inside}
 
 -- how many SIDs there are, from 1 on
@@ -75,6 +76,19 @@ flows_of-sids c h = rw sids-range.2 (
   filter_map-below (λ f. f.sid)
       (flow_at c h) (flow_at-sid c h) 8192 1 sids-range.0 (omega (arith, sids-range.1)),
 )
+
+within-both : (flows : List LiveFlow) → AllByRecursion (λ f. 1 ≤ f.sid) flows → AllByRecursion (λ f. f.sid < 8192) flows
+    → AllByRecursion (λ f. IsFlowSid f.sid) flows
+within-both [] low high = tt
+within-both (f ∷ flows) low high = ((low.0, omega (arith, high.0)), within-both flows low.1 high.1)
+
+-- the live flows are those that a channel may have
+pub flows_of-channel : (c : Config) (h : List Entry) → AreOfChannel (flows_of c h)
+flows_of-channel c h = record {
+  ascend = rw sids-range.2
+      (filter_map-ascends (λ f. f.sid) (flow_at c h) (flow_at-sid c h) 1 sids-range.0);
+  sids = within-both (flows_of c h) (flows_of-sids c h).0 (flows_of-sids c h).1;
+}
 
 -- the SIDs of flows are those that are not refused
 pub good_sid : (sid : ℕ) → bad_sid sid ≡ false → (1 ≤ sid) × (sid ≤ 8191)

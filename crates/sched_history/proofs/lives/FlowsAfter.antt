@@ -1,14 +1,17 @@
 -- The live flows and placements after one more entry.
 use Rattle.std.proofs.Common.{◌≡◌, ℕ, ◌+◌, List, [], ◌∷◌, ◌++◌, map, Option}
 use Rattle.std.proofs.Common.{None, Some, refl, ap, ◌∙◌, arith, append-nil}
+use Rattle.std.proofs.lemmas.List.{append_assoc}
 use Rattle.std.specs.Option.{option_map, option_and_then}
 use Rattle.std.proofs.lemmas.List.Sums.{sum_by_push}
 use Rattle.std.proofs.lemmas.Grind.{flat_map-append}
 use Rattle.minislots.specs.declared.config.Config.{Config}
 use Rattle.flow_book.specs.declared.flow.Grant.{Grant}
-use Rattle.flow_book.specs.Flows.{LiveFlow}
+use Rattle.flow_book.specs.declared.batches.Batches.{Batches}
+use Rattle.flow_book.specs.Batches.{no_batches}
+use Rattle.flow_book.specs.Flows.{LiveFlow, bytes_of, granted}
 use Rattle.sched_calls.specs.declared.reply.Entry.{Entry}
-use Rattle.sched_history.specs.Life.{turn_by, Life, life_of, asked_by, asked_in, grants_by, grants_since}
+use Rattle.sched_history.specs.Life.{turn_by, Life, life_of, asked_by, asked_in, grants_by, grants_since, batches_by, batches_after, batches_in}
 use Rattle.sched_history.specs.Life.{flow_in_life, placed_in_life, sids, flows_of, table_of}
 use Rattle.sched_history.proofs.lives.LivesAfter.{with_since, life_of-stays}
 use Rattle.sched_history.proofs.lists.Numbered.{filter_map-same, filter_map-changed}
@@ -16,8 +19,11 @@ use Rattle.sched_history.proofs.lives.Finding.{flow_at, placed_at}
 
 -- a live flow with what an entry asks for it and grants to it
 abbrev pub grown_by : Config → Entry → LiveFlow → LiveFlow
-grown_by c e f =
-    record f { asked = f.asked + asked_by c f.sid e.call e.reply; grants = f.grants ++ grants_by f.sid e.reply }
+grown_by c e f = record f {
+  asked = f.asked + asked_by c f.sid e.call e.reply;
+  batches = batches_by c f.sid e.call e.reply f.batches f.asked (granted f);
+  grants = f.grants ++ grants_by f.sid e.reply;
+}
 
 -- the bytes asked in these entries and one more
 pub asked_in-push : (c : Config) (sid : ℕ) (entries : List Entry) (e : Entry)
@@ -31,10 +37,28 @@ grants_since-push sid entries e =
     flat_map-append (λ x. grants_by sid x.reply) entries (e ∷ [])
     ∙ ap (λ gs. grants_since sid entries ++ gs) (append-nil (grants_by sid e.reply))
 
+-- the batches behind some entries and one more
+batches_after-push : (c : Config) (sid : ℕ) (b : Batches) (before entries : List Entry) (e : Entry)
+    → batches_after c sid b before (entries ++ e ∷ [])
+    ≡ batches_by c sid e.call e.reply (batches_after c sid b before entries) (asked_in c sid (before ++ entries))
+    (bytes_of (grants_since sid (before ++ entries)))
+batches_after-push c sid b before [] e = rw append-nil refl
+batches_after-push c sid b before (d ∷ entries) e =
+    let rest = batches_after-push c sid
+    (batches_by c sid d.call d.reply b (asked_in c sid before) (bytes_of (grants_since sid before)))
+    (before ++ d ∷ []) entries e in
+    rw append_assoc at rest
+
+pub batches_in-push : (c : Config) (sid : ℕ) (entries : List Entry) (e : Entry)
+    → batches_in c sid (entries ++ e ∷ []) ≡ batches_by c sid e.call e.reply (batches_in c sid entries)
+    (asked_in c sid entries) (bytes_of (grants_since sid entries))
+batches_in-push c sid entries e = batches_after-push c sid no_batches [] entries e
+
 -- the live flow of a life with one entry more
 flow_in_life-more : (c : Config) (sid : ℕ) (e : Entry) (life : Life)
     → flow_in_life c sid (with_since e life) ≡ grown_by c e (flow_in_life c sid life)
-flow_in_life-more c sid e life = rw (asked_in-push c sid life.since e, grants_since-push sid life.since e) refl
+flow_in_life-more c sid e life =
+    rw (asked_in-push c sid life.since e, batches_in-push c sid life.since e, grants_since-push sid life.since e) refl
 
 grown-map : (c : Config) (sid : ℕ) (e : Entry) (o : Option Life)
     → option_map (flow_in_life c sid) (option_map (with_since e) o)
@@ -73,10 +97,10 @@ module _ (h : List Entry) (e : Entry) where
       filter_map-same (placed_at h) (placed_at (h ++ e ∷ [])) sids (λ sid. placed_at-stays sid (none sid))
 
 -- a flow of which nothing is new is the same
-same_flow : (f : LiveFlow) (asked : ℕ) (grants : List Grant) → asked ≡ 0 → grants ≡ []
-    → record f { asked = f.asked + asked; grants = f.grants ++ grants } ≡ f
-same_flow f asked grants none nothing = let more : f.asked + asked ≡ f.asked = omega arith in
-    rw (more, nothing, append-nil f.grants) refl
+same_flow : (f : LiveFlow) (asked : ℕ) (batches : Batches) (grants : List Grant) → asked ≡ 0 → batches ≡ f.batches
+    → grants ≡ [] → record f { asked = f.asked + asked; batches = batches; grants = f.grants ++ grants } ≡ f
+same_flow f asked batches grants none same nothing = let more : f.asked + asked ≡ f.asked = omega arith in
+    rw (more, same, nothing, append-nil f.grants) refl
 
 map-same : {X : Type 0} (k : X → X) (xs : List X) → ((x : X) → k x ≡ x) → map k xs ≡ xs
 map-same k [] same = refl
@@ -84,8 +108,11 @@ map-same k (x ∷ xs) same = rw (same x, map-same k xs same) refl
 
 -- an entry that begins and ends no life, asks for nothing and grants nothing changes no live flow
 pub flows_of-quiet : (c : Config) (h : List Entry) (e : Entry) → ((sid : ℕ) → turn_by sid e.call e.reply ≡ None)
-    → ((sid : ℕ) → asked_by c sid e.call e.reply ≡ 0) → ((sid : ℕ) → grants_by sid e.reply ≡ [])
-    → flows_of c (h ++ e ∷ []) ≡ flows_of c h
-flows_of-quiet c h e none asks grants = flows_of-grown c h e none
+    → ((sid : ℕ) → asked_by c sid e.call e.reply ≡ 0)
+    → ((sid asked granted : ℕ) (b : Batches) → batches_by c sid e.call e.reply b asked granted ≡ b)
+    → ((sid : ℕ) → grants_by sid e.reply ≡ []) → flows_of c (h ++ e ∷ []) ≡ flows_of c h
+flows_of-quiet c h e none asks batches grants = flows_of-grown c h e none
     ∙ map-same (grown_by c e) (flows_of c h)
-    (λ f. same_flow f (asked_by c f.sid e.call e.reply) (grants_by f.sid e.reply) (asks f.sid) (grants f.sid))
+    (λ f. same_flow f (asked_by c f.sid e.call e.reply)
+    (batches_by c f.sid e.call e.reply f.batches f.asked (granted f)) (grants_by f.sid e.reply) (asks f.sid)
+    (batches f.sid f.asked (granted f) f.batches) (grants f.sid))

@@ -11,7 +11,6 @@ use Rattle.sched_calls.specs.FlowSpec.{is_periodic, grants_of}
 use Rattle.flow_book.specs.Flows.{LiveFlow}
 use Rattle.flow_book.specs.Book.{with_flow, new_flow, with_asked}
 use Rattle.map_build.specs.Plan.{flow_after}
-use Rattle.sched_calls.specs.declared.TheConstants.{MAX_PERIODIC_GRANTS}
 use Rattle.sched_calls.specs.declared.reply.Entry.{Entry}
 use Rattle.sched_history.specs.Life.{flows_of}
 use Rattle.sched_history.specs.Time.{next_after}
@@ -55,9 +54,10 @@ sum_by-with_flow own f [] = sum_by-cons own f []
 sum_by-with_flow own f (g ∷ flows) =
     inserted own (nat_lt f.sid g.sid) f g flows (with_flow f flows) (sum_by-with_flow own f flows)
 
-asked-spec : (b : Bool) (bytes : ℕ) (f : LiveFlow) → grants_of (cond b (with_asked bytes f) f).spec ≡ grants_of f.spec
-asked-spec true bytes f = refl
-asked-spec false bytes f = refl
+asked-spec : (b : Bool) (bytes heard : ℕ) (f : LiveFlow)
+    → grants_of (cond b (with_asked bytes heard f) f).spec ≡ grants_of f.spec
+asked-spec true bytes heard f = refl
+asked-spec false bytes heard f = refl
 
 few-more : (spec : FlowSpec) (n most : ℕ) → (is_periodic spec ≡ true → n + grants_of spec ≤ most) → n ≤ most
     → grants_of spec + n ≤ most
@@ -66,19 +66,19 @@ few-more (Polled interval jitter rate burst) n most room few = omega (arith, roo
 few-more (BestEffort priority rate burst) n most room few = omega (arith, few)
 
 module _ (c : Config) (lawful : IsLawful c) where
-  few-after : (h new : List Entry) → EntryChange c h new → periodic_grants c h ≤ MAX_PERIODIC_GRANTS
-      → periodic_grants c new ≤ MAX_PERIODIC_GRANTS
+  few-after : (h new : List Entry) → EntryChange c h new → periodic_grants c h ≤ c.periodic
+      → periodic_grants c new ≤ c.periodic
   few-after h new change few =
       let own : LiveFlow → ℕ = λ f. grants_of f.spec in
       elim change [
         | Nothing flows next ↦ rw flows few
-        | Asked sid bytes most flows next ↦ rw (
+        | Asked sid bytes heard most flows next ↦ rw (
           flows,
-          sum_by-map own (λ f. if f.sid == sid then with_asked bytes f else f) (flows_of c h)
-              (λ f. asked-spec (f.sid == sid) bytes f),
+          sum_by-map own (λ f. if f.sid == sid then with_asked bytes heard f else f) (flows_of c h)
+              (λ f. asked-spec (f.sid == sid) bytes heard f),
         ) few
         | Began sid spec may flows next ↦ rw (flows, sum_by-with_flow own (new_flow sid spec) (flows_of c h))
-            (few-more spec (periodic_grants c h) MAX_PERIODIC_GRANTS may.few_grants few)
+            (few-more spec (periodic_grants c h) c.periodic may.few_grants few)
         | Ended sid flows next ↦
             rw flows (omega (arith, few, sum_by-filter own (λ f. not (f.sid == sid)) (flows_of c h)))
         | Described m map flows next most ↦ rw (
@@ -89,8 +89,8 @@ module _ (c : Config) (lawful : IsLawful c) where
       ]
 
   -- the live flows have at most so many grants per interval
-  pub periodic_grants-few : (h : List Entry) → IsLegal c h → periodic_grants c h ≤ MAX_PERIODIC_GRANTS
+  pub periodic_grants-few : (h : List Entry) → IsLegal c h → periodic_grants c h ≤ c.periodic
   periodic_grants-few =
-      legal_induction c (λ h. periodic_grants c h ≤ MAX_PERIODIC_GRANTS)
+      legal_induction c (λ h. periodic_grants c h ≤ c.periodic)
       (λ h e legal step few. few-after h (h ++ e ∷ []) (change_of c h e lawful step) few)
       (let none : flows_of c [] ≡ [] = flows_of-none c [] (λ sid. refl) in rw none (omega arith))

@@ -7,6 +7,7 @@ use Rattle.std.proofs.lemmas.List.Sums.{sum_by_push}
 use Rattle.minislots.specs.declared.config.Config.{Config}
 use Rattle.map_codec.specs.declared.element.Element.{Element}
 use Rattle.flow_book.specs.Flows.{LiveFlow, outstanding}
+use Rattle.flow_book.specs.Shown.{is_shown}
 use Rattle.map_build.specs.declared.purpose.Allocation.{Allocation}
 use Rattle.map_build.specs.declared.purpose.Purpose.{Purpose}
 use Rattle.map_build.specs.declared.purpose.Purpose.TheVariants.{Poll, UnsolicitedGrant, Offer, DataGrant, Idle}
@@ -78,7 +79,7 @@ module _ (c : Config) (d : Demand) where
     whole = refl;
     one_null = (elements_of-encodable c d plan below sids places stations is.each is.whole).one_null;
     ascend = ascend-plan request_region [] plan is.each (omega (arith, some)) is.whole;
-    ranging = behind-other c (filter (λ (f : LiveFlow). nat_lt 0 (outstanding f))
+    ranging = behind-other c (filter (is_shown c.pending (flows_after d.start plan d.flows))
         (flows_after d.start plan d.flows));
   }
 

@@ -21,7 +21,7 @@ use Rattle.sched_history.specs.Reserves.{offers_of, unmet_by, aged, reserves_of,
 use Rattle.sched_history.specs.History.{demand_after, IsNextMap, IsLegal}
 use Rattle.sched_history.specs.State.{next_demand, IsBounded, IsStateAfter}
 use Rattle.sched_history.proofs.placements.PeriodicFlows.{ArePeriodicOf-legal}
-use Rattle.sched_history.proofs.lives.Finding.{flows_of-sids}
+use Rattle.sched_history.proofs.lives.Finding.{flows_of-channel}
 use Rattle.sched_history.proofs.flows.MapGrants.{plan-HasBytes}
 use Rattle.sched_history.proofs.flows.BuildCall.{flows_of-build_plan}
 use Rattle.sched_history.proofs.reserves.ReservesAfter.{reserves_of-built}
@@ -40,10 +40,6 @@ take-counted f first (suc n) (x ∷ xs) within is =
     rw (here, rest) refl
 
 -- flows with SIDs within these bounds are those that a channel may have
-within-both : (flows : List LiveFlow) → AllByRecursion (λ f. 1 ≤ f.sid) flows → AllByRecursion (λ f. f.sid < 8192) flows
-    → AllByRecursion (λ f. IsFlowSid f.sid) flows
-within-both [] low high = tt
-within-both (f ∷ flows) low high = ((low.0, omega (arith, high.0)), within-both flows low.1 high.1)
 
 module _ (s : State) (h : List Entry) (is_after : IsStateAfter s h) where
   -- the acknowledge time is the least progress that is kept
@@ -81,7 +77,7 @@ module _ (s : State) (h : List Entry) (is_after : IsStateAfter s h) where
   module _ (stamp : Stamp) (now : ℕ) (p : PlannedFrame)
       (frame : IsLawfulFrame s.config (next_demand s) s.header (least (take s.config.receivers s.progress)) p) where
     -- and the flows with its data grants are those after its build
-    pub flows_of-planned : p.book.flows
+    pub flows_of-planned : p.overlay.flows
         ≡ flows_of s.config (h ++ record { stamp = stamp; call = Build now; reply = Built p.map } ∷ [])
     flows_of-planned =
         let has = plan-HasBytes s.config (next_demand s) frame.plan frame.is_plan in
@@ -104,12 +100,7 @@ module _ (s : State) (h : List Entry) (is_after : IsStateAfter s h) where
   module _ (bounded : IsBounded s.config s.book.flows s.next (length h)) where
     -- the flows are those that a channel may have
     pub AreOfChannel-after : AreOfChannel s.book.flows
-    AreOfChannel-after = record {
-      few = bounded.few;
-      sids =
-          rw (is_after.flows) (within-both (flows_of s.config h) (flows_of-sids s.config h).0
-          (flows_of-sids s.config h).1);
-    }
+    AreOfChannel-after = rw is_after.flows (flows_of-channel s.config h)
 
     -- the placed ones are the periodic ones
     pub ArePeriodicOf-after : IsLegal s.config h → ArePeriodicOf s.book.flows s.table.placed

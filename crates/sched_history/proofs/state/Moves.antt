@@ -54,7 +54,7 @@ module _ (s : State) (h : List Entry) (is_after : IsStateAfter s h) (stamp : Sta
         lawful = is_after.lawful;
         book_config = is_after.book_config;
         table_config = is_after.table_config;
-        flows = is_after.flows ∙ sym (flows_of-quiet s.config h e quiet.turns quiet.asks quiet.grants);
+        flows = is_after.flows ∙ sym (flows_of-quiet s.config h e quiet.turns quiet.asks quiet.batches quiet.grants);
         placed = is_after.placed ∙ sym (table_of-stays h e quiet.turns);
         next = is_after.next ∙ sym (next_after-same s.config h e quiet.skips quiet.builds);
         places = is_after.places;
@@ -67,7 +67,7 @@ module _ (s : State) (h : List Entry) (is_after : IsStateAfter s h) (stamp : Sta
 
   -- after a request
   pub IsStateAfter-asked : (receiver sid : ℕ) (amount : Amount) (heard : ℕ) (book : BookView)
-      → book ≡ record s.book { flows = changed sid (with_asked (requested s.config amount)) s.book.flows }
+      → book ≡ record s.book { flows = changed sid (with_asked (requested s.config amount) heard) s.book.flows }
       → IsStateAfter (record s { book = book })
       (h ++ record { stamp = stamp; call = calls.Ask receiver sid amount heard; reply = replies.Taken } ∷ [])
   IsStateAfter-asked receiver sid amount heard book asked =
@@ -76,7 +76,7 @@ module _ (s : State) (h : List Entry) (is_after : IsStateAfter s h) (stamp : Sta
         lawful = is_after.lawful;
         book_config = ap (λ b. b.config) asked ∙ is_after.book_config;
         table_config = is_after.table_config;
-        flows = ap (λ b. b.flows) asked ∙ ap (changed sid (with_asked (requested s.config amount))) is_after.flows
+        flows = ap (λ b. b.flows) asked ∙ ap (changed sid (with_asked (requested s.config amount) heard)) is_after.flows
             ∙ sym (flows_of-ask stamp h receiver sid amount heard s.config);
         placed = is_after.placed ∙ sym (table_of-ask stamp h receiver sid amount heard);
         next = is_after.next ∙ sym (next_after-same s.config h e refl refl);
@@ -169,7 +169,7 @@ module _ (s : State) (h : List Entry) (is_after : IsStateAfter s h) (stamp : Sta
         lawful = is_after.lawful;
         book_config = is_after.book_config;
         table_config = is_after.table_config;
-        flows = is_after.flows ∙ sym (flows_of-quiet s.config h e (λ sid. refl) (λ sid. refl) (λ sid. refl));
+        flows = is_after.flows ∙ sym (flows_of-quiet s.config h e (λ sid. refl) (λ sid. refl) (λ sid asked granted b. refl) (λ sid. refl));
         placed = is_after.placed ∙ sym (table_of-stays h e (λ sid. refl));
         next = is_after.next ∙ sym (next_after-same s.config h e refl refl);
         places = length-set s.progress receiver upto ∙ is_after.places;
@@ -193,7 +193,7 @@ module _ (s : State) (h : List Entry) (is_after : IsStateAfter s h) (stamp : Sta
         lawful = is_after.lawful;
         book_config = is_after.book_config;
         table_config = is_after.table_config;
-        flows = is_after.flows ∙ sym (flows_of-quiet s.config h e (λ sid. refl) (λ sid. refl) (λ sid. refl));
+        flows = is_after.flows ∙ sym (flows_of-quiet s.config h e (λ sid. refl) (λ sid. refl) (λ sid asked granted b. refl) (λ sid. refl));
         placed = is_after.placed ∙ sym (table_of-stays h e (λ sid. refl));
         next = sym (next_after-skipped s.config h e next refl);
         places = is_after.places;
@@ -235,7 +235,7 @@ module _ (s : State) (h : List Entry) (is_after : IsStateAfter s h) (stamp : Sta
         lawful = is_after.lawful;
         book_config = is_after.book_config;
         table_config = is_after.table_config;
-        flows = is_after.flows ∙ sym (flows_of-quiet s.config h e (λ sid. refl) (λ sid. refl) (λ sid. refl));
+        flows = is_after.flows ∙ sym (flows_of-quiet s.config h e (λ sid. refl) (λ sid. refl) (λ sid asked granted b. refl) (λ sid. refl));
         placed = is_after.placed ∙ sym (table_of-stays h e (λ sid. refl));
         next = is_after.next ∙ sym (next_after-same s.config h e refl refl);
         places = is_after.places;
@@ -254,7 +254,7 @@ module _ (s : State) (h : List Entry) (is_after : IsStateAfter s h) (stamp : Sta
         lawful = is_after.lawful;
         book_config = is_after.book_config;
         table_config = is_after.table_config;
-        flows = is_after.flows ∙ sym (flows_of-quiet s.config h e (λ sid. refl) (λ sid. refl) (λ sid. refl));
+        flows = is_after.flows ∙ sym (flows_of-quiet s.config h e (λ sid. refl) (λ sid. refl) (λ sid asked granted b. refl) (λ sid. refl));
         placed = is_after.placed ∙ sym (table_of-stays h e (λ sid. refl));
         next = is_after.next ∙ sym (next_after-same s.config h e refl refl);
         places = is_after.places;

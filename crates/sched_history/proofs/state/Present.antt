@@ -1,13 +1,13 @@
 -- What the fields of a scheduler say of its history.
-use Rattle.std.proofs.Common.{◌≡◌, ◌≢◌, ℕ, ◌+◌, ◌*◌, ◌≤◌, ◌<◌, ◌^◌, Bool, true, false, ◌==◌, cond, List, []}
+use Rattle.std.proofs.Common.{◌≡◌, ◌≢◌, ℕ, ◌+◌, ◌*◌, ◌≤◌, ◌<◌, ◌^◌, Bool, true, false, not, ◌==◌, cond, List, []}
 use Rattle.std.proofs.Common.{◌∷◌, find, Option, None, Some, refl, sym, ap, ◌∙◌, subst, arith, length}
 use Rattle.std.specs.Prelude.{is_some, IsSome}
 use Rattle.std.specs.List.{AllByRecursion}
-use Rattle.std.specs.Option.{option_map, option_and_then, IfSome, MatchOption}
+use Rattle.std.specs.Option.{option_map, option_map_or, option_and_then, IfSome, MatchOption}
 use Rattle.minislots.specs.declared.config.Config.{Config}
 use Rattle.sched_calls.specs.declared.spec.FlowSpec.{FlowSpec}
 use Rattle.sched_calls.specs.declared.spec.FlowSpec.TheVariants.{Unsolicited, Polled, BestEffort}
-use Rattle.sched_calls.specs.FlowSpec.{is_periodic}
+use Rattle.sched_calls.specs.FlowSpec.{is_periodic, takes_requests}
 use Rattle.flow_book.specs.Flows.{flow_of}
 use Rattle.flow_book.specs.Book.{IsLive}
 use Rattle.sched_calls.specs.declared.placement.Placement.{Placement}
@@ -18,7 +18,7 @@ use Rattle.sched_calls.specs.declared.reply.Reply.{Reply}
 use Rattle.sched_calls.specs.declared.reply.Reply.TheVariants as replies
 use Rattle.sched_calls.specs.declared.reply.Entry.{Entry}
 use Rattle.sched_history.specs.Life.{Life, life_of, flow_in_life, placed_in_life, table_of}
-use Rattle.sched_history.specs.Refusal.{bad_sid, is_live, most_bytes}
+use Rattle.sched_history.specs.Refusal.{bad_sid, is_live, is_silent, most_bytes}
 use Rattle.sched_history.specs.Time.{next_after}
 use Rattle.sched_history.specs.History.{AnswersAdmit, PlacesOrRefuses, IsLegal, flow_status}
 use Rattle.sched_history.specs.Machine.{IsPlaceable}
@@ -106,6 +106,16 @@ asked-fits s h sid bytes low short all =
     (λ f most. omega arith)
     (find-all (λ f. f.asked ≤ most_bytes * length h) (λ f. f.sid == sid) s.book.flows all)
 
+takes-not : (b : Bool) → not b ≡ false → b ≡ true
+takes-not true e = refl
+takes-not false e = absurd (cc)
+
+takes-in : (c : Config) (sid : ℕ) (o : Option Life)
+    → option_map_or (λ life. not (takes_requests life.admission.spec)) o false ≡ false
+    → IfSome (option_map (flow_in_life c sid) o) (λ f. takes_requests f.spec ≡ true)
+takes-in c sid None asks = tt
+takes-in c sid (Some life) asks = takes-not (takes_requests life.admission.spec) asks
+
 module _ (s : State) (h : List Entry) (sid : ℕ) (is_after : IsStateAfter s h) where
   module _ (good : bad_sid sid ≡ false) where
     -- the live flow of a SID that a flow may have
@@ -133,6 +143,11 @@ module _ (s : State) (h : List Entry) (sid : ℕ) (is_after : IsStateAfter s h) 
     -- a SID that is live has a flow
     pub IsLive-after : IsLive sid s.book.flows
     IsLive-after = rw (flow_of-after known.good) (live-from_test s.config sid (life_of sid h) known.live)
+
+    -- where it asks for bytes it takes requests
+    pub takes-after : is_silent sid h ≡ false
+        → IfSome (flow_of sid s.book.flows) (λ f. takes_requests f.spec ≡ true)
+    takes-after asks = rw (flow_of-after known.good) (takes-in s.config sid (life_of sid h) asks)
 
     -- the three sums are the answer to a question for its bytes
     pub status-after : (reply : Reply) → IfSome (flow_of sid s.book.flows) (λ f. flow_status f ≡ reply)

@@ -105,6 +105,7 @@ IsBuildAfter-planned m p fits =
       lawful = fits.lawful;
       encodable = fits.encodable;
       config = fits.config;
+      before = fits.before;
       flows = fits.flows;
       reserves = fits.reserves;
     }
@@ -119,6 +120,7 @@ IsPlanAfter-build m p room unrefused fits =
       lawful = fits.lawful;
       encodable = fits.encodable;
       config = fits.config;
+      before = fits.before;
       flows = fits.flows;
       reserves = fits.reserves;
     }

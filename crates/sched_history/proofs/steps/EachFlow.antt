@@ -44,7 +44,7 @@ turned Q false f g this other = other
 -- What Q asks of a flow, where P held before: as it was, with a request or the grants of a MAP more, just admitted
 pub record Carries (c : Config) (h new : List Entry) (P Q : LiveFlow → Type 0) : Type 0 where
   pub stays : (f : LiveFlow) → P f → Q f
-  pub asks : (bytes : ℕ) (f : LiveFlow) → bytes ≤ most_bytes → P f → Q (with_asked bytes f)
+  pub asks : (bytes heard : ℕ) (f : LiveFlow) → bytes ≤ most_bytes → P f → Q (with_asked bytes heard f)
   pub begins : (sid : ℕ) (spec : FlowSpec) → Q (new_flow sid spec)
   pub grants : (m : FrameMap) (map : IsNextMap c h m) → next_after c new ≡ next_after c h + c.frame → (f : LiveFlow)
       → P f → Q (flow_after (next_after c h) map.0 f)
@@ -54,9 +54,9 @@ pub each_after : (c : Config) (h new : List Entry) (P Q : LiveFlow → Type 0) �
     → EntryChange c h new → AllByRecursion P (flows_of c h) → AllByRecursion Q (flows_of c new)
 each_after c h new P Q carries change all = elim change [
   | Nothing flows next ↦ rw flows (all-implied P Q (flows_of c h) carries.stays all)
-  | Asked sid bytes few flows next ↦
-      rw flows (all-image P Q (λ f. if f.sid == sid then with_asked bytes f else f) (flows_of c h)
-      (λ f holds. turned Q (f.sid == sid) (with_asked bytes f) f (carries.asks bytes f few holds)
+  | Asked sid bytes heard few flows next ↦
+      rw flows (all-image P Q (λ f. if f.sid == sid then with_asked bytes heard f else f) (flows_of c h)
+      (λ f holds. turned Q (f.sid == sid) (with_asked bytes heard f) f (carries.asks bytes heard f few holds)
       (carries.stays f holds)) all)
   | Began sid spec may flows next ↦
       rw flows (all-with_flow Q (new_flow sid spec) (flows_of c h) (carries.begins sid spec)

@@ -10,6 +10,7 @@ use Rattle.sched_calls.specs.declared.spec.FlowSpec.{FlowSpec}
 use Rattle.sched_calls.specs.declared.spec.FlowSpec.TheVariants.{Unsolicited, Polled, BestEffort}
 use Rattle.sched_calls.specs.FlowSpec.{takes_requests}
 use Rattle.sched_calls.specs.Amount.{requested}
+use Rattle.flow_book.specs.declared.batches.Batches.{Batches}
 use Rattle.flow_book.specs.Flows.{LiveFlow, granted, outstanding}
 use Rattle.flow_book.specs.Book.{with_flow, without, changed, new_flow, with_asked}
 use Rattle.sched_calls.specs.declared.placement.Placement.{Placement}
@@ -22,7 +23,7 @@ use Rattle.sched_calls.specs.declared.reply.Refusal.TheVariants.{NoPlace}
 use Rattle.sched_calls.specs.declared.reply.Reply.{Reply}
 use Rattle.sched_calls.specs.declared.reply.Reply.TheVariants as replies
 use Rattle.sched_calls.specs.declared.reply.Entry.{Entry}
-use Rattle.sched_history.specs.Life.{turn_by, asked_by, grants_by, Life, life_of, flow_in_life, flows_of}
+use Rattle.sched_history.specs.Life.{turn_by, asked_by, grants_by, batches_by, Life, life_of, flow_in_life, flows_of}
 use Rattle.sched_history.specs.Time.{skip_by, is_built, next_after, IsFirstStart}
 use Rattle.sched_history.specs.Refusal.{most_bytes, most_ahead, last_clock, refusal_of}
 use Rattle.sched_history.specs.History.{PlacesOrRefuses, AnswersAdmit, flow_status, IsNextMap}
@@ -40,8 +41,8 @@ use Rattle.sched_history.proofs.steps.Passed.{AdmitsFlow, passed-admit, passed-a
 -- what an entry changes, from one history to the next
 pub data EntryChange (c : Config) (h new : List Entry) : Type 0 where
   Nothing : flows_of c new ≡ flows_of c h → next_after c new ≡ next_after c h → EntryChange c h new
-  Asked : (sid bytes : ℕ) → bytes ≤ most_bytes → flows_of c new ≡ changed sid (with_asked bytes) (flows_of c h)
-      → next_after c new ≡ next_after c h → EntryChange c h new
+  Asked : (sid bytes heard : ℕ) → bytes ≤ most_bytes
+      → flows_of c new ≡ changed sid (with_asked bytes heard) (flows_of c h) → next_after c new ≡ next_after c h → EntryChange c h new
   Began : (sid : ℕ) (spec : FlowSpec) → AdmitsFlow c h sid spec
       → flows_of c new ≡ with_flow (new_flow sid spec) (flows_of c h) → next_after c new ≡ next_after c h
       → EntryChange c h new
@@ -104,7 +105,7 @@ module _ (c : Config) (lawful : IsLawful c) (stamp : Stamp) (h : List Entry) whe
       → EntryChange c h (after (calls.Status sid) (replies.Flow asked granted left))
   told sid asked granted left =
       let reply : Reply = replies.Flow asked granted left in
-      Nothing (flows_of-quiet c h (entry (calls.Status sid) reply) (λ other. refl) (λ other. refl) (λ other. refl))
+      Nothing (flows_of-quiet c h (entry (calls.Status sid) reply) (λ other. refl) (λ other. refl) (λ other asked granted b. refl) (λ other. refl))
       (same_next (calls.Status sid) reply refl refl)
 
   tells_sums : (sid : ℕ) (b : Bool) (asked granted left : ℕ)
@@ -123,15 +124,17 @@ module _ (c : Config) (lawful : IsLawful c) (stamp : Stamp) (h : List Entry) whe
 
   -- a call that changes neither flows nor the next frame
   quiet : (call : Call) (reply : Reply) → ((sid : ℕ) → turn_by sid call reply ≡ None)
-      → ((sid : ℕ) → asked_by c sid call reply ≡ 0) → ((sid : ℕ) → grants_by sid reply ≡ []) → skip_by reply ≡ None
+      → ((sid : ℕ) → asked_by c sid call reply ≡ 0)
+      → ((sid asked granted : ℕ) (b : Batches) → batches_by c sid call reply b asked granted ≡ b)
+      → ((sid : ℕ) → grants_by sid reply ≡ []) → skip_by reply ≡ None
       → is_built reply ≡ false → EntryChange c h (after call reply)
-  quiet call reply turns asks grants skips builds =
-      Nothing (flows_of-quiet c h (entry call reply) turns asks grants) (same_next call reply skips builds)
+  quiet call reply turns asks batches grants skips builds =
+      Nothing (flows_of-quiet c h (entry call reply) turns asks batches grants) (same_next call reply skips builds)
 
   heard : (receiver upto : ℕ) → EntryChange c h (after (calls.Heard receiver upto) replies.Noted)
   heard receiver upto =
       let e : Entry = entry (calls.Heard receiver upto) replies.Noted in
-      Nothing (flows_of-quiet c h e (λ sid. refl) (λ sid. refl) (λ sid. refl))
+      Nothing (flows_of-quiet c h e (λ sid. refl) (λ sid. refl) (λ sid asked granted b. refl) (λ sid. refl))
       (same_next (calls.Heard receiver upto) replies.Noted refl refl)
 
   skips : (now start : ℕ) → IsFirstStart c (now + c.lead) start → refusal_of c h (calls.Skip now) ≡ None
@@ -142,7 +145,7 @@ module _ (c : Config) (lawful : IsLawful c) (stamp : Stamp) (h : List Entry) whe
       let bounds : HasBounds c = bounds_of c lawful in
       let near : start < now + c.lead + c.frame =
       first_start-near c (now + c.lead) (omega (arith, bounds.frame_least)) start first in
-      Skipped start (flows_of-quiet c h e (λ sid. refl) (λ sid. refl) (λ sid. refl))
+      Skipped start (flows_of-quiet c h e (λ sid. refl) (λ sid. refl) (λ sid asked granted b. refl) (λ sid. refl))
       (next_after-skipped c h e start refl) (omega (arith, late.late, first.reached)) first.whole
       (omega (arith, late.clock, near, bounds.lead_most))
 
@@ -163,7 +166,7 @@ module _ (c : Config) (lawful : IsLawful c) (stamp : Stamp) (h : List Entry) whe
       (Ended sid (flows_of-remove stamp h sid c) (same_next (calls.Remove sid) replies.Removed refl refl))
   answered (calls.Ask receiver sid amount heard) reply none answers =
       by_reply (calls.Ask receiver sid amount heard) reply replies.Taken answers
-      (Asked sid (requested c amount) (passed-ask c h receiver sid amount heard none).most
+      (Asked sid (requested c amount) heard (passed-ask c h receiver sid amount heard none).most
       (flows_of-ask stamp h receiver sid amount heard c)
       (same_next (calls.Ask receiver sid amount heard) replies.Taken refl refl))
   answered (calls.Heard receiver upto) reply none answers =
@@ -175,10 +178,12 @@ module _ (c : Config) (lawful : IsLawful c) (stamp : Stamp) (h : List Entry) whe
   answered (calls.Status sid) reply none answers = tells sid (life_of sid h) reply answers
   answered (calls.Reserve usage slots) reply none answers =
       by_reply (calls.Reserve usage slots) reply replies.Reserved answers
-      (quiet (calls.Reserve usage slots) replies.Reserved (λ sid. refl) (λ sid. refl) (λ sid. refl) refl refl)
+      (quiet (calls.Reserve usage slots) replies.Reserved (λ sid. refl) (λ sid. refl) (λ sid asked granted b. refl)
+      (λ sid. refl) refl refl)
   answered (calls.Header header) reply none answers =
       by_reply (calls.Header header) reply replies.Noted answers
-      (quiet (calls.Header header) replies.Noted (λ sid. refl) (λ sid. refl) (λ sid. refl) refl refl)
+      (quiet (calls.Header header) replies.Noted (λ sid. refl) (λ sid. refl) (λ sid asked granted b. refl)
+      (λ sid. refl) refl refl)
 
   stepped : (call : Call) (reply : Reply) (o : Option Refusal) → refusal_of c h call ≡ o
       → MatchOption o (Answers c h call reply) (λ refusal. reply ≡ replies.Refused refusal)

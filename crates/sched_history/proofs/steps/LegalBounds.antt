@@ -7,7 +7,6 @@ use Rattle.std.proofs.lemmas.List.{length-map, length_push}
 use Rattle.minislots.specs.declared.config.Config.{Config}
 use Rattle.minislots.specs.Config.{IsLawful}
 use Rattle.minislots.proofs.Bounds.{bounds_of}
-use Rattle.sched_calls.specs.declared.TheConstants.{MAX_FLOWS}
 use Rattle.flow_book.specs.declared.flow.Grant.{Grant}
 use Rattle.flow_book.specs.Flows.{LiveFlow}
 use Rattle.flow_book.specs.Choice.{HasStartedBy}
@@ -36,7 +35,7 @@ module _ (c : Config) (lawful : IsLawful c) where
       → next_after c new % c.frame ≡ 0
   aligned-after h new change aligned = elim change [
     | Nothing flows next ↦ rw next aligned
-    | Asked sid bytes few flows next ↦ rw next aligned
+    | Asked sid bytes heard few flows next ↦ rw next aligned
     | Began sid spec may flows next ↦ rw next aligned
     | Ended sid flows next ↦ rw next aligned
     | Described m map flows next most ↦ rw next (add-mod_right (next_after c h) c.frame ∙ aligned)
@@ -57,7 +56,7 @@ module _ (c : Config) (lawful : IsLawful c) where
       → next_after c new ≤ last_clock + most_ahead
   most-after h new change within = elim change [
     | Nothing flows next ↦ rw next within
-    | Asked sid bytes few flows next ↦ rw next within
+    | Asked sid bytes heard few flows next ↦ rw next within
     | Began sid spec may flows next ↦ rw next within
     | Ended sid flows next ↦ rw next within
     | Described m map flows next most ↦ rw next most
@@ -74,7 +73,7 @@ module _ (c : Config) (lawful : IsLawful c) where
   later-after : (h new : List Entry) → EntryChange c h new → next_after c h ≤ next_after c new
   later-after h new change = elim change [
     | Nothing flows next ↦ omega arith
-    | Asked sid bytes few flows next ↦ omega arith
+    | Asked sid bytes heard few flows next ↦ omega arith
     | Began sid spec may flows next ↦ omega arith
     | Ended sid flows next ↦ omega arith
     | Described m map flows next most ↦ omega arith
@@ -91,7 +90,7 @@ module _ (c : Config) (lawful : IsLawful c) where
       let more : length (h ++ e ∷ []) ≡ length h + 1 = length_push h e in
       record {
         stays = λ f few. omega arith;
-        asks = λ bytes f some few. omega arith;
+        asks = λ bytes heard f some few. omega arith;
         begins = λ sid spec. omega arith;
         grants = λ m map next f few. omega arith;
       }
@@ -114,7 +113,7 @@ module _ (c : Config) (lawful : IsLawful c) where
       (λ (g : Grant). g.start < next_after c new) grants (λ g before. omega arith) in
       record {
         stays = λ f started. older f.grants started;
-        asks = λ bytes f some started. older f.grants started;
+        asks = λ bytes heard f some started. older f.grants started;
         begins = λ sid spec. tt;
         grants = λ m map next f started. all-append (λ (g : Grant). g.start < next_after c new) f.grants
             (grants_to (next_after c h) f.sid map.0) (older f.grants started)
@@ -139,11 +138,11 @@ module _ (c : Config) (lawful : IsLawful c) where
       (λ (g : Grant). g.start ≤ next_after c h) f.grants (λ g before. omega arith) started)
       (flows_of-started h legal)
 
-  few-after : (h new : List Entry) → EntryChange c h new → length (flows_of c h) ≤ MAX_FLOWS
-      → length (flows_of c new) ≤ MAX_FLOWS
+  few-after : (h new : List Entry) → EntryChange c h new → length (flows_of c h) ≤ c.flows
+      → length (flows_of c new) ≤ c.flows
   few-after h new change within = elim change [
     | Nothing flows next ↦ rw flows within
-    | Asked sid bytes few flows next ↦ rw (flows, length-map) within
+    | Asked sid bytes heard few flows next ↦ rw (flows, length-map) within
     | Began sid spec may flows next ↦
         rw flows (omega (arith, length-with_flow (new_flow sid spec) (flows_of c h), may.few))
     | Ended sid flows next ↦
@@ -153,8 +152,8 @@ module _ (c : Config) (lawful : IsLawful c) where
   ]
 
   -- at most so many flows are live
-  pub flows_of-few : (h : List Entry) → IsLegal c h → length (flows_of c h) ≤ MAX_FLOWS
+  pub flows_of-few : (h : List Entry) → IsLegal c h → length (flows_of c h) ≤ c.flows
   flows_of-few =
-      legal_induction c (λ h. length (flows_of c h) ≤ MAX_FLOWS)
+      legal_induction c (λ h. length (flows_of c h) ≤ c.flows)
       (λ h e legal step within. few-after h (h ++ e ∷ []) (change_of c h e lawful step) within)
       (rw none-live (omega arith))

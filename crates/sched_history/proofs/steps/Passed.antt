@@ -4,13 +4,11 @@ use Rattle.std.proofs.Common.{◌||◌, ◌&&◌, List, length, Option, None, So
 use Rattle.std.specs.Option.{option_or, option_map}
 use Rattle.std.proofs.lemmas.Bool.Decides.{nat_tests}
 use Rattle.minislots.specs.declared.config.Config.{Config}
-use Rattle.sched_calls.specs.declared.TheConstants.{MAX_FLOWS}
 use Rattle.sched_calls.specs.declared.spec.FlowSpec.{FlowSpec}
 use Rattle.sched_calls.specs.declared.spec.FlowFault.{FlowFault}
 use Rattle.sched_calls.specs.declared.amount.Amount.{Amount}
 use Rattle.sched_calls.specs.Amount.{requested}
 use Rattle.sched_calls.specs.FlowSpec.{is_periodic, grants_of, first_fault}
-use Rattle.sched_calls.specs.declared.TheConstants.{MAX_PERIODIC_GRANTS}
 use Rattle.sched_calls.specs.declared.opportunity.Usage.{Usage}
 use Rattle.sched_calls.specs.declared.call.TheConstants.{MAX_RESERVES}
 use Rattle.sched_calls.specs.declared.call.Call.TheVariants.{Admit, Remove, Ask, Heard, Build, Skip, Status, Reserve}
@@ -64,8 +62,8 @@ pub record AdmitsFlow (c : Config) (h : List Entry) (sid : ℕ) (spec : FlowSpec
   pub good : bad_sid sid ≡ false
   pub fresh : is_live sid h ≡ false
   pub no_fault : first_fault c spec ≡ None
-  pub few : length (flows_of c h) < MAX_FLOWS
-  pub few_grants : is_periodic spec ≡ true → periodic_grants c h + grants_of spec ≤ MAX_PERIODIC_GRANTS
+  pub few : length (flows_of c h) < c.flows
+  pub few_grants : is_periodic spec ≡ true → periodic_grants c h + grants_of spec ≤ c.periodic
 
 -- an admission that no test refuses passed
 pub passed-admit : (c : Config) (h : List Entry) (sid : ℕ) (spec : FlowSpec) → refusal_of c h (Admit sid spec) ≡ None
@@ -80,9 +78,9 @@ passed-admit c h sid spec e =
       good = good.0;
       fresh = fresh.0;
       no_fault = fault.0;
-      few = above MAX_FLOWS (length (flows_of c h)) few.0;
-      few_grants = λ is. within MAX_PERIODIC_GRANTS (periodic_grants c h + grants_of spec)
-          (both (is_periodic spec) (nat_lt MAX_PERIODIC_GRANTS (periodic_grants c h + grants_of spec)) periodic.0 is);
+      few = above c.flows (length (flows_of c h)) few.0;
+      few_grants = λ is. within c.periodic (periodic_grants c h + grants_of spec)
+          (both (is_periodic spec) (nat_lt c.periodic (periodic_grants c h + grants_of spec)) periodic.0 is);
     }
 
 -- A SID that may be a flow's is live
@@ -109,6 +107,7 @@ passed-status c h sid e = known h sid _ _ _ e
 -- A request passed
 pub record Asks (c : Config) (h : List Entry) (receiver sid : ℕ) (amount : Amount) (heard : ℕ) : Type 0 where
   pub known : IsKnown h sid
+  pub asks : is_silent sid h ≡ false
   pub received : receiver < c.receivers
   pub some_bytes : 0 < requested c amount
   pub most : requested c amount ≤ most_bytes
@@ -135,6 +134,7 @@ passed-ask c h receiver sid amount heard e =
     let sizes = neither (bytes == 0) (nat_lt most_bytes bytes) past_bytes.0 in
     record {
       known = known h sid BadSid NoFlow asks e;
+      asks = (passed (is_silent sid h) NotAsking received past_live).0;
       received = above c.receivers receiver past_receiver.0;
       some_bytes = some bytes sizes.0;
       most = within most_bytes bytes sizes.1;

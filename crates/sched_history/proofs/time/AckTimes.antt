@@ -7,14 +7,17 @@ use Rattle.std.proofs.lemmas.Bool.{cases_eq}
 use Rattle.minislots.specs.declared.config.Config.{Config}
 use Rattle.periodic.specs.Placement.{count_from}
 use Rattle.flow_book.proofs.Order.{all-push}
+use Rattle.flow_book.proofs.InLine.{ack-most}
 use Rattle.sched_calls.specs.declared.frame_map.FrameMap.{FrameMap}
 use Rattle.map_build.specs.EachAfter.{EachAfter}
+use Rattle.map_build.specs.Plan.{flows_after}
 use Rattle.sched_calls.specs.declared.call.Call.{Call}
 use Rattle.sched_calls.specs.declared.call.Call.TheVariants as calls
 use Rattle.sched_calls.specs.declared.reply.Reply.{Reply}
 use Rattle.sched_calls.specs.declared.reply.Reply.TheVariants as replies
 use Rattle.sched_calls.specs.declared.reply.Entry.{Entry}
-use Rattle.sched_history.specs.Time.{progress_by, progress_of, least, ack_after}
+use Rattle.sched_history.specs.Life.{flows_of}
+use Rattle.sched_history.specs.Time.{progress_by, progress_of, least, next_after, ack_after}
 use Rattle.sched_history.specs.Refusal.{refusal_of}
 use Rattle.sched_history.specs.History.{map_by, IsStep, IsLegal}
 use Rattle.sched_history.specs.Facts.{maps_of, IsHeardAfter}
@@ -96,7 +99,12 @@ module _ (c : Config) where
         | Builds m next same ↦ rw (maps_of-built h e m same)
             (all-push (λ (m : FrameMap). m.ack ≤ ack_after c (h ++ e ∷ []))
             (maps_of h) m old
-            (omega (arith, ap (λ (m : FrameMap). m.ack) next.2, ack_after-ascends c h e step)))
+            (omega (
+              arith,
+              ap (λ (m : FrameMap). m.ack) next.2,
+              ack_after-ascends c h e step,
+              ack-most c.pending (ack_after c h) (flows_after (next_after c h) next.0 (flows_of c h)),
+            )))
         | Skips now start is first same ↦ rw (maps_of-unbuilt h e (ap map_by same)) old
         | Stays still ↦ rw (maps_of-unbuilt h e still.0) old
       ]

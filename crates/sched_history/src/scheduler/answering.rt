@@ -32,9 +32,14 @@ impl State {
             Call::Admit(sid, spec) if is_periodic(spec) => self.admit_placed_flow(alloc, sid, spec),
             Call::Admit(sid, spec) => self.admit_best_effort(sid, spec),
             Call::Remove(sid) => Ok(self.forget(sid)),
-            Call::Ask { sid, amount, .. } => {
+            Call::Ask {
+                sid,
+                amount,
+                heard,
+                ..
+            } => {
                 let bytes = amount.bytes(&self.config) as u32;
-                self.book.ask(sid, bytes);
+                self.book.ask(sid, bytes, heard);
                 Ok(Answer {
                     reply: Reply::Taken,
                     kept: Reply::Taken,
@@ -160,11 +165,11 @@ impl State {
         let Planned {
             map,
             kept,
-            book,
+            overlay,
             met,
             ..
         } = planned;
-        self.book = book;
+        self.book.take_in(overlay);
         self.reserves.age(&met);
         self.next += u64::from(self.config.frame());
         Answer {

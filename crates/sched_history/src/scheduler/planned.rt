@@ -2,7 +2,7 @@
 
 ghost use Rattle.std.specs.Prelude.{◌≡◌};
 
-use flow_book::Book;
+use flow_book::Overlay;
 use map_build::MAX_WAITING;
 use sched_calls::FrameMap;
 use std::marker::Model;
@@ -17,7 +17,7 @@ pub struct Planned {
     // The same MAP, for the history.
     pub(super) kept: FrameMap,
     // The flows with the data grants of the MAP.
-    pub(super) book: Book,
+    pub(super) overlay: Overlay,
     // Which of the Reserves that waited for the MAP it meets.
     pub(super) met: [bool; MAX_WAITING],
 }
@@ -29,10 +29,11 @@ impl Model for Planned {
     ghost Value = { PlannedBuild };
 
     ghost view = { λ p. record {
-      config = p.book.config;
+      config = p.overlay.config;
       clock = p.clock;
       map = p.map;
-      flows = p.book.flows;
+      before = p.overlay.before;
+      flows = p.overlay.flows;
       met = p.met;
     } };
 

@@ -2,7 +2,6 @@
 
 ghost use Rattle.std.specs.Prelude.{◌≡◌, ◌≤◌, ◌+◌, ◌∷◌, [], false, not, nat_lt, nat_le, ◌==◌, ◌||◌, ◌&&◌, option_map};
 ghost use Rattle.sched_calls.specs.FlowSpec.{is_periodic, grants_of, takes_requests};
-ghost use Rattle.sched_calls.specs.declared.TheConstants.{MAX_PERIODIC_GRANTS};
 ghost use Rattle.sched_history.specs.Life.{life_of};
 ghost use Rattle.sched_history.specs.Time.{next_after, progress_of};
 ghost use Rattle.sched_history.specs.Refusal.{bad_sid, is_live, is_silent, periodic_grants, refused_if};
@@ -10,7 +9,7 @@ ghost use Rattle.sched_history.specs.Refusal.{first_of, refusal_of, is_bad_amoun
 
 use super::present::Present;
 use minislots::{Checked, MAX_ASK};
-use sched_calls::{Amount, Call, FlowSpec, Header, MAX_FLOWS, MAX_PERIODIC_GRANTS, Refusal, Usage};
+use sched_calls::{Amount, Call, FlowSpec, Header, Refusal, Usage};
 
 // The greatest SID of a flow.
 const LAST_SID: u16 = 8191;
@@ -102,7 +101,7 @@ impl<'a> Present<'a> {
     // The grants per interval of the live flows.
     fn periodic_grants(&self) -> usize
         ensures value { result ≡ periodic_grants self.now.config self.now.history }
-        ensures most { result ≤ MAX_PERIODIC_GRANTS }
+        ensures most { result ≤ 2560 }
     {
         self.state.table.grants()
     }
@@ -117,7 +116,7 @@ impl<'a> Present<'a> {
             Some(Refusal::SidLive)
         } else if let Err(fault) = spec.check(&self.state.config) {
             Some(Refusal::BadFlow(fault))
-        } else if self.state.book.len() >= MAX_FLOWS {
+        } else if self.state.book.len() >= self.state.config.flows() as usize {
             Some(Refusal::FlowsFull)
         } else {
             self.refuse_periodic(spec)
@@ -126,11 +125,11 @@ impl<'a> Present<'a> {
 
     // The refusal of an admission where the grants per interval would be too many.
     fn refuse_periodic(&self, spec: FlowSpec) -> Option<Refusal>
-        ensures { result ≡ refused_if (is_periodic spec && nat_lt MAX_PERIODIC_GRANTS
+        ensures { result ≡ refused_if (is_periodic spec && nat_lt self.now.config.periodic
             (periodic_grants self.now.config self.now.history + grants_of spec)) Refusal.PeriodicFull }
     {
         let grants = self.periodic_grants() + usize::from(spec.grants());
-        if is_periodic(spec) && grants > MAX_PERIODIC_GRANTS {
+        if is_periodic(spec) && grants > self.state.config.periodic() as usize {
             Some(Refusal::PeriodicFull)
         } else {
             None

@@ -8,7 +8,6 @@ ghost use Rattle.sched_calls.specs.FlowSpec.{is_periodic, grants_of, first_fault
 ghost use Rattle.flow_book.specs.Flows.{flow_of};
 ghost use Rattle.flow_book.specs.Choice.{HasStartedBy};
 ghost use Rattle.flow_book.specs.Book.{IsLive, with_flow, new_flow, without};
-ghost use Rattle.sched_calls.specs.declared.TheConstants.{MAX_PERIODIC_GRANTS};
 ghost use Rattle.periodic.specs.Placement.{IsPlacement, NoPlacement};
 ghost use Rattle.periodic.specs.Table.{placed_grants, IsPlaced, with_placed, without as without_placed};
 ghost use Rattle.sched_calls.specs.declared.frame_map.FrameMap.{FrameMap};
@@ -145,7 +144,7 @@ impl State {
         requires unplaced { find (λ p. p.sid == sid) self.old.table.placed ≡ None }
         requires periodic { is_periodic spec ≡ true }
         requires no_fault { first_fault self.old.table.config spec ≡ None }
-        requires room { placed_grants self.old.table.placed + grants_of spec ≤ MAX_PERIODIC_GRANTS }
+        requires room { placed_grants self.old.table.placed + grants_of spec ≤ self.old.table.config.periodic }
         requires aligned { self.old.next % self.old.table.config.frame ≡ 0 }
         requires most { self.old.next ≤ 2 ^ 61 }
 
@@ -222,7 +221,7 @@ impl State {
             → IsLawfulMap self.now.config (next_demand self.now) self.now.header
             (least (take self.now.config.receivers self.now.progress)) n → n ≡ p.map) }
         ensures encodable { IfOk result (λ p. IsWellFormed p.map.wire) }
-        ensures config { IfOk result (λ p. p.book.config ≡ self.now.config) }
+        ensures config { IfOk result (λ p. p.overlay.config ≡ self.now.config) }
     {
         let frame = self.next / u64::from(self.config.frame());
         let waiting = self.reserves.waiting();
@@ -248,12 +247,12 @@ impl State {
             (Call.Build now) h → (n : FrameMap) → IsNextMap self.now.config h n → n ≡ planned.map) }
     {
         let frame = self.plan_next(alloc)?;
-        let PlannedFrame { map, book, met } = frame;
+        let PlannedFrame { map, overlay, met } = frame;
         Ok(Planned {
             clock: now,
             kept: map.copy(alloc)?,
             map,
-            book,
+            overlay,
             met,
         })
     }

@@ -67,7 +67,7 @@ fn ask(twins: &mut Twins, sid: u16, bytes: u32, now: u64)
     if twins.book.flow(sid).is_none() || twins.book.asked(sid) > u64::from(u32::MAX) {
         return;
     }
-    twins.book.ask(sid, bytes);
+    twins.book.ask(sid, bytes, now);
     slow::ask(&mut twins.slow, sid, bytes);
 }
 

@@ -16,8 +16,14 @@ place_of-requires-clause-live c =
     let here : flow_of f.sid flows ≡ Some f = flow_of-member flows f c.requires.book.sound.ascending next.live in
     rw here refl
 
-pub returns-in-Some-clause-next : goal.returns-in-Some-clause-next
-returns-in-Some-clause-next c =
+pub first_in_turn-requires-clause-started : goal.first_in_turn-requires-clause-started
+first_in_turn-requires-clause-started c = (
+  c.args.flows.now,
+  record { book = c.requires.book; order = c.requires.queue c.if-is_queued.true; started = c.requires.started },
+)
+
+pub returns-in-Some : goal.returns-in-Some
+returns-in-Some c =
     let f = live c.in-Some.flow.now in
     let flows = map live c.args.flows.now in
     let next : IsNext c.args.config.now flows c.args.start c.args.room.slots f = c.in-Some.ensures in
@@ -28,6 +34,3 @@ returns-in-Some-clause-next c =
     let at : c.place_of.result ≡ k = cc in
     let got : slice_get flows k ≡ Some f = sym (find_at p flows) ∙ here in
     rw (at, got) next
-
-pub returns-in-Some-clause-stands : goal.returns-in-Some-clause-stands
-returns-in-Some-clause-stands c = λ known. absurd (true≢false (sym known ∙ c.if-is_queued.false))

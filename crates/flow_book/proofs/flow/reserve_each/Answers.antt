@@ -3,6 +3,7 @@ use Rattle.std.proofs.Common.{◌∙◌, refl, get_or, arith}
 use Rattle.std.proofs.Math.Seq.{map-set_same}
 use Rattle.flow_book.specs.declared.flow.Flow.{Flow}
 use Rattle.flow_book.specs.Entry.{live}
+use Rattle.flow_book.specs.Queue.{entry_of}
 use Rattle.flow_book.proofs.Rooms.{keeps-set, room-more}
 use Rattle.flow_book.proofs.Sums.{copied-set}
 use Rattle.flow_book.proofs.flow.reserve_each.Goals as goal
@@ -15,7 +16,7 @@ loop-flow-preserved c =
     let e = record (get_or flows i f) { grants = c.with_room-flow.result } in
     record {
       same = map-set_same live flows i e f (rw c.with_room-flow.ensures.0 refl) ∙ c.loop-flow.invariant.same;
-      turns = map-set_same (λ (g : Flow). g.turn) flows i e f refl ∙ c.loop-flow.invariant.turns;
+      entries = map-set_same entry_of flows i e f (rw c.with_room-flow.ensures.0 refl) ∙ c.loop-flow.invariant.entries;
       room = room-more flows i c.args.grants e (omega arith) c.loop-flow.invariant.room
           (omega (arith, c.with_room-flow.ensures.1));
       kept = λ sid. omega (

@@ -14,10 +14,10 @@ loop-waiting-preserved c =
     let first = c.args.queue.now in
     let queue = c.loop-waiting.queue in
     let i = c.loop-waiting.waiting-index in
-    let x : Waiting = get_or queue i (record { turn = 0; wants = 0; place = 0 }) in
+    let x : Waiting = get_or queue i c.waiting-item.result in
     let more =
     map_over_more (moved_up place) first queue i x c.loop-waiting-test.true c.loop-waiting.invariant
-    (get_or_default queue i (record { turn = 0; wants = 0; place = 0 }) x (omega arith)) in
+    (get_or_default queue i c.waiting-item.result x (omega arith)) in
     let Stands : ℕ → Type 0 = λ at. set queue i (record x { place = at })
     ≡ map (moved_up place) (take (i + 1) first) ++ drop (i + 1) first in
     elim c.if-place-waiting.branch [

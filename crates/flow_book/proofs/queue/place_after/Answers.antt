@@ -10,7 +10,7 @@ use Rattle.flow_book.proofs.Searches.{rises}
 use Rattle.flow_book.proofs.queue.place_after.Goals as goal
 
 nobody : Waiting
-nobody = record { turn = 0; wants = 0; place = 0 }
+nobody = record { turn = 0; wants = 0; place = 0; bucket = record { per_slot = 0; full = 0; level = 0; since = 0 } }
 
 pub returns-clause-place : goal.returns-clause-place
 returns-clause-place c =

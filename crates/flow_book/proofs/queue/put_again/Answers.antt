@@ -7,24 +7,25 @@ use Rattle.flow_book.proofs.Queues.{among-others, put-among, pass-among}
 use Rattle.flow_book.proofs.Steps.{all-item}
 use Rattle.flow_book.proofs.queue.put_again.Goals as goal
 
-pub outstanding-wants-requires-clause-within : goal.outstanding-wants-requires-clause-within
-outstanding-wants-requires-clause-within c =
+pub waiting_of-waiting-requires-clause-within : goal.waiting_of-waiting-requires-clause-within
+waiting_of-waiting-requires-clause-within c =
     (all-item live c.args.flows.now c.args.place c.index-flows-place.result c.requires.within c.index-flows-place.is
     (IsSoundFlow c.requires.book.0) c.requires.book.1.sound.each).within
 
-pub returns-then-wants-gt0 : goal.returns-then-wants-gt0
-returns-then-wants-gt0 c =
+pub returns-then-waiting-gt0 : goal.returns-then-waiting-gt0
+returns-then-waiting-gt0 c =
     let place = c.args.place in
     let items = c.args.flows.now in
     let f = c.index-flows-place.result in
     let before = c.requires.queue in
     let here = slice_get_read items (length items) place f refl c.requires.within c.index-flows-place.is in
+    let w = c.waiting_of-waiting in
     let moved = c.in_ok-move_to_turn.ensures before.0 before.2 in
-    let others = among-others place before.0 items moved.others before.1 moved.among in
+    let others =
+    among-others place before.0 items moved.others before.1 (rw w.ensures.place at moved.among) in
     rw moved.is (put-among c.requires.book.0 items c.requires.book.1 (λ other. other ≢ place) (λ other. Unit {0})
     moved.others place f here (λ k may. cases_eq k place) (λ k other. tt) others
-    (record { turn = f.turn; wants = c.outstanding-wants.result; place = place }) refl refl
-    c.outstanding-wants.ensures (λ differ. differ refl) tt)
+    w.result w.ensures.place w.ensures.turn w.ensures.wants w.ensures.bucket (λ differ. differ refl) tt)
 
 pub returns : goal.returns
 returns c =
@@ -37,4 +38,4 @@ returns c =
     among-others place before.0 items c.take_out.new.queue.items before.1 (c.take_out.ensures before.0 before.2) in
     pass-among c.requires.book.0 items c.requires.book.1 (λ other. other ≢ place) (λ other. Unit {0})
     c.take_out.new.queue.items place f here (λ k may. cases_eq k place) (λ k other. tt) others
-    (λ waits. absurd (omega (arith, c.outstanding-wants.ensures, c.if-wants-gt0.false)))
+    (λ waits. absurd (omega (arith, c.waiting_of-waiting.ensures.wants, c.if-waiting-gt0.false)))

@@ -6,10 +6,10 @@ use Rattle.flow_book.specs.Entry.{live, IsSoundFlow}
 use Rattle.flow_book.proofs.Queues.{put-among, pass-among, whole-among}
 use Rattle.flow_book.proofs.Steps.{all-item}
 use Rattle.flow_book.proofs.queue.queue_of.Goals as goal
-use Rattle.flow_book.proofs.queue.queue_of.Goals.{then-wants-gt0+in_ok-put_in_turn, else-wants-gt0}
+use Rattle.flow_book.proofs.queue.queue_of.Goals.{then-waiting-gt0+in_ok-put_in_turn, else-waiting-gt0}
 
-pub outstanding-wants-requires-clause-within : goal.outstanding-wants-requires-clause-within
-outstanding-wants-requires-clause-within c =
+pub waiting_of-waiting-requires-clause-within : goal.waiting_of-waiting-requires-clause-within
+waiting_of-waiting-requires-clause-within c =
     (all-item live c.args.flows.now c.loop-place.place c.index-flows-place.result
     (omega (arith, c.loop-place-test.true))
     c.index-flows-place.is (IsSoundFlow c.requires.0) c.requires.1.sound.each).within
@@ -31,17 +31,17 @@ loop-place-preserved c =
     let f = c.index-flows-place.result in
     let here = slice_get_read items (length items) i f refl (omega (arith, c.loop-place-test.true))
     c.index-flows-place.is in
-    elim c.if-wants-gt0.branch [
-      | then-wants-gt0+in_ok-put_in_turn w ↦ rw (w.queue-is, w.in_ok-put_in_turn.ensures)
+    elim c.if-waiting-gt0.branch [
+      | then-waiting-gt0+in_ok-put_in_turn w ↦ rw (w.queue-is, w.in_ok-put_in_turn.ensures)
           (put-among c.requires.0 items c.requires.1 (λ k. k < i) (λ k. k < i + 1) c.loop-place.queue.items i f here
           (only i) (λ k lt. omega arith) c.loop-place.invariant
-          (record { turn = f.turn; wants = c.outstanding-wants.result; place = i }) refl refl
-          c.outstanding-wants.ensures
+          c.waiting_of-waiting.result c.waiting_of-waiting.ensures.place c.waiting_of-waiting.ensures.turn
+          c.waiting_of-waiting.ensures.wants c.waiting_of-waiting.ensures.bucket
           (λ lt. absurd (omega arith)) (omega arith))
-      | else-wants-gt0 w ↦ rw w.queue-is
+      | else-waiting-gt0 w ↦ rw w.queue-is
           (pass-among c.requires.0 items c.requires.1 (λ k. k < i) (λ k. k < i + 1) c.loop-place.queue.items i f here
           (only i) (λ k lt. omega arith) c.loop-place.invariant
-          (λ waits. absurd (omega (arith, c.outstanding-wants.ensures, w.if-wants-gt0.false))))
+          (λ waits. absurd (omega (arith, c.waiting_of-waiting.ensures.wants, w.if-waiting-gt0.false))))
     ]
 
 pub returns : goal.returns

@@ -10,7 +10,7 @@ pub returns-clause-lawful : goal.returns-clause-lawful
 returns-clause-lawful c =
     let book = c.args.book.now in
     lawful-from_frame book.config (demand_at book.flows (spots_in book.config c.args.frame c.args.table.now.placed) []
-    _) (header_of book.config) c.args.ack _
+    _) (header_of book.config) c.args.progress _
     (rw (c.of-header.ensures, c.config.ensures.value) at c.in_ok-planned.ensures.lawful)
 
 pub returns-clause-only : goal.returns-clause-only

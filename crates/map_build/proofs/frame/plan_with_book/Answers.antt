@@ -19,7 +19,7 @@ plan_around-requires-clause-placed c =
 pub returns-clause-lawful : goal.returns-clause-lawful
 returns-clause-lawful c =
     frame-told c.args.book.now.config c.args.table.now.config c.args.book.now.flows c.args.waiting.now c.args.header
-    c.args.frame c.from.result c.args.ack c.args.table.now.placed
+    c.args.frame c.from.result c.args.progress c.args.table.now.placed
     (take c.in_frame-count.result c.in_frame-count.new.spots) c.plan_around.result c.requires.config
     c.in_frame-count.ensures.spots (c.from.ensures ∙ c.frame.ensures.value ∙ ap (λ k. k.frame) c.config.ensures.value)
     c.plan_around.ensures.lawful
@@ -27,7 +27,7 @@ returns-clause-lawful c =
 pub returns-clause-only : goal.returns-clause-only
 returns-clause-only c =
     only-told c.args.book.now.config c.args.table.now.config c.args.book.now.flows c.args.waiting.now c.args.header
-    c.args.frame c.from.result c.args.ack c.args.table.now.placed
+    c.args.frame c.from.result c.args.progress c.args.table.now.placed
     (take c.in_frame-count.result c.in_frame-count.new.spots) c.plan_around.result c.requires.config
     c.in_frame-count.ensures.spots (c.from.ensures ∙ c.frame.ensures.value ∙ ap (λ k. k.frame) c.config.ensures.value)
     c.plan_around.ensures.only
@@ -37,7 +37,7 @@ returns-clause-first c =
     let config = c.args.book.now.config in
     meets-first-ok config
     (demand_at c.args.book.now.flows (spots_in config c.args.frame c.args.table.now.placed) c.args.waiting.now
-    (c.args.frame * config.frame)) c.args.header c.args.ack c.plan_around.result c.requires.waiting
+    (c.args.frame * config.frame)) c.args.header c.args.progress c.plan_around.result c.requires.waiting
     (returns-clause-lawful c)
 
 pub returns-clause-encodable : goal.returns-clause-encodable

@@ -30,8 +30,7 @@ put-count-requires c =
     let front = ap length c.loop-flow.invariant.spots in
     let long = length-take-le c.loop-flow.count c.loop-flow.spots
     (omega (arith, c.loop-flow.invariant.most, c.loop-flow.invariant.long)) in
-    let room = spots-room config c.args.k items i f c.loop-flow-test.true c.flow-item.is c.requires.sound
-    sound.times.lawful in
+    let room = spots-room config c.args.k items i f c.loop-flow-test.true c.flow-item.is c.requires.sound in
     record { sound = (config, sound, place.1, omega (arith, front, long, room, ap length here)) }
 
 pub loop-flow-preserved : goal.loop-flow-preserved

@@ -34,7 +34,7 @@ invariant_of-self-else-not-self c =
         sums = c.reserve_each.ensures.sums c.self.inside.config
             (rw c.deref_mut.ensures.value c.self.invariant.book.sums);
       };
-      order = λ known. same-queue items new same (rw c.deref_mut.ensures.value at c.reserve_each.ensures.turns)
+      order = λ known. same-queue items new same (rw c.deref_mut.ensures.value at c.reserve_each.ensures.entries)
           c.self.inside.queue.items (c.self.invariant.order known);
     })
 

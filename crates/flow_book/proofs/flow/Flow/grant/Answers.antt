@@ -8,5 +8,5 @@ returns-clause-sums c = λ channel keeps started kept.
     let f = c.args.self.now in
     let taken : IsTrue c.take.result =
     (c.take.ensures.exact channel (rate_of f.spec) (burst_of f.spec) f.grants.items keeps.bucket started).1 kept in
-    c.note.ensures.sums channel keeps.granted keeps.turn
+    c.note.ensures.sums channel keeps.asks keeps.granted keeps.turn
     (c.take.ensures.taken taken channel (rate_of f.spec) (burst_of f.spec) f.grants.items keeps.bucket started)

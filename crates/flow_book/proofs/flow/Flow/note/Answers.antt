@@ -8,7 +8,7 @@ use Rattle.flow_book.proofs.Sums.{last-more, last-started, bytes-added}
 use Rattle.flow_book.proofs.flow.Flow.note.Goals as goal
 
 pub returns-clause-sums : goal.returns-clause-sums
-returns-clause-sums c = λ channel sum knows stands.
+returns-clause-sums c = λ channel asks sum knows stands.
     let f = c.args.self.now in
     let bytes : f.granted + c.from.result ≡ bytes_of f.grants.items + c.args.bytes =
     omega (arith, sum, c.from.ensures) in
@@ -17,13 +17,8 @@ returns-clause-sums c = λ channel sum knows stands.
     let turn : IsTurn (rank_of f.spec) (Some c.args.start) f.sid c.turn_after-self.result =
     c.turn_after-self.ensures.after (rank_of f.spec) f.sid (last_start f.grants.items) knows.1 in
     record {
+      asks = asks;
       granted = bytes ∙ sym (ap bytes_of items ∙ bytes-added f.grants.items c.args.start c.args.bytes);
       turn = (knows.0, rw last turn);
       bucket = rw items stands;
     }
-
-pub returns-clause-later : goal.returns-clause-later
-returns-clause-later c = λ knows started.
-    let f = c.args.self.now in
-    c.turn_after-self.ensures.later (rank_of f.spec) f.sid (last_start f.grants.items) knows.1
-    (last-started c.args.start f.grants.items started)

@@ -12,7 +12,7 @@ loop-self-init c =
     let has = c.requires.unfilled in (
       _,
       has,
-      left-all d.book.config c.args.spots.now d.offset c.requires.placed (omega (arith, has.after.ends)),
+      left-all d.overlay.config c.args.spots.now d.offset c.requires.placed (omega (arith, has.after.ends)),
     )
 
 pub next-next-requires-clause-placed : goal.next-next-requires-clause-placed
@@ -24,16 +24,16 @@ next-next-requires-clause-ahead c = c.loop-self.invariant.2.ahead
 pub put_allocation-requires-clause-length : goal.put_allocation-requires-clause-length
 put_allocation-requires-clause-length c =
     let d = c.args.self.now in
-    let demand = demand_at d.book.flows c.args.spots.now c.args.waiting.now d.start in
-    chosen-length d.book.config demand c.loop-self.left.now c.loop-self.invariant.0 c.next-next.result
+    let demand = demand_at d.overlay.flows c.args.spots.now c.args.waiting.now d.start in
+    chosen-length d.overlay.config demand c.loop-self.left.now c.loop-self.invariant.0 c.next-next.result
     c.loop-self.self c.next-next.new.self c.requires.placed c.loop-self.invariant.1 c.loop-self.invariant.2
     c.next-next.ensures
 
 pub put_allocation-requires-clause-fits : goal.put_allocation-requires-clause-fits
 put_allocation-requires-clause-fits c =
     let d = c.args.self.now in
-    let demand = demand_at d.book.flows c.args.spots.now c.args.waiting.now d.start in
-    let fits = chosen-fits d.book.config demand c.loop-self.left.now c.loop-self.invariant.0 c.next-next.result
+    let demand = demand_at d.overlay.flows c.args.spots.now c.args.waiting.now d.start in
+    let fits = chosen-fits d.overlay.config demand c.loop-self.left.now c.loop-self.invariant.0 c.next-next.result
     c.loop-self.self c.next-next.new.self c.requires.placed c.loop-self.invariant.1 c.loop-self.invariant.2
     c.next-next.ensures in
     omega (arith, fits, (bounds_of _ c.requires.unfilled.ready.lawful).frame_most)
@@ -41,15 +41,15 @@ put_allocation-requires-clause-fits c =
 pub loop-self-preserved : goal.loop-self-preserved
 loop-self-preserved c =
     let d = c.args.self.now in
-    let demand = demand_at d.book.flows c.args.spots.now c.args.waiting.now d.start in
+    let demand = demand_at d.overlay.flows c.args.spots.now c.args.waiting.now d.start in
     let plan = c.loop-self.invariant.0 in
     let left = c.loop-self.left.now in (
       _,
-      chosen-plan d.book.config demand left plan c.next-next.result c.loop-self.self c.next-next.new.self
+      chosen-plan d.overlay.config demand left plan c.next-next.result c.loop-self.self c.next-next.new.self
           c.requires.placed c.loop-self.invariant.1 c.loop-self.invariant.2 c.next-next.ensures
           c.put_allocation.new.self c.in_ok-put_allocation.ensures,
       rw c.left_at-left.ensures
-          (chosen-left d.book.config demand left plan c.next-next.result c.loop-self.self c.next-next.new.self
+          (chosen-left d.overlay.config demand left plan c.next-next.result c.loop-self.self c.next-next.new.self
           c.requires.placed c.loop-self.invariant.1 c.loop-self.invariant.2 c.next-next.ensures
           c.put_allocation.new.self c.in_ok-put_allocation.ensures),
     )

@@ -8,9 +8,9 @@ use Rattle.map_build.proofs.draft.Draft.fill.Given as goal
 
 abbrev pub invariant-loop-self : goal.invariant-loop-self
 invariant-loop-self l = (plan : List Allocation)
-    × HasPlan l.initial.self.book.config
-    (demand_at l.initial.self.book.flows l.spots l.waiting l.initial.self.start) plan l.self
-    × AreLeft l.initial.self.book.config l.spots l.left l.self.offset
+    × HasPlan l.initial.self.overlay.config
+    (demand_at l.initial.self.overlay.flows l.spots l.waiting l.initial.self.start) plan l.self
+    × AreLeft l.initial.self.overlay.config l.spots l.left l.self.offset
 
 abbrev pub decreases-loop-self : goal.decreases-loop-self
-decreases-loop-self l = l.initial.self.book.config.frame - l.self.offset
+decreases-loop-self l = l.initial.self.overlay.config.frame - l.self.offset

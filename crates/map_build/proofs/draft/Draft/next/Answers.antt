@@ -7,7 +7,7 @@ use Rattle.map_build.proofs.Chosen.{Chooses-spot, Chooses-offer, Chooses-grant, 
 use Rattle.map_build.proofs.draft.Draft.next.Goals as goal
 
 pub spot_at-requires-clause-placed : goal.spot_at-requires-clause-placed
-spot_at-requires-clause-placed c = (c.args.self.now.book.config, c.requires.placed)
+spot_at-requires-clause-placed c = (c.args.self.now.overlay.config, c.requires.placed)
 
 pub next_stop-requires-clause-placed : goal.next_stop-requires-clause-placed
 next_stop-requires-clause-placed c = rw c.config.ensures.value c.requires.placed
@@ -23,35 +23,42 @@ returns-in-Some c =
 pub returns-in-Some-meet : goal.returns-in-Some-meet
 returns-in-Some-meet c =
     let d = c.args.self.now in
-    let stop : c.next_stop.result ≡ next_stop d.book.config c.args.spots.now d.offset =
+    let stop : c.next_stop.result ≡ next_stop d.overlay.config c.args.spots.now d.offset =
     rw c.config.ensures.value at c.next_stop.ensures.value in
     let none : find (λ s. s.offset == d.offset) c.args.spots.now ≡ None = sym c.in_default.ensures in
-    let behind = stop-behind d.book.config c.args.spots.now d.offset c.requires.inside none in
+    let behind = stop-behind d.overlay.config c.args.spots.now d.offset c.requires.inside none in
     Chooses-offer c.args.spots.now c.args.waiting.now (c.next_stop.result - d.offset) d (ap (λ n. n - d.offset) stop)
     (omega (arith, stop, behind)) c.requires.waiting c.requires.ready.marks c.in-Some-meet.offer c.meet.new.self
     c.in-Some-meet.ensures
 
+pub serve-requires : goal.serve-requires
+serve-requires c =
+    let same = c.in_default-meet.ensures.0 in
+    record { ready = (c.args.waiting.now, rw same c.requires.ready, rw same c.requires.most) }
+
 pub returns-in-Some-serve : goal.returns-in-Some-serve
 returns-in-Some-serve c =
     let d = c.args.self.now in
-    let stop : c.next_stop.result ≡ next_stop d.book.config c.args.spots.now d.offset =
+    let stop : c.next_stop.result ≡ next_stop d.overlay.config c.args.spots.now d.offset =
     rw c.config.ensures.value at c.next_stop.ensures.value in
     let none : find (λ s. s.offset == d.offset) c.args.spots.now ≡ None = sym c.in_default.ensures in
-    let behind = stop-behind d.book.config c.args.spots.now d.offset c.requires.inside none in
+    let behind = stop-behind d.overlay.config c.args.spots.now d.offset c.requires.inside none in
     let unmet = c.in_default-meet.ensures in
     Chooses-grant c.args.spots.now c.args.waiting.now (c.next_stop.result - d.offset) d (ap (λ n. n - d.offset) stop)
     (omega (arith, stop, behind)) c.requires.waiting c.requires.ready.marks c.in-Some-serve.grant c.serve.new.self
-    unmet.1 (bounds_of _ c.requires.ready.lawful).bursts (rw unmet.0 at c.in-Some-serve.ensures)
+    unmet.1 (bounds_of _ c.requires.ready.lawful).bursts (rw unmet.0 at (c.in-Some-serve.ensures
+    c.args.waiting.now (rw unmet.0 c.requires.ready) (rw unmet.0 c.requires.most)))
 
 pub returns : goal.returns
 returns c =
     let d = c.args.self.now in
-    let stop : c.next_stop.result ≡ next_stop d.book.config c.args.spots.now d.offset =
+    let stop : c.next_stop.result ≡ next_stop d.overlay.config c.args.spots.now d.offset =
     rw c.config.ensures.value at c.next_stop.ensures.value in
     let none : find (λ s. s.offset == d.offset) c.args.spots.now ≡ None = sym c.in_default.ensures in
-    let behind = stop-behind d.book.config c.args.spots.now d.offset c.requires.inside none in
+    let behind = stop-behind d.overlay.config c.args.spots.now d.offset c.requires.inside none in
     let unmet = c.in_default-meet.ensures in
-    let served = c.in_default-serve.ensures in
+    let served =
+    c.in_default-serve.ensures c.args.waiting.now (rw unmet.0 c.requires.ready) (rw unmet.0 c.requires.most) in
     let same : c.serve.new.self ≡ d = served.0 ∙ unmet.0 in
     rw same
     (Chooses-idle c.args.spots.now c.args.waiting.now (c.next_stop.result - d.offset) d (ap (λ n. n - d.offset) stop)

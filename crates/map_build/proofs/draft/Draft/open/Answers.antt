@@ -13,7 +13,7 @@ pub returns : goal.returns
 returns c = λ spots waiting are.
     let config : Config = c.args.book.now.config in
     let begun : Draft = record {
-      book = c.in_ok-copy_with_room.field-0;
+      overlay = c.in_ok-overlay.field-0;
       start = c.args.start;
       elements = c.in_ok-with_capacity.field-0;
       bytes = c.in_ok-with_capacity-2.field-0;
@@ -21,21 +21,21 @@ returns c = λ spots waiting are.
       grants = 0;
       met = replicate 16 false;
     } in
-    let same : c.config.result.now ≡ config = c.config.ensures.value ∙ c.in_ok-copy_with_room.ensures.config in
+    let same : c.config.result.now ≡ config = c.config.ensures.value ∙ ap (λ o. o.config) c.in_ok-overlay.ensures in
     let requests : c.req_slots-requests.result ≡ config.req_slots = c.req_slots-requests.ensures.value
     ∙ ap (λ k. k.req_slots) same in
     HasPlan-begun config (demand_at c.args.book.now.flows spots waiting c.args.start) begun c.put_slots.new.self
     (record {
       lawful = subst IsLawful same c.req_slots-requests.ensures.lawful;
       bounded = c.requires.bounded;
-      config = c.in_ok-copy_with_room.ensures.config;
-      flows_are = c.in_ok-copy_with_room.ensures.flows;
+      config = ap (λ o. o.config) c.in_ok-overlay.ensures;
+      before = ap (λ o. o.before) c.in_ok-overlay.ensures;
+      flows_are = ap (λ o. o.flows) c.in_ok-overlay.ensures;
       starts = refl;
       offset = refl;
       grants = refl;
       elements = c.in_ok-with_capacity.ensures.items;
       bytes_of = c.in_ok-with_capacity-2.ensures.items;
-      room = c.in_ok-copy_with_room.ensures.room;
       marks = length-replicate 16 false;
       unmarked = none-marked 16;
       started = c.requires.started;

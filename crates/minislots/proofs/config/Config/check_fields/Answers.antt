@@ -25,5 +25,8 @@ returns-in_err-check_history c = grind (arith, first_wrong_by_groups c.args.self
 pub returns-in_err-check_backoffs : goal.returns-in_err-check_backoffs
 returns-in_err-check_backoffs c = grind (arith, first_wrong_by_groups c.args.self.now)
 
+pub returns-in_err-check_channel : goal.returns-in_err-check_channel
+returns-in_err-check_channel c = grind (arith, first_wrong_by_groups c.args.self.now)
+
 pub returns : goal.returns
 returns c = grind (arith, first_wrong_by_groups c.args.self.now)

@@ -5,7 +5,7 @@ use Rattle.std.proofs.lemmas.List.{drop-set-lt, take_all, length-set}
 use Rattle.periodic.specs.Placement.{spot_at, starts_in}
 use Rattle.periodic.specs.Fields.{placed_of}
 use Rattle.periodic.proofs.Fields.{put-more, spots-here, count-here}
-use Rattle.periodic.proofs.Profile.{most_periodic_grants}
+use Rattle.periodic.proofs.Profile.{most_spots}
 use Rattle.periodic.proofs.spots.PlacedFlow.put.Goals as goal
 
 pub bounds-spots-next : goal.bounds-spots-next
@@ -18,7 +18,7 @@ bounds-spots-next c =
       here,
       count-here config c.args.place (placed_of c.args.self.now) within,
       c.loop-start.invariant.count,
-      most_periodic_grants,
+      most_spots,
     )
 
 pub offset_bounds-spots-next : goal.offset_bounds-spots-next
@@ -34,7 +34,7 @@ returns-clause-most c =
       here,
       count-here config c.args.place (placed_of c.args.self.now) within,
       c.loop-start.invariant.count,
-      most_periodic_grants,
+      most_spots,
     )
 
 pub loop-start-preserved : goal.loop-start-preserved
@@ -58,7 +58,7 @@ loop-start-preserved c = record {
         ap length (c.starts-start-items.ensures c.requires.sound.0 c.requires.sound.1 c.requires.sound.2),
         count-here c.requires.sound.0 c.args.place (placed_of f) c.requires.sound.2,
         c.loop-start.invariant.count,
-        most_periodic_grants,
+        most_spots,
       ))
       (c.loop-start.invariant.spots config sound within) s;
   rest =

@@ -1,13 +1,14 @@
 -- The spots at the starts gone through are written.
 use Rattle.std.proofs.Common.{◌≡◌, ◌+◌, ◌<◌, ◌++◌, length, map, take, drop}
 use Rattle.minislots.specs.declared.config.Config.{Config}
+use Rattle.periodic.specs.declared.TheConstants.{MAX_SPOTS}
 use Rattle.periodic.specs.Placement.{spot_at, starts_in}
 use Rattle.periodic.specs.Fields.{placed_of, IsSoundFlow}
 use Rattle.periodic.proofs.spots.PlacedFlow.put.Given as goal
 
 abbrev pub invariant-loop-start : goal.invariant-loop-start
 invariant-loop-start l = record {
-  long : length l.spots ≡ 40;
+  long : length l.spots ≡ MAX_SPOTS;
   count : l.next ≡ l.count + l.start-index;
   spots : (c : Config) → IsSoundFlow c l.self → l.place < c.cycle
       → take l.next l.spots ≡ take l.count l.fn.spots

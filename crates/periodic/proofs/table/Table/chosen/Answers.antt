@@ -14,6 +14,7 @@ invariant_of-self c =
       times = is.times;
       told = is.told;
       bounded = rw c.deref.ensures.value at c.choose.ensures.bounded;
+      counted = is.counted;
       summed = is.summed;
     }
 
@@ -21,10 +22,10 @@ pub returns-clause-chosen : goal.returns-clause-chosen
 returns-clause-chosen c =
     let inside = c.self.inside in
     rw (← c.self.view_is) (c.choose.ensures.chosen (map placed_of inside.flows.items) c.self.invariant.sound
-    (rw c.deref.ensures.value c.self.invariant.told))
+    (rw c.deref.ensures.value c.self.invariant.told) c.self.invariant.counted)
 
 pub returns-clause-absent : goal.returns-clause-absent
 returns-clause-absent c =
     let inside = c.self.inside in
     rw (← c.self.view_is) (c.choose.ensures.absent (map placed_of inside.flows.items) c.self.invariant.sound
-    (rw c.deref.ensures.value c.self.invariant.told))
+    (rw c.deref.ensures.value c.self.invariant.told) c.self.invariant.counted)

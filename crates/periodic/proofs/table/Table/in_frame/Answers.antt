@@ -2,7 +2,7 @@
 use Rattle.std.proofs.Common.{◌≡◌, ◌∙◌, ◌≤◌, List, ◌++◌, length, take, map, arith}
 use Rattle.std.proofs.lemmas.List.{take_at, length-take-le}
 use Rattle.periodic.specs.declared.placement.Spot.{Spot}
-use Rattle.sched_calls.specs.declared.TheConstants.{MAX_PERIODIC_GRANTS}
+use Rattle.periodic.specs.declared.TheConstants.{MAX_SPOTS}
 use Rattle.periodic.specs.Fields.{placed_of}
 use Rattle.periodic.proofs.Fields.{sound-flows}
 use Rattle.periodic.proofs.Sorted.{IsFrameOf, frame-sorted}
@@ -13,7 +13,7 @@ fill-count-requires c =
     record {
       sound = rw c.deref.ensures.value
           (sound-flows c.self.inside.config c.self.inside.flows.items c.self.inside.rows.items
-          c.self.inside.widest.most c.self.inside.grants c.self.invariant);
+          c.self.inside.widest.most c.self.inside.counts.starts c.self.inside.grants c.self.invariant);
     }
 
 -- the front of the array is the frame
@@ -22,7 +22,7 @@ in-order : (c : goal.After-sort) (rest : List Spot)
     (take c.fill-count.result (c.sort.new.spots ++ rest))
 in-order c rest =
     let config = c.self.inside.config in
-    let few : c.fill-count.result ≤ MAX_PERIODIC_GRANTS = c.fill-count.ensures.most in
+    let few : c.fill-count.result ≤ MAX_SPOTS = c.fill-count.ensures.most in
     let long : length c.sort.new.spots ≡ c.fill-count.result = c.sort.auto.spots
     ∙ length-take-le c.fill-count.result c.fill-count.new.spots (omega arith) in
     let written = rw c.deref.ensures.value at c.fill-count.ensures.spots in

@@ -13,6 +13,7 @@ invariant_of-result c =
           c.cycle-cycle.ensures.value
           (omega (arith, c.cycle-cycle.ensures.positive, c.cycle-cycle.ensures.value)) c.free.ensures);
       bounded = c.open.ensures c.args.config c.in_ok-rows.rows.items c.cycle-cycle.ensures.lawful;
+      counted = rw c.new.ensures.items (c.open-2.ensures c.args.config c.cycle-cycle.ensures.lawful);
       summed = search rules;
     }
 

@@ -12,7 +12,7 @@ use Rattle.periodic.specs.Table.{without}
 use Rattle.periodic.specs.Fields.{placed_of, KeepsTimes}
 use Rattle.periodic.proofs.Fields.{sound-flow}
 use Rattle.periodic.proofs.Standing.{flow-found, has-place, marked-for, fields-without}
-use Rattle.periodic.proofs.Summed.{grants-found}
+use Rattle.periodic.proofs.Summed.{grants-found, may-uncount, counts-without}
 use Rattle.periodic.proofs.table.Table.remove.Goals as goal
 
 kept : (c : goal.After-retain) → c.retain.new.self.items
@@ -49,13 +49,33 @@ mark-requires-clause-sound c =
     sound-flow c.self.inside.config items c.in-Some.place c.index.result.now within c.index.ensures
     c.self.invariant.sound.each c.self.invariant.times
 
+pub count-requires-clause-sound : goal.count-requires-clause-sound
+count-requires-clause-sound c =
+    let items = c.self.inside.flows.items in
+    let p : PlacedFlow → Bool = λ f. f.sid == c.args.sid in
+    let stands : position p items ≡ Some c.in-Some.place =
+    rw c.deref.ensures.value at (sym c.place_of.ensures ∙ c.in-Some.is) in
+    let within = (position-Some p items c.in-Some.place c.index-2.result.now stands).0 in
+    sound-flow c.self.inside.config items c.in-Some.place c.index-2.result.now within c.index-2.ensures
+    c.self.invariant.sound.each c.self.invariant.times
+
+pub count-requires-clause-may : goal.count-requires-clause-may
+count-requires-clause-may c =
+    let inside = c.self.inside in
+    let stands : position (λ (f : PlacedFlow). f.sid == c.args.sid) inside.flows.items ≡ Some c.in-Some.place =
+    rw c.deref.ensures.value at (sym c.place_of.ensures ∙ c.in-Some.is) in
+    let flow = c.index-2.result.now in
+    may-uncount inside.config c.args.sid (placed_of flow) (map placed_of inside.flows.items) inside.counts.starts
+    c.self.invariant.counted (flow-found c.args.sid inside.flows.items c.in-Some.place flow stands c.index-2.ensures)
+    c.self.invariant.sound.ascending
+
 pub overflow_sub-self : goal.overflow_sub-self
 overflow_sub-self c =
     let inside = c.self.inside in
     let stands : position (λ (f : PlacedFlow). f.sid == c.args.sid) inside.flows.items ≡ Some c.in-Some.place =
     rw c.deref.ensures.value at (sym c.place_of.ensures ∙ c.in-Some.is) in
-    let sum = grants-found inside.config c.args.sid inside.flows.items c.in-Some.place c.index-2.result.now stands
-    c.index-2.ensures c.self.invariant.sound c.self.invariant.times in
+    let sum = grants-found inside.config c.args.sid inside.flows.items c.in-Some.place c.index-3.result.now stands
+    c.index-3.ensures c.self.invariant.sound c.self.invariant.times in
     omega (arith, sum, c.self.invariant.summed)
 
 pub invariant_of-self : goal.invariant_of-self
@@ -68,14 +88,18 @@ invariant_of-self c =
     omega (arith, c.mark.ensures.long, c.self.invariant.told.long, inside.rows.ok.0) in
     rw (take_at c.mark.new.rows _ inside.rows.len long)
     (fields-without inside.config inside.flows.items c.retain.new.self.items inside.rows.items c.mark.new.rows
-    (placed_of flow) inside.widest.most c.mark.new.widest.most inside.grants
-    (inside.grants - c.index-2.result.now.grants) c.self.invariant c.mark.ensures.long c.mark.ensures.bounded
+    (placed_of flow) inside.widest.most c.mark.new.widest.most inside.counts.starts c.count.new.self.starts inside.grants
+    (inside.grants - c.index-3.result.now.grants) c.self.invariant c.mark.ensures.long c.mark.ensures.bounded
     c.args.sid (left c)
     (flow-found c.args.sid inside.flows.items c.in-Some.place flow stands c.index.ensures) (times c)
     (λ k. marked-for inside.config k 0 flow (placed_of flow) c.deref_mut.result.now inside.rows.items c.mark.new.rows
     refl c.deref_mut.ensures.value (c.mark.ensures.marked k))
-    (let sum = grants-found inside.config c.args.sid inside.flows.items c.in-Some.place c.index-2.result.now stands
-    c.index-2.ensures c.self.invariant.sound c.self.invariant.times in omega (arith, sum, c.self.invariant.summed)))
+    (counts-without inside.config c.args.sid (placed_of c.index-2.result.now) (map placed_of inside.flows.items)
+    inside.counts.starts c.self.invariant.counted
+    (flow-found c.args.sid inside.flows.items c.in-Some.place c.index-2.result.now stands c.index-2.ensures)
+    c.self.invariant.sound.ascending c.count.new.self.starts c.count.ensures)
+    (let sum = grants-found inside.config c.args.sid inside.flows.items c.in-Some.place c.index-3.result.now stands
+    c.index-3.ensures c.self.invariant.sound c.self.invariant.times in omega (arith, sum, c.self.invariant.summed)))
 
 pub returns : goal.returns
 returns c = rw (← c.self.view_is, left c) refl

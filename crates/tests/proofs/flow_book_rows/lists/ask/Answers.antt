@@ -6,5 +6,6 @@ use Rattle.tests.proofs.flow_book_rows.lists.ask.Goals as goal
 
 pub returns : goal.returns
 returns c =
-    rw c.ask.ensures (all-changed (HasStartedBy c.args.now) c.args.sid (with_asked c.args.bytes) _ (λ f all. all)
+    rw c.ask.ensures (all-changed (HasStartedBy c.args.now) c.args.sid (with_asked c.args.bytes c.args.now) _
+    (λ f all. all)
     c.requires)

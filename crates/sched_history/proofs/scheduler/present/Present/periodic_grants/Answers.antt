@@ -1,4 +1,5 @@
-use Rattle.std.proofs.Common.{◌∙◌, arith}
+use Rattle.std.proofs.Common.{◌∙◌, ap, arith}
+use Rattle.minislots.proofs.Bounds.{bounds_of}
 use Rattle.sched_history.proofs.placements.Counts.{grants-placed_by}
 use Rattle.sched_history.proofs.scheduler.present.Present.periodic_grants.Goals as goal
 
@@ -11,4 +12,5 @@ pub returns-clause-most : goal.returns-clause-most
 returns-clause-most c =
     let value = c.grants.ensures.value in
     let most = c.grants.ensures.sound.most in
-    omega (arith, value, most)
+    let is_after = c.self.invariant.is_after in
+    omega (arith, value, most, ap (λ k. k.periodic) is_after.table_config, (bounds_of _ is_after.lawful).periodic_most)

@@ -38,6 +38,7 @@ admit_periodic-requires-clause-room c =
       arith,
       grants-placed_by s c.requires.open.0 opens.is_after opens.legal,
       admits.few_grants c.requires.periodic,
+      ap (λ k. k.periodic) opens.is_after.table_config,
     )
 
 pub returns-in-Ok-clause-answered : goal.returns-in-Ok-clause-answered

@@ -2,7 +2,7 @@
 use Rattle.std.proofs.Common.{ℕ, refl, ap, ◌∙◌, arith}
 use Rattle.flow_book.specs.Book.{changed, with_asked}
 use Rattle.sched_history.proofs.steps.Passed.{passed-ask}
-use Rattle.sched_history.proofs.state.Present.{IsLive-after, asked-fits}
+use Rattle.sched_history.proofs.state.Present.{IsLive-after, asked-fits, takes-after}
 use Rattle.sched_history.proofs.rows.Limits.{most_history}
 use Rattle.sched_history.proofs.state.Moves.{IsStateAfter-asked}
 use Rattle.sched_history.proofs.scheduler.state.State.answer.Goals as goal
@@ -24,6 +24,14 @@ ask-requires-clause-fits c =
     asked-fits s h c.in-Ask.sid c.bytes-bytes.result (omega (arith, asks.most, c.bytes-bytes.ensures))
     (omega (arith, opens.short, most_history)) opens.bounded.asked
 
+pub ask-requires-clause-asks : goal.ask-requires-clause-asks
+ask-requires-clause-asks c =
+    let s = c.args.self.now in
+    let h = c.requires.0 in
+    let opens = rw c.in-Ask.is at c.requires.1 in
+    let asks = passed-ask s.config h c.in-Ask.receiver c.in-Ask.sid c.in-Ask.amount c.in-Ask.heard opens.unrefused in
+    takes-after s h c.in-Ask.sid opens.is_after asks.known asks.asks
+
 pub returns-in-Ask-clause-answered : goal.returns-in-Ask-clause-answered
 returns-in-Ask-clause-answered c = λ h opens.
     let s = c.args.self.now in
@@ -37,6 +45,6 @@ returns-in-Ask-clause-answered c = λ h opens.
           c.ask.new.self (c.ask.ensures
           ∙ ap (λ (n : ℕ). record s.book {
             flows = changed ask.sid
-                (with_asked n) s.book.flows;
+                (with_asked n ask.heard) s.book.flows;
           }) c.bytes-bytes.ensures);
     })

@@ -32,6 +32,7 @@ place-requires-clause-room c =
       arith,
       grants-placed_by s c.requires.open.0 opens.is_after opens.legal,
       admits.few_grants c.requires.periodic,
+      ap (λ k. k.periodic) opens.is_after.table_config,
     )
 
 pub remove-requires : goal.remove-requires

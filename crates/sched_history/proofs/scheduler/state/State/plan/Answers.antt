@@ -1,5 +1,5 @@
 -- The MAP of the next frame, from what is kept.
-use Rattle.std.proofs.Common.{sym, subst}
+use Rattle.std.proofs.Common.{◌∙◌, sym, subst}
 use Rattle.map_build.specs.Opportunities.{HaveStationSids, MayWait}
 use Rattle.sched_history.specs.Reserves.{waiting_in}
 use Rattle.sched_history.proofs.reserves.GoodReserves.{MayWait-legal, HaveStationSids-legal}
@@ -38,6 +38,7 @@ returns-clause-fits c = λ h opens.
       lawful = IsNextMap-after s h opens.is_after p.map (frame.plan, frame.is_plan, frame.map);
       encodable = c.in_ok-frame.ensures.encodable;
       config = c.in_ok-frame.ensures.config;
+      before = frame.before ∙ opens.is_after.flows;
       flows = λ stamp. flows_of-planned s h opens.is_after stamp c.args.now p frame;
       reserves = λ stamp. reserves_of-planned s h opens.is_after stamp c.args.now p frame;
     }

@@ -28,6 +28,7 @@ returns c = λ h opens.
       is_after = λ stamp. IsStateAfter-quiet s h opens.is_after stamp (calls.Status c.args.sid) reply (record {
         turns = λ sid. refl;
         asks = λ sid. refl;
+        batches = λ sid asked granted b. refl;
         grants = λ sid. refl;
         skips = refl;
         builds = refl;

@@ -1,0 +1,335 @@
+-- The flows of a book that takes in the data grants of a MAP, one by one.
+use Rattle.std.proofs.Common.{◌≡◌, refl, sym, ap, ◌∙◌, subst, ℕ, zero, suc, ◌+◌, ◌-◌, ◌<◌, ◌≤◌, ◌⊎◌, inl, inr}
+use Rattle.std.proofs.Common.{Bool, true, List, [], ◌∷◌, ◌++◌, map, filter, length, take, get_or, set, slice_get}
+use Rattle.std.proofs.Common.{Some, option_map, arith}
+use Rattle.std.specs.List.{AllByRecursion, AllZip}
+use Rattle.std.specs.Option.{option_map_or}
+use Rattle.std.proofs.lemmas.Bool.{cond_both, cases_eq}
+use Rattle.std.proofs.lemmas.Bool.Decides.{nat_tests}
+use Rattle.std.proofs.lemmas.List.{length-map, length-set, get_or-set_same, take_more}
+use Rattle.std.proofs.lemmas.List.Elements.{All-from_recursion, length_all_zip}
+use Rattle.std.proofs.lemmas.Option.{slice_get_within, slice_get-get_or, slice_get_read, slice_get-map}
+use Rattle.minislots.specs.declared.config.Config.{Config}
+use Rattle.flow_book.specs.declared.flow.Flow.{Flow}
+use Rattle.flow_book.specs.declared.flow.Grant.{Grant}
+use Rattle.flow_book.specs.declared.granted.GrantList.{GrantList}
+use Rattle.flow_book.specs.declared.queue.Waiting.{Waiting}
+use Rattle.flow_book.specs.Flows.{LiveFlow, outstanding}
+use Rattle.flow_book.specs.FlowList.{grants_at}
+use Rattle.flow_book.specs.Entry.{live, IsCopy, IsSoundFlow, KeepsSums}
+use Rattle.flow_book.specs.Sids.{AscendBy}
+use Rattle.flow_book.specs.Queue.{entry_of, IsAt, IsIn}
+use Rattle.flow_book.specs.Overlay.{IsSameFlow}
+use Rattle.flow_book.specs.Pending.{still_waits}
+use Rattle.flow_book.specs.Taking.{CanBeTaken, IsTaken}
+use Rattle.flow_book.proofs.Queues.{at-within, flow-at, entry-at, turn-at, wants-at, bucket-at, same-turn, same-but}
+use Rattle.flow_book.proofs.Sums.{copy-sums}
+
+-- a place in the queue, or not
+in-or-out : (place : ℕ) (queue : List Waiting) → IsIn place queue ⊎ (IsIn place queue → ⊥)
+in-or-out place [] = inr (λ here. here)
+in-or-out place (w ∷ queue) = elim (cases_eq w.place place) [
+  | inl same ↦ inl (inl same)
+  | inr differ ↦ elim (in-or-out place queue) [
+    | inl rest ↦ inl (inr rest)
+    | inr out ↦ inr (λ here. elim here [ inl same ↦ differ same | inr rest ↦ out rest ])
+  ]
+]
+
+in-either : (place : ℕ) (front : List Waiting) (w : Waiting) → IsIn place (front ++ w ∷ [])
+    → IsIn place front ⊎ (w.place ≡ place)
+in-either place [] w (inl here) = inr here
+in-either place [] w (inr rest) = absurd rest
+in-either place (v ∷ front) w (inl here) = inl (inl here)
+in-either place (v ∷ front) w (inr rest) = elim (in-either place front w rest) [
+  | inl early ↦ inl (inr early)
+  | inr last ↦ inr last
+]
+
+in-front : (place : ℕ) (front back : List Waiting) → IsIn place front → IsIn place (front ++ back)
+in-front place [] back here = absurd here
+in-front place (v ∷ front) back (inl here) = inl here
+in-front place (v ∷ front) back (inr rest) = inr (in-front place front back rest)
+
+in-last : (front : List Waiting) (w : Waiting) → IsIn w.place (front ++ w ∷ [])
+in-last [] w = inl refl
+in-last (v ∷ front) w = inr (in-last front w)
+
+module _ {X : Type 0} where
+  -- what holds of each holds of the one at a place
+  all-at : (P : X → Type 0) (xs : List X) (k : ℕ) (x : X) → AllByRecursion P xs → slice_get xs k ≡ Some x → P x
+  all-at P [] k x all found = absurd (cc)
+  all-at P (y ∷ xs) zero x all found = let e : Some y ≡ Some x = found in let same : y ≡ x = cc in subst P same all.0
+  all-at P (y ∷ xs) (suc k) x all found = all-at P xs k x all.1 found
+
+  -- what holds of the one at each place holds of each
+  all-each : (P : X → Type 0) (xs : List X) → ((k : ℕ) (x : X) → slice_get xs k ≡ Some x → P x)
+      → AllByRecursion P xs
+  all-each P [] each = tt
+  all-each P (x ∷ xs) each = (each 0 x refl, all-each P xs (λ k. each (suc k)))
+
+  -- what holds of each holds of those that pass
+  all-filter : (P : X → Type 0) (p : X → Bool) (xs : List X) → AllByRecursion P xs → AllByRecursion P (filter p xs)
+  all-filter P p [] all = tt
+  all-filter P p (x ∷ xs) all =
+      let rest = all-filter P p xs all.1 in
+      cond_both (p x) (x ∷ filter p xs) (filter p xs) (AllByRecursion P) (λ pass. (all.0, rest)) (λ fail. rest)
+
+  ascends-filter : (number : X → ℕ) (p : X → Bool) (xs : List X) → AscendBy number xs → AscendBy number (filter p xs)
+  ascends-filter number p [] up = tt
+  ascends-filter number p (x ∷ xs) up =
+      let rest = ascends-filter number p xs up.1 in
+      cond_both (p x) (x ∷ filter p xs) (filter p xs) (AscendBy number)
+      (λ pass. (all-filter (λ y. number x < number y) p xs up.0, rest)) (λ fail. rest)
+
+-- at one place the flows are the same but for their grants
+zip-at : (old items : List Flow) (place : ℕ) (f g : Flow) → AllZip IsSameFlow (map live old) (map live items)
+    → slice_get old place ≡ Some f → slice_get items place ≡ Some g → IsSameFlow (live f) (live g)
+zip-at [] items place f g zip found at = absurd (cc)
+zip-at (x ∷ old) [] place f g zip found at = absurd (cc)
+zip-at (x ∷ old) (y ∷ items) zero f g zip found at =
+    let e : Some x ≡ Some f = found in
+    let e' : Some y ≡ Some g = at in
+    let mine : x ≡ f = cc in
+    let yours : y ≡ g = cc in
+    subst (λ (h : Flow). IsSameFlow (live h) (live g)) mine
+    (subst (λ (h : Flow). IsSameFlow (live x) (live h)) yours zip.0)
+zip-at (x ∷ old) (y ∷ items) (suc place) f g zip found at = zip-at old items place f g zip.1 found at
+
+-- flows that are as many show the same where those at each place do
+same-shown : (new items : List Flow) → length new ≡ length items
+    → ((k : ℕ) (f g : Flow) → slice_get new k ≡ Some f → slice_get items k ≡ Some g → live f ≡ live g)
+    → map live new ≡ map live items
+same-shown [] [] long each = refl
+same-shown [] (g ∷ items) long each = absurd (omega arith)
+same-shown (f ∷ new) [] long each = absurd (omega arith)
+same-shown (f ∷ new) (g ∷ items) long each =
+    ap (λ h. h ∷ map live new) (each 0 f g refl refl)
+    ∙ ap (λ hs. live g ∷ hs) (same-shown new items (omega arith) (λ k. each (suc k)))
+
+-- a copy has the same entry
+copy-entry : (f g : Flow) → IsCopy g f → entry_of f ≡ entry_of g
+copy-entry f g is =
+    let wants : outstanding (live f) ≡ outstanding (live g) = ap outstanding is.same in
+    ap (λ n. (n, outstanding (live f), f.bucket)) is.turn ∙ ap (λ n. (g.turn, n, f.bucket)) wants
+    ∙ ap (λ b. (g.turn, outstanding (live g), b)) is.bucket
+
+module _ (items : List Flow) where
+  -- none of those before it in the queue is at its place
+  fresh : (queue : List Waiting) (i : ℕ) (d : Waiting) → i < length queue → AllByRecursion (IsAt items) queue
+      → AscendBy (λ w. w.turn) queue → IsIn (get_or queue i d).place (take i queue) → ⊥
+  fresh [] i d lt all up here = absurd (omega arith)
+  fresh (w ∷ queue) zero d lt all up here = here
+  fresh (w ∷ queue) (suc i) d lt all up (inl same) =
+      let at : IsAt items (get_or queue i d) = All-from_recursion (IsAt items) queue all.1 i d (omega arith) in
+      let above : w.turn < (get_or queue i d).turn =
+      All-from_recursion (λ v. w.turn < v.turn) queue up.0 i d (omega arith) in
+      absurd (omega (arith, above, same-turn items w (get_or queue i d) all.0 at same))
+  fresh (w ∷ queue) (suc i) d lt all up (inr rest) = fresh queue i d (omega arith) all.1 up.1 rest
+
+  -- where a flow still waits its place stays in the queue
+  stays-in : (queue : List Waiting) (place : ℕ) (g : Flow) → slice_get items place ≡ Some g
+      → 0 < outstanding (live g) → AllByRecursion (IsAt items) queue → IsIn place queue
+      → IsIn place (filter still_waits queue)
+  stays-in [] place g found waits all here = absurd here
+  stays-in (w ∷ queue) place g found waits all (inl same) =
+      let wants = wants-at items w g all.0 (ap (slice_get items) same ∙ found) in
+      let still : still_waits w ≡ true = grind (arith, nat_tests) in
+      rw still (inl same)
+  stays-in (w ∷ queue) place g found waits all (inr rest) =
+      let stays = stays-in queue place g found waits all.1 rest in
+      cond_both (still_waits w) (w ∷ filter still_waits queue) (filter still_waits queue) (IsIn place)
+      (λ pass. inr stays) (λ fail. stays)
+
+-- The flows at the places that are done are copies of those after the MAP, the others are those before it
+pub record IsPart (old items : List Flow) (done : List Waiting) (new : List Flow) : Type 0 where
+  pub there : (place : ℕ) (f g : Flow) → IsIn place done → slice_get new place ≡ Some f
+      → slice_get items place ≡ Some g → IsCopy g f
+  pub rest : (place : ℕ) → (IsIn place done → ⊥) → slice_get new place ≡ slice_get old place
+
+-- at first none is done
+pub part-none : (old items : List Flow) → IsPart old items [] old
+part-none old items = record { there = λ place f g here found at. absurd here; rest = λ place out. refl }
+
+-- one of the queue, and the flows at its place before and after the MAP
+pub record IsHere (old items : List Flow) (w : Waiting) (f g : Flow) : Type 0 where
+  pub is : IsAt items w
+  pub at : slice_get items w.place ≡ Some g
+  pub found : slice_get old w.place ≡ Some f
+  pub same : IsSameFlow (live f) (live g)
+
+module _ (c : Config) (old items : List Flow) (queue : List Waiting) (can : CanBeTaken c old items queue) where
+  -- they are as many
+  as-many : length items ≡ length old
+  as-many =
+      omega (
+        arith,
+        length_all_zip IsSameFlow (map live old) (map live items) can.same,
+        length-map old live,
+        length-map items live,
+      )
+
+  module _ (i : ℕ) (w : Waiting) (lt : i < length queue) (is : w ≡ get_or queue i w) where
+    at-queue : IsAt items w
+    at-queue = rw is (All-from_recursion (IsAt items) queue can.order.each i w lt)
+
+    -- its place is one of the flows'
+    pub place-within : w.place < length old
+    place-within = omega (arith, as-many, at-within items w at-queue)
+
+    not-done : IsIn w.place (take i queue) → ⊥
+    not-done here =
+        fresh items queue i w lt can.order.each can.order.ascending
+        (subst (λ (v : Waiting). IsIn v.place (take i queue)) is here)
+
+    module _ (new : List Flow) (f : Flow) (long : length new ≡ length old) (read : f ≡ get_or new w.place f)
+        (part : IsPart old items (take i queue) new) where
+      -- the flow at its place is still that before the MAP
+      pub is-here : (g : Flow) × IsHere old items w f g
+      is-here =
+          let g = flow-at items w (slice_get items w.place) refl at-queue in
+          let found : slice_get old w.place ≡ Some f =
+          sym (part.rest w.place not-done)
+          ∙ slice_get_read new (length new) w.place f refl (omega (arith, place-within)) read in (
+            g.0,
+            record {
+              is = at-queue;
+              at = g.1;
+              found = found;
+              same = zip-at old items w.place f g.0 can.same found g.1;
+            },
+          )
+
+      -- which asked for what it waits for
+      pub wants-asked : w.wants ≤ f.asked
+      wants-asked =
+          let g = is-here.0 in
+          let here = is-here.1 in
+          omega (
+            arith,
+            wants-at items w g here.is here.at,
+            ap (λ (h : LiveFlow). h.asked) here.same,
+          )
+
+      -- with the grants after the MAP, and what the queue has of it, it is a copy of that after it
+      pub copied : (grants : GrantList) → grants.items ≡ grants_at w.place (map live items)
+          → IsCopy is-here.0 (record f {
+            turn = w.turn;
+            granted = f.asked - w.wants;
+            bucket = w.bucket;
+            grants = grants;
+          })
+      copied grants are =
+          let g = is-here.0 in
+          let here = is-here.1 in
+          let theirs : grants_at w.place (map live items) ≡ g.grants.items =
+          ap (λ o. option_map_or (λ (h : LiveFlow). h.grants) o []) (slice_get-map live items w.place
+          ∙ ap (option_map live) here.at) in
+          let sound = all-at (IsSoundFlow c) (map live items) w.place (live g) can.book.sound.each
+          (slice_get-map live items w.place ∙ ap (option_map live) here.at) in
+          let keeps = all-at (KeepsSums c) items w.place g can.book.sums here.at in
+          record {
+            same = ap (λ (gs : List Grant). record (live f) { grants = gs }) (are ∙ theirs) ∙ here.same;
+            granted = omega (
+              arith,
+              wants-at items w g here.is here.at,
+              ap (λ (h : LiveFlow). h.asked) here.same,
+              sound.within,
+              keeps.granted,
+            );
+            turn = sym (turn-at items w g here.is here.at);
+            bucket = sym (bucket-at items w g here.is here.at);
+          }
+
+      -- so one place more is done where it is put there
+      pub part-more : (e : Flow) → IsCopy is-here.0 e → IsPart old items (take (i + 1) queue) (set new w.place e)
+      part-more e copy =
+          let done = take i queue in
+          let more : take (i + 1) queue ≡ done ++ w ∷ [] =
+          take_more queue i w lt ∙ ap (λ (v : Waiting). done ++ v ∷ []) (sym is) in
+          let within : w.place < length new = omega (arith, place-within) in
+          let put : slice_get (set new w.place e) w.place ≡ Some e =
+          slice_get-get_or (set new w.place e) w.place e (omega (arith, length-set new w.place e))
+          ∙ ap Some (get_or-set_same new w.place e e within) in
+          rw more (record {
+            there = λ place f' g' here found at. elim (in-either place done w here) [
+              | inl early ↦ part.there place f' g' early
+                  (sym (same-but new w.place e place (λ same. not-done (subst (λ k. IsIn k done) same early))) ∙ found) at
+              | inr last ↦ (
+                  let mine : Some e ≡ Some f' = sym put ∙ ap (slice_get (set new w.place e)) last ∙ found in
+                  let yours : Some is-here.0 ≡ Some g' = sym is-here.1.at ∙ ap (slice_get items) last ∙ at in
+                  let e-is : e ≡ f' = cc in
+                  let g-is : is-here.0 ≡ g' = cc in
+                  subst (λ (h : Flow). IsCopy h f') g-is (subst (λ (h : Flow). IsCopy is-here.0 h) e-is copy))
+            ];
+            rest = λ place out.
+                same-but new w.place e place
+                (λ same. out (subst (λ k. IsIn k (done ++ w ∷ [])) (sym same) (in-last done w)))
+                ∙ part.rest place (λ early. out (in-front place done (w ∷ []) early));
+          })
+
+  module _ (new : List Flow) (long : length new ≡ length old) (part : IsPart old items queue new) where
+    -- where all are done the flow at each place shows what that after the MAP does, and keeps its sums
+    shown-at : (place : ℕ) (f g : Flow) → slice_get new place ≡ Some f → slice_get items place ≡ Some g
+        → (live f ≡ live g) × KeepsSums c f
+    shown-at place f g found at = elim (in-or-out place queue) [
+      | inl here ↦ (
+          let copy = part.there place f g here found at in
+          (copy.same, copy-sums c g f copy (all-at (KeepsSums c) items place g can.book.sums at)))
+      | inr out ↦ (
+          let stays : slice_get old place ≡ Some f = sym (part.rest place out) ∙ found in
+          elim (can.rest place) [
+            | inl here ↦ absurd (out here)
+            | inr same ↦ (
+                let e : Some (live g) ≡ Some (live f) =
+                ap (option_map live) (sym at) ∙ sym (slice_get-map live items place) ∙ same
+                ∙ slice_get-map live old place ∙ ap (option_map live) stays in
+                let equal : live f ≡ live g = cc in
+                (equal, all-at (KeepsSums c) old place f can.before.sums stays))
+          ])
+    ]
+
+    -- there is one after the MAP
+    after-at : (place : ℕ) (f : Flow) → slice_get new place ≡ Some f
+        → (g : Flow) × (slice_get items place ≡ Some g)
+    after-at place f found = (
+      get_or items place f,
+      slice_get-get_or items place f
+          (omega (arith, as-many, slice_get_within new place f found)),
+    )
+
+    each-at : (ws : List Waiting) → ((place : ℕ) → IsIn place ws → IsIn place queue) → AllByRecursion (IsAt items) ws
+        → AllByRecursion (IsAt new) ws
+    each-at [] inside all = tt
+    each-at (w ∷ ws) inside all =
+        let g = flow-at items w (slice_get items w.place) refl all.0 in
+        let f : Flow = get_or new w.place g.0 in
+        let found : slice_get new w.place ≡ Some f =
+        slice_get-get_or new w.place g.0 (omega (arith, as-many, at-within items w all.0)) in
+        let copy = part.there w.place f g.0 (inside w.place (inl refl)) found g.1 in (
+          ap (option_map entry_of) found ∙ ap Some (copy-entry f g.0 copy ∙ entry-at items w g.0 all.0 g.1),
+          each-at ws (λ place rest. inside place (inr rest)) all.1,
+        )
+
+    -- then the book has taken them in
+    pub is-taken : IsTaken c new items queue
+    is-taken =
+        let shows : map live new ≡ map live items =
+        same-shown new items (omega (arith, as-many)) (λ k f g found at. (shown-at k f g found at).0) in
+        record {
+          shows = shows;
+          book = record {
+            sound = rw shows can.book.sound;
+            sums = all-each (KeepsSums c) new
+                (λ k f found. let g = after-at k f found in (shown-at k f g.0 found g.1).1);
+          };
+          order = record {
+            ascending = ascends-filter (λ w. w.turn) still_waits queue can.order.ascending;
+            each = all-filter (IsAt new) still_waits queue (each-at queue (λ place here. here) can.order.each);
+            among = all-filter (λ w. Unit {0}) still_waits queue can.order.among;
+            whole = λ place f found any waits.
+                let g = after-at place f found in
+                let some = subst (λ (h : LiveFlow). 0 < outstanding h) (shown-at place f g.0 found g.1).0 waits in
+                stays-in items queue place g.0 g.1 some can.order.each (can.order.whole place g.0 g.1 tt some);
+          };
+        }

@@ -1,0 +1,73 @@
+//! The live flows of a book, which contracts see and no code reads.
+
+ghost use Rattle.std.specs.Prelude.{◌≡◌, List, [], ◌∷◌, ◌++◌, map};
+ghost use Rattle.std.specs.Borrow.{ftrue};
+ghost use Rattle.flow_book.specs.Flows.{LiveFlow, with_grant};
+ghost use Rattle.flow_book.specs.Book.{changed};
+ghost use Rattle.flow_book.specs.Entry.{live};
+ghost use Rattle.flow_book.specs.FlowList.{flows_code, grants_at};
+
+use crate::flow::{Flow, Grant};
+use crate::granted::GrantList;
+use std::marker::Model;
+
+// The live flows of a book, in order. They stand in proofs alone, so they take no memory, and a copy of them is no work.
+#[derive(Drop)]
+pub(crate) struct FlowList {
+    pub(crate) ghost items: { List LiveFlow } by { flows_code },
+}
+
+impl Model for FlowList {
+    ghost also_owns = { λ _. ftrue };
+}
+
+// A struct with `also_owns` has it not by itself. This one owns nothing.
+unsafe impl Send for FlowList {}
+
+impl FlowList {
+    // No flows.
+    pub(crate) fn none() -> FlowList
+        ensures { result.items ≡ [] }
+    {
+        FlowList {}
+    }
+
+    // The same flows.
+    pub(crate) fn same(_flows: &FlowList) -> FlowList
+        ensures { result.items ≡ _flows.now.items }
+    {
+        FlowList {}
+    }
+
+    // The flows with one more behind them.
+    pub(crate) fn and(_before: &FlowList, _flow: &Flow) -> FlowList
+        ensures { result.items ≡ _before.now.items ++ live _flow.now ∷ [] }
+    {
+        FlowList {}
+    }
+
+    // The flows, where that of this SID has one grant more.
+    pub(crate) fn granted(_before: &FlowList, _sid: &u16, _grant: &Grant) -> FlowList
+        ensures { result.items ≡ changed _sid.now (with_grant _grant.now) _before.now.items }
+    {
+        FlowList {}
+    }
+
+    // The grants of the flow at this place, with no room for more.
+    pub(crate) fn grants_at(_flows: &FlowList, _place: &usize) -> GrantList
+        ensures { result.items ≡ grants_at _place.now _flows.now.items }
+    {
+        GrantList {}
+    }
+}
+
+// The flows of a book.
+pub(crate) fn list_of(flows: &[Flow]) -> FlowList
+    ensures { result.items ≡ map live flows.now }
+{
+    let mut list = FlowList::none();
+    for flow in flows {
+        list = FlowList::and(&list, flow);
+    }
+    list
+}

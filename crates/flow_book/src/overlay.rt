@@ -1,0 +1,126 @@
+//! The flows of a book with the data grants of a MAP that is planned.
+
+ghost use Rattle.std.specs.Prelude.{◌≡◌, map, filter, IfOk, IfSome, None, option_map, true};
+ghost use Rattle.std.specs.List.{AllByRecursion};
+ghost use Rattle.flow_book.specs.Flows.{flow_of, with_grant};
+ghost use Rattle.flow_book.specs.Choice.{IsAmount, IsNextSid, HasStartedBy};
+ghost use Rattle.flow_book.specs.Entry.{live, IsBook};
+ghost use Rattle.flow_book.specs.Queue.{IsQueue};
+ghost use Rattle.flow_book.specs.Shown.{is_shown, ack_of};
+ghost use Rattle.flow_book.specs.Book.{changed};
+
+use crate::flow::{Flow, Grant, Room, Served};
+use crate::flow_list::{FlowList, list_of};
+use crate::queue::{Waiting, first_in_turn, move_back};
+use crate::shown::{Shown, show};
+use crate::taking::{put_back, take_over};
+use minislots::Checked;
+use std::alloc::AllocError;
+use std::marker::Model;
+
+/// The live flows of a book with the data grants of a MAP that is planned. The book stays as it is until
+/// [`Book::take_in`](crate::Book::take_in). Memory is taken for the flows that wait alone.
+#[derive(Drop)]
+pub struct Overlay {
+    config: Checked,
+    // The flows that waited before the MAP, by their turns.
+    queue: Vec<Waiting>,
+    // The live flows before the MAP, and with its data grants, for contracts alone.
+    before: FlowList,
+    flows: FlowList,
+}
+
+impl Model for Overlay {
+    ghost use Rattle.flow_book.specs.Overlay.{OverlayView};
+
+    ghost Value = { OverlayView };
+
+    ghost use Rattle.flow_book.specs.Overlay.{IsOverlay};
+
+    ghost view = { λ o. record {
+      config = o.config;
+      before = o.before.items;
+      flows = o.flows.items;
+    } };
+
+    ghost invariant = { λ o. IsOverlay o.config o.before.items o.flows.items o.queue.items };
+}
+
+impl Overlay {
+    // That of a book with these flows and this queue, before any grant.
+    pub(crate) fn over(config: Checked, flows: &[Flow], queue: Vec<Waiting>) -> Overlay
+        requires book { IsBook config flows.now }
+        requires queue { IsQueue flows.now queue.items }
+        ensures { result ≡ record {
+          config = config;
+          before = map live flows.now;
+          flows = map live flows.now;
+        } }
+    {
+        let before = list_of(flows);
+        Overlay {
+            config,
+            queue,
+            flows: FlowList::same(&before),
+            before,
+        }
+    }
+
+    /// The channel's configuration.
+    pub fn config(&self) -> &Checked
+        ensures value { result.now ≡ self.now.config }
+    {
+        &self.config
+    }
+
+    /// Grants the flow that is next at minislot `start`, with `room` minislots before what comes next
+    /// ([`Book::eligible`](crate::Book::eligible)), the most bytes that it may have there
+    /// ([`Book::most`](crate::Book::most)), and answers to whom they went. `None` where no flow may be served: then
+    /// nothing changes. All grants start at or before `start`.
+    pub fn serve(&mut self, start: u64, room: u32) -> Option<Served>
+        requires started { AllByRecursion (HasStartedBy start) self.old.flows }
+
+        ensures next { IsNextSid self.old.config start room self.old.flows
+            (option_map (λ s. s.sid) result) }
+        ensures amount { IfSome result (λ s. IfSome (flow_of s.sid self.old.flows)
+            (λ f. IsAmount self.old.config f start room s.bytes)) }
+        ensures flows { IfSome result (λ s. self.new.flows ≡ changed s.sid
+            (with_grant (record { start = start; bytes = s.bytes })) self.old.flows) }
+        ensures none { result ≡ None → self.new ≡ self.old }
+        ensures config { self.new.config ≡ self.old.config }
+        ensures before { self.new.before ≡ self.old.before }
+    {
+        let bytes = self.config.most_in(room);
+        let room = Room { slots: room, bytes };
+        let index = first_in_turn(&self.queue, &self.config, start, room)?;
+        let mut waiting = self.queue[index];
+        let bytes = waiting.serve(start, room.bytes);
+        move_back(&mut self.queue, index, waiting);
+        let sid = waiting.sid();
+        self.flows = FlowList::granted(&self.flows, &sid, &Grant { start, bytes });
+        Some(Served { sid, bytes })
+    }
+
+    // The flows that the MAP shows by pending grants, in order of SID, and its acknowledge time ([`Book::show`]). These
+    // are the flows of the book.
+    pub(crate) fn show(&self, flows: &[Flow], progress: u64) -> Result<Shown, AllocError>
+        requires { map live flows.now ≡ self.now.before }
+        ensures pending { IfOk result (λ s. map (λ p. p.sid) s.pending.items
+            ≡ map (λ f. f.sid) (filter (is_shown self.now.config.pending self.now.flows) self.now.flows)) }
+        ensures ack { IfOk result (λ s. s.ack ≡ ack_of self.now.config.pending progress self.now.flows) }
+    {
+        let most = self.config.pending() as usize;
+        show(*self.queue.allocator(), &self.queue, flows, most, progress)
+    }
+
+    // Puts the flows with the data grants in the place of those before, and the queue of those that still wait in the
+    // place of another; answers whether that is whole (memory may run out).
+    pub(crate) fn put_into(self, flows: &mut [Flow], queue: &mut Vec<Waiting>) -> bool
+        requires { IsBook self.config flows.old × (map live flows.old ≡ self.before) }
+        ensures book { IsBook self.config flows.new × (map live flows.new ≡ self.flows) }
+        ensures order { result ≡ true → IsQueue flows.new queue.new.items }
+    {
+        take_over(flows, &self.queue, &self.flows);
+        put_back(queue, &self.queue).is_ok()
+    }
+}
