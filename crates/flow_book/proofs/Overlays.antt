@@ -1,8 +1,7 @@
 -- An overlay as its book's flows are, and with one data grant more.
-use Rattle.std.proofs.Common.{◌≡◌, ◌≢◌, refl, sym, ap, ◌∙◌, subst, ℕ, ◌+◌, ◌<◌, ◌≤◌, ◌==◌, ◌⊎◌, inl, inr, min, Option, List, [], ◌∷◌, ◌++◌}
-use Rattle.std.proofs.Common.{map, set, length, get_or, remove, slice_get, Some, option_map, if◌then◌else◌, arith}
+use Rattle.std.proofs.Common.{◌≡◌, ◌≢◌, refl, sym, ap, ◌∙◌, subst, ℕ, ◌+◌, ◌<◌, ◌==◌, ◌⊎◌, inl, inr, min, Option, List, [], ◌∷◌, ◌++◌}
+use Rattle.std.proofs.Common.{map, set, length, get_or, remove, slice_get, Some, option_map, arith}
 use Rattle.std.specs.List.{AllZip, AllByRecursion}
-use Rattle.std.specs.Option.{IfSome}
 use Rattle.std.proofs.lemmas.Bool.{cases_eq, cond_both}
 use Rattle.std.proofs.lemmas.List.{length-set, get_or-set_same}
 use Rattle.std.proofs.lemmas.Option.{slice_get-map, slice_get-get_or, slice_get_within, get_or_from_slice_get, slice_get_read}
@@ -13,7 +12,7 @@ use Rattle.sched_calls.specs.FlowSpec.{rank_of, rate_of, burst_of}
 use Rattle.flow_book.specs.declared.flow.Flow.{Flow}
 use Rattle.flow_book.specs.declared.flow.Grant.{Grant}
 use Rattle.flow_book.specs.declared.queue.Waiting.{Waiting}
-use Rattle.flow_book.specs.Flows.{LiveFlow, with_grant, outstanding, bytes_of}
+use Rattle.flow_book.specs.Flows.{LiveFlow, with_grant}
 use Rattle.flow_book.specs.Bucket.{StandsFor, most_of, HasOneMore}
 use Rattle.flow_book.specs.Choice.{last_start, IsAmount, HasStartedBy}
 use Rattle.flow_book.specs.Entry.{live, IsBook, IsTurn, KeepsSums}
@@ -25,7 +24,7 @@ use Rattle.flow_book.proofs.Changes.{placed-changed}
 use Rattle.flow_book.proofs.NextServed.{IsFound, found-next, served-book}
 use Rattle.flow_book.proofs.Queues.{with-one, in-new, in-old, in-rest, taken-out, among-others, same-but, put-among}
 use Rattle.flow_book.proofs.Serving.{StandsIn, stands-in}
-use Rattle.flow_book.proofs.Sums.{last-more, last-started, bytes-added}
+use Rattle.flow_book.proofs.Sums.{last-more, bytes-added}
 use Rattle.flow_book.proofs.Windows.{one_more}
 
 pub same-all : (flows : List LiveFlow) → AllZip IsSameFlow flows flows

@@ -145,9 +145,10 @@ entry-may c start room items w wanted may lawful is limits some fits tested =
     let takes : takes_requests f.spec ≡ true = is.keeps.asks (omega (arith, is.wants, limits, some)) in
     let most : most_of f.bucket start wanted ≡ most_of w.bucket start wanted =
     ap (λ b. most_of b start wanted) is.bucket in
-    may-is c start room f w.wants wanted may lawful is.keeps is.started is.wants limits fits
-    ((λ t. (takes, some, most ∙ equal (most_of w.bucket start wanted) wanted (sym tested ∙ t))),
-    (λ p. tested ∙ eq-eqb (most_of w.bucket start wanted) wanted (sym most ∙ p.2)))
+    may-is c start room f w.wants wanted may lawful is.keeps is.started is.wants limits fits (
+      (λ t. (takes, some, most ∙ equal (most_of w.bucket start wanted) wanted (sym tested ∙ t))),
+      (λ p. tested ∙ eq-eqb (most_of w.bucket start wanted) wanted (sym most ∙ p.2)),
+    )
 
 module _ (c : Config) (start room : ℕ) (items : List Flow) (are : IsBook c items) where
   -- a place in the queue that may be served is not passed

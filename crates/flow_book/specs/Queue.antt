@@ -1,6 +1,6 @@
 -- The flows that wait for bytes, in the order in which they are served.
 use Rattle.std.specs.Prelude.{◌≡◌, ◌≢◌, ℕ, ◌<◌, ◌⊎◌, Bool, true, List, [], ◌∷◌, Some, option_map, slice_get, map}
-use Rattle.std.specs.Prelude.{◌+◌, ◌-◌, ◌≤◌, nat_le, nat_lt, if◌then◌else◌, length, slice_index_or}
+use Rattle.std.specs.Prelude.{◌+◌, ◌-◌, nat_le, nat_lt, if◌then◌else◌}
 use Rattle.std.specs.List.{AllByRecursion}
 use Rattle.minislots.specs.declared.config.Config.{Config}
 use Rattle.flow_book.specs.declared.flow.Flow.{Flow}

@@ -1,6 +1,6 @@
 -- The live flows after one allocation more of the frame.
 use Rattle.std.proofs.Common.{◌≡◌, ℕ, ◌+◌, ◌≤◌, Bool, true, false, ◌==◌, List, [], ◌∷◌, ◌++◌, filter_map, Option}
-use Rattle.std.proofs.Common.{None, Some, IsSome, if◌then◌else◌, refl, sym, ap, ◌∙◌, arith}
+use Rattle.std.proofs.Common.{None, Some, if◌then◌else◌, refl, sym, ap, ◌∙◌, arith}
 use Rattle.std.specs.Option.{option_map}
 use Rattle.std.specs.List.{AllByRecursion}
 use Rattle.std.proofs.lemmas.Bool.Decides.{nat_tests}
@@ -9,7 +9,7 @@ use Rattle.std.proofs.lemmas.List.Elements.{filter_map-append}
 use Rattle.flow_book.specs.declared.flow.Grant.{Grant}
 use Rattle.flow_book.specs.Flows.{LiveFlow, flow_of, with_grant}
 use Rattle.flow_book.specs.Choice.{HasStartedBy}
-use Rattle.flow_book.specs.Book.{IsLive, changed}
+use Rattle.flow_book.specs.Book.{changed}
 use Rattle.flow_book.proofs.Places.{find-map}
 use Rattle.periodic.proofs.Joined.{all-append}
 use Rattle.map_build.specs.declared.purpose.Allocation.{Allocation}

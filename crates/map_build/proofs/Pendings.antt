@@ -1,12 +1,12 @@
 -- The pending grants of the flows that are shown, one after the other.
-use Rattle.std.proofs.Common.{◌≡◌, ℕ, ◌+◌, ◌<◌, List, [], ◌∷◌, ◌++◌, length, take, map, filter, get_or, refl, sym, ap, ◌∙◌, arith}
-use Rattle.std.proofs.lemmas.List.{map-append, append_assoc, take_more}
+use Rattle.std.proofs.Common.{◌≡◌, ℕ, List, [], ◌∷◌, ◌++◌, map, filter, refl, ap, ◌∙◌, arith}
+use Rattle.std.proofs.lemmas.List.{map-append, append_assoc}
 use Rattle.flow_book.specs.Flows.{LiveFlow}
 use Rattle.flow_book.specs.Shown.{is_shown}
 use Rattle.minislots.specs.declared.config.Config.{Config}
 use Rattle.map_build.specs.declared.draft.Draft.{Draft}
 use Rattle.map_build.specs.UsageCodes.{long_iuc}
-use Rattle.map_build.specs.FrameMap.{null_element, pending, pending_to, pending_of}
+use Rattle.map_build.specs.FrameMap.{pending_to, pending_of}
 use Rattle.map_build.specs.Draft.{Puts, PutsPending, Ends}
 
 -- the pending grants to some SIDs, and then to one more

@@ -1,9 +1,8 @@
 -- Steps of a draft: it knows of an allocation, whose element is to come; then it has its element.
-use Rattle.std.proofs.Common.{◌≡◌, ◌≢◌, ℕ, zero, suc, ◌+◌, ◌<◌, ◌≤◌, Bool, true, false, ◌==◌, List, [], ◌∷◌}
+use Rattle.std.proofs.Common.{◌≡◌, ℕ, zero, suc, ◌+◌, ◌<◌, Bool, true, List, [], ◌∷◌}
 use Rattle.std.proofs.Common.{length, Option, None, Some, ◌⊎◌, set, unwrap_or, inl, inr}
 use Rattle.std.proofs.Common.{refl, sym, ap, subst, ◌∙◌, arith}
 use Rattle.std.specs.List.{slice_get}
-use Rattle.std.proofs.lemmas.Bool.Decides.{nat_tests}
 use Rattle.std.proofs.lemmas.List.{length-set}
 use Rattle.minislots.specs.Units.{slots_for}
 use Rattle.flow_book.specs.Flows.{with_grant}

@@ -16,9 +16,9 @@ ghost use Rattle.map_build.specs.Spots.{AreInFrame};
 ghost use Rattle.map_build.specs.Draft.{Puts, PutsAllocation, PutsPending, Ends};
 ghost use Rattle.map_build.specs.Walk.{HasPlan};
 
+use crate::MAX_WAITING;
 use crate::purpose::{Allocation, BROADCAST, NOBODY};
 use crate::usage_codes::long_iuc;
-use crate::MAX_WAITING;
 use flow_book::{Book, Overlay, Pending};
 use map_codec::{Element, Elements, MAX_ELEMENTS, WireMap, iuc};
 use minislots::{Checked, wire};

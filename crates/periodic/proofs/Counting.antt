@@ -135,7 +135,7 @@ module _ (c : Config) (f : Placed) (taken : Bool) (old counts : List ℕ) (phase
       | inl same ↦ (
           let here = subst (λ m. AreCounted taken m (length (spots_of c this f)) n) count-before is in
           subst (λ k. AreCounted taken (get_or old (phase + k * interval) 0)
-              (length (spots_of c (phase + k * interval) f)) (get_or (set counts this n) (phase + k * interval) 0))
+          (length (spots_of c (phase + k * interval) f)) (get_or (set counts this n) (phase + k * interval) 0))
           (sym same)
           (subst (AreCounted taken (get_or old this 0) (length (spots_of c this f)))
           (sym (get_or-set_at counts this this n 0 refl below)) here))

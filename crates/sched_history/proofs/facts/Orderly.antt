@@ -1,24 +1,18 @@
 -- Every MAP of a legal history is orderly: at most 240 elements, and a front of disjoint ascending allocations.
-use Rattle.std.proofs.Common.{ℕ, ◌/◌, ◌%◌, ◌<◌, ◌≤◌, ◌^◌, nat_lt, filter, map, length, List}
-use Rattle.std.proofs.Common.{[], ◌∷◌, ◌++◌, sym, ap, subst, length-append, arith}
+use Rattle.std.proofs.Common.{ℕ, ◌/◌, ◌%◌, ◌<◌, ◌^◌, List}
+use Rattle.std.proofs.Common.{[], ◌∷◌, ◌++◌, sym, ap, subst, arith}
 use Rattle.std.specs.List.{AllByRecursion}
-use Rattle.std.proofs.lemmas.List.{length-map}
 use Rattle.std.proofs.lemmas.List.Elements.{All-contains, All-from_recursion}
 use Rattle.minislots.specs.declared.config.Config.{Config}
-use Rattle.minislots.specs.Bursts.{HasBursts}
 use Rattle.minislots.specs.Config.{IsLawful, HasBounds}
 use Rattle.minislots.proofs.Bounds.{bounds_of}
-use Rattle.flow_book.specs.Flows.{LiveFlow, outstanding}
+use Rattle.flow_book.specs.Flows.{LiveFlow}
 use Rattle.flow_book.proofs.Order.{all-push}
 use Rattle.periodic.specs.declared.placement.Spot.{Spot}
 use Rattle.periodic.specs.Placement.{Placed, starts_in, spot_at, spots_of, spots_in}
 use Rattle.periodic.proofs.Joined.{all-map}
 use Rattle.sched_calls.specs.declared.frame_map.FrameMap.{FrameMap}
-use Rattle.map_build.specs.declared.TheConstants.{MAX_WAITING}
-use Rattle.map_build.specs.declared.purpose.Allocation.{Allocation}
-use Rattle.map_build.specs.Purpose.{element_of}
-use Rattle.map_build.specs.Plan.{Demand, flow_after, flows_after, IsPlan}
-use Rattle.map_build.specs.FrameMap.{null_element, pending_of, pending, elements_of}
+use Rattle.map_build.specs.Plan.{Demand}
 use Rattle.map_build.proofs.Planned.{few-elements}
 use Rattle.map_build.proofs.WellFormed.{HaveSids, HaveSpotSids}
 use Rattle.sched_calls.specs.declared.reply.Entry.{Entry}

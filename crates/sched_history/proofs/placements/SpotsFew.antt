@@ -1,5 +1,5 @@
 -- How many polls and unsolicited grants a frame has after a legal history.
-use Rattle.std.proofs.Common.{◌≡◌, ℕ, ◌==◌, ◌≤◌, not, length, List, [], ◌∷◌, ◌++◌, None, Some, refl, ap, sym, subst, arith}
+use Rattle.std.proofs.Common.{◌≡◌, ℕ, ◌==◌, ◌≤◌, not, length, List, [], ◌∷◌, ◌++◌, None, Some, refl, arith}
 use Rattle.minislots.specs.declared.config.Config.{Config}
 use Rattle.minislots.specs.declared.stamp.Stamp.{Stamp}
 use Rattle.minislots.specs.Config.{IsLawful}

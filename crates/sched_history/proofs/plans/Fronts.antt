@@ -1,12 +1,12 @@
 -- The front of the MAP of a plan: its elements ascend strictly, up to the one Null at the end of the frame.
-use Rattle.std.proofs.Common.{◌≡◌, ℕ, ◌<◌, ◌^◌, false, nat_lt, map, filter, length, List, [], ◌∷◌, ◌++◌, refl}
+use Rattle.std.proofs.Common.{◌≡◌, ℕ, ◌<◌, ◌^◌, false, map, filter, length, List, [], ◌∷◌, ◌++◌, refl}
 use Rattle.std.proofs.Common.{append_assoc, length-append, arith}
 use Rattle.std.specs.List.{AllByRecursion, zip}
 use Rattle.std.proofs.lemmas.List.{append-nil, length-map}
 use Rattle.std.proofs.lemmas.List.Sums.{sum_by_push}
 use Rattle.minislots.specs.declared.config.Config.{Config}
 use Rattle.map_codec.specs.declared.element.Element.{Element}
-use Rattle.flow_book.specs.Flows.{LiveFlow, outstanding}
+use Rattle.flow_book.specs.Flows.{LiveFlow}
 use Rattle.flow_book.specs.Shown.{is_shown}
 use Rattle.map_build.specs.declared.purpose.Allocation.{Allocation}
 use Rattle.map_build.specs.declared.purpose.Purpose.{Purpose}

@@ -1,16 +1,14 @@
 -- The MAP of the next frame, from what a scheduler keeps.
 use Rattle.std.proofs.Common.{◌≡◌, ℕ, zero, suc, ◌+◌, ◌≤◌, ◌<◌, List, [], ◌∷◌, map}
 use Rattle.std.proofs.Common.{◌++◌, take, length, get_or, refl, sym, ap, ◌∙◌, subst, arith}
-use Rattle.std.specs.List.{AllByRecursion}
 use Rattle.minislots.specs.declared.stamp.Stamp.{Stamp}
 use Rattle.minislots.proofs.Bounds.{bounds_of}
-use Rattle.flow_book.specs.Flows.{LiveFlow}
 use Rattle.periodic.specs.Placement.{count_from}
 use Rattle.map_build.specs.declared.frame.PlannedFrame.{PlannedFrame}
 use Rattle.sched_calls.specs.declared.frame_map.FrameMap.{FrameMap}
 use Rattle.map_build.specs.Plan.{flows_after}
 use Rattle.map_build.specs.FrameMap.{elements_of, IsLawfulMap, IsLawfulFrame}
-use Rattle.map_build.specs.Spots.{IsFlowSid, AreOfChannel, ArePeriodicOf}
+use Rattle.map_build.specs.Spots.{AreOfChannel, ArePeriodicOf}
 use Rattle.sched_history.specs.declared.scheduler.state.State.{State}
 use Rattle.sched_calls.specs.declared.call.Call.TheVariants.{Build}
 use Rattle.sched_calls.specs.declared.reply.Reply.TheVariants.{Built}

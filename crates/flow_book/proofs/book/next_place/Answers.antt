@@ -1,5 +1,5 @@
 -- The flow that is served first has a place.
-use Rattle.std.proofs.Common.{◌≡◌, ◌∙◌, ◌==◌, sym, refl, map, slice_get, Some, Bool, true≢false}
+use Rattle.std.proofs.Common.{◌≡◌, ◌∙◌, ◌==◌, sym, refl, map, slice_get, Some, Bool}
 use Rattle.std.specs.List.{position_or_len}
 use Rattle.std.proofs.lemmas.List.Folds.{find_at}
 use Rattle.flow_book.specs.Flows.{LiveFlow, flow_of}

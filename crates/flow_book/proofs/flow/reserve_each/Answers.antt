@@ -1,7 +1,6 @@
 -- A flow that has more room is the same flow.
 use Rattle.std.proofs.Common.{◌∙◌, refl, get_or, arith}
 use Rattle.std.proofs.Math.Seq.{map-set_same}
-use Rattle.flow_book.specs.declared.flow.Flow.{Flow}
 use Rattle.flow_book.specs.Entry.{live}
 use Rattle.flow_book.specs.Queue.{entry_of}
 use Rattle.flow_book.proofs.Rooms.{keeps-set, room-more}

@@ -1,11 +1,10 @@
 -- Each that is gone through is asked whether its flow may be served.
-use Rattle.std.proofs.Common.{◌≡◌, ℕ, ◌+◌, ◌<◌, refl, sym, ap, ◌∙◌, subst, take, drop, ◌++◌, ◌∷◌, [], length, get_or, true, false}
-use Rattle.std.proofs.Common.{min, slice_get, List, Some, arith}
+use Rattle.std.proofs.Common.{◌≡◌, ℕ, ◌+◌, refl, sym, ap, ◌∙◌, subst, take, drop, ◌++◌, ◌∷◌, [], length, true, false}
+use Rattle.std.proofs.Common.{slice_get, List, Some, arith}
 use Rattle.std.specs.List.{AllByRecursion}
 use Rattle.std.proofs.lemmas.List.{take_more, drop_more, take-append-drop, take_all}
 use Rattle.std.proofs.lemmas.Option.{slice_get_read}
 use Rattle.flow_book.specs.declared.flow.Flow.{Flow}
-use Rattle.flow_book.specs.declared.queue.Waiting.{Waiting}
 use Rattle.flow_book.specs.Choice.{IsEligible}
 use Rattle.flow_book.specs.Entry.{live}
 use Rattle.minislots.proofs.Bounds.{bounds_of}

@@ -4,7 +4,7 @@ use Rattle.sched_calls.specs.FlowSpec.{rank_of}
 use Rattle.flow_book.specs.Flows.{bytes_of}
 use Rattle.flow_book.specs.Choice.{last_start}
 use Rattle.flow_book.specs.Entry.{IsTurn}
-use Rattle.flow_book.proofs.Sums.{last-more, last-started, bytes-added}
+use Rattle.flow_book.proofs.Sums.{last-more, bytes-added}
 use Rattle.flow_book.proofs.flow.Flow.note.Goals as goal
 
 pub returns-clause-sums : goal.returns-clause-sums

@@ -1,5 +1,5 @@
 -- The flow that is next has one grant more, and moves back in the queue.
-use Rattle.std.proofs.Common.{◌≡◌, ◌⊎◌, ◌∙◌, Some, sym, ap, subst, length, take, drop, ◌++◌, map, remove, slice_get, arith}
+use Rattle.std.proofs.Common.{◌≡◌, ◌⊎◌, ◌∙◌, Some, sym, ap, subst, length, map, remove, slice_get, arith}
 use Rattle.std.specs.Option.{IsSomeAnd, IfSome}
 use Rattle.std.proofs.lemmas.List.{take_at, get_or_default}
 use Rattle.sched_calls.specs.FlowSpec.{rank_of}
@@ -54,7 +54,7 @@ move_back-requires-clause-before c = λ k d early.
     ap (λ (v : Waiting). v.turn) (get_or_default queue c.in_ok-index.index d w lt) in
     let here = ap (λ (v : Waiting). v.turn) c.index.ensures in
     let late =
-    c.serve-bytes.ensures.later (rank_of f.spec) (last_start f.grants.items) f.sid 
+    c.serve-bytes.ensures.later (rank_of f.spec) (last_start f.grants.items) f.sid
     (subst (IsTurn (rank_of f.spec) (last_start f.grants.items) f.sid) is.turn is.keeps.turn.1)
     (last-started c.args.start f.grants.items is.started) in
     rw c.deref_mut.ensures.value (omega (arith, less, here, same, late))

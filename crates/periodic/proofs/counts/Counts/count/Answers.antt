@@ -4,7 +4,7 @@ use Rattle.std.proofs.lemmas.List.{length-set}
 use Rattle.minislots.specs.declared.config.Config.{Config}
 use Rattle.minislots.proofs.Bounds.{bounds_of}
 use Rattle.periodic.specs.declared.spots.PlacedFlow.{PlacedFlow}
-use Rattle.periodic.specs.Placement.{phase_of, spots_of}
+use Rattle.periodic.specs.Placement.{spots_of}
 use Rattle.periodic.specs.Counts.{MayBeCounted, AreCounted, AreCountedTo}
 use Rattle.periodic.specs.Fields.{placed_of, IsSoundFlow}
 use Rattle.periodic.proofs.Counting.{count-before, counted-more, counted-all}
