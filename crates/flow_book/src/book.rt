@@ -2,7 +2,7 @@
 
 ghost use Rattle.std.specs.Prelude.{◌≡◌, ◌≢◌, ℕ, ◌+◌, ◌<◌, ◌≤◌, ◌^◌, ◌==◌, [], length, IfOk, OnOk, OnErr, IfSome};
 ghost use Rattle.std.specs.Prelude.{IsSomeAnd, MatchOption, map, filter, option_map, slice_get, nat_lt, position, true, Some};
-ghost use Rattle.std.specs.List.{AllByRecursion};
+ghost use Rattle.std.specs.List.{AllByRecursion, position_or_len};
 ghost use Rattle.minislots.specs.Units.{slots_for};
 ghost use Rattle.sched_calls.specs.FlowSpec.{takes_requests};
 ghost use Rattle.flow_book.specs.Flows.{flow_of, outstanding, with_grant};
@@ -99,11 +99,13 @@ fn next_place(
     }
 }
 
-// The place of the first flow with a higher SID.
-fn place_above(flows: &[Flow], sid: u16) -> Option<usize>
-    ensures { result ≡ position (λ f. nat_lt sid f.sid) flows.now }
+// The place of the first flow with a higher SID, or the end.
+fn place_above(flows: &[Flow], sid: u16) -> usize
+    requires { Ascend (map live flows.now) }
+    ensures place { result ≡ position_or_len (λ f. nat_lt sid f.sid) flows.now }
+    ensures within { result ≤ length flows.now }
 {
-    flows.iter().position(|flow| sid < flow.sid)
+    flows.partition_point(|flow| flow.sid <= sid)
 }
 
 impl Book {
@@ -177,6 +179,18 @@ impl Book {
         self.at(sid).outstanding()
     }
 
+    /// The bytes that a live flow asked, and those of them that it was not granted: none where it takes no requests.
+    pub fn sums(&self, sid: u16) -> (u64, u64)
+        requires { IsLive sid self.now.flows }
+        ensures value { IfSome (flow_of sid self.now.flows)
+            (λ f. (result.0 ≡ f.asked) × (result.1 ≡ outstanding f)) }
+        ensures asks { IfSome (flow_of sid self.now.flows)
+            (λ f. 0 < f.asked → takes_requests f.spec ≡ true) }
+    {
+        let flow = self.at(sid);
+        (flow.asked, flow.outstanding())
+    }
+
     /// The bytes that a live flow asked and was not granted, by its place, from 0, in the order of SIDs.
     pub fn outstanding_at(&self, index: usize) -> u64
         requires { index < length self.now.flows }
@@ -194,7 +208,7 @@ impl Book {
         ensures config { self.new.config ≡ self.old.config }
         ensures room { KeepsRoom self.old.rooms self.new.rooms }
     {
-        let place = place_above(&self.flows, sid).unwrap_or(self.flows.len());
+        let place = place_above(&self.flows, sid);
         let flow = Flow::open(&self.config, sid, spec);
         make_room(&mut self.queue, self.flows.len())?;
         self.flows.insert(place, flow)?;
@@ -211,7 +225,7 @@ impl Book {
             → other ≢ sid → room_of other self.new.rooms ≡ room_of other self.old.rooms }
     {
         let place = self.place(sid);
-        self.flows.retain(|flow| flow.sid != sid);
+        let _ = self.flows.remove(place);
         leave(&mut self.queue, place);
     }
 

@@ -35,7 +35,7 @@ pub(super) fn is_periodic(spec: FlowSpec) -> bool
 }
 
 // Whether a flow with these parameters asks for bytes.
-pub(super) fn takes_requests(spec: FlowSpec) -> bool
+fn takes_requests(spec: FlowSpec) -> bool
     ensures { result ≡ takes_requests spec }
 {
     !matches!(spec, FlowSpec::Unsolicited { .. })

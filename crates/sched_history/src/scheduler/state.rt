@@ -23,7 +23,7 @@ ghost use Rattle.sched_history.specs.State.{next_demand, IsStateAfter, IsOpenTo,
 ghost use Rattle.sched_history.specs.Facts.{IsWithinAsked};
 
 use super::planned::Planned;
-use super::refusing::{is_periodic, takes_requests};
+use super::refusing::is_periodic;
 use super::reserves::Reserves;
 use flow_book::Book;
 use map_build::{PlannedFrame, plan_with_book};
@@ -100,13 +100,8 @@ impl State {
         ensures { IfSome (flow_of sid self.now.book.flows) (λ f.
             flow_status f ≡ Flow result.0 result.1 result.2) }
     {
-        match self.book.flow(sid) {
-            Some(spec) if takes_requests(spec) => {
-                let (asked, outstanding) = (self.book.asked(sid), self.book.outstanding(sid));
-                (asked, asked - outstanding, outstanding)
-            }
-            _ => (0, 0, 0),
-        }
+        let (asked, outstanding) = self.book.sums(sid);
+        (asked, asked - outstanding, outstanding)
     }
 
     // Forgets a live flow, with its placement.

@@ -17,18 +17,18 @@ use Rattle.flow_book.proofs.book.Book.admit.Goals as goal
 new-sound : (c : Config) (sid : ℕ) (spec : FlowSpec) → IsSoundFlow c (new_flow sid spec)
 new-sound c sid spec = record { within = omega arith; kept = λ positive i j le lt. absurd (omega arith) }
 
+pub place_above-place-requires : goal.place_above-place-requires
+place_above-place-requires c = rw c.deref.ensures.value c.self.invariant.book.sound.ascending
+
 pub returns-clause-ok : goal.returns-clause-ok
 returns-clause-ok c =
     let items = c.self.inside.flows.items in
-    let above : c.place_above.result ≡ position (λ f. nat_lt c.args.sid f.sid) items =
-    rw c.deref.ensures.value at c.place_above.ensures in
-    let len : c.len.result ≡ length items = omega (arith, c.self.inside.flows.ok.0) in
-    let place : c.unwrap_or-place.result ≡ position_or_len (λ f. nat_lt c.args.sid f.sid) items =
-    c.unwrap_or-place.ensures ∙ rw (above, len) (place-or_len (λ f. nat_lt c.args.sid f.sid) items) in
+    let place : c.place_above-place.result ≡ position_or_len (λ f. nat_lt c.args.sid f.sid) items =
+    rw c.deref.ensures.value at c.place_above-place.ensures.place in
     let e : Flow = c.open-flow.result in
     let fresh : live e ≡ new_flow c.args.sid c.args.spec = c.open-flow.ensures.live in
     let same : e.sid ≡ c.args.sid = ap (λ (f : LiveFlow). f.sid) fresh in
-    let place : c.unwrap_or-place.result ≡ position_or_len (λ f. nat_lt e.sid f.sid) items = rw same place in
+    let place : c.place_above-place.result ≡ position_or_len (λ f. nat_lt e.sid f.sid) items = rw same place in
     rw (← c.self.view_is, c.in_ok-insert.ensures.items, place) (insert-put_in live (λ f. f.sid) e items
     ∙ ap (λ f. with_flow f (map live items)) fresh)
 
@@ -38,12 +38,9 @@ invariant_of-self-2 c =
     let config = c.self.inside.config in
     let flows = rw (← c.self.view_is) at (returns-clause-ok c) in
     let none = rw (← c.self.view_is) at c.requires in
-    let above : c.place_above.result ≡ position (λ f. nat_lt c.args.sid f.sid) items =
-    rw c.deref.ensures.value at c.place_above.ensures in
-    let len : c.len.result ≡ length items = omega (arith, c.self.inside.flows.ok.0) in
-    let place : c.unwrap_or-place.result ≡ position_or_len (λ f. nat_lt c.args.sid f.sid) items =
-    c.unwrap_or-place.ensures ∙ rw (above, len) (place-or_len (λ f. nat_lt c.args.sid f.sid) items) in
-    let within : c.unwrap_or-place.result ≤ length items =
+    let place : c.place_above-place.result ≡ position_or_len (λ f. nat_lt c.args.sid f.sid) items =
+    rw c.deref.ensures.value at c.place_above-place.ensures.place in
+    let within : c.place_above-place.result ≤ length items =
     omega (arith, place, prefix_len-le-length (λ (f : Flow). not (nat_lt c.args.sid f.sid)) items) in
     record {
       order = λ known. rw c.in_ok-insert.ensures.items (c.make_way.ensures items c.open-flow.result known
@@ -52,7 +49,7 @@ invariant_of-self-2 c =
       book = record {
         sound = rw flows (sound-with_flow config (new_flow c.args.sid c.args.spec) (map live items) none
             (new-sound config c.args.sid c.args.spec) c.self.invariant.book.sound);
-        sums = rw c.in_ok-insert.ensures.items (all-insert (KeepsSums config) items c.unwrap_or-place.result
+        sums = rw c.in_ok-insert.ensures.items (all-insert (KeepsSums config) items c.place_above-place.result
             c.open-flow.result c.self.invariant.book.sums c.open-flow.ensures.sums);
       };
     }
@@ -62,4 +59,4 @@ returns-clause-room c =
     let none = rw (← c.self.view_is) at c.requires in
     let same : c.open-flow.result.sid ≡ c.args.sid = ap (λ (f : LiveFlow). f.sid) c.open-flow.ensures.live in
     rw (← c.self.view_is, c.in_ok-insert.ensures.items) (room-insert c.open-flow.result c.self.inside.flows.items
-    c.unwrap_or-place.result (rw same none))
+    c.place_above-place.result (rw same none))

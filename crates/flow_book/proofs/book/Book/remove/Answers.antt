@@ -1,6 +1,5 @@
 -- The flows of other SIDs are left.
-use Rattle.std.proofs.Common.{◌≡◌, ◌∙◌, ap, map, filter, not, ◌==◌, rules}
-use Rattle.std.proofs.lemmas.Fn.{filter_same}
+use Rattle.std.proofs.Common.{◌≡◌, ◌∙◌, sym, ap, map, filter, not, ◌==◌}
 use Rattle.flow_book.specs.declared.flow.Flow.{Flow}
 use Rattle.flow_book.specs.Flows.{LiveFlow}
 use Rattle.flow_book.specs.Entry.{live, room_in, IsSoundBook, KeepsSums}
@@ -12,8 +11,12 @@ use Rattle.flow_book.proofs.book.Book.remove.Goals as goal
 
 -- the flows of other SIDs
 left : (c : goal.After-leave)
-    → c.retain.new.self.items ≡ filter (λ (f : Flow). not (f.sid == c.args.sid)) c.self.inside.flows.items
-left c = filter_same _ _ _ (λ x b f' k. search rules) _ _ c.retain.ensures.filtered
+    → c.remove.new.self.items ≡ filter (λ (f : Flow). not (f.sid == c.args.sid)) c.self.inside.flows.items
+left c =
+    let items = c.self.inside.flows.items in
+    let stands = rw (← c.self.view_is) at c.place-place.ensures in
+    c.remove.ensures.items
+    ∙ sym (filter-at c.args.sid items c.place-place.result c.self.invariant.book.sound.ascending stands).1
 
 pub invariant_of-self : goal.invariant_of-self
 invariant_of-self c =
