@@ -8,6 +8,7 @@ where one has another answer than its plant had. docs/OPERATION.md tells what to
 import argparse
 import json
 import os
+import random
 import resource
 import signal
 import socket
@@ -20,6 +21,7 @@ sys.dont_write_bytecode = True
 PLANT = os.path.realpath(f"{__file__}/../../plant")
 sys.path.insert(1, PLANT)
 
+from channel import CONFIG  # noqa: E402
 from client import Fault  # noqa: E402
 from plant import name_checked, program  # noqa: E402
 
@@ -48,6 +50,25 @@ def turns_of(chosen, seed, seconds):
     return turns
 
 
+def turns_with(chosen, seed, seconds, flows):
+    """What a channel of so many flows is told instead: all are admitted, and then each frame has four requests, how far
+    they were heard, and its build."""
+    draw, frame, start = random.Random(seed), CONFIG["frame"], CONFIG["start"]
+    flow = {"kind": "best_effort", "priority": 3, "rate": 0, "burst": 0}
+    told = [[{"config": {**CONFIG, "flows": flows}}, {"call": "build", "now": start - CONFIG["lead"]}]]
+    told[0] += ({"call": "admit", "sid": sid, "flow": flow} for sid in range(1, flows + 1))
+    for at in range(1, int(seconds / FRAME) + 1):
+        heard = start + at * frame - 1
+        asked = {"call": "ask", "receiver": 0, "heard": heard}
+        asks = [{**asked, "sid": draw.randint(1, flows), "bytes": draw.choice([64, 300, 1522])} for _ in range(4)]
+        upto = {"call": "heard", "receiver": 0, "upto": heard}
+        told.append([*asks, upto, {"call": "build", "now": heard + 1 - CONFIG["lead"]}])
+    lines = [b"".join(json.dumps(it, separators=(",", ":")).encode() + b"\n" for it in turn) for turn in told]
+    said = subprocess.run([chosen, "live"], input=b"".join(lines), capture_output=True, check=True).stdout
+    answers = iter(said.splitlines(True))
+    return [(turn, b"".join(next(answers) for _ in range(turn.count(b'"call"')))) for turn in lines]
+
+
 class Channel:
     """A scheduler that is talked with, through the pipes of a process or a connection."""
 
@@ -55,6 +76,7 @@ class Channel:
         self.name, self.turns, self.to, self.back = name, turns, to, back
 
     def tell(self, at):
+        self.told = time.perf_counter()
         try:
             os.write(self.to, self.turns[at][0])
         except OSError as fault:
@@ -69,6 +91,7 @@ class Channel:
             said += piece
         if said != wanted:
             raise Fault(f"channel {self.name} has in frame {at} {NEW_JOURNAL}: {said.decode().strip()}")
+        return 1000 * (time.perf_counter() - self.told)
 
 
 def processes(chosen, plants, count, processors):
@@ -95,8 +118,8 @@ def connections(folder, plants, count):
 
 
 def pace(channels, count):
-    """Takes so many turns by the clock. How long each took, and how late each began."""
-    took, late, begun = [], [], time.perf_counter()
+    """Takes so many turns by the clock. How long each took, and how late each began, and how long each channel did."""
+    took, late, each, begun = [], [], [], time.perf_counter()
     for at in range(count):
         due = begun + at * FRAME
         time.sleep(max(0.0, due - time.perf_counter()))
@@ -106,11 +129,10 @@ def pace(channels, count):
             raise Fault(f"{BEHIND} seconds behind the clock in frame {at}: {carried}")
         for channel in channels:
             channel.tell(at)
-        for channel in channels:
-            channel.hear(at)
+        each += [channel.hear(at) for channel in channels]
         took.append(1000 * (time.perf_counter() - start))
         late.append(1000 * (start - due))
-    return took, late
+    return took, late, each
 
 
 def seconds_of(who):
@@ -131,8 +153,14 @@ def measure(given, chosen, plants):
         talks, channels = connections(given.sockets, plants, given.channels)
     else:
         talks, channels = processes(chosen, plants, given.channels, given.processors)
+    if given.flows:
+        for channel in channels:
+            channel.tell(0)
+            channel.hear(0)
+            channel.turns = channel.turns[1:]
+        count -= 1
     began = time.perf_counter()
-    took, late = pace(channels, count)
+    took, late, each = pace(channels, count)
     lasted, own = time.perf_counter() - began, seconds_of(resource.RUSAGE_SELF) - own
     for talk in talks:
         if given.sockets:
@@ -147,6 +175,7 @@ def measure(given, chosen, plants):
         print(f"cores of the schedulers: {(seconds_of(resource.RUSAGE_CHILDREN) - before) / lasted:.2f}")
     print(f"cores of this driver: {own / lasted:.2f}")
     print(f"milliseconds until all have their MAPs: {spread(took)}")
+    print(f"milliseconds until one has its MAP: {spread(each)}")
     print(f"milliseconds behind the clock at the beginning: {spread(late)}")
     print("turns that took longer:", ", ".join(f"than {it} ms {sum(ms > it for ms in took)}" for it in BOUNDS))
     print("processes that ran or waited for a processor, in the last 1, 5 and 15 minutes:", *os.getloadavg())
@@ -161,6 +190,7 @@ def arguments():
     reader.add_argument("--program", help="by default mapsched on the path, or else the repository's script")
     reader.add_argument("--channels", type=int, default=64, help="how many there are (64)")
     reader.add_argument("--seconds", type=float, default=10, help="how long they run (10)")
+    reader.add_argument("--flows", type=int, help="tells channels of so many flows, in place of plants")
     reader.add_argument("--processors", metavar="LIST", type=processors_in, help="where the schedulers run, as 1,2,3")
     reader.add_argument("--sockets", metavar="FOLDER", help="talks with the units behind its sockets 1, 2, .. instead")
     given = reader.parse_args()
@@ -173,7 +203,8 @@ def main():
     given = arguments()
     try:
         chosen = name_checked(given.program) if given.program else program()
-        plants = [turns_of(chosen, seed, given.seconds) for seed in range(1, min(SEEDS, given.channels) + 1)]
+        turns = (lambda *words: turns_with(*words, given.flows)) if given.flows else turns_of
+        plants = [turns(chosen, seed, given.seconds) for seed in range(1, min(SEEDS, given.channels) + 1)]
         measure(given, chosen, plants)
     except (Fault, OSError, subprocess.SubprocessError) as fault:
         sys.exit(f"chassis.py: {fault}")
