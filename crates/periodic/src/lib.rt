@@ -3,7 +3,7 @@
 
 mod adopt;
 mod bits;
-mod counts;
+mod cycle;
 mod placement;
 mod row;
 mod search;

@@ -1,0 +1,11 @@
+-- The frames of the phase that are gone through are the new ones, the others the old ones.
+use Rattle.std.proofs.Common.{List}
+use Rattle.periodic.specs.Placement.{Placed}
+use Rattle.periodic.specs.Table.{without}
+use Rattle.periodic.specs.Frames.{AreFramesOf, AreChangedTo}
+use Rattle.periodic.proofs.cycle.Frames.remove.Given as goal
+
+abbrev pub invariant-loop-index : goal.invariant-loop-index
+invariant-loop-index l = (placed : List Placed) → AreFramesOf l.config placed l.fn.self.counts l.fn.self.spots.items
+    → AreChangedTo l.config placed (without l.flow.sid placed) l.self.counts l.self.spots.items l.flow.phase
+    l.flow.interval l.index
