@@ -12,7 +12,7 @@ use Rattle.sched_calls.specs.declared.placement.Placement.{Placement}
 use Rattle.periodic.specs.declared.search.Wanted.{Wanted}
 use Rattle.periodic.specs.Placement.{Placed, phase_of, offset_of, FollowFrom, IsPlacement}
 use Rattle.periodic.specs.Rows.{AreRowsOf}
-use Rattle.periodic.specs.Frames.{AreCounts}
+use Rattle.periodic.specs.Counts.{AreCounts}
 use Rattle.periodic.specs.Search.{CanBeSought, IsWantedOf, AreStarts, HasRoomAt}
 use Rattle.periodic.specs.Table.{AreSound}
 use Rattle.periodic.proofs.Choosing.{starts-of-lawful, lawful-of-starts}

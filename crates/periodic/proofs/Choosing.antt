@@ -15,7 +15,7 @@ use Rattle.periodic.specs.Placement.{FollowFrom, AreLawfulStarts, HasLawfulStart
 use Rattle.periodic.specs.Choice.{StartsEarlier, AreEarlier, IsChosen}
 use Rattle.periodic.specs.Table.{AreSound}
 use Rattle.periodic.specs.Rows.{row_at, AreRowsOf}
-use Rattle.periodic.specs.Frames.{AreCounts}
+use Rattle.periodic.specs.Counts.{AreCounts}
 use Rattle.periodic.specs.Search.{CanBeSought, IsWantedOf, IsStartOf, AreStartsIn, AreStarts, HasRoomAt, NonePhase}
 use Rattle.periodic.specs.Search.{IsFirstFound, AreNoLater, IsReference, starts_of}
 use Rattle.periodic.proofs.Counting.{few-of-room, room-of-few, no-starts}

@@ -27,5 +27,3 @@ pub mod Marking
 pub mod Standing
 pub mod Bounding
 pub mod Counting
-pub mod Picked
-pub mod Keeping

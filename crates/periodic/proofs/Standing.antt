@@ -1,9 +1,8 @@
 -- Where a flow stands in the fields of a table.
-use Rattle.std.proofs.Common.{◌≡◌, sym, ap, ◌∙◌, subst, ℕ, ◌≤◌, Bool, true, not, ◌==◌, nat_lt}
+use Rattle.std.proofs.Common.{◌≡◌, sym, ap, ◌∙◌, subst, ℕ, ◌≤◌, Bool, not, ◌==◌, nat_lt}
 use Rattle.std.proofs.Common.{List, map, length, get_or, slice_get, find, position, Option, Some, None, option_map}
 use Rattle.std.proofs.Common.{unwrap_or, arith}
 use Rattle.std.specs.List.{AllByRecursion, insert, position_or_len}
-use Rattle.std.proofs.lemmas.Bool.Decides.{nat_tests}
 use Rattle.std.proofs.lemmas.List.Edits.{get_or-insert_at}
 use Rattle.std.proofs.lemmas.List.Folds.{find_at}
 use Rattle.std.proofs.lemmas.List.Quantifiers.{position-Some}
@@ -16,12 +15,11 @@ use Rattle.minislots.specs.declared.config.Config.{Config}
 use Rattle.sched_calls.specs.declared.spec.FlowSpec.{FlowSpec}
 use Rattle.flow_book.proofs.Places.{some-place}
 use Rattle.periodic.specs.declared.bits.Bits.{Bits}
-use Rattle.periodic.specs.declared.cycle.FrameSpots.{FrameSpots}
 use Rattle.periodic.specs.declared.spots.PlacedFlow.{PlacedFlow}
 use Rattle.periodic.specs.Placement.{Placed, spots_of}
 use Rattle.periodic.specs.Table.{placed_grants, IsPlaced, placed_at, with_placed, without, IsSoundPlaced, AreSound}
 use Rattle.periodic.specs.Rows.{row_at, AreMarked, AreBounds}
-use Rattle.periodic.specs.Frames.{AreFramesOf}
+use Rattle.periodic.specs.Counts.{AreCounts}
 use Rattle.periodic.specs.Fields.{placed_of, placement_at, KeepsTimes, IsSoundFlow, AreSoundFields}
 use Rattle.periodic.proofs.Occupied.{tells-with}
 use Rattle.periodic.proofs.Vacated.{tells-without}
@@ -87,14 +85,6 @@ flow-found sid items i f stands is =
     ∙ ap (option_map placed_of) (find_at p items ∙ ap (slice_get items) here ∙ slice_get-get_or items i f within
     ∙ ap Some (sym is))
 
--- and has the SID
-pub sid-found : (sid : ℕ) (items : List PlacedFlow) (i : ℕ) (f : PlacedFlow)
-    → position (λ g. g.sid == sid) items ≡ Some i → f ≡ get_or items i f → f.sid ≡ sid
-sid-found sid items i f stands is =
-    let p : PlacedFlow → Bool = λ g. g.sid == sid in
-    let here : p f ≡ true = ap p is ∙ (position-Some p items i f stands).1 in
-    grind (arith, nat_tests, here)
-
 -- a flow that is placed has a place
 pub has-place : (sid : ℕ) (items : List PlacedFlow) → IsPlaced sid (map placed_of items)
     → position (λ g. g.sid == sid) items ≡ None → ⊥
@@ -112,18 +102,17 @@ marked-for c k bit g f given rows new is same marked =
     (subst (λ bs. AreMarked (spots_of c k (placed_of g)) bit (row_at c bs k) (row_at c new k)) same marked)
 
 module _ (c : Config) (items new : List PlacedFlow) (rows marked : List Bits) (f : Placed)
-    (most bounds counts tally : List ℕ) (frames spots : List FrameSpots) (before grants : ℕ)
-    (are : AreSoundFields c items rows most counts frames before)
+    (most bounds counts tally : List ℕ) (before grants : ℕ)
+    (are : AreSoundFields c items rows most counts before)
     (long : length marked ≡ c.cycle) (bounded : AreBounds c marked bounds) where
   -- with one flow more, whose minislots are marked as taken, the fields are sound
   pub fields-with : map placed_of new ≡ with_placed f (map placed_of items)
       → AreSound c (with_placed f (map placed_of items))
       → AllByRecursion (KeepsTimes c) new
       → ((k : ℕ) → AreMarked (spots_of c k f) 1 (row_at c rows k) (row_at c marked k))
-      → AreFramesOf c (map placed_of new) tally spots
-      → grants ≡ placed_grants (with_placed f (map placed_of items))
-      → AreSoundFields c new marked bounds tally spots grants
-  fields-with is sound times marks kept sum = record {
+      → AreCounts c (with_placed f (map placed_of items)) tally
+      → grants ≡ placed_grants (with_placed f (map placed_of items)) → AreSoundFields c new marked bounds tally grants
+  fields-with is sound times marks counted sum = record {
     sound = rw is sound;
     times = times;
     told = record {
@@ -132,7 +121,7 @@ module _ (c : Config) (items new : List PlacedFlow) (rows marked : List Bits) (f
           (marks k));
     };
     bounded = bounded;
-    kept = kept;
+    counted = rw is counted;
     summed = rw is sum;
   }
 
@@ -141,10 +130,9 @@ module _ (c : Config) (items new : List PlacedFlow) (rows marked : List Bits) (f
       → find (λ g. g.sid == sid) (map placed_of items) ≡ Some f
       → AllByRecursion (KeepsTimes c) new
       → ((k : ℕ) → AreMarked (spots_of c k f) 0 (row_at c rows k) (row_at c marked k))
-      → AreFramesOf c (map placed_of new) tally spots
-      → grants ≡ placed_grants (without sid (map placed_of items))
-      → AreSoundFields c new marked bounds tally spots grants
-  fields-without sid is found times marks kept sum = record {
+      → AreCounts c (without sid (map placed_of items)) tally
+      → grants ≡ placed_grants (without sid (map placed_of items)) → AreSoundFields c new marked bounds tally grants
+  fields-without sid is found times marks counted sum = record {
     sound = rw is (sound-filter c (λ g. not (g.sid == sid)) (map placed_of items) are.sound);
     times = times;
     told = record {
@@ -153,6 +141,6 @@ module _ (c : Config) (items new : List PlacedFlow) (rows marked : List Bits) (f
           are.sound.ascending (are.sound.apart k) (are.told.each k) (marks k));
     };
     bounded = bounded;
-    kept = kept;
+    counted = rw is counted;
     summed = rw is sum;
   }

@@ -7,6 +7,6 @@ pub mod Table
 pub mod Choice
 pub mod Bits
 pub mod Rows
-pub mod Frames
+pub mod Counts
 pub mod Fields
 pub mod Search

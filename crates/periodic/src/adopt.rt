@@ -4,12 +4,12 @@ ghost use Rattle.std.specs.Prelude.{◌≡◌, ◌<◌, ◌+◌, ◌^◌, List, 
 ghost use Rattle.sched_calls.specs.FlowSpec.{is_periodic, first_fault};
 ghost use Rattle.periodic.specs.Placement.{Placed, IsPlacement};
 ghost use Rattle.periodic.specs.Rows.{AreRowsOf};
-ghost use Rattle.periodic.specs.Frames.{AreCounts};
+ghost use Rattle.periodic.specs.Counts.{AreCounts};
 ghost use Rattle.periodic.specs.Search.{CanBeSought, IsStartOf, AreStartsIn, AreStarts};
 ghost use Rattle.periodic.specs.Table.{AreSound};
 
 use crate::bits::Bits;
-use crate::cycle::Frames;
+use crate::counts::Counts;
 use crate::search::{Wanted, wanted_of};
 use minislots::Checked;
 use sched_calls::{FlowSpec, Placement};
@@ -91,11 +91,11 @@ fn are_starts(
     true
 }
 
-// Whether the placement is lawful for this flow beside those whose minislots these rows have, and whose spots these
-// frames have, its reference being its first nominal time at or after `next`.
+// Whether the placement is lawful for this flow beside those whose minislots these rows have, and whose starts these
+// counts, its reference being its first nominal time at or after `next`.
 pub(crate) fn is_lawful(
     rows: &[Bits],
-    frames: &Frames,
+    counts: &Counts,
     config: &Checked,
     spec: &FlowSpec,
     next: u64,
@@ -106,11 +106,11 @@ pub(crate) fn is_lawful(
     requires no_fault { first_fault config.now spec.now ≡ None }
     ensures lawful { (placed : List Placed)
         → AreSound config.now placed → AreRowsOf config.now placed rows.now
-        → AreCounts config.now placed frames.now.counts
+        → AreCounts config.now placed counts.now.starts
         → result ≡ true → IsPlacement config.now placed spec.now next placement.now }
     ensures unlawful { (placed : List Placed)
         → AreSound config.now placed → AreRowsOf config.now placed rows.now
-        → AreCounts config.now placed frames.now.counts
+        → AreCounts config.now placed counts.now.starts
         → result ≡ false → IsPlacement config.now placed spec.now next placement.now → ⊥ }
 {
     let frame = u64::from(config.frame());
@@ -120,7 +120,7 @@ pub(crate) fn is_lawful(
     if placement.reference < next || placement.reference - next >= wanted.interval * frame {
         return false;
     }
-    if !frames.has_room(config, wanted, phase) {
+    if !counts.has_room(config, wanted, phase) {
         return false;
     }
     offset >= u64::from(config.req_slots())

@@ -3,7 +3,7 @@
 
 mod adopt;
 mod bits;
-mod cycle;
+mod counts;
 mod placement;
 mod row;
 mod search;

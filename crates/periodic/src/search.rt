@@ -9,7 +9,7 @@ ghost use Rattle.periodic.specs.declared.TheConstants.{MAX_STARTS};
 ghost use Rattle.periodic.specs.Placement.{Placed, NoPlacement};
 ghost use Rattle.periodic.specs.Table.{AreSound};
 ghost use Rattle.periodic.specs.Rows.{AreRowsOf, AreBounds};
-ghost use Rattle.periodic.specs.Frames.{AreCounts};
+ghost use Rattle.periodic.specs.Counts.{AreCounts};
 ghost use Rattle.periodic.specs.Choice.{IsChosen};
 ghost use Rattle.periodic.specs.Search.{CanBeSought, IsWantedOf, IsFreeStart, IsNextStart, AreFirstIn, HasStartsAt};
 ghost use Rattle.periodic.specs.Search.{IsNextOffset};
@@ -18,7 +18,7 @@ ghost use Rattle.periodic.specs.Search.{IsFirstFound, IsReference, starts_of, ch
 
 use crate::MAX_STARTS;
 use crate::bits::Bits;
-use crate::cycle::Frames;
+use crate::counts::Counts;
 use crate::row::Row;
 use crate::spots::{grants, interval, jitter, slots};
 use crate::widest::Widest;
@@ -217,7 +217,7 @@ fn learn(rows: &[Bits], widest: &mut Widest, config: &Checked, wanted: Wanted, p
 // to have no room, is turned away without a look at its bits.
 fn first_found(
     rows: &[Bits],
-    frames: &Frames,
+    counts: &Counts,
     widest: &mut Widest,
     config: &Checked,
     wanted: Wanted,
@@ -225,10 +225,10 @@ fn first_found(
     requires long { length rows.now ≡ config.now.cycle }
     requires sought { CanBeSought config.now wanted }
     requires bounded { AreBounds config.now rows.now widest.old.most }
-    ensures found { IfSome result (IsFirstFound config.now rows.now frames.now.counts wanted) }
+    ensures found { IfSome result (IsFirstFound config.now rows.now counts.now.starts wanted) }
     ensures most { IfSome result (λ found. found.row.count ≤ MAX_STARTS) }
     ensures absent { IfNone result
-        (NonePhase config.now rows.now frames.now.counts wanted wanted.interval) }
+        (NonePhase config.now rows.now counts.now.starts wanted wanted.interval) }
     ensures bounded { AreBounds config.now rows.now widest.new.most }
 {
     let mut row = Row {
@@ -239,7 +239,7 @@ fn first_found(
         if widest.lacks(config, wanted, phase) {
             continue;
         }
-        if !frames.has_room(config, wanted, phase) {
+        if !counts.has_room(config, wanted, phase) {
             continue;
         }
         if let Some(found) = found_at(rows, config, wanted, phase, &mut row) {
@@ -266,10 +266,10 @@ fn first_nominal(config: &Checked, interval: u64, next: u64, phase: u64, offset:
 }
 
 // The lawful placement of the least phase, then the least offset, then the least starts in each frame, beside the
-// flows whose minislots these rows have, and whose spots these frames have.
+// flows whose minislots these rows have, and whose starts these counts.
 pub(crate) fn choose(
     rows: &[Bits],
-    frames: &Frames,
+    counts: &Counts,
     widest: &mut Widest,
     config: &Checked,
     spec: &FlowSpec,
@@ -283,17 +283,17 @@ pub(crate) fn choose(
     requires most { next ≤ 2 ^ 61 }
     ensures chosen { (placed : List Placed)
         → AreSound config.now placed → AreRowsOf config.now placed rows.now
-        → AreCounts config.now placed frames.now.counts → IfSome result
+        → AreCounts config.now placed counts.now.starts → IfSome result
         (λ chosen. IsChosen config.now placed spec.now next (chosen_placement chosen)) }
     ensures count { IfSome result (λ chosen. chosen.row.count ≤ MAX_STARTS) }
     ensures absent { (placed : List Placed)
         → AreSound config.now placed → AreRowsOf config.now placed rows.now
-        → AreCounts config.now placed frames.now.counts
+        → AreCounts config.now placed counts.now.starts
         → IfNone result (NoPlacement config.now placed spec.now next) }
     ensures bounded { AreBounds config.now rows.now widest.new.most }
 {
     let wanted = wanted_of(config, spec);
-    let Some(found) = first_found(rows, frames, widest, config, wanted) else {
+    let Some(found) = first_found(rows, counts, widest, config, wanted) else {
         return None;
     };
     let reference = first_nominal(config, wanted.interval, next, found.phase, found.offset);

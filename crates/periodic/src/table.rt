@@ -16,10 +16,10 @@ ghost use Rattle.periodic.specs.Table.{without, AreSound, IsWithinFrame, FollowI
 use crate::MAX_SPOTS;
 use crate::adopt::is_lawful;
 use crate::bits::Bits;
-use crate::cycle::Frames;
+use crate::counts::Counts;
 use crate::placement::{PlaceFault, Spot};
 use crate::search::{Chosen, choose};
-use crate::spots::{PlacedFlow, mark};
+use crate::spots::{PlacedFlow, fill, mark, sort};
 use crate::widest::Widest;
 use minislots::Checked;
 use sched_calls::{FlowSpec, Placement, Starts};
@@ -37,8 +37,8 @@ pub struct Table {
     rows: Vec<Bits>,
     // How many free minislots stand in a row there at most.
     widest: Widest,
-    // The grants and polls that they have there.
-    frames: Frames,
+    // How many grants and polls they have there.
+    counts: Counts,
     // Their grants per interval.
     grants: usize,
 }
@@ -54,7 +54,7 @@ impl Model for Table {
     ghost view = { λ t. record { config = t.config; placed = map placed_of t.flows.items } };
 
     ghost invariant = { λ t. AreSoundFields t.config t.flows.items t.rows.items
-        t.widest.most t.frames.counts t.frames.spots.items t.grants };
+        t.widest.most t.counts.starts t.grants };
 }
 
 impl Table {
@@ -65,13 +65,12 @@ impl Table {
     {
         let cycle = config.cycle() as usize;
         let rows = vec![in alloc; Bits::free(); cycle]?;
-        let frames = Frames::open(alloc, &config)?;
         Ok(Table {
             config,
             flows: Vec::new(alloc),
             rows,
             widest: Widest::open(),
-            frames,
+            counts: Counts::open(),
             grants: 0,
         })
     }
@@ -202,7 +201,7 @@ impl Table {
             &self.flows[place],
             false,
         );
-        self.frames.remove(&self.config, &self.flows[place]);
+        self.counts.count(&self.config, &self.flows[place], false);
         self.grants -= self.flows[place].grants;
         self.flows.retain(|flow| flow.sid != sid);
     }
@@ -220,7 +219,9 @@ impl Table {
         ensures ascending { FollowInTurn (take result spots.new) }
         ensures within { AllByRecursion (IsWithinFrame self.now.config) (take result spots.new) }
     {
-        self.frames.copy(k % u64::from(self.config.cycle()), spots)
+        let count = fill(&self.flows, &self.config, k, spots);
+        sort(&mut spots[..count]);
+        count
     }
 
     // The placement that is taken for these parameters from `next` on, if there is one.
@@ -237,7 +238,7 @@ impl Table {
     {
         choose(
             &self.rows,
-            &self.frames,
+            &self.counts,
             &mut self.widest,
             &self.config,
             spec,
@@ -256,7 +257,7 @@ impl Table {
     {
         is_lawful(
             &self.rows,
-            &self.frames,
+            &self.counts,
             &self.config,
             spec,
             next,
@@ -304,7 +305,7 @@ impl Table {
             &self.flows[place],
             true,
         );
-        self.frames.add(&self.config, &self.flows[place]);
+        self.counts.count(&self.config, &self.flows[place], true);
         self.grants += grants;
         Ok(Placement {
             reference,

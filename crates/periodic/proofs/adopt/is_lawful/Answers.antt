@@ -8,7 +8,7 @@ use Rattle.periodic.specs.declared.bits.Bits.{Bits}
 use Rattle.periodic.specs.declared.search.Wanted.{Wanted}
 use Rattle.periodic.specs.Placement.{Placed, phase_of, offset_of, IsPlacement}
 use Rattle.periodic.specs.Rows.{AreRowsOf}
-use Rattle.periodic.specs.Frames.{AreCounts}
+use Rattle.periodic.specs.Counts.{AreCounts}
 use Rattle.periodic.specs.Search.{CanBeSought, IsWantedOf, AreStarts, HasRoomAt}
 use Rattle.periodic.specs.Table.{AreSound}
 use Rattle.periodic.proofs.Adopting.{placement-judged, judged-placement}
@@ -30,7 +30,7 @@ returns-then-offset-from-clause-lawful c = λ placed sound are counted yes.
     let at : phase_of config spec p ≡ phase = rw (frame, wanted.interval) refl in
     let from : offset_of config p ≡ offset = rw frame refl in
     let each = rw c.as_slice.ensures at (c.are_starts.ensures.lawful yes) in
-    placement-judged config placed rows c.args.frames.now.counts spec p c.args.next w c.wanted_of-wanted.ensures.lawful
+    placement-judged config placed rows c.args.counts.now.starts spec p c.args.next w c.wanted_of-wanted.ensures.lawful
     sound are counted sought wanted phase
     offset at from lt (omega arith) (subst (λ n. p.reference - c.args.next < w.interval * n) frame (omega arith))
     (omega arith) (c.if-not-has_room.ensures.room refl) each
@@ -54,7 +54,7 @@ judged config placed rows counts spec p next w frame same lawful sound are count
 pub returns-then-not-has_room-clause-unlawful : goal.returns-then-not-has_room-clause-unlawful
 returns-then-not-has_room-clause-unlawful c = λ placed sound are counted no is.
     let wanted = c.wanted_of-wanted.ensures in
-    let all = judged c.args.config.now placed c.args.rows.now c.args.frames.now.counts c.args.spec.now
+    let all = judged c.args.config.now placed c.args.rows.now c.args.counts.now.starts c.args.spec.now
     c.args.placement.now c.args.next c.wanted_of-wanted.result c.from-frame.result
     (c.from-frame.ensures ∙ c.frame.ensures.value) wanted.lawful sound are counted wanted.sought wanted.value is in
     c.if-not-has_room.ensures.full refl all.0
@@ -62,7 +62,7 @@ returns-then-not-has_room-clause-unlawful c = λ placed sound are counted no is.
 pub returns-then-offset-from-clause-unlawful : goal.returns-then-offset-from-clause-unlawful
 returns-then-offset-from-clause-unlawful c = λ placed sound are counted no is.
     let wanted = c.wanted_of-wanted.ensures in
-    let all = judged c.args.config.now placed c.args.rows.now c.args.frames.now.counts c.args.spec.now
+    let all = judged c.args.config.now placed c.args.rows.now c.args.counts.now.starts c.args.spec.now
     c.args.placement.now c.args.next c.wanted_of-wanted.result c.from-frame.result
     (c.from-frame.ensures ∙ c.frame.ensures.value) wanted.lawful sound are counted wanted.sought wanted.value is in
     c.are_starts.ensures.unlawful no (rw c.as_slice.ensures all.1)

@@ -13,7 +13,7 @@ returns-in-Some-clause-found c = record {
 
 pub loop-phase-preserved : goal.loop-phase-preserved
 loop-phase-preserved c = record {
-  none = none-more c.args.config.now c.args.rows.now c.args.frames.now.counts c.args.wanted c.loop-phase.phase
+  none = none-more c.args.config.now c.args.rows.now c.args.counts.now.starts c.args.wanted c.loop-phase.phase
       c.loop-phase.invariant.none (λ room. c.in_default.ensures.absent);
   bounded = c.learn.ensures;
 }
@@ -24,7 +24,7 @@ loop-phase-preserved-then-lacks c =
     let inv = c.loop-phase.invariant in
     let full = c.if-lacks.ensures refl in
     record {
-      none = none-more config c.args.rows.now c.args.frames.now.counts c.args.wanted c.loop-phase.phase inv.none
+      none = none-more config c.args.rows.now c.args.counts.now.starts c.args.wanted c.loop-phase.phase inv.none
           (λ room. turned-away config c.args.rows.now c.loop-phase.widest.most c.args.wanted c.loop-phase.phase full.0
           inv.bounded c.requires.sought (omega arith) full.1 full.2);
       bounded = inv.bounded;
@@ -34,7 +34,7 @@ pub loop-phase-preserved-then-not-has_room : goal.loop-phase-preserved-then-not-
 loop-phase-preserved-then-not-has_room c =
     let inv = c.loop-phase.invariant in
     record {
-      none = none-more c.args.config.now c.args.rows.now c.args.frames.now.counts c.args.wanted c.loop-phase.phase
+      none = none-more c.args.config.now c.args.rows.now c.args.counts.now.starts c.args.wanted c.loop-phase.phase
           inv.none (λ room. absurd (c.if-not-has_room.ensures.full refl room));
       bounded = inv.bounded;
     }

@@ -5,6 +5,6 @@ use Rattle.periodic.proofs.search.first_found.Given as goal
 
 abbrev pub invariant-loop-phase : goal.invariant-loop-phase
 invariant-loop-phase l = record {
-  none : NonePhase l.config l.rows l.frames.counts l.wanted l.phase;
+  none : NonePhase l.config l.rows l.counts.starts l.wanted l.phase;
   bounded : AreBounds l.config l.rows l.widest.most;
 }

@@ -1,6 +1,7 @@
 -- A spot is written for each start of the frame.
-use Rattle.std.proofs.Common.{◌≡◌, ◌∙◌, sym, ap, ◌<◌, ◌++◌, length, map, take, get_or, arith}
-use Rattle.std.proofs.lemmas.List.{take_all, length-set}
+use Rattle.std.proofs.Common.{◌≡◌, ◌∙◌, sym, ap, ◌+◌, ◌<◌, ◌++◌, length, map, take, get_or, arith}
+use Rattle.std.proofs.lemmas.Grind.{drop_more_same}
+use Rattle.std.proofs.lemmas.List.{drop-set-lt, take_all, length-set}
 use Rattle.periodic.specs.Placement.{spot_at, starts_in}
 use Rattle.periodic.specs.Fields.{placed_of}
 use Rattle.periodic.proofs.Fields.{put-more, spots-here, count-here}
@@ -60,6 +61,9 @@ loop-start-preserved c = record {
         most_spots,
       ))
       (c.loop-start.invariant.spots config sound within) s;
+  rest =
+      drop-set-lt (c.loop-start.next + 1) c.loop-start.spots c.loop-start.next c.spot.result (omega arith)
+      ∙ drop_more_same c.loop-start.spots c.args.spots.now c.loop-start.next c.loop-start.invariant.rest;
 }
 
 pub returns-clause-spots : goal.returns-clause-spots
@@ -72,8 +76,3 @@ returns-clause-spots c = λ config sound within.
     c.loop-start.invariant.spots config sound within
     ∙ ap (λ xs. take c.args.count c.args.spots.now ++ xs)
     (ap (map (spot_at config (placed_of f))) all ∙ sym (spots-here config c.args.place (placed_of f) within))
-
-pub returns-clause-exact : goal.returns-clause-exact
-returns-clause-exact c = λ config sound within.
-    let here = ap length (c.starts-start-items.ensures config sound within) in
-    omega (arith, here, count-here config c.args.place (placed_of c.args.self.now) within, c.loop-start.invariant.count)

@@ -1,5 +1,5 @@
 -- The spots at the starts gone through are written.
-use Rattle.std.proofs.Common.{◌≡◌, ◌+◌, ◌<◌, ◌++◌, length, map, take}
+use Rattle.std.proofs.Common.{◌≡◌, ◌+◌, ◌<◌, ◌++◌, length, map, take, drop}
 use Rattle.minislots.specs.declared.config.Config.{Config}
 use Rattle.periodic.specs.declared.TheConstants.{MAX_SPOTS}
 use Rattle.periodic.specs.Placement.{spot_at, starts_in}
@@ -13,4 +13,5 @@ invariant-loop-start l = record {
   spots : (c : Config) → IsSoundFlow c l.self → l.place < c.cycle
       → take l.next l.spots ≡ take l.count l.fn.spots
       ++ map (spot_at c (placed_of l.self)) (take l.start-index (starts_in c l.self.spec l.self.placement l.place));
+  rest : drop l.next l.spots ≡ drop l.next l.fn.spots;
 }

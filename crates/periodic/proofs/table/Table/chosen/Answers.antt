@@ -1,7 +1,6 @@
 -- The rows tell of the placed flows, and the bounds are such.
 use Rattle.std.proofs.Common.{map}
 use Rattle.periodic.specs.Fields.{placed_of}
-use Rattle.periodic.proofs.Keeping.{counts-kept}
 use Rattle.periodic.proofs.table.Table.chosen.Goals as goal
 
 pub choose-requires-clause-bounded : goal.choose-requires-clause-bounded
@@ -15,7 +14,7 @@ invariant_of-self c =
       times = is.times;
       told = is.told;
       bounded = rw c.deref.ensures.value at c.choose.ensures.bounded;
-      kept = is.kept;
+      counted = is.counted;
       summed = is.summed;
     }
 
@@ -23,14 +22,10 @@ pub returns-clause-chosen : goal.returns-clause-chosen
 returns-clause-chosen c =
     let inside = c.self.inside in
     rw (← c.self.view_is) (c.choose.ensures.chosen (map placed_of inside.flows.items) c.self.invariant.sound
-    (rw c.deref.ensures.value c.self.invariant.told)
-    (counts-kept inside.config (map placed_of inside.flows.items) inside.frames.counts inside.frames.spots.items
-    c.self.invariant.kept))
+    (rw c.deref.ensures.value c.self.invariant.told) c.self.invariant.counted)
 
 pub returns-clause-absent : goal.returns-clause-absent
 returns-clause-absent c =
     let inside = c.self.inside in
     rw (← c.self.view_is) (c.choose.ensures.absent (map placed_of inside.flows.items) c.self.invariant.sound
-    (rw c.deref.ensures.value c.self.invariant.told)
-    (counts-kept inside.config (map placed_of inside.flows.items) inside.frames.counts inside.frames.spots.items
-    c.self.invariant.kept))
+    (rw c.deref.ensures.value c.self.invariant.told) c.self.invariant.counted)

@@ -12,8 +12,8 @@ invariant_of-result c =
       told = rw (rows, c.new.ensures.items) (none-told c.args.config c.free.result c.cycle-cycle.result
           c.cycle-cycle.ensures.value
           (omega (arith, c.cycle-cycle.ensures.positive, c.cycle-cycle.ensures.value)) c.free.ensures);
-      bounded = c.open-2.ensures c.args.config c.in_ok-rows.rows.items c.cycle-cycle.ensures.lawful;
-      kept = rw c.new.ensures.items c.in_ok-frames.ensures;
+      bounded = c.open.ensures c.args.config c.in_ok-rows.rows.items c.cycle-cycle.ensures.lawful;
+      counted = rw c.new.ensures.items (c.open-2.ensures c.args.config c.cycle-cycle.ensures.lawful);
       summed = search rules;
     }
 

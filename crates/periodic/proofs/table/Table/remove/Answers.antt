@@ -1,6 +1,6 @@
 -- The flows of other SIDs are left, and the minislots of this one are free.
-use Rattle.std.proofs.Common.{◌≡◌, ◌-◌, refl, sym, ◌∙◌, ap, subst, find, Bool, map, filter, not, ◌==◌, position}
-use Rattle.std.proofs.Common.{length, Some, None, arith, rules}
+use Rattle.std.proofs.Common.{◌≡◌, ◌-◌, refl, sym, ◌∙◌, ap, Bool, map, filter, not, ◌==◌, position, length, Some}
+use Rattle.std.proofs.Common.{None, arith, rules}
 use Rattle.std.proofs.lemmas.List.{take_at}
 use Rattle.std.proofs.lemmas.Fn.{filter_same}
 use Rattle.std.proofs.lemmas.List.Quantifiers.{position-Some}
@@ -8,12 +8,11 @@ use Rattle.std.specs.List.{AllByRecursion}
 use Rattle.flow_book.proofs.Removal.{map-filter, all-filter}
 use Rattle.periodic.specs.declared.spots.PlacedFlow.{PlacedFlow}
 use Rattle.periodic.specs.Placement.{Placed}
-use Rattle.periodic.specs.Frames.{AreFramesOf}
 use Rattle.periodic.specs.Table.{without}
 use Rattle.periodic.specs.Fields.{placed_of, KeepsTimes}
 use Rattle.periodic.proofs.Fields.{sound-flow}
-use Rattle.periodic.proofs.Standing.{flow-found, sid-found, has-place, marked-for, fields-without}
-use Rattle.periodic.proofs.Summed.{grants-found}
+use Rattle.periodic.proofs.Standing.{flow-found, has-place, marked-for, fields-without}
+use Rattle.periodic.proofs.Summed.{grants-found, may-uncount, counts-without}
 use Rattle.periodic.proofs.table.Table.remove.Goals as goal
 
 kept : (c : goal.After-retain) → c.retain.new.self.items
@@ -50,8 +49,8 @@ mark-requires-clause-sound c =
     sound-flow c.self.inside.config items c.in-Some.place c.index.result.now within c.index.ensures
     c.self.invariant.sound.each c.self.invariant.times
 
-pub remove-requires-clause-sound : goal.remove-requires-clause-sound
-remove-requires-clause-sound c =
+pub count-requires-clause-sound : goal.count-requires-clause-sound
+count-requires-clause-sound c =
     let items = c.self.inside.flows.items in
     let p : PlacedFlow → Bool = λ f. f.sid == c.args.sid in
     let stands : position p items ≡ Some c.in-Some.place =
@@ -60,9 +59,15 @@ remove-requires-clause-sound c =
     sound-flow c.self.inside.config items c.in-Some.place c.index-2.result.now within c.index-2.ensures
     c.self.invariant.sound.each c.self.invariant.times
 
-pub remove-requires-clause-few : goal.remove-requires-clause-few
-remove-requires-clause-few c =
-    (map placed_of c.self.inside.flows.items, c.self.invariant.kept, c.self.invariant.sound.few)
+pub count-requires-clause-may : goal.count-requires-clause-may
+count-requires-clause-may c =
+    let inside = c.self.inside in
+    let stands : position (λ (f : PlacedFlow). f.sid == c.args.sid) inside.flows.items ≡ Some c.in-Some.place =
+    rw c.deref.ensures.value at (sym c.place_of.ensures ∙ c.in-Some.is) in
+    let flow = c.index-2.result.now in
+    may-uncount inside.config c.args.sid (placed_of flow) (map placed_of inside.flows.items) inside.counts.starts
+    c.self.invariant.counted (flow-found c.args.sid inside.flows.items c.in-Some.place flow stands c.index-2.ensures)
+    c.self.invariant.sound.ascending
 
 pub overflow_sub-self : goal.overflow_sub-self
 overflow_sub-self c =
@@ -79,26 +84,20 @@ invariant_of-self c =
     let flow = c.index.result.now in
     let stands : position (λ (f : PlacedFlow). f.sid == c.args.sid) inside.flows.items ≡ Some c.in-Some.place =
     rw c.deref.ensures.value at (sym c.place_of.ensures ∙ c.in-Some.is) in
-    let gone = c.index-2.result.now in
-    let same = sid-found c.args.sid inside.flows.items c.in-Some.place gone stands c.index-2.ensures in
     let long : length c.mark.new.rows ≡ inside.rows.len =
     omega (arith, c.mark.ensures.long, c.self.invariant.told.long, inside.rows.ok.0) in
     rw (take_at c.mark.new.rows _ inside.rows.len long)
     (fields-without inside.config inside.flows.items c.retain.new.self.items inside.rows.items c.mark.new.rows
-    (placed_of flow) inside.widest.most c.mark.new.widest.most inside.frames.counts c.remove.new.self.counts
-    inside.frames.spots.items c.remove.new.self.spots.items inside.grants
+    (placed_of flow) inside.widest.most c.mark.new.widest.most inside.counts.starts c.count.new.self.starts inside.grants
     (inside.grants - c.index-3.result.now.grants) c.self.invariant c.mark.ensures.long c.mark.ensures.bounded
     c.args.sid (left c)
     (flow-found c.args.sid inside.flows.items c.in-Some.place flow stands c.index.ensures) (times c)
     (λ k. marked-for inside.config k 0 flow (placed_of flow) c.deref_mut.result.now inside.rows.items c.mark.new.rows
     refl c.deref_mut.ensures.value (c.mark.ensures.marked k))
-    (subst (λ fs. AreFramesOf inside.config fs c.remove.new.self.counts c.remove.new.self.spots.items)
-    (ap (λ n. without n (map placed_of inside.flows.items)) same ∙ sym (left c))
-    (c.remove.ensures (map placed_of inside.flows.items) c.self.invariant.kept (
-      subst (λ n. find (λ (g : Placed). g.sid == n) (map placed_of inside.flows.items) ≡ Some (placed_of gone))
-          (sym same) (flow-found c.args.sid inside.flows.items c.in-Some.place gone stands c.index-2.ensures),
-      c.self.invariant.sound.ascending,
-    )))
+    (counts-without inside.config c.args.sid (placed_of c.index-2.result.now) (map placed_of inside.flows.items)
+    inside.counts.starts c.self.invariant.counted
+    (flow-found c.args.sid inside.flows.items c.in-Some.place c.index-2.result.now stands c.index-2.ensures)
+    c.self.invariant.sound.ascending c.count.new.self.starts c.count.ensures)
     (let sum = grants-found inside.config c.args.sid inside.flows.items c.in-Some.place c.index-3.result.now stands
     c.index-3.ensures c.self.invariant.sound c.self.invariant.times in omega (arith, sum, c.self.invariant.summed)))
 

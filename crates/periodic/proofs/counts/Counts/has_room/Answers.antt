@@ -2,7 +2,7 @@
 use Rattle.std.proofs.Common.{◌≡◌, ◌∙◌, subst, ◌/◌, ◌<◌, arith}
 use Rattle.minislots.proofs.Bounds.{bounds_of}
 use Rattle.periodic.proofs.Groups.{frame-within}
-use Rattle.periodic.proofs.cycle.Frames.has_room.Goals as goal
+use Rattle.periodic.proofs.counts.Counts.has_room.Goals as goal
 
 pub bounds-self-place : goal.bounds-self-place
 bounds-self-place c =
