@@ -13,6 +13,11 @@ def shuffled(draw, members):
     return {name: members[name] for name in names}
 
 
+def best_effort(priority):
+    """A best effort flow without a ceiling."""
+    return {"kind": "best_effort", "priority": priority, "rate": 0, "burst": 0}
+
+
 class Drawing:
     """A script that is drawn call by call, where the plain scheduler stands."""
 
