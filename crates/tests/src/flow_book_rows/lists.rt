@@ -59,12 +59,15 @@ fn remove(twins: &mut Twins, sid: u16, now: u64)
     twins.slow.retain(|flow| flow.sid != sid);
 }
 
-// Asks for the flow of this SID, where there is one.
+// Asks for the flow of this SID, where there is one that takes requests.
 fn ask(twins: &mut Twins, sid: u16, bytes: u32, now: u64)
     requires { AllByRecursion (HasStartedBy now) twins.old.book.flows }
     ensures { AllByRecursion (HasStartedBy now) twins.new.book.flows }
 {
-    if twins.book.flow(sid).is_none() || twins.book.asked(sid) > u64::from(u32::MAX) {
+    let Some(spec) = twins.book.flow(sid) else {
+        return;
+    };
+    if !spec.takes_requests() || twins.book.asked(sid) > u64::from(u32::MAX) {
         return;
     }
     twins.book.ask(sid, bytes, now);
