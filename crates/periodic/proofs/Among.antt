@@ -10,7 +10,7 @@ use Rattle.periodic.specs.declared.spots.PlacedFlow.{PlacedFlow}
 use Rattle.periodic.specs.Placement.{Placed}
 use Rattle.periodic.specs.Table.{IsPlaced, IsNotPlaced, with_placed, without, Ascend}
 use Rattle.periodic.specs.Fields.{placed_of}
-use Rattle.periodic.specs.Groups.{flows_in, in_order, placed_in, HasOneMore}
+use Rattle.periodic.specs.Groups.{flows_in, in_order, HasOneMore}
 use Rattle.periodic.proofs.Joined.{all-left}
 use Rattle.periodic.proofs.InOrder.{HaveNot, in_order-with, all-in_order, others-differ, not-found, found-none}
 use Rattle.periodic.proofs.InOrder.{found-with, without-with}

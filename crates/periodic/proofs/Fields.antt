@@ -1,20 +1,11 @@
 -- The fields of placed flows, one after another.
 use Rattle.std.proofs.Common.{◌≡◌, ◌∙◌, ap, sym, ℕ, ◌+◌, ◌<◌, ◌≤◌, List, [], ◌∷◌, ◌++◌, length, get_or, take, drop}
 use Rattle.std.proofs.Common.{map, set, ◌-◌, append_assoc, arith}
-use Rattle.std.specs.List.{AllByRecursion}
-use Rattle.std.proofs.lemmas.Grind.{flat_map-append}
-use Rattle.std.proofs.lemmas.List.{append-nil, length-append, length-map, map-append, take-append-drop, take_more}
+use Rattle.std.proofs.lemmas.List.{length-map, map-append, take_more}
 use Rattle.std.proofs.lemmas.List.{take_more_set, drop-drop}
 use Rattle.std.proofs.Math.Nat.{mod-eq_of_lt}
-use Rattle.std.proofs.lemmas.List.Elements.{All-from_recursion}
 use Rattle.minislots.specs.declared.config.Config.{Config}
-use Rattle.flow_book.proofs.Steps.{all-item, taken-item}
-use Rattle.periodic.specs.declared.TheConstants.{MAX_SPOTS}
-use Rattle.periodic.specs.declared.bits.Bits.{Bits}
-use Rattle.periodic.specs.declared.spots.PlacedFlow.{PlacedFlow}
-use Rattle.periodic.specs.Placement.{Placed, starts_in, spot_at, spots_of, spots_in}
-use Rattle.periodic.specs.Table.{IsSoundPlaced}
-use Rattle.periodic.specs.Fields.{placed_of, KeepsTimes, IsSoundFlow}
+use Rattle.periodic.specs.Placement.{Placed, starts_in, spot_at, spots_of}
 
 -- one spot more is written behind those before it
 pub put-more : {X : Type 0} (h : ℕ → X) (starts : List ℕ) (i : ℕ) (front spots : List X) (next : ℕ) (s : X)

@@ -4,7 +4,6 @@ use Rattle.std.proofs.Common.{length, map, get_or, set, take, position, None, So
 use Rattle.std.specs.List.{AllByRecursion, flat_map, position_or_len}
 use Rattle.std.proofs.lemmas.Bool.Decides.{nat_tests}
 use Rattle.std.proofs.lemmas.Grind.{flat_map-append, common_steps}
-
 use Rattle.std.proofs.lemmas.List.{map-append, take_more, get_or_default}
 use Rattle.std.proofs.lemmas.List.Elements.{All-from_recursion, recursion_from_All}
 use Rattle.std.proofs.lemmas.List.Quantifiers.{position-Some}
@@ -14,11 +13,10 @@ use Rattle.flow_book.proofs.Changes.{all-set}
 use Rattle.periodic.specs.declared.group.Group.{Group}
 use Rattle.periodic.specs.declared.placement.Spot.{Spot}
 use Rattle.periodic.specs.declared.spots.PlacedFlow.{PlacedFlow}
-use Rattle.periodic.specs.Placement.{Placed, starts_in, spot_at, spots_of, spots_in}
+use Rattle.periodic.specs.Placement.{starts_in, spot_at, spots_of, spots_in}
 use Rattle.periodic.specs.Fields.{placed_of}
 use Rattle.periodic.specs.Groups.{flows_in, IsSoundMember, IsSoundGroup, AreSoundGroups, IsFlowAt}
 use Rattle.periodic.proofs.Counting.{no-starts}
-use Rattle.periodic.proofs.Frames.{spots_of-place}
 use Rattle.periodic.proofs.Joined.{all-append}
 
 -- a flow of a sound group is sound

@@ -198,13 +198,7 @@ impl Table {
         let Some(flow) = take_out(&mut self.groups, sid) else {
             return;
         };
-        mark(
-            &mut self.rows,
-            &mut self.widest,
-            &self.config,
-            &flow,
-            false,
-        );
+        mark(&mut self.rows, &mut self.widest, &self.config, &flow, false);
         self.counts.count(&self.config, &flow, false);
         self.grants -= flow.grants;
         self.len -= 1;

@@ -1,10 +1,9 @@
 -- Each group's spots are written behind those before it.
-use Rattle.std.proofs.Common.{◌≡◌, ◌∙◌, sym, ap, ℕ, ◌+◌, ◌%◌, ◌<◌, ◌≤◌, ◌++◌, [], ◌∷◌, List, length, take, map, get_or, arith}
+use Rattle.std.proofs.Common.{◌≡◌, ◌∙◌, sym, ap, ℕ, ◌+◌, ◌%◌, ◌<◌, ◌++◌, [], ◌∷◌, length, take, map, arith}
 use Rattle.std.specs.List.{flat_map}
 use Rattle.std.proofs.lemmas.List.{flat_map_more, length-take-le, take_all, take_more}
 use Rattle.std.proofs.lemmas.List.Folds.{length-flat_map-take}
 use Rattle.periodic.specs.declared.group.Group.{Group}
-use Rattle.periodic.specs.declared.placement.Spot.{Spot}
 use Rattle.periodic.specs.Fields.{placed_of}
 use Rattle.periodic.proofs.Fields.{drop-later}
 use Rattle.periodic.proofs.Frames.{spots_in-place}
@@ -29,18 +28,24 @@ put-count-requires c =
     let place = within k c.from.result c.cycle.result config.cycle c.from.ensures c.cycle.ensures.value some in
     let here : spots_here config (k % c.from.result) g ≡ spots_here config k g =
     ap (λ n. spots_here config n g) place.0 ∙ spots_in-place config k (map placed_of g.flows.items) in
-    record { sound = (config, group-at config groups i g c.loop-group-test.true c.group-item.is c.requires.sound,
-    place.1, omega (
-      arith,
-      c.requires.few,
-      ap length (spots-grouped config k groups),
-      ap length c.loop-group.invariant.spots,
-      length-flat_map-take (spots_here config k) groups i g c.loop-group-test.true,
-      ap (λ h. length (spots_here config k h)) c.group-item.is,
-      ap length here,
-      length-take-le c.loop-group.count c.loop-group.spots
-          (omega (arith, c.loop-group.invariant.most, c.loop-group.invariant.long)),
-    )) }
+    record {
+      sound = (
+        config,
+        group-at config groups i g c.loop-group-test.true c.group-item.is c.requires.sound,
+        place.1,
+        omega (
+          arith,
+          c.requires.few,
+          ap length (spots-grouped config k groups),
+          ap length c.loop-group.invariant.spots,
+          length-flat_map-take (spots_here config k) groups i g c.loop-group-test.true,
+          ap (λ h. length (spots_here config k h)) c.group-item.is,
+          ap length here,
+          length-take-le c.loop-group.count c.loop-group.spots
+              (omega (arith, c.loop-group.invariant.most, c.loop-group.invariant.long)),
+        ),
+      );
+    }
 
 pub loop-group-preserved : goal.loop-group-preserved
 loop-group-preserved c =

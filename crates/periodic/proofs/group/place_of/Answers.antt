@@ -1,10 +1,5 @@
 -- The flow's group and its place there, or none has the SID.
-use Rattle.std.proofs.Common.{◌≡◌, ◌∙◌, sym, subst, ap, Bool, true, ◌==◌, ◌<◌, ◌∷◌, [], ◌++◌, length, position, get_or, take, Some, arith}
-use Rattle.std.proofs.lemmas.Bool.Decides.{nat_tests}
-use Rattle.std.proofs.lemmas.List.{take_all}
-use Rattle.std.proofs.lemmas.List.Quantifiers.{position-Some}
-use Rattle.periodic.specs.declared.group.Group.{Group}
-use Rattle.periodic.specs.declared.spots.PlacedFlow.{PlacedFlow}
+use Rattle.std.proofs.Common.{◌∙◌, sym}
 use Rattle.periodic.proofs.Grouped.{all-more, none-passes, flow-stands}
 use Rattle.periodic.proofs.group.place_of.Goals as goal
 

@@ -1,11 +1,11 @@
 -- Each flow's spots are written behind those before it.
-use Rattle.std.proofs.Common.{◌≡◌, ◌∙◌, sym, ap, ◌+◌, ◌<◌, ◌≤◌, ◌++◌, [], ◌∷◌, List, length, take, map, get_or, arith}
+use Rattle.std.proofs.Common.{◌≡◌, ◌∙◌, sym, ap, ◌+◌, ◌++◌, [], ◌∷◌, List, length, take, arith}
 use Rattle.std.specs.List.{flat_map}
 use Rattle.std.proofs.lemmas.List.{flat_map_more, length-append, length-take-le, take_all, take_more}
 use Rattle.std.proofs.lemmas.List.Folds.{flat_map-map, length-flat_map-take}
 use Rattle.periodic.specs.declared.placement.Spot.{Spot}
 use Rattle.periodic.specs.declared.spots.PlacedFlow.{PlacedFlow}
-use Rattle.periodic.specs.Placement.{spots_of, spots_in}
+use Rattle.periodic.specs.Placement.{spots_of}
 use Rattle.periodic.specs.Fields.{placed_of}
 use Rattle.periodic.proofs.Fields.{drop-later}
 use Rattle.periodic.proofs.Grouped.{member-at}
@@ -23,24 +23,25 @@ put-next-requires-clause-sound c =
     let front = take c.args.count c.args.spots.now in
     let written : length (take c.loop-flow.next c.loop-flow.spots)
     ≡ length (front ++ flat_map own (take i g.flows.items)) =
-    ap length (c.loop-flow.invariant.spots config sound within) in
-    (config,
-    (member-at config g given i f same c.loop-flow-test.true c.flow-item.is sound).flow,
-    within,
-    omega (
-      arith,
-      few,
-      written,
-      length-take-le c.args.count c.args.spots.now (omega (arith, few)),
-      length-flat_map-take own given i f c.loop-flow-test.true,
-      ap (λ e. length (own e)) c.flow-item.is,
-      ap (λ es. length (flat_map own es)) same,
-      ap (λ es. length (flat_map own (take i es))) same,
-      length-append front (flat_map own (take i g.flows.items)),
-      length-take-le c.loop-flow.next c.loop-flow.spots
-          (omega (arith, c.loop-flow.invariant.most, c.loop-flow.invariant.long)),
-      ap length (flat_map-map (spots_of config c.args.place) placed_of g.flows.items),
-    ))
+    ap length (c.loop-flow.invariant.spots config sound within) in (
+      config,
+      (member-at config g given i f same c.loop-flow-test.true c.flow-item.is sound).flow,
+      within,
+      omega (
+        arith,
+        few,
+        written,
+        length-take-le c.args.count c.args.spots.now (omega (arith, few)),
+        length-flat_map-take own given i f c.loop-flow-test.true,
+        ap (λ e. length (own e)) c.flow-item.is,
+        ap (λ es. length (flat_map own es)) same,
+        ap (λ es. length (flat_map own (take i es))) same,
+        length-append front (flat_map own (take i g.flows.items)),
+        length-take-le c.loop-flow.next c.loop-flow.spots
+            (omega (arith, c.loop-flow.invariant.most, c.loop-flow.invariant.long)),
+        ap length (flat_map-map (spots_of config c.args.place) placed_of g.flows.items),
+      ),
+    )
 
 pub loop-flow-preserved : goal.loop-flow-preserved
 loop-flow-preserved c = record {

@@ -1,10 +1,10 @@
 -- The new flow stands in order of SID, its minislots are taken, and the table is sound.
-use Rattle.std.proofs.Common.{◌≡◌, refl, ◌∙◌, sym, ap, subst, ◌+◌, ◌<◌, true, map, length, get_or, arith}
+use Rattle.std.proofs.Common.{◌≡◌, refl, ◌∙◌, sym, ap, subst, ◌+◌, true, map, length, get_or, arith}
 use Rattle.std.proofs.lemmas.List.{take_at}
 use Rattle.sched_calls.specs.FlowSpec.{grants_of}
 use Rattle.periodic.specs.Placement.{Placed, spots_of}
 use Rattle.periodic.specs.Counts.{AreCounted, MayCount}
-use Rattle.periodic.specs.Table.{placed_grants, IsNotPlaced, placed_at, with_placed}
+use Rattle.periodic.specs.Table.{IsNotPlaced, placed_at, with_placed}
 use Rattle.periodic.specs.Fields.{placed_of, placement_at, IsSoundFlow}
 use Rattle.periodic.specs.Groups.{flows_in, in_order, placed_in}
 use Rattle.periodic.proofs.Adding.{grants-with, new-sound, sound-with}

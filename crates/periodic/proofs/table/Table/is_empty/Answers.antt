@@ -1,5 +1,5 @@
 -- The flows are counted.
-use Rattle.std.proofs.Common.{◌≡◌, sym, ap, ◌∙◌, ◌==◌, length, rules}
+use Rattle.std.proofs.Common.{ap, ◌∙◌, length, rules}
 use Rattle.periodic.specs.Table.{TableView}
 use Rattle.periodic.proofs.table.Table.is_empty.Goals as goal
 

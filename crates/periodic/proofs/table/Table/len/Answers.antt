@@ -1,5 +1,5 @@
 -- The flows are counted.
-use Rattle.std.proofs.Common.{◌≡◌, sym, ap, ◌∙◌, length}
+use Rattle.std.proofs.Common.{ap, ◌∙◌, length}
 use Rattle.periodic.specs.Table.{TableView}
 use Rattle.periodic.proofs.table.Table.len.Goals as goal
 

@@ -1,5 +1,5 @@
 -- The flows of other SIDs are left, and the minislots of this one are free.
-use Rattle.std.proofs.Common.{◌≡◌, ◌-◌, refl, subst, ◌==◌, find, length, map, Some, arith}
+use Rattle.std.proofs.Common.{◌≡◌, ◌-◌, refl, subst, ◌==◌, find, length, Some, arith}
 use Rattle.std.proofs.lemmas.List.{take_at}
 use Rattle.periodic.specs.Table.{without}
 use Rattle.periodic.specs.Fields.{placed_of}
