@@ -1,6 +1,7 @@
 -- One flow among the flows of groups: put into one of them, and taken out of it.
 use Rattle.std.proofs.Common.{◌≡◌, ◌≢◌, refl, sym, ap, ◌∙◌, ℕ, zero, suc, ◌+◌, ◌<◌, Bool, true, false, ◌==◌}
-use Rattle.std.proofs.Common.{List, [], ◌∷◌, ◌++◌, append_assoc, length, map, get_or, set, take, drop, find, Some, arith}
+use Rattle.std.proofs.Common.{List, [], ◌∷◌, ◌++◌, append_assoc, length, map, get_or, set, take, drop, find, Some}
+use Rattle.std.proofs.Common.{arith}
 use Rattle.std.specs.List.{AllByRecursion, remove}
 use Rattle.std.proofs.lemmas.Bool.{eq-eqb}
 use Rattle.std.proofs.lemmas.List.{map-append, take-append-drop, drop_more}
@@ -132,11 +133,11 @@ module _ (f : PlacedFlow) (others flows : List PlacedFlow) (one : HasOneMore f o
       all-order (λ g. g.sid ≢ f.sid) (map placed_of others) (rw others-are differ.1)
 
   -- where the SIDs ascend, the flow is found, and without it the others are left
-  pub order-found : Ascend (in_order (map placed_of flows))
-      → find (λ g. g.sid == f.sid) (in_order (map placed_of flows)) ≡ Some (placed_of f)
-  order-found up =
+  pub order-found : (sid : ℕ) → f.sid ≡ sid → Ascend (in_order (map placed_of flows))
+      → find (λ g. g.sid == sid) (in_order (map placed_of flows)) ≡ Some (placed_of f)
+  order-found sid is up =
       let differ = others-differ (placed_of f) front back (rw flows-are at up) in
-      rw (put-among differ.0)
+      rw (put-among differ.0, ← is)
       (found-with f.sid (placed_of f) (in_order (map placed_of others)) refl (others-not up))
 
   -- there is one more
@@ -146,11 +147,11 @@ module _ (f : PlacedFlow) (others flows : List PlacedFlow) (one : HasOneMore f o
       let differ = others-differ (placed_of f) front back (rw flows-are at up) in
       ap length (put-among differ.0) ∙ length-put_in (λ g. g.sid) (placed_of f) (in_order (map placed_of others))
 
-  pub order-without : Ascend (in_order (map placed_of flows))
-      → in_order (map placed_of others) ≡ without f.sid (in_order (map placed_of flows))
-  order-without up =
+  pub order-without : (sid : ℕ) → f.sid ≡ sid → Ascend (in_order (map placed_of flows))
+      → in_order (map placed_of others) ≡ without sid (in_order (map placed_of flows))
+  order-without sid is up =
       let differ = others-differ (placed_of f) front back (rw flows-are at up) in
-      rw (put-among differ.0)
+      rw (put-among differ.0, ← is)
       (sym (without-with f.sid (placed_of f) (in_order (map placed_of others)) refl (others-not up)))
 
 -- where no flow has the SID none is placed

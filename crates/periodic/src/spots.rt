@@ -162,8 +162,8 @@ impl PlacedFlow {
         }
     }
 
-    // Writes what the flow takes of the frame at this place, one of its phase, behind so many spots, and answers how many
-    // there are then.
+    // Writes what the flow takes of the frame at this place, one of its phase, behind so many spots, and answers how
+    // many there are then.
     pub(crate) fn put(&self, place: u64, spots: &mut [Spot; MAX_SPOTS], count: usize) -> usize
         requires sound { (c : Config) × IsSoundFlow c self.now × (place < c.cycle)
             × (count + length (spots_of c place (placed_of self.now)) ≤ MAX_SPOTS) }

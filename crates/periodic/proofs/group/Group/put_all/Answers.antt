@@ -56,7 +56,8 @@ loop-flow-preserved c = record {
       let front = take c.args.count c.args.spots.now in
       let member = member-at config g given i f same c.loop-flow-test.true c.flow-item.is sound in
       let more : take (i + 1) given ≡ take i given ++ f ∷ [] =
-      take_more given i f c.loop-flow-test.true ∙ ap (λ (e : PlacedFlow). take i given ++ e ∷ []) (sym c.flow-item.is) in
+      take_more given i f c.loop-flow-test.true
+      ∙ ap (λ (e : PlacedFlow). take i given ++ e ∷ []) (sym c.flow-item.is) in
       c.put-next.ensures.spots config member.flow within
       ∙ ap (λ ss. ss ++ own f) (c.loop-flow.invariant.spots config sound within)
       ∙ flat_map_more own front (take i g.flows.items) f

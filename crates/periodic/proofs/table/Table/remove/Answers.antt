@@ -1,5 +1,5 @@
 -- The flows of other SIDs are left, and the minislots of this one are free.
-use Rattle.std.proofs.Common.{◌≡◌, ◌-◌, refl, subst, ◌==◌, find, length, Some, arith}
+use Rattle.std.proofs.Common.{◌≡◌, ◌-◌, refl, ◌==◌, find, length, Some, arith}
 use Rattle.std.proofs.lemmas.List.{take_at}
 use Rattle.periodic.specs.Table.{without}
 use Rattle.periodic.specs.Fields.{placed_of}
@@ -27,9 +27,8 @@ count-requires-clause-may c =
     let inside = c.self.inside in
     let placed = placed_in inside.groups.items in
     let flow = c.in-Some.flow in
-    let found = subst (λ n. find (λ g. g.sid == n) placed ≡ Some (placed_of flow)) c.in-Some.ensures.sid
-    (order-found flow (flows_in c.take_out.new.groups.items) (flows_in inside.groups.items) c.in-Some.ensures.taken
-    c.self.invariant.sound.ascending) in
+    let found = order-found flow (flows_in c.take_out.new.groups.items) (flows_in inside.groups.items)
+    c.in-Some.ensures.taken c.args.sid c.in-Some.ensures.sid c.self.invariant.sound.ascending in
     may-uncount inside.config c.args.sid (placed_of flow) placed inside.counts.starts c.self.invariant.counted found
     c.self.invariant.sound.ascending
 
@@ -38,9 +37,8 @@ overflow_sub-self c =
     let inside = c.self.inside in
     let placed = placed_in inside.groups.items in
     let flow = c.in-Some.flow in
-    let found = subst (λ n. find (λ g. g.sid == n) placed ≡ Some (placed_of flow)) c.in-Some.ensures.sid
-    (order-found flow (flows_in c.take_out.new.groups.items) (flows_in inside.groups.items) c.in-Some.ensures.taken
-    c.self.invariant.sound.ascending) in
+    let found = order-found flow (flows_in c.take_out.new.groups.items) (flows_in inside.groups.items)
+    c.in-Some.ensures.taken c.args.sid c.in-Some.ensures.sid c.self.invariant.sound.ascending in
     let own = (c.in-Some.ensures.flow inside.config c.self.invariant.each).times.grants in
     let sum = grants-without c.args.sid (placed_of flow) placed found c.self.invariant.sound.ascending in
     omega (arith, own, sum, c.self.invariant.summed)
@@ -48,19 +46,14 @@ overflow_sub-self c =
 found : (c : goal.After-drop-flow) → find (λ g. g.sid == c.args.sid) (placed_in c.self.inside.groups.items)
     ≡ Some (placed_of c.in-Some.flow)
 found c =
-    let groups = c.self.inside.groups.items in
-    let flow = c.in-Some.flow in
-    subst (λ n. find (λ g. g.sid == n) (placed_in groups) ≡ Some (placed_of flow)) c.in-Some.ensures.sid
-    (order-found flow (flows_in c.take_out.new.groups.items) (flows_in groups) c.in-Some.ensures.taken
-    c.self.invariant.sound.ascending)
+    order-found c.in-Some.flow (flows_in c.take_out.new.groups.items) (flows_in c.self.inside.groups.items)
+    c.in-Some.ensures.taken c.args.sid c.in-Some.ensures.sid c.self.invariant.sound.ascending
 
 left : (c : goal.After-drop-flow) → placed_in c.take_out.new.groups.items
     ≡ without c.args.sid (placed_in c.self.inside.groups.items)
 left c =
-    let groups = c.self.inside.groups.items in
-    subst (λ n. placed_in c.take_out.new.groups.items ≡ without n (placed_in groups)) c.in-Some.ensures.sid
-    (order-without c.in-Some.flow (flows_in c.take_out.new.groups.items) (flows_in groups) c.in-Some.ensures.taken
-    c.self.invariant.sound.ascending)
+    order-without c.in-Some.flow (flows_in c.take_out.new.groups.items) (flows_in c.self.inside.groups.items)
+    c.in-Some.ensures.taken c.args.sid c.in-Some.ensures.sid c.self.invariant.sound.ascending
 
 pub invariant_of-self-2 : goal.invariant_of-self-2
 invariant_of-self-2 c =
@@ -77,8 +70,8 @@ invariant_of-self-2 c =
     omega (arith, c.mark.ensures.long, c.self.invariant.told.long, inside.rows.ok.0) in
     rw (take_at c.mark.new.rows _ inside.rows.len long)
     (fields-without config groups c.take_out.new.groups.items inside.rows.items c.mark.new.rows
-    (placed_of flow) inside.widest.most c.mark.new.widest.most inside.counts.starts c.count.new.self.starts inside.grants
-    (inside.grants - flow.grants) inside.len (inside.len - 1) c.self.invariant c.mark.ensures.long
+    (placed_of flow) inside.widest.most c.mark.new.widest.most inside.counts.starts c.count.new.self.starts
+    inside.grants (inside.grants - flow.grants) inside.len (inside.len - 1) c.self.invariant c.mark.ensures.long
     c.mark.ensures.bounded (c.take_out.ensures.sound config c.self.invariant.each) c.args.sid (left c) (found c)
     (λ k. marked-for config k 0 flow (placed_of flow) c.deref_mut.result.now inside.rows.items c.mark.new.rows
     refl c.deref_mut.ensures.value (c.mark.ensures.marked k))
