@@ -1,5 +1,6 @@
 pub mod Admission
 pub mod Amounts
+pub mod Boxes
 pub mod Buckets
 pub mod Changes
 pub mod FirstGrant

@@ -238,12 +238,12 @@ module _ (c : Config) (items : List Flow) (are : IsBook c items) where
       let mine = ap (λ (h : Flow). h.sid) is in
       let yours = ap (λ (h : Flow). h.sid) is' in
       elim (cases_lt i j) [
-        | inl less ↦ absurd (omega (arith, below items f.sid are.sound.ascending f i j less q, mine, yours, sids))
+        | inl less ↦ absurd (omega (arith, below items are.sound.ascending f i j less q, mine, yours, sids))
         | inr more ↦ elim (cases_eq i j) [
           | inl equal ↦ equal
           | inr differ ↦ absurd (omega (
             arith,
-            below items f.sid are.sound.ascending f j i (omega arith) p,
+            below items are.sound.ascending f j i (omega arith) p,
             mine,
             yours,
             sids,

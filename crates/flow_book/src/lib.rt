@@ -7,6 +7,7 @@ mod book;
 mod bucket;
 mod flow;
 mod flow_list;
+mod flows;
 mod granted;
 mod overlay;
 mod queue;

@@ -9,8 +9,9 @@ ghost use Rattle.flow_book.specs.Queue.{IsQueue};
 ghost use Rattle.flow_book.specs.Shown.{is_shown, ack_of};
 ghost use Rattle.flow_book.specs.Book.{changed};
 
-use crate::flow::{Flow, Grant, Room, Served};
+use crate::flow::{Grant, Room, Served};
 use crate::flow_list::{FlowList, list_of};
+use crate::flows::Flows;
 use crate::queue::{Waiting, first_in_turn, move_back};
 use crate::shown::{Shown, show};
 use crate::taking::{put_back, take_over};
@@ -48,7 +49,7 @@ impl Model for Overlay {
 
 impl Overlay {
     // That of a book with these flows and this queue, before any grant.
-    pub(crate) fn over(config: Checked, flows: &[Flow], queue: Vec<Waiting>) -> Overlay
+    pub(crate) fn over(config: Checked, flows: &Flows, queue: Vec<Waiting>) -> Overlay
         requires book { IsBook config flows.now }
         requires queue { IsQueue flows.now queue.items }
         ensures { result ≡ record {
@@ -103,7 +104,7 @@ impl Overlay {
 
     // The flows that the MAP shows by pending grants, in order of SID, and its acknowledge time ([`Book::show`]). These
     // are the flows of the book.
-    pub(crate) fn show(&self, flows: &[Flow], progress: u64) -> Result<Shown, AllocError>
+    pub(crate) fn show(&self, flows: &Flows, progress: u64) -> Result<Shown, AllocError>
         requires { map live flows.now ≡ self.now.before }
         ensures pending { IfOk result (λ s. map (λ p. p.sid) s.pending.items
             ≡ map (λ f. f.sid) (filter (is_shown self.now.config.pending self.now.flows) self.now.flows)) }
@@ -115,7 +116,7 @@ impl Overlay {
 
     // Puts the flows with the data grants in the place of those before, and the queue of those that still wait in the
     // place of another; answers whether that is whole (memory may run out).
-    pub(crate) fn put_into(self, flows: &mut [Flow], queue: &mut Vec<Waiting>) -> bool
+    pub(crate) fn put_into(self, flows: &mut Flows, queue: &mut Vec<Waiting>) -> bool
         requires { IsBook self.config flows.old × (map live flows.old ≡ self.before) }
         ensures book { IsBook self.config flows.new × (map live flows.new ≡ self.flows) }
         ensures order { result ≡ true → IsQueue flows.new queue.new.items }

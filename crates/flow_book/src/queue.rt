@@ -17,6 +17,7 @@ ghost use Rattle.flow_book.specs.Queue.{HasStartedQueue, IsFirstInTurn};
 
 use crate::bucket::Bucket;
 use crate::flow::{Flow, Room, SIDS, turn_after};
+use crate::flows::Flows;
 use minislots::Checked;
 use std::alloc::{AllocError, Global};
 
@@ -87,13 +88,13 @@ fn put_in_turn(queue: &mut Vec<Waiting>, waiting: Waiting) -> Result<(), AllocEr
 }
 
 // The queue of all flows that wait.
-pub(crate) fn queue_of(alloc: Global, flows: &[Flow]) -> Result<Vec<Waiting>, AllocError>
+pub(crate) fn queue_of(alloc: Global, flows: &Flows) -> Result<Vec<Waiting>, AllocError>
     requires { (c : Config) × IsBook c flows.now }
     ensures { IfOk result (λ queue. IsQueue flows.now queue.items) }
 {
     let mut queue = Vec::with_capacity(alloc, flows.len())?;
     for place in 0..flows.len() {
-        let waiting = waiting_of(&flows[place], place);
+        let waiting = waiting_of(flows.at(place), place);
         if waiting.wants > 0 {
             put_in_turn(&mut queue, waiting)?;
         }
@@ -163,14 +164,14 @@ fn move_to_turn(queue: &mut Vec<Waiting>, waiting: Waiting) -> Result<(), AllocE
 }
 
 // Moves the flow at this place of a book, which has changed, to its turn in the queue, or takes it out.
-fn put_again(queue: &mut Vec<Waiting>, flows: &[Flow], place: usize) -> Result<(), AllocError>
+fn put_again(queue: &mut Vec<Waiting>, flows: &Flows, place: usize) -> Result<(), AllocError>
     requires book { (c : Config) × IsBook c flows.now }
     requires within { place < length flows.now }
     requires queue { (before : List Flow)
         × AreSameBut place before flows.now × IsQueue before queue.old.items }
     ensures { OnOk result (IsQueue flows.now queue.new.items) }
 {
-    let waiting = waiting_of(&flows[place], place);
+    let waiting = waiting_of(flows.at(place), place);
     if waiting.wants > 0 {
         move_to_turn(queue, waiting)?;
         return Ok(());
@@ -268,12 +269,7 @@ pub(crate) fn copy_of(queue: &Vec<Waiting>) -> Result<Vec<Waiting>, AllocError>
 }
 
 // Keeps a queue that is known where the flow at this place of a book has changed, and answers whether it still is.
-pub(crate) fn follow(
-    queue: &mut Vec<Waiting>,
-    is_queued: bool,
-    flows: &[Flow],
-    place: usize,
-) -> bool
+pub(crate) fn follow(queue: &mut Vec<Waiting>, is_queued: bool, flows: &Flows, place: usize) -> bool
     requires book { (c : Config) × IsBook c flows.now }
     requires within { place < length flows.now }
     requires queue { is_queued ≡ true → (before : List Flow)

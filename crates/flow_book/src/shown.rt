@@ -14,7 +14,8 @@ ghost use Rattle.flow_book.specs.Line.{itself, sorted, held_back};
 ghost use Rattle.flow_book.specs.Overlay.{IsSameFlow};
 ghost use Rattle.flow_book.specs.Pending.{still_waits, pending_of, number_at, is_ahead, ArePending, AreInLine};
 
-use crate::flow::{Flow, SIDS};
+use crate::flow::SIDS;
+use crate::flows::Flows;
 use crate::queue::Waiting;
 use std::alloc::{AllocError, Global};
 
@@ -97,7 +98,7 @@ fn pending_in(alloc: Global, queue: &[Waiting]) -> Result<Vec<Pending>, AllocErr
 }
 
 // The number by which one that waits stands in line. There is a flow at its place.
-fn number_at(one: &Pending, flows: &[Flow]) -> u128
+fn number_at(one: &Pending, flows: &Flows) -> u128
     ensures { result ≡ number_at flows.now one.now }
 {
     match flows.get(one.place) {
@@ -110,7 +111,7 @@ fn number_at(one: &Pending, flows: &[Flow]) -> u128
 fn first_in_line(
     alloc: Global,
     pending: &[Pending],
-    flows: &[Flow],
+    flows: &Flows,
     most: usize,
 ) -> Result<Vec<u128>, AllocError>
     requires { (after : List LiveFlow) × AreInLine flows.now pending.now after }
@@ -128,7 +129,7 @@ fn first_in_line(
 fn first_hidden(
     alloc: Global,
     pending: &[Pending],
-    flows: &[Flow],
+    flows: &Flows,
     most: usize,
 ) -> Result<Option<Hidden>, AllocError>
     requires line { (after : List LiveFlow) × AreInLine flows.now pending.now after }
@@ -147,7 +148,7 @@ fn first_hidden(
 }
 
 // Keeps those that come before the first that is hidden.
-fn keep_ahead(pending: &mut Vec<Pending>, flows: &[Flow], hidden: &Option<Hidden>)
+fn keep_ahead(pending: &mut Vec<Pending>, flows: &Flows, hidden: &Option<Hidden>)
     ensures { pending.new.items ≡ filter (is_ahead flows.now hidden.now) pending.old.items }
 {
     if let Some(hidden) = hidden {
@@ -171,7 +172,7 @@ pub(crate) fn held_back(hidden: &Option<Hidden>, progress: u64) -> u64
 pub(crate) fn show(
     alloc: Global,
     queue: &[Waiting],
-    flows: &[Flow],
+    flows: &Flows,
     most: usize,
     progress: u64,
 ) -> Result<Shown, AllocError>

@@ -7,20 +7,21 @@ ghost use Rattle.flow_book.specs.Entry.{live};
 ghost use Rattle.flow_book.specs.Pending.{still_waits};
 ghost use Rattle.flow_book.specs.Taking.{CanBeTaken, IsTaken};
 
-use crate::flow::Flow;
 use crate::flow_list::FlowList;
+use crate::flows::Flows;
 use crate::queue::Waiting;
 use std::alloc::AllocError;
 
 // Gives each flow in the queue the data grants that it has after the MAP, and what the queue has of it.
-pub(crate) fn take_over(flows: &mut [Flow], queue: &[Waiting], after: &FlowList)
+pub(crate) fn take_over(flows: &mut Flows, queue: &[Waiting], after: &FlowList)
     requires { (c : Config) × (items : List Flow)
         × CanBeTaken c flows.old items queue.now × (map live items ≡ after.now.items) }
     ensures { (c : Config) (items : List Flow) → CanBeTaken c flows.old items queue.now
         → map live items ≡ after.now.items → IsTaken c flows.new items queue.now }
 {
     for waiting in queue {
-        flows[waiting.place].take_over(waiting, FlowList::grants_at(after, &waiting.place));
+        let flow = flows.at_mut(waiting.place);
+        flow.take_over(waiting, FlowList::grants_at(after, &waiting.place));
     }
 }
 
