@@ -1,5 +1,5 @@
 -- Each flow is compared with the next of those before it.
-use Rattle.std.proofs.Common.{◌≡◌, map, take, true, false, nat_lt, inl, inr, arith}
+use Rattle.std.proofs.Common.{◌≡◌, ◌<◌, length, map, take, true, false, nat_lt, inl, inr, arith}
 use Rattle.std.proofs.lemmas.Bool.Decides.{nat_tests}
 use Rattle.std.proofs.lemmas.List.Elements.{All-from_recursion}
 use Rattle.flow_book.specs.Flows.{outstanding}
@@ -15,18 +15,18 @@ use Rattle.flow_book.proofs.flow.first_eligible.Goals.{else-both-via-else-both}
 
 pub is_eligible-requires-clause-sound : goal.is_eligible-requires-clause-sound
 is_eligible-requires-clause-sound c =
-    all-item live c.args.flows.now c.loop-place.place c.at-flow.result.now (omega (arith, c.loop-place-test.true)) c.at-flow.ensures
-    (IsSoundFlow c.args.config.now) c.requires.sound.each
+    all-item live c.args.flows.now c.loop-place.place c.at-flow.result.now (omega (arith, c.loop-place-test.true))
+    c.at-flow.ensures (IsSoundFlow c.args.config.now) c.requires.sound.each
 
 pub is_eligible-requires-clause-started : goal.is_eligible-requires-clause-started
 is_eligible-requires-clause-started c =
-    all-item live c.args.flows.now c.loop-place.place c.at-flow.result.now (omega (arith, c.loop-place-test.true)) c.at-flow.ensures
-    (HasStartedBy c.args.start) c.requires.started
+    all-item live c.args.flows.now c.loop-place.place c.at-flow.result.now (omega (arith, c.loop-place-test.true))
+    c.at-flow.ensures (HasStartedBy c.args.start) c.requires.started
 
 pub waits-requires-clause-within : goal.waits-requires-clause-within
 waits-requires-clause-within c =
-    (all-item live c.args.flows.now c.loop-place.place c.at-flow.result.now (omega (arith, c.loop-place-test.true)) c.at-flow.ensures
-    (IsSoundFlow c.args.config.now) c.requires.sound.each).within
+    (all-item live c.args.flows.now c.loop-place.place c.at-flow.result.now (omega (arith, c.loop-place-test.true))
+    c.at-flow.ensures (IsSoundFlow c.args.config.now) c.requires.sound.each).within
 
 pub comes_before-requires-clause-lower : goal.comes_before-requires-clause-lower
 comes_before-requires-clause-lower c =
@@ -43,11 +43,11 @@ loop-place-preserved c =
     let i = c.loop-place.place in
     let f = c.at-flow.result.now in
     let flows = map live (take i items) in
-    let taken = taken-item live items i f (omega (arith, c.loop-place-test.true)) c.at-flow.ensures in
+    let within : i < length items = omega (arith, c.loop-place-test.true) in
+    let taken = taken-item live items i f within c.at-flow.ensures in
     let keeps : KeepsSums c.args.config.now f =
-    rw c.at-flow.ensures (All-from_recursion (KeepsSums c.args.config.now) items c.requires.sums i f (omega (arith, c.loop-place-test.true)))
-    in
-    let lower = lower-item items i f (omega (arith, c.loop-place-test.true)) c.at-flow.ensures c.requires.sound.ascending in
+    rw c.at-flow.ensures (All-from_recursion (KeepsSums c.args.config.now) items c.requires.sums i f within) in
+    let lower = lower-item items i f within c.at-flow.ensures c.requires.sound.ascending in
     elim c.if-both.branch [
       | then-both+then-is_eligible w ↦ rw (taken, w.next-is) (record {
         next = step-changes c.args.config.now c.args.start c.args.room flows f c.loop-place.next c.comes_before.result

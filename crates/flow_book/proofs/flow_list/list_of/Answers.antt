@@ -12,8 +12,8 @@ loop-place-preserved c =
     let f = live c.at.result.now in
     let more : take (i + 1) flows ≡ take i flows ++ f ∷ [] =
     take_more flows i f (omega (arith, length-map c.args.flows.now live, c.loop-place-test.true))
-    ∙ ap (λ g. take i flows ++ g ∷ []) (get_or-map live c.args.flows.now i c.at.result.now ∙ ap live (sym c.at.ensures))
-    in
+    ∙ ap (λ g. take i flows ++ g ∷ [])
+    (get_or-map live c.args.flows.now i c.at.result.now ∙ ap live (sym c.at.ensures)) in
     c.and-list.ensures ∙ ap (λ l. l ++ f ∷ []) c.loop-place.invariant ∙ sym more
 
 pub returns : goal.returns

@@ -11,7 +11,8 @@ returns c =
     let here = c.index_mut-flow.result.now in (
       (
         refl,
-        λ w. map-set (λ b. b.value) boxes place (record here { value = w }) ∙ ap (λ flows. set flows place w) c.self.view_is,
+        λ w. map-set (λ b. b.value) boxes place (record here { value = w })
+            ∙ ap (λ flows. set flows place w) c.self.view_is,
       ),
       record {
         lends = tt;

@@ -3,4 +3,6 @@ use Rattle.flow_book.proofs.Boxes.{map-remove}
 use Rattle.flow_book.proofs.flows.Flows.remove.Goals as goal
 
 pub returns : goal.returns
-returns c = rw (← c.self.view_is, c.remove.ensures.items) (map-remove (λ b. b.value) c.self.inside.boxes.items c.args.place)
+returns c =
+    rw (← c.self.view_is, c.remove.ensures.items)
+    (map-remove (λ b. b.value) c.self.inside.boxes.items c.args.place)
