@@ -25,6 +25,7 @@ pub mod InLine
 pub mod Shifts
 pub mod Sinking
 pub mod Started
+pub mod StillWaiting
 pub mod Steps
 pub mod Searches
 pub mod Sums

@@ -20,21 +20,11 @@ use Rattle.flow_book.specs.Entry.{live, IsCopy, IsSoundFlow, KeepsSums}
 use Rattle.flow_book.specs.Sids.{AscendBy}
 use Rattle.flow_book.specs.Queue.{entry_of, IsAt, IsIn}
 use Rattle.flow_book.specs.Overlay.{IsSameFlow}
-use Rattle.flow_book.specs.Pending.{still_waits}
+use Rattle.flow_book.specs.Queue.{still_waits}
 use Rattle.flow_book.specs.Taking.{CanBeTaken, IsTaken}
 use Rattle.flow_book.proofs.Queues.{at-within, flow-at, entry-at, turn-at, wants-at, bucket-at, same-turn, same-but}
+use Rattle.flow_book.proofs.StillWaiting.{in-or-out}
 use Rattle.flow_book.proofs.Sums.{copy-sums}
-
--- a place in the queue, or not
-in-or-out : (place : ℕ) (queue : List Waiting) → IsIn place queue ⊎ (IsIn place queue → ⊥)
-in-or-out place [] = inr (λ here. here)
-in-or-out place (w ∷ queue) = elim (cases_eq w.place place) [
-  | inl same ↦ inl (inl same)
-  | inr differ ↦ elim (in-or-out place queue) [
-    | inl rest ↦ inl (inr rest)
-    | inr out ↦ inr (λ here. elim here [ inl same ↦ differ same | inr rest ↦ out rest ])
-  ]
-]
 
 in-either : (place : ℕ) (front : List Waiting) (w : Waiting) → IsIn place (front ++ w ∷ [])
     → IsIn place front ⊎ (w.place ≡ place)

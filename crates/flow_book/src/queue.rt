@@ -2,18 +2,19 @@
 
 ghost use Rattle.std.specs.Prelude.{◌==◌, nat_lt, position, true, false, ◌+◌, ◌^◌, insert};
 ghost use Rattle.std.specs.Prelude.{ℕ, ◌≡◌, ◌≢◌, ◌<◌, ◌≤◌, List, remove, slice_index_or, map, length, OnOk, IfOk};
-ghost use Rattle.std.specs.Prelude.{IfSome, MatchOption, Option, Some, min};
+ghost use Rattle.std.specs.Prelude.{IfSome, MatchOption, Option, Some, min, filter};
 ghost use Rattle.std.specs.List.{AllByRecursion, position_or_len};
 ghost use Rattle.minislots.specs.declared.config.Config.{Config};
 ghost use Rattle.minislots.specs.Config.{IsLawful};
 ghost use Rattle.flow_book.specs.declared.flow.Flow.{Flow};
 ghost use Rattle.flow_book.specs.Flows.{granted, outstanding};
 ghost use Rattle.flow_book.specs.Choice.{NoneEligible};
-ghost use Rattle.flow_book.specs.Bucket.{most_of, HasOneMore};
+ghost use Rattle.flow_book.specs.Bucket.{most_of, HasOneMore, StaysSettled};
 ghost use Rattle.flow_book.specs.Entry.{live, IsBook, IsRoom, IsTurn};
 ghost use Rattle.flow_book.specs.Sids.{AscendBy, put_in};
 ghost use Rattle.flow_book.specs.Queue.{IsQueue, IsQueueAmong, IsMoved, AreSameBut, moved_up, moved_down};
-ghost use Rattle.flow_book.specs.Queue.{HasStartedQueue, IsFirstInTurn};
+ghost use Rattle.flow_book.specs.Queue.{HasStartedQueue, HasStartedPart, IsFirstInTurn, IsFirstAble, IsPassed};
+ghost use Rattle.flow_book.specs.Queue.{NoneWaitsBefore, still_waits};
 
 use crate::bucket::Bucket;
 use crate::flow::{Flow, Room, SIDS, turn_after};
@@ -47,6 +48,7 @@ impl Waiting {
         ensures wants { self.new.wants + result ≡ self.old.wants }
         ensures place { self.new.place ≡ self.old.place }
         ensures bucket { HasOneMore self.old.bucket self.new.bucket start result }
+        ensures settled { StaysSettled self.old.bucket self.new.bucket start result }
         ensures turn { (rank : ℕ) (last : Option ℕ) (sid : ℕ)
             → IsTurn rank last sid self.old.turn → IsTurn rank (Some start) sid self.new.turn }
         ensures later { (rank : ℕ) (last : Option ℕ) (sid : ℕ) → IsTurn rank last sid self.old.turn
@@ -116,8 +118,29 @@ pub(crate) fn first_in_turn(
     ensures within { IfSome result (λ index. index < length queue.now) }
     ensures lawful { IsLawful config.now }
 {
+    first_able(queue, 0, config, start, room)
+}
+
+// Where in a list of those that wait, of which none before the first place wants anything, the first stands that may be
+// served at this minislot.
+pub(crate) fn first_able(
+    queue: &[Waiting],
+    first: usize,
+    config: &Checked,
+    start: u64,
+    room: Room,
+) -> Option<usize>
+    requires room { IsRoom config.now room }
+    requires passed { NoneWaitsBefore first queue.now }
+    requires started { (items : List Flow) × HasStartedPart config.now items queue.now start }
+    ensures next { (items : List Flow) → HasStartedPart config.now items queue.now start → MatchOption result
+        (AllByRecursion (IsPassed config.now start room.slots items) (filter still_waits queue.now))
+        (IsFirstAble config.now items queue.now start room.slots) }
+    ensures within { IfSome result (λ index. index < length queue.now) }
+    ensures lawful { IsLawful config.now }
+{
     let quantum = u64::from(config.quantum());
-    for index in 0..queue.len() {
+    for index in first..queue.len() {
         let waiting = &queue[index];
         let wanted = waiting.wants.min(quantum);
         if wanted > 0 && wanted <= room.bytes && waiting.bucket.has(start, wanted as u32) {

@@ -2,7 +2,7 @@
 use Rattle.std.proofs.Common.{◌≡◌, ◌∙◌, sym, subst, ap, map, filter, true, Result, Ok, Err, is_ok, OnOk}
 use Rattle.flow_book.specs.Entry.{live}
 use Rattle.flow_book.specs.Queue.{IsQueue}
-use Rattle.flow_book.specs.Pending.{still_waits}
+use Rattle.flow_book.specs.Queue.{still_waits}
 use Rattle.flow_book.specs.Taking.{CanBeTaken, IsTaken}
 use Rattle.flow_book.proofs.overlay.Overlay.put_into.Goals as goal
 
