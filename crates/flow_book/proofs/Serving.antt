@@ -29,7 +29,7 @@ use Rattle.flow_book.proofs.Amounts.{eligible-is, bucket-within}
 use Rattle.flow_book.proofs.Turns.{less-first}
 use Rattle.flow_book.proofs.Steps.{all-item}
 use Rattle.flow_book.proofs.Queues.{all-both, at-within, flow-at, turn-at, wants-at, bucket-at, knows-at, one-place}
-use Rattle.flow_book.proofs.StillWaiting.{in-or-out, stays-in, kept-at, filter-split, none-served}
+use Rattle.flow_book.proofs.StillWaiting.{in-or-out, stays-in, kept-at, filter-split, none-served, all-joined}
 use Rattle.flow_book.proofs.Order.{all-implied}
 use Rattle.flow_book.proofs.Removal.{all-filter}
 
@@ -46,7 +46,7 @@ contains-at items k f found =
     (k, omega arith, get_or-map live items k f ∙ ap live (get_or_from_slice_get items k f f found))
 
 -- of a place in the queue what holds of each there holds
-pick : (P : Waiting → Type 0) (place : ℕ) (queue : List Waiting) → IsIn place queue → AllByRecursion P queue
+pub pick : (P : Waiting → Type 0) (place : ℕ) (queue : List Waiting) → IsIn place queue → AllByRecursion P queue
     → (w : Waiting) × (w.place ≡ place) × P w
 pick P place [] here all = absurd here
 pick P place (w ∷ queue) (inl here) all = (w, here, all.0)
@@ -159,11 +159,6 @@ entry-may c start room items w wanted may lawful is limits some fits tested =
       (λ t. (takes, some, most ∙ equal (most_of w.bucket start wanted) wanted (sym tested ∙ t))),
       (λ p. tested ∙ eq-eqb (most_of w.bucket start wanted) wanted (sym most ∙ p.2)),
     )
-
-all-joined : {X : Type 0} (P : X → Type 0) (xs ys : List X) → AllByRecursion P xs → AllByRecursion P ys
-    → AllByRecursion P (xs ++ ys)
-all-joined P [] ys all all' = all'
-all-joined P (x ∷ xs) ys all all' = (all.0, all-joined P xs ys all.1 all')
 
 -- one of a list that still waits stands at its place where those that do stand there
 pub kept-of : (items : List Flow) (queue : List Waiting) (i : ℕ) (w : Waiting) → slice_get queue i ≡ Some w

@@ -9,6 +9,7 @@ mod flow;
 mod flow_list;
 mod granted;
 mod overlay;
+mod parts;
 mod queue;
 mod shown;
 mod taking;

@@ -1,7 +1,7 @@
 //! The flows that wait for bytes, in the order in which they are served.
 
 ghost use Rattle.std.specs.Prelude.{◌==◌, nat_lt, position, true, false, ◌+◌, ◌^◌, insert};
-ghost use Rattle.std.specs.Prelude.{ℕ, ◌≡◌, ◌≢◌, ◌<◌, ◌≤◌, List, remove, slice_index_or, map, length, OnOk, IfOk};
+ghost use Rattle.std.specs.Prelude.{ℕ, ◌≡◌, ◌≢◌, ◌<◌, ◌≤◌, List, remove, slice_index_or, map, length, OnOk, OnErr, IfOk};
 ghost use Rattle.std.specs.Prelude.{IfSome, MatchOption, Option, Some, min, filter};
 ghost use Rattle.std.specs.List.{AllByRecursion, position_or_len};
 ghost use Rattle.minislots.specs.declared.config.Config.{Config};
@@ -63,7 +63,7 @@ impl Waiting {
 }
 
 // The place in the queue of the first of a later turn, or its end.
-fn place_after(queue: &[Waiting], turn: u128) -> usize
+pub(crate) fn place_after(queue: &[Waiting], turn: u128) -> usize
     requires { AscendBy (λ w. w.turn) queue.now }
     ensures place { result ≡ position_or_len (λ w. nat_lt turn w.turn) queue.now }
     ensures within { result ≤ length queue.now }
@@ -79,9 +79,10 @@ fn index_of(queue: &[Waiting], place: usize) -> Option<usize>
 }
 
 // Puts one that waits into the queue, before the first of a later turn.
-fn put_in_turn(queue: &mut Vec<Waiting>, waiting: Waiting) -> Result<(), AllocError>
+pub(crate) fn put_in_turn(queue: &mut Vec<Waiting>, waiting: Waiting) -> Result<(), AllocError>
     requires { AscendBy (λ w. w.turn) queue.old.items }
-    ensures { OnOk result (queue.new.items ≡ put_in (λ w. w.turn) waiting queue.old.items) }
+    ensures put { OnOk result (queue.new.items ≡ put_in (λ w. w.turn) waiting queue.old.items) }
+    ensures same { OnErr result (queue.new.items ≡ queue.old.items) }
 {
     let index = place_after(queue, waiting.turn);
     queue.insert(index, waiting)?;

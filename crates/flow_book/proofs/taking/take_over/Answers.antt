@@ -15,14 +15,14 @@ take_over-requires c =
     let w = c.waiting-item.result in
     let is = c.requires in
     subst (λ (f : Flow). w.wants ≤ f.asked) c.index-flows-waiting.is
-    (wants-asked is.0 c.args.flows.now is.1 c.args.queue.now is.2 c.loop-waiting.waiting-index w
+    (wants-asked is.0 c.args.flows.now is.1 c.args.served.now is.2 c.loop-waiting.waiting-index w
     c.loop-waiting-test.true c.waiting-item.is c.loop-waiting.flows c.index-flows-waiting.result
     c.loop-waiting.auto.flows c.index-flows-waiting.is (c.loop-waiting.invariant is.0 is.1 is.2 is.3))
 
 pub loop-waiting-preserved : goal.loop-waiting-preserved
 loop-waiting-preserved c = λ channel items can shows.
     let old = c.args.flows.now in
-    let queue = c.args.queue.now in
+    let queue = c.args.served.now in
     let i = c.loop-waiting.waiting-index in
     let w = c.waiting-item.result in
     let lt = c.loop-waiting-test.true in
@@ -53,7 +53,7 @@ loop-waiting-preserved c = λ channel items can shows.
 
 pub returns : goal.returns
 returns c = λ channel items can shows.
-    let queue = c.args.queue.now in
+    let queue = c.args.served.now in
     let all : take c.loop-waiting.waiting-index queue ≡ queue =
     take_all c.loop-waiting.waiting-index queue (omega arith) in
     is-taken channel c.args.flows.now items queue can c.loop-waiting.flows c.loop-waiting.auto.flows
