@@ -8,8 +8,10 @@ pub mod Insertion
 pub mod Levels
 pub mod Lines
 pub mod Matching
+pub mod Merging
 pub mod Order
 pub mod Overlays
+pub mod InParts
 pub mod Pendings
 pub mod Pigeons
 pub mod Places
@@ -26,7 +28,9 @@ pub mod InLine
 pub mod Shifts
 pub mod Sinking
 pub mod Started
+pub mod StillWaiting
 pub mod Steps
+pub mod SameEntries
 pub mod Searches
 pub mod Sums
 pub mod TakenOver

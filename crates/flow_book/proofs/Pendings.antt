@@ -25,7 +25,8 @@ use Rattle.flow_book.specs.Sids.{AscendBy}
 use Rattle.flow_book.specs.Queue.{IsAt, IsIn, IsQueue}
 use Rattle.flow_book.specs.Shown.{waits, is_shown, number_of, number_in_line, IsFirstHidden}
 use Rattle.flow_book.specs.Line.{itself, sorted, numbers_of, comes_first}
-use Rattle.flow_book.specs.Pending.{still_waits, pending_of, number_at, is_ahead}
+use Rattle.flow_book.specs.Pending.{pending_of, number_at, is_ahead}
+use Rattle.flow_book.specs.Queue.{still_waits}
 use Rattle.flow_book.specs.Pending.{IsPendingOf, ArePending, AreInLine}
 use Rattle.flow_book.specs.Overlay.{IsSameFlow}
 use Rattle.flow_book.proofs.InLine.{ascends, small-of, all-shown}

@@ -13,6 +13,7 @@ pub mod Choice
 pub mod Book
 pub mod Entry
 pub mod Overlay
+pub mod Parts
 pub mod Queue
 pub mod Shown
 pub mod Pending

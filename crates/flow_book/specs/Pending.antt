@@ -12,10 +12,6 @@ use Rattle.flow_book.specs.Book.{Ascend}
 use Rattle.flow_book.specs.Shown.{waits, number_of}
 use Rattle.flow_book.specs.Line.{numbers_of}
 
--- one of the queue waits for bytes
-abbrev pub still_waits : Waiting → Bool
-still_waits w = nat_lt 0 w.wants
-
 -- what is kept of it: its turn ends with its SID
 abbrev pub pending_of : Waiting → Pending
 pending_of w = record { sid = w.turn % 2 ^ 16; place = w.place; wants = w.wants }

@@ -11,7 +11,7 @@ ghost use Rattle.flow_book.specs.Flows.{granted, outstanding, with_grant};
 ghost use Rattle.flow_book.specs.Choice.{is_before, IsEligible, IsMost, KeepsWith};
 ghost use Rattle.flow_book.specs.Choice.{IsNextOf, HasStartedBy};
 ghost use Rattle.sched_calls.specs.FlowSpec.{takes_requests};
-ghost use Rattle.flow_book.specs.Bucket.{HaveStartedBy, StandsFor};
+ghost use Rattle.flow_book.specs.Bucket.{HaveStartedBy, StandsFor, IsSettled};
 ghost use Rattle.flow_book.specs.Entry.{live, room_in, IsSoundFlow, IsSoundBook, IsTurn, KnowsTurn, KeepsSums};
 ghost use Rattle.flow_book.specs.Entry.{asked_more};
 ghost use Rattle.flow_book.specs.Queue.{entry_of};
@@ -237,6 +237,8 @@ impl Flow {
             → (0 < self.old.asked → takes_requests self.old.spec ≡ true)
             → self.old.granted ≡ granted (live self.old) → KnowsTurn self.old
             → StandsFor c (rate_of self.old.spec) (burst_of self.old.spec) self.old.bucket
+            (self.old.grants.items ++ record { start = start; bytes = bytes } ∷ [])
+            → IsSettled self.old.bucket
             (self.old.grants.items ++ record { start = start; bytes = bytes } ∷ [])
             → KeepsSums c self.new }
     {

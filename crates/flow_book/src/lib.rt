@@ -10,6 +10,7 @@ mod flow_list;
 mod flows;
 mod granted;
 mod overlay;
+mod parts;
 mod queue;
 mod shown;
 mod taking;

@@ -12,7 +12,8 @@ ghost use Rattle.flow_book.specs.Shown.{IsFirstHidden, is_shown, ack_of, number_
 ghost use Rattle.flow_book.specs.Sids.{AscendBy, put_in};
 ghost use Rattle.flow_book.specs.Line.{itself, sorted, held_back};
 ghost use Rattle.flow_book.specs.Overlay.{IsSameFlow};
-ghost use Rattle.flow_book.specs.Pending.{still_waits, pending_of, number_at, is_ahead, ArePending, AreInLine};
+ghost use Rattle.flow_book.specs.Pending.{pending_of, number_at, is_ahead, ArePending, AreInLine};
+ghost use Rattle.flow_book.specs.Queue.{still_waits};
 
 use crate::flow::SIDS;
 use crate::flows::Flows;

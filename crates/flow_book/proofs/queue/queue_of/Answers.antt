@@ -32,7 +32,7 @@ loop-place-preserved c =
     let here = slice_get_read items (length items) i f refl (omega (arith, c.loop-place-test.true))
     c.at.ensures in
     elim c.if-waiting-gt0.branch [
-      | then-waiting-gt0+in_ok-put_in_turn w ↦ rw (w.queue-is, w.in_ok-put_in_turn.ensures)
+      | then-waiting-gt0+in_ok-put_in_turn w ↦ rw (w.queue-is, w.in_ok-put_in_turn.ensures.put)
           (put-among c.requires.0 items c.requires.1 (λ k. k < i) (λ k. k < i + 1) c.loop-place.queue.items i f here
           (only i) (λ k lt. omega arith) c.loop-place.invariant
           c.waiting_of-waiting.result c.waiting_of-waiting.ensures.place c.waiting_of-waiting.ensures.turn

@@ -13,14 +13,14 @@ loop-waiting-init c = record { long = refl; part = λ channel items can shows. p
 pub at_mut-flow-requires : goal.at_mut-flow-requires
 at_mut-flow-requires c =
     let is = c.requires in
-    rw c.loop-waiting.invariant.long (place-within is.0 c.args.flows.now is.1 c.args.queue.now is.2
+    rw c.loop-waiting.invariant.long (place-within is.0 c.args.flows.now is.1 c.args.served.now is.2
     c.loop-waiting.waiting-index c.waiting-item.result c.loop-waiting-test.true c.waiting-item.is)
 
 pub take_over-requires : goal.take_over-requires
 take_over-requires c =
     let w = c.waiting-item.result in
     let is = c.requires in
-    wants-asked is.0 c.args.flows.now is.1 c.args.queue.now is.2 c.loop-waiting.waiting-index w
+    wants-asked is.0 c.args.flows.now is.1 c.args.served.now is.2 c.loop-waiting.waiting-index w
     c.loop-waiting-test.true c.waiting-item.is c.loop-waiting.flows c.at_mut-flow.result.now
     c.loop-waiting.invariant.long c.at_mut-flow.ensures.value (c.loop-waiting.invariant.part is.0 is.1 is.2 is.3)
 
@@ -29,7 +29,7 @@ loop-waiting-preserved c = record {
   long = length-set _ _ _ ∙ c.loop-waiting.invariant.long;
   part = λ channel items can shows.
       let old = c.args.flows.now in
-      let queue = c.args.queue.now in
+      let queue = c.args.served.now in
       let i = c.loop-waiting.waiting-index in
       let w = c.waiting-item.result in
       let lt = c.loop-waiting-test.true in
@@ -56,7 +56,7 @@ loop-waiting-preserved c = record {
 
 pub returns : goal.returns
 returns c = λ channel items can shows.
-    let queue = c.args.queue.now in
+    let queue = c.args.served.now in
     let all : take c.loop-waiting.waiting-index queue ≡ queue =
     take_all c.loop-waiting.waiting-index queue (omega arith) in
     is-taken channel c.args.flows.now items queue can c.loop-waiting.flows c.loop-waiting.invariant.long
