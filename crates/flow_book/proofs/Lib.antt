@@ -6,11 +6,11 @@ pub mod FirstGrant
 pub mod Insertion
 pub mod Levels
 pub mod Lines
+pub mod Marked
 pub mod Matching
 pub mod Order
 pub mod Overlays
 pub mod Pendings
-pub mod Pigeons
 pub mod Places
 pub mod Profile
 pub mod Queues

@@ -18,15 +18,14 @@ use Rattle.flow_book.specs.Flows.{LiveFlow, outstanding}
 use Rattle.flow_book.specs.FlowList.{grants_at}
 use Rattle.flow_book.specs.Entry.{live, IsCopy, IsSoundFlow, KeepsSums}
 use Rattle.flow_book.specs.Sids.{AscendBy}
-use Rattle.flow_book.specs.Queue.{entry_of, IsAt, IsIn}
+use Rattle.flow_book.specs.Queue.{entry_of, IsAt, IsIn, still_waits}
 use Rattle.flow_book.specs.Overlay.{IsSameFlow}
-use Rattle.flow_book.specs.Pending.{still_waits}
 use Rattle.flow_book.specs.Taking.{CanBeTaken, IsTaken}
 use Rattle.flow_book.proofs.Queues.{at-within, flow-at, entry-at, turn-at, wants-at, bucket-at, same-turn, same-but}
 use Rattle.flow_book.proofs.Sums.{copy-sums}
 
 -- a place in the queue, or not
-in-or-out : (place : ℕ) (queue : List Waiting) → IsIn place queue ⊎ (IsIn place queue → ⊥)
+pub in-or-out : (place : ℕ) (queue : List Waiting) → IsIn place queue ⊎ (IsIn place queue → ⊥)
 in-or-out place [] = inr (λ here. here)
 in-or-out place (w ∷ queue) = elim (cases_eq w.place place) [
   | inl same ↦ inl (inl same)
@@ -128,7 +127,7 @@ module _ (items : List Flow) where
   fresh (w ∷ queue) (suc i) d lt all up (inr rest) = fresh queue i d (omega arith) all.1 up.1 rest
 
   -- where a flow still waits its place stays in the queue
-  stays-in : (queue : List Waiting) (place : ℕ) (g : Flow) → slice_get items place ≡ Some g
+  pub stays-in : (queue : List Waiting) (place : ℕ) (g : Flow) → slice_get items place ≡ Some g
       → 0 < outstanding (live g) → AllByRecursion (IsAt items) queue → IsIn place queue
       → IsIn place (filter still_waits queue)
   stays-in [] place g found waits all here = absurd here

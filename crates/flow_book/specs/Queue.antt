@@ -1,6 +1,6 @@
 -- The flows that wait for bytes, in the order in which they are served.
 use Rattle.std.specs.Prelude.{◌≡◌, ◌≢◌, ℕ, ◌<◌, ◌⊎◌, Bool, true, List, [], ◌∷◌, Some, option_map, slice_get, map}
-use Rattle.std.specs.Prelude.{◌+◌, ◌-◌, nat_le, nat_lt, if◌then◌else◌}
+use Rattle.std.specs.Prelude.{◌+◌, ◌-◌, nat_le, nat_lt, filter, if◌then◌else◌}
 use Rattle.std.specs.List.{AllByRecursion}
 use Rattle.minislots.specs.declared.config.Config.{Config}
 use Rattle.flow_book.specs.declared.flow.Flow.{Flow}
@@ -35,6 +35,16 @@ pub record IsQueueAmong (items : List Flow) (some : ℕ → Type 0) (queue : Lis
 -- all flows that wait are in the queue, by their turns
 abbrev pub IsQueue : List Flow → List Waiting → Type 0
 IsQueue items queue = IsQueueAmong items (λ place. Unit {0}) queue
+
+-- one of the queue waits for bytes
+abbrev pub still_waits : Waiting → Bool
+still_waits w = nat_lt 0 w.wants
+
+-- All that wait are in one of the two parts, each by their turns: those that a MAP served, and those of the queue
+-- that still wait and were not served
+pub record IsQueueIn (items : List Flow) (queue served : List Waiting) : Type 0 where
+  pub served_ones : IsQueueAmong items (λ place. IsIn place served) served
+  pub others : IsQueueAmong items (λ place. IsIn place served → ⊥) (filter still_waits queue)
 
 -- One was moved to its turn among those of the other places
 pub record IsMoved (items : List Flow) (w : Waiting) (queue : List Waiting) : Type 0 where

@@ -5,9 +5,8 @@ use Rattle.minislots.specs.declared.config.Config.{Config}
 use Rattle.flow_book.specs.declared.flow.Flow.{Flow}
 use Rattle.flow_book.specs.declared.queue.Waiting.{Waiting}
 use Rattle.flow_book.specs.Entry.{live, IsBook}
-use Rattle.flow_book.specs.Queue.{IsIn, IsQueue}
+use Rattle.flow_book.specs.Queue.{IsIn, IsQueue, still_waits}
 use Rattle.flow_book.specs.Overlay.{IsSameFlow}
-use Rattle.flow_book.specs.Pending.{still_waits}
 
 -- the flows of a book before and after (`items`) a MAP, and the queue after it: each flow that is not in it is the same
 pub record CanBeTaken (c : Config) (old items : List Flow) (queue : List Waiting) : Type 0 where

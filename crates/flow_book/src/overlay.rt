@@ -105,12 +105,12 @@ impl Overlay {
     // are the flows of the book.
     pub(crate) fn show(&self, flows: &[Flow], progress: u64) -> Result<Shown, AllocError>
         requires { map live flows.now ≡ self.now.before }
-        ensures pending { IfOk result (λ s. map (λ p. p.sid) s.pending.items
+        ensures pending { IfOk result (λ s. s.pending.items
             ≡ map (λ f. f.sid) (filter (is_shown self.now.config.pending self.now.flows) self.now.flows)) }
         ensures ack { IfOk result (λ s. s.ack ≡ ack_of self.now.config.pending progress self.now.flows) }
     {
         let most = self.config.pending() as usize;
-        show(*self.queue.allocator(), &self.queue, flows, most, progress)
+        show(*self.queue.allocator(), &self.queue, &[], flows, most, progress)
     }
 
     // Puts the flows with the data grants in the place of those before, and the queue of those that still wait in the

@@ -4,7 +4,7 @@ ghost use Rattle.std.specs.Prelude.{◌≡◌, List, map, filter, OnOk};
 ghost use Rattle.minislots.specs.declared.config.Config.{Config};
 ghost use Rattle.flow_book.specs.declared.flow.Flow.{Flow};
 ghost use Rattle.flow_book.specs.Entry.{live};
-ghost use Rattle.flow_book.specs.Pending.{still_waits};
+ghost use Rattle.flow_book.specs.Queue.{still_waits};
 ghost use Rattle.flow_book.specs.Taking.{CanBeTaken, IsTaken};
 
 use crate::flow::Flow;

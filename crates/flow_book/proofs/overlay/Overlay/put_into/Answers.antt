@@ -1,8 +1,7 @@
 -- The flows are taken over, and those of the queue that still wait are put back.
 use Rattle.std.proofs.Common.{◌≡◌, ◌∙◌, sym, subst, ap, map, filter, true, Result, Ok, Err, is_ok, OnOk}
 use Rattle.flow_book.specs.Entry.{live}
-use Rattle.flow_book.specs.Queue.{IsQueue}
-use Rattle.flow_book.specs.Pending.{still_waits}
+use Rattle.flow_book.specs.Queue.{IsQueue, still_waits}
 use Rattle.flow_book.specs.Taking.{CanBeTaken, IsTaken}
 use Rattle.flow_book.proofs.overlay.Overlay.put_into.Goals as goal
 
