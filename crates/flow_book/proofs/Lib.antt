@@ -7,13 +7,13 @@ pub mod FirstGrant
 pub mod Insertion
 pub mod Levels
 pub mod Lines
+pub mod Marked
 pub mod Matching
 pub mod Merging
 pub mod Order
 pub mod Overlays
 pub mod InParts
 pub mod Pendings
-pub mod Pigeons
 pub mod Places
 pub mod Profile
 pub mod Queues

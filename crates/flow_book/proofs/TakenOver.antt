@@ -1,11 +1,9 @@
 -- The flows of a book that takes in the data grants of a MAP, one by one.
 use Rattle.std.proofs.Common.{◌≡◌, refl, sym, ap, ◌∙◌, subst, ℕ, zero, suc, ◌+◌, ◌-◌, ◌<◌, ◌≤◌, ◌⊎◌, inl, inr}
-use Rattle.std.proofs.Common.{Bool, true, List, [], ◌∷◌, ◌++◌, map, filter, length, take, get_or, set, slice_get}
+use Rattle.std.proofs.Common.{List, [], ◌∷◌, ◌++◌, map, length, take, get_or, set, slice_get}
 use Rattle.std.proofs.Common.{Some, option_map, arith}
 use Rattle.std.specs.List.{AllByRecursion, AllZip}
 use Rattle.std.specs.Option.{option_map_or}
-use Rattle.std.proofs.lemmas.Bool.{cond_both, cases_eq}
-use Rattle.std.proofs.lemmas.Bool.Decides.{nat_tests}
 use Rattle.std.proofs.lemmas.List.{length-map, length-set, get_or-set_same, take_more}
 use Rattle.std.proofs.lemmas.List.Elements.{All-from_recursion, length_all_zip}
 use Rattle.std.proofs.lemmas.Option.{slice_get_within, slice_get-get_or, slice_get_read, slice_get-map}
@@ -20,11 +18,9 @@ use Rattle.flow_book.specs.Entry.{live, IsCopy, IsSoundFlow, KeepsSums}
 use Rattle.flow_book.specs.Sids.{AscendBy}
 use Rattle.flow_book.specs.Queue.{entry_of, IsAt, IsIn}
 use Rattle.flow_book.specs.Overlay.{IsSameFlow}
-use Rattle.flow_book.specs.Queue.{still_waits}
 use Rattle.flow_book.specs.Taking.{CanBeTaken, IsTaken}
-use Rattle.flow_book.proofs.Queues.{at-within, flow-at, entry-at, turn-at, wants-at, bucket-at, same-turn, same-but}
+use Rattle.flow_book.proofs.Queues.{at-within, flow-at, turn-at, wants-at, bucket-at, same-turn, same-but}
 use Rattle.flow_book.proofs.StillWaiting.{in-or-out, all-at}
-use Rattle.flow_book.proofs.Removal.{all-filter, ascends-filter}
 use Rattle.flow_book.proofs.Sums.{copy-sums}
 
 -- one of a list with one more is in the list or is that one

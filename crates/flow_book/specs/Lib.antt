@@ -19,3 +19,4 @@ pub mod Shown
 pub mod Pending
 pub mod Taking
 pub mod Line
+pub mod Marks

@@ -314,7 +314,7 @@ impl Book {
     /// not changed since.
     pub fn show(&self, overlay: &Overlay, progress: u64) -> Result<Shown, AllocError>
         requires { overlay.now.before ≡ self.now.flows }
-        ensures pending { IfOk result (λ s. map (λ p. p.sid) s.pending.items ≡ map (λ f. f.sid)
+        ensures pending { IfOk result (λ s. s.pending.items ≡ map (λ f. f.sid)
             (filter (is_shown overlay.now.config.pending overlay.now.flows) overlay.now.flows)) }
         ensures ack { IfOk result
             (λ s. s.ack ≡ ack_of overlay.now.config.pending progress overlay.now.flows) }

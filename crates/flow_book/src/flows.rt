@@ -1,7 +1,7 @@
 //! The live flows of a book, each in memory of its own.
 
 ghost use Rattle.std.specs.Prelude.{◌≡◌, ◌<◌, ◌≤◌, ◌==◌, ◌^◌, [], map, length, insert, remove, position, nat_lt, OnOk, OnErr};
-ghost use Rattle.std.specs.Prelude.{slice_get, slice_index_or, option_copied};
+ghost use Rattle.std.specs.Prelude.{slice_get, slice_index_or, option_copied, MatchOption};
 ghost use Rattle.std.specs.Borrow.{sem};
 ghost use Rattle.std.specs.List.{position_or_len};
 ghost use Rattle.flow_book.specs.Entry.{live};
@@ -67,7 +67,9 @@ impl Flows {
 
     // The flow at this place, if there is one.
     pub(crate) fn get(&self, place: usize) -> Option<&Flow>
-        ensures { option_copied result ≡ slice_get self.now place }
+        ensures value { option_copied result ≡ slice_get self.now place }
+        ensures within { MatchOption result (length self.now ≤ place)
+            (λ f. (place < length self.now) × (f.now ≡ slice_index_or self.now place f.now)) }
     {
         if place < self.len() {
             return Some(self.at(place));

@@ -110,7 +110,14 @@ impl Overlay {
     {
         let bytes = self.config.most_in(room);
         let room = Room { slots: room, bytes };
-        let Some(standing) = first_of(&self.queue, self.first, &self.served, &self.config, start, room) else {
+        let Some(standing) = first_of(
+            &self.queue,
+            self.first,
+            &self.served,
+            &self.config,
+            start,
+            room,
+        ) else {
             return Ok(None);
         };
         let mut waiting = one_at(&self.queue, &self.served, standing);
@@ -126,14 +133,19 @@ impl Overlay {
     // are the flows of the book.
     pub(crate) fn show(&self, flows: &Flows, progress: u64) -> Result<Shown, AllocError>
         requires { map live flows.now ≡ self.now.before }
-        ensures pending { IfOk result (λ s. map (λ p. p.sid) s.pending.items
+        ensures pending { IfOk result (λ s. s.pending.items
             ≡ map (λ f. f.sid) (filter (is_shown self.now.config.pending self.now.flows) self.now.flows)) }
         ensures ack { IfOk result (λ s. s.ack ≡ ack_of self.now.config.pending progress self.now.flows) }
     {
         let most = self.config.pending() as usize;
-        let mut queue = Vec::new(*self.queue.allocator());
-        merge(&mut queue, &self.queue, &self.served)?;
-        show(*self.queue.allocator(), &queue, flows, most, progress)
+        show(
+            *self.queue.allocator(),
+            &self.queue,
+            &self.served,
+            flows,
+            most,
+            progress,
+        )
     }
 
     // Puts the flows with the data grants in the place of those before, and the queue of those that still wait in the
