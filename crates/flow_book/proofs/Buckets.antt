@@ -101,13 +101,7 @@ module _ (c : Config) (rate burst : ℕ) (b : BucketView) (grants : List Grant)
       | inr differ ↦ (let most = most-limited b slot limit differ in omega (arith, has-more (omega arith) kept))
     ]
 
--- a bucket without a ceiling is settled by one grant more
-pub settled-same : (b : BucketView) (grants : List Grant) (slot n : ℕ) → b.per_slot ≡ 0 → IsSettled b grants
-    → IsSettled b (grants ++ one_more slot n)
-settled-same b grants slot n none is =
-    record { level = is.level; started = λ some. absurd (omega (arith, none, some)); first = is.first }
-
--- and so is one with a ceiling that has less at its start
+-- a bucket with a ceiling that has less is settled by one grant more, from its start on
 pub settled-spent : (b : BucketView) (grants : List Grant) (slot n left : ℕ) → 0 < b.per_slot → left ≤ b.full
     → HaveStartedBy slot grants
     → IsSettled (record b { level = left; since = slot }) (grants ++ one_more slot n)

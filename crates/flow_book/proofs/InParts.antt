@@ -1,6 +1,6 @@
 -- The two parts of the queue while a MAP is planned.
-use Rattle.std.proofs.Common.{◌≡◌, ◌≢◌, refl, sym, ap, ◌∙◌, subst, ℕ, zero, suc, ◌<◌, ◌≤◌, ◌⊎◌, inl, inr, true, false}
-use Rattle.std.proofs.Common.{List, [], ◌∷◌, filter, take, drop, length, get_or, set, remove, slice_get, Option, Some, None, map, arith}
+use Rattle.std.proofs.Common.{◌≡◌, ◌≢◌, refl, sym, ap, ◌∙◌, subst, ℕ, zero, suc, ◌<◌, ◌≤◌, inl, inr, true, false}
+use Rattle.std.proofs.Common.{List, [], ◌∷◌, filter, take, drop, get_or, set, remove, slice_get, Option, Some, None, map, arith}
 use Rattle.std.specs.List.{AllByRecursion}
 use Rattle.std.specs.Option.{MatchOption}
 use Rattle.std.proofs.lemmas.Bool.{cases_eq}
@@ -98,8 +98,10 @@ module _ (items : List Flow) (queue served : List Waiting) (is : IsQueueIn items
         ];
         others = among-as items (λ k. IsIn k served → ⊥) (λ k. (IsIn k left → ⊥) × (k ≢ waiting.place))
             (filter still_waits queue)
-            (λ k out. ((λ in-it. out (in-removed k served i in-it)),
-            (λ equal. out (subst (λ n. IsIn n served) (sym equal) there))))
+            (λ k out. (
+              (λ in-it. out (in-removed k served i in-it)),
+              (λ equal. out (subst (λ n. IsIn n served) (sym equal) there)),
+            ))
             (λ k both in-it. both.0 (stays k both.1 in-it)) is.others;
         is = put;
       }

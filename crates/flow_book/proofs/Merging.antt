@@ -11,8 +11,7 @@ use Rattle.flow_book.specs.declared.flow.Flow.{Flow}
 use Rattle.flow_book.specs.declared.queue.Waiting.{Waiting}
 use Rattle.sched_calls.specs.FlowSpec.{rank_of}
 use Rattle.flow_book.specs.Choice.{last_start}
-use Rattle.flow_book.specs.Flows.{outstanding}
-use Rattle.flow_book.specs.Entry.{live, IsBook, IsTurn}
+use Rattle.flow_book.specs.Entry.{IsBook, IsTurn}
 use Rattle.flow_book.specs.Sids.{AscendBy}
 use Rattle.flow_book.specs.Queue.{IsAt, IsIn, IsQueue, IsQueueAmong, IsQueueIn, still_waits}
 use Rattle.flow_book.specs.Taking.{AreApart, AreMerged}
@@ -105,8 +104,11 @@ fresh-in : (items : List Flow) (front : List Waiting) (w : Waiting) (back : List
     → IsIn w.place front → ⊥
 fresh-in items [] w back all up here = here
 fresh-in items (v ∷ front) w back all up (inl same) =
-    omega (arith, all-here (λ u. v.turn < u.turn) front w back up.0,
-    same-turn items v w all.0 (all-here (IsAt items) front w back all.1) same)
+    omega (
+      arith,
+      all-here (λ u. v.turn < u.turn) front w back up.0,
+      same-turn items v w all.0 (all-here (IsAt items) front w back all.1) same,
+    )
 fresh-in items (v ∷ front) w back all up (inr rest) = fresh-in items front w back all.1 up.1 rest
 
 -- where all are gone through none is left
@@ -123,8 +125,12 @@ none-behind c items are front (w ∷ back) all high =
     let at = all-here (IsAt items) front w back all in
     let f = flow-at items w (slice_get items w.place) refl at in
     let knows = knows-at c items are w.place f.0 f.1 in
-    absurd (omega (arith, high.0, turn-at items w f.0 at f.1,
-    turn-low (rank_of f.0.spec) (last_start f.0.grants.items) f.0.sid f.0.turn knows.1))
+    absurd (omega (
+      arith,
+      high.0,
+      turn-at items w f.0 at f.1,
+      turn-low (rank_of f.0.spec) (last_start f.0.grants.items) f.0.sid f.0.turn knows.1,
+    ))
 
 module _ (c : Config) (items : List Flow) (are : IsBook c items) where
   module _ (some more : ℕ → Type 0) (queue : List Waiting) (w : Waiting) (at : IsAt items w)
@@ -273,8 +279,11 @@ module _ (c : Config) (items : List Flow) (are : IsBook c items) where
         -- where it waits none of those that are left is earlier
         pub left-late : AllByRecursion (λ v. w.turn ≤ v.turn) (filter still_waits (drop i from))
         left-late =
-            rw left-is (omega arith, all-implied (λ v. w.turn < v.turn) (λ v. w.turn ≤ v.turn)
-            (filter still_waits (drop (i + 1) from)) (λ v less. omega (arith, less)) later-left)
+            rw left-is (
+              omega arith,
+              all-implied (λ v. w.turn < v.turn) (λ v. w.turn ≤ v.turn)
+                  (filter still_waits (drop (i + 1) from)) (λ v less. omega (arith, less)) later-left,
+            )
 
         -- and it is put behind the queue
         pub merged-next : (at : ℕ) (queue : List Waiting) → AllByRecursion (λ v. w.turn ≤ v.turn) (drop at served)

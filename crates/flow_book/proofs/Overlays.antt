@@ -1,11 +1,11 @@
 -- An overlay as its book's flows are, and with one data grant more.
-use Rattle.std.proofs.Common.{◌≡◌, ◌≢◌, refl, sym, ap, ◌∙◌, subst, ℕ, ◌+◌, ◌<◌, ◌≤◌, ◌==◌, ◌⊎◌, inl, inr, min, Option, List, [], ◌∷◌, ◌++◌}
-use Rattle.std.proofs.Common.{map, filter, true, set, length, get_or, slice_get, Some, option_map, arith}
+use Rattle.std.proofs.Common.{◌≡◌, ◌≢◌, refl, sym, ap, ◌∙◌, subst, ℕ, ◌+◌, ◌≤◌, ◌==◌, ◌⊎◌, inl, inr, min, Option, List, [], ◌∷◌, ◌++◌}
+use Rattle.std.proofs.Common.{map, filter, true, set, get_or, slice_get, Some, option_map, arith}
 use Rattle.std.specs.List.{AllZip, AllByRecursion}
 use Rattle.std.specs.Option.{IfSome}
 use Rattle.std.proofs.lemmas.Bool.{cases_eq, cond_both}
 use Rattle.std.proofs.lemmas.List.{length-set, get_or-set_same}
-use Rattle.std.proofs.lemmas.Option.{slice_get-map, slice_get-get_or, slice_get_within, get_or_from_slice_get, slice_get_read}
+use Rattle.std.proofs.lemmas.Option.{slice_get-map, slice_get-get_or, slice_get_within, get_or_from_slice_get}
 use Rattle.minislots.specs.declared.config.Config.{Config}
 use Rattle.minislots.specs.Config.{IsLawful}
 use Rattle.minislots.specs.Units.{bytes_in}
@@ -241,8 +241,10 @@ module _ (c : Config) (items : List Flow) (queue served queue_after served_after
         | inl equal ↦ both.1 equal
         | inr old ↦ both.0 old
       ])
-      (λ k out. ((λ in-it. out (in-old k new put.left in-it)),
-      (λ equal. out (subst (λ n. IsIn n (with-one new put.left)) (sym equal) (in-new new put.left)))))
+      (λ k out. (
+        (λ in-it. out (in-old k new put.left in-it)),
+        (λ equal. out (subst (λ n. IsIn n (with-one new put.left)) (sym equal) (in-new new put.left))),
+      ))
       (among-same Others w.place items granted-items (filter still_waits queue_after)
       (λ k both equal. both.1 (equal ∙ sym same)) (same-but items w.place granted-flow) put.others)
 

@@ -6,9 +6,9 @@ use Rattle.sched_calls.specs.FlowSpec.{rank_of, rate_of, burst_of}
 use Rattle.flow_book.specs.declared.flow.Flow.{Flow}
 use Rattle.flow_book.specs.declared.queue.Waiting.{Waiting}
 use Rattle.flow_book.specs.Flows.{LiveFlow, outstanding}
-use Rattle.flow_book.specs.Bucket.{StandsFor, IsSettled, BucketView}
+use Rattle.flow_book.specs.Bucket.{BucketView}
 use Rattle.flow_book.specs.Choice.{last_start}
-use Rattle.flow_book.specs.Entry.{live, IsBook, IsTurn, KeepsSums, KnowsTurn}
+use Rattle.flow_book.specs.Entry.{live, IsBook, IsTurn, KeepsSums}
 use Rattle.flow_book.specs.Queue.{entry_of, IsAt, IsIn, IsQueueAmong, IsQueueIn, still_waits}
 use Rattle.flow_book.proofs.Buckets.{same-bucket}
 use Rattle.flow_book.proofs.Queues.{same-some}

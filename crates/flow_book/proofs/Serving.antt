@@ -52,13 +52,7 @@ pick P place [] here all = absurd here
 pick P place (w ∷ queue) (inl here) all = (w, here, all.0)
 pick P place (w ∷ queue) (inr rest) all = pick P place queue rest all.1
 
--- of those behind a member
-pub all-back : {X : Type 0} (P : X → Type 0) (front : List X) (w : X) (back : List X)
-    → AllByRecursion P (front ++ w ∷ back) → AllByRecursion P back
-all-back P [] w back all = all.1
-all-back P (x ∷ front) w back all = all-back P front w back all.1
-
--- of the member
+-- what holds of each holds of one of them
 pub all-here : {X : Type 0} (P : X → Type 0) (front : List X) (w : X) (back : List X)
     → AllByRecursion P (front ++ w ∷ back) → P w
 all-here P [] w back all = all.0

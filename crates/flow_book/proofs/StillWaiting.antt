@@ -1,6 +1,6 @@
 -- Those of a queue that still wait.
 use Rattle.std.proofs.Common.{◌≡◌, refl, sym, ap, ◌∙◌, subst, ℕ, zero, suc, ◌<◌, ◌⊎◌, inl, inr, Bool, true, false, cond}
-use Rattle.std.proofs.Common.{List, [], ◌∷◌, ◌++◌, filter, length, get_or, set, remove, slice_get, Some, None, take, drop, arith}
+use Rattle.std.proofs.Common.{List, [], ◌∷◌, ◌++◌, filter, length, get_or, set, remove, slice_get, Some, take, drop, arith}
 use Rattle.std.proofs.Common.{◌+◌, ◌≤◌, not, nat_lt}
 use Rattle.std.specs.List.{AllByRecursion, position_or_len}
 use Rattle.std.proofs.lemmas.List.{take-append-drop}

@@ -1,11 +1,9 @@
 -- The flows of a book that takes in the data grants of a MAP, one by one.
 use Rattle.std.proofs.Common.{◌≡◌, refl, sym, ap, ◌∙◌, subst, ℕ, zero, suc, ◌+◌, ◌-◌, ◌<◌, ◌≤◌, ◌⊎◌, inl, inr}
-use Rattle.std.proofs.Common.{Bool, true, List, [], ◌∷◌, ◌++◌, map, filter, length, take, get_or, set, slice_get}
+use Rattle.std.proofs.Common.{List, [], ◌∷◌, ◌++◌, map, length, take, get_or, set, slice_get}
 use Rattle.std.proofs.Common.{Some, option_map, arith}
 use Rattle.std.specs.List.{AllByRecursion, AllZip}
 use Rattle.std.specs.Option.{option_map_or}
-use Rattle.std.proofs.lemmas.Bool.{cond_both, cases_eq}
-use Rattle.std.proofs.lemmas.Bool.Decides.{nat_tests}
 use Rattle.std.proofs.lemmas.List.{length-map, length-set, get_or-set_same, take_more}
 use Rattle.std.proofs.lemmas.List.Elements.{All-from_recursion, length_all_zip}
 use Rattle.std.proofs.lemmas.Option.{slice_get_within, slice_get-get_or, slice_get_read, slice_get-map}
@@ -14,17 +12,15 @@ use Rattle.flow_book.specs.declared.flow.Flow.{Flow}
 use Rattle.flow_book.specs.declared.flow.Grant.{Grant}
 use Rattle.flow_book.specs.declared.granted.GrantList.{GrantList}
 use Rattle.flow_book.specs.declared.queue.Waiting.{Waiting}
-use Rattle.flow_book.specs.Flows.{LiveFlow, outstanding}
+use Rattle.flow_book.specs.Flows.{LiveFlow}
 use Rattle.flow_book.specs.FlowList.{grants_at}
 use Rattle.flow_book.specs.Entry.{live, IsCopy, IsSoundFlow, KeepsSums}
 use Rattle.flow_book.specs.Sids.{AscendBy}
-use Rattle.flow_book.specs.Queue.{entry_of, IsAt, IsIn}
+use Rattle.flow_book.specs.Queue.{IsAt, IsIn}
 use Rattle.flow_book.specs.Overlay.{IsSameFlow}
-use Rattle.flow_book.specs.Queue.{still_waits}
 use Rattle.flow_book.specs.Taking.{CanBeTaken, IsTaken}
-use Rattle.flow_book.proofs.Queues.{at-within, flow-at, entry-at, turn-at, wants-at, bucket-at, same-turn, same-but}
+use Rattle.flow_book.proofs.Queues.{at-within, flow-at, turn-at, wants-at, bucket-at, same-turn, same-but}
 use Rattle.flow_book.proofs.StillWaiting.{in-or-out, all-at}
-use Rattle.flow_book.proofs.Removal.{all-filter, ascends-filter}
 use Rattle.flow_book.proofs.Sums.{copy-sums}
 
 -- one of a list with one more is in the list or is that one
@@ -80,13 +76,6 @@ same-shown (f ∷ new) [] long each = absurd (omega arith)
 same-shown (f ∷ new) (g ∷ items) long each =
     ap (λ h. h ∷ map live new) (each 0 f g refl refl)
     ∙ ap (λ hs. live g ∷ hs) (same-shown new items (omega arith) (λ k. each (suc k)))
-
--- a copy has the same entry
-copy-entry : (f g : Flow) → IsCopy g f → entry_of f ≡ entry_of g
-copy-entry f g is =
-    let wants : outstanding (live f) ≡ outstanding (live g) = ap outstanding is.same in
-    ap (λ n. (n, outstanding (live f), f.bucket)) is.turn ∙ ap (λ n. (g.turn, n, f.bucket)) wants
-    ∙ ap (λ b. (g.turn, outstanding (live g), b)) is.bucket
 
 module _ (items : List Flow) where
   -- none of those before it in the queue is at its place

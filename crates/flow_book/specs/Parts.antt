@@ -1,5 +1,5 @@
 -- The two parts of the queue while a MAP is planned: those that it served, and the others.
-use Rattle.std.specs.Prelude.{◌≡◌, ◌≢◌, ℕ, ◌<◌, ◌≤◌, ◌⊎◌, true, List, filter, map, Option, None, Some, slice_get, length}
+use Rattle.std.specs.Prelude.{◌≡◌, ◌≢◌, ℕ, ◌≤◌, ◌⊎◌, true, List, filter, map, Option, None, Some, slice_get, length}
 use Rattle.std.specs.Prelude.{take, drop}
 use Rattle.std.specs.List.{AllByRecursion}
 use Rattle.minislots.specs.declared.config.Config.{Config}

@@ -1,5 +1,5 @@
 -- Those of turns no later stand before the others.
-use Rattle.std.proofs.Common.{◌≡◌, ◌∙◌, sym, subst, Some, slice_get, get_or, length, take, drop, ◌≤◌, ℕ}
+use Rattle.std.proofs.Common.{◌≡◌, ◌∙◌, sym, subst, Some, get_or, take, drop, ◌≤◌, ℕ}
 use Rattle.std.specs.List.{AllByRecursion}
 use Rattle.std.proofs.lemmas.Option.{slice_get-get_or}
 use Rattle.flow_book.specs.declared.queue.Waiting.{Waiting}

@@ -1,5 +1,5 @@
 -- The first of those served before the first of the queue is next, and else that is.
-use Rattle.std.proofs.Common.{◌≡◌, sym, Some, None}
+use Rattle.std.proofs.Common.{Some, None}
 use Rattle.flow_book.proofs.InParts.{queued-part, served-part, again-next, queued-next}
 use Rattle.flow_book.proofs.parts.first_of.Goals as goal
 

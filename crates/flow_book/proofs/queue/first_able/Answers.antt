@@ -6,10 +6,8 @@ use Rattle.std.proofs.lemmas.Bool.Decides.{nat_tests}
 use Rattle.std.proofs.lemmas.List.{take_more, drop_more, take-append-drop, take_all}
 use Rattle.std.proofs.lemmas.Option.{slice_get_read}
 use Rattle.flow_book.specs.declared.flow.Flow.{Flow}
-use Rattle.flow_book.specs.declared.queue.Waiting.{Waiting}
 use Rattle.flow_book.specs.Choice.{IsEligible}
 use Rattle.flow_book.specs.Entry.{live}
-use Rattle.flow_book.specs.Sids.{AscendBy}
 use Rattle.flow_book.specs.Queue.{IsPassed, still_waits}
 use Rattle.minislots.proofs.Bounds.{bounds_of}
 use Rattle.flow_book.proofs.Order.{all-implied}

@@ -1,6 +1,4 @@
 -- The queue of a book is one of two parts, of which the other is empty.
-use Rattle.std.proofs.Common.{◌≡◌, Some, None, Option}
-use Rattle.std.specs.Option.{MatchOption}
 use Rattle.flow_book.proofs.Serving.{whole-part, whole-next}
 use Rattle.flow_book.proofs.queue.first_in_turn.Goals as goal
 

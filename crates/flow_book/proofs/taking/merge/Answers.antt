@@ -2,7 +2,7 @@
 use Rattle.std.proofs.Common.{◌≡◌, ◌≤◌, filter, take, drop, length, true, false, arith}
 use Rattle.std.proofs.lemmas.Bool.Decides.{nat_tests}
 use Rattle.flow_book.specs.Queue.{still_waits}
-use Rattle.flow_book.proofs.Merging.{apart, merged-none, merged-idle, merged-next, merged-whole, left-late, none-left}
+use Rattle.flow_book.proofs.Merging.{apart, merged-idle, merged-next, merged-whole, left-late, none-left}
 use Rattle.flow_book.proofs.taking.merge.Goals as goal
 use Rattle.flow_book.proofs.taking.merge.Goals.{then-waiting-gt0+in_ok-at+in_ok-push, else-waiting-gt0}
 

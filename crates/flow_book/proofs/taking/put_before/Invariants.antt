@@ -1,5 +1,5 @@
 -- Those gone through are merged.
-use Rattle.std.proofs.Common.{ℕ, ◌-◌, ◌≤◌, List, length}
+use Rattle.std.proofs.Common.{◌-◌, ◌≤◌, List, length}
 use Rattle.std.specs.List.{AllByRecursion}
 use Rattle.minislots.specs.declared.config.Config.{Config}
 use Rattle.flow_book.specs.declared.flow.Flow.{Flow}

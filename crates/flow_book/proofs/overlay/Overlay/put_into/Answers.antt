@@ -1,7 +1,6 @@
 -- Those served are taken over, and all that still wait are merged.
 use Rattle.std.proofs.Common.{◌≡◌, sym, map, true, Result, Ok, Err, is_ok, OnOk, ◌∙◌}
 use Rattle.flow_book.specs.Entry.{live}
-use Rattle.flow_book.specs.Queue.{IsQueue}
 use Rattle.flow_book.specs.Taking.{CanBeTaken, IsTaken}
 use Rattle.flow_book.proofs.SameEntries.{same-parts}
 use Rattle.flow_book.proofs.overlay.Overlay.put_into.Goals as goal
