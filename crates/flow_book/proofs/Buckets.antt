@@ -1,5 +1,6 @@
 -- The grants that a bucket stands for, before and after one more.
-use Rattle.std.proofs.Common.{◌≡◌, ◌≢◌, refl, sym, ap, ◌∙◌, subst, ℕ, ◌+◌, ◌-◌, ◌*◌, ◌/◌, ◌<◌, ◌≤◌, ◌^◌, ◌==◌, min, List, ◌++◌}
+use Rattle.std.proofs.Common.{◌≡◌, ◌≢◌, refl, sym, ap, ◌∙◌, subst, ℕ, ◌+◌, ◌-◌, ◌*◌, ◌/◌, ◌<◌, ◌≤◌, ◌^◌, ◌==◌, min}
+use Rattle.std.proofs.Common.{List, ◌++◌}
 use Rattle.std.proofs.Common.{false, inl, inr, arith}
 use Rattle.std.proofs.lemmas.Nat.{mul-lt, mul-le}
 use Rattle.std.proofs.lemmas.Bool.{cases_eq}
@@ -101,13 +102,7 @@ module _ (c : Config) (rate burst : ℕ) (b : BucketView) (grants : List Grant)
       | inr differ ↦ (let most = most-limited b slot limit differ in omega (arith, has-more (omega arith) kept))
     ]
 
--- a bucket without a ceiling is settled by one grant more
-pub settled-same : (b : BucketView) (grants : List Grant) (slot n : ℕ) → b.per_slot ≡ 0 → IsSettled b grants
-    → IsSettled b (grants ++ one_more slot n)
-settled-same b grants slot n none is =
-    record { level = is.level; started = λ some. absurd (omega (arith, none, some)); first = is.first }
-
--- and so is one with a ceiling that has less at its start
+-- a bucket with a ceiling that has less is settled by one grant more, from its start on
 pub settled-spent : (b : BucketView) (grants : List Grant) (slot n left : ℕ) → 0 < b.per_slot → left ≤ b.full
     → HaveStartedBy slot grants
     → IsSettled (record b { level = left; since = slot }) (grants ++ one_more slot n)
@@ -132,7 +127,8 @@ same-fields x y per full level since =
     ∙ ap (λ n. record { per_slot = y.per_slot; full = y.full; level = y.level; since = n }) since
 
 -- the grants that it stands for decide a bucket
-pub same-bucket : (c : Config) (rate burst : ℕ) (x y : BucketView) (grants : List Grant) → StandsFor c rate burst x grants
+pub same-bucket : (c : Config) (rate burst : ℕ) (x y : BucketView) (grants : List Grant)
+    → StandsFor c rate burst x grants
     → StandsFor c rate burst y grants → IsSettled x grants → IsSettled y grants → x ≡ y
 same-bucket c rate burst x y grants stands stands' is is' =
     let per : x.per_slot ≡ y.per_slot = stands.per_slot ∙ sym stands'.per_slot in
@@ -141,7 +137,12 @@ same-bucket c rate burst x y grants stands stands' is is' =
       | inl none ↦ (
           let free = no-ceiling c rate burst x grants stands none in
           let empty : x.full ≡ 0 = rw free at stands.full in
-          same-fields x y per full (omega (arith, is.level, is'.level)) (omega (arith, is.first none, is'.first (sym per ∙ none))))
+          same-fields x y per full (omega (arith, is.level, is'.level)) (omega (
+            arith,
+            is.first none,
+            is'.first
+                (sym per ∙ none),
+          )))
       | inr differ ↦ (
           let some : 0 < x.per_slot = omega arith in
           let some' : 0 < y.per_slot = omega arith in

@@ -1,6 +1,7 @@
 -- The two parts of the queue while a MAP is planned.
 use Rattle.std.proofs.Common.{◌≡◌, ◌≢◌, refl, sym, ap, ◌∙◌, subst, ℕ, zero, suc, ◌<◌, ◌≤◌, inl, inr, true, false}
-use Rattle.std.proofs.Common.{List, [], ◌∷◌, filter, take, drop, get_or, set, remove, slice_get, Option, Some, None, map, arith}
+use Rattle.std.proofs.Common.{List, [], ◌∷◌, filter, take, drop, get_or, set, remove, slice_get, Option, Some, None}
+use Rattle.std.proofs.Common.{map, arith}
 use Rattle.std.specs.List.{AllByRecursion}
 use Rattle.std.specs.Option.{MatchOption}
 use Rattle.std.proofs.lemmas.Bool.{cases_eq}
@@ -12,7 +13,8 @@ use Rattle.flow_book.specs.declared.queue.Waiting.{Waiting}
 use Rattle.flow_book.specs.declared.parts.Standing.TheVariants.{Queued, Served}
 use Rattle.flow_book.specs.Choice.{NoneEligible}
 use Rattle.flow_book.specs.Entry.{live}
-use Rattle.flow_book.specs.Queue.{IsAt, IsIn, IsQueueAmong, IsQueueIn, IsPassed, IsNoEarlier, HasStartedPart, IsFirstAble, NoneWaitsBefore}
+use Rattle.flow_book.specs.Queue.{IsAt, IsIn, IsQueueAmong, IsQueueIn, IsPassed, IsNoEarlier, HasStartedPart}
+use Rattle.flow_book.specs.Queue.{IsFirstAble, NoneWaitsBefore}
 use Rattle.flow_book.specs.Queue.{still_waits}
 use Rattle.flow_book.specs.Parts.{HasStartedIn, IsAheadOf, IsNextIn, IsPutIn}
 use Rattle.flow_book.proofs.Order.{all-implied}
@@ -40,7 +42,8 @@ none-set (suc first) [] (suc i) e gone none = none
 none-set (suc first) (w ∷ queue) zero e gone none = (gone, none.1)
 none-set (suc first) (w ∷ queue) (suc i) e gone none = (none.0, none-set first queue i e gone none.1)
 
-module _ (items : List Flow) (queue served : List Waiting) (is : IsQueueIn items queue served) (i : ℕ) (w waiting : Waiting)
+module _ (items : List Flow) (queue served : List Waiting) (is : IsQueueIn items queue served) (i : ℕ)
+    (w waiting : Waiting)
     (same : w.place ≡ waiting.place) where
   -- one of the queue that is served goes to those served
   pub put-queued : (e : Waiting) (after : List Waiting) → slice_get queue i ≡ Some w → still_waits w ≡ true
@@ -168,7 +171,8 @@ module _ (c : Config) (items : List Flow) (queue served : List Waiting) (start r
         waits = first.waits;
         flow = first.flow;
         stands = first.at;
-        next = first-next c start room items has.book queue served has.order w first.flow first.at at first.may late late';
+        next = first-next c start room items has.book queue served has.order w first.flow first.at at first.may late
+            late';
       }
 
   -- and where none of these may be served the first of the queue is, or none
@@ -181,7 +185,8 @@ module _ (c : Config) (items : List Flow) (queue served : List Waiting) (start r
       (λ i. IsNextIn c items queue served start room (Queued i))
   queued-next ahead None passed all passed' =
       let none : AllByRecursion (IsPassed c start room items) (drop ahead served) =
-      subst (λ ws. AllByRecursion (IsPassed c start room items) ws) (sym (drop_all ahead served (omega (arith, all)))) tt in
+      subst (λ ws. AllByRecursion (IsPassed c start room items) ws) (sym (drop_all ahead served (omega
+      (arith, all)))) tt in
       none-next c start room items has.book queue served has.order passed
       (kept-parts (IsPassed c start room items) still_waits ahead served passed' none)
   queued-next ahead (Some i) first around passed' =
@@ -189,7 +194,8 @@ module _ (c : Config) (items : List Flow) (queue served : List Waiting) (start r
       let P = IsNoEarlier c start room items w.turn in
       let at = kept-of items queue i w first.here first.waits has.order.others.each in
       let late' = kept-parts P still_waits ahead served
-      (all-implied (IsPassed c start room items) P (filter still_waits (take ahead served)) (λ v pass. inl pass) passed')
+      (all-implied (IsPassed c start room items) P (filter still_waits (take ahead served))
+      (λ v pass. inl pass) passed')
       (all-implied (λ v. w.turn ≤ v.turn) P (drop ahead served) (λ v le. inr le) (around w first.here).1) in
       record {
         waiting = w;
@@ -197,6 +203,7 @@ module _ (c : Config) (items : List Flow) (queue served : List Waiting) (start r
         waits = first.waits;
         flow = first.flow;
         stands = first.at;
-        next = first-next c start room items has.book queue served has.order w first.flow first.at at first.may first.first
+        next = first-next c start room items has.book queue served has.order w first.flow first.at at first.may
+            first.first
             late';
       }

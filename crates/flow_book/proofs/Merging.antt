@@ -1,6 +1,8 @@
 -- The two parts of a queue are put into one, by their turns.
-use Rattle.std.proofs.Common.{◌≡◌, refl, sym, ap, ◌∙◌, subst, ℕ, zero, suc, ◌+◌, ◌-◌, ◌^◌, ◌<◌, ◌≤◌, ◌⊎◌, inl, inr, Bool, true, false, cond}
-use Rattle.std.proofs.Common.{List, [], ◌∷◌, ◌++◌, filter, take, drop, length, get_or, slice_get, nat_lt, Option, Some, None, arith}
+use Rattle.std.proofs.Common.{◌≡◌, refl, sym, ap, ◌∙◌, subst, ℕ, zero, suc, ◌+◌, ◌-◌, ◌^◌, ◌<◌, ◌≤◌, ◌⊎◌, inl, inr}
+use Rattle.std.proofs.Common.{Bool, true, false, cond}
+use Rattle.std.proofs.Common.{List, [], ◌∷◌, ◌++◌, filter, take, drop, length, get_or, slice_get, nat_lt, Option}
+use Rattle.std.proofs.Common.{Some, None, arith}
 use Rattle.std.specs.List.{AllByRecursion}
 use Rattle.std.proofs.lemmas.Bool.Decides.{nat_tests}
 use Rattle.std.proofs.lemmas.List.{append-nil, take_more, drop_more, take_all, drop_all, take-append-drop}
@@ -199,7 +201,8 @@ module _ (c : Config) (items : List Flow) (are : IsBook c items) where
       (λ v le. omega (arith, le, m.ahead.0)) m.before in
       let one : filter still_waits (w ∷ []) ≡ w ∷ [] = rw waits refl in
       record {
-        order = subst (λ ws. IsQueueAmong items (λ k. IsIn k (done ++ w ∷ []) ⊎ IsIn k (take at served)) (queue ++ ws)) one
+        order = subst (λ ws. IsQueueAmong items (λ k. IsIn k (done ++ w ∷ []) ⊎ IsIn k (take at served))
+            (queue ++ ws)) one
             (step (λ k. IsIn k done ⊎ IsIn k (take at served))
             (λ k. IsIn k (done ++ w ∷ []) ⊎ IsIn k (take at served)) queue w stands
             (λ k may. queued-only done (take at served) w k may)
@@ -217,7 +220,8 @@ module _ (c : Config) (items : List Flow) (are : IsBook c items) where
     pub apart : (n : ℕ) → AreApart (filter still_waits (take n from)) served
     apart n k in-it there =
         let is : filter still_waits from ≡ filter still_waits (take n from) ++ filter still_waits (drop n from) =
-        ap (filter still_waits) (sym (take-append-drop n from)) ∙ filter-append still_waits (take n from) (drop n from) in
+        ap (filter still_waits) (sym (take-append-drop n from)) ∙ filter-append still_waits (take n from)
+        (drop n from) in
         let all = all-front (λ v. IsIn v.place served → ⊥) (filter still_waits (take n from))
         (filter still_waits (drop n from)) (rw is at parts.others.among) in
         let v = pick (λ v. IsIn v.place served → ⊥) k (filter still_waits (take n from)) in-it all in
@@ -245,7 +249,8 @@ module _ (c : Config) (items : List Flow) (are : IsBook c items) where
       split-from : from ≡ take i from ++ w ∷ drop (i + 1) from
       split-from = sym (take-append-drop i from) ∙ ap (λ ws. take i from ++ ws) split-drop
 
-      one-taken : filter still_waits (take (i + 1) from) ≡ filter still_waits (take i from) ++ filter still_waits (w ∷ [])
+      one-taken : filter still_waits (take (i + 1) from) ≡ filter still_waits (take i from) ++ filter still_waits
+          (w ∷ [])
       one-taken =
           ap (filter still_waits) (take_more from i w lt ∙ ap (λ u. take i from ++ u ∷ []) (sym is))
           ∙ filter-append still_waits (take i from) (w ∷ [])
@@ -253,7 +258,8 @@ module _ (c : Config) (items : List Flow) (are : IsBook c items) where
       -- where one waits for nothing as much is done
       pub merged-idle : (at : ℕ) (queue : List Waiting) → still_waits w ≡ false
           → AreMerged items (filter still_waits (take i from)) (filter still_waits (drop i from)) served at queue
-          → AreMerged items (filter still_waits (take (i + 1) from)) (filter still_waits (drop (i + 1) from)) served at queue
+          → AreMerged items (filter still_waits (take (i + 1) from)) (filter still_waits (drop
+          (i + 1) from)) served at queue
       merged-idle at queue idle m =
           let done : filter still_waits (take (i + 1) from) ≡ filter still_waits (take i from) =
           one-taken ∙ rw idle (append-nil (filter still_waits (take i from))) in
@@ -288,7 +294,8 @@ module _ (c : Config) (items : List Flow) (are : IsBook c items) where
         -- and it is put behind the queue
         pub merged-next : (at : ℕ) (queue : List Waiting) → AllByRecursion (λ v. w.turn ≤ v.turn) (drop at served)
             → AreMerged items (filter still_waits (take i from)) (filter still_waits (drop i from)) served at queue
-            → AreMerged items (filter still_waits (take (i + 1) from)) (filter still_waits (drop (i + 1) from)) served at
+            → AreMerged items (filter still_waits (take (i + 1) from)) (filter still_waits (drop
+            (i + 1) from)) served at
             (queue ++ w ∷ [])
         merged-next at queue behind m =
             let front = filter still_waits (take i from) in

@@ -1,5 +1,6 @@
 -- An overlay as its book's flows are, and with one data grant more.
-use Rattle.std.proofs.Common.{◌≡◌, ◌≢◌, refl, sym, ap, ◌∙◌, subst, ℕ, ◌+◌, ◌≤◌, ◌==◌, ◌⊎◌, inl, inr, min, Option, List, [], ◌∷◌, ◌++◌}
+use Rattle.std.proofs.Common.{◌≡◌, ◌≢◌, refl, sym, ap, ◌∙◌, subst, ℕ, ◌+◌, ◌≤◌, ◌==◌, ◌⊎◌, inl, inr, min, Option}
+use Rattle.std.proofs.Common.{List, [], ◌∷◌, ◌++◌}
 use Rattle.std.proofs.Common.{map, filter, true, set, get_or, slice_get, Some, option_map, arith}
 use Rattle.std.specs.List.{AllZip, AllByRecursion}
 use Rattle.std.specs.Option.{IfSome}
@@ -71,7 +72,8 @@ same-changed sid grant (f ∷ before) (g ∷ flows) all = (
 )
 
 -- one of the two parts has a flow
-pub one-stands : (c : Config) (items : List Flow) (queue served : List Waiting) (start : ℕ) (at : Standing) (w : Waiting)
+pub one-stands : (c : Config) (items : List Flow) (queue served : List Waiting) (start : ℕ) (at : Standing)
+    (w : Waiting)
     → HasStartedIn c items queue served start → one_at at queue served ≡ Some w → still_waits w ≡ true
     → StandsIn c items start w
 one-stands c items queue served start (Queued i) w has here still =
@@ -81,19 +83,24 @@ one-stands c items queue served start (Served i) w has here still =
     (all-at (IsAt items) served i w has.order.served_ones.each here)
 
 -- the one that stands where the next stands is the next
-next-waiting : (c : Config) (items : List Flow) (queue served : List Waiting) (start room : ℕ) (at : Standing) (w : Waiting)
+next-waiting : (c : Config) (items : List Flow) (queue served : List Waiting) (start room : ℕ) (at : Standing)
+    (w : Waiting)
     → one_at at queue served ≡ Some w → (first : IsNextIn c items queue served start room at) → first.waiting ≡ w
 next-waiting c items queue served start room at w here first =
     let e : Some first.waiting ≡ Some w = sym first.here ∙ here in cc
 
 -- and still waits
-pub next-waits : (c : Config) (items : List Flow) (queue served : List Waiting) (start room : ℕ) (at : Standing) (w : Waiting)
+pub next-waits : (c : Config) (items : List Flow) (queue served : List Waiting) (start room : ℕ) (at : Standing)
+    (w : Waiting)
     → one_at at queue served ≡ Some w → IsNextIn c items queue served start room at → still_waits w ≡ true
 next-waits c items queue served start room at w here first =
-    subst (λ (v : Waiting). still_waits v ≡ true) (next-waiting c items queue served start room at w here first) first.waits
+    subst (λ (v : Waiting). still_waits v ≡ true)
+    (next-waiting c items queue served start room at w here first) first.waits
 
-module _ (c : Config) (before flows : List LiveFlow) (queue served : List Waiting) (first start room : ℕ) (at : Standing)
-    (w : Waiting) (o : IsOverlay c before flows queue served first) (started : AllByRecursion (HasStartedBy start) flows)
+module _ (c : Config) (before flows : List LiveFlow) (queue served : List Waiting) (first start room : ℕ)
+    (at : Standing)
+    (w : Waiting) (o : IsOverlay c before flows queue served first) (started : AllByRecursion
+    (HasStartedBy start) flows)
     (next : (items : List Flow) → HasStartedIn c items queue served start → IsNextIn c items queue served start room at)
     (here : one_at at queue served ≡ Some w) where
   next-stands : StandsIn c o.items start w
@@ -141,7 +148,9 @@ module _ (c : Config) (items : List Flow) (queue served queue_after served_after
     → IsTurn rank (Some start) sid new.turn)
     (put : IsPutIn items new served queue_after served_after) where
   stands : StandsIn c items start w
-  stands = one-stands c items queue served start at w has here (next-waits c items queue served start room at w here first)
+  stands =
+      one-stands c items queue served start at w has here
+      (next-waits c items queue served start room at w here first)
 
   abbrev f : Flow
   f = stands.flow
@@ -223,7 +232,8 @@ module _ (c : Config) (items : List Flow) (queue served queue_after served_after
 
   put-in : IsQueueAmong granted-items (λ k. IsIn k (with-one new put.left)) (with-one new put.left)
   put-in =
-      put-among c granted-items granted-book (λ k. IsIn k put.left) (λ k. IsIn k (with-one new put.left)) put.left w.place
+      put-among c granted-items granted-book (λ k. IsIn k put.left) (λ k. IsIn k
+      (with-one new put.left)) put.left w.place
       granted-flow at-granted (λ k in-it. elim (in-one k new put.left in-it) [
         | inl equal ↦ inl (equal ∙ same)
         | inr old ↦ inr old

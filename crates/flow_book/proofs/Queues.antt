@@ -197,7 +197,8 @@ module _ (items : List Flow) where
   among-as some more queue to from is = record {
     ascending = is.ascending;
     each = is.each;
-    among = all-both (IsAt items) (λ w. some w.place) (λ w. more w.place) queue (λ w at may. to w.place may) is.each is.among;
+    among = all-both (IsAt items) (λ w. some w.place) (λ w. more w.place) queue
+        (λ w at may. to w.place may) is.each is.among;
     whole = λ place f found may waits. is.whole place f found (from place may) waits;
   }
 

@@ -1,5 +1,6 @@
 -- What is kept of a flow beside its grants is decided by what it shows.
-use Rattle.std.proofs.Common.{◌≡◌, refl, sym, ap, ◌∙◌, subst, ℕ, zero, suc, ◌<◌, List, [], ◌∷◌, map, filter, slice_get, Option, Some, None, option_map, arith}
+use Rattle.std.proofs.Common.{◌≡◌, refl, sym, ap, ◌∙◌, subst, ℕ, zero, suc, ◌<◌, List, [], ◌∷◌, map, filter}
+use Rattle.std.proofs.Common.{slice_get, Option, Some, None, option_map, arith}
 use Rattle.std.specs.List.{AllByRecursion}
 use Rattle.minislots.specs.declared.config.Config.{Config}
 use Rattle.sched_calls.specs.FlowSpec.{rank_of, rate_of, burst_of}
@@ -57,7 +58,8 @@ there-too : (new items : List Flow) (place : ℕ) (f : Flow)
     → ((k : ℕ) → option_map entry_of (slice_get new k) ≡ option_map entry_of (slice_get items k))
     → slice_get new place ≡ Some f
     → (g : Flow) × (slice_get items place ≡ Some g) × (outstanding (live f) ≡ outstanding (live g))
-there-too new items place f same found = there-of (slice_get items place) f (sym (same place) ∙ ap (option_map entry_of) found)
+there-too new items place f same found =
+    there-of (slice_get items place) f (sym (same place) ∙ ap (option_map entry_of) found)
 
 -- at each place books that show the same have the same entry
 same-entries : (c : Config) (new items : List Flow) → AllByRecursion (KeepsSums c) new
@@ -90,5 +92,6 @@ pub same-parts : (c : Config) (new items : List Flow) (queue served : List Waiti
     → map live new ≡ map live items → IsQueueIn items queue served → IsQueueIn new queue served
 same-parts c new items queue served book book' shows is = record {
   served_ones = same-among c new items (λ place. IsIn place served) served book book' shows is.served_ones;
-  others = same-among c new items (λ place. IsIn place served → ⊥) (filter still_waits queue) book book' shows is.others;
+  others = same-among c new items (λ place. IsIn place served → ⊥)
+      (filter still_waits queue) book book' shows is.others;
 }

@@ -1,7 +1,8 @@
 -- The first in the queue that may be served is the flow that is served first.
 use Rattle.std.proofs.Common.{◌≡◌, refl, sym, ap, ◌∙◌, ℕ, suc, ◌<◌, ◌≤◌, min, true, nat_eq, IsTrue, ◌↔◌, filter}
 use Rattle.std.proofs.Common.{◌⊎◌, inl, inr, Contains}
-use Rattle.std.proofs.Common.{List, [], ◌∷◌, ◌++◌, map, slice_get, Option, Some, None, subst, Bool, length, get_or, ◌==◌, arith}
+use Rattle.std.proofs.Common.{List, [], ◌∷◌, ◌++◌, map, slice_get, Option, Some, None, subst, Bool, length, get_or}
+use Rattle.std.proofs.Common.{◌==◌, arith}
 use Rattle.std.proofs.lemmas.Bool.{cases_eq, eq-eqb}
 use Rattle.std.proofs.lemmas.Bool.Decides.{nat_tests}
 use Rattle.std.proofs.lemmas.List.Elements.{All-from_recursion}
@@ -23,7 +24,8 @@ use Rattle.flow_book.specs.Choice.{last_start, is_before, IsEligible, IsNext, No
 use Rattle.flow_book.specs.Entry.{live, IsBook, KeepsSums, KnowsTurn}
 use Rattle.flow_book.specs.Bucket.{HaveStartedBy, most_of}
 use Rattle.flow_book.specs.Sids.{AscendBy}
-use Rattle.flow_book.specs.Queue.{IsAt, IsIn, IsPassed, IsNoEarlier, IsQueueIn, HasStartedQueue, HasStartedPart, IsFirstAble}
+use Rattle.flow_book.specs.Queue.{IsAt, IsIn, IsPassed, IsNoEarlier, IsQueueIn, HasStartedQueue, HasStartedPart}
+use Rattle.flow_book.specs.Queue.{IsFirstAble}
 use Rattle.flow_book.specs.Queue.{IsFirstInTurn, still_waits}
 use Rattle.flow_book.proofs.Amounts.{eligible-is, bucket-within}
 use Rattle.flow_book.proofs.Turns.{less-first}
@@ -52,13 +54,7 @@ pick P place [] here all = absurd here
 pick P place (w ∷ queue) (inl here) all = (w, here, all.0)
 pick P place (w ∷ queue) (inr rest) all = pick P place queue rest all.1
 
--- of those behind a member
-pub all-back : {X : Type 0} (P : X → Type 0) (front : List X) (w : X) (back : List X)
-    → AllByRecursion P (front ++ w ∷ back) → AllByRecursion P back
-all-back P [] w back all = all.1
-all-back P (x ∷ front) w back all = all-back P front w back all.1
-
--- of the member
+-- what holds of each holds of one of them
 pub all-here : {X : Type 0} (P : X → Type 0) (front : List X) (w : X) (back : List X)
     → AllByRecursion P (front ++ w ∷ back) → P w
 all-here P [] w back all = all.0
@@ -136,10 +132,12 @@ stands-at-place c items start w book began at =
 
 -- an entry that still waits has a flow
 pub stands-in : (c : Config) (items : List Flow) (queue : List Waiting) (start i : ℕ) (w : Waiting)
-    → HasStartedPart c items queue start → i < length queue → w ≡ get_or queue i w → 0 < w.wants → StandsIn c items start w
+    → HasStartedPart c items queue start → i < length queue → w ≡ get_or queue i w → 0 < w.wants → StandsIn c items
+    start w
 stands-in c items queue start i w is lt here waits =
     let still : still_waits w ≡ true = grind (arith, nat_tests) in
-    let at : IsAt items w = rw here (kept-at (IsAt items) still_waits queue i w lt (ap still_waits (sym here) ∙ still) is.each) in
+    let at : IsAt items w = rw here (kept-at (IsAt items) still_waits queue i w lt (ap still_waits
+    (sym here) ∙ still) is.each) in
     stands-at-place c items start w is.book is.started at
 
 equal : (m n : ℕ) → (m == n) ≡ true → m ≡ n
@@ -180,8 +178,11 @@ module _ (c : Config) (start room : ℕ) (items : List Flow) where
       ap (filter still_waits) split ∙ filter-split still_waits front w back still in
       let later = above-back (filter still_waits front) w (filter still_waits back) (rw is at up) in
       rw is (all-joined P (filter still_waits front) (w ∷ filter still_waits back)
-      (all-implied (IsPassed c start room items) P (filter still_waits front) (λ v p. inl p) passed)
-      (inr (omega arith), all-implied (λ v. w.turn < v.turn) P (filter still_waits back) (λ v lt. inr (omega arith)) later))
+      (all-implied (IsPassed c start room items) P (filter still_waits front) (λ v p. inl p) passed) (
+        inr (omega arith),
+        all-implied (λ v. w.turn < v.turn) P (filter still_waits back) (λ v lt. inr
+            (omega arith)) later,
+      ))
 
 module _ (c : Config) (start room : ℕ) (items : List Flow) (are : IsBook c items) (queue served : List Waiting)
     (is : IsQueueIn items queue served) where
@@ -190,7 +191,8 @@ module _ (c : Config) (start room : ℕ) (items : List Flow) (are : IsBook c ite
       → AllByRecursion P (filter still_waits queue) → AllByRecursion P (filter still_waits served)
       → (v : Waiting) × (v.place ≡ k) × P v
   one-of P k g found waits all all' = elim (in-or-out k served) [
-    | inl here ↦ pick P k (filter still_waits served) (stays-in items served k g found waits is.served_ones.each here) all'
+    | inl here ↦ pick P k (filter still_waits served)
+        (stays-in items served k g found waits is.served_ones.each here) all'
     | inr out ↦ pick P k (filter still_waits queue) (is.others.whole k g found out waits) all
   ]
 
@@ -241,7 +243,8 @@ module _ (c : Config) (start room : ℕ) (items : List Flow) (are : IsBook c ite
       v.2 g (ap (slice_get items) v.1 ∙ found) may)
 
 -- the queue of a book is a part
-pub whole-part : (c : Config) (items : List Flow) (queue : List Waiting) (start : ℕ) → HasStartedQueue c items queue start
+pub whole-part : (c : Config) (items : List Flow) (queue : List Waiting) (start : ℕ)
+    → HasStartedQueue c items queue start
     → HasStartedPart c items queue start
 whole-part c items queue start has =
     let is = none-served items queue has.order in
@@ -264,6 +267,7 @@ whole-next c items queue start room has (Some index) is =
       here = is.here;
       flow = is.flow;
       at = is.at;
-      next = first-next c start room items has.book queue [] (none-served items queue has.order) is.waiting is.flow is.at
+      next = first-next c start room items has.book queue []
+          (none-served items queue has.order) is.waiting is.flow is.at
           at is.may is.first tt;
     }

@@ -1,6 +1,7 @@
 -- Those of a queue that still wait.
 use Rattle.std.proofs.Common.{◌≡◌, refl, sym, ap, ◌∙◌, subst, ℕ, zero, suc, ◌<◌, ◌⊎◌, inl, inr, Bool, true, false, cond}
-use Rattle.std.proofs.Common.{List, [], ◌∷◌, ◌++◌, filter, length, get_or, set, remove, slice_get, Some, take, drop, arith}
+use Rattle.std.proofs.Common.{List, [], ◌∷◌, ◌++◌, filter, length, get_or, set, remove, slice_get, Some, take, drop}
+use Rattle.std.proofs.Common.{arith}
 use Rattle.std.proofs.Common.{◌+◌, ◌≤◌, not, nat_lt}
 use Rattle.std.specs.List.{AllByRecursion, position_or_len}
 use Rattle.std.proofs.lemmas.List.{take-append-drop}
@@ -78,7 +79,8 @@ module _ {X : Type 0} where
   kept-index p [] i d lt pass = absurd (omega arith)
   kept-index p (x ∷ xs) zero d lt pass = rw pass (0, omega arith, refl, refl)
   kept-index p (x ∷ xs) (suc i) d lt pass =
-      index-cond (p x) x (filter p xs) (filter p (remove xs i)) d (get_or xs i d) (kept-index p xs i d (omega arith) pass)
+      index-cond (p x) x (filter p xs) (filter p (remove xs i)) d (get_or xs i d) (kept-index p xs i d
+      (omega arith) pass)
 
   -- where one that does not pass takes the place of another, the others are left
   pub gone-kept : (p : X → Bool) (xs : List X) (i : ℕ) (e : X) → i < length xs → p e ≡ false
@@ -139,8 +141,14 @@ module _ {X : Type 0} where
       → AllByRecursion (λ y. number y ≤ turn) (take (cond (not b) (1 + n) 0) (x ∷ xs))
       × AllByRecursion (λ y. turn ≤ number y) (drop (cond (not b) (1 + n) 0) (x ∷ xs))
   around-cond true number turn x xs n is up rest =
-      let low : turn < number x = grind (arith, nat_tests) in
-      (tt, (omega arith, all-implied (λ y. number x < number y) (λ y. turn ≤ number y) xs (λ y lt. omega (arith, low, lt)) up))
+      let low : turn < number x = grind (arith, nat_tests) in (
+        tt,
+        (
+          omega arith,
+          all-implied (λ y. number x < number y) (λ y. turn ≤ number y) xs (λ y lt. omega
+              (arith, low, lt)) up,
+        ),
+      )
   around-cond false number turn x xs n is up rest =
       let next : 1 + n ≡ suc n = omega arith in
       let high : number x ≤ turn = grind (arith, nat_tests) in
@@ -192,6 +200,7 @@ none-served items queue is = record {
     ascending = ascends-filter (λ w. w.turn) still_waits queue is.ascending;
     each = all-filter (IsAt items) still_waits queue is.each;
     among = none-empty (filter still_waits queue);
-    whole = λ place f found out waits. stays-in items queue place f found waits is.each (is.whole place f found tt waits);
+    whole = λ place f found out waits. stays-in items queue place f found waits is.each
+        (is.whole place f found tt waits);
   };
 }

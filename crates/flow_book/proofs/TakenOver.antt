@@ -12,11 +12,11 @@ use Rattle.flow_book.specs.declared.flow.Flow.{Flow}
 use Rattle.flow_book.specs.declared.flow.Grant.{Grant}
 use Rattle.flow_book.specs.declared.granted.GrantList.{GrantList}
 use Rattle.flow_book.specs.declared.queue.Waiting.{Waiting}
-use Rattle.flow_book.specs.Flows.{LiveFlow, outstanding}
+use Rattle.flow_book.specs.Flows.{LiveFlow}
 use Rattle.flow_book.specs.FlowList.{grants_at}
 use Rattle.flow_book.specs.Entry.{live, IsCopy, IsSoundFlow, KeepsSums}
 use Rattle.flow_book.specs.Sids.{AscendBy}
-use Rattle.flow_book.specs.Queue.{entry_of, IsAt, IsIn}
+use Rattle.flow_book.specs.Queue.{IsAt, IsIn}
 use Rattle.flow_book.specs.Overlay.{IsSameFlow}
 use Rattle.flow_book.specs.Taking.{CanBeTaken, IsTaken}
 use Rattle.flow_book.proofs.Queues.{at-within, flow-at, turn-at, wants-at, bucket-at, same-turn, same-but}
@@ -76,13 +76,6 @@ same-shown (f ∷ new) [] long each = absurd (omega arith)
 same-shown (f ∷ new) (g ∷ items) long each =
     ap (λ h. h ∷ map live new) (each 0 f g refl refl)
     ∙ ap (λ hs. live g ∷ hs) (same-shown new items (omega arith) (λ k. each (suc k)))
-
--- a copy has the same entry
-copy-entry : (f g : Flow) → IsCopy g f → entry_of f ≡ entry_of g
-copy-entry f g is =
-    let wants : outstanding (live f) ≡ outstanding (live g) = ap outstanding is.same in
-    ap (λ n. (n, outstanding (live f), f.bucket)) is.turn ∙ ap (λ n. (g.turn, n, f.bucket)) wants
-    ∙ ap (λ b. (g.turn, outstanding (live g), b)) is.bucket
 
 module _ (items : List Flow) where
   -- none of those before it in the queue is at its place

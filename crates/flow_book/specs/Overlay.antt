@@ -20,9 +20,10 @@ abbrev pub IsSameFlow : LiveFlow → LiveFlow → Type 0
 IsSameFlow f g = record f { grants = g.grants } ≡ g
 
 -- The flows with the data grants are a book's, and all of them that wait are in the queue or among those served; none
--- waits before a place in the queue. They are those before but for their grants, and each that was not served has no more
--- of these.
-pub record IsOverlay (c : Config) (before flows : List LiveFlow) (queue served : List Waiting) (first : ℕ) : Type 0 where
+-- waits before a place in the queue. They are those before but for their grants, and each that was not served has no
+-- more of these.
+pub record IsOverlay (c : Config) (before flows : List LiveFlow) (queue served : List Waiting)
+    (first : ℕ) : Type 0 where
   pub items : List Flow
   pub shows : map live items ≡ flows
   pub book : IsBook c items

@@ -27,7 +27,8 @@ AreApart done served = (place : ℕ) → IsIn place done → IsIn place served �
 
 -- Of two lists by their turns those that are done, and those served before a place, stand in one queue by their turns,
 -- and none of the others comes earlier
-pub record AreMerged (items : List Flow) (done left served : List Waiting) (at : ℕ) (queue : List Waiting) : Type 0 where
+pub record AreMerged (items : List Flow) (done left served : List Waiting) (at : ℕ)
+    (queue : List Waiting) : Type 0 where
   pub order : IsQueueAmong items (λ place. IsIn place done ⊎ IsIn place (take at served)) queue
   pub last : ℕ
   pub before : AllByRecursion (λ w. w.turn ≤ last) queue

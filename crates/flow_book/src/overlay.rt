@@ -110,14 +110,9 @@ impl Overlay {
     {
         let bytes = self.config.most_in(room);
         let room = Room { slots: room, bytes };
-        let Some(standing) = first_of(
-            &self.queue,
-            self.first,
-            &self.served,
-            &self.config,
-            start,
-            room,
-        ) else {
+        let config = &self.config;
+        let found = first_of(&self.queue, self.first, &self.served, config, start, room);
+        let Some(standing) = found else {
             return Ok(None);
         };
         let mut waiting = one_at(&self.queue, &self.served, standing);

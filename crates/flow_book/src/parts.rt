@@ -1,7 +1,6 @@
 //! The flows that wait while a MAP is planned, in two parts: those that it served, and the others.
 
-ghost use Rattle.std.specs.Prelude.{◌≡◌, ◌<◌, ◌≤◌, ℕ, List, map, length, filter, IfOk, OnOk, OnErr, IfSome, MatchOption, Some};
-ghost use Rattle.std.specs.Prelude.{true, slice_get};
+ghost use Rattle.std.specs.Prelude.{◌≡◌, ◌<◌, ◌≤◌, ℕ, List, map, length, true, OnOk, OnErr, IfSome, MatchOption, Some};
 ghost use Rattle.minislots.specs.Config.{IsLawful};
 ghost use Rattle.flow_book.specs.declared.flow.Flow.{Flow};
 ghost use Rattle.flow_book.specs.declared.queue.Waiting.{Waiting};
@@ -36,8 +35,8 @@ fn ahead_of(queue: &[Waiting], queued: Option<usize>, served: &[Waiting]) -> usi
     }
 }
 
-// Where the flow stands that is served first at this minislot, of those that may be served. None of the queue before the
-// first place wants anything.
+// Where the flow stands that is served first at this minislot, of those that may be served. None of the queue before
+// the first place wants anything.
 pub(crate) fn first_of(
     queue: &[Waiting],
     first: usize,
@@ -76,8 +75,8 @@ pub(crate) fn one_at(queue: &[Waiting], served: &[Waiting], standing: Standing) 
     }
 }
 
-// Puts the one that stands there, of a turn no earlier than before, in its turn among those served: in the queue it wants
-// nothing any more.
+// Puts the one that stands there, of a turn no earlier than before, in its turn among those served: in the queue it
+// wants nothing any more.
 pub(crate) fn put_served(
     queue: &mut Vec<Waiting>,
     served: &mut Vec<Waiting>,

@@ -74,11 +74,11 @@ fn put_before(
 }
 
 // Puts one behind a queue where it still waits.
-fn put_behind(queue: &mut Vec<Waiting>, waiting: &Waiting) -> Result<(), AllocError>
-    ensures { OnOk result (queue.new.items ≡ queue.old.items ++ filter still_waits (waiting.now ∷ [])) }
+fn put_behind(queue: &mut Vec<Waiting>, one: &Waiting) -> Result<(), AllocError>
+    ensures { OnOk result (queue.new.items ≡ queue.old.items ++ filter still_waits (one.now ∷ [])) }
 {
-    if waiting.wants > 0 {
-        queue.push(*waiting)?;
+    if one.wants > 0 {
+        queue.push(*one)?;
     }
     Ok(())
 }

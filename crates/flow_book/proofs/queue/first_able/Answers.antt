@@ -1,5 +1,6 @@
 -- Each that is gone through and still waits is asked whether its flow may be served.
-use Rattle.std.proofs.Common.{◌≡◌, ℕ, ◌+◌, ◌<◌, refl, sym, ap, ◌∙◌, subst, take, drop, ◌++◌, ◌∷◌, [], length, true, false}
+use Rattle.std.proofs.Common.{◌≡◌, ℕ, ◌+◌, ◌<◌, refl, sym, ap, ◌∙◌, subst, take, drop, ◌++◌, ◌∷◌, [], length, true}
+use Rattle.std.proofs.Common.{false}
 use Rattle.std.proofs.Common.{filter, slice_get, List, Some, arith}
 use Rattle.std.specs.List.{AllByRecursion}
 use Rattle.std.proofs.lemmas.Bool.Decides.{nat_tests}
@@ -18,7 +19,8 @@ use Rattle.flow_book.proofs.queue.first_able.Goals.{else-wanted-gt0-via-else-wan
 use Rattle.flow_book.proofs.queue.first_able.Goals.{else-wanted-gt0-via-then-wanted-gt0+else-wanted-room}
 use Rattle.flow_book.proofs.queue.first_able.Goals.{else-wanted-gt0-via-then-wanted-gt0+then-wanted-room+else-has}
 
-same-flow : (f g : Flow) (items : List Flow) (place : ℕ) → slice_get items place ≡ Some f → slice_get items place ≡ Some g
+same-flow : (f g : Flow) (items : List Flow) (place : ℕ) → slice_get items place ≡ Some f
+    → slice_get items place ≡ Some g
     → g ≡ f
 same-flow f g items place is also = let e : Some g ≡ Some f = sym also ∙ is in cc
 

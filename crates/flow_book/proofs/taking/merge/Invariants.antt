@@ -10,5 +10,6 @@ use Rattle.flow_book.proofs.taking.merge.Given as goal
 abbrev pub invariant-loop-waiting : goal.invariant-loop-waiting
 invariant-loop-waiting l =
     (c : Config) (items : List Flow) → IsBook c items → IsQueueIn items l.from l.served
-    → AreMerged items (filter still_waits (take l.waiting-index l.from)) (filter still_waits (drop l.waiting-index l.from))
+    → AreMerged items (filter still_waits (take l.waiting-index l.from)) (filter still_waits
+    (drop l.waiting-index l.from))
     l.served l.at l.queue.items

@@ -39,6 +39,7 @@ returns-clause-taken c = λ yes' channel rate burst grants stands started.
 pub returns-clause-settled : goal.returns-clause-settled
 returns-clause-settled c = λ yes' grants is started.
     let some : 0 < c.args.self.now.per_slot = rw (← c.self.view_is) (omega arith) in
-    let all = settled-spent c.args.self.now grants c.args.slot c.args.bytes (c.level-level.result - 1280000 * c.from-wanted.result) some
+    let all = settled-spent c.args.self.now grants c.args.slot c.args.bytes
+    (c.level-level.result - 1280000 * c.from-wanted.result) some
     (omega (arith, c.level-level.ensures)) started in
     rw (ap (λ (b : BucketView). b.per_slot) c.self.view_is, ap (λ (b : BucketView). b.full) c.self.view_is) all

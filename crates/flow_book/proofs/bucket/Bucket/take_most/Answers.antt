@@ -34,7 +34,8 @@ pub returns-then-most-level-clause-settled : goal.returns-then-most-level-clause
 returns-then-most-level-clause-settled c = λ grants is started.
     let some : 0 < c.args.self.now.per_slot = rw (← c.self.view_is) (omega arith) in
     let all =
-    settled-spent c.args.self.now grants c.args.slot c.args.limit (c.level-level.result - 1280000 * c.from-most.result) some
+    settled-spent c.args.self.now grants c.args.slot c.args.limit
+    (c.level-level.result - 1280000 * c.from-most.result) some
     (omega (arith, c.level-level.ensures)) started in
     rw (ap (λ (b : BucketView). b.per_slot) c.self.view_is, ap (λ (b : BucketView). b.full) c.self.view_is) all
 

@@ -25,6 +25,7 @@ returns-clause-order c = λ whole.
     let taken : IsTaken inside.config new is.items =
     (rw c.deref.ensures.value at c.take_over.ensures) inside.config is.items can is.shows in
     let parts =
-    same-parts inside.config new is.items inside.queue.items inside.served.items taken.book is.book taken.shows is.order in
+    same-parts inside.config new is.items inside.queue.items inside.served.items taken.book is.book taken.shows
+    is.order in
     (rw (c.deref-2.ensures.value, c.deref-3.ensures.value)
     at (on-ok c.merge.result _ (sym c.is_ok.ensures.value ∙ whole) c.merge.ensures)) inside.config new taken.book parts

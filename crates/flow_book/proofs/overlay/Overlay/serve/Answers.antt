@@ -9,7 +9,8 @@ use Rattle.flow_book.specs.Flows.{flow_of, with_grant}
 use Rattle.flow_book.specs.Overlay.{IsOverlay}
 use Rattle.flow_book.specs.Book.{changed}
 use Rattle.flow_book.specs.Entry.{live}
-use Rattle.flow_book.proofs.Overlays.{IsServed, started-queue, next-since, next-later, next-waits, is-served, same-changed}
+use Rattle.flow_book.proofs.Overlays.{IsServed, started-queue, next-since, next-later, next-waits, is-served}
+use Rattle.flow_book.proofs.Overlays.{same-changed}
 use Rattle.flow_book.proofs.overlay.Overlay.serve.Goals as goal
 
 pub serve-bytes-requires-clause-since : goal.serve-bytes-requires-clause-since
