@@ -1,12 +1,12 @@
 -- Places that are marked in words of bits.
 use Rattle.std.proofs.Common.{◌≡◌, ◌≢◌, refl, sym, ap, ◌∙◌, ℕ, zero, suc, ◌+◌, ◌-◌, ◌*◌, ◌/◌, ◌%◌, ◌^◌, ◌<◌, ◌≤◌}
 use Rattle.std.proofs.Common.{Bool, true, false, cond, ◌==◌, List, [], ◌∷◌, ◌++◌, map, filter, take, length, get_or, set}
-use Rattle.std.proofs.Common.{Option, Some, None, slice_get, replicate, inl, inr, arith}
+use Rattle.std.proofs.Common.{Some, slice_get, replicate, inl, inr, arith}
 use Rattle.std.specs.List.{AllZip}
 use Rattle.std.specs.Int.{bit_at, trailing_zeros, w64}
 use Rattle.std.specs.Int.Count.{count_trailing_zeros}
 use Rattle.std.specs.Int.RustNames.{bit_or}
-use Rattle.std.proofs.lemmas.Bool.{cond_both, cases_eq, cases_lt}
+use Rattle.std.proofs.lemmas.Bool.{cases_eq, cases_lt}
 use Rattle.std.proofs.lemmas.Bool.Decides.{nat_tests}
 use Rattle.std.proofs.lemmas.Grind.{get_or-set_at}
 use Rattle.std.proofs.lemmas.List.{get_or-set_other, get_or-replicate}
@@ -32,6 +32,7 @@ none-marked n place = ap (λ w. bit_at w (place % 64)) (zero-at (place / 64)) �
     long : (m : ℕ) → length (replicate m (zero)) ≡ m
     long zero = refl
     long (suc m) = ap suc (long m)
+
     zero-at : (i : ℕ) → ◌≡◌ {A = ℕ} (get_or (replicate n 0) i 0) 0
     zero-at i = elim (cases_lt i n) [
       | inl below ↦ get_or-replicate n i 0 0 below
@@ -168,14 +169,14 @@ module _ (words : List ℕ) (index : ℕ) (flows : List Flow) (rest place : ℕ)
     lowest : (trailing_zeros w64 rest < 64) × (bit_at rest (trailing_zeros w64 rest) ≡ 1)
         × ((i : ℕ) → i < trailing_zeros w64 rest → bit_at rest i ≡ 0)
     lowest = bit_at-trailing_zeros w64 rest (omega (arith, some)) small
+        -- the next place that is marked is one of the word
 
-      -- the next place that is marked is one of the word
     pub next-within : place + count_trailing_zeros 64 rest < index * 64 + 64
     next-within = elim (cases_lt (place - index * 64 + count_trailing_zeros 64 rest) 64) [
       | inl lt ↦ omega (arith, is.from, lt)
       | inr not_lt ↦
           let above = bit_at_above (get_or words index 0) 64 (place - index * 64 + count_trailing_zeros 64 rest) fits
-              (omega (arith, not_lt)) in
+          (omega (arith, not_lt)) in
           absurd (omega (arith, above, bit-is (count_trailing_zeros 64 rest), lowest.1))
     ]
 

@@ -470,7 +470,7 @@ module _ (c : Config) (flows items : List Flow) (book : IsBook c items)
       let lt = slice_get_within after k g at in
       let here : get_or after k g ≡ g = same_Some _ _ (sym (slice_get-get_or after k g lt) ∙ at) in
       let all = all-both (IsSoundFlow c) (IsSoundFlow c) (λ h. granted h ≤ h.asked) after (λ h sound sound'. sound.within)
-          book.sound.each book.sound.each in
+      book.sound.each book.sound.each in
       let within : granted g ≤ g.asked =
       subst (λ (h : LiveFlow). granted h ≤ h.asked) here (All-from_recursion (λ h. granted h ≤ h.asked) after all k g lt) in
       ahead-at flows o k g ws are.wait

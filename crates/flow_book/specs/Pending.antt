@@ -1,5 +1,5 @@
 -- The flows that wait after a MAP, as they stand in the two parts of a queue.
-use Rattle.std.specs.Prelude.{◌≡◌, ℕ, ◌-◌, ◌%◌, ◌^◌, ◌<◌, Bool, true, false, ◌&&◌, ◌||◌, ◌==◌, nat_lt, List, [], ◌∷◌, ◌++◌}
+use Rattle.std.specs.Prelude.{◌≡◌, ℕ, ◌-◌, ◌%◌, ◌^◌, ◌<◌, Bool, false, ◌&&◌, ◌||◌, ◌==◌, nat_lt, List, [], ◌∷◌, ◌++◌}
 use Rattle.std.specs.Prelude.{None, Some, Option, unwrap_or, option_map, slice_get, filter, map}
 use Rattle.std.specs.List.{AllByRecursion}
 use Rattle.flow_book.specs.declared.flow.Flow.{Flow}

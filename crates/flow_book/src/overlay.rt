@@ -110,7 +110,14 @@ impl Overlay {
         ensures ack { IfOk result (λ s. s.ack ≡ ack_of self.now.config.pending progress self.now.flows) }
     {
         let most = self.config.pending() as usize;
-        show(*self.queue.allocator(), &self.queue, &[], flows, most, progress)
+        show(
+            *self.queue.allocator(),
+            &self.queue,
+            &[],
+            flows,
+            most,
+            progress,
+        )
     }
 
     // Puts the flows with the data grants in the place of those before, and the queue of those that still wait in the

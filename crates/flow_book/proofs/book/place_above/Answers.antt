@@ -1,5 +1,5 @@
 -- Those of no higher SID stand before all of higher ones.
-use Rattle.std.proofs.Common.{◌≡◌, sym, nat_lt, nat_le, get_or, map, [], inl, inr, ap, rules, arith}
+use Rattle.std.proofs.Common.{◌≡◌, sym, nat_lt, nat_le, get_or, [], inl, inr, ap, rules, arith}
 use Rattle.std.specs.List.Sorted.{IsNonDecreasingBy}
 use Rattle.std.proofs.lemmas.Bool.{cases_lt}
 use Rattle.std.proofs.lemmas.Bool.Decides.{nat_tests}

@@ -1,7 +1,6 @@
 -- At each bit that is left the flow at its place is told.
-use Rattle.std.proofs.Common.{◌≡◌, ◌∙◌, sym, subst, ap, ◌+◌, ◌*◌, ◌-◌, ◌/◌, ◌^◌, ◌<◌, get_or, arith}
-use Rattle.std.specs.Int.Count.{count_trailing_zeros}
-use Rattle.flow_book.proofs.Marked.{IsLeft, left-first, next-within, none-left, told, passed}
+use Rattle.std.proofs.Common.{◌*◌, ◌<◌, get_or, arith}
+use Rattle.flow_book.proofs.Marked.{left-first, next-within, none-left, told, passed}
 use Rattle.flow_book.proofs.marks.push_marked.Goals as goal
 use Rattle.flow_book.proofs.marks.push_marked.Goals.{in-Some+in_ok-push, in_default}
 

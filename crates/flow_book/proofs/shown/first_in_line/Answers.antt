@@ -1,5 +1,5 @@
 -- Those of both parts stand in line.
-use Rattle.std.proofs.Common.{◌≡◌, ◌∙◌, ap, sym, refl, [], map, filter, take, ◌++◌}
+use Rattle.std.proofs.Common.{◌∙◌, ap, sym, [], map, filter, take}
 use Rattle.std.proofs.lemmas.List.{map-append}
 use Rattle.flow_book.specs.Queue.{still_waits}
 use Rattle.flow_book.specs.Line.{sorted}

@@ -1,5 +1,5 @@
 -- A number no less than the last of a line comes behind it.
-use Rattle.std.proofs.Common.{◌≡◌, ◌∙◌, ◌-◌, ◌≤◌, ◌<◌, ap, sym, nat_le, true, length, get_or, Some, arith}
+use Rattle.std.proofs.Common.{◌≤◌, arith}
 use Rattle.std.proofs.lemmas.Bool.Decides.{nat_tests}
 use Rattle.flow_book.proofs.Lines.{stays-behind, last-most}
 use Rattle.flow_book.proofs.shown.is_behind.Goals as goal

@@ -1,6 +1,6 @@
 -- One more that comes before the first that is hidden is marked.
-use Rattle.std.proofs.Common.{◌≡◌, ◌∙◌, ap, sym, ℕ, ◌==◌, cond, filter, take, true, false, arith}
-use Rattle.flow_book.specs.Pending.{is_ahead, has_place}
+use Rattle.std.proofs.Common.{◌≡◌, ◌∙◌, ap, sym, ℕ, ◌==◌, cond, true, false, arith}
+use Rattle.flow_book.specs.Pending.{is_ahead}
 use Rattle.flow_book.proofs.Pendings.{place-too, left-out}
 use Rattle.flow_book.proofs.shown.mark_ahead.Goals as goal
 use Rattle.flow_book.proofs.shown.mark_ahead.Goals.{then-is_ahead, else-is_ahead}

@@ -8,6 +8,6 @@ abbrev pub invariant-loop-waiting : goal.invariant-loop-waiting
 invariant-loop-waiting l = record {
   marked : (place : ℕ) → place / 64 < length l.fn.words → bit_of l.words place
       ≡ cond (has_place place (filter (is_ahead l.flows l.hidden) (take l.waiting-index l.part))) 1
-          (bit_of l.fn.words place);
+      (bit_of l.fn.words place);
   long : length l.words ≡ length l.fn.words;
 }

@@ -1,8 +1,7 @@
 -- One more that still waits stands in line.
-use Rattle.std.proofs.Common.{◌≡◌, ◌∙◌, ap, sym, ◌+◌, map, filter, take, nat_lt, true, false, arith}
+use Rattle.std.proofs.Common.{◌≡◌, true, false, arith}
 use Rattle.std.proofs.lemmas.Bool.Decides.{nat_tests}
 use Rattle.flow_book.specs.Queue.{still_waits}
-use Rattle.flow_book.specs.Line.{sorted_into}
 use Rattle.flow_book.specs.Pending.{number_at}
 use Rattle.flow_book.proofs.Lines.{order-put_in, order-take}
 use Rattle.flow_book.proofs.Pendings.{number-too, left-out}

@@ -1,5 +1,5 @@
 -- The places of those that come before the first that is hidden are marked, and it holds back the acknowledge time.
-use Rattle.std.proofs.Common.{◌≡◌, ◌∙◌, ap, ◌+◌, ◌/◌, ◌<◌, cond, map, filter, length, ℕ, arith}
+use Rattle.std.proofs.Common.{◌≡◌, ◌∙◌, ap, ◌+◌, ◌/◌, cond, map, filter, length, ℕ, arith}
 use Rattle.std.proofs.lemmas.List.{take_at}
 use Rattle.flow_book.specs.Entry.{live}
 use Rattle.flow_book.specs.Marks.{bit_of}

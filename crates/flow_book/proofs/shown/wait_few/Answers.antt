@@ -1,5 +1,5 @@
 -- No more wait than there are in both parts.
-use Rattle.std.proofs.Common.{◌≡◌, sym, filter, nat_le, ◌≤◌, true, length, arith}
+use Rattle.std.proofs.Common.{filter, ◌≤◌, length, arith}
 use Rattle.std.proofs.lemmas.Bool.Decides.{nat_tests}
 use Rattle.std.proofs.lemmas.List.{length-append}
 use Rattle.flow_book.specs.Queue.{still_waits}

@@ -1,5 +1,5 @@
 -- The new flow stands in order of SID, is sound and keeps its sums.
-use Rattle.std.proofs.Common.{◌≡◌, ℕ, ◌≤◌, ◌∙◌, ap, map, length, not, nat_lt, position, arith}
+use Rattle.std.proofs.Common.{◌≡◌, ℕ, ◌≤◌, ◌∙◌, ap, map, length, not, nat_lt, arith}
 use Rattle.std.specs.List.{position_or_len}
 use Rattle.std.proofs.lemmas.List.Sums.{prefix_len-le-length}
 use Rattle.minislots.specs.declared.config.Config.{Config}
@@ -8,7 +8,6 @@ use Rattle.sched_calls.specs.declared.spec.FlowSpec.{FlowSpec}
 use Rattle.flow_book.specs.Flows.{LiveFlow, outstanding}
 use Rattle.flow_book.specs.Entry.{live, IsSoundFlow, KeepsSums}
 use Rattle.flow_book.specs.Book.{new_flow, with_flow}
-use Rattle.flow_book.proofs.Places.{place-or_len}
 use Rattle.flow_book.proofs.Insertion.{insert-put_in}
 use Rattle.flow_book.proofs.Admission.{sound-with_flow, room-insert}
 use Rattle.flow_book.proofs.Sums.{all-insert}
