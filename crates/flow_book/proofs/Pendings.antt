@@ -20,7 +20,7 @@ use Rattle.flow_book.specs.Flows.{LiveFlow, granted, outstanding}
 use Rattle.flow_book.specs.Choice.{last_start}
 use Rattle.flow_book.specs.Entry.{live, IsTurn, IsBook, IsSoundFlow}
 use Rattle.flow_book.specs.Sids.{AscendBy, put_in}
-use Rattle.flow_book.specs.Queue.{IsAt, IsIn, IsQueue, IsQueueIn, still_waits}
+use Rattle.flow_book.specs.Queue.{IsAt, IsIn, IsQueueIn, still_waits}
 use Rattle.flow_book.specs.Marks.{bit_of, is_marked, marked_sids}
 use Rattle.flow_book.specs.Shown.{waits, number_of, number_in_line, is_shown, IsFirstHidden}
 use Rattle.flow_book.specs.Line.{itself, sorted_into, sorted, numbers_of, comes_first}
@@ -131,25 +131,6 @@ module _ (items : List Flow) where
           | inr out ↦ in-left place others left (is.others.whole place f found out more)
         ];
       }
-
-  -- a queue by itself is one part, where none was served
-  pub alone-in : (queue : List Waiting) → IsQueue items queue → IsQueueIn items queue []
-  alone-in queue is = record {
-    served_ones = record {
-      ascending = tt;
-      each = tt;
-      among = tt;
-      whole = λ place f found here more. absurd here;
-    };
-    others = record {
-      ascending = ascends-filter (λ w. w.turn) still_waits queue is.ascending;
-      each = all-filter (IsAt items) still_waits queue is.each;
-      among = all-filter (λ w. IsIn w.place [] → ⊥) still_waits queue
-          (all-both (IsAt items) (IsAt items) (λ w. IsIn w.place [] → ⊥) queue (λ w at at' here. here) is.each is.each);
-      whole = λ place f found out more.
-          stays-in items queue place f found more is.each (is.whole place f found tt more);
-    };
-  }
 
 -- those that wait, put in order of SID
 abbrev placed : List Waiting → List Waiting

@@ -1,8 +1,8 @@
 //! The flows that a MAP shows by pending grants: of those in a queue that still wait the first so many, by the minislot
 //! since which they wait.
 
-ghost use Rattle.std.specs.Prelude.{◌≡◌, ◌<◌, ◌≤◌, ◌/◌, ◌^◌, ◌==◌, ℕ, List, true, take, map, filter, length, nat_le, IfOk, OnOk};
-ghost use Rattle.std.specs.Prelude.{if◌then◌else◌};
+ghost use Rattle.std.specs.Prelude.{◌≡◌, ◌<◌, ◌≤◌, ◌/◌, ◌^◌, ℕ, List, true, take, map, filter, length, nat_le};
+ghost use Rattle.std.specs.Prelude.{if◌then◌else◌, IfOk, OnOk};
 ghost use Rattle.std.specs.List.{AllZip};
 ghost use Rattle.minislots.specs.declared.config.Config.{Config};
 ghost use Rattle.flow_book.specs.declared.flow.Flow.{Flow};
@@ -197,8 +197,8 @@ pub(crate) fn held_back(hidden: &Option<Hidden>, progress: u64) -> u64
     }
 }
 
-// The first so many of those that still wait, all where there are no more, and the acknowledge time. The queue is in two
-// parts: those that waited before a MAP, and those that it served. They are of the flows with its data grants.
+// The first so many of those that still wait, all where there are no more, and the acknowledge time. The queue is in
+// two parts: those that waited before a MAP, and those that it served. They are of the flows with its data grants.
 pub(crate) fn show(
     alloc: Global,
     queue: &[Waiting],
