@@ -80,7 +80,7 @@ pub enum Sort {
     Entry,
     /// A call. The name of its form stands under `call`.
     Call,
-    /// The flow of an admission. The name of its form stands under `kind`.
+    /// The flow of an admission or of a change. The name of its form stands under `kind`.
     Flow,
     /// A reply. The name of its form stands under `kind`.
     Reply,

@@ -123,11 +123,7 @@ fn put_refusal<W: Sink>(writer: &mut W, refusal: Refusal) -> Result<(), TextFaul
 }
 
 // A word, and the place of a flow behind it.
-fn put_placed<W: Sink>(
-    writer: &mut W,
-    word: &[u8],
-    placement: &Placement,
-) -> Result<(), TextFault>
+fn put_placed<W: Sink>(writer: &mut W, word: &[u8], placement: &Placement) -> Result<(), TextFault>
     ensures { Writes W.contents W.has_failed writer.old writer.new
         (word.now ++ place_text placement.now) result }
 {
