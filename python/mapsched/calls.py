@@ -239,7 +239,7 @@ class Header:
 
 @dataclass(frozen=True)
 class Replace:
-    """A request, as in an ask, that supersedes those before: the flow waits for so much and no more, 0 bytes for
+    """A request, as in an ask, that supersedes those before: the flow waits for so much and no more, with 0 for
     nothing. The reply is `Taken`."""
 
     receiver: int

@@ -26,8 +26,9 @@ use Rattle.text_stream.specs.Input.{value_of}
 use Rattle.text_stream.specs.Input.{Gives}
 use Rattle.text_stream.specs.Outcome.{unless_wrong}
 use Rattle.history_reading.specs.Refusals.{refusal_with}
-use Rattle.history_reading.specs.Replies.{numbers_at, place_of, admitted_reply, changed_reply, map_of, map_at, map_reply}
-use Rattle.history_reading.specs.Replies.{skipped_reply, flow_reply, u64_if, refused_reply, reply_of, entry_of}
+use Rattle.history_reading.specs.Replies.{numbers_at, place_of, admitted_reply, changed_reply, map_of, map_at}
+use Rattle.history_reading.specs.Replies.{map_reply, skipped_reply, flow_reply, u64_if, refused_reply, reply_of}
+use Rattle.history_reading.specs.Replies.{entry_of}
 use Rattle.history_reading.specs.Recorded.{History, entries_of, entry_in, history_of, history_in}
 use Rattle.history_reading.proofs.FewEntries.{holds-bind, any as any_result}
 use Rattle.history_reading.proofs.Payload.{spelling-map_of}

@@ -2,13 +2,14 @@
 use Rattle.std.proofs.Common.{◌≡◌, [], ◌∷◌, ◌++◌, codes, None, Some, refl}
 use Rattle.std.specs.Fmt.{digits}
 use Rattle.hex.proofs.OnLiterals.{hex_on_literals}
+use Rattle.serde_json.specs.Data.{number, unsigned, string, object, no_members, member}
 use Rattle.serde_json.specs.Written.{compact_text}
 use Rattle.serde_json.proofs.OnLiterals.{serde_json_on_literals}
 use Rattle.map_codec.specs.WireMap.{header, spelling}
 use Rattle.sched_calls.proofs.Base.{base}
 use Rattle.sched_calls.proofs.BaseMaps.{first_map}
 use Rattle.sched_calls.specs.declared.amount.Amount.TheVariants.{Bytes, Slots}
-use Rattle.sched_calls.specs.declared.spec.FlowSpec.TheVariants.{BestEffort}
+use Rattle.sched_calls.specs.declared.spec.FlowSpec.{FlowSpec}
 use Rattle.sched_calls.specs.declared.call.Call.TheVariants.{Ask, Build, Replace, Change, Rest, Wake}
 use Rattle.sched_calls.specs.declared.reply.Refusal.TheVariants.{OtherKind, NotUnsolicited, TooShort}
 use Rattle.sched_calls.specs.declared.reply.Reply.TheVariants.{Built, Changed, Refused}
@@ -56,13 +57,14 @@ pub minislots_left : compact_text (call_data (Replace 1 17 (Slots 100) 801))
 unfolding call_data digits serde_json_on_literals
 minislots_left = refl
 
--- a change, a rest and a wake
-pub a_change : compact_text (call_data (Change 17 (BestEffort 5 64000 1600)))
-    ≡ codes "{\"call\":\"change\",\"flow\":{\"burst\":1600,\"kind\":\"best_effort\",\"priority\":5,"
-    ++ codes "\"rate\":64000},\"sid\":17}"
-unfolding call_data flow_data digits serde_json_on_literals
-a_change = refl
+-- a change has its parameters where an admission has them
+pub a_change : (spec : FlowSpec) → call_data (Change 17 spec) ≡ object (
+    member (codes "call") (string (codes "change")) (member (codes "flow") (flow_data spec) (
+    member (codes "sid") (number (unsigned 17)) no_members)))
+unfolding call_data
+a_change spec = refl
 
+-- a rest and a wake
 pub a_rest : compact_text (call_data (Rest 5)) ≡ codes "{\"call\":\"rest\",\"sid\":5}"
 unfolding call_data digits serde_json_on_literals
 a_rest = refl
