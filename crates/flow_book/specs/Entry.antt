@@ -7,7 +7,7 @@ use Rattle.flow_book.specs.declared.flow.Flow.{Flow}
 use Rattle.flow_book.specs.declared.flow.Room as the_room
 use Rattle.sched_calls.specs.FlowSpec.{rank_of, rate_of, burst_of, takes_requests}
 use Rattle.flow_book.specs.Batches.{with_request}
-use Rattle.flow_book.specs.Flows.{LiveFlow, bytes_of, granted}
+use Rattle.flow_book.specs.Flows.{LiveFlow, bytes_of, granted, in_period}
 use Rattle.flow_book.specs.Ceiling.{KeepsCeiling}
 use Rattle.flow_book.specs.Choice.{last_start}
 use Rattle.flow_book.specs.Bucket.{StandsFor}
@@ -21,6 +21,7 @@ live f = record {
   asked = f.asked;
   batches = f.batches;
   grants = f.grants.items;
+  earlier = f.grants.earlier;
 }
 
 -- it with so many bytes more that it asked, in a request that was heard at this minislot
@@ -56,7 +57,7 @@ pub record KeepsSums (c : Config) (f : Flow) : Type 0 where
   pub asks : 0 < f.asked → takes_requests f.spec ≡ true
   pub granted : f.granted ≡ bytes_of f.grants.items
   pub turn : KnowsTurn f
-  pub bucket : StandsFor c (rate_of f.spec) (burst_of f.spec) f.bucket f.grants.items
+  pub bucket : StandsFor c (rate_of f.spec) (burst_of f.spec) f.bucket (in_period (live f))
 
 -- g is a copy of f, with what is kept beside its grants
 pub record IsCopy (f g : Flow) : Type 0 where
@@ -68,7 +69,7 @@ pub record IsCopy (f g : Flow) : Type 0 where
 -- a flow was granted no more than it asked, within its rate ceiling
 pub record IsSoundFlow (c : Config) (f : LiveFlow) : Type 0 where
   pub within : granted f ≤ f.asked
-  pub kept : KeepsCeiling c (rate_of f.spec) (burst_of f.spec) f.grants
+  pub kept : KeepsCeiling c (rate_of f.spec) (burst_of f.spec) (in_period f)
 
 -- what is true of the flows of every book
 pub record IsSoundBook (c : Config) (flows : List LiveFlow) : Type 0 where
