@@ -7,7 +7,7 @@ use Rattle.sched_calls.specs.declared.spec.FlowSpec.TheVariants.{Unsolicited, Po
 use Rattle.sched_calls.specs.FlowSpec.{takes_requests}
 use Rattle.flow_book.specs.Flows.{LiveFlow, granted, outstanding}
 use Rattle.sched_calls.specs.declared.placement.Placement.{Placement}
-use Rattle.periodic.specs.Placement.{IsPlacement, NoPlacement, spots_in}
+use Rattle.periodic.specs.Placement.{IsPlacement, NoPlacement, due_in}
 use Rattle.sched_calls.specs.declared.frame_map.FrameMap.{FrameMap}
 use Rattle.map_build.specs.EachAfter.{EachAfter}
 use Rattle.map_build.specs.Plan.{Demand, demand_at}
@@ -66,7 +66,7 @@ flow_status f = if takes_requests f.spec then replies.Flow f.asked (granted f) (
 
 -- what the next frame has to serve
 abbrev pub demand_after : Config → List Entry → Demand
-demand_after c h = demand_at (flows_of c h) (spots_in c (next_after c h / c.frame) (table_of h))
+demand_after c h = demand_at (flows_of c h) (due_in c (next_after c h / c.frame) (table_of h))
     (waiting_in (reserves_of h)) (next_after c h)
 
 -- the MAP is the lawful one of the next frame
