@@ -14,6 +14,7 @@ pub mod Order
 pub mod Overlays
 pub mod InParts
 pub mod Pendings
+pub mod Periods
 pub mod Places
 pub mod Profile
 pub mod Queues
@@ -21,6 +22,7 @@ pub mod Removal
 pub mod Rooms
 pub mod RowsBucket
 pub mod RowsCeiling
+pub mod RowsChanges
 pub mod RowsChoice
 pub mod NextServed
 pub mod Serving

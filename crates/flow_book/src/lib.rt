@@ -12,6 +12,7 @@ mod granted;
 mod marks;
 mod overlay;
 mod parts;
+mod period;
 mod queue;
 mod shown;
 mod taking;
