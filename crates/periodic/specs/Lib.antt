@@ -9,5 +9,4 @@ pub mod Bits
 pub mod Rows
 pub mod Counts
 pub mod Fields
-pub mod Groups
 pub mod Search

@@ -4,7 +4,6 @@
 mod adopt;
 mod bits;
 mod counts;
-mod group;
 mod placement;
 mod row;
 mod search;
