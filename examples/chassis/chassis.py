@@ -60,7 +60,7 @@ def turns_with(chosen, seed, seconds, flows):
     for at in range(1, int(seconds / FRAME) + 1):
         heard = start + at * frame - 1
         asked = {"call": "ask", "receiver": 0, "heard": heard}
-        asks = [{**asked, "sid": draw.randint(1, flows), "bytes": draw.choice([64, 300, 1522])} for _ in range(4)]
+        asks = [{**asked, "sid": draw.randint(1, flows), "bytes": draw.choice([64, 300, 1000])} for _ in range(4)]
         upto = {"call": "heard", "receiver": 0, "upto": heard}
         told.append([*asks, upto, {"call": "build", "now": heard + 1 - CONFIG["lead"]}])
     lines = [b"".join(json.dumps(it, separators=(",", ":")).encode() + b"\n" for it in turn) for turn in told]
