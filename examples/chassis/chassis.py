@@ -51,8 +51,8 @@ def turns_of(chosen, seed, seconds):
 
 
 def turns_with(chosen, seed, seconds, flows):
-    """What a channel of so many flows is told instead: all are admitted, and then each frame has four requests, how far
-    they were heard, and its build."""
+    """What a channel of so many flows is told instead: all are admitted, and then each frame has four requests, in all
+    some 0.8 of what it carries, how far they were heard, and its build."""
     draw, frame, start = random.Random(seed), CONFIG["frame"], CONFIG["start"]
     flow = {"kind": "best_effort", "priority": 3, "rate": 0, "burst": 0}
     told = [[{"config": {**CONFIG, "flows": flows}}, {"call": "build", "now": start - CONFIG["lead"]}]]
