@@ -10,6 +10,7 @@ import json
 import os
 import random
 import resource
+import select
 import signal
 import socket
 import subprocess
@@ -75,22 +76,31 @@ class Channel:
     def __init__(self, name, turns, to, back):
         self.name, self.turns, self.to, self.back = name, turns, to, back
 
+    def fileno(self):
+        return self.back
+
     def tell(self, at):
-        self.told = time.perf_counter()
+        self.told, self.said = time.perf_counter(), b""
         try:
             os.write(self.to, self.turns[at][0])
         except OSError as fault:
             raise Fault(f"channel {self.name} has ended: {fault.strerror}") from None
 
+    def take(self, at):
+        """Reads what there is. Whether it has all answers of the turn then."""
+        piece, wanted = os.read(self.back, 65536), self.turns[at][1]
+        if not piece:
+            raise Fault(f"channel {self.name} has ended in frame {at}")
+        self.said += piece
+        if self.said.count(b"\n") < wanted.count(b"\n"):
+            return False
+        if self.said != wanted:
+            raise Fault(f"channel {self.name} has in frame {at} {NEW_JOURNAL}: {self.said.decode().strip()}")
+        return True
+
     def hear(self, at):
-        wanted, said = self.turns[at][1], b""
-        while said.count(b"\n") < wanted.count(b"\n"):
-            piece = os.read(self.back, 65536)
-            if not piece:
-                raise Fault(f"channel {self.name} has ended in frame {at}")
-            said += piece
-        if said != wanted:
-            raise Fault(f"channel {self.name} has in frame {at} {NEW_JOURNAL}: {said.decode().strip()}")
+        while not self.take(at):
+            pass
         return 1000 * (time.perf_counter() - self.told)
 
 
@@ -117,6 +127,10 @@ def connections(folder, plants, count):
     return talks, [Channel(at + 1, plants[at % SEEDS], *2 * [talk.fileno()]) for at, talk in enumerate(talks)]
 
 
+def uncarried(channels):
+    return f"this machine does not carry {len(channels)} channels"
+
+
 def pace(channels, count):
     """Takes so many turns by the clock. How long each took, and how late each began, and how long each channel did."""
     took, late, each, begun = [], [], [], time.perf_counter()
@@ -125,14 +139,38 @@ def pace(channels, count):
         time.sleep(max(0.0, due - time.perf_counter()))
         start = time.perf_counter()
         if start - due > BEHIND:
-            carried = f"this machine does not carry {len(channels)} channels"
-            raise Fault(f"{BEHIND} seconds behind the clock in frame {at}: {carried}")
+            raise Fault(f"{BEHIND} seconds behind the clock in frame {at}: {uncarried(channels)}")
         for channel in channels:
             channel.tell(at)
         each += [channel.hear(at) for channel in channels]
         took.append(1000 * (time.perf_counter() - start))
         late.append(1000 * (start - due))
     return took, late, each
+
+
+def pace_apart(channels, count):
+    """The same, where the channels begin their frames one after the other, and each is heard when it answers."""
+    late, each, waiting, step, begun = [], [], {}, FRAME / len(channels), time.perf_counter()
+
+    def hear(seconds):
+        for one in select.select(list(waiting), [], [], seconds)[0]:
+            if one.take(waiting[one]):
+                each.append(1000 * (time.perf_counter() - one.told))
+                del waiting[one]
+
+    for turn in range(count * len(channels)):
+        at, channel, due = turn // len(channels), channels[turn % len(channels)], begun + turn * step
+        while (early := due - time.perf_counter()) > 0 or channel in waiting:
+            hear(early if early > 0 else None)
+        behind = time.perf_counter() - due
+        if behind > BEHIND:
+            raise Fault(f"{BEHIND} seconds behind the clock in frame {at}: {uncarried(channels)}")
+        late.append(1000 * behind)
+        channel.tell(at)
+        waiting[channel] = at
+    while waiting:
+        hear(None)
+    return each, late, each
 
 
 def seconds_of(who):
@@ -142,8 +180,8 @@ def seconds_of(who):
 
 def spread(numbers):
     ordered = sorted(numbers)
-    found = (ordered[int(part * (len(ordered) - 1))] for part in (0.5, 0.99, 1))
-    return "{:.2f} in the middle, {:.2f} for 99 in 100, {:.2f} at most".format(*found)
+    found = (ordered[int(part * (len(ordered) - 1))] for part in (0.5, 0.99, 0.999, 1))
+    return "{:.2f} in the middle, {:.2f} for 99 in 100, {:.2f} for 999 in 1000, {:.2f} at most".format(*found)
 
 
 def measure(given, chosen, plants):
@@ -160,7 +198,7 @@ def measure(given, chosen, plants):
             channel.turns = channel.turns[1:]
         count -= 1
     began = time.perf_counter()
-    took, late, each = pace(channels, count)
+    took, late, each = (pace_apart if given.apart else pace)(channels, count)
     lasted, own = time.perf_counter() - began, seconds_of(resource.RUSAGE_SELF) - own
     for talk in talks:
         if given.sockets:
@@ -174,7 +212,8 @@ def measure(given, chosen, plants):
     if not given.sockets:
         print(f"cores of the schedulers: {(seconds_of(resource.RUSAGE_CHILDREN) - before) / lasted:.2f}")
     print(f"cores of this driver: {own / lasted:.2f}")
-    print(f"milliseconds until all have their MAPs: {spread(took)}")
+    if not given.apart:
+        print(f"milliseconds until all have their MAPs: {spread(took)}")
     print(f"milliseconds until one has its MAP: {spread(each)}")
     print(f"milliseconds behind the clock at the beginning: {spread(late)}")
     print("turns that took longer:", ", ".join(f"than {it} ms {sum(ms > it for ms in took)}" for it in BOUNDS))
@@ -191,6 +230,7 @@ def arguments():
     reader.add_argument("--channels", type=int, default=64, help="how many there are (64)")
     reader.add_argument("--seconds", type=float, default=10, help="how long they run (10)")
     reader.add_argument("--flows", type=int, help="tells channels of so many flows, in place of plants")
+    reader.add_argument("--apart", action="store_true", help="the channels' frames begin one after the other")
     reader.add_argument("--processors", metavar="LIST", type=processors_in, help="where the schedulers run, as 1,2,3")
     reader.add_argument("--sockets", metavar="FOLDER", help="talks with the units behind its sockets 1, 2, .. instead")
     given = reader.parse_args()
