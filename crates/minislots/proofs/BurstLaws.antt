@@ -1,6 +1,6 @@
 -- So many bytes take at most so many minislots exactly where they are no more than those carry.
 use Rattle.std.proofs.Common.{◌≡◌, ℕ, ◌+◌, ◌-◌, ◌*◌, ◌/◌, ◌%◌, ◌<◌, ◌≤◌, ◌==◌, min, max, ◌&&◌, nat_le, nat_lt, ◌↔◌}
-use Rattle.std.proofs.Common.{Bool, true, false, inl, inr, arith, ap, lit<, zero, suc, if◌then◌else◌}
+use Rattle.std.proofs.Common.{Bool, true, false, inl, inr, arith, ap, ◌∙◌, refl, lit<, zero, suc, if◌then◌else◌}
 use Rattle.std.proofs.lemmas.Bool.{cases_lt, cases_Bool}
 use Rattle.std.proofs.lemmas.Bool.Decides.{nat_tests}
 use Rattle.std.proofs.Math.Nat.{mul_comm}
@@ -26,6 +26,33 @@ rounded_up-least n b m h le = grind arith
 -- what is held by at most so many of a size is no more than they hold
 rounded_up-holds : (n b m : ℕ) → 0 < b → rounded_up n b ≤ m → n ≤ m * b
 rounded_up-holds n b m h le = omega (arith, rounded_up-enough n b h, mul-le (rounded_up n b) b m b le (omega arith))
+
+rounded_up-rises : (n m b : ℕ) → 0 < b → n ≤ m → rounded_up n b ≤ rounded_up m b
+rounded_up-rises n m b some le =
+    rounded_up-least n b (rounded_up m b) some (omega (arith, le, rounded_up-enough m b some))
+
+-- the lesser of two is held by as many as hold the one that takes fewer
+rounded_up-min : (n m b : ℕ) → 0 < b → rounded_up (min n m) b ≡ min (rounded_up n b) (rounded_up m b)
+rounded_up-min n m b some = elim (cases_lt n m) [
+  | inl less ↦
+      let is : min n m ≡ n = omega arith in rw is (omega (arith, rounded_up-rises n m b some (omega arith)))
+  | inr most ↦
+      let is : min n m ≡ m = omega arith in rw is (omega (arith, rounded_up-rises m n b some (omega arith)))
+]
+
+same_tests : (n m a b : ℕ) → (n ≤ m → a ≤ b) → (a ≤ b → n ≤ m) → nat_le n m ≡ nat_le a b
+same_tests n m a b forth back = grind (arith, nat_tests, forth, back)
+
+-- and these hold the second one where it takes no more than the first
+rounded_up-within : (n m b : ℕ) → 0 < b
+    → nat_le m (rounded_up (min n m) b * b) ≡ nat_le (rounded_up m b) (rounded_up n b)
+rounded_up-within n m b some =
+    let least = rounded_up-min n m b some in
+    same_tests m (rounded_up (min n m) b * b) (rounded_up m b) (rounded_up n b)
+    (λ fits. omega (arith, least, rounded_up-least m b (rounded_up (min n m) b) some fits))
+    (λ le.
+    let is : rounded_up (min n m) b ≡ rounded_up m b = omega (arith, least, le) in
+    rw is (rounded_up-enough m b some))
 
 -- one more of a size
 one_more : (q c b : ℕ) → q < c → q * b + b ≤ c * b
@@ -338,13 +365,38 @@ module _ (d : Descriptors) (sound : AreSound d) (sizes most : ℕ) (are : sizes 
   sizes-decide : (bytes : ℕ) → nat_lt bytes sizes ≡ nat_le (slots_by d.symbols d.short bytes) most
   sizes-decide bytes = rw are (by_sizes (Described d) sound most bytes)
 
-  pub short-where : (bytes : ℕ) → bytes < sizes
-      → (slots_by d.symbols d.short bytes == length_of (Described d) most bytes) ≡ serves_short d most bytes
+  short-where : (bytes : ℕ) → bytes < sizes
+      → nat_le (slots_by d.symbols d.short bytes) (slots_by d.symbols d.long bytes) ≡ serves_short d most bytes
   short-where bytes lt = grind (arith, nat_tests, sizes-decide bytes)
 
   pub long-where : (bytes : ℕ) → sizes ≤ bytes → serves_short d most bytes ≡ false
   long-where bytes ge = grind (arith, nat_tests, sizes-decide bytes)
 
-  pub shorter-is : (bytes : ℕ) → bytes < sizes
+  shorter-is : (bytes : ℕ) → bytes < sizes
       → min (slots_by d.symbols d.long bytes) (slots_by d.symbols d.short bytes) ≡ length_of (Described d) most bytes
   shorter-is bytes lt = grind (arith, nat_tests, sizes-decide bytes)
+
+  -- the minislots that hold the shorter burst are the grant's
+  pub size-slots : (bytes : ℕ) → bytes < sizes
+      → rounded_up (min (symbols_of d.long bytes) (symbols_of d.short bytes)) d.symbols
+      ≡ length_of (Described d) most bytes
+  unfolding slots_by
+  size-slots bytes lt =
+      rounded_up-min (symbols_of d.long bytes) (symbols_of d.short bytes) d.symbols sound.symbols_positive
+      ∙ shorter-is bytes lt
+
+  -- and it is short where they hold the burst by the profile of short grants
+  pub size-usage : (bytes : ℕ) → bytes < sizes
+      → nat_le (symbols_of d.short bytes)
+      (rounded_up (min (symbols_of d.long bytes) (symbols_of d.short bytes)) d.symbols * d.symbols)
+      ≡ serves_short d most bytes
+  unfolding slots_by
+  size-usage bytes lt =
+      rounded_up-within (symbols_of d.long bytes) (symbols_of d.short bytes) d.symbols sound.symbols_positive
+      ∙ short-where bytes lt
+
+  -- of any other number of bytes it has the minislots that hold the long burst
+  pub size-long : (bytes : ℕ) → sizes ≤ bytes
+      → rounded_up (symbols_of d.long bytes) d.symbols ≡ length_of (Described d) most bytes
+  unfolding slots_by
+  size-long bytes ge = rw (long-where bytes ge) refl

@@ -4,7 +4,7 @@
 ghost use Rattle.std.specs.Prelude.{ℕ, ◌≡◌, ◌≤◌, ◌<◌, ◌^◌, IsTrue};
 ghost use Rattle.minislots.specs.Bursts.{are_bursts, are_descriptors, is_profile, is_within, is_short_burst, capacity_of};
 ghost use Rattle.minislots.specs.Bursts.{IsSound, AreSound, HasBursts, codeword, parity_bytes, last_codeword, coded};
-ghost use Rattle.minislots.specs.Bursts.{slots_by, bytes_by, last_information, rounded_up, length_of};
+ghost use Rattle.minislots.specs.Bursts.{symbols_of, slots_by, bytes_by, last_information, rounded_up, length_of};
 ghost use Rattle.minislots.specs.Bursts.{long_slots, unsolicited_slots, uniform_slots, uniform_bytes, serves_short};
 ghost use Rattle.minislots.specs.Bursts.{short_slots, short_bytes, short_sizes};
 
@@ -54,6 +54,15 @@ pub enum Bursts {
     },
     /// What the burst descriptor of its usage says.
     Described(Descriptors),
+}
+
+/// How long a data grant is, and its usage.
+#[derive(Clone, Copy, Debug)]
+pub struct GrantSize {
+    /// The minislots that it takes.
+    pub slots: u64,
+    /// Whether it is a short one.
+    pub is_short: bool,
 }
 
 pub(crate) fn is_within(low: u32, high: u32, n: u32) -> bool
@@ -130,6 +139,16 @@ impl Profile {
         full + u64::from(self.last_codeword(bytes % self.information))
     }
 
+    // The symbols of a burst of so many bytes.
+    fn symbols(&self, bytes: u32) -> u64
+        requires { IsSound self.now }
+        ensures value { result ≡ symbols_of self.now bytes }
+        ensures small { result < 2 ^ 46 }
+    {
+        let sent = rounded_up(8 * self.coded(bytes), self.bits);
+        u64::from(self.preamble) + sent + u64::from(self.guard)
+    }
+
     // The minislots of a burst of so many bytes, where a minislot has so many symbols.
     #[tactic(auto, unfolding(crate::specs::Bursts::slots_by))]
     fn slots(&self, symbols: u32, bytes: u32) -> u64
@@ -138,11 +157,7 @@ impl Profile {
         ensures value { result ≡ slots_by symbols self.now bytes }
         ensures small { result < 2 ^ 46 }
     {
-        let sent = rounded_up(8 * self.coded(bytes), self.bits);
-        rounded_up(
-            u64::from(self.preamble) + sent + u64::from(self.guard),
-            symbols,
-        )
+        rounded_up(self.symbols(bytes), symbols)
     }
 
     // The information bytes of a last codeword that has room for at most so many bytes.
@@ -188,29 +203,29 @@ impl Descriptors {
             && self.unsolicited.is_lawful()
     }
 
-    // Whether the profile of short grants serves a data grant of so many bytes, which has so many minislots.
+    // The size of a data grant of so many bytes: the minislots that hold the shorter burst, and whether they hold the one
+    // by the profile of short grants.
     #[inline(never)]
-    fn serves_short(&self, sizes: u64, bytes: u32, slots: u64) -> bool
+    fn grant_size(&self, sizes: u64, bytes: u32) -> GrantSize
         requires { AreSound self.now }
-        ensures { (most : ℕ) → sizes ≡ short_sizes (Bursts.Described self.now) most
-            → slots ≡ length_of (Bursts.Described self.now) most bytes → result ≡ serves_short self.now most bytes }
+        ensures slots { (most : ℕ) → sizes ≡ short_sizes (Bursts.Described self.now) most
+            → result.slots ≡ length_of (Bursts.Described self.now) most bytes }
+        ensures usage { (most : ℕ) → sizes ≡ short_sizes (Bursts.Described self.now) most
+            → result.is_short ≡ serves_short self.now most bytes }
+        ensures small { result.slots < 2 ^ 46 }
     {
-        u64::from(bytes) < sizes && self.short.slots(self.symbols, bytes) == slots
-    }
-
-    // The minislots of a data grant of so many bytes.
-    #[inline(never)]
-    fn slots(&self, sizes: u64, bytes: u32) -> u64
-        requires { AreSound self.now }
-        ensures value { (most : ℕ) → sizes ≡ short_sizes (Bursts.Described self.now) most
-            → result ≡ length_of (Bursts.Described self.now) most bytes }
-        ensures small { result < 2 ^ 46 }
-    {
-        let long = self.long.slots(self.symbols, bytes);
-        if u64::from(bytes) < sizes {
-            return long.min(self.short.slots(self.symbols, bytes));
+        let long = self.long.symbols(bytes);
+        if u64::from(bytes) >= sizes {
+            let slots = rounded_up(long, self.symbols);
+            return GrantSize {
+                slots,
+                is_short: false,
+            };
         }
-        long
+        let short = self.short.symbols(bytes);
+        let slots = rounded_up(long.min(short), self.symbols);
+        let is_short = short <= slots * u64::from(self.symbols);
+        GrantSize { slots, is_short }
     }
 
     // The most bytes of a data grant of at most so many minislots.
@@ -314,33 +329,24 @@ impl Bursts {
         }
     }
 
-    /// Whether a data grant of so many bytes, which has so many minislots, is short, by [`Bursts::short_sizes`] of the
-    /// longest of those.
+    /// The size of a data grant of so many bytes, by [`Bursts::short_sizes`] of the longest that is short.
     #[inline(always)]
-    pub(crate) fn is_short(&self, sizes: u64, bytes: u32, slots: u64) -> bool
+    pub(crate) fn grant_size(&self, sizes: u64, bytes: u32) -> GrantSize
         requires { HasBursts self.now }
-        ensures { (most : ℕ) → sizes ≡ short_sizes self.now most → slots ≡ length_of self.now most bytes
-            → result ≡ is_short_burst self.now most bytes }
-    {
-        match self {
-            Bursts::Uniform { .. } => u64::from(bytes) < sizes,
-            Bursts::Described(these) => these.serves_short(sizes, bytes, slots),
-        }
-    }
-
-    /// The minislots of a data grant of so many bytes, by the profile of its usage.
-    #[inline(always)]
-    pub(crate) fn slots(&self, sizes: u64, bytes: u32) -> u64
-        requires { HasBursts self.now }
-        ensures value { (most : ℕ) → sizes ≡ short_sizes self.now most → result ≡ length_of self.now most bytes }
-        ensures small { result < 2 ^ 46 }
+        ensures slots { (most : ℕ) → sizes ≡ short_sizes self.now most → result.slots ≡ length_of self.now most bytes }
+        ensures usage { (most : ℕ) → sizes ≡ short_sizes self.now most
+            → result.is_short ≡ is_short_burst self.now most bytes }
+        ensures small { result.slots < 2 ^ 46 }
     {
         match self {
             Bursts::Uniform {
                 bytes_per_slot,
                 overhead,
-            } => uniform_slots(*bytes_per_slot, *overhead, bytes),
-            Bursts::Described(these) => these.slots(sizes, bytes),
+            } => GrantSize {
+                slots: uniform_slots(*bytes_per_slot, *overhead, bytes),
+                is_short: u64::from(bytes) < sizes,
+            },
+            Bursts::Described(these) => these.grant_size(sizes, bytes),
         }
     }
 
