@@ -1,5 +1,5 @@
 -- Numbers in order are told by how many of them pass each test.
-use Rattle.std.proofs.Common.{◌≡◌, refl, sym, ap, ◌∙◌, ℕ, zero, suc, ◌+◌, ◌<◌, ◌≤◌, ◌%◌, ◌^◌, inl, inr, Bool, true, false, cond}
+use Rattle.std.proofs.Common.{◌≡◌, refl, sym, ap, ◌∙◌, ℕ, zero, suc, ◌<◌, ◌≤◌, ◌^◌, inl, inr, Bool, true, false, cond}
 use Rattle.std.proofs.Common.{◌&&◌, nat_lt, List, [], ◌∷◌, map, filter, take, length, get_or, Some, None, arith}
 use Rattle.std.specs.List.{AllByRecursion, count_by}
 use Rattle.std.specs.List.Sorted.{IsPermutation, IsNonDecreasing}
@@ -12,7 +12,7 @@ use Rattle.flow_book.specs.Flows.{LiveFlow}
 use Rattle.flow_book.specs.Book.{Ascend}
 use Rattle.flow_book.specs.Sids.{AscendBy, put_in}
 use Rattle.flow_book.specs.Shown.{waits, number_in_line, is_shown}
-use Rattle.flow_book.specs.Line.{itself, IsInOrder, sorted_into, sorted, sid_of, numbers_of, comes_first}
+use Rattle.flow_book.specs.Line.{itself, IsInOrder, sorted_into, sorted, sid_of, numbers_of}
 use Rattle.flow_book.proofs.InLine.{all-shown, few-wait, some-hidden, ascends}
 use Rattle.flow_book.proofs.Lines.{order-put_in, count-cons, count-kept, count-same, count-sorted_into}
 use Rattle.flow_book.proofs.Matching.{all-map, filter-same}

@@ -1,12 +1,12 @@
 -- The flows that wait after a MAP, by the two parts of its queue.
-use Rattle.std.proofs.Common.{◌≡◌, ◌≢◌, refl, sym, ap, ◌∙◌, subst, ℕ, zero, suc, ◌+◌, ◌-◌, ◌/◌, ◌%◌, ◌^◌, ◌<◌, ◌≤◌, arith}
-use Rattle.std.proofs.Common.{Bool, true, false, cond, ◌==◌, ◌&&◌, ◌||◌, nat_lt, inl, inr, List, [], ◌∷◌, ◌++◌, map, filter}
-use Rattle.std.proofs.Common.{take, append-nil, true≢false, find, length, get_or, Option, Some, None, option_map, unwrap_or, slice_get, IsSomeAnd, MatchOption}
+use Rattle.std.proofs.Common.{◌≡◌, ◌≢◌, refl, sym, ap, ◌∙◌, subst, ℕ, zero, suc, ◌+◌, ◌-◌, ◌%◌, ◌^◌, ◌<◌, ◌≤◌, arith}
+use Rattle.std.proofs.Common.{Bool, true, false, ◌==◌, nat_lt, inl, inr, List, [], ◌∷◌, ◌++◌, map, filter}
+use Rattle.std.proofs.Common.{take, append-nil, find, length, get_or, Option, Some, None, option_map, unwrap_or, slice_get, IsSomeAnd, MatchOption}
 use Rattle.std.specs.List.{AllByRecursion, AllZip, count_by}
-use Rattle.std.proofs.lemmas.Bool.{cond_both, cases_Bool}
+use Rattle.std.proofs.lemmas.Bool.{cond_both}
 use Rattle.std.proofs.lemmas.Bool.Decides.{nat_tests}
 use Rattle.std.proofs.lemmas.List.{length-map, length-take, take-take, map-append}
-use Rattle.std.proofs.lemmas.List.Elements.{recursion_from_All, All-from_recursion, filter_passes, filter-append, filter_more}
+use Rattle.std.proofs.lemmas.List.Elements.{recursion_from_All, filter_passes, filter_more}
 use Rattle.std.proofs.lemmas.List.Sums.{length-filter}
 use Rattle.std.proofs.lemmas.Option.{slice_get_within, slice_get-get_or, slice_get-map, same_Some}
 use Rattle.std.proofs.lemmas.Slice.Zip.{AllZip-right}
@@ -29,7 +29,7 @@ use Rattle.flow_book.proofs.InLine.{small-of, few-wait, some-hidden, same-behind
 use Rattle.flow_book.proofs.InOrder.{sorted-same, order-sids, shown-few, shown-many}
 use Rattle.flow_book.proofs.Insertion.{all-put_in, ascends-put_in}
 use Rattle.flow_book.proofs.Lines.{put_in-either, length-sorted_into, take-put_in, sorted_into-append}
-use Rattle.flow_book.proofs.Matching.{Has, has-kept, all-kept, go-together, filter-same, filter-both, zip-values, zip-more}
+use Rattle.flow_book.proofs.Matching.{Has, has-kept, all-kept, go-together, zip-values, zip-more}
 use Rattle.flow_book.proofs.Queues.{all-both, flow-at, turn-at, wants-at, knows-at, same-turn, place-of-sid}
 use Rattle.flow_book.proofs.Removal.{all-filter, ascends-filter}
 use Rattle.flow_book.proofs.StillWaiting.{in-or-out, stays-in}

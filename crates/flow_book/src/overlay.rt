@@ -131,7 +131,13 @@ impl Overlay {
         let standing = first_of(&self.queue, self.first, &self.served, config, start, room)?;
         let mut waiting = one_at(&self.queue, &self.served, standing);
         let bytes = waiting.serve(start, room.bytes);
-        put_served(&mut self.queue, &mut self.served, standing, waiting, self.is_long);
+        put_served(
+            &mut self.queue,
+            &mut self.served,
+            standing,
+            waiting,
+            self.is_long,
+        );
         self.first = first_waiting(&self.queue, self.first);
         let sid = waiting.sid();
         self.flows = FlowList::granted(&self.flows, &sid, &Grant { start, bytes });

@@ -1,5 +1,5 @@
 -- Where many wait it goes to those served, and else it moves back.
-use Rattle.std.proofs.Common.{◌≡◌, ◌∙◌, refl, ap, sym, Some, true, false, slice_get, length, remove, subst, true≢false, arith}
+use Rattle.std.proofs.Common.{◌≡◌, ◌∙◌, refl, ap, sym, length, remove, subst, true≢false, arith}
 use Rattle.std.proofs.lemmas.List.{take_at}
 use Rattle.std.proofs.lemmas.Option.{slice_get_within, get_or_from_slice_get}
 use Rattle.flow_book.specs.declared.queue.Waiting.{Waiting}

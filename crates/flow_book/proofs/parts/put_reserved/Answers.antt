@@ -1,5 +1,5 @@
 -- Before the first of a later turn it stands in order, and there is room for it.
-use Rattle.std.proofs.Common.{◌≡◌, ◌∙◌, ap, sym, map-id, insert, nat_lt, is_ok, true, arith}
+use Rattle.std.proofs.Common.{◌≡◌, ◌∙◌, ap, sym, map-id, insert, nat_lt, arith}
 use Rattle.std.specs.List.{position_or_len}
 use Rattle.flow_book.specs.declared.queue.Waiting.{Waiting}
 use Rattle.flow_book.specs.Sids.{put_in}

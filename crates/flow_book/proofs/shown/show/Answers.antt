@@ -1,5 +1,5 @@
 -- Where no more wait than are shown they are shown, and else those with the least numbers in line.
-use Rattle.std.proofs.Common.{ℕ, Bool, ◌≡◌, ◌∙◌, ◌+◌, ap, sym, subst, nat_le, ◌≤◌, ◌<◌, true, false, None, Some, take, length, map, arith}
+use Rattle.std.proofs.Common.{ℕ, Bool, ◌≡◌, ◌∙◌, ap, sym, nat_le, ◌≤◌, ◌<◌, true, false, None, Some, take, length, map, arith}
 use Rattle.std.proofs.lemmas.Bool.Decides.{nat_tests}
 use Rattle.std.proofs.lemmas.List.{length-take}
 use Rattle.flow_book.specs.declared.shown.Hidden.{Hidden}

@@ -1,11 +1,6 @@
 -- Those served are taken over, and all that still wait are put back.
-use Rattle.std.proofs.Common.{◌≡◌, sym, ap, filter, map, true, false, Bool, List, Result, Ok, Err, is_ok, OnOk, ◌∙◌, subst}
-use Rattle.minislots.specs.declared.config.Config.{Config}
-use Rattle.flow_book.specs.declared.flow.Flow.{Flow}
-use Rattle.flow_book.specs.declared.queue.Waiting.{Waiting}
-use Rattle.flow_book.specs.Flows.{LiveFlow}
-use Rattle.flow_book.specs.Entry.{live, IsBook}
-use Rattle.flow_book.specs.Overlay.{IsOverlay}
+use Rattle.std.proofs.Common.{◌≡◌, sym, ap, filter, map, true, Result, Ok, Err, is_ok, OnOk, ◌∙◌, subst}
+use Rattle.flow_book.specs.Entry.{live}
 use Rattle.flow_book.specs.Queue.{IsQueue, served_of, still_waits}
 use Rattle.flow_book.specs.Taking.{CanBeTaken, IsTaken}
 use Rattle.flow_book.proofs.Overlays.{can-be-taken}
