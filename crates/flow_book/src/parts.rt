@@ -1,0 +1,165 @@
+//! The flows that wait while a MAP is planned. Where they are many they stand in two parts: those that it served, and
+//! the others.
+
+ghost use Rattle.std.specs.Prelude.{◌≡◌, ◌<◌, ◌≤◌, ◌+◌, ℕ, List, map, filter, length, true, false, IfSome, MatchOption, Some};
+ghost use Rattle.std.specs.Prelude.{option_map, slice_get, vec_capacity};
+ghost use Rattle.minislots.specs.Config.{IsLawful};
+ghost use Rattle.flow_book.specs.declared.flow.Flow.{Flow};
+ghost use Rattle.flow_book.specs.declared.queue.Waiting.{Waiting};
+ghost use Rattle.flow_book.specs.Choice.{NoneEligible};
+ghost use Rattle.flow_book.specs.Entry.{live, IsRoom};
+ghost use Rattle.flow_book.specs.Sids.{AscendBy, put_in};
+ghost use Rattle.flow_book.specs.Queue.{IsOrderIn, HasRoom, NoneWaitsBefore, still_waits};
+ghost use Rattle.flow_book.specs.declared.parts.Standing.TheVariants.{Queued};
+ghost use Rattle.flow_book.specs.Parts.{one_at, HasStartedIn, IsAheadOf, IsNextIn, IsPut};
+
+use crate::flow::Room;
+use crate::queue::{Waiting, first_able, move_back, place_after};
+use minislots::Checked;
+
+// Where one stands that waits: in the queue, or among those that the MAP served.
+#[derive(Clone, Copy)]
+pub(crate) enum Standing {
+    Queued(usize),
+    Served(usize),
+}
+
+// The place among those served behind which none comes before this one of the queue: the end where there is none.
+fn ahead_of(queue: &[Waiting], queued: Option<usize>, served: &[Waiting]) -> usize
+    requires within { IfSome queued (λ index. index < length queue.now) }
+    requires ascending { AscendBy (λ w. w.turn) served.now }
+    ensures within { result ≤ length served.now }
+    ensures ahead { IsAheadOf queue.now served.now result queued }
+{
+    match queued {
+        Some(index) => place_after(served, queue[index].turn),
+        None => served.len(),
+    }
+}
+
+// One stands there in the queue.
+fn in_queue(queued: Option<usize>) -> Option<Standing>
+    ensures { result ≡ option_map Queued queued }
+{
+    match queued {
+        Some(index) => Some(Standing::Queued(index)),
+        None => None,
+    }
+}
+
+// Where the flow stands that is served first at this minislot, of those that may be served. None of the queue before
+// the first place wants anything.
+pub(crate) fn first_of(
+    queue: &[Waiting],
+    first: usize,
+    served: &[Waiting],
+    config: &Checked,
+    start: u64,
+    room: Room,
+) -> Option<Standing>
+    requires room { IsRoom config.now room }
+    requires passed { NoneWaitsBefore first queue.now }
+    requires started { (items : List Flow) × HasStartedIn config.now items queue.now served.now start }
+    ensures next { (items : List Flow) → HasStartedIn config.now items queue.now served.now start
+        → MatchOption result (NoneEligible config.now (map live items) start room.slots)
+        (IsNextIn config.now items queue.now served.now start room.slots) }
+    ensures lawful { IsLawful config.now }
+{
+    let queued = first_able(queue, first, config, start, room);
+    if served.is_empty() {
+        return in_queue(queued);
+    }
+    let ahead = ahead_of(queue, queued, served);
+    if let Some(index) = first_able(&served[..ahead], 0, config, start, room) {
+        return Some(Standing::Served(index));
+    }
+    in_queue(queued)
+}
+
+// The one that stands there.
+pub(crate) fn one_at(queue: &[Waiting], served: &[Waiting], standing: Standing) -> Waiting
+    requires { (w : Waiting) × (one_at standing queue.now served.now ≡ Some w) }
+    ensures { one_at standing queue.now served.now ≡ Some result }
+{
+    match standing {
+        Standing::Queued(index) => queue[index],
+        Standing::Served(index) => served[index],
+    }
+}
+
+// Puts one in its turn among those served, where there is room for it.
+fn put_reserved(served: &mut Vec<Waiting>, waiting: Waiting)
+    requires room { length served.old.items < vec_capacity served.old }
+    requires ascending { AscendBy (λ w. w.turn) served.old.items }
+    ensures put { served.new.items ≡ put_in (λ w. w.turn) waiting served.old.items }
+    ensures capacity { vec_capacity served.old ≤ vec_capacity served.new }
+{
+    let index = place_after(served, waiting.turn);
+    let _ = served.insert(index, waiting);
+}
+
+// Puts the one at this place in the queue, which is served and whose turn is no earlier than before, to where it stands
+// from now on: among those served, where many wait, and in the queue it wants nothing any more; else in its turn.
+fn put_queued(
+    queue: &mut Vec<Waiting>,
+    served: &mut Vec<Waiting>,
+    index: usize,
+    waiting: Waiting,
+    is_long: bool,
+)
+    requires order { (items : List Flow) × IsOrderIn is_long items queue.old.items served.old.items }
+    requires here { (w : Waiting) × (slice_get queue.old.items index ≡ Some w) × (still_waits w ≡ true)
+        × (w.turn ≤ waiting.turn) }
+    requires room { HasRoom is_long queue.old.items served.old.items (vec_capacity served.old) }
+    ensures put { (items : List Flow) (w : Waiting)
+        → IsOrderIn is_long items queue.old.items served.old.items → slice_get queue.old.items index ≡ Some w
+        → still_waits w ≡ true → w.place ≡ waiting.place
+        → IsPut is_long items waiting queue.old.items served.old.items queue.new.items served.new.items }
+    ensures passed { (first : ℕ) → NoneWaitsBefore first queue.old.items → NoneWaitsBefore first queue.new.items }
+    ensures room { HasRoom is_long queue.new.items served.new.items (vec_capacity served.new) }
+{
+    if is_long {
+        put_reserved(served, waiting);
+        queue[index].wants = 0;
+    } else {
+        move_back(queue, index, waiting);
+    }
+}
+
+// Puts the one that stands there, which is served and whose turn is no earlier than before, to where it stands from now
+// on.
+pub(crate) fn put_served(
+    queue: &mut Vec<Waiting>,
+    served: &mut Vec<Waiting>,
+    standing: Standing,
+    waiting: Waiting,
+    is_long: bool,
+)
+    requires order { (items : List Flow) × IsOrderIn is_long items queue.old.items served.old.items }
+    requires here { (w : Waiting) × (one_at standing queue.old.items served.old.items ≡ Some w)
+        × (still_waits w ≡ true) × (w.turn ≤ waiting.turn) }
+    requires room { HasRoom is_long queue.old.items served.old.items (vec_capacity served.old) }
+    ensures put { (items : List Flow) (w : Waiting)
+        → IsOrderIn is_long items queue.old.items served.old.items
+        → one_at standing queue.old.items served.old.items ≡ Some w → still_waits w ≡ true → w.place ≡ waiting.place
+        → IsPut is_long items waiting queue.old.items served.old.items queue.new.items served.new.items }
+    ensures passed { (first : ℕ) → NoneWaitsBefore first queue.old.items → NoneWaitsBefore first queue.new.items }
+    ensures room { HasRoom is_long queue.new.items served.new.items (vec_capacity served.new) }
+{
+    match standing {
+        Standing::Queued(index) => put_queued(queue, served, index, waiting, is_long),
+        Standing::Served(index) => move_back(served, index, waiting),
+    }
+}
+
+// The first place of the queue from this one on where one waits, or its end.
+pub(crate) fn first_waiting(queue: &[Waiting], first: usize) -> usize
+    requires { NoneWaitsBefore first queue.now }
+    ensures { NoneWaitsBefore result queue.now }
+{
+    let mut at = first;
+    while at < queue.len() && queue[at].wants == 0 {
+        at += 1;
+    }
+    at
+}
