@@ -7,11 +7,11 @@ ghost use Rattle.minislots.specs.Config.{IsLawful};
 ghost use Rattle.sched_calls.specs.FlowSpec.{is_periodic, size_of, interval_frames, jitter_slots, periodic_slots};
 ghost use Rattle.sched_calls.specs.FlowSpec.{grants_of, first_fault};
 ghost use Rattle.periodic.specs.declared.TheConstants.{MAX_SPOTS};
-ghost use Rattle.periodic.specs.Placement.{starts_in, spot_at, spots_of, spots_in};
+ghost use Rattle.periodic.specs.Placement.{starts_in, spot_at, spots_of};
 ghost use Rattle.periodic.specs.Bits.{bit_for};
 ghost use Rattle.periodic.specs.Rows.{row_at, AreMarked, HaveAtMost, AreBounds};
 ghost use Rattle.periodic.specs.Table.{placed_at};
-ghost use Rattle.periodic.specs.Fields.{placed_of, placed_in, KeepsTimes, IsSoundFlow, AreSoundFlows};
+ghost use Rattle.periodic.specs.Fields.{placed_of, KeepsTimes, IsSoundFlow};
 
 use crate::MAX_SPOTS;
 use crate::bits::Bits;
@@ -131,10 +131,20 @@ impl PlacedFlow {
         ensures { (c : Config) → IsSoundFlow c self.now → place < c.cycle
             → result.now ≡ starts_in c self.now.spec self.now.placement place }
     {
-        let starts = self.placement.starts.as_slice();
         if place % self.interval != self.phase {
-            return &starts[..0];
+            return &self.placement.starts.as_slice()[..0];
         }
+        self.starts_here(place)
+    }
+
+    // Where it starts in the frame at this place, which is one of its phase.
+    fn starts_here(&self, place: u64) -> &[u16]
+        requires sound { (c : Config) × IsSoundFlow c self.now × (place < c.cycle) }
+        requires nominal { place % self.now.interval ≡ self.now.phase }
+        ensures { (c : Config) → IsSoundFlow c self.now → place < c.cycle
+            → result.now ≡ starts_in c self.now.spec self.now.placement place }
+    {
+        let starts = self.placement.starts.as_slice();
         let first = (place / self.interval) as usize * self.grants;
         &starts[first..first + self.grants]
     }
@@ -152,10 +162,12 @@ impl PlacedFlow {
         }
     }
 
-    // Writes what the flow takes of the frame at this place behind so many spots, and answers how many there are then.
-    fn put(&self, place: u64, spots: &mut [Spot; MAX_SPOTS], count: usize) -> usize
+    // Writes what the flow takes of the frame at this place, one of its phase, behind so many spots, and answers how
+    // many there are then.
+    pub(crate) fn put(&self, place: u64, spots: &mut [Spot; MAX_SPOTS], count: usize) -> usize
         requires sound { (c : Config) × IsSoundFlow c self.now × (place < c.cycle)
             × (count + length (spots_of c place (placed_of self.now)) ≤ MAX_SPOTS) }
+        requires nominal { place % self.now.interval ≡ self.now.phase }
         ensures spots { (c : Config) → IsSoundFlow c self.now → place < c.cycle → take result
             spots.new ≡ take count spots.old ++ spots_of c place (placed_of self.now) }
         ensures rest { drop result spots.new ≡ drop result spots.old }
@@ -163,7 +175,7 @@ impl PlacedFlow {
         ensures most { result ≤ MAX_SPOTS }
     {
         let mut next = count;
-        for start in self.starts(place) {
+        for start in self.starts_here(place) {
             spots[next] = self.spot(*start);
             next += 1;
         }
@@ -186,27 +198,6 @@ impl PlacedFlow {
             widest::mark(bits, most, config, start, end, taken);
         }
     }
-}
-
-// Writes what the flows take of frame `k`, in their order, and answers how many spots these are.
-pub(crate) fn fill(
-    flows: &[PlacedFlow],
-    config: &Checked,
-    k: u64,
-    spots: &mut [Spot; MAX_SPOTS],
-) -> usize
-    requires sound { AreSoundFlows config.now flows.now }
-    ensures spots { take result spots.new ≡ spots_in config.now k (placed_in flows.now) }
-    ensures rest { drop result spots.new ≡ drop result spots.old }
-    ensures most { result ≤ MAX_SPOTS }
-    ensures lawful { IsLawful config.now }
-{
-    let place = k % u64::from(config.cycle());
-    let mut count = 0;
-    for flow in flows {
-        count = flow.put(place, spots, count);
-    }
-    count
 }
 
 // Marks what a flow takes of each frame of the cycle as taken, or as free, and keeps the frames' bounds.

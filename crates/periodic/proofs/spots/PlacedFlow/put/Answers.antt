@@ -11,7 +11,7 @@ use Rattle.periodic.proofs.spots.PlacedFlow.put.Goals as goal
 pub bounds-spots-next : goal.bounds-spots-next
 bounds-spots-next c =
     let (config, sound, within, few) = c.requires.sound in
-    let here = ap length (c.starts-start-items.ensures config sound within) in
+    let here = ap length (c.starts_here-start-items.ensures config sound within) in
     omega (
       arith,
       few,
@@ -27,7 +27,7 @@ offset_bounds-spots-next c = omega (arith, bounds-spots-next c)
 pub returns-clause-most : goal.returns-clause-most
 returns-clause-most c =
     let (config, sound, within, few) = c.requires.sound in
-    let here = ap length (c.starts-start-items.ensures config sound within) in
+    let here = ap length (c.starts_here-start-items.ensures config sound within) in
     omega (
       arith,
       few,
@@ -44,7 +44,7 @@ loop-start-preserved c = record {
   spots = λ config sound within.
       let f = c.args.self.now in
       let starts = starts_in config f.spec f.placement c.args.place in
-      let here = c.starts-start-items.ensures config sound within in
+      let here = c.starts_here-start-items.ensures config sound within in
       let s : c.spot.result ≡ spot_at config (placed_of f) (get_or starts c.loop-start.start-index 0) =
       c.spot.ensures config sound.times
       ∙ ap (λ xs. spot_at config (placed_of f) (get_or xs c.loop-start.start-index 0)) here in
@@ -55,7 +55,7 @@ loop-start-preserved c = record {
         arith,
         c.loop-start.invariant.long,
         c.requires.sound.3,
-        ap length (c.starts-start-items.ensures c.requires.sound.0 c.requires.sound.1 c.requires.sound.2),
+        ap length (c.starts_here-start-items.ensures c.requires.sound.0 c.requires.sound.1 c.requires.sound.2),
         count-here c.requires.sound.0 c.args.place (placed_of f) c.requires.sound.2,
         c.loop-start.invariant.count,
         most_spots,
@@ -70,7 +70,7 @@ pub returns-clause-spots : goal.returns-clause-spots
 returns-clause-spots c = λ config sound within.
     let f = c.args.self.now in
     let starts = starts_in config f.spec f.placement c.args.place in
-    let here = c.starts-start-items.ensures config sound within in
+    let here = c.starts_here-start-items.ensures config sound within in
     let all : take c.loop-start.start-index starts ≡ starts =
     take_all c.loop-start.start-index starts (omega (arith, ap length here)) in
     c.loop-start.invariant.spots config sound within
