@@ -31,3 +31,4 @@ pub mod InOrder
 pub mod Among
 pub mod Grouped
 pub mod Filled
+pub mod Numbered

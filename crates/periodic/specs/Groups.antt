@@ -1,5 +1,5 @@
 -- The placed flows in groups of one interval and one phase, and in order of SID.
-use Rattle.std.specs.Prelude.{◌≡◌, ℕ, ◌<◌, List, [], ◌∷◌, ◌++◌, map, length, get_or}
+use Rattle.std.specs.Prelude.{◌≡◌, ℕ, ◌+◌, ◌*◌, ◌<◌, List, [], ◌∷◌, ◌++◌, map, length, get_or}
 use Rattle.std.specs.List.{AllByRecursion, flat_map}
 use Rattle.std.specs.Vec.{vec_len, vec_capacity}
 use Rattle.minislots.specs.declared.config.Config.{Config}
@@ -24,6 +24,10 @@ in_order (f ∷ flows) = with_placed f (in_order flows)
 -- the placed flows of the groups, in order of SID
 abbrev pub placed_in : List Group → List Placed
 placed_in groups = in_order (map placed_of (flows_in groups))
+
+-- the place in the cycle of the frame of this number among those of a flow's phase
+abbrev pub own_place : PlacedFlow → ℕ → ℕ
+own_place f number = number * f.interval + f.phase
 
 -- A flow that is soundly placed, its interval being so many frames and its phase this one of them
 pub record IsSoundMember (c : Config) (frames frame : ℕ) (f : PlacedFlow) : Type 0 where

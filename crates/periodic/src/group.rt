@@ -45,7 +45,7 @@ impl Group {
         self.put_all(place, spots, count)
     }
 
-    // Writes it where the frame is one of theirs.
+    // Writes it where the frame is one of theirs, which are numbered alike for all.
     fn put_all(&self, place: u64, spots: &mut [Spot; MAX_SPOTS], count: usize) -> usize
         requires sound { (c : Config) × IsSoundGroup c self.now × (place < c.cycle)
             × (count + length (spots_in c place (map placed_of self.now.flows.items)) ≤ MAX_SPOTS) }
@@ -56,9 +56,10 @@ impl Group {
         ensures more { count ≤ result }
         ensures most { result ≤ MAX_SPOTS }
     {
+        let number = place / self.interval;
         let mut next = count;
         for flow in &self.flows {
-            next = flow.put(place, spots, next);
+            next = flow.put(number, spots, next);
         }
         next
     }

@@ -12,6 +12,7 @@ ghost use Rattle.periodic.specs.Bits.{bit_for};
 ghost use Rattle.periodic.specs.Rows.{row_at, AreMarked, HaveAtMost, AreBounds};
 ghost use Rattle.periodic.specs.Table.{placed_at};
 ghost use Rattle.periodic.specs.Fields.{placed_of, KeepsTimes, IsSoundFlow};
+ghost use Rattle.periodic.specs.Groups.{own_place};
 
 use crate::MAX_SPOTS;
 use crate::bits::Bits;
@@ -134,18 +135,17 @@ impl PlacedFlow {
         if place % self.interval != self.phase {
             return &self.placement.starts.as_slice()[..0];
         }
-        self.starts_here(place)
+        self.own_starts(place / self.interval)
     }
 
-    // Where it starts in the frame at this place, which is one of its phase.
-    fn starts_here(&self, place: u64) -> &[u16]
-        requires sound { (c : Config) × IsSoundFlow c self.now × (place < c.cycle) }
-        requires nominal { place % self.now.interval ≡ self.now.phase }
-        ensures { (c : Config) → IsSoundFlow c self.now → place < c.cycle
-            → result.now ≡ starts_in c self.now.spec self.now.placement place }
+    // Where it starts in the frame of this number among those of its phase, the first being number 0.
+    fn own_starts(&self, number: u64) -> &[u16]
+        requires sound { (c : Config) × IsSoundFlow c self.now × (own_place self.now number < c.cycle) }
+        ensures { (c : Config) → IsSoundFlow c self.now → own_place self.now number < c.cycle
+            → result.now ≡ starts_in c self.now.spec self.now.placement (own_place self.now number) }
     {
         let starts = self.placement.starts.as_slice();
-        let first = (place / self.interval) as usize * self.grants;
+        let first = number as usize * self.grants;
         &starts[first..first + self.grants]
     }
 
@@ -162,20 +162,20 @@ impl PlacedFlow {
         }
     }
 
-    // Writes what the flow takes of the frame at this place, one of its phase, behind so many spots, and answers how
-    // many there are then.
-    pub(crate) fn put(&self, place: u64, spots: &mut [Spot; MAX_SPOTS], count: usize) -> usize
-        requires sound { (c : Config) × IsSoundFlow c self.now × (place < c.cycle)
-            × (count + length (spots_of c place (placed_of self.now)) ≤ MAX_SPOTS) }
-        requires nominal { place % self.now.interval ≡ self.now.phase }
-        ensures spots { (c : Config) → IsSoundFlow c self.now → place < c.cycle → take result
-            spots.new ≡ take count spots.old ++ spots_of c place (placed_of self.now) }
+    // Writes what the flow takes of the frame of this number among those of its phase behind so many spots, and answers
+    // how many there are then.
+    pub(crate) fn put(&self, number: u64, spots: &mut [Spot; MAX_SPOTS], count: usize) -> usize
+        requires sound { (c : Config) × IsSoundFlow c self.now × (own_place self.now number < c.cycle)
+            × (count + length (spots_of c (own_place self.now number) (placed_of self.now)) ≤ MAX_SPOTS) }
+        ensures spots { (c : Config) → IsSoundFlow c self.now → own_place self.now number < c.cycle
+            → take result spots.new
+            ≡ take count spots.old ++ spots_of c (own_place self.now number) (placed_of self.now) }
         ensures rest { drop result spots.new ≡ drop result spots.old }
         ensures more { count ≤ result }
         ensures most { result ≤ MAX_SPOTS }
     {
         let mut next = count;
-        for start in self.starts_here(place) {
+        for start in self.own_starts(number) {
             spots[next] = self.spot(*start);
             next += 1;
         }

@@ -9,10 +9,11 @@ use Rattle.periodic.specs.Placement.{spots_of}
 use Rattle.periodic.specs.Fields.{placed_of}
 use Rattle.periodic.proofs.Fields.{drop-later}
 use Rattle.periodic.proofs.Grouped.{member-at}
+use Rattle.periodic.proofs.Numbered.{member-place}
 use Rattle.periodic.proofs.group.Group.put_all.Goals as goal
 
-pub put-next-requires-clause-sound : goal.put-next-requires-clause-sound
-put-next-requires-clause-sound c =
+pub put-next-requires : goal.put-next-requires
+put-next-requires c =
     let (config, sound, within, few) = c.requires.sound in
     let g = c.args.self.now in
     let given = c.deref-flow-items.result.now in
@@ -21,27 +22,32 @@ put-next-requires-clause-sound c =
     let f = c.flow-item.result in
     let own : PlacedFlow → List Spot = λ e. spots_of config c.args.place (placed_of e) in
     let front = take c.args.count c.args.spots.now in
+    let member = member-at config g given i f same c.loop-flow-test.true c.flow-item.is sound in
+    let here = member-place config g.interval g.phase c.args.place f member c.requires.nominal in
     let written : length (take c.loop-flow.next c.loop-flow.spots)
     ≡ length (front ++ flat_map own (take i g.flows.items)) =
-    ap length (c.loop-flow.invariant.spots config sound within) in (
-      config,
-      (member-at config g given i f same c.loop-flow-test.true c.flow-item.is sound).flow,
-      within,
-      omega (
-        arith,
-        few,
-        written,
-        length-take-le c.args.count c.args.spots.now (omega (arith, few)),
-        length-flat_map-take own given i f c.loop-flow-test.true,
-        ap (λ e. length (own e)) c.flow-item.is,
-        ap (λ es. length (flat_map own es)) same,
-        ap (λ es. length (flat_map own (take i es))) same,
-        length-append front (flat_map own (take i g.flows.items)),
-        length-take-le c.loop-flow.next c.loop-flow.spots
-            (omega (arith, c.loop-flow.invariant.most, c.loop-flow.invariant.long)),
-        ap length (flat_map-map (spots_of config c.args.place) placed_of g.flows.items),
-      ),
-    )
+    ap length (c.loop-flow.invariant.spots config sound within) in record {
+      sound = (
+        config,
+        member.flow,
+        rw here within,
+        omega (
+          arith,
+          few,
+          written,
+          length-take-le c.args.count c.args.spots.now (omega (arith, few)),
+          length-flat_map-take own given i f c.loop-flow-test.true,
+          ap (λ e. length (own e)) c.flow-item.is,
+          ap (λ n. length (spots_of config n (placed_of f))) here,
+          ap (λ es. length (flat_map own es)) same,
+          ap (λ es. length (flat_map own (take i es))) same,
+          length-append front (flat_map own (take i g.flows.items)),
+          length-take-le c.loop-flow.next c.loop-flow.spots
+              (omega (arith, c.loop-flow.invariant.most, c.loop-flow.invariant.long)),
+          ap length (flat_map-map (spots_of config c.args.place) placed_of g.flows.items),
+        ),
+      );
+    }
 
 pub loop-flow-preserved : goal.loop-flow-preserved
 loop-flow-preserved c = record {
@@ -55,10 +61,12 @@ loop-flow-preserved c = record {
       let own : PlacedFlow → List Spot = λ e. spots_of config c.args.place (placed_of e) in
       let front = take c.args.count c.args.spots.now in
       let member = member-at config g given i f same c.loop-flow-test.true c.flow-item.is sound in
+      let here = member-place config g.interval g.phase c.args.place f member c.requires.nominal in
       let more : take (i + 1) given ≡ take i given ++ f ∷ [] =
       take_more given i f c.loop-flow-test.true
       ∙ ap (λ (e : PlacedFlow). take i given ++ e ∷ []) (sym c.flow-item.is) in
-      c.put-next.ensures.spots config member.flow within
+      c.put-next.ensures.spots config member.flow (rw here within)
+      ∙ ap (λ n. take c.loop-flow.next c.loop-flow.spots ++ spots_of config n (placed_of f)) here
       ∙ ap (λ ss. ss ++ own f) (c.loop-flow.invariant.spots config sound within)
       ∙ flat_map_more own front (take i g.flows.items) f
       ∙ ap (λ es. front ++ flat_map own (take i es ++ f ∷ [])) (sym same)
