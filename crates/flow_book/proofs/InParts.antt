@@ -5,7 +5,6 @@ use Rattle.std.proofs.Common.{◌+◌, map, length, nat_lt, true≢false, arith}
 use Rattle.std.specs.List.{AllByRecursion}
 use Rattle.std.specs.Option.{MatchOption}
 use Rattle.std.proofs.lemmas.Bool.{cases_eq}
-use Rattle.std.proofs.lemmas.Bool.Decides.{nat_tests}
 use Rattle.std.proofs.lemmas.List.Edits.{length-remove}
 use Rattle.std.proofs.lemmas.Option.{slice_get_within, get_or_from_slice_get}
 use Rattle.std.proofs.lemmas.List.{drop_all}
@@ -15,17 +14,18 @@ use Rattle.flow_book.specs.declared.queue.Waiting.{Waiting}
 use Rattle.flow_book.specs.declared.parts.Standing.TheVariants.{Queued, Served}
 use Rattle.flow_book.specs.Choice.{NoneEligible}
 use Rattle.flow_book.specs.Entry.{live}
-use Rattle.flow_book.specs.Sids.{AscendBy}
 use Rattle.flow_book.specs.Queue.{IsAt, IsIn, IsQueue, IsQueueAmong, IsQueueIn, IsPassed, IsNoEarlier, HasStartedPart}
-use Rattle.flow_book.specs.Queue.{IsFirstAble, IsOrderIn, served_of, NoneWaitsBefore}
+use Rattle.flow_book.specs.Queue.{IsFirstAble, IsOrderIn, IsShortQueue, StandsBehind, AreOnce, served_of}
+use Rattle.flow_book.specs.Queue.{NoneWaitsBefore}
 use Rattle.flow_book.specs.Queue.{still_waits}
 use Rattle.flow_book.specs.Parts.{HasStartedIn, IsAheadOf, IsNextIn, IsPutIn, IsPutBack, IsPut}
+use Rattle.flow_book.proofs.Once.{by-turn-once, once-remove, once-alone}
 use Rattle.flow_book.proofs.Order.{all-implied}
-use Rattle.flow_book.proofs.Queues.{with-one, in-rest, in-removed, taken-among, taken-out, among-as}
+use Rattle.flow_book.proofs.Queues.{with-one, all-remove, in-rest, in-removed, taken-among, taken-out, among-as}
 use Rattle.flow_book.proofs.Removal.{all-filter, ascends-filter}
 use Rattle.flow_book.proofs.Serving.{pick, kept-of, first-next, none-next}
 use Rattle.flow_book.proofs.StillWaiting.{all-at, kept-at, kept-index, gone-kept, kept-parts, all-parts, ascends-take}
-use Rattle.flow_book.proofs.TakenOver.{all-each}
+use Rattle.flow_book.proofs.StillWaiting.{none-served, still-queue}
 use Rattle.flow_book.proofs.StillWaiting.{in-take, later-behind}
 
 -- the one at a place of a list is in it
@@ -37,16 +37,24 @@ in-at (v ∷ queue) zero w found =
     inl (ap (λ (u : Waiting). u.place) is)
 in-at (v ∷ queue) (suc i) w found = inr (in-at queue i w found)
 
--- those that a MAP served are a queue of their own
-pub served-order : (b : Bool) (items : List Flow) (queue served : List Waiting) → IsOrderIn b items queue served
-    → IsQueueAmong items (λ k. IsIn k (served_of b queue served)) (served_of b queue served)
-served-order true items queue served is = is.served_ones
-served-order false items queue served is = record {
-  ascending = is.0.ascending;
-  each = is.0.each;
-  among = all-each (λ (w : Waiting). IsIn w.place queue) queue (λ k w found. in-at queue k w found);
-  whole = λ place f found here waits. here;
-}
+-- at first none is served
+pub order-none : (b : Bool) (items : List Flow) (queue : List Waiting) → IsQueue items queue → IsOrderIn b items queue []
+order-none true items queue is = none-served items queue is
+order-none false items queue is = (
+  record {
+    waiting = still-queue items queue is;
+    each = is.each;
+    once = by-turn-once items queue is.each is.ascending;
+  },
+  refl,
+)
+
+-- those that a MAP served are what is told of their flows, each once
+pub served-each : (b : Bool) (items : List Flow) (queue served : List Waiting) → IsOrderIn b items queue served
+    → AllByRecursion (IsAt items) (served_of b queue served) × AreOnce (served_of b queue served)
+served-each true items queue served is =
+    (is.served_ones.each, by-turn-once items served is.served_ones.each is.served_ones.ascending)
+served-each false items queue served is = (is.0.each, is.0.once)
 
 -- where none wants anything before a place, none does where one wants nothing any more
 pub none-set : (first : ℕ) (queue : List Waiting) (i : ℕ) (e : Waiting) → e.wants ≡ 0 → NoneWaitsBefore first queue
@@ -156,35 +164,33 @@ waits-behind (suc first) (v ∷ queue) zero w here still none =
 waits-behind (suc first) (v ∷ queue) (suc i) w here still none =
     let le = waits-behind first queue i w here still none.1 in omega (arith, le)
 
--- where one moves back in the queue those before it stay
-pub none-moved : (first : ℕ) (queue : List Waiting) (i : ℕ) (w waiting : Waiting) → slice_get queue i ≡ Some w
-    → AscendBy (λ v. v.turn) queue → w.turn ≤ waiting.turn → first ≤ i → NoneWaitsBefore first queue
-    → NoneWaitsBefore first (with-one waiting (remove queue i))
-none-moved zero queue i w waiting here up late le none = tt
-none-moved (suc first) [] i w waiting here up late le none = absurd (cc)
-none-moved (suc first) (v ∷ queue) zero w waiting here up late le none = absurd (omega arith)
-none-moved (suc first) (v ∷ queue) (suc i) w waiting here up late le none =
-    let less : v.turn < w.turn = all-at (λ u. v.turn < u.turn) queue i w up.0 here in
-    let no' : nat_lt waiting.turn v.turn ≡ false =
-    let more : v.turn ≤ waiting.turn = omega (arith, less, late) in grind (arith, nat_tests) in
-    rw no' (none.0, none-moved first queue i w waiting here up.1 late (omega arith) none.1)
-
--- one that moves back in the queue is put in among the others
+-- one of a short queue is put among the others
 pub put-back : (items : List Flow) (queue : List Waiting) (i : ℕ) (w waiting : Waiting) (after : List Waiting)
-    → IsQueue items queue → slice_get queue i ≡ Some w → w.place ≡ waiting.place
-    → after ≡ with-one waiting (remove queue i) → IsPutBack items waiting queue after
-put-back items queue i w waiting after is here same put =
+    → IsShortQueue items queue → slice_get queue i ≡ Some w → still_waits w ≡ true → w.place ≡ waiting.place
+    → StandsBehind i waiting queue after → IsPutBack items waiting queue after
+put-back items queue i w waiting after is here still same put =
     let lt = slice_get_within queue i w here in
     let read : get_or queue i w ≡ w = get_or_from_slice_get queue i w w here in
     let at : (get_or queue i w).place ≡ waiting.place = ap (λ (v : Waiting). v.place) read ∙ same in
+    let ws = filter still_waits queue in
+    let j = kept-index still_waits queue i w lt (ap still_waits read ∙ still) in
+    let at' : (get_or ws j.0 w).place ≡ waiting.place = ap (λ (v : Waiting). v.place) (j.2 ∙ read) ∙ same in
     record {
       others = remove queue i;
-      among = subst (λ k. IsQueueAmong items (λ other. other ≢ k) (remove queue i)) at (taken-out items queue i w lt is);
+      each = all-remove (IsAt items) queue i is.each;
+      once = once-remove queue i is.once;
+      new = subst (λ k. AllByRecursion (λ v. v.place ≢ k) (remove queue i)) at (once-alone queue i w lt is.once);
+      among = subst (IsQueueAmong items (λ other. other ≢ waiting.place)) j.3
+          (subst (λ k. IsQueueAmong items (λ other. other ≢ k) (remove ws j.0)) at'
+          (taken-out items ws j.0 w j.1 is.waiting));
       stay = λ k in-it. elim (cases_eq k waiting.place) [
         | inl equal ↦ inl equal
         | inr differ ↦ inr (in-rest k queue i w lt (λ equal. differ (sym equal ∙ at)) in-it)
       ];
-      is = put;
+      at = put.at;
+      within = put.within;
+      is = put.is;
+      still = put.still;
     }
 
 -- one of the queue fewer waits where one that is served wants nothing there any more

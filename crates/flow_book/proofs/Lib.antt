@@ -9,9 +9,11 @@ pub mod Levels
 pub mod Lines
 pub mod Matching
 pub mod Merging
+pub mod Once
 pub mod Order
 pub mod Overlays
 pub mod InParts
+pub mod Passing
 pub mod Pendings
 pub mod Places
 pub mod Profile

@@ -1,10 +1,11 @@
 -- An overlay as its book's flows are, and with one data grant more.
-use Rattle.std.proofs.Common.{◌≡◌, ◌≢◌, refl, sym, ap, ◌∙◌, subst, ℕ, ◌+◌, ◌≤◌, ◌==◌, ◌⊎◌, inl, inr, min, Option, Bool, false}
+use Rattle.std.proofs.Common.{◌≡◌, ◌≢◌, refl, sym, ap, ◌∙◌, subst, ℕ, ◌+◌, ◌≤◌, ◌==◌, ◌⊎◌, inl, inr, min, Option, Bool, false, cond, ◌<◌}
 use Rattle.std.proofs.Common.{List, [], ◌∷◌, ◌++◌}
 use Rattle.std.proofs.Common.{map, filter, true, set, get_or, slice_get, Some, option_map, arith}
 use Rattle.std.specs.List.{AllZip, AllByRecursion}
 use Rattle.std.specs.Option.{IfSome}
 use Rattle.std.proofs.lemmas.Bool.{cases_eq, cond_both}
+use Rattle.std.proofs.lemmas.Bool.Decides.{nat_tests}
 use Rattle.std.proofs.lemmas.List.{length-set, get_or-set_same}
 use Rattle.std.proofs.lemmas.Option.{slice_get-map, slice_get-get_or, slice_get_within, get_or_from_slice_get}
 use Rattle.minislots.specs.declared.config.Config.{Config}
@@ -14,12 +15,12 @@ use Rattle.sched_calls.specs.FlowSpec.{rank_of, rate_of, burst_of}
 use Rattle.flow_book.specs.declared.flow.Flow.{Flow}
 use Rattle.flow_book.specs.declared.flow.Grant.{Grant}
 use Rattle.flow_book.specs.declared.queue.Waiting.{Waiting}
-use Rattle.flow_book.specs.Flows.{LiveFlow, with_grant}
+use Rattle.flow_book.specs.Flows.{LiveFlow, with_grant, outstanding}
 use Rattle.flow_book.specs.Bucket.{StandsFor, IsSettled, most_of, HasOneMore, StaysSettled}
 use Rattle.flow_book.specs.Choice.{last_start, IsAmount, HasStartedBy}
 use Rattle.flow_book.specs.Entry.{live, IsBook, IsTurn, KeepsSums}
 use Rattle.flow_book.specs.Book.{changed}
-use Rattle.flow_book.specs.Queue.{IsAt, IsIn, IsQueue, IsQueueAmong, IsQueueIn, IsOrderIn, served_of, HasRoom}
+use Rattle.flow_book.specs.Queue.{entry_of, AreOnce, IsShortQueue, IsAt, IsIn, IsQueue, IsQueueAmong, IsQueueIn, IsOrderIn, served_of, HasRoom}
 use Rattle.flow_book.specs.Queue.{still_waits}
 use Rattle.flow_book.specs.declared.parts.Standing.{Standing}
 use Rattle.flow_book.specs.declared.parts.Standing.TheVariants.{Queued, Served}
@@ -28,11 +29,13 @@ use Rattle.flow_book.specs.Overlay.{IsSameFlow, IsOverlay}
 use Rattle.flow_book.specs.Taking.{CanBeTaken}
 use Rattle.flow_book.proofs.Amounts.{amount-of_most, most-in-bucket}
 use Rattle.flow_book.proofs.Changes.{placed-changed}
-use Rattle.flow_book.proofs.InParts.{served-order}
+use Rattle.flow_book.proofs.InParts.{served-each, order-none}
 use Rattle.flow_book.proofs.NextServed.{IsFound, found-next, served-book}
-use Rattle.flow_book.proofs.Queues.{with-one, in-new, in-old, in-one, among-as, among-same, among-others, same-but, put-among}
+use Rattle.flow_book.proofs.Queues.{with-one, in-new, in-old, in-one, among-as, among-same, among-others, same-but}
+use Rattle.flow_book.proofs.Queues.{all-both, stands-at, put-among, pass-among}
+use Rattle.flow_book.proofs.Once.{all-insert, in-inserted, in-still, once-insert}
 use Rattle.flow_book.proofs.Serving.{StandsIn, stands-at-place, kept-of}
-use Rattle.flow_book.proofs.StillWaiting.{all-at, order-in, order-none}
+use Rattle.flow_book.proofs.StillWaiting.{all-at, order-in}
 use Rattle.flow_book.proofs.Sums.{last-more, last-started, bytes-added}
 use Rattle.flow_book.proofs.Windows.{one_more}
 
@@ -73,7 +76,8 @@ pub can-be-taken : (c : Config) (before flows : List LiveFlow) (is_long : Bool) 
 can-be-taken c before flows is_long queue served capacity first old o book is = record {
   before = book;
   book = o.book;
-  order = served-order is_long o.items queue served o.order;
+  each = (served-each is_long o.items queue served o.order).0;
+  once = (served-each is_long o.items queue served o.order).1;
   same = rw (is, o.shows) o.same;
   rest = rw (is, o.shows) o.rest;
 }
@@ -243,6 +247,20 @@ module _ (c : Config) (items : List Flow) (queue served queue_after served_after
       slice_get-get_or granted-items w.place granted-flow (omega (arith, length-set items w.place granted-flow, within))
       ∙ ap Some (get_or-set_same items w.place granted-flow granted-flow within)
 
+  new-wants : new.wants ≡ outstanding (live granted-flow)
+  new-wants = omega (arith, wants, stands.wants, bytes-added f.grants.items start bytes)
+
+  waiting-by : (b : Bool) → still_waits new ≡ b → (left : List Waiting)
+      → IsQueueAmong granted-items (λ other. other ≢ w.place) left → IsQueue granted-items (cond b (with-one new left) left)
+  waiting-by true still left there =
+      put-among c granted-items granted-book (λ other. other ≢ w.place) (λ other. Unit {0}) left w.place
+      granted-flow at-granted (λ k may. cases_eq k w.place) (λ k other. tt) there new same refl new-wants refl
+      (λ differ. differ refl) tt
+  waiting-by false idle left there =
+      pass-among c granted-items granted-book (λ other. other ≢ w.place) (λ other. Unit {0}) left w.place
+      granted-flow at-granted (λ k may. cases_eq k w.place) (λ k other. tt) there
+      (λ more. let some : 0 < new.wants = omega (arith, new-wants, more) in absurd (grind (arith, nat_tests, idle)))
+
   module _ (put : IsPutIn items new served queue_after served_after) where
     -- those left of those served
     left-queue : IsQueueAmong granted-items (λ k. IsIn k put.left) put.left
@@ -283,15 +301,31 @@ module _ (c : Config) (items : List Flow) (queue served queue_after served_after
     long-queue =
         subst (IsQueueIn granted-items queue_after) (sym put.is) (record { served_ones = put-in; others = others-queue })
 
-  -- where few wait it is put in its turn in the queue
-  short-queue : IsPutBack items new queue queue_after → IsQueue granted-items queue_after
-  short-queue put =
-      let others = subst (λ k. IsQueueAmong items (λ other. other ≢ k) put.others) same put.among in
-      let there = among-others w.place items granted-items put.others (same-but items w.place granted-flow) others in
-      subst (IsQueue granted-items) (sym put.is)
-      (put-among c granted-items granted-book (λ other. other ≢ w.place) (λ other. Unit {0}) put.others w.place
-      granted-flow at-granted (λ k may. cases_eq k w.place) (λ k other. tt) there new same refl
-      (omega (arith, wants, stands.wants, bytes-added f.grants.items start bytes)) refl (λ differ. differ refl) tt)
+  -- where few wait it stays in the queue
+  module _ (put : IsPutBack items new queue queue_after) where
+    waiting-queue : (b : Bool) → still_waits new ≡ b
+        → IsQueue granted-items (cond b (with-one new (filter still_waits put.others)) (filter still_waits put.others))
+    waiting-queue b still =
+        let left = filter still_waits put.others in
+        let others = subst (λ k. IsQueueAmong items (λ other. other ≢ k) left) same put.among in
+        let there = among-others w.place items granted-items left (same-but items w.place granted-flow) others in
+        waiting-by b still left there
+
+    short-queue : IsShortQueue granted-items queue_after
+    short-queue =
+        let apart = subst (λ k. AllByRecursion (λ v. v.place ≢ k) put.others) same put.new in
+        let each =
+        all-both (IsAt items) (λ v. v.place ≢ w.place) (IsAt granted-items) put.others
+        (λ v at' differ. ap (option_map entry_of) (same-but items w.place granted-flow v.place differ) ∙ at') put.each
+        apart in
+        let stands-new : IsAt granted-items new =
+        stands-at items new w.place granted-flow (slice_get_within items w.place f stands.at) refl new-wants refl same in
+        record {
+          waiting = subst (IsQueue granted-items) (sym put.still) (waiting-queue (still_waits new) refl);
+          each = subst (AllByRecursion (IsAt granted-items)) (sym put.is)
+              (all-insert (IsAt granted-items) put.others put.at new put.within stands-new each);
+          once = subst AreOnce (sym put.is) (once-insert put.others put.at new put.within put.once put.new);
+        }
 
   granted-order : (b : Bool) → IsPut b items new queue served queue_after served_after
       → IsOrderIn b granted-items queue_after served_after
@@ -299,18 +333,18 @@ module _ (c : Config) (items : List Flow) (queue served queue_after served_after
   granted-order false put = (short-queue put.0, put.1)
 
   -- each other flow is as it was
-  others-rest : (ones left after : List Waiting) → after ≡ with-one new left
+  others-rest : (ones left after : List Waiting) → IsIn new.place after
+      → ((place : ℕ) → IsIn place left → IsIn place after)
       → ((place : ℕ) → IsIn place ones → (place ≡ new.place) ⊎ IsIn place left)
       → (before : List LiveFlow) → ((place : ℕ) → IsIn place ones
       ⊎ (slice_get (map live items) place ≡ slice_get before place)) → (place : ℕ)
       → IsIn place after ⊎ (slice_get (map live granted-items) place ≡ slice_get before place)
-  others-rest ones left after is-put stay before rest place = elim (cases_eq place w.place) [
-    | inl at-it ↦ inl (subst (IsIn place) (sym is-put)
-        (subst (λ k. IsIn k (with-one new left)) (same ∙ sym at-it) (in-new new left)))
+  others-rest ones left after has still-has stay before rest place = elim (cases_eq place w.place) [
+    | inl at-it ↦ inl (subst (λ k. IsIn k after) (same ∙ sym at-it) has)
     | inr differ ↦ elim (rest place) [
       | inl was ↦ elim (stay place was) [
         | inl equal ↦ absurd (differ (equal ∙ same))
-        | inr stays ↦ inl (subst (IsIn place) (sym is-put) (in-old place new left stays))
+        | inr stays ↦ inl (still-has place stays)
       ]
       | inr is ↦ inr (slice_get-map live granted-items place
           ∙ ap (λ o. option_map live o) (same-but items w.place granted-flow place differ)
@@ -323,8 +357,14 @@ module _ (c : Config) (items : List Flow) (queue served queue_after served_after
       ⊎ (slice_get (map live items) place ≡ slice_get before place)) → (place : ℕ)
       → IsIn place (served_of b queue_after served_after)
       ⊎ (slice_get (map live granted-items) place ≡ slice_get before place)
-  granted-rest true put = others-rest served put.left served_after put.is put.stay
-  granted-rest false put = others-rest queue put.0.others queue_after put.0.is put.0.stay
+  granted-rest true put =
+      others-rest served put.left served_after (subst (IsIn new.place) (sym put.is) (in-new new put.left))
+      (λ k here. subst (IsIn k) (sym put.is) (in-old k new put.left here)) put.stay
+  granted-rest false put =
+      let back = put.0 in
+      others-rest queue back.others queue_after
+      (subst (IsIn new.place) (sym back.is) (in-inserted back.others back.at new back.within))
+      (λ k here. subst (IsIn k) (sym back.is) (in-still k back.others back.at new back.within here)) back.stay
 
   pub is-served : (b : Bool) → IsPut b items new queue served queue_after served_after
       → IsServed c items b queue served queue_after served_after start room bytes w new

@@ -20,7 +20,7 @@ use Rattle.flow_book.specs.Flows.{LiveFlow, granted, outstanding}
 use Rattle.flow_book.specs.Choice.{last_start}
 use Rattle.flow_book.specs.Entry.{live, IsTurn, IsBook, IsSoundFlow}
 use Rattle.flow_book.specs.Sids.{AscendBy, put_in}
-use Rattle.flow_book.specs.Queue.{IsAt, IsIn, IsQueueIn, still_waits}
+use Rattle.flow_book.specs.Queue.{IsAt, IsIn, IsQueueIn, AreOnce, still_waits}
 use Rattle.flow_book.specs.Shown.{waits, number_of, number_in_line, is_shown, IsFirstHidden}
 use Rattle.flow_book.specs.Line.{itself, sorted_into, sorted, sid_of, numbers_of}
 use Rattle.flow_book.specs.Pending.{waiting_in, sid_at, number_at, IsWaitingOf, AreInLine}
@@ -30,7 +30,8 @@ use Rattle.flow_book.proofs.InOrder.{sorted-same, order-sids, shown-few, shown-m
 use Rattle.flow_book.proofs.Insertion.{all-put_in, ascends-put_in}
 use Rattle.flow_book.proofs.Lines.{put_in-either, length-sorted_into, take-put_in, sorted_into-append}
 use Rattle.flow_book.proofs.Matching.{Has, has-kept, all-kept, go-together, zip-values, zip-more}
-use Rattle.flow_book.proofs.Queues.{all-both, flow-at, turn-at, wants-at, knows-at, same-turn, place-of-sid}
+use Rattle.flow_book.proofs.Once.{by-turn-once}
+use Rattle.flow_book.proofs.Queues.{all-both, flow-at, turn-at, wants-at, knows-at, place-of-sid}
 use Rattle.flow_book.proofs.Removal.{all-filter, ascends-filter}
 use Rattle.flow_book.proofs.StillWaiting.{in-or-out, stays-in}
 
@@ -51,16 +52,11 @@ one-at [] k lt = absurd (omega arith)
 one-at (x ∷ xs) zero lt = (x, refl)
 one-at (x ∷ xs) (suc k) lt = one-at xs k (omega arith)
 
--- no place is twice among them
-abbrev AreApart : List Waiting → Type 0
-AreApart [] = Unit {0}
-AreApart (w ∷ ws) = AllByRecursion (λ v. v.place ≢ w.place) ws × AreApart ws
-
 -- these wait, each once, and no other flow waits
 pub record AreWaiting (items : List Flow) (ws : List Waiting) : Type 0 where
   pub each : AllByRecursion (IsAt items) ws
   pub wait : AllByRecursion (λ w. still_waits w ≡ true) ws
-  pub apart : AreApart ws
+  pub apart : AreOnce ws
   pub whole : (place : ℕ) (f : Flow) → slice_get items place ≡ Some f → 0 < outstanding (live f) → IsIn place ws
 
 module _ {X : Type 0} where
@@ -81,23 +77,13 @@ none-is : (place : ℕ) (ws : List Waiting) → (IsIn place ws → ⊥) → AllB
 none-is place [] out = tt
 none-is place (w ∷ ws) out = ((λ same. out (inl same)), none-is place ws (λ here. out (inr here)))
 
-apart-append : (xs ys : List Waiting) → AreApart xs → AreApart ys
-    → AllByRecursion (λ x. AllByRecursion (λ y. y.place ≢ x.place) ys) xs → AreApart (xs ++ ys)
+apart-append : (xs ys : List Waiting) → AreOnce xs → AreOnce ys
+    → AllByRecursion (λ x. AllByRecursion (λ y. y.place ≢ x.place) ys) xs → AreOnce (xs ++ ys)
 apart-append [] ys apart apart' cross = apart'
 apart-append (x ∷ xs) ys apart apart' cross =
     (all-append (λ y. y.place ≢ x.place) xs ys apart.0 cross.0, apart-append xs ys apart.1 apart' cross.1)
 
 module _ (items : List Flow) where
-  later-apart : (w : Waiting) (ws : List Waiting) → IsAt items w → AllByRecursion (IsAt items) ws
-      → AllByRecursion (λ v. w.turn < v.turn) ws → AllByRecursion (λ v. v.place ≢ w.place) ws
-  later-apart w ws at each up =
-      all-both (IsAt items) (λ v. w.turn < v.turn) (λ v. v.place ≢ w.place) ws
-      (λ v at' less same. absurd (omega (arith, less, same-turn items v w at' at same))) each up
-
-  by-turn-apart : (ws : List Waiting) → AllByRecursion (IsAt items) ws → AscendBy (λ w. w.turn) ws → AreApart ws
-  by-turn-apart [] each up = tt
-  by-turn-apart (w ∷ ws) each up = (later-apart w ws each.0 each.1 up.0, by-turn-apart ws each.1 up.1)
-
   each-cross : (served ws : List Waiting) → AllByRecursion (λ w. IsIn w.place served → ⊥) ws
       → AllByRecursion (λ w. AllByRecursion (λ v. v.place ≢ w.place) (filter still_waits served)) ws
   each-cross served [] out = tt
@@ -120,8 +106,8 @@ module _ (items : List Flow) where
       record {
         each = all-append (IsAt items) others left is.others.each each;
         wait = all-append (λ w. still_waits w ≡ true) others left (all-wait queue) (all-wait served);
-        apart = apart-append others left (by-turn-apart others is.others.each is.others.ascending)
-            (by-turn-apart left each up) (each-cross served others is.others.among);
+        apart = apart-append others left (by-turn-once items others is.others.each is.others.ascending)
+            (by-turn-once items left each up) (each-cross served others is.others.among);
         whole = λ place f found more. elim (in-or-out place served) [
           | inl here ↦ in-right place others left (stays-in items served place f found more is.served_ones.each here)
           | inr out ↦ in-left place others left (is.others.whole place f found out more)
@@ -204,7 +190,7 @@ module _ (c : Config) (items : List Flow) (are : IsBook c items) where
       let q = waiting-at v g.0 at' g.1 in
       differ (place-of-sid c items are v.place w.place g.0 f.0 g.1 f.1 (sym q.sid ∙ same ∙ p.sid))
 
-  ascends-placed : (ws : List Waiting) → AllByRecursion (IsAt items) ws → AreApart ws → AscendBy sid_at (placed ws)
+  ascends-placed : (ws : List Waiting) → AllByRecursion (IsAt items) ws → AreOnce ws → AscendBy sid_at (placed ws)
   ascends-placed [] each apart = tt
   ascends-placed (w ∷ ws) each apart =
       ascends-put_in sid_at w (placed ws)

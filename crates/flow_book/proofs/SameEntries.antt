@@ -12,8 +12,7 @@ use Rattle.flow_book.specs.Choice.{last_start}
 use Rattle.flow_book.specs.Entry.{live, IsBook, IsTurn, KeepsSums}
 use Rattle.flow_book.specs.Queue.{entry_of, IsAt, IsIn, IsQueue, IsQueueAmong, IsQueueIn, still_waits}
 use Rattle.flow_book.proofs.Buckets.{same-bucket}
-use Rattle.flow_book.proofs.Queues.{same-some, among-as}
-use Rattle.flow_book.proofs.StillWaiting.{none-served}
+use Rattle.flow_book.proofs.Queues.{same-some}
 
 same-turn-of : (r : ℕ) (a : Option ℕ) (x t u : ℕ) → IsTurn r a x t → IsTurn r a x u → t ≡ u
 same-turn-of r None x t u e f = omega (arith, e.1, f.1)
@@ -97,10 +96,8 @@ same-parts c new items queue served book book' shows is = record {
       (filter still_waits queue) book book' shows is.others;
 }
 
--- where none stand apart those of the queue that still wait are the queue of both
-pub put-queue : (c : Config) (new items : List Flow) (queue : List Waiting) → IsBook c new → IsBook c items
-    → map live new ≡ map live items → IsQueue items queue → IsQueue new (filter still_waits queue)
-put-queue c new items queue book book' shows is =
-    let parts = same-parts c new items queue [] book book' shows (none-served items queue is) in
-    among-as new (λ place. IsIn place [] → ⊥) (λ place. Unit {0}) (filter still_waits queue) (λ k out. tt)
-    (λ k here none. none) parts.others
+-- and a queue of one is a queue of the other
+pub same-queue : (c : Config) (new items : List Flow) (queue : List Waiting) → IsBook c new → IsBook c items
+    → map live new ≡ map live items → IsQueue items queue → IsQueue new queue
+same-queue c new items queue book book' shows is =
+    same-among c new items (λ place. Unit {0}) queue book book' shows is

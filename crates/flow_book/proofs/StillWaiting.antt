@@ -209,9 +209,33 @@ none-served items queue is = record {
 pub order-in : (b : Bool) (items : List Flow) (queue served : List Waiting) → IsOrderIn b items queue served
     → IsQueueIn items queue served
 order-in true items queue served is = is
-order-in false items queue served is = subst (λ ws. IsQueueIn items queue ws) (sym is.1) (none-served items queue is.0)
+order-in false items queue served is = subst (λ ws. IsQueueIn items queue ws) (sym is.1) (record {
+  served_ones = record {
+    ascending = tt;
+    each = tt;
+    among = tt;
+    whole = λ place f found here waits. absurd here;
+  };
+  others = record {
+    ascending = is.0.waiting.ascending;
+    each = is.0.waiting.each;
+    among = none-empty (filter still_waits queue);
+    whole = λ place f found out waits. is.0.waiting.whole place f found tt waits;
+  };
+})
 
--- at first none is served
-pub order-none : (b : Bool) (items : List Flow) (queue : List Waiting) → IsQueue items queue → IsOrderIn b items queue []
-order-none true items queue is = none-served items queue is
-order-none false items queue is = (is, refl)
+-- of a queue those that still wait are all that wait
+pub still-queue : (items : List Flow) (queue : List Waiting) → IsQueue items queue
+    → IsQueue items (filter still_waits queue)
+still-queue items queue is =
+    let others = (none-served items queue is).others in
+    record {
+      ascending = others.ascending;
+      each = others.each;
+      among = all-any (filter still_waits queue);
+      whole = λ place f found may waits. others.whole place f found (λ here. here) waits;
+    }
+  where
+    all-any : (ws : List Waiting) → AllByRecursion (λ w. Unit {0}) ws
+    all-any [] = tt
+    all-any (w ∷ ws) = (tt, all-any ws)

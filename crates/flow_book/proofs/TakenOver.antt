@@ -19,6 +19,7 @@ use Rattle.flow_book.specs.Sids.{AscendBy}
 use Rattle.flow_book.specs.Queue.{IsAt, IsIn}
 use Rattle.flow_book.specs.Overlay.{IsSameFlow}
 use Rattle.flow_book.specs.Taking.{CanBeTaken, IsTaken}
+use Rattle.flow_book.proofs.Once.{fresh-once}
 use Rattle.flow_book.proofs.Queues.{at-within, flow-at, turn-at, wants-at, bucket-at, same-turn, same-but}
 use Rattle.flow_book.proofs.StillWaiting.{in-or-out, all-at}
 use Rattle.flow_book.proofs.Sums.{copy-sums}
@@ -47,7 +48,7 @@ in-last (v ∷ front) w = inr (in-last front w)
 
 module _ {X : Type 0} where
   -- what holds of the one at each place holds of each
-  pub all-each : (P : X → Type 0) (xs : List X) → ((k : ℕ) (x : X) → slice_get xs k ≡ Some x → P x)
+  all-each : (P : X → Type 0) (xs : List X) → ((k : ℕ) (x : X) → slice_get xs k ≡ Some x → P x)
       → AllByRecursion P xs
   all-each P [] each = tt
   all-each P (x ∷ xs) each = (each 0 x refl, all-each P xs (λ k. each (suc k)))
@@ -120,7 +121,7 @@ module _ (c : Config) (old items : List Flow) (queue : List Waiting) (can : CanB
 
   module _ (i : ℕ) (w : Waiting) (lt : i < length queue) (is : w ≡ get_or queue i w) where
     at-queue : IsAt items w
-    at-queue = rw is (All-from_recursion (IsAt items) queue can.order.each i w lt)
+    at-queue = rw is (All-from_recursion (IsAt items) queue can.each i w lt)
 
     -- its place is one of the flows'
     pub place-within : w.place < length old
@@ -128,7 +129,7 @@ module _ (c : Config) (old items : List Flow) (queue : List Waiting) (can : CanB
 
     not-done : IsIn w.place (take i queue) → ⊥
     not-done here =
-        fresh items queue i w lt can.order.each can.order.ascending
+        fresh-once queue i w lt can.once
         (subst (λ (v : Waiting). IsIn v.place (take i queue)) is here)
 
     module _ (new : List Flow) (f : Flow) (long : length new ≡ length old) (read : f ≡ get_or new w.place f)

@@ -1,6 +1,6 @@
 -- The queue while a MAP is planned, where many wait in two parts: those that it served, and the others.
 use Rattle.std.specs.Prelude.{◌≡◌, ◌≢◌, ℕ, ◌≤◌, ◌⊎◌, Bool, true, false, List, [], filter, map, Option, None, Some}
-use Rattle.std.specs.Prelude.{slice_get, length, take, drop}
+use Rattle.std.specs.Prelude.{slice_get, length, take, drop, insert, if◌then◌else◌}
 use Rattle.std.specs.List.{AllByRecursion}
 use Rattle.minislots.specs.declared.config.Config.{Config}
 use Rattle.flow_book.specs.declared.flow.Flow.{Flow}
@@ -10,7 +10,7 @@ use Rattle.flow_book.specs.declared.parts.Standing.TheVariants.{Queued, Served}
 use Rattle.flow_book.specs.Choice.{HasStartedBy, IsNext}
 use Rattle.flow_book.specs.Entry.{live, IsBook}
 use Rattle.flow_book.specs.Sids.{put_in}
-use Rattle.flow_book.specs.Queue.{IsIn, IsQueueAmong, IsQueueIn, still_waits}
+use Rattle.flow_book.specs.Queue.{IsAt, IsIn, IsQueueAmong, IsQueueIn, AreOnce, still_waits}
 
 -- the one that stands there
 abbrev pub one_at : Standing → List Waiting → List Waiting → Option Waiting
@@ -50,12 +50,19 @@ pub record IsPutIn (items : List Flow) (w : Waiting) (served queue_after served_
   pub others : IsQueueAmong items (λ place. (IsIn place left → ⊥) × (place ≢ w.place)) (filter still_waits queue_after)
   pub is : served_after ≡ put_in (λ v. v.turn) w left
 
--- One was put in its turn among the others of the queue before
+-- One was put among the others of the queue before, in its turn where it still waits
 pub record IsPutBack (items : List Flow) (w : Waiting) (queue queue_after : List Waiting) : Type 0 where
   pub others : List Waiting
-  pub among : IsQueueAmong items (λ other. other ≢ w.place) others
+  pub each : AllByRecursion (IsAt items) others
+  pub once : AreOnce others
+  pub new : AllByRecursion (λ v. v.place ≢ w.place) others
+  pub among : IsQueueAmong items (λ other. other ≢ w.place) (filter still_waits others)
   pub stay : (place : ℕ) → IsIn place queue → (place ≡ w.place) ⊎ IsIn place others
-  pub is : queue_after ≡ put_in (λ v. v.turn) w others
+  pub at : ℕ
+  pub within : at ≤ length others
+  pub is : queue_after ≡ insert others at w
+  pub still : filter still_waits queue_after ≡ (if still_waits w then put_in (λ v. v.turn) w (filter still_waits others)
+      else filter still_waits others)
 
 -- one was put in its turn among those served, where many wait, and else in the queue
 abbrev pub IsPut : Bool → List Flow → Waiting → List Waiting → List Waiting → List Waiting → List Waiting → Type 0

@@ -1,6 +1,6 @@
 -- The flows that wait for bytes, in the order in which they are served.
 use Rattle.std.specs.Prelude.{◌≡◌, ◌≢◌, ℕ, ◌<◌, ◌⊎◌, Bool, true, List, [], ◌∷◌, Some, option_map, slice_get, map}
-use Rattle.std.specs.Prelude.{◌+◌, ◌-◌, ◌≤◌, false, nat_le, nat_lt, filter, take, length, if◌then◌else◌}
+use Rattle.std.specs.Prelude.{◌+◌, ◌-◌, ◌≤◌, false, ◌||◌, ◌==◌, nat_le, nat_lt, insert, remove, filter, take, length, if◌then◌else◌}
 use Rattle.std.specs.List.{AllByRecursion}
 use Rattle.minislots.specs.declared.config.Config.{Config}
 use Rattle.flow_book.specs.declared.flow.Flow.{Flow}
@@ -46,10 +46,22 @@ pub record IsQueueIn (items : List Flow) (queue served : List Waiting) : Type 0 
   pub served_ones : IsQueueAmong items (λ place. IsIn place served) served
   pub others : IsQueueAmong items (λ place. IsIn place served → ⊥) (filter still_waits queue)
 
+-- no two of them are at one place
+abbrev pub AreOnce : List Waiting → Type 0
+AreOnce [] = Unit {0}
+AreOnce (w ∷ ws) = AllByRecursion (λ v. v.place ≢ w.place) ws × AreOnce ws
+
+-- Those of a queue that still wait are all that wait, by their turns; the others want nothing any more, and stand where
+-- they were served
+pub record IsShortQueue (items : List Flow) (queue : List Waiting) : Type 0 where
+  pub waiting : IsQueue items (filter still_waits queue)
+  pub each : AllByRecursion (IsAt items) queue
+  pub once : AreOnce queue
+
 -- all that wait are in the queue, or where many do in the two parts
 abbrev pub IsOrderIn : Bool → List Flow → List Waiting → List Waiting → Type 0
 IsOrderIn true items queue served = IsQueueIn items queue served
-IsOrderIn false items queue served = IsQueue items queue × (served ≡ [])
+IsOrderIn false items queue served = IsShortQueue items queue × (served ≡ [])
 
 -- those that a MAP served are some of the queue, or where many wait they stand by themselves
 abbrev pub served_of : Bool → List Waiting → List Waiting → List Waiting
@@ -60,6 +72,19 @@ served_of false queue served = queue
 abbrev pub HasRoom : Bool → List Waiting → List Waiting → ℕ → Type 0
 HasRoom is_long queue served capacity =
     is_long ≡ true → length served + length (filter still_waits queue) ≤ capacity
+
+-- one wants nothing, or its turn is no later than this one
+abbrev pub is_passed : ℕ → Waiting → Bool
+is_passed turn w = w.wants == 0 || nat_le w.turn turn
+
+-- The one at a place of the queue stands no earlier in it now: in its turn among those that still wait, where it does
+pub record StandsBehind (index : ℕ) (w : Waiting) (old new : List Waiting) : Type 0 where
+  pub at : ℕ
+  pub behind : index ≤ at
+  pub within : at ≤ length (remove old index)
+  pub is : new ≡ insert (remove old index) at w
+  pub still : filter still_waits new ≡ (if still_waits w then put_in (λ v. v.turn) w (filter still_waits
+      (remove old index)) else filter still_waits (remove old index))
 
 -- One was moved to its turn among those of the other places
 pub record IsMoved (items : List Flow) (w : Waiting) (queue : List Waiting) : Type 0 where

@@ -5,14 +5,15 @@ use Rattle.minislots.specs.declared.config.Config.{Config}
 use Rattle.flow_book.specs.declared.flow.Flow.{Flow}
 use Rattle.flow_book.specs.declared.queue.Waiting.{Waiting}
 use Rattle.flow_book.specs.Entry.{live, IsBook}
-use Rattle.flow_book.specs.Queue.{IsIn, IsQueueAmong}
+use Rattle.flow_book.specs.Queue.{IsAt, IsIn, AreOnce, IsQueueAmong}
 use Rattle.flow_book.specs.Overlay.{IsSameFlow}
 
 -- the flows of a book before and after (`items`) a MAP, and those that it served: each other flow is the same
 pub record CanBeTaken (c : Config) (old items : List Flow) (served : List Waiting) : Type 0 where
   pub before : IsBook c old
   pub book : IsBook c items
-  pub order : IsQueueAmong items (λ place. IsIn place served) served
+  pub each : AllByRecursion (IsAt items) served
+  pub once : AreOnce served
   pub same : AllZip IsSameFlow (map live old) (map live items)
   pub rest : (place : ℕ) → IsIn place served ⊎ (slice_get (map live items) place ≡ slice_get (map live old) place)
 

@@ -21,7 +21,7 @@ use minislots::Checked;
 use std::alloc::AllocError;
 use std::marker::Model;
 
-// Of so many flows that wait one that is served moves back in their queue: that takes few steps, and no memory.
+// Of so many flows that wait one that is served stays in their queue: it moves back by few steps, and takes no memory.
 const FEW: usize = 32;
 
 // Memory for as many served flows as wait where they are many, and else none.

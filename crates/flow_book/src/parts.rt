@@ -14,7 +14,7 @@ ghost use Rattle.flow_book.specs.declared.parts.Standing.TheVariants.{Queued};
 ghost use Rattle.flow_book.specs.Parts.{one_at, HasStartedIn, IsAheadOf, IsNextIn, IsPut};
 
 use crate::flow::Room;
-use crate::queue::{Waiting, first_able, move_back, place_after};
+use crate::queue::{Waiting, first_able, move_back, place_after, put_behind};
 use minislots::Checked;
 
 // Where one stands that waits: in the queue, or among those that the MAP served.
@@ -99,7 +99,7 @@ fn put_reserved(served: &mut Vec<Waiting>, waiting: Waiting)
 }
 
 // Puts the one at this place in the queue, which is served and whose turn is no earlier than before, to where it stands
-// from now on: among those served, where many wait, and in the queue it wants nothing any more; else in its turn.
+// from now on: among those served, where many wait, and in the queue it wants nothing any more; else in the queue.
 fn put_queued(
     queue: &mut Vec<Waiting>,
     served: &mut Vec<Waiting>,
@@ -122,7 +122,7 @@ fn put_queued(
         put_reserved(served, waiting);
         queue[index].wants = 0;
     } else {
-        move_back(queue, index, waiting);
+        put_behind(queue, index, waiting);
     }
 }
 

@@ -14,7 +14,7 @@ ghost use Rattle.flow_book.specs.Entry.{live, IsBook, IsRoom, IsTurn};
 ghost use Rattle.flow_book.specs.Sids.{AscendBy, put_in};
 ghost use Rattle.flow_book.specs.Queue.{IsQueue, IsQueueAmong, IsMoved, AreSameBut, moved_up, moved_down};
 ghost use Rattle.flow_book.specs.Queue.{HasStartedQueue, HasStartedPart, IsFirstInTurn, IsFirstAble, IsPassed};
-ghost use Rattle.flow_book.specs.Queue.{NoneWaitsBefore, still_waits};
+ghost use Rattle.flow_book.specs.Queue.{NoneWaitsBefore, StandsBehind, is_passed, still_waits};
 
 use crate::bucket::Bucket;
 use crate::flow::{Flow, Room, SIDS, turn_after};
@@ -166,6 +166,44 @@ pub(crate) fn move_back(queue: &mut [Waiting], index: usize, waiting: Waiting)
         at += 1;
     }
     queue[at] = waiting;
+}
+
+// One wants nothing, or is of a turn no later than this one.
+fn is_passed(waiting: &Waiting, turn: u128) -> bool
+    ensures { result ≡ is_passed turn waiting.now }
+{
+    waiting.wants == 0 || waiting.turn <= turn
+}
+
+// Moves the one at this place in the queue, which still waits and passes all before it, behind those that it passes.
+fn move_behind(queue: &mut [Waiting], index: usize, waiting: Waiting)
+    requires within { index < length queue.old }
+    requires waits { still_waits waiting ≡ true }
+    requires before { (k : ℕ) (d : Waiting)
+        → k < index → is_passed waiting.turn (slice_index_or queue.old k d) ≡ true }
+    ensures { StandsBehind index waiting queue.old queue.new }
+{
+    let mut at = index;
+    while at + 1 < queue.len() && is_passed(&queue[at + 1], waiting.turn) {
+        queue[at] = queue[at + 1];
+        at += 1;
+    }
+    queue[at] = waiting;
+}
+
+// Puts the one at this place in the queue, which was served and passes all before it, behind those that it passes: where
+// it wants nothing any more it stays where it is.
+pub(crate) fn put_behind(queue: &mut [Waiting], index: usize, waiting: Waiting)
+    requires within { index < length queue.old }
+    requires before { (k : ℕ) (d : Waiting)
+        → k < index → is_passed waiting.turn (slice_index_or queue.old k d) ≡ true }
+    ensures { StandsBehind index waiting queue.old queue.new }
+{
+    if waiting.wants > 0 {
+        move_behind(queue, index, waiting);
+    } else {
+        queue[index] = waiting;
+    }
 }
 
 // Moves the one of this place to its turn in the queue: most often it comes later than before, and moves back.

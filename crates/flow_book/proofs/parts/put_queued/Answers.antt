@@ -1,13 +1,12 @@
 -- Where many wait it goes to those served, and else it moves back.
-use Rattle.std.proofs.Common.{◌≡◌, ◌∙◌, refl, ap, sym, length, remove, subst, true≢false, arith}
+use Rattle.std.proofs.Common.{◌≡◌, ◌∙◌, refl, ap, sym, length, subst, true≢false, arith}
 use Rattle.std.proofs.lemmas.List.{take_at}
 use Rattle.std.proofs.lemmas.Option.{slice_get_within, get_or_from_slice_get}
 use Rattle.flow_book.specs.declared.queue.Waiting.{Waiting}
-use Rattle.flow_book.specs.Queue.{NoneWaitsBefore}
-use Rattle.flow_book.proofs.InParts.{put-queued, put-back, none-set, none-moved, waits-behind, fewer-wait, one-waits}
+use Rattle.flow_book.specs.Queue.{NoneWaitsBefore, StandsBehind}
+use Rattle.flow_book.proofs.InParts.{put-queued, put-back, none-set, waits-behind, fewer-wait, one-waits}
 use Rattle.flow_book.proofs.Insertion.{length-put_in}
-use Rattle.flow_book.proofs.Queues.{with-one}
-use Rattle.flow_book.proofs.Searches.{rises}
+use Rattle.flow_book.proofs.Passing.{passes-before, behind-length, none-inserted}
 use Rattle.flow_book.proofs.parts.put_queued.Goals as goal
 
 pub put_reserved-requires-clause-room : goal.put_reserved-requires-clause-room
@@ -47,46 +46,50 @@ returns-then-is_long-clause-room c = λ yes'.
       c.put_reserved.ensures.capacity,
     )
 
-pub move_back-requires-clause-within : goal.move_back-requires-clause-within
-move_back-requires-clause-within c =
+pub put_behind-requires-clause-within : goal.put_behind-requires-clause-within
+put_behind-requires-clause-within c =
     let here = c.requires.here in
     rw c.deref_mut.ensures.value (slice_get_within c.args.queue.now.items c.args.index here.0 here.1)
 
-pub move_back-requires-clause-before : goal.move_back-requires-clause-before
-move_back-requires-clause-before c = λ k d early.
+pub put_behind-requires-clause-before : goal.put_behind-requires-clause-before
+put_behind-requires-clause-before c = λ k d early.
     let queue = c.args.queue.now.items in
     let here = c.requires.here in
     let order = rw c.if-is_long.false at c.requires.order.1 in
     let lt = slice_get_within queue c.args.index here.0 here.1 in
-    let less = rises (λ (v : Waiting). v.turn) queue k c.args.index d order.0.ascending early lt in
-    let read = ap (λ (v : Waiting). v.turn) (get_or_from_slice_get queue c.args.index here.0 d here.1) in
-    rw c.deref_mut.ensures.value (omega (arith, less, read, here.3))
+    let read = get_or_from_slice_get queue c.args.index here.0 d here.1 in
+    rw c.deref_mut.ensures.value
+    (passes-before queue k c.args.index d here.0 c.args.waiting.turn order.0.waiting.ascending early lt read here.2 here.3)
 
 pub returns-else-is_long-clause-put : goal.returns-else-is_long-clause-put
 returns-else-is_long-clause-put c = λ items w order here still same.
     let queue = c.args.queue.now in
-    let new = c.move_back.new.queue in
+    let new = c.put_behind.new.queue in
     let is = rw c.if-is_long.false at order in
-    let moved : new ≡ with-one c.args.waiting (remove queue.items c.args.index) =
-    rw c.deref_mut.ensures.value at c.move_back.ensures.moved in
+    let lt = slice_get_within queue.items c.args.index w here in
+    let behind : StandsBehind c.args.index c.args.waiting queue.items new =
+    rw c.deref_mut.ensures.value at c.put_behind.ensures in
     let long : length new ≡ queue.len =
-    omega (arith, c.move_back.ensures.len, ap length c.deref_mut.ensures.value, queue.ok.0) in
-    rw c.if-is_long.false
-    (put-back items queue.items c.args.index w c.args.waiting _ is.0 here same (take_at new _ queue.len long ∙ moved), is.1)
+    omega (arith, behind-length c.args.index c.args.waiting queue.items new lt behind, queue.ok.0) in
+    rw c.if-is_long.false (
+      put-back items queue.items c.args.index w c.args.waiting _ is.0 here still same
+          (subst (λ ws. StandsBehind c.args.index c.args.waiting queue.items ws) (sym (take_at new _ queue.len long)) behind),
+      is.1,
+    )
 
 pub returns-else-is_long-clause-passed : goal.returns-else-is_long-clause-passed
 returns-else-is_long-clause-passed c = λ first none.
     let queue = c.args.queue.now in
-    let new = c.move_back.new.queue in
+    let new = c.put_behind.new.queue in
     let here = c.requires.here in
-    let order = rw c.if-is_long.false at c.requires.order.1 in
-    let moved : new ≡ with-one c.args.waiting (remove queue.items c.args.index) =
-    rw c.deref_mut.ensures.value at c.move_back.ensures.moved in
+    let lt = slice_get_within queue.items c.args.index here.0 here.1 in
+    let behind : StandsBehind c.args.index c.args.waiting queue.items new =
+    rw c.deref_mut.ensures.value at c.put_behind.ensures in
     let long : length new ≡ queue.len =
-    omega (arith, c.move_back.ensures.len, ap length c.deref_mut.ensures.value, queue.ok.0) in
-    subst (λ ws. NoneWaitsBefore first ws) (sym (take_at new _ queue.len long ∙ moved))
-    (none-moved first queue.items c.args.index here.0 c.args.waiting here.1 order.0.ascending here.3
-    (waits-behind first queue.items c.args.index here.0 here.1 here.2 none) none)
+    omega (arith, behind-length c.args.index c.args.waiting queue.items new lt behind, queue.ok.0) in
+    subst (λ ws. NoneWaitsBefore first ws) (sym (take_at new _ queue.len long ∙ behind.is))
+    (none-inserted first c.args.index behind.at queue.items c.args.waiting
+    (waits-behind first queue.items c.args.index here.0 here.1 here.2 none) behind.behind lt none)
 
 pub returns-else-is_long-clause-room : goal.returns-else-is_long-clause-room
 returns-else-is_long-clause-room c = λ yes'. absurd (true≢false (sym yes' ∙ c.if-is_long.false))
