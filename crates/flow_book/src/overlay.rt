@@ -41,7 +41,8 @@ fn room_for_served(queue: &Vec<Waiting>, is_long: bool) -> Result<Vec<Waiting>, 
 #[derive(Drop)]
 pub struct Overlay {
     config: Checked,
-    // The flows that waited before the MAP, by their turns. Where they are many one that it served wants nothing here.
+    // The flows that waited before the MAP, by their turns. Where they are many one that it served wants nothing here,
+    // and else it has here what it still wants.
     queue: Vec<Waiting>,
     // None before this place wants anything.
     first: usize,

@@ -14,7 +14,7 @@ ghost use Rattle.flow_book.specs.declared.parts.Standing.TheVariants.{Queued};
 ghost use Rattle.flow_book.specs.Parts.{one_at, HasStartedIn, IsAheadOf, IsNextIn, IsPut};
 
 use crate::flow::Room;
-use crate::queue::{Waiting, first_able, move_back, place_after, put_behind};
+use crate::queue::{Waiting, first_able, move_back, place_after, put_on};
 use minislots::Checked;
 
 // Where one stands that waits: in the queue, or among those that the MAP served.
@@ -122,7 +122,7 @@ fn put_queued(
         put_reserved(served, waiting);
         queue[index].wants = 0;
     } else {
-        put_behind(queue, index, waiting);
+        put_on(queue, index, waiting);
     }
 }
 

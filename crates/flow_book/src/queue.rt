@@ -183,26 +183,26 @@ fn move_behind(queue: &mut [Waiting], index: usize, waiting: Waiting)
         → k < index → is_passed waiting.turn (slice_index_or queue.old k d) ≡ true }
     ensures { StandsBehind index waiting queue.old queue.new }
 {
-    let mut at = index;
-    while at + 1 < queue.len() && is_passed(&queue[at + 1], waiting.turn) {
-        queue[at] = queue[at + 1];
-        at += 1;
+    let mut to = index;
+    while to + 1 < queue.len() && is_passed(&queue[to + 1], waiting.turn) {
+        queue[to] = queue[to + 1];
+        to += 1;
     }
-    queue[at] = waiting;
+    queue[to] = waiting;
 }
 
 // Puts the one at this place in the queue, which was served and passes all before it, behind those that it passes: where
 // it wants nothing any more it stays where it is.
-pub(crate) fn put_behind(queue: &mut [Waiting], index: usize, waiting: Waiting)
+pub(crate) fn put_on(queue: &mut [Waiting], index: usize, waiting: Waiting)
     requires within { index < length queue.old }
     requires before { (k : ℕ) (d : Waiting)
         → k < index → is_passed waiting.turn (slice_index_or queue.old k d) ≡ true }
     ensures { StandsBehind index waiting queue.old queue.new }
 {
-    if waiting.wants > 0 {
-        move_behind(queue, index, waiting);
-    } else {
+    if waiting.wants == 0 {
         queue[index] = waiting;
+    } else {
+        move_behind(queue, index, waiting);
     }
 }
 

@@ -143,9 +143,9 @@ fn push_sids(sids: &mut Vec<u16>, part: &[Waiting]) -> Result<(), AllocError>
     ensures { OnOk result (sids.new.items
         ≡ sids.old.items ++ map sid_at (filter still_waits part.now)) }
 {
-    for waiting in part {
-        if waiting.wants > 0 {
-            sids.push((waiting.turn % SIDS) as u16)?;
+    for one in part {
+        if one.wants > 0 {
+            sids.push((one.turn % SIDS) as u16)?;
         }
     }
     Ok(())

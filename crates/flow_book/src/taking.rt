@@ -28,13 +28,13 @@ pub(crate) fn take_over(flows: &mut Flows, served: &[Waiting], after: &FlowList)
 }
 
 // Puts those of a queue that still wait in the place of another, in the same order.
-pub(crate) fn put_back(queue: &mut Vec<Waiting>, from: &[Waiting]) -> Result<(), AllocError>
-    ensures { OnOk result (queue.new.items ≡ filter still_waits from.now) }
+pub(crate) fn put_back(to: &mut Vec<Waiting>, from: &[Waiting]) -> Result<(), AllocError>
+    ensures { OnOk result (to.new.items ≡ filter still_waits from.now) }
 {
-    queue.clear();
-    for waiting in from {
-        if waiting.wants > 0 {
-            queue.push(*waiting)?;
+    to.clear();
+    for each in from {
+        if each.wants > 0 {
+            to.push(*each)?;
         }
     }
     Ok(())

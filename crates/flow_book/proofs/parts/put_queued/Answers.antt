@@ -46,13 +46,13 @@ returns-then-is_long-clause-room c = λ yes'.
       c.put_reserved.ensures.capacity,
     )
 
-pub put_behind-requires-clause-within : goal.put_behind-requires-clause-within
-put_behind-requires-clause-within c =
+pub put_on-requires-clause-within : goal.put_on-requires-clause-within
+put_on-requires-clause-within c =
     let here = c.requires.here in
     rw c.deref_mut.ensures.value (slice_get_within c.args.queue.now.items c.args.index here.0 here.1)
 
-pub put_behind-requires-clause-before : goal.put_behind-requires-clause-before
-put_behind-requires-clause-before c = λ k d early.
+pub put_on-requires-clause-before : goal.put_on-requires-clause-before
+put_on-requires-clause-before c = λ k d early.
     let queue = c.args.queue.now.items in
     let here = c.requires.here in
     let order = rw c.if-is_long.false at c.requires.order.1 in
@@ -64,11 +64,11 @@ put_behind-requires-clause-before c = λ k d early.
 pub returns-else-is_long-clause-put : goal.returns-else-is_long-clause-put
 returns-else-is_long-clause-put c = λ items w order here still same.
     let queue = c.args.queue.now in
-    let new = c.put_behind.new.queue in
+    let new = c.put_on.new.queue in
     let is = rw c.if-is_long.false at order in
     let lt = slice_get_within queue.items c.args.index w here in
     let behind : StandsBehind c.args.index c.args.waiting queue.items new =
-    rw c.deref_mut.ensures.value at c.put_behind.ensures in
+    rw c.deref_mut.ensures.value at c.put_on.ensures in
     let long : length new ≡ queue.len =
     omega (arith, behind-length c.args.index c.args.waiting queue.items new lt behind, queue.ok.0) in
     rw c.if-is_long.false (
@@ -80,11 +80,11 @@ returns-else-is_long-clause-put c = λ items w order here still same.
 pub returns-else-is_long-clause-passed : goal.returns-else-is_long-clause-passed
 returns-else-is_long-clause-passed c = λ first none.
     let queue = c.args.queue.now in
-    let new = c.put_behind.new.queue in
+    let new = c.put_on.new.queue in
     let here = c.requires.here in
     let lt = slice_get_within queue.items c.args.index here.0 here.1 in
     let behind : StandsBehind c.args.index c.args.waiting queue.items new =
-    rw c.deref_mut.ensures.value at c.put_behind.ensures in
+    rw c.deref_mut.ensures.value at c.put_on.ensures in
     let long : length new ≡ queue.len =
     omega (arith, behind-length c.args.index c.args.waiting queue.items new lt behind, queue.ok.0) in
     subst (λ ws. NoneWaitsBefore first ws) (sym (take_at new _ queue.len long ∙ behind.is))

@@ -3,11 +3,11 @@ use Rattle.std.proofs.Common.{◌-◌, ◌<◌, length}
 use Rattle.flow_book.proofs.Passing.{HasPassed}
 use Rattle.flow_book.proofs.queue.move_behind.Given as goal
 
-abbrev pub invariant-loop-at : goal.invariant-loop-at
-invariant-loop-at l = record {
-  within : l.at < length l.queue;
-  passed : HasPassed l.index l.fn.queue l.queue l.waiting.turn l.at;
+abbrev pub invariant-loop-to : goal.invariant-loop-to
+invariant-loop-to l = record {
+  within : l.to < length l.queue;
+  passed : HasPassed l.index l.fn.queue l.queue l.waiting.turn l.to;
 }
 
-abbrev pub decreases-loop-at : goal.decreases-loop-at
-decreases-loop-at l = length l.initial.queue - l.at
+abbrev pub decreases-loop-to : goal.decreases-loop-to
+decreases-loop-to l = length l.initial.queue - l.to

@@ -4,6 +4,6 @@ use Rattle.flow_book.specs.Queue.{still_waits}
 use Rattle.flow_book.specs.Pending.{sid_at}
 use Rattle.flow_book.proofs.shown.push_sids.Given as goal
 
-abbrev pub invariant-loop-waiting : goal.invariant-loop-waiting
-invariant-loop-waiting l =
-    l.sids.items ≡ l.initial.sids.items ++ map sid_at (filter still_waits (take l.waiting-index l.part))
+abbrev pub invariant-loop-one : goal.invariant-loop-one
+invariant-loop-one l =
+    l.sids.items ≡ l.initial.sids.items ++ map sid_at (filter still_waits (take l.one-index l.part))

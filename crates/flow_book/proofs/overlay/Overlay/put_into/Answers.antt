@@ -102,8 +102,8 @@ returns-clause-order c = λ whole.
     let queue = inside.queue.items in
     let is = taken c in
     let order = rw c.if-self.false at o.order in
-    let put : c.put_back.new.queue.items ≡ filter still_waits c.deref-3.result.now =
-    on-ok c.put_back.result (c.put_back.new.queue.items ≡ filter still_waits c.deref-3.result.now)
+    let put : c.put_back.new.to.items ≡ filter still_waits c.deref-3.result.now =
+    on-ok c.put_back.result (c.put_back.new.to.items ≡ filter still_waits c.deref-3.result.now)
     (sym c.is_ok-2.ensures.value ∙ whole) c.put_back.ensures in
     subst (IsQueue c.take_over-2.new.flows) (sym (put ∙ ap (filter still_waits) c.deref-3.ensures.value))
     (same-queue inside.config c.take_over-2.new.flows o.items (filter still_waits queue) is.book o.book is.shows

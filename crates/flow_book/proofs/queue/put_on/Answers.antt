@@ -3,9 +3,9 @@ use Rattle.std.proofs.Common.{◌≡◌, false, arith}
 use Rattle.std.proofs.lemmas.Bool.Decides.{nat_tests}
 use Rattle.flow_book.specs.Queue.{still_waits}
 use Rattle.flow_book.proofs.Passing.{stays-behind}
-use Rattle.flow_book.proofs.queue.put_behind.Goals as goal
+use Rattle.flow_book.proofs.queue.put_on.Goals as goal
 
-pub returns-else-waiting-gt0 : goal.returns-else-waiting-gt0
-returns-else-waiting-gt0 c =
-    let idle : still_waits c.args.waiting ≡ false = let none = c.if-waiting-gt0.false in grind (arith, nat_tests) in
+pub returns-then-waiting-eq0 : goal.returns-then-waiting-eq0
+returns-then-waiting-eq0 c =
+    let idle : still_waits c.args.waiting ≡ false = let none = c.if-waiting-eq0.true in grind (arith, nat_tests) in
     stays-behind c.args.queue.now c.args.index c.args.waiting c.requires.within idle
