@@ -1,7 +1,6 @@
 -- The kinds of allocations: what each is on the wire, and its class. A kind more is one line in each of these tables.
 use Rattle.std.specs.Prelude.{◌≡◌, ℕ, ◌+◌, Bool, true, false, ◌==◌, List, [], ◌∷◌, Option, None, Some, if◌then◌else◌}
 use Rattle.minislots.specs.declared.config.Config.{Config}
-use Rattle.minislots.specs.Units.{slots_for}
 use Rattle.map_codec.specs.declared.element.Element.{Element}
 use Rattle.map_codec.specs.declared.element.iuc.TheConstants.{REQUEST, INITIAL_MAINTENANCE, STATION_MAINTENANCE}
 use Rattle.flow_book.specs.declared.flow.Grant.{Grant}
@@ -9,6 +8,7 @@ use Rattle.periodic.specs.declared.placement.Spot.{Spot}
 use Rattle.sched_calls.specs.declared.opportunity.Usage.{Usage}
 use Rattle.sched_calls.specs.declared.opportunity.Usage.TheVariants.{Initial, Station}
 use Rattle.map_build.specs.declared.purpose.Allocation.{Allocation}
+use Rattle.map_build.specs.declared.purpose.Chosen.{Chosen}
 use Rattle.map_build.specs.declared.purpose.Kind.{Kind}
 use Rattle.map_build.specs.declared.purpose.Purpose.{Purpose}
 use Rattle.map_build.specs.declared.purpose.Purpose.TheVariants.{Poll, UnsolicitedGrant, Offer, DataGrant, Idle}
@@ -99,7 +99,6 @@ element_of c a = record {
 abbrev pub bytes_in : Config → Allocation → ℕ
 bytes_in c a = (kind_of c a.purpose).bytes
 
--- an allocation of so many minislots has, where it is a data grant, those that its bytes take
-abbrev pub HasLength : Config → ℕ → Purpose → Type 0
-HasLength c slots (DataGrant sid bytes) = slots ≡ slots_for c bytes
-HasLength c slots purpose = Unit {0}
+-- the element that is told of an allocation is the one for its purpose
+abbrev pub HasKind : Config → Chosen → Type 0
+HasKind c chosen = chosen.kind ≡ kind_of c chosen.allocation.purpose

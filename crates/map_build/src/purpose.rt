@@ -1,7 +1,8 @@
 //! The kinds of allocations, of which contracts of a MAP speak. What each is on the wire stands here and nowhere else.
 
-ghost use Rattle.std.specs.Prelude.{◌≡◌, ◌<◌, ◌^◌};
-ghost use Rattle.map_build.specs.Purpose.{HasLength, kind_of};
+ghost use Rattle.std.specs.Prelude.{◌≡◌};
+ghost use Rattle.minislots.specs.Units.{is_short as short_by_bytes};
+ghost use Rattle.map_build.specs.Purpose.{kind_of};
 
 use crate::usage_codes::{data_iuc, long_iuc, unsolicited_iuc};
 use map_codec::iuc;
@@ -51,10 +52,17 @@ pub struct Kind {
     pub bytes: u32,
 }
 
+/// An allocation, and what its element says.
+#[derive(Clone, Copy, Debug)]
+pub(crate) struct Chosen {
+    pub(crate) allocation: Allocation,
+    pub(crate) kind: Kind,
+}
+
 impl Purpose {
-    /// The element for this purpose, of an allocation of so many minislots.
-    pub(crate) fn kind(self, config: &Checked, slots: u16) -> Kind
-        requires { HasLength config.now slots self }
+    /// The element for this purpose.
+    #[inline(always)]
+    pub(crate) fn kind(self, config: &Checked) -> Kind
         ensures { result ≡ kind_of config.now self }
     {
         let (sid, iuc, bytes) = match self {
@@ -63,10 +71,24 @@ impl Purpose {
             Purpose::Offer(_, Usage::Initial) => (BROADCAST, iuc::INITIAL_MAINTENANCE, 0),
             Purpose::Offer(_, Usage::Station(sid)) => (sid, iuc::STATION_MAINTENANCE, 0),
             Purpose::DataGrant(sid, bytes) => {
-                (sid, data_iuc(config, bytes, slots.into()), bytes)
+                return Kind::of_grant(config, sid, bytes, config.grant_size(bytes).is_short);
             },
             Purpose::Idle => (NOBODY, long_iuc(config), 0),
         };
         Kind { sid, iuc, bytes }
+    }
+}
+
+impl Kind {
+    /// The element of a data grant of so many bytes to this SID, where it is known whether it is a short one.
+    pub(crate) fn of_grant(config: &Checked, sid: u16, bytes: u32, is_short: bool) -> Kind
+        requires { is_short ≡ short_by_bytes config.now bytes }
+        ensures { result ≡ kind_of config.now (Purpose.DataGrant sid bytes) }
+    {
+        Kind {
+            sid,
+            iuc: data_iuc(config, is_short),
+            bytes,
+        }
     }
 }

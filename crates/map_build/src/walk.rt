@@ -1,11 +1,11 @@
 //! The walk along a frame: what stands at each offset, up to the end.
 
-ghost use Rattle.std.specs.Prelude.{◌≡◌, ◌<◌, ◌≤◌, ◌+◌, ◌^◌, ◌==◌, List, [], OnOk, find, option_copied, length};
+ghost use Rattle.std.specs.Prelude.{◌≡◌, ◌<◌, ◌≤◌, ◌+◌, ◌^◌, ◌==◌, List, [], OnOk, IfSome, find, option_copied, length};
 ghost use Rattle.minislots.specs.declared.config.Config.{Config};
 ghost use Rattle.sched_calls.specs.declared.opportunity.Opportunity.{Opportunity as Offered};
 ghost use Rattle.map_build.specs.declared.TheConstants.{MAX_WAITING};
 ghost use Rattle.map_build.specs.Plan.{next_stop, most_grants};
-ghost use Rattle.map_build.specs.Purpose.{allocation_of};
+ghost use Rattle.map_build.specs.Purpose.{allocation_of, HasKind};
 ghost use Rattle.map_build.specs.Spots.{AreInFrame};
 ghost use Rattle.map_build.specs.Walk.{IsWellBegun, IsUnfilled, IsFilled, MeetsNext, ServesNext, Chooses};
 ghost use Rattle.map_build.specs.Opportunities.{MayWait};
@@ -13,7 +13,7 @@ ghost use Rattle.map_build.specs.Left.{left_at, AreAhead};
 
 use crate::draft::Draft;
 use crate::opportunity::first_unmet;
-use crate::purpose::{Allocation, Purpose};
+use crate::purpose::{Allocation, Chosen, Kind, Purpose};
 use crate::{MAX_DATA_GRANTS, MAX_GRANTS_AND_PENDING};
 use minislots::Checked;
 use periodic::Spot;
@@ -43,30 +43,41 @@ impl Draft {
     // What stands at the offset that is reached, by class: the spot that begins there, else the first opportunity that
     // waits and fits, else a data grant to the flow that is next, where the MAP may have one more, else an idle. The
     // spots are those that are left.
-    fn next(&mut self, spots: &[Spot], waiting: &[Opportunity], most: usize) -> Allocation
+    fn next(&mut self, spots: &[Spot], waiting: &[Opportunity], most: usize) -> Chosen
         requires most { most ≡ most_grants self.old.overlay.config waiting.now }
         requires placed { AreInFrame self.old.overlay.config spots.now }
         requires waiting { MayWait waiting.now }
         requires ahead { AreAhead self.old.offset spots.now }
         requires ready { IsWellBegun waiting.now self.old }
         requires inside { self.old.offset < self.old.overlay.config.frame }
-        ensures { Chooses spots.now waiting.now result self.old self.new }
+        ensures stands { Chooses spots.now waiting.now result.allocation self.old self.new }
+        ensures kind { HasKind self.new.overlay.config result }
     {
         if let Some(spot) = spot_at(spots, self.offset) {
-            return allocation_of(*spot);
+            return self.with_kind(allocation_of(*spot));
         }
         let room = next_stop(spots, self.offset, self.overlay.config()) - self.offset;
         if let Some(offer) = self.meet(waiting, room) {
-            return offer;
+            return self.with_kind(offer);
         }
         if let Some(grant) = self.serve(most, room) {
             return grant;
         }
-        Allocation {
+        self.with_kind(Allocation {
             offset: self.offset,
             slots: room,
             purpose: Purpose::Idle,
-        }
+        })
+    }
+
+    // An allocation with what its element says.
+    #[inline(always)]
+    fn with_kind(&self, allocation: Allocation) -> Chosen
+        ensures allocation { result.allocation ≡ allocation }
+        ensures kind { HasKind self.now.overlay.config result }
+    {
+        let kind = allocation.purpose.kind(self.overlay.config());
+        Chosen { allocation, kind }
     }
 
     // The first opportunity that waits and fits. The draft has it from now on.
@@ -92,12 +103,13 @@ impl Draft {
     }
 
     // The data grant of the book to the flow that is next, where the MAP has fewer than the most that it may have.
-    fn serve(&mut self, most: usize, room: u16) -> Option<Allocation>
+    fn serve(&mut self, most: usize, room: u16) -> Option<Chosen>
         requires ready { (waiting : List Offered)
             × IsWellBegun waiting self.old × (most ≡ most_grants self.old.overlay.config waiting) }
-        ensures { (waiting : List Offered) → IsWellBegun waiting self.old
+        ensures next { (waiting : List Offered) → IsWellBegun waiting self.old
             → most ≡ most_grants self.old.overlay.config waiting
             → ServesNext waiting room result self.old self.new }
+        ensures kind { IfSome result (HasKind self.new.overlay.config) }
     {
         if self.grants >= most {
             return None;
@@ -105,11 +117,15 @@ impl Draft {
         let start = self.minislot();
         let served = self.overlay.serve(start, u32::from(room))?;
         self.grants += 1;
-        Some(Allocation {
+        let config = self.overlay.config();
+        let size = config.grant_size(served.bytes);
+        let allocation = Allocation {
             offset: self.offset,
-            slots: self.overlay.config().slots_for(served.bytes) as u16,
+            slots: size.slots as u16,
             purpose: Purpose::DataGrant(served.sid, served.bytes),
-        })
+        };
+        let kind = Kind::of_grant(config, served.sid, served.bytes, size.is_short);
+        Some(Chosen { allocation, kind })
     }
 }
 
