@@ -1,10 +1,10 @@
 //! Bursts: the minislots that so many bytes take on the wire (burst descriptors of the UCD, Reed-Solomon codewords,
 //! shortened last codeword).
 
-ghost use Rattle.std.specs.Prelude.{ℕ, ◌≡◌, ◌≤◌, ◌<◌, ◌^◌, IsTrue};
+ghost use Rattle.std.specs.Prelude.{ℕ, ◌≡◌, ◌≤◌, ◌<◌, ◌+◌, ◌^◌, IsTrue};
 ghost use Rattle.minislots.specs.Bursts.{are_bursts, are_descriptors, is_profile, is_within, is_short_burst, capacity_of};
 ghost use Rattle.minislots.specs.Bursts.{IsSound, AreSound, HasBursts, codeword, parity_bytes, last_codeword, coded};
-ghost use Rattle.minislots.specs.Bursts.{symbols_of, slots_by, bytes_by, last_information, rounded_up, length_of};
+ghost use Rattle.minislots.specs.Bursts.{slots_by, bytes_by, last_information, rounded_up, length_of};
 ghost use Rattle.minislots.specs.Bursts.{long_slots, unsolicited_slots, uniform_slots, uniform_bytes, serves_short};
 ghost use Rattle.minislots.specs.Bursts.{short_slots, short_bytes, short_sizes};
 
@@ -72,13 +72,13 @@ pub(crate) fn is_within(low: u32, high: u32, n: u32) -> bool
 }
 
 // How many of this size hold so many things, the last one perhaps in part.
-fn rounded_up(many: u64, size: u32) -> u64
+fn rounded_up(many: u64, size: u64) -> u64
     requires some { 0 < size }
-    requires fits { many < 2 ^ 60 }
+    requires fits { many + size < 2 ^ 64 }
     ensures value { result ≡ rounded_up many size }
     ensures small { result ≤ many }
 {
-    (many + u64::from(size) - 1) / u64::from(size)
+    (many + size - 1) / size
 }
 
 impl Profile {
@@ -139,25 +139,19 @@ impl Profile {
         full + u64::from(self.last_codeword(bytes % self.information))
     }
 
-    // The symbols of a burst of so many bytes.
-    fn symbols(&self, bytes: u32) -> u64
-        requires { IsSound self.now }
-        ensures value { result ≡ symbols_of self.now bytes }
-        ensures small { result < 2 ^ 46 }
-    {
-        let sent = rounded_up(8 * self.coded(bytes), self.bits);
-        u64::from(self.preamble) + sent + u64::from(self.guard)
-    }
-
-    // The minislots of a burst of so many bytes, where a minislot has so many symbols.
-    #[tactic(auto, unfolding(crate::specs::Bursts::slots_by))]
+    // The minislots of a burst of so many bytes, where a minislot has so many symbols. All is counted in bits, so that
+    // one division is enough.
+    #[tactic(auto, using(crate::proofs::BurstLaws::in_bits))]
     fn slots(&self, symbols: u32, bytes: u32) -> u64
         requires sound { IsSound self.now }
         requires some { 0 < symbols }
         ensures value { result ≡ slots_by symbols self.now bytes }
         ensures small { result < 2 ^ 46 }
     {
-        rounded_up(self.symbols(bytes), symbols)
+        let coded = 8 * self.coded(bytes);
+        let bits = u64::from(self.bits);
+        let spent = bits * u64::from(self.preamble + self.guard);
+        rounded_up(spent + coded, bits * u64::from(symbols))
     }
 
     // The information bytes of a last codeword that has room for at most so many bytes.
@@ -203,8 +197,7 @@ impl Descriptors {
             && self.unsolicited.is_lawful()
     }
 
-    // The size of a data grant of so many bytes: the minislots that hold the shorter burst, and whether they hold the one
-    // by the profile of short grants.
+    // The size of a data grant of so many bytes.
     #[inline(never)]
     fn grant_size(&self, sizes: u64, bytes: u32) -> GrantSize
         requires { AreSound self.now }
@@ -214,18 +207,18 @@ impl Descriptors {
             → result.is_short ≡ serves_short self.now most bytes }
         ensures small { result.slots < 2 ^ 46 }
     {
-        let long = self.long.symbols(bytes);
+        let long = self.long.slots(self.symbols, bytes);
         if u64::from(bytes) >= sizes {
-            let slots = rounded_up(long, self.symbols);
             return GrantSize {
-                slots,
+                slots: long,
                 is_short: false,
             };
         }
-        let short = self.short.symbols(bytes);
-        let slots = rounded_up(long.min(short), self.symbols);
-        let is_short = short <= slots * u64::from(self.symbols);
-        GrantSize { slots, is_short }
+        let short = self.short.slots(self.symbols, bytes);
+        GrantSize {
+            slots: long.min(short),
+            is_short: short <= long,
+        }
     }
 
     // The most bytes of a data grant of at most so many minislots.
@@ -373,7 +366,7 @@ fn uniform_slots(bytes_per_slot: u32, overhead: u32, bytes: u32) -> u64
     ensures value { result ≡ uniform_slots bytes_per_slot overhead bytes }
     ensures small { result < 2 ^ 46 }
 {
-    u64::from(overhead) + rounded_up(bytes.into(), bytes_per_slot)
+    u64::from(overhead) + rounded_up(bytes.into(), bytes_per_slot.into())
 }
 
 // The bytes in so many minislots beside the overhead.
