@@ -1,7 +1,7 @@
 -- The two parts of the queue while a MAP is planned.
 use Rattle.std.proofs.Common.{◌≡◌, ◌≢◌, refl, sym, ap, ◌∙◌, subst, ℕ, zero, suc, ◌<◌, ◌≤◌, inl, inr, Bool, true, false}
 use Rattle.std.proofs.Common.{List, [], ◌∷◌, filter, take, drop, get_or, set, remove, slice_get, Option, Some, None, option_map}
-use Rattle.std.proofs.Common.{◌+◌, map, length, nat_lt, true≢false, arith}
+use Rattle.std.proofs.Common.{◌+◌, map, length, arith}
 use Rattle.std.specs.List.{AllByRecursion}
 use Rattle.std.specs.Option.{MatchOption}
 use Rattle.std.proofs.lemmas.Bool.{cases_eq}
@@ -18,7 +18,7 @@ use Rattle.flow_book.specs.Queue.{IsAt, IsIn, IsQueue, IsQueueAmong, IsQueueIn, 
 use Rattle.flow_book.specs.Queue.{IsFirstAble, IsOrderIn, IsShortQueue, StandsBehind, AreOnce, served_of}
 use Rattle.flow_book.specs.Queue.{NoneWaitsBefore}
 use Rattle.flow_book.specs.Queue.{still_waits}
-use Rattle.flow_book.specs.Parts.{HasStartedIn, IsAheadOf, IsNextIn, IsPutIn, IsPutBack, IsPut}
+use Rattle.flow_book.specs.Parts.{HasStartedIn, IsAheadOf, IsNextIn, IsPutIn, IsPutBack}
 use Rattle.flow_book.proofs.Once.{by-turn-once, once-remove, once-alone}
 use Rattle.flow_book.proofs.Order.{all-implied}
 use Rattle.flow_book.proofs.Queues.{with-one, all-remove, in-rest, in-removed, taken-among, taken-out, among-as}
@@ -132,37 +132,11 @@ module _ (items : List Flow) (queue served : List Waiting) (is : IsQueueIn items
         is = put;
       }
 
-none-there : (i : ℕ) (w : Waiting) → slice_get [] i ≡ Some w → ⊥
-none-there i w found = absurd (cc)
-
--- one that was served is put in again, which is only where many wait
-pub put-again-in : (b : Bool) (items : List Flow) (queue served : List Waiting) (i : ℕ) (w waiting : Waiting)
-    → w.place ≡ waiting.place → (after : List Waiting) → IsOrderIn b items queue served → slice_get served i ≡ Some w
-    → after ≡ with-one waiting (remove served i) → IsPut b items waiting queue served queue after
-put-again-in true items queue served i w waiting same after order here put =
-    put-again items queue served order i w waiting same after here put
-put-again-in false items queue served i w waiting same after order here put =
-    let none : slice_get [] i ≡ Some w = subst (λ ws. slice_get ws i ≡ Some w) order.1 here in
-    absurd (none-there i w none)
-
 -- none is ahead where none were served
 ahead-none : (queue served : List Waiting) (queued : Option ℕ) → length served ≡ 0 → IsAheadOf queue served 0 queued
 ahead-none queue [] None none = refl
 ahead-none queue [] (Some index) none = λ w here. (tt, tt)
 ahead-none queue (v ∷ served) queued none = absurd (omega (arith, none))
-
--- where none waits before a place one that does stands no earlier
-pub waits-behind : (first : ℕ) (queue : List Waiting) (i : ℕ) (w : Waiting) → slice_get queue i ≡ Some w
-    → still_waits w ≡ true → NoneWaitsBefore first queue → first ≤ i
-waits-behind zero queue i w here still none = omega arith
-waits-behind (suc first) [] i w here still none = absurd (cc)
-waits-behind (suc first) (v ∷ queue) zero w here still none =
-    let e : Some v ≡ Some w = here in
-    let is : v ≡ w = cc in
-    let idle : w.wants ≡ 0 = subst (λ (u : Waiting). u.wants ≡ 0) is none.0 in
-    absurd (true≢false (sym still ∙ ap (nat_lt 0) idle))
-waits-behind (suc first) (v ∷ queue) (suc i) w here still none =
-    let le = waits-behind first queue i w here still none.1 in omega (arith, le)
 
 -- one of a short queue is put among the others
 pub put-back : (items : List Flow) (queue : List Waiting) (i : ℕ) (w waiting : Waiting) (after : List Waiting)

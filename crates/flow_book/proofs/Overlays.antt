@@ -53,7 +53,7 @@ over-book c items is_long queue capacity book order room = record {
   book = book;
   order = order-none is_long items queue order;
   room = room;
-  passed = tt;
+  passed = λ many. tt;
   same = same-all (map live items);
   rest = λ place. inr refl;
 }
@@ -122,17 +122,12 @@ next-waits c items queue served start room at w here first =
     subst (λ (v : Waiting). still_waits v ≡ true)
     (next-waiting c items queue served start room at w here first) first.waits
 
-module _ (c : Config) (before flows : List LiveFlow) (is_long : Bool) (queue served : List Waiting)
-    (capacity first start room : ℕ) (at : Standing)
-    (w : Waiting) (o : IsOverlay c before flows is_long queue served capacity first) (started : AllByRecursion
-    (HasStartedBy start) flows)
-    (next : (items : List Flow) → HasStartedIn c items queue served start → IsNextIn c items queue served start room at)
+module _ (c : Config) (items : List Flow) (queue served : List Waiting) (start room : ℕ) (at : Standing) (w : Waiting)
+    (has : HasStartedIn c items queue served start) (next : IsNextIn c items queue served start room at)
     (here : one_at at queue served ≡ Some w) where
-  next-stands : StandsIn c o.items start w
+  next-stands : StandsIn c items start w
   next-stands =
-      let has = started-queue c before flows is_long queue served capacity first start o started in
-      one-stands c o.items queue served start at w has here
-      (next-waits c o.items queue served start room at w here (next o.items has))
+      one-stands c items queue served start at w has here (next-waits c items queue served start room at w here next)
 
   -- so its bucket is counted from a minislot on that is no later
   pub next-since : w.bucket.since ≤ start

@@ -7,7 +7,7 @@ use Rattle.std.proofs.lemmas.Grind.{get_or-set_at}
 use Rattle.std.proofs.lemmas.List.{get_or-set_other, length-set}
 use Rattle.std.proofs.lemmas.List.Edits.{length-remove, length-insert}
 use Rattle.flow_book.specs.declared.queue.Waiting.{Waiting}
-use Rattle.flow_book.specs.Queue.{still_waits, is_passed, NoneWaitsBefore, StandsBehind}
+use Rattle.flow_book.specs.Queue.{still_waits, is_passed, StandsBehind}
 use Rattle.flow_book.specs.Sids.{AscendBy}
 use Rattle.flow_book.proofs.Queues.{with-one}
 use Rattle.flow_book.proofs.Sinking.{remove-next}
@@ -144,16 +144,6 @@ passes-before queue k i d w turn up early lt here still late =
     passed-early turn (get_or queue k d) (λ waits.
     let less = earlier-still queue k i d up early lt waits (ap still_waits here ∙ still) in
     omega (arith, less, ap (λ (v : Waiting). v.turn) here, late))
-
--- those before a place stay where one is put in behind it
-pub none-inserted : (first i at : ℕ) (queue : List Waiting) (w : Waiting) → first ≤ i → i ≤ at → i < length queue
-    → NoneWaitsBefore first queue → NoneWaitsBefore first (insert (remove queue i) at w)
-none-inserted zero i at queue w le behind lt none = tt
-none-inserted (suc first) i at [] w le behind lt none = absurd (omega arith)
-none-inserted (suc first) zero at (v ∷ queue) w le behind lt none = absurd (omega arith)
-none-inserted (suc first) (suc i) zero (v ∷ queue) w le behind lt none = absurd (omega arith)
-none-inserted (suc first) (suc i) (suc at) (v ∷ queue) w le behind lt none =
-    (none.0, none-inserted first i at queue w (omega arith) (omega arith) (omega arith) none.1)
 
 -- as many stand in the queue
 pub behind-length : (i : ℕ) (w : Waiting) (old new : List Waiting) → i < length old → StandsBehind i w old new

@@ -1,5 +1,5 @@
 -- The flows of a book while a MAP is planned.
-use Rattle.std.specs.Prelude.{◌≡◌, ℕ, ◌⊎◌, Bool, List, map, slice_get}
+use Rattle.std.specs.Prelude.{◌≡◌, ℕ, ◌⊎◌, Bool, true, List, map, slice_get}
 use Rattle.std.specs.List.{AllZip}
 use Rattle.minislots.specs.declared.config.Config.{Config}
 use Rattle.flow_book.specs.declared.flow.Flow.{Flow}
@@ -20,7 +20,7 @@ abbrev pub IsSameFlow : LiveFlow → LiveFlow → Type 0
 IsSameFlow f g = record f { grants = g.grants } ≡ g
 
 -- The flows with the data grants are a book's, and all of them that wait are in the queue or among those served, which
--- have room for them; none waits before a place in the queue. They are those before but for their grants, and each that
+-- have room for them; where many wait none does before a place in the queue. They are those before but for their grants, and each that
 -- was not served has no more of these.
 pub record IsOverlay (c : Config) (before flows : List LiveFlow) (is_long : Bool) (queue served : List Waiting)
     (capacity first : ℕ) : Type 0 where
@@ -29,7 +29,7 @@ pub record IsOverlay (c : Config) (before flows : List LiveFlow) (is_long : Bool
   pub book : IsBook c items
   pub order : IsOrderIn is_long items queue served
   pub room : HasRoom is_long queue served capacity
-  pub passed : NoneWaitsBefore first queue
+  pub passed : is_long ≡ true → NoneWaitsBefore first queue
   pub same : AllZip IsSameFlow before flows
   pub rest : (place : ℕ) → IsIn place (served_of is_long queue served)
       ⊎ (slice_get flows place ≡ slice_get before place)

@@ -1,6 +1,6 @@
 -- The queue while a MAP is planned, where many wait in two parts: those that it served, and the others.
 use Rattle.std.specs.Prelude.{◌≡◌, ◌≢◌, ℕ, ◌≤◌, ◌⊎◌, Bool, true, false, List, [], filter, map, Option, None, Some}
-use Rattle.std.specs.Prelude.{slice_get, length, take, drop, insert, if◌then◌else◌}
+use Rattle.std.specs.Prelude.{◌+◌, min, IfSome, slice_get, length, take, drop, insert, if◌then◌else◌}
 use Rattle.std.specs.List.{AllByRecursion}
 use Rattle.minislots.specs.declared.config.Config.{Config}
 use Rattle.flow_book.specs.declared.flow.Flow.{Flow}
@@ -8,7 +8,8 @@ use Rattle.flow_book.specs.declared.queue.Waiting.{Waiting}
 use Rattle.flow_book.specs.declared.parts.Standing.{Standing}
 use Rattle.flow_book.specs.declared.parts.Standing.TheVariants.{Queued, Served}
 use Rattle.flow_book.specs.Choice.{HasStartedBy, IsNext}
-use Rattle.flow_book.specs.Entry.{live, IsBook}
+use Rattle.flow_book.specs.Bucket.{most_of, HasOneMore, StaysSettled}
+use Rattle.flow_book.specs.Entry.{live, IsBook, IsTurn}
 use Rattle.flow_book.specs.Sids.{put_in}
 use Rattle.flow_book.specs.Queue.{IsAt, IsIn, IsQueueAmong, IsQueueIn, AreOnce, still_waits}
 
@@ -68,3 +69,27 @@ pub record IsPutBack (items : List Flow) (w : Waiting) (queue queue_after : List
 abbrev pub IsPut : Bool → List Flow → Waiting → List Waiting → List Waiting → List Waiting → List Waiting → Type 0
 IsPut true items w queue served queue_after served_after = IsPutIn items w served queue_after served_after
 IsPut false items w queue served queue_after served_after = IsPutBack items w queue queue_after × (served_after ≡ [])
+
+-- One that waited was granted so many bytes at this minislot, the most that it may have of so many, and this is its SID
+pub record IsGranted (w new : Waiting) (start most sid bytes : ℕ) : Type 0 where
+  pub amount : bytes ≡ most_of w.bucket start (min w.wants most)
+  pub wants : new.wants + bytes ≡ w.wants
+  pub place : new.place ≡ w.place
+  pub bucket : HasOneMore w.bucket new.bucket start bytes
+  pub settled : StaysSettled w.bucket new.bucket start bytes
+  pub turn : (rank : ℕ) (last : Option ℕ) (sid : ℕ) → IsTurn rank last sid w.turn → IsTurn rank (Some start) sid new.turn
+  pub later : (rank : ℕ) (last : Option ℕ) (sid : ℕ) → IsTurn rank last sid w.turn → IfSome last (λ m. m ≤ start)
+      → w.turn ≤ new.turn
+  pub is : (rank : ℕ) (last : Option ℕ) (other : ℕ) → IsTurn rank last other new.turn → sid ≡ other
+
+-- The flow that is served first, in so many minislots, was granted the most that it may have of so many bytes, and was
+-- put where it stands from now on
+pub record IsServedFirst (c : Config) (is_long : Bool) (items : List Flow) (queue served queue_after served_after : List
+    Waiting) (start room most sid bytes : ℕ) : Type 0 where
+  pub at : Standing
+  pub waiting : Waiting
+  pub new : Waiting
+  pub here : one_at at queue served ≡ Some waiting
+  pub next : IsNextIn c items queue served start room at
+  pub granted : IsGranted waiting new start most sid bytes
+  pub put : IsPut is_long items new queue served queue_after served_after

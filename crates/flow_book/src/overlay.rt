@@ -13,7 +13,7 @@ ghost use Rattle.flow_book.specs.Book.{changed};
 use crate::flow::{Grant, Room, Served};
 use crate::flow_list::{FlowList, list_of};
 use crate::flows::Flows;
-use crate::parts::{first_of, first_waiting, one_at, put_served};
+use crate::parts::serve_first;
 use crate::queue::Waiting;
 use crate::shown::{Shown, show};
 use crate::taking::{merge, put_back, take_over};
@@ -44,7 +44,7 @@ pub struct Overlay {
     // The flows that waited before the MAP, by their turns. Where they are many one that it served wants nothing here,
     // and else it has here what it still wants.
     queue: Vec<Waiting>,
-    // None before this place wants anything.
+    // Where many wait none of the queue before this place wants anything.
     first: usize,
     // Where many waited those that the MAP served, with what they still want, by their turns.
     served: Vec<Waiting>,
@@ -129,20 +129,18 @@ impl Overlay {
         let bytes = self.config.most_in(room);
         let room = Room { slots: room, bytes };
         let config = &self.config;
-        let standing = first_of(&self.queue, self.first, &self.served, config, start, room)?;
-        let mut waiting = one_at(&self.queue, &self.served, standing);
-        let bytes = waiting.serve(start, room.bytes);
-        put_served(
+        let served = serve_first(
             &mut self.queue,
+            &mut self.first,
             &mut self.served,
-            standing,
-            waiting,
             self.is_long,
-        );
-        self.first = first_waiting(&self.queue, self.first);
-        let sid = waiting.sid();
+            config,
+            start,
+            room,
+        )?;
+        let Served { sid, bytes } = served;
         self.flows = FlowList::granted(&self.flows, &sid, &Grant { start, bytes });
-        Some(Served { sid, bytes })
+        Some(served)
     }
 
     // The flows that the MAP shows by pending grants, in order of SID, and its acknowledge time ([`Book::show`]). These

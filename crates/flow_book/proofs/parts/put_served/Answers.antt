@@ -1,13 +1,12 @@
--- One of the queue goes to those served or moves back, and one of those served moves back among them.
-use Rattle.std.proofs.Common.{◌≡◌, ◌∙◌, ap, sym, subst, Some, slice_get, length, remove, arith}
+-- One of the queue goes to those served, and one of those served moves back among them.
+use Rattle.std.proofs.Common.{◌≡◌, ◌∙◌, ap, sym, subst, Some, true, slice_get, length, remove, arith}
 use Rattle.std.proofs.lemmas.List.{take_at}
 use Rattle.std.proofs.lemmas.Option.{slice_get_within, get_or_from_slice_get}
 use Rattle.flow_book.specs.declared.queue.Waiting.{Waiting}
 use Rattle.flow_book.specs.Queue.{HasRoom}
-use Rattle.flow_book.proofs.InParts.{put-again-in}
+use Rattle.flow_book.proofs.InParts.{put-again}
 use Rattle.flow_book.proofs.Queues.{with-one}
 use Rattle.flow_book.proofs.Searches.{rises}
-use Rattle.flow_book.proofs.StillWaiting.{order-in}
 use Rattle.flow_book.proofs.parts.put_served.Goals as goal
 
 pub put_queued-requires-clause-here : goal.put_queued-requires-clause-here
@@ -28,7 +27,7 @@ move_back-requires-clause-before c = λ k d early.
     let index = c.in-Served.index in
     let w = c.requires.here.0 in
     let here : slice_get served index ≡ Some w = rw c.in-Served.is at c.requires.here.1 in
-    let parts = order-in c.args.is_long c.requires.order.0 c.args.queue.now.items served c.requires.order.1 in
+    let parts = c.requires.order.1 in
     let lt = slice_get_within served index w here in
     let less = rises (λ (v : Waiting). v.turn) served k index d parts.served_ones.ascending early lt in
     let read = ap (λ (v : Waiting). v.turn) (get_or_from_slice_get served index w d here) in
@@ -48,8 +47,8 @@ returns-in-Served-clause-put c = λ items w order here still same.
     rw c.deref_mut.ensures.value at c.move_back.ensures.moved in
     let long : length new ≡ served.len =
     omega (arith, c.move_back.ensures.len, ap length c.deref_mut.ensures.value, served.ok.0) in
-    put-again-in c.args.is_long items c.args.queue.now.items served.items c.in-Served.index w c.args.waiting same _ order
-    at (take_at new _ served.len long ∙ moved)
+    put-again items c.args.queue.now.items served.items order c.in-Served.index w c.args.waiting same _ at
+    (take_at new _ served.len long ∙ moved)
 
 pub returns-in-Served-clause-room : goal.returns-in-Served-clause-room
 returns-in-Served-clause-room c =
@@ -57,5 +56,5 @@ returns-in-Served-clause-room c =
     let new = c.move_back.new.queue in
     let long : length new ≡ served.len =
     omega (arith, c.move_back.ensures.len, ap length c.deref_mut.ensures.value, served.ok.0) in
-    subst (λ ws. HasRoom c.args.is_long c.args.queue.now.items ws served.cap) (sym (take_at new _ served.len long))
+    subst (λ ws. HasRoom true c.args.queue.now.items ws served.cap) (sym (take_at new _ served.len long))
     (λ yes'. omega (arith, c.requires.room yes', long, served.ok.0))
