@@ -1,6 +1,7 @@
 -- The kinds of allocations: what each is on the wire, and its class. A kind more is one line in each of these tables.
 use Rattle.std.specs.Prelude.{◌≡◌, ℕ, ◌+◌, Bool, true, false, ◌==◌, List, [], ◌∷◌, Option, None, Some, if◌then◌else◌}
 use Rattle.minislots.specs.declared.config.Config.{Config}
+use Rattle.minislots.specs.Units.{is_short}
 use Rattle.map_codec.specs.declared.element.Element.{Element}
 use Rattle.map_codec.specs.declared.element.iuc.TheConstants.{REQUEST, INITIAL_MAINTENANCE, STATION_MAINTENANCE}
 use Rattle.flow_book.specs.declared.flow.Grant.{Grant}
@@ -8,7 +9,6 @@ use Rattle.periodic.specs.declared.placement.Spot.{Spot}
 use Rattle.sched_calls.specs.declared.opportunity.Usage.{Usage}
 use Rattle.sched_calls.specs.declared.opportunity.Usage.TheVariants.{Initial, Station}
 use Rattle.map_build.specs.declared.purpose.Allocation.{Allocation}
-use Rattle.map_build.specs.declared.purpose.Chosen.{Chosen}
 use Rattle.map_build.specs.declared.purpose.Kind.{Kind}
 use Rattle.map_build.specs.declared.purpose.Purpose.{Purpose}
 use Rattle.map_build.specs.declared.purpose.Purpose.TheVariants.{Poll, UnsolicitedGrant, Offer, DataGrant, Idle}
@@ -99,6 +99,12 @@ element_of c a = record {
 abbrev pub bytes_in : Config → Allocation → ℕ
 bytes_in c a = (kind_of c a.purpose).bytes
 
--- the element that is told of an allocation is the one for its purpose
-abbrev pub HasKind : Config → Chosen → Type 0
-HasKind c chosen = chosen.kind ≡ kind_of c chosen.allocation.purpose
+-- whether it is short is what the bytes of a data grant say
+abbrev pub IsUsage : Config → Bool → Purpose → Type 0
+IsUsage c short (DataGrant sid bytes) = short ≡ is_short c bytes
+IsUsage c short purpose = Unit {0}
+
+-- where it is known whether a data grant is short, it is so
+abbrev pub HasUsage : Config → Option Bool → Purpose → Type 0
+HasUsage c None purpose = Unit {0}
+HasUsage c (Some short) purpose = IsUsage c short purpose

@@ -9,7 +9,7 @@ ghost use Rattle.periodic.specs.declared.placement.Spot.{Spot};
 ghost use Rattle.map_build.specs.declared.TheConstants.{MAX_WAITING};
 ghost use Rattle.sched_calls.specs.declared.opportunity.Opportunity.{Opportunity};
 ghost use Rattle.map_build.specs.Plan.{demand_at};
-ghost use Rattle.map_build.specs.Purpose.{HasKind};
+ghost use Rattle.map_build.specs.Purpose.{HasUsage};
 ghost use Rattle.map_build.specs.UsageCodes.{long_iuc};
 ghost use Rattle.map_build.specs.FrameMap.{map_with};
 ghost use Rattle.map_build.specs.Spots.{AreInFrame};
@@ -17,7 +17,7 @@ ghost use Rattle.map_build.specs.Draft.{Puts, PutsAllocation, PutsPending, Ends}
 ghost use Rattle.map_build.specs.Walk.{HasPlan};
 
 use crate::MAX_WAITING;
-use crate::purpose::{BROADCAST, Chosen, NOBODY};
+use crate::purpose::{Allocation, BROADCAST, Chosen, NOBODY};
 use crate::usage_codes::long_iuc;
 use flow_book::{Book, Overlay};
 use map_codec::{Element, Elements, MAX_ELEMENTS, WireMap, iuc};
@@ -72,11 +72,12 @@ impl Draft {
     /// The element of an allocation more, which begins at the offset that is reached.
     pub(crate) fn put_allocation(&mut self, chosen: Chosen) -> Result<(), AllocError>
         requires fits { self.old.offset + chosen.allocation.slots < 2 ^ 16 }
-        requires kind { HasKind self.old.overlay.config chosen }
+        requires usage { HasUsage self.old.overlay.config chosen.is_short chosen.allocation.purpose }
         ensures { OnOk result (PutsAllocation chosen.allocation self.old self.new) }
     {
-        let Chosen { allocation, kind } = chosen;
-        self.put_slots(kind.sid, kind.iuc, allocation.slots, kind.bytes)
+        let Allocation { slots, purpose, .. } = chosen.allocation;
+        let kind = purpose.kind(self.overlay.config(), chosen.is_short);
+        self.put_slots(kind.sid, kind.iuc, slots, kind.bytes)
     }
 
     // An element of so many minislots more, at the offset that is reached.

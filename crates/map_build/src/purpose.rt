@@ -1,8 +1,7 @@
 //! The kinds of allocations, of which contracts of a MAP speak. What each is on the wire stands here and nowhere else.
 
 ghost use Rattle.std.specs.Prelude.{◌≡◌};
-ghost use Rattle.minislots.specs.Units.{is_short as short_by_bytes};
-ghost use Rattle.map_build.specs.Purpose.{kind_of};
+ghost use Rattle.map_build.specs.Purpose.{kind_of, HasUsage};
 
 use crate::usage_codes::{data_iuc, long_iuc, unsolicited_iuc};
 use map_codec::iuc;
@@ -52,17 +51,18 @@ pub struct Kind {
     pub bytes: u32,
 }
 
-/// An allocation, and what its element says.
+/// An allocation, and where it is a data grant whether it is a short one, if that is known.
 #[derive(Clone, Copy, Debug)]
 pub(crate) struct Chosen {
     pub(crate) allocation: Allocation,
-    pub(crate) kind: Kind,
+    pub(crate) is_short: Option<bool>,
 }
 
 impl Purpose {
-    /// The element for this purpose.
+    /// The element for this purpose, where it may be known whether it is a short data grant.
     #[inline(always)]
-    pub(crate) fn kind(self, config: &Checked) -> Kind
+    pub(crate) fn kind(self, config: &Checked, is_short: Option<bool>) -> Kind
+        requires { HasUsage config.now is_short self }
         ensures { result ≡ kind_of config.now self }
     {
         let (sid, iuc, bytes) = match self {
@@ -71,24 +71,14 @@ impl Purpose {
             Purpose::Offer(_, Usage::Initial) => (BROADCAST, iuc::INITIAL_MAINTENANCE, 0),
             Purpose::Offer(_, Usage::Station(sid)) => (sid, iuc::STATION_MAINTENANCE, 0),
             Purpose::DataGrant(sid, bytes) => {
-                return Kind::of_grant(config, sid, bytes, config.grant_size(bytes).is_short);
+                let is_short = match is_short {
+                    Some(is_short) => is_short,
+                    None => config.grant_size(bytes).is_short,
+                };
+                (sid, data_iuc(config, is_short), bytes)
             },
             Purpose::Idle => (NOBODY, long_iuc(config), 0),
         };
         Kind { sid, iuc, bytes }
-    }
-}
-
-impl Kind {
-    /// The element of a data grant of so many bytes to this SID, where it is known whether it is a short one.
-    pub(crate) fn of_grant(config: &Checked, sid: u16, bytes: u32, is_short: bool) -> Kind
-        requires { is_short ≡ short_by_bytes config.now bytes }
-        ensures { result ≡ kind_of config.now (Purpose.DataGrant sid bytes) }
-    {
-        Kind {
-            sid,
-            iuc: data_iuc(config, is_short),
-            bytes,
-        }
     }
 }

@@ -1,11 +1,11 @@
 //! The walk along a frame: what stands at each offset, up to the end.
 
-ghost use Rattle.std.specs.Prelude.{◌≡◌, ◌<◌, ◌≤◌, ◌+◌, ◌^◌, ◌==◌, List, [], OnOk, IfSome, find, option_copied, length};
+ghost use Rattle.std.specs.Prelude.{◌≡◌, ◌<◌, ◌≤◌, ◌+◌, ◌^◌, ◌==◌, List, [], OnOk, IfSome, None, find, option_copied, length};
 ghost use Rattle.minislots.specs.declared.config.Config.{Config};
 ghost use Rattle.sched_calls.specs.declared.opportunity.Opportunity.{Opportunity as Offered};
 ghost use Rattle.map_build.specs.declared.TheConstants.{MAX_WAITING};
 ghost use Rattle.map_build.specs.Plan.{next_stop, most_grants};
-ghost use Rattle.map_build.specs.Purpose.{allocation_of, HasKind};
+ghost use Rattle.map_build.specs.Purpose.{allocation_of, HasUsage};
 ghost use Rattle.map_build.specs.Spots.{AreInFrame};
 ghost use Rattle.map_build.specs.Walk.{IsWellBegun, IsUnfilled, IsFilled, MeetsNext, ServesNext, Chooses};
 ghost use Rattle.map_build.specs.Opportunities.{MayWait};
@@ -13,7 +13,7 @@ ghost use Rattle.map_build.specs.Left.{left_at, AreAhead};
 
 use crate::draft::Draft;
 use crate::opportunity::first_unmet;
-use crate::purpose::{Allocation, Chosen, Kind, Purpose};
+use crate::purpose::{Allocation, Chosen, Purpose};
 use crate::{MAX_DATA_GRANTS, MAX_GRANTS_AND_PENDING};
 use minislots::Checked;
 use periodic::Spot;
@@ -51,33 +51,23 @@ impl Draft {
         requires ready { IsWellBegun waiting.now self.old }
         requires inside { self.old.offset < self.old.overlay.config.frame }
         ensures stands { Chooses spots.now waiting.now result.allocation self.old self.new }
-        ensures kind { HasKind self.new.overlay.config result }
+        ensures usage { HasUsage self.new.overlay.config result.is_short result.allocation.purpose }
     {
         if let Some(spot) = spot_at(spots, self.offset) {
-            return self.with_kind(allocation_of(*spot));
+            return without_usage(allocation_of(*spot));
         }
         let room = next_stop(spots, self.offset, self.overlay.config()) - self.offset;
         if let Some(offer) = self.meet(waiting, room) {
-            return self.with_kind(offer);
+            return without_usage(offer);
         }
         if let Some(grant) = self.serve(most, room) {
             return grant;
         }
-        self.with_kind(Allocation {
+        without_usage(Allocation {
             offset: self.offset,
             slots: room,
             purpose: Purpose::Idle,
         })
-    }
-
-    // An allocation with what its element says.
-    #[inline(always)]
-    fn with_kind(&self, allocation: Allocation) -> Chosen
-        ensures allocation { result.allocation ≡ allocation }
-        ensures kind { HasKind self.now.overlay.config result }
-    {
-        let kind = allocation.purpose.kind(self.overlay.config());
-        Chosen { allocation, kind }
     }
 
     // The first opportunity that waits and fits. The draft has it from now on.
@@ -109,7 +99,8 @@ impl Draft {
         ensures next { (waiting : List Offered) → IsWellBegun waiting self.old
             → most ≡ most_grants self.old.overlay.config waiting
             → ServesNext waiting room result self.old self.new }
-        ensures kind { IfSome result (HasKind self.new.overlay.config) }
+        ensures usage { IfSome result (λ grant.
+            HasUsage self.new.overlay.config grant.is_short grant.allocation.purpose) }
     {
         if self.grants >= most {
             return None;
@@ -124,8 +115,21 @@ impl Draft {
             slots: size.slots as u16,
             purpose: Purpose::DataGrant(served.sid, served.bytes),
         };
-        let kind = Kind::of_grant(config, served.sid, served.bytes, size.is_short);
-        Some(Chosen { allocation, kind })
+        Some(Chosen {
+            allocation,
+            is_short: Some(size.is_short),
+        })
+    }
+}
+
+// An allocation that is no data grant.
+fn without_usage(allocation: Allocation) -> Chosen
+    ensures allocation { result.allocation ≡ allocation }
+    ensures usage { result.is_short ≡ None }
+{
+    Chosen {
+        allocation,
+        is_short: None,
     }
 }
 

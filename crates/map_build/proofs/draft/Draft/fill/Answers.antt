@@ -21,8 +21,8 @@ next-next-requires-clause-placed c = rw c.loop-self.invariant.1.config c.loop-se
 pub next-next-requires-clause-ahead : goal.next-next-requires-clause-ahead
 next-next-requires-clause-ahead c = c.loop-self.invariant.2.ahead
 
-pub put_allocation-requires-clause-kind : goal.put_allocation-requires-clause-kind
-put_allocation-requires-clause-kind c = c.next-next.ensures.kind
+pub put_allocation-requires-clause-usage : goal.put_allocation-requires-clause-usage
+put_allocation-requires-clause-usage c = c.next-next.ensures.usage
 
 pub put_allocation-requires-clause-fits : goal.put_allocation-requires-clause-fits
 put_allocation-requires-clause-fits c =

@@ -17,7 +17,7 @@ returns-in-Some-clause-stands c =
     let d = c.args.self.now in
     let s = c.in-Some.spot.now in
     let is = spot-here c.args.spots.now d.offset s (sym c.in-Some.ensures) in
-    rw (c.with_kind.ensures.allocation, c.allocation_of.ensures)
+    rw (c.without_usage.ensures.allocation, c.allocation_of.ensures)
     (Chooses-spot c.args.spots.now c.args.waiting.now s d c.requires.placed is.0 is.1)
 
 pub returns-in-Some-meet-clause-stands : goal.returns-in-Some-meet-clause-stands
@@ -27,7 +27,7 @@ returns-in-Some-meet-clause-stands c =
     rw c.config.ensures.value at c.next_stop.ensures.value in
     let none : find (λ s. s.offset == d.offset) c.args.spots.now ≡ None = sym c.in_default.ensures in
     let behind = stop-behind d.overlay.config c.args.spots.now d.offset c.requires.inside none in
-    rw c.with_kind-in-Some-meet.ensures.allocation
+    rw c.without_usage-in-Some-meet.ensures.allocation
     (Chooses-offer c.args.spots.now c.args.waiting.now (c.next_stop.result - d.offset) d (ap (λ n. n - d.offset) stop)
     (omega (arith, stop, behind)) c.requires.waiting c.requires.ready.marks c.in-Some-meet.offer c.meet.new.self
     c.in-Some-meet.ensures)
@@ -61,6 +61,6 @@ returns-clause-stands c =
     let served =
     c.in_default-serve.ensures.next c.args.waiting.now (rw unmet.0 c.requires.ready) (rw unmet.0 c.requires.most) in
     let same : c.serve.new.self ≡ d = served.0 ∙ unmet.0 in
-    rw (c.with_kind-2.ensures.allocation, same)
+    rw (c.without_usage-2.ensures.allocation, same)
     (Chooses-idle c.args.spots.now c.args.waiting.now (c.next_stop.result - d.offset) d (ap (λ n. n - d.offset) stop)
     (omega (arith, stop, behind)) c.requires.waiting c.requires.ready.marks unmet.1 (rw unmet.0 at served.1))
