@@ -4,7 +4,7 @@ ghost use Rattle.std.specs.Prelude.{◌≡◌, ◌≤◌, ◌^◌};
 ghost use Rattle.bursts_command.specs.Numbers.{slots_of, request_slots, by_profile, raw_bits, burst_of};
 
 use crate::channel::Channel;
-use minislots::{Bursts, Checked, Config, Descriptors, Profile};
+use minislots::{Bursts, Checked, Config, Descriptors, GrantSize, Profile};
 
 /// The minislots of a burst of so many bytes by each profile of a channel.
 #[derive(Clone, Copy)]
@@ -86,8 +86,7 @@ fn raw_bits(config: &Checked, is_short: bool) -> u64
 pub(crate) fn burst_of(config: &Checked, bytes: u32) -> Burst
     ensures { result ≡ burst_of config.now bytes }
 {
-    let slots = config.slots_for(bytes);
-    let is_short = config.is_short(bytes, slots);
+    let GrantSize { slots, is_short } = config.grant_size(bytes);
     let raw = slots * raw_bits(config, is_short);
     let efficiency = (80_000 * u64::from(bytes)).checked_div(raw).unwrap_or(0);
     Burst {

@@ -11,7 +11,7 @@ use std::fmt::Write;
 fn has_short_grants(config: &Checked) -> bool {
     let most = config.bytes_in(config.short_max());
     for bytes in 1..=u32::try_from(most).unwrap_or(u32::MAX) {
-        if config.is_short(bytes, config.slots_for(bytes)) {
+        if config.grant_size(bytes).is_short {
             return true;
         }
     }

@@ -1,5 +1,6 @@
 pub mod Admission
 pub mod Amounts
+pub mod Boxes
 pub mod Buckets
 pub mod Changes
 pub mod FirstGrant
@@ -7,10 +8,13 @@ pub mod Insertion
 pub mod Levels
 pub mod Lines
 pub mod Matching
+pub mod Merging
+pub mod Once
 pub mod Order
 pub mod Overlays
+pub mod InParts
+pub mod Passing
 pub mod Pendings
-pub mod Pigeons
 pub mod Places
 pub mod Profile
 pub mod Queues
@@ -22,10 +26,13 @@ pub mod RowsChoice
 pub mod NextServed
 pub mod Serving
 pub mod InLine
+pub mod InOrder
 pub mod Shifts
 pub mod Sinking
 pub mod Started
+pub mod StillWaiting
 pub mod Steps
+pub mod SameEntries
 pub mod Searches
 pub mod Sums
 pub mod TakenOver

@@ -1,10 +1,13 @@
 -- An overlay as its book's flows are, and with one data grant more.
-use Rattle.std.proofs.Common.{◌≡◌, ◌≢◌, refl, sym, ap, ◌∙◌, subst, ℕ, ◌+◌, ◌<◌, ◌==◌, ◌⊎◌, inl, inr, min, Option, List, [], ◌∷◌, ◌++◌}
-use Rattle.std.proofs.Common.{map, set, length, get_or, remove, slice_get, Some, option_map, arith}
+use Rattle.std.proofs.Common.{◌≡◌, ◌≢◌, refl, sym, ap, ◌∙◌, subst, ℕ, ◌+◌, ◌≤◌, ◌==◌, ◌⊎◌, inl, inr, min, Option, Bool, false, cond, ◌<◌}
+use Rattle.std.proofs.Common.{List, [], ◌∷◌, ◌++◌}
+use Rattle.std.proofs.Common.{map, filter, true, set, get_or, slice_get, Some, option_map, arith}
 use Rattle.std.specs.List.{AllZip, AllByRecursion}
+use Rattle.std.specs.Option.{IfSome}
 use Rattle.std.proofs.lemmas.Bool.{cases_eq, cond_both}
+use Rattle.std.proofs.lemmas.Bool.Decides.{nat_tests}
 use Rattle.std.proofs.lemmas.List.{length-set, get_or-set_same}
-use Rattle.std.proofs.lemmas.Option.{slice_get-map, slice_get-get_or, slice_get_within, get_or_from_slice_get, slice_get_read}
+use Rattle.std.proofs.lemmas.Option.{slice_get-map, slice_get-get_or, slice_get_within, get_or_from_slice_get}
 use Rattle.minislots.specs.declared.config.Config.{Config}
 use Rattle.minislots.specs.Config.{IsLawful}
 use Rattle.minislots.specs.Units.{bytes_in}
@@ -12,19 +15,28 @@ use Rattle.sched_calls.specs.FlowSpec.{rank_of, rate_of, burst_of}
 use Rattle.flow_book.specs.declared.flow.Flow.{Flow}
 use Rattle.flow_book.specs.declared.flow.Grant.{Grant}
 use Rattle.flow_book.specs.declared.queue.Waiting.{Waiting}
-use Rattle.flow_book.specs.Flows.{LiveFlow, with_grant}
-use Rattle.flow_book.specs.Bucket.{StandsFor, most_of, HasOneMore}
+use Rattle.flow_book.specs.Flows.{LiveFlow, with_grant, outstanding}
+use Rattle.flow_book.specs.Bucket.{StandsFor, IsSettled, most_of, HasOneMore, StaysSettled}
 use Rattle.flow_book.specs.Choice.{last_start, IsAmount, HasStartedBy}
 use Rattle.flow_book.specs.Entry.{live, IsBook, IsTurn, KeepsSums}
 use Rattle.flow_book.specs.Book.{changed}
-use Rattle.flow_book.specs.Queue.{IsIn, IsQueue, HasStartedQueue, IsFirstInTurn}
+use Rattle.flow_book.specs.Queue.{entry_of, AreOnce, IsShortQueue, IsAt, IsIn, IsQueue, IsQueueAmong, IsQueueIn, IsOrderIn, served_of, HasRoom}
+use Rattle.flow_book.specs.Queue.{still_waits}
+use Rattle.flow_book.specs.declared.parts.Standing.{Standing}
+use Rattle.flow_book.specs.declared.parts.Standing.TheVariants.{Queued, Served}
+use Rattle.flow_book.specs.Parts.{one_at, HasStartedIn, IsNextIn, IsPutIn, IsPutBack, IsPut}
 use Rattle.flow_book.specs.Overlay.{IsSameFlow, IsOverlay}
+use Rattle.flow_book.specs.Taking.{CanBeTaken}
 use Rattle.flow_book.proofs.Amounts.{amount-of_most, most-in-bucket}
 use Rattle.flow_book.proofs.Changes.{placed-changed}
+use Rattle.flow_book.proofs.InParts.{served-each, order-none}
 use Rattle.flow_book.proofs.NextServed.{IsFound, found-next, served-book}
-use Rattle.flow_book.proofs.Queues.{with-one, in-new, in-old, in-rest, taken-out, among-others, same-but, put-among}
-use Rattle.flow_book.proofs.Serving.{StandsIn, stands-in}
-use Rattle.flow_book.proofs.Sums.{last-more, bytes-added}
+use Rattle.flow_book.proofs.Queues.{with-one, in-new, in-old, in-one, among-as, among-same, among-others, same-but}
+use Rattle.flow_book.proofs.Queues.{all-both, stands-at, put-among, pass-among}
+use Rattle.flow_book.proofs.Once.{all-insert, in-inserted, in-still, once-insert}
+use Rattle.flow_book.proofs.Serving.{StandsIn, stands-at-place, kept-of}
+use Rattle.flow_book.proofs.StillWaiting.{all-at, order-in}
+use Rattle.flow_book.proofs.Sums.{last-more, last-started, bytes-added}
 use Rattle.flow_book.proofs.Windows.{one_more}
 
 pub same-all : (flows : List LiveFlow) → AllZip IsSameFlow flows flows
@@ -32,23 +44,43 @@ same-all [] = tt
 same-all (f ∷ flows) = (refl, same-all flows)
 
 -- over a book's flows nothing is granted yet
-pub over-book : (c : Config) (items : List Flow) (queue : List Waiting) → IsBook c items → IsQueue items queue
-    → IsOverlay c (map live items) (map live items) queue
-over-book c items queue book order = record {
+pub over-book : (c : Config) (items : List Flow) (is_long : Bool) (queue : List Waiting) (capacity : ℕ) → IsBook c items
+    → IsQueue items queue → HasRoom is_long queue [] capacity
+    → IsOverlay c (map live items) (map live items) is_long queue [] capacity 0
+over-book c items is_long queue capacity book order room = record {
   items = items;
   shows = refl;
   book = book;
-  order = order;
+  order = order-none is_long items queue order;
+  room = room;
+  passed = λ many. tt;
   same = same-all (map live items);
   rest = λ place. inr refl;
 }
 
 -- the grants of an overlay have started where those of its flows have
-pub started-queue : (c : Config) (before flows : List LiveFlow) (queue : List Waiting) (start : ℕ)
-    → (o : IsOverlay c before flows queue) → AllByRecursion (HasStartedBy start) flows
-    → HasStartedQueue c o.items queue start
-started-queue c before flows queue start o started =
-    record { book = o.book; order = o.order; started = rw o.shows started }
+pub started-queue : (c : Config) (before flows : List LiveFlow) (is_long : Bool) (queue served : List Waiting)
+    (capacity first start : ℕ)
+    → (o : IsOverlay c before flows is_long queue served capacity first) → AllByRecursion (HasStartedBy start) flows
+    → HasStartedIn c o.items queue served start
+started-queue c before flows is_long queue served capacity first start o started = record {
+  book = o.book;
+  order = order-in is_long o.items queue served o.order;
+  started = rw o.shows started;
+}
+
+-- the flows of a book can be taken over from those that a MAP served
+pub can-be-taken : (c : Config) (before flows : List LiveFlow) (is_long : Bool) (queue served : List Waiting)
+    (capacity first : ℕ) (old : List Flow) → (o : IsOverlay c before flows is_long queue served capacity first)
+    → IsBook c old → map live old ≡ before → CanBeTaken c old o.items (served_of is_long queue served)
+can-be-taken c before flows is_long queue served capacity first old o book is = record {
+  before = book;
+  book = o.book;
+  each = (served-each is_long o.items queue served o.order).0;
+  once = (served-each is_long o.items queue served o.order).1;
+  same = rw (is, o.shows) o.same;
+  rest = rw (is, o.shows) o.rest;
+}
 
 same-grown : (f g : LiveFlow) (grant : Grant) → IsSameFlow f g → IsSameFlow f (with_grant grant g)
 same-grown f g grant same = ap (λ (h : LiveFlow). record h { grants = g.grants ++ grant ∷ [] }) same
@@ -64,9 +96,55 @@ same-changed sid grant (f ∷ before) (g ∷ flows) all = (
   same-changed sid grant before flows all.1,
 )
 
+-- one of the two parts has a flow
+pub one-stands : (c : Config) (items : List Flow) (queue served : List Waiting) (start : ℕ) (at : Standing)
+    (w : Waiting)
+    → HasStartedIn c items queue served start → one_at at queue served ≡ Some w → still_waits w ≡ true
+    → StandsIn c items start w
+one-stands c items queue served start (Queued i) w has here still =
+    stands-at-place c items start w has.book has.started (kept-of items queue i w here still has.order.others.each)
+one-stands c items queue served start (Served i) w has here still =
+    stands-at-place c items start w has.book has.started
+    (all-at (IsAt items) served i w has.order.served_ones.each here)
+
+-- the one that stands where the next stands is the next
+next-waiting : (c : Config) (items : List Flow) (queue served : List Waiting) (start room : ℕ) (at : Standing)
+    (w : Waiting)
+    → one_at at queue served ≡ Some w → (first : IsNextIn c items queue served start room at) → first.waiting ≡ w
+next-waiting c items queue served start room at w here first =
+    let e : Some first.waiting ≡ Some w = sym first.here ∙ here in cc
+
+-- and still waits
+pub next-waits : (c : Config) (items : List Flow) (queue served : List Waiting) (start room : ℕ) (at : Standing)
+    (w : Waiting)
+    → one_at at queue served ≡ Some w → IsNextIn c items queue served start room at → still_waits w ≡ true
+next-waits c items queue served start room at w here first =
+    subst (λ (v : Waiting). still_waits v ≡ true)
+    (next-waiting c items queue served start room at w here first) first.waits
+
+module _ (c : Config) (items : List Flow) (queue served : List Waiting) (start room : ℕ) (at : Standing) (w : Waiting)
+    (has : HasStartedIn c items queue served start) (next : IsNextIn c items queue served start room at)
+    (here : one_at at queue served ≡ Some w) where
+  next-stands : StandsIn c items start w
+  next-stands =
+      one-stands c items queue served start at w has here (next-waits c items queue served start room at w here next)
+
+  -- so its bucket is counted from a minislot on that is no later
+  pub next-since : w.bucket.since ≤ start
+  next-since = rw (sym next-stands.bucket) (next-stands.keeps.bucket.since start next-stands.started)
+
+  -- and its turn after a grant is no earlier
+  pub next-later : (n : ℕ) → ((rank : ℕ) (last : Option ℕ) (sid : ℕ) → IsTurn rank last sid w.turn
+      → IfSome last (λ m. m ≤ start) → w.turn ≤ n) → w.turn ≤ n
+  next-later n later =
+      let f = next-stands.flow in
+      later (rank_of f.spec) (last_start f.grants.items) f.sid
+      (subst (IsTurn (rank_of f.spec) (last_start f.grants.items) f.sid) next-stands.turn next-stands.keeps.turn.1)
+      (last-started start f.grants.items next-stands.started)
+
 -- the flow that is next, the flows with its grant, and their queue
-pub record IsServed (c : Config) (items : List Flow) (queue : List Waiting) (start room index bytes : ℕ) (w new : Waiting)
-    : Type 0 where
+pub record IsServed (c : Config) (items : List Flow) (is_long : Bool) (queue served queue_after served_after : List
+    Waiting) (start room bytes : ℕ) (w new : Waiting) : Type 0 where
   pub flow : Flow
   pub found : IsFound c items start room w.place flow
   pub amount : IsAmount c (live flow) start room bytes
@@ -74,21 +152,24 @@ pub record IsServed (c : Config) (items : List Flow) (queue : List Waiting) (sta
   pub grown : List Flow
   pub shows : map live grown ≡ changed flow.sid (with_grant (record { start = start; bytes = bytes })) (map live items)
   pub book : IsBook c grown
-  pub order : IsQueue grown (with-one new (remove queue index))
-  pub rest : (before : List LiveFlow) → ((place : ℕ) → IsIn place queue
+  pub order : IsOrderIn is_long grown queue_after served_after
+  pub rest : (before : List LiveFlow) → ((place : ℕ) → IsIn place (served_of is_long queue served)
       ⊎ (slice_get (map live items) place ≡ slice_get before place)) → (place : ℕ)
-      → IsIn place (with-one new (remove queue index)) ⊎ (slice_get (map live grown) place ≡ slice_get before place)
+      → IsIn place (served_of is_long queue_after served_after) ⊎ (slice_get (map live grown) place ≡ slice_get before place)
 
-module _ (c : Config) (items : List Flow) (queue : List Waiting) (start room index bytes more : ℕ) (w new : Waiting)
-    (lawful : IsLawful c) (has : HasStartedQueue c items queue start) (lt : index < length queue)
-    (here : w ≡ get_or queue index w) (first : IsFirstInTurn c items queue start room index)
+module _ (c : Config) (items : List Flow) (queue served queue_after served_after : List Waiting)
+    (start room bytes more : ℕ) (at : Standing) (w new : Waiting) (lawful : IsLawful c)
+    (has : HasStartedIn c items queue served start) (here : one_at at queue served ≡ Some w)
+    (first : IsNextIn c items queue served start room at)
     (cap : more ≡ min (bytes_in c room) c.grant_cap) (most : bytes ≡ most_of w.bucket start (min w.wants more))
     (wants : new.wants + bytes ≡ w.wants) (same : new.place ≡ w.place)
-    (bucket : HasOneMore w.bucket new.bucket start bytes)
+    (bucket : HasOneMore w.bucket new.bucket start bytes) (settled : StaysSettled w.bucket new.bucket start bytes)
     (turn : (rank : ℕ) (last : Option ℕ) (sid : ℕ) → IsTurn rank last sid w.turn
     → IsTurn rank (Some start) sid new.turn) where
   stands : StandsIn c items start w
-  stands = stands-in c items queue start index w has lt here
+  stands =
+      one-stands c items queue served start at w has here
+      (next-waits c items queue served start room at w here first)
 
   abbrev f : Flow
   f = stands.flow
@@ -98,10 +179,9 @@ module _ (c : Config) (items : List Flow) (queue : List Waiting) (start room ind
 
   first-is : first.flow ≡ f
   first-is =
-      let e : Some first.waiting ≡ Some w = sym first.here ∙ slice_get_read queue (length queue) index w refl lt here in
-      let equal : first.waiting ≡ w = cc in
       let e' : Some first.flow ≡ Some f =
-      sym first.at ∙ ap (λ (v : Waiting). slice_get items v.place) equal ∙ stands.at in
+      sym first.stands ∙ ap (λ (v : Waiting). slice_get items v.place)
+      (next-waiting c items queue served start room at w here first) ∙ stands.at in
       cc
 
   -- the flow is the one that is next
@@ -139,6 +219,8 @@ module _ (c : Config) (items : List Flow) (queue : List Waiting) (start room ind
     bucket = bucket c (rate_of f.spec) (burst_of f.spec) f.grants.items
         (subst (λ b. StandsFor c (rate_of f.spec) (burst_of f.spec) b f.grants.items) stands.bucket stands.keeps.bucket)
         stands.started;
+    settled = settled f.grants.items
+        (subst (λ b. IsSettled b f.grants.items) stands.bucket stands.keeps.settled) stands.started;
   }
 
   -- the flows with it
@@ -160,33 +242,128 @@ module _ (c : Config) (items : List Flow) (queue : List Waiting) (start room ind
       slice_get-get_or granted-items w.place granted-flow (omega (arith, length-set items w.place granted-flow, within))
       ∙ ap Some (get_or-set_same items w.place granted-flow granted-flow within)
 
-  -- and the queue
-  granted-queue : IsQueue granted-items (with-one new (remove queue index))
-  granted-queue =
-      let out = rw (sym here) at (taken-out items queue index w lt has.order) in
-      let others = among-others w.place items granted-items (remove queue index) (same-but items w.place granted-flow) out in
-      put-among c granted-items granted-book (λ other. other ≢ w.place) (λ other. Unit {0}) (remove queue index) w.place
-      granted-flow at-granted (λ k may. cases_eq k w.place) (λ k other. tt) others new same refl
-      (omega (arith, wants, stands.wants, bytes-added f.grants.items start bytes)) refl (λ differ. differ refl) tt
+  new-wants : new.wants ≡ outstanding (live granted-flow)
+  new-wants = omega (arith, wants, stands.wants, bytes-added f.grants.items start bytes)
+
+  waiting-by : (b : Bool) → still_waits new ≡ b → (left : List Waiting)
+      → IsQueueAmong granted-items (λ other. other ≢ w.place) left → IsQueue granted-items (cond b (with-one new left) left)
+  waiting-by true still left there =
+      put-among c granted-items granted-book (λ other. other ≢ w.place) (λ other. Unit {0}) left w.place
+      granted-flow at-granted (λ k may. cases_eq k w.place) (λ k other. tt) there new same refl new-wants refl
+      (λ differ. differ refl) tt
+  waiting-by false idle left there =
+      pass-among c granted-items granted-book (λ other. other ≢ w.place) (λ other. Unit {0}) left w.place
+      granted-flow at-granted (λ k may. cases_eq k w.place) (λ k other. tt) there
+      (λ more. let some : 0 < new.wants = omega (arith, new-wants, more) in absurd (grind (arith, nat_tests, idle)))
+
+  module _ (put : IsPutIn items new served queue_after served_after) where
+    -- those left of those served
+    left-queue : IsQueueAmong granted-items (λ k. IsIn k put.left) put.left
+    left-queue =
+        among-same (λ k. IsIn k put.left) w.place items granted-items put.left
+        (λ k in-it equal. put.out (subst (λ n. IsIn n put.left) (equal ∙ sym same) in-it))
+        (same-but items w.place granted-flow) put.among
+
+    put-in : IsQueueAmong granted-items (λ k. IsIn k (with-one new put.left)) (with-one new put.left)
+    put-in =
+        put-among c granted-items granted-book (λ k. IsIn k put.left) (λ k. IsIn k
+        (with-one new put.left)) put.left w.place
+        granted-flow at-granted (λ k in-it. elim (in-one k new put.left in-it) [
+          | inl equal ↦ inl (equal ∙ same)
+          | inr old ↦ inr old
+        ]) (λ k in-it. in-old k new put.left in-it) left-queue new same refl
+        (omega (arith, wants, stands.wants, bytes-added f.grants.items start bytes)) refl
+        (λ in-it. put.out (subst (λ n. IsIn n put.left) (sym same) in-it))
+        (subst (λ n. IsIn n (with-one new put.left)) same (in-new new put.left))
+
+    -- and the others
+    others-queue : IsQueueAmong granted-items (λ k. IsIn k (with-one new put.left) → ⊥) (filter still_waits queue_after)
+    others-queue =
+        let Others : ℕ → Type 0 = λ k. (IsIn k put.left → ⊥) × (k ≢ new.place) in
+        among-as granted-items Others (λ k. IsIn k (with-one new put.left) → ⊥) (filter still_waits queue_after)
+        (λ k both in-it. elim (in-one k new put.left in-it) [
+          | inl equal ↦ both.1 equal
+          | inr old ↦ both.0 old
+        ])
+        (λ k out. (
+          (λ in-it. out (in-old k new put.left in-it)),
+          (λ equal. out (subst (λ n. IsIn n (with-one new put.left)) (sym equal) (in-new new put.left))),
+        ))
+        (among-same Others w.place items granted-items (filter still_waits queue_after)
+        (λ k both equal. both.1 (equal ∙ sym same)) (same-but items w.place granted-flow) put.others)
+
+    long-queue : IsQueueIn granted-items queue_after served_after
+    long-queue =
+        subst (IsQueueIn granted-items queue_after) (sym put.is) (record { served_ones = put-in; others = others-queue })
+
+  -- where few wait it stays in the queue
+  module _ (put : IsPutBack items new queue queue_after) where
+    waiting-queue : (b : Bool) → still_waits new ≡ b
+        → IsQueue granted-items (cond b (with-one new (filter still_waits put.others)) (filter still_waits put.others))
+    waiting-queue b still =
+        let left = filter still_waits put.others in
+        let others = subst (λ k. IsQueueAmong items (λ other. other ≢ k) left) same put.among in
+        let there = among-others w.place items granted-items left (same-but items w.place granted-flow) others in
+        waiting-by b still left there
+
+    short-queue : IsShortQueue granted-items queue_after
+    short-queue =
+        let apart = subst (λ k. AllByRecursion (λ v. v.place ≢ k) put.others) same put.new in
+        let each =
+        all-both (IsAt items) (λ v. v.place ≢ w.place) (IsAt granted-items) put.others
+        (λ v at' differ. ap (option_map entry_of) (same-but items w.place granted-flow v.place differ) ∙ at') put.each
+        apart in
+        let stands-new : IsAt granted-items new =
+        stands-at items new w.place granted-flow (slice_get_within items w.place f stands.at) refl new-wants refl same in
+        record {
+          waiting = subst (IsQueue granted-items) (sym put.still) (waiting-queue (still_waits new) refl);
+          each = subst (AllByRecursion (IsAt granted-items)) (sym put.is)
+              (all-insert (IsAt granted-items) put.others put.at new put.within stands-new each);
+          once = subst AreOnce (sym put.is) (once-insert put.others put.at new put.within put.once put.new);
+        }
+
+  granted-order : (b : Bool) → IsPut b items new queue served queue_after served_after
+      → IsOrderIn b granted-items queue_after served_after
+  granted-order true put = long-queue put
+  granted-order false put = (short-queue put.0, put.1)
 
   -- each other flow is as it was
-  granted-rest : (before : List LiveFlow) → ((place : ℕ) → IsIn place queue
+  others-rest : (ones left after : List Waiting) → IsIn new.place after
+      → ((place : ℕ) → IsIn place left → IsIn place after)
+      → ((place : ℕ) → IsIn place ones → (place ≡ new.place) ⊎ IsIn place left)
+      → (before : List LiveFlow) → ((place : ℕ) → IsIn place ones
       ⊎ (slice_get (map live items) place ≡ slice_get before place)) → (place : ℕ)
-      → IsIn place (with-one new (remove queue index)) ⊎ (slice_get (map live granted-items) place ≡ slice_get before place)
-  granted-rest before rest place = elim (cases_eq place w.place) [
-    | inl at ↦ inl (subst (λ k. IsIn k (with-one new (remove queue index))) (same ∙ sym at)
-        (in-new new (remove queue index)))
+      → IsIn place after ⊎ (slice_get (map live granted-items) place ≡ slice_get before place)
+  others-rest ones left after has still-has stay before rest place = elim (cases_eq place w.place) [
+    | inl at-it ↦ inl (subst (λ k. IsIn k after) (same ∙ sym at-it) has)
     | inr differ ↦ elim (rest place) [
-      | inl waits ↦ inl (in-old place new (remove queue index) (in-rest place queue index w lt
-          (λ at. differ (sym at ∙ ap (λ (v : Waiting). v.place) (sym here))) waits))
+      | inl was ↦ elim (stay place was) [
+        | inl equal ↦ absurd (differ (equal ∙ same))
+        | inr stays ↦ inl (still-has place stays)
+      ]
       | inr is ↦ inr (slice_get-map live granted-items place
           ∙ ap (λ o. option_map live o) (same-but items w.place granted-flow place differ)
           ∙ sym (slice_get-map live items place) ∙ is)
     ]
   ]
 
-  pub is-served : IsServed c items queue start room index bytes w new
-  is-served = record {
+  granted-rest : (b : Bool) → IsPut b items new queue served queue_after served_after
+      → (before : List LiveFlow) → ((place : ℕ) → IsIn place (served_of b queue served)
+      ⊎ (slice_get (map live items) place ≡ slice_get before place)) → (place : ℕ)
+      → IsIn place (served_of b queue_after served_after)
+      ⊎ (slice_get (map live granted-items) place ≡ slice_get before place)
+  granted-rest true put =
+      others-rest served put.left served_after (subst (IsIn new.place) (sym put.is) (in-new new put.left))
+      (λ k here. subst (IsIn k) (sym put.is) (in-old k new put.left here)) put.stay
+  granted-rest false put =
+      let back = put.0 in
+      others-rest queue back.others queue_after
+      (subst (IsIn new.place) (sym back.is) (in-inserted back.others back.at new back.within))
+      (λ k here. subst (IsIn k) (sym back.is) (in-still k back.others back.at new back.within here)) back.stay
+
+  pub is-served : (b : Bool) → IsPut b items new queue served queue_after served_after
+      → IsServed c items b queue served queue_after served_after start room bytes w new
+  is-served b put = record {
     flow = f;
     found = found;
     amount = amount;
@@ -195,6 +372,6 @@ module _ (c : Config) (items : List Flow) (queue : List Waiting) (start room ind
     grown = granted-items;
     shows = granted-shows;
     book = granted-book;
-    order = granted-queue;
-    rest = granted-rest;
+    order = granted-order b put;
+    rest = granted-rest b put;
   }

@@ -10,7 +10,7 @@ use Rattle.flow_book.specs.declared.queue.Waiting.{Waiting}
 use Rattle.flow_book.specs.Sids.{put_in}
 
 -- where the next one is copied over it, the others are left without the next one
-remove-next : (queue : List Waiting) (at : ℕ) (d : Waiting) → suc at < length queue
+pub remove-next : (queue : List Waiting) (at : ℕ) (d : Waiting) → suc at < length queue
     → remove (set queue at (get_or queue (suc at) d)) (suc at) ≡ remove queue at
 remove-next [] at d lt = absurd (omega arith)
 remove-next (w ∷ []) at d lt = absurd (omega arith)

@@ -61,6 +61,7 @@ copy-sums c f g is keeps =
       granted = is.granted ∙ keeps.granted ∙ ap bytes_of (sym grants);
       turn = rw (spec, grants, sid, is.turn) keeps.turn;
       bucket = rw (spec, grants, is.bucket) keeps.bucket;
+      settled = rw (grants, is.bucket) keeps.settled;
     }
 
 -- flows keep their sums where a copy of one takes its place
@@ -85,7 +86,13 @@ asked-book c sid bytes heard items i f are is takes =
     let sound = placed-is_sound c sid items i f are.sound is in
     let keeps = placed-sums c sid items i f are is in
     placed-book c sid items i (asked_more bytes heard f) f are is refl (asked-sound c bytes heard (live f) sound)
-    (record { asks = λ some. takes; granted = keeps.granted; turn = keeps.turn; bucket = keeps.bucket })
+    (record {
+      asks = λ some. takes;
+      granted = keeps.granted;
+      turn = keeps.turn;
+      bucket = keeps.bucket;
+      settled = keeps.settled;
+    })
 
 -- and so where that is with a lawful grant more
 pub granted-book : (c : Config) (sid start bytes room : ℕ) (items : List Flow) (i : ℕ) (e f : Flow) → IsBook c items

@@ -10,7 +10,7 @@ use Rattle.flow_book.specs.Batches.{with_request}
 use Rattle.flow_book.specs.Flows.{LiveFlow, bytes_of, granted}
 use Rattle.flow_book.specs.Ceiling.{KeepsCeiling}
 use Rattle.flow_book.specs.Choice.{last_start}
-use Rattle.flow_book.specs.Bucket.{StandsFor}
+use Rattle.flow_book.specs.Bucket.{StandsFor, IsSettled}
 use Rattle.flow_book.specs.Book.{Room, Ascend}
 
 -- the live flow that the fields stand for
@@ -51,12 +51,13 @@ abbrev pub KnowsTurn : Flow → Type 0
 KnowsTurn f = (rank_of f.spec ≤ 255) × IsTurn (rank_of f.spec) (last_start f.grants.items) f.sid f.turn
 
 -- what a flow keeps beside its grants is theirs: their bytes, its turn after the last one, and the bucket of its rate
--- and burst that stands for them; and only a flow that takes requests has asked for bytes
+-- and burst that stands for them and is settled by them; and only a flow that takes requests has asked for bytes
 pub record KeepsSums (c : Config) (f : Flow) : Type 0 where
   pub asks : 0 < f.asked → takes_requests f.spec ≡ true
   pub granted : f.granted ≡ bytes_of f.grants.items
   pub turn : KnowsTurn f
   pub bucket : StandsFor c (rate_of f.spec) (burst_of f.spec) f.bucket f.grants.items
+  pub settled : IsSettled f.bucket f.grants.items
 
 -- g is a copy of f, with what is kept beside its grants
 pub record IsCopy (f g : Flow) : Type 0 where

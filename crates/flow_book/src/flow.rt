@@ -11,7 +11,7 @@ ghost use Rattle.flow_book.specs.Flows.{granted, outstanding, with_grant};
 ghost use Rattle.flow_book.specs.Choice.{is_before, IsEligible, IsMost, KeepsWith};
 ghost use Rattle.flow_book.specs.Choice.{IsNextOf, HasStartedBy};
 ghost use Rattle.sched_calls.specs.FlowSpec.{takes_requests};
-ghost use Rattle.flow_book.specs.Bucket.{HaveStartedBy, StandsFor};
+ghost use Rattle.flow_book.specs.Bucket.{HaveStartedBy, StandsFor, IsSettled};
 ghost use Rattle.flow_book.specs.Entry.{live, room_in, IsSoundFlow, IsSoundBook, IsTurn, KnowsTurn, KeepsSums};
 ghost use Rattle.flow_book.specs.Entry.{asked_more};
 ghost use Rattle.flow_book.specs.Queue.{entry_of};
@@ -21,6 +21,7 @@ ghost use Rattle.flow_book.specs.declared.flow.Flow.{Flow};
 
 use crate::batches::Batches;
 use crate::bucket::Bucket;
+use crate::flows::Flows;
 use crate::granted::GrantList;
 use crate::queue::Waiting;
 use minislots::Checked;
@@ -237,6 +238,8 @@ impl Flow {
             → self.old.granted ≡ granted (live self.old) → KnowsTurn self.old
             → StandsFor c (rate_of self.old.spec) (burst_of self.old.spec) self.old.bucket
             (self.old.grants.items ++ record { start = start; bytes = bytes } ∷ [])
+            → IsSettled self.old.bucket
+            (self.old.grants.items ++ record { start = start; bytes = bytes } ∷ [])
             → KeepsSums c self.new }
     {
         self.granted += u64::from(bytes);
@@ -247,7 +250,7 @@ impl Flow {
 
 // The flow that is served first at this minislot, of those that may be served.
 pub(crate) fn first_eligible<'a>(
-    flows: &'a [Flow],
+    flows: &'a Flows,
     config: &Checked,
     start: u64,
     room: u32,
@@ -259,7 +262,8 @@ pub(crate) fn first_eligible<'a>(
         (map live flows.now) (option_map live (option_copied result)) }
 {
     let mut next = None;
-    for flow in flows {
+    for place in 0..flows.len() {
+        let flow = flows.at(place);
         if both(flow.waits(), flow.comes_before(next)) && flow.is_eligible(config, start, room) {
             next = Some(flow);
         }
@@ -268,7 +272,7 @@ pub(crate) fn first_eligible<'a>(
 }
 
 // Gives each flow room for so many more grants.
-pub(crate) fn reserve_each(flows: &mut [Flow], grants: usize)
+pub(crate) fn reserve_each(flows: &mut Flows, grants: usize)
     ensures same { map live flows.new ≡ map live flows.old }
     ensures entries { map entry_of flows.new ≡ map entry_of flows.old }
     ensures room { (k : ℕ) (d : Flow) → k < length flows.new
@@ -277,7 +281,8 @@ pub(crate) fn reserve_each(flows: &mut [Flow], grants: usize)
     ensures sums { (c : Config)
         → AllByRecursion (KeepsSums c) flows.old → AllByRecursion (KeepsSums c) flows.new }
 {
-    for flow in flows.iter_mut() {
+    for place in 0..flows.len() {
+        let flow = flows.at_mut(place);
         flow.grants = GrantList::with_room(&flow.grants, &grants);
     }
 }

@@ -1,30 +1,54 @@
 //! The flows of a book with the data grants of a MAP that is planned.
 
-ghost use Rattle.std.specs.Prelude.{◌≡◌, map, filter, IfOk, IfSome, None, option_map, true};
+ghost use Rattle.std.specs.Prelude.{◌≡◌, [], Some, map, filter, IfOk, IfSome, None, option_map, true};
+ghost use Rattle.std.specs.Prelude.{vec_capacity};
 ghost use Rattle.std.specs.List.{AllByRecursion};
 ghost use Rattle.flow_book.specs.Flows.{flow_of, with_grant};
 ghost use Rattle.flow_book.specs.Choice.{IsAmount, IsNextSid, HasStartedBy};
 ghost use Rattle.flow_book.specs.Entry.{live, IsBook};
-ghost use Rattle.flow_book.specs.Queue.{IsQueue};
+ghost use Rattle.flow_book.specs.Queue.{IsQueue, HasRoom};
 ghost use Rattle.flow_book.specs.Shown.{is_shown, ack_of};
 ghost use Rattle.flow_book.specs.Book.{changed};
 
-use crate::flow::{Flow, Grant, Room, Served};
+use crate::flow::{Grant, Room, Served};
 use crate::flow_list::{FlowList, list_of};
-use crate::queue::{Waiting, first_in_turn, move_back};
+use crate::flows::Flows;
+use crate::parts::serve_first;
+use crate::queue::Waiting;
 use crate::shown::{Shown, show};
-use crate::taking::{put_back, take_over};
+use crate::taking::{merge, put_back, take_over};
 use minislots::Checked;
 use std::alloc::AllocError;
 use std::marker::Model;
 
+// Of so many flows that wait one that is served stays in their queue: it moves back by few steps, and takes no memory.
+const FEW: usize = 32;
+
+// Memory for as many served flows as wait where they are many, and else none.
+fn room_for_served(queue: &Vec<Waiting>, is_long: bool) -> Result<Vec<Waiting>, AllocError>
+    ensures none { IfOk result (λ served. served.items ≡ []) }
+    ensures room { IfOk result (λ served. HasRoom is_long queue.now.items [] (vec_capacity served)) }
+{
+    if is_long {
+        return Vec::with_capacity(*queue.allocator(), queue.len());
+    }
+    Ok(Vec::new(*queue.allocator()))
+}
+
 /// The live flows of a book with the data grants of a MAP that is planned. The book stays as it is until
-/// [`Book::take_in`](crate::Book::take_in). Memory is taken for the flows that wait alone.
+/// [`Book::take_in`](crate::Book::take_in). Memory is taken for the flows that wait, and where they are many for those
+/// that the MAP serves.
 #[derive(Drop)]
 pub struct Overlay {
     config: Checked,
-    // The flows that waited before the MAP, by their turns.
+    // The flows that waited before the MAP, by their turns. Where they are many one that it served wants nothing here,
+    // and else it has here what it still wants.
     queue: Vec<Waiting>,
+    // Where many wait none of the queue before this place wants anything.
+    first: usize,
+    // Where many waited those that the MAP served, with what they still want, by their turns.
+    served: Vec<Waiting>,
+    is_long: bool,
     // The live flows before the MAP, and with its data grants, for contracts alone.
     before: FlowList,
     flows: FlowList,
@@ -35,6 +59,7 @@ impl Model for Overlay {
 
     ghost Value = { OverlayView };
 
+    ghost use Rattle.std.specs.Prelude.{vec_capacity};
     ghost use Rattle.flow_book.specs.Overlay.{IsOverlay};
 
     ghost view = { λ o. record {
@@ -43,27 +68,38 @@ impl Model for Overlay {
       flows = o.flows.items;
     } };
 
-    ghost invariant = { λ o. IsOverlay o.config o.before.items o.flows.items o.queue.items };
+    ghost invariant = { λ o.
+        IsOverlay o.config o.before.items o.flows.items o.is_long o.queue.items o.served.items
+        (vec_capacity o.served) o.first };
 }
 
 impl Overlay {
     // That of a book with these flows and this queue, before any grant.
-    pub(crate) fn over(config: Checked, flows: &[Flow], queue: Vec<Waiting>) -> Overlay
+    pub(crate) fn over(
+        config: Checked,
+        flows: &Flows,
+        queue: Vec<Waiting>,
+    ) -> Result<Overlay, AllocError>
         requires book { IsBook config flows.now }
         requires queue { IsQueue flows.now queue.items }
-        ensures { result ≡ record {
+        ensures { IfOk result (λ overlay. overlay ≡ record {
           config = config;
           before = map live flows.now;
           flows = map live flows.now;
-        } }
+        }) }
     {
+        let is_long = queue.len() > FEW;
+        let served = room_for_served(&queue, is_long)?;
         let before = list_of(flows);
-        Overlay {
+        Ok(Overlay {
             config,
             queue,
+            first: 0,
+            served,
+            is_long,
             flows: FlowList::same(&before),
             before,
-        }
+        })
     }
 
     /// The channel's configuration.
@@ -92,34 +128,51 @@ impl Overlay {
     {
         let bytes = self.config.most_in(room);
         let room = Room { slots: room, bytes };
-        let index = first_in_turn(&self.queue, &self.config, start, room)?;
-        let mut waiting = self.queue[index];
-        let bytes = waiting.serve(start, room.bytes);
-        move_back(&mut self.queue, index, waiting);
-        let sid = waiting.sid();
+        let config = &self.config;
+        let served = serve_first(
+            &mut self.queue,
+            &mut self.first,
+            &mut self.served,
+            self.is_long,
+            config,
+            start,
+            room,
+        )?;
+        let Served { sid, bytes } = served;
         self.flows = FlowList::granted(&self.flows, &sid, &Grant { start, bytes });
-        Some(Served { sid, bytes })
+        Some(served)
     }
 
     // The flows that the MAP shows by pending grants, in order of SID, and its acknowledge time ([`Book::show`]). These
     // are the flows of the book.
-    pub(crate) fn show(&self, flows: &[Flow], progress: u64) -> Result<Shown, AllocError>
+    pub(crate) fn show(&self, flows: &Flows, progress: u64) -> Result<Shown, AllocError>
         requires { map live flows.now ≡ self.now.before }
-        ensures pending { IfOk result (λ s. map (λ p. p.sid) s.pending.items
+        ensures pending { IfOk result (λ s. s.pending.items
             ≡ map (λ f. f.sid) (filter (is_shown self.now.config.pending self.now.flows) self.now.flows)) }
         ensures ack { IfOk result (λ s. s.ack ≡ ack_of self.now.config.pending progress self.now.flows) }
     {
         let most = self.config.pending() as usize;
-        show(*self.queue.allocator(), &self.queue, flows, most, progress)
+        show(
+            *self.queue.allocator(),
+            &self.queue,
+            &self.served,
+            flows,
+            most,
+            progress,
+        )
     }
 
     // Puts the flows with the data grants in the place of those before, and the queue of those that still wait in the
     // place of another; answers whether that is whole (memory may run out).
-    pub(crate) fn put_into(self, flows: &mut [Flow], queue: &mut Vec<Waiting>) -> bool
+    pub(crate) fn put_into(self, flows: &mut Flows, queue: &mut Vec<Waiting>) -> bool
         requires { IsBook self.config flows.old × (map live flows.old ≡ self.before) }
         ensures book { IsBook self.config flows.new × (map live flows.new ≡ self.flows) }
         ensures order { result ≡ true → IsQueue flows.new queue.new.items }
     {
+        if self.is_long {
+            take_over(flows, &self.served, &self.flows);
+            return merge(queue, &self.queue, &self.served).is_ok();
+        }
         take_over(flows, &self.queue, &self.flows);
         put_back(queue, &self.queue).is_ok()
     }

@@ -1,20 +1,21 @@
 //! The flows that a MAP shows by pending grants: of those in a queue that still wait the first so many, by the minislot
 //! since which they wait.
 
-ghost use Rattle.std.specs.Prelude.{◌≡◌, ◌<◌, ◌≤◌, ◌^◌, List, take, map, filter, IfOk, OnOk};
+ghost use Rattle.std.specs.Prelude.{◌≡◌, ◌<◌, ◌≤◌, ◌++◌, ◌^◌, ℕ, List, Some, true, take, map, filter, length, nat_le};
+ghost use Rattle.std.specs.Prelude.{IfOk, OnOk};
 ghost use Rattle.std.specs.List.{AllZip};
 ghost use Rattle.minislots.specs.declared.config.Config.{Config};
 ghost use Rattle.flow_book.specs.declared.flow.Flow.{Flow};
-ghost use Rattle.flow_book.specs.Flows.{LiveFlow};
 ghost use Rattle.flow_book.specs.Entry.{live, IsBook};
-ghost use Rattle.flow_book.specs.Queue.{IsQueue};
-ghost use Rattle.flow_book.specs.Shown.{IsFirstHidden, is_shown, ack_of, number_of};
-ghost use Rattle.flow_book.specs.Sids.{AscendBy, put_in};
-ghost use Rattle.flow_book.specs.Line.{itself, sorted, held_back};
+ghost use Rattle.flow_book.specs.Queue.{still_waits, IsQueueIn};
+ghost use Rattle.flow_book.specs.Shown.{is_shown, ack_of, number_of};
+ghost use Rattle.flow_book.specs.Sids.{put_in};
+ghost use Rattle.flow_book.specs.Line.{itself, IsInOrder, sorted_into, sorted, sid_of, held_back};
 ghost use Rattle.flow_book.specs.Overlay.{IsSameFlow};
-ghost use Rattle.flow_book.specs.Pending.{still_waits, pending_of, number_at, is_ahead, ArePending, AreInLine};
+ghost use Rattle.flow_book.specs.Pending.{waiting_in, sid_at, number_at};
 
-use crate::flow::{Flow, SIDS};
+use crate::flow::SIDS;
+use crate::flows::Flows;
 use crate::queue::Waiting;
 use std::alloc::{AllocError, Global};
 
@@ -25,21 +26,11 @@ pub(crate) struct Hidden {
     number: u128,
 }
 
-/// A flow that waits after a MAP.
-#[derive(Clone, Copy, Debug, PartialEq, Eq)]
-pub struct Pending {
-    /// Its SID.
-    pub sid: u16,
-    // Its place among the flows, and the bytes that it waits for.
-    place: usize,
-    wants: u64,
-}
-
-/// The flows that a MAP shows by pending grants, in order of SID, and its acknowledge time.
+/// The flows that a MAP shows by pending grants, and its acknowledge time.
 #[derive(Drop)]
 pub struct Shown {
-    /// The flows.
-    pub pending: Vec<Pending>,
+    /// The SIDs of the flows, in order.
+    pub pending: Vec<u16>,
     /// The acknowledge time.
     pub ack: u64,
 }
@@ -51,144 +42,180 @@ fn number_of(since: u64, sid: u16) -> u128
     u128::from(since) * SIDS + u128::from(sid)
 }
 
+// The number by which one that waits stands in line. There is a flow at its place.
+fn number_at(waiting: &Waiting, flows: &Flows) -> u128
+    ensures { result ≡ number_at flows.now waiting.now }
+{
+    match flows.get(waiting.place) {
+        Some(flow) => number_of(flow.since_with(waiting.wants), flow.sid),
+        None => 0,
+    }
+}
+
+// So many numbers are kept, and none of them is greater than this one, so that it has no place among them.
+fn is_behind(line: &[u128], most: usize, number: u128) -> bool
+    requires { IsInOrder line.now }
+    ensures { result ≡ true → take most (put_in itself number line.now) ≡ line.now }
+{
+    match line.last() {
+        Some(last) => line.len() == most && *last <= number,
+        None => false,
+    }
+}
+
 // Puts a number in its place among the least so many.
 fn keep_least(line: &mut Vec<u128>, most: usize, number: u128) -> Result<(), AllocError>
-    requires { AscendBy itself line.old.items }
+    requires { IsInOrder line.old.items }
     ensures { OnOk result (line.new.items ≡ take most (put_in itself number line.old.items)) }
 {
+    if is_behind(line, most, number) {
+        return Ok(());
+    }
     let place = line.partition_point(|other| *other <= number);
     line.insert(place, number)?;
     line.truncate(most);
     Ok(())
 }
 
-// What is kept of one that waits in the queue.
-fn pending_of(waiting: &Waiting) -> Pending
-    ensures { result ≡ pending_of waiting.now }
+// Puts the numbers of those that still wait among the least so many.
+fn put_in_line(
+    line: &mut Vec<u128>,
+    part: &[Waiting],
+    flows: &Flows,
+    most: usize,
+) -> Result<(), AllocError>
+    requires { IsInOrder line.old.items }
+    ensures order { OnOk result (IsInOrder line.new.items) }
+    ensures kept { OnOk result ((whole : List ℕ) → line.old.items ≡ take most whole → line.new.items
+        ≡ take most (sorted_into whole (map (number_at flows.now) (filter still_waits part.now)))) }
 {
-    Pending {
-        sid: (waiting.turn % SIDS) as u16,
-        place: waiting.place,
-        wants: waiting.wants,
-    }
-}
-
-// Those of the queue that still wait.
-fn waiting_in(alloc: Global, queue: &[Waiting]) -> Result<Vec<Pending>, AllocError>
-    ensures { IfOk result (λ pending. pending.items ≡ map pending_of (filter still_waits queue.now)) }
-{
-    let mut pending = Vec::with_capacity(alloc, queue.len())?;
-    for waiting in queue {
+    for waiting in part {
         if waiting.wants > 0 {
-            pending.push(pending_of(waiting))?;
+            keep_least(line, most, number_at(waiting, flows))?;
         }
     }
-    Ok(pending)
-}
-
-// Those of the queue that still wait, in order of SID.
-fn pending_in(alloc: Global, queue: &[Waiting]) -> Result<Vec<Pending>, AllocError>
-    ensures { IfOk result (λ pending. (c : Config) (items : List Flow) → IsBook c items
-        → IsQueue items queue.now → ArePending (map live items) pending.items) }
-{
-    let mut pending = waiting_in(alloc, queue)?;
-    pending.sort_unstable_by_key(|one| one.sid);
-    Ok(pending)
-}
-
-// The number by which one that waits stands in line. There is a flow at its place.
-fn number_at(one: &Pending, flows: &[Flow]) -> u128
-    ensures { result ≡ number_at flows.now one.now }
-{
-    match flows.get(one.place) {
-        Some(flow) => number_of(flow.since_with(one.wants), one.sid),
-        None => 0,
-    }
+    Ok(())
 }
 
 // The numbers of the first so many that wait.
 fn first_in_line(
     alloc: Global,
-    pending: &[Pending],
-    flows: &[Flow],
+    queue: &[Waiting],
+    served: &[Waiting],
+    flows: &Flows,
     most: usize,
 ) -> Result<Vec<u128>, AllocError>
-    requires { (after : List LiveFlow) × AreInLine flows.now pending.now after }
-    ensures { IfOk result (λ line.
-        line.items ≡ take most (sorted (map (number_at flows.now) pending.now))) }
+    ensures { IfOk result (λ line. line.items
+        ≡ take most (sorted (map (number_at flows.now) (waiting_in queue.now served.now)))) }
 {
-    let mut line = Vec::new(alloc);
-    for one in pending {
-        keep_least(&mut line, most, number_at(one, flows))?;
-    }
+    let mut line = Vec::with_capacity(alloc, most.saturating_add(1))?;
+    put_in_line(&mut line, queue, flows, most)?;
+    put_in_line(&mut line, served, flows, most)?;
     Ok(line)
 }
 
-// The first of those that wait that is not among the first so many: where no more wait none is, and no memory is taken.
-fn first_hidden(
+// How many of these still wait.
+fn count_waiting(part: &[Waiting]) -> usize
+    ensures count { result ≡ length (filter still_waits part.now) }
+    ensures within { result ≤ length part.now }
+{
+    let mut count = 0;
+    for waiting in part {
+        if waiting.wants > 0 {
+            count += 1;
+        }
+    }
+    count
+}
+
+// No more wait than so many.
+fn wait_few(queue: &[Waiting], served: &[Waiting], most: usize) -> bool
+    ensures { result ≡ nat_le (length (waiting_in queue.now served.now)) most }
+{
+    if queue.len() + served.len() <= most {
+        return true;
+    }
+    count_waiting(queue) + count_waiting(served) <= most
+}
+
+// Puts the SIDs of those that still wait behind others.
+fn push_sids(sids: &mut Vec<u16>, part: &[Waiting]) -> Result<(), AllocError>
+    ensures { OnOk result (sids.new.items
+        ≡ sids.old.items ++ map sid_at (filter still_waits part.now)) }
+{
+    for one in part {
+        if one.wants > 0 {
+            sids.push((one.turn % SIDS) as u16)?;
+        }
+    }
+    Ok(())
+}
+
+// The SIDs of those that still wait, in order. They are no more than so many.
+fn sids_waiting(
     alloc: Global,
-    pending: &[Pending],
-    flows: &[Flow],
+    queue: &[Waiting],
+    served: &[Waiting],
     most: usize,
-) -> Result<Option<Hidden>, AllocError>
-    requires line { (after : List LiveFlow) × AreInLine flows.now pending.now after }
-    requires few { most < 2 ^ 32 }
-    ensures { IfOk result (λ hidden. (after : List LiveFlow)
-        → AreInLine flows.now pending.now after → IsFirstHidden most after hidden) }
+) -> Result<Vec<u16>, AllocError>
+    ensures { IfOk result (λ sids. sids.items ≡ sorted (map sid_at (waiting_in queue.now served.now))) }
 {
-    if pending.len() <= most {
-        return Ok(None);
-    }
-    let line = first_in_line(alloc, pending, flows, most + 1)?;
-    match line.get(most) {
-        Some(number) => Ok(Some(Hidden { number: *number })),
-        None => Ok(None),
-    }
+    let mut sids = Vec::with_capacity(alloc, most.min(queue.len() + served.len()))?;
+    push_sids(&mut sids, queue)?;
+    push_sids(&mut sids, served)?;
+    sids.sort_unstable();
+    Ok(sids)
 }
 
-// Keeps those that come before the first that is hidden.
-fn keep_ahead(pending: &mut Vec<Pending>, flows: &[Flow], hidden: &Option<Hidden>)
-    ensures { pending.new.items ≡ filter (is_ahead flows.now hidden.now) pending.old.items }
+// The SIDs of those with these numbers in line, in order.
+fn sids_of(alloc: Global, numbers: &[u128]) -> Result<Vec<u16>, AllocError>
+    ensures { IfOk result (λ sids. sids.items ≡ sorted (map sid_of numbers.now)) }
 {
-    if let Some(hidden) = hidden {
-        let number = hidden.number;
-        pending.retain(|one| number_at(one, flows) < number);
+    let mut sids = Vec::with_capacity(alloc, numbers.len())?;
+    for number in numbers {
+        sids.push((*number % SIDS) as u16)?;
     }
+    sids.sort_unstable();
+    Ok(sids)
 }
 
-// The least progress, held back by the flows that are hidden.
-pub(crate) fn held_back(hidden: &Option<Hidden>, progress: u64) -> u64
-    ensures { result ≡ held_back hidden.now progress }
+// The least progress, held back by the first that is hidden.
+pub(crate) fn held_back(hidden: Hidden, progress: u64) -> u64
+    ensures { result ≡ held_back (Some hidden) progress }
 {
-    match hidden {
-        Some(hidden) => (hidden.number / SIDS).min(u128::from(progress)) as u64,
-        None => progress,
-    }
+    (hidden.number / SIDS).min(u128::from(progress)) as u64
 }
 
-// The first so many of those in the queue that still wait, all where there are no more, and the acknowledge time. The
-// queue is one of the flows with the data grants of a MAP.
+// The first so many of those that still wait, all where there are no more, and the acknowledge time. The queue is in
+// two parts: those that waited before a MAP, and those that it served. They are of the flows with its data grants.
 pub(crate) fn show(
     alloc: Global,
     queue: &[Waiting],
-    flows: &[Flow],
+    served: &[Waiting],
+    flows: &Flows,
     most: usize,
     progress: u64,
 ) -> Result<Shown, AllocError>
     requires few { most < 2 ^ 32 }
-    requires queue { (c : Config) × (items : List Flow) × IsBook c items × IsQueue items queue.now
+    requires queue { (c : Config) × (items : List Flow) × IsBook c items × IsQueueIn items queue.now served.now
         × AllZip IsSameFlow (map live flows.now) (map live items) }
     ensures pending { IfOk result (λ s. (c : Config) (items : List Flow) → IsBook c items
-        → IsQueue items queue.now → AllZip IsSameFlow (map live flows.now) (map live items)
-        → map (λ p. p.sid) s.pending.items
-        ≡ map (λ f. f.sid) (filter (is_shown most (map live items)) (map live items))) }
+        → IsQueueIn items queue.now served.now → AllZip IsSameFlow (map live flows.now) (map live items)
+        → s.pending.items ≡ map (λ f. f.sid) (filter (is_shown most (map live items)) (map live items))) }
     ensures ack { IfOk result (λ s. (c : Config) (items : List Flow) → IsBook c items
-        → IsQueue items queue.now → AllZip IsSameFlow (map live flows.now) (map live items)
+        → IsQueueIn items queue.now served.now → AllZip IsSameFlow (map live flows.now) (map live items)
         → s.ack ≡ ack_of most progress (map live items)) }
 {
-    let mut pending = pending_in(alloc, queue)?;
-    let hidden = first_hidden(alloc, &pending, flows, most)?;
-    keep_ahead(&mut pending, flows, &hidden);
-    let ack = held_back(&hidden, progress);
+    if wait_few(queue, served, most) {
+        let pending = sids_waiting(alloc, queue, served, most)?;
+        return Ok(Shown {
+            pending,
+            ack: progress,
+        });
+    }
+    let line = first_in_line(alloc, queue, served, flows, most + 1)?;
+    let pending = sids_of(alloc, &line[..most])?;
+    let hidden = Hidden { number: line[most] };
+    let ack = held_back(hidden, progress);
     Ok(Shown { pending, ack })
 }

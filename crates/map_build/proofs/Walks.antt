@@ -1,13 +1,10 @@
 -- One step of the walk along a frame: what is chosen among the spots that are left is one more of the plan.
-use Rattle.std.proofs.Common.{ℕ, ◌+◌, ◌≤◌, List, [], ◌∷◌, ◌++◌, ap, arith}
+use Rattle.std.proofs.Common.{◌+◌, ◌≤◌, List, [], ◌∷◌, ◌++◌, ap, arith}
 use Rattle.minislots.specs.declared.config.Config.{Config}
 use Rattle.periodic.specs.declared.placement.Spot.{Spot}
 use Rattle.map_build.specs.declared.draft.Draft.{Draft}
 use Rattle.map_build.specs.declared.purpose.Allocation.{Allocation}
-use Rattle.map_build.specs.declared.purpose.Purpose.{Purpose}
-use Rattle.map_build.specs.declared.purpose.Purpose.TheVariants.{Poll, UnsolicitedGrant, Offer, DataGrant, Idle}
-use Rattle.map_build.specs.Purpose.{HasLength}
-use Rattle.map_build.specs.Plan.{Demand, Stands, IsOfClass}
+use Rattle.map_build.specs.Plan.{Demand, Stands}
 use Rattle.map_build.specs.Spots.{AreInFrame}
 use Rattle.map_build.specs.Left.{left_at, AreLeft}
 use Rattle.map_build.specs.Draft.{PutsAllocation}
@@ -16,14 +13,6 @@ use Rattle.map_build.proofs.Clear.{IsClear}
 use Rattle.map_build.proofs.Left.{with_spots, stands-whole, left-clear, left-next}
 use Rattle.map_build.proofs.Plans.{HasPlan-push}
 use Rattle.map_build.proofs.Takings.{Takes-put}
-
-length-of : (c : Config) (d : Demand) (before : List Allocation) (offset slots : ℕ) (purpose : Purpose)
-    → IsOfClass c d before offset slots purpose → HasLength c slots purpose
-length-of c d before offset slots (Poll sid) is = tt
-length-of c d before offset slots (UnsolicitedGrant sid size) is = tt
-length-of c d before offset slots (Offer place usage) is = tt
-length-of c d before offset slots (DataGrant sid bytes) is = is.5
-length-of c d before offset slots Idle is = tt
 
 module _ (c : Config) (d : Demand) (left : List Spot) (plan : List Allocation) (a : Allocation) (old mid : Draft)
     (are : AreInFrame c d.spots) (has : HasPlan c d plan old) (ahead : AreLeft c d.spots left old.offset)
@@ -41,11 +30,6 @@ module _ (c : Config) (d : Demand) (left : List Spot) (plan : List Allocation) (
   -- it ends within the frame
   pub chosen-fits : mid.offset + a.slots ≤ c.frame
   chosen-fits = omega (arith, clear.0, chosen.here, chosen.same.offset)
-
-  -- a data grant has the minislots that its bytes take
-  pub chosen-length : HasLength mid.overlay.config a.slots a.purpose
-  chosen-length = rw (chosen.knows.config, has.config) (length-of c (with_spots left d) plan a.offset a.slots a.purpose
-      stands.purpose)
 
   module _ (new : Draft) (puts : PutsAllocation a mid new) where
     takes : Takes a old new

@@ -1,7 +1,7 @@
 -- The kinds of allocations: what each is on the wire, and its class. A kind more is one line in each of these tables.
 use Rattle.std.specs.Prelude.{◌≡◌, ℕ, ◌+◌, Bool, true, false, ◌==◌, List, [], ◌∷◌, Option, None, Some, if◌then◌else◌}
 use Rattle.minislots.specs.declared.config.Config.{Config}
-use Rattle.minislots.specs.Units.{slots_for}
+use Rattle.minislots.specs.Units.{is_short}
 use Rattle.map_codec.specs.declared.element.Element.{Element}
 use Rattle.map_codec.specs.declared.element.iuc.TheConstants.{REQUEST, INITIAL_MAINTENANCE, STATION_MAINTENANCE}
 use Rattle.flow_book.specs.declared.flow.Grant.{Grant}
@@ -99,7 +99,12 @@ element_of c a = record {
 abbrev pub bytes_in : Config → Allocation → ℕ
 bytes_in c a = (kind_of c a.purpose).bytes
 
--- an allocation of so many minislots has, where it is a data grant, those that its bytes take
-abbrev pub HasLength : Config → ℕ → Purpose → Type 0
-HasLength c slots (DataGrant sid bytes) = slots ≡ slots_for c bytes
-HasLength c slots purpose = Unit {0}
+-- whether it is short is what the bytes of a data grant say
+abbrev pub IsUsage : Config → Bool → Purpose → Type 0
+IsUsage c short (DataGrant sid bytes) = short ≡ is_short c bytes
+IsUsage c short purpose = Unit {0}
+
+-- where it is known whether a data grant is short, it is so
+abbrev pub HasUsage : Config → Option Bool → Purpose → Type 0
+HasUsage c None purpose = Unit {0}
+HasUsage c (Some short) purpose = IsUsage c short purpose

@@ -12,6 +12,7 @@ use Rattle.map_build.specs.declared.TheConstants.{MAX_WAITING}
 use Rattle.map_build.specs.declared.draft.Draft.{Draft}
 use Rattle.sched_calls.specs.declared.opportunity.Opportunity.{Opportunity}
 use Rattle.map_build.specs.declared.purpose.Allocation.{Allocation}
+use Rattle.map_build.specs.declared.purpose.Chosen.{Chosen}
 use Rattle.map_build.specs.declared.purpose.Purpose.TheVariants.{Offer, DataGrant}
 use Rattle.map_build.specs.EachAfter.{EachAfter}
 use Rattle.map_build.specs.Purpose.{element_of, bytes_in, allocation_of}
@@ -94,9 +95,9 @@ pub record Serves (waiting : List Opportunity) (room : ℕ) (a : Allocation) (ol
   pub is : a ≡ grant_here old sid bytes
 
 -- the draft knows of that data grant; if none may stand here nothing changes
-abbrev pub ServesNext : List Opportunity → ℕ → Option Allocation → Draft → Draft → Type 0
+abbrev pub ServesNext : List Opportunity → ℕ → Option Chosen → Draft → Draft → Type 0
 ServesNext waiting room None old new = (new ≡ old) × NoneServed waiting old room
-ServesNext waiting room (Some a) old new = Serves waiting room a old new
+ServesNext waiting room (Some grant) old new = Serves waiting room grant.allocation old new
 
 -- the draft is where this plan ends, and its book has the plan's grants
 pub record IsAfter (flows : List LiveFlow) (plan : List Allocation) (d : Draft) : Type 0 where

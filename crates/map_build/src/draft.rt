@@ -1,6 +1,6 @@
 //! The MAP of one frame while it is made.
 
-ghost use Rattle.std.specs.Prelude.{◌≡◌, ◌<◌, ◌≤◌, ◌+◌, ◌^◌, List, [], IfOk, OnOk, map};
+ghost use Rattle.std.specs.Prelude.{◌≡◌, ◌<◌, ◌≤◌, ◌+◌, ◌^◌, List, [], IfOk, OnOk};
 ghost use Rattle.std.specs.List.{AllByRecursion};
 ghost use Rattle.map_codec.specs.WireMap.{FitsHeader};
 ghost use Rattle.flow_book.specs.Choice.{HasStartedBy};
@@ -9,7 +9,7 @@ ghost use Rattle.periodic.specs.declared.placement.Spot.{Spot};
 ghost use Rattle.map_build.specs.declared.TheConstants.{MAX_WAITING};
 ghost use Rattle.sched_calls.specs.declared.opportunity.Opportunity.{Opportunity};
 ghost use Rattle.map_build.specs.Plan.{demand_at};
-ghost use Rattle.map_build.specs.Purpose.{HasLength};
+ghost use Rattle.map_build.specs.Purpose.{HasUsage};
 ghost use Rattle.map_build.specs.UsageCodes.{long_iuc};
 ghost use Rattle.map_build.specs.FrameMap.{map_with};
 ghost use Rattle.map_build.specs.Spots.{AreInFrame};
@@ -17,9 +17,9 @@ ghost use Rattle.map_build.specs.Draft.{Puts, PutsAllocation, PutsPending, Ends}
 ghost use Rattle.map_build.specs.Walk.{HasPlan};
 
 use crate::MAX_WAITING;
-use crate::purpose::{Allocation, BROADCAST, NOBODY};
+use crate::purpose::{Allocation, BROADCAST, Chosen, NOBODY};
 use crate::usage_codes::long_iuc;
-use flow_book::{Book, Overlay, Pending};
+use flow_book::{Book, Overlay};
 use map_codec::{Element, Elements, MAX_ELEMENTS, WireMap, iuc};
 use minislots::{Checked, wire};
 use sched_calls::{ByteCounts, FrameMap, Header};
@@ -70,13 +70,13 @@ impl Draft {
     }
 
     /// The element of an allocation more, which begins at the offset that is reached.
-    pub(crate) fn put_allocation(&mut self, allocation: Allocation) -> Result<(), AllocError>
-        requires fits { self.old.offset + allocation.slots < 2 ^ 16 }
-        requires length { HasLength self.old.overlay.config allocation.slots allocation.purpose }
-        ensures { OnOk result (PutsAllocation allocation self.old self.new) }
+    pub(crate) fn put_allocation(&mut self, chosen: Chosen) -> Result<(), AllocError>
+        requires fits { self.old.offset + chosen.allocation.slots < 2 ^ 16 }
+        requires usage { HasUsage self.old.overlay.config chosen.is_short chosen.allocation.purpose }
+        ensures { OnOk result (PutsAllocation chosen.allocation self.old self.new) }
     {
-        let Allocation { slots, purpose, .. } = allocation;
-        let kind = purpose.kind(self.overlay.config(), slots);
+        let Allocation { slots, purpose, .. } = chosen.allocation;
+        let kind = purpose.kind(self.overlay.config(), chosen.is_short);
         self.put_slots(kind.sid, kind.iuc, slots, kind.bytes)
     }
 
@@ -115,14 +115,14 @@ impl Draft {
         Ok(shown.ack)
     }
 
-    // A pending grant to each of these flows.
-    fn put_pending(&mut self, pending: &[Pending]) -> Result<(), AllocError>
+    // A pending grant to each of the flows with these SIDs.
+    fn put_pending(&mut self, pending: &[u16]) -> Result<(), AllocError>
         requires { self.old.offset ≡ self.old.overlay.config.frame }
-        ensures { OnOk result (PutsPending (map (λ p. p.sid) pending.now) self.old self.new) }
+        ensures { OnOk result (PutsPending pending.now self.old self.new) }
     {
         let iuc = long_iuc(self.overlay.config());
-        for one in pending {
-            self.put(one.sid, iuc, 0)?;
+        for sid in pending {
+            self.put(*sid, iuc, 0)?;
         }
         Ok(())
     }

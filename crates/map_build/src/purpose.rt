@@ -1,7 +1,7 @@
 //! The kinds of allocations, of which contracts of a MAP speak. What each is on the wire stands here and nowhere else.
 
-ghost use Rattle.std.specs.Prelude.{◌≡◌, ◌<◌, ◌^◌};
-ghost use Rattle.map_build.specs.Purpose.{HasLength, kind_of};
+ghost use Rattle.std.specs.Prelude.{◌≡◌};
+ghost use Rattle.map_build.specs.Purpose.{kind_of, HasUsage};
 
 use crate::usage_codes::{data_iuc, long_iuc, unsolicited_iuc};
 use map_codec::iuc;
@@ -51,10 +51,18 @@ pub struct Kind {
     pub bytes: u32,
 }
 
+/// An allocation, and where it is a data grant whether it is a short one, if that is known.
+#[derive(Clone, Copy, Debug)]
+pub(crate) struct Chosen {
+    pub(crate) allocation: Allocation,
+    pub(crate) is_short: Option<bool>,
+}
+
 impl Purpose {
-    /// The element for this purpose, of an allocation of so many minislots.
-    pub(crate) fn kind(self, config: &Checked, slots: u16) -> Kind
-        requires { HasLength config.now slots self }
+    /// The element for this purpose, where it may be known whether it is a short data grant.
+    #[inline(always)]
+    pub(crate) fn kind(self, config: &Checked, is_short: Option<bool>) -> Kind
+        requires { HasUsage config.now is_short self }
         ensures { result ≡ kind_of config.now self }
     {
         let (sid, iuc, bytes) = match self {
@@ -63,7 +71,11 @@ impl Purpose {
             Purpose::Offer(_, Usage::Initial) => (BROADCAST, iuc::INITIAL_MAINTENANCE, 0),
             Purpose::Offer(_, Usage::Station(sid)) => (sid, iuc::STATION_MAINTENANCE, 0),
             Purpose::DataGrant(sid, bytes) => {
-                (sid, data_iuc(config, bytes, slots.into()), bytes)
+                let is_short = match is_short {
+                    Some(is_short) => is_short,
+                    None => config.grant_size(bytes).is_short,
+                };
+                (sid, data_iuc(config, is_short), bytes)
             },
             Purpose::Idle => (NOBODY, long_iuc(config), 0),
         };

@@ -1,8 +1,7 @@
 //! The usage codes of grants, by the channel's physical layer.
 
-ghost use Rattle.std.specs.Prelude.{◌≡◌, ◌==◌};
-ghost use Rattle.minislots.specs.Units.{slots_for};
-ghost use Rattle.map_build.specs.UsageCodes.{short_iuc, long_iuc, data_iuc, unsolicited_iuc};
+ghost use Rattle.std.specs.Prelude.{◌≡◌, ◌==◌, if◌then◌else◌};
+ghost use Rattle.map_build.specs.UsageCodes.{short_iuc, long_iuc, unsolicited_iuc};
 
 use map_codec::iuc;
 use minislots::Checked;
@@ -36,12 +35,11 @@ pub(crate) fn long_iuc(config: &Checked) -> u8
     }
 }
 
-/// The usage code of a data grant of so many bytes, which take so many minislots.
-pub(crate) fn data_iuc(config: &Checked, bytes: u32, slots: u64) -> u8
-    requires { slots ≡ slots_for config.now bytes }
-    ensures { result ≡ data_iuc config.now bytes }
+/// The usage code of a data grant, short or long.
+pub(crate) fn data_iuc(config: &Checked, is_short: bool) -> u8
+    ensures { result ≡ (if is_short then short_iuc config.now else long_iuc config.now) }
 {
-    if config.is_short(bytes, slots) {
+    if is_short {
         short_iuc(config)
     } else {
         long_iuc(config)
@@ -55,6 +53,6 @@ pub(crate) fn unsolicited_iuc(config: &Checked, bytes: u32) -> u8
     if is_advanced(config) {
         iuc::ADVANCED_UNSOLICITED_GRANT
     } else {
-        data_iuc(config, bytes, config.slots_for(bytes))
+        data_iuc(config, config.grant_size(bytes).is_short)
     }
 }

@@ -1,11 +1,11 @@
 //! The walk along a frame: what stands at each offset, up to the end.
 
-ghost use Rattle.std.specs.Prelude.{◌≡◌, ◌<◌, ◌≤◌, ◌+◌, ◌^◌, ◌==◌, List, [], OnOk, find, option_copied, length};
+ghost use Rattle.std.specs.Prelude.{◌≡◌, ◌<◌, ◌≤◌, ◌+◌, ◌^◌, ◌==◌, List, [], OnOk, IfSome, None, find, option_copied, length};
 ghost use Rattle.minislots.specs.declared.config.Config.{Config};
 ghost use Rattle.sched_calls.specs.declared.opportunity.Opportunity.{Opportunity as Offered};
 ghost use Rattle.map_build.specs.declared.TheConstants.{MAX_WAITING};
 ghost use Rattle.map_build.specs.Plan.{next_stop, most_grants};
-ghost use Rattle.map_build.specs.Purpose.{allocation_of};
+ghost use Rattle.map_build.specs.Purpose.{allocation_of, HasUsage};
 ghost use Rattle.map_build.specs.Spots.{AreInFrame};
 ghost use Rattle.map_build.specs.Walk.{IsWellBegun, IsUnfilled, IsFilled, MeetsNext, ServesNext, Chooses};
 ghost use Rattle.map_build.specs.Opportunities.{MayWait};
@@ -13,7 +13,7 @@ ghost use Rattle.map_build.specs.Left.{left_at, AreAhead};
 
 use crate::draft::Draft;
 use crate::opportunity::first_unmet;
-use crate::purpose::{Allocation, Purpose};
+use crate::purpose::{Allocation, Chosen, Purpose};
 use crate::{MAX_DATA_GRANTS, MAX_GRANTS_AND_PENDING};
 use minislots::Checked;
 use periodic::Spot;
@@ -43,30 +43,31 @@ impl Draft {
     // What stands at the offset that is reached, by class: the spot that begins there, else the first opportunity that
     // waits and fits, else a data grant to the flow that is next, where the MAP may have one more, else an idle. The
     // spots are those that are left.
-    fn next(&mut self, spots: &[Spot], waiting: &[Opportunity], most: usize) -> Allocation
+    fn next(&mut self, spots: &[Spot], waiting: &[Opportunity], most: usize) -> Chosen
         requires most { most ≡ most_grants self.old.overlay.config waiting.now }
         requires placed { AreInFrame self.old.overlay.config spots.now }
         requires waiting { MayWait waiting.now }
         requires ahead { AreAhead self.old.offset spots.now }
         requires ready { IsWellBegun waiting.now self.old }
         requires inside { self.old.offset < self.old.overlay.config.frame }
-        ensures { Chooses spots.now waiting.now result self.old self.new }
+        ensures stands { Chooses spots.now waiting.now result.allocation self.old self.new }
+        ensures usage { HasUsage self.new.overlay.config result.is_short result.allocation.purpose }
     {
         if let Some(spot) = spot_at(spots, self.offset) {
-            return allocation_of(*spot);
+            return without_usage(allocation_of(*spot));
         }
         let room = next_stop(spots, self.offset, self.overlay.config()) - self.offset;
         if let Some(offer) = self.meet(waiting, room) {
-            return offer;
+            return without_usage(offer);
         }
         if let Some(grant) = self.serve(most, room) {
             return grant;
         }
-        Allocation {
+        without_usage(Allocation {
             offset: self.offset,
             slots: room,
             purpose: Purpose::Idle,
-        }
+        })
     }
 
     // The first opportunity that waits and fits. The draft has it from now on.
@@ -92,12 +93,14 @@ impl Draft {
     }
 
     // The data grant of the book to the flow that is next, where the MAP has fewer than the most that it may have.
-    fn serve(&mut self, most: usize, room: u16) -> Option<Allocation>
+    fn serve(&mut self, most: usize, room: u16) -> Option<Chosen>
         requires ready { (waiting : List Offered)
             × IsWellBegun waiting self.old × (most ≡ most_grants self.old.overlay.config waiting) }
-        ensures { (waiting : List Offered) → IsWellBegun waiting self.old
+        ensures next { (waiting : List Offered) → IsWellBegun waiting self.old
             → most ≡ most_grants self.old.overlay.config waiting
             → ServesNext waiting room result self.old self.new }
+        ensures usage { IfSome result (λ grant.
+            HasUsage self.new.overlay.config grant.is_short grant.allocation.purpose) }
     {
         if self.grants >= most {
             return None;
@@ -105,11 +108,28 @@ impl Draft {
         let start = self.minislot();
         let served = self.overlay.serve(start, u32::from(room))?;
         self.grants += 1;
-        Some(Allocation {
+        let config = self.overlay.config();
+        let size = config.grant_size(served.bytes);
+        let allocation = Allocation {
             offset: self.offset,
-            slots: self.overlay.config().slots_for(served.bytes) as u16,
+            slots: size.slots as u16,
             purpose: Purpose::DataGrant(served.sid, served.bytes),
+        };
+        Some(Chosen {
+            allocation,
+            is_short: Some(size.is_short),
         })
+    }
+}
+
+// An allocation that is no data grant.
+fn without_usage(allocation: Allocation) -> Chosen
+    ensures allocation { result.allocation ≡ allocation }
+    ensures usage { result.is_short ≡ None }
+{
+    Chosen {
+        allocation,
+        is_short: None,
     }
 }
 

@@ -2,8 +2,9 @@
 use Rattle.std.proofs.Common.{◌≡◌, ℕ, zero, suc, ◌+◌, ◌*◌, ◌<◌, List, [], ◌∷◌, ◌++◌, length}
 use Rattle.std.proofs.Common.{get_or, take, drop, refl, sym, ap, ◌∙◌, arith, length-append}
 use Rattle.std.specs.List.{flat_map, AllByRecursion}
-use Rattle.std.proofs.lemmas.List.{take_at, drop_at, drop-drop, flat_map_more}
-use Rattle.std.proofs.lemmas.List.{length-take, take_all, take_more}
+use Rattle.std.proofs.lemmas.List.{take_at, drop_at, drop_all, drop-drop, flat_map_more, append-nil}
+use Rattle.std.proofs.lemmas.List.{length-take, take_all, take_more, append_assoc}
+use borrow.Rule.Slice.PartMut.{put_mid}
 use Rattle.map_codec.specs.declared.element.Element.{Element}
 use Rattle.map_codec.specs.declared.wire_map.WireMap.{WireMap}
 use Rattle.map_codec.specs.Element.{bytes_of, IsInRange}
@@ -40,37 +41,51 @@ written_more front piece old now after at len was is =
     ∙ drop-drop (length piece) at old in
     rw (is, before, beyond) refl
 
--- the bytes of one element more, behind the fixed bytes and the elements before it
-pub written_elements_more : (m : WireMap) (old now after : List ℕ) (i : ℕ) (d : Element)
-    → i < length m.elements
-    → now ≡ (header m ++ flat_map bytes_of (take i m.elements)) ++ drop (16 + 4 * i) old
-    → after ≡ take (16 + 4 * i) now ++ bytes_of (get_or m.elements i d) ++ drop (16 + 4 * i + 4) now
-    → after ≡ (header m ++ flat_map bytes_of (take (i + 1) m.elements)) ++ drop (16 + 4 * (i + 1)) old
-written_elements_more m old now after i d lt was is =
-    let at = 16 + 4 * i in
-    let so_far = take i m.elements in
-    let e = get_or m.elements i d in
-    let front = header m ++ flat_map bytes_of so_far in
-    let parts = length-append (header m) (flat_map bytes_of so_far) in
-    let len : length front ≡ at =
-    omega (arith, parts, length-header m, length-flat_map-bytes_of so_far, length-take i m.elements) in
-    let wrote : after ≡ (front ++ bytes_of e) ++ drop (at + 4) old =
-    written_more front (bytes_of e) old now after at len was is in
-    let pieces : front ++ bytes_of e ≡ header m ++ flat_map bytes_of (take (i + 1) m.elements) =
-    flat_map_more bytes_of (header m) so_far e
-    ∙ ap (λ (es : List Element). header m ++ flat_map bytes_of es) (sym (take_more m.elements i d lt)) in
-    let next : at + 4 ≡ 16 + 4 * (i + 1) = omega arith in
+-- the bytes of one element more, behind the elements before it
+pub written_elements_more : (es : List Element) (old now after : List ℕ) (i : ℕ) (d : Element)
+    → i < length es
+    → now ≡ flat_map bytes_of (take i es) ++ drop (4 * i) old
+    → after ≡ take (4 * i) now ++ bytes_of (get_or es i d) ++ drop (4 * i + 4) now
+    → after ≡ flat_map bytes_of (take (i + 1) es) ++ drop (4 * (i + 1)) old
+written_elements_more es old now after i d lt was is =
+    let so_far = take i es in
+    let e = get_or es i d in
+    let front = flat_map bytes_of so_far in
+    let len : length front ≡ 4 * i = omega (arith, length-flat_map-bytes_of so_far, length-take i es) in
+    let wrote : after ≡ (front ++ bytes_of e) ++ drop (4 * i + 4) old =
+    written_more front (bytes_of e) old now after (4 * i) len was is in
+    let pieces : front ++ bytes_of e ≡ flat_map bytes_of (take (i + 1) es) =
+    flat_map_more bytes_of [] so_far e ∙ ap (flat_map bytes_of) (sym (take_more es i d lt)) in
+    let next : 4 * i + 4 ≡ 4 * (i + 1) = omega arith in
     wrote ∙ rw (pieces, next) refl
 
--- all elements, and with them the spelling
-pub written_all : (m : WireMap) (old now : List ℕ) (i : ℕ) → i ≡ length m.elements
-    → now ≡ (header m ++ flat_map bytes_of (take i m.elements)) ++ drop (16 + 4 * i) old
-    → now ≡ spelling m ++ drop (length (spelling m)) old
+-- all elements
+pub written_all : (es : List Element) (old now : List ℕ) (i : ℕ) → i ≡ length es → length old ≡ 4 * length es
+    → now ≡ flat_map bytes_of (take i es) ++ drop (4 * i) old
+    → now ≡ flat_map bytes_of es
+written_all es old now i all room is =
+    let whole : take i es ≡ es = take_all i es (omega arith) in
+    let none : drop (4 * i) old ≡ [] = drop_all (4 * i) old (omega arith) in
+    is ∙ rw (whole, none) (append-nil (flat_map bytes_of es))
+
+-- a part of a list as it was written
+pub put_behind : (at k : ℕ) (old now : List ℕ) → length now ≡ k
+    → put_mid at k old now ≡ take at old ++ now ++ drop (at + length now) old
+put_behind at k old now len =
+    let rest : drop k (drop at old) ≡ drop (at + length now) old =
+    drop-drop k at old ∙ ap (λ n. drop (at + n) old) (sym len) in
+    sym (append_assoc (take at old) now (drop k (drop at old))) ∙ ap (λ l. take at old ++ now ++ l) rest
+
+-- the elements behind the fixed bytes, and with them the spelling
+pub written_behind : (m : WireMap) (old now after : List ℕ)
+    → now ≡ header m ++ drop 16 old
+    → after ≡ take 16 now ++ flat_map bytes_of m.elements ++ drop (16 + length (flat_map bytes_of m.elements)) now
+    → after ≡ spelling m ++ drop (length (spelling m)) old
 unfolding spelling
-written_all m old now i all is =
-    let len : 16 + 4 * i ≡ length (spelling m) = omega (arith, length-spelling m) in
-    let whole : take i m.elements ≡ m.elements = take_all i m.elements (omega arith) in
-    is ∙ rw (whole, len) refl
+written_behind m old now after was is =
+    let parts = length-append (header m) (flat_map bytes_of m.elements) in
+    let len : 16 + length (flat_map bytes_of m.elements) ≡ length (spelling m) = omega (arith, parts, length-header m) in
+    written_more (header m) (flat_map bytes_of m.elements) old now after 16 (length-header m) was is ∙ rw len refl
 
 -- each of the elements in range is in range
 pub in_range_at : (es : List Element) (i : ℕ) (d : Element) → AllByRecursion IsInRange es → i < length es

@@ -1,8 +1,8 @@
 //! The bytes of a MAP.
 
-ghost use Rattle.std.specs.Prelude.{◌≡◌, ◌+◌, ◌≤◌, ◌++◌, length, take, drop};
-ghost use Rattle.std.specs.Int.{w32, to_be_bytes};
-ghost use Rattle.map_codec.specs.Element.{IsInRange, word_of};
+ghost use Rattle.std.specs.Prelude.{◌≡◌, ◌+◌, ◌*◌, ◌≤◌, ◌++◌, length, take, drop};
+ghost use Rattle.std.specs.List.{flat_map, AllByRecursion};
+ghost use Rattle.map_codec.specs.Element.{IsInRange, word_of, bytes_of};
 ghost use Rattle.map_codec.specs.WireMap.{header, spelling, IsWellFormed};
 
 use crate::element::Element;
@@ -14,15 +14,6 @@ fn word(e: &Element) -> u32
     ensures { result ≡ word_of e.now }
 {
     u32::from(e.sid) * (1 << 18) + u32::from(e.iuc) * (1 << 14) + u32::from(e.offset)
-}
-
-// The bytes of a word. Apart, so that they are turned in one step, and not each of them by the fields that the word is
-// made of.
-#[inline(never)]
-fn bytes_of(word: u32) -> [u8; ELEMENT_BYTES]
-    ensures { result ≡ to_be_bytes w32 word }
-{
-    word.to_be_bytes()
 }
 
 // The bytes before the first element.
@@ -54,11 +45,22 @@ fn fixed_bytes(map: &WireMap) -> [u8; HEADER_BYTES]
 }
 
 // Writes bytes from a place on.
-fn put(out: &mut [u8; MAX_BYTES], at: usize, bytes: &[u8])
-    requires { at + length bytes.now ≤ MAX_BYTES }
+fn put(out: &mut [u8], at: usize, bytes: &[u8])
+    requires { at + length bytes.now ≤ length out.old }
     ensures { out.new ≡ take at out.old ++ bytes.now ++ drop (at + length bytes.now) out.old }
 {
     out[at..at + bytes.len()].copy_from_slice(bytes);
+}
+
+// Writes the bytes of elements, one after the other, over all of these.
+fn put_elements(elements: &[Element], out: &mut [u8])
+    requires range { AllByRecursion IsInRange elements.now }
+    requires room { length out.old ≡ 4 * length elements.now }
+    ensures { out.new ≡ flat_map bytes_of elements.now }
+{
+    for (i, e) in elements.iter().enumerate() {
+        put(out, ELEMENT_BYTES * i, &word(e).to_be_bytes());
+    }
 }
 
 /// Writes the payload of a MAP (CM-SP-MULPIv3.0, in the byte order of this project's profile) at the
@@ -70,9 +72,8 @@ pub fn encode(map: &WireMap, out: &mut [u8; MAX_BYTES]) -> usize
     ensures fits { result ≤ MAX_BYTES }
     ensures bytes { out.new ≡ spelling map.now ++ drop (length (spelling map.now)) out.old }
 {
+    let end = HEADER_BYTES + ELEMENT_BYTES * map.elements.len();
     put(out, 0, &fixed_bytes(map));
-    for (i, e) in map.elements.as_slice().iter().enumerate() {
-        put(out, HEADER_BYTES + ELEMENT_BYTES * i, &bytes_of(word(e)));
-    }
-    HEADER_BYTES + ELEMENT_BYTES * map.elements.len()
+    put_elements(map.elements.as_slice(), &mut out[HEADER_BYTES..end]);
+    end
 }

@@ -1,9 +1,9 @@
 -- So many bytes take at most so many minislots exactly where they are no more than those carry.
 use Rattle.std.proofs.Common.{◌≡◌, ℕ, ◌+◌, ◌-◌, ◌*◌, ◌/◌, ◌%◌, ◌<◌, ◌≤◌, ◌==◌, min, max, ◌&&◌, nat_le, nat_lt, ◌↔◌}
-use Rattle.std.proofs.Common.{Bool, true, false, inl, inr, arith, ap, lit<, zero, suc, if◌then◌else◌}
+use Rattle.std.proofs.Common.{Bool, true, false, inl, inr, arith, ap, ◌∙◌, lit<, zero, suc, if◌then◌else◌}
 use Rattle.std.proofs.lemmas.Bool.{cases_lt, cases_Bool}
 use Rattle.std.proofs.lemmas.Bool.Decides.{nat_tests}
-use Rattle.std.proofs.Math.Nat.{mul_comm}
+use Rattle.std.proofs.Math.Nat.{mul_comm, le_of_mul-le-mul_left}
 use Rattle.std.proofs.lemmas.Nat.{le-div, mul-le, div-add-mod', mod_below}
 use Rattle.minislots.specs.declared.bursts.Bursts.{Bursts}
 use Rattle.minislots.specs.declared.bursts.Bursts.TheVariants.{Uniform, Described}
@@ -26,6 +26,25 @@ rounded_up-least n b m h le = grind arith
 -- what is held by at most so many of a size is no more than they hold
 rounded_up-holds : (n b m : ℕ) → 0 < b → rounded_up n b ≤ m → n ≤ m * b
 rounded_up-holds n b m h le = omega (arith, rounded_up-enough n b h, mul-le (rounded_up n b) b m b le (omega arith))
+
+-- what is rounded up to a size, and then to a size of so many of those, may be rounded up once
+rounded_up-once : (spent n b s : ℕ) → 0 < b → 0 < s
+    → rounded_up (b * spent + n) (b * s) ≡ rounded_up (spent + rounded_up n b) s
+rounded_up-once spent n b s some_b some_s =
+    let held = rounded_up n b in
+    let twice = rounded_up (spent + held) s in
+    let once = rounded_up (b * spent + n) (b * s) in
+    let some : 0 < b * s = mul-le 1 1 b s some_b some_s in
+    let all : (spent + held) * b ≤ twice * s * b =
+    mul-le (spent + held) b (twice * s) b (rounded_up-enough (spent + held) s some_s) (omega arith) in
+    let least : once ≤ twice = rounded_up-least (b * spent + n) (b * s) twice some
+    (omega (arith, all, rounded_up-enough n b some_b)) in
+    let enough : b * spent + n ≤ once * (b * s) = rounded_up-enough (b * spent + n) (b * s) some in
+    let before : spent ≤ once * s = le_of_mul-le-mul_left (omega (arith, enough)) some_b in
+    let room = once * s - spent in
+    let parts : b * (once * s) ≡ b * (spent + room) = ap (λ k. b * k) (omega (arith, before)) in
+    let most : held ≤ room = rounded_up-least n b room some_b (omega (arith, enough, parts)) in
+    omega (arith, least, rounded_up-least (spent + held) s once some_s (omega (arith, most, before)))
 
 -- one more of a size
 one_more : (q c b : ℕ) → q < c → q * b + b ≤ c * b
@@ -175,6 +194,14 @@ module _ (p : Profile) (sound : IsSound p) where
         let lasts : 0 < left = positive-of left p.bits (coded p bytes) held
         (omega (arith, coded-least bytes)) in
         rounded_up-least (symbols_of p bytes) symbols slots positive (omega (arith, sent, lasts))
+
+    -- its minislots, counted in the bits of their symbols
+    pub in_bits : (bytes : ℕ) → rounded_up (p.bits * (p.preamble + p.guard) + 8 * coded p bytes) (p.bits * symbols)
+        ≡ slots_by symbols p bytes
+    unfolding slots_by
+    in_bits bytes =
+        rounded_up-once (p.preamble + p.guard) (8 * coded p bytes) p.bits symbols sound.bits_positive positive
+        ∙ ap (λ n. rounded_up n symbols) (omega arith)
 
     -- a profile's minislots carry so many bytes, and no more
     pub by_profile : (slots : ℕ) → IsCapacity (slots_by symbols p) slots (bytes_by symbols p slots)
@@ -339,7 +366,7 @@ module _ (d : Descriptors) (sound : AreSound d) (sizes most : ℕ) (are : sizes 
   sizes-decide bytes = rw are (by_sizes (Described d) sound most bytes)
 
   pub short-where : (bytes : ℕ) → bytes < sizes
-      → (slots_by d.symbols d.short bytes == length_of (Described d) most bytes) ≡ serves_short d most bytes
+      → nat_le (slots_by d.symbols d.short bytes) (slots_by d.symbols d.long bytes) ≡ serves_short d most bytes
   short-where bytes lt = grind (arith, nat_tests, sizes-decide bytes)
 
   pub long-where : (bytes : ℕ) → sizes ≤ bytes → serves_short d most bytes ≡ false

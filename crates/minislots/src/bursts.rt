@@ -1,7 +1,7 @@
 //! Bursts: the minislots that so many bytes take on the wire (burst descriptors of the UCD, Reed-Solomon codewords,
 //! shortened last codeword).
 
-ghost use Rattle.std.specs.Prelude.{ℕ, ◌≡◌, ◌≤◌, ◌<◌, ◌^◌, IsTrue};
+ghost use Rattle.std.specs.Prelude.{ℕ, ◌≡◌, ◌≤◌, ◌<◌, ◌+◌, ◌^◌, IsTrue};
 ghost use Rattle.minislots.specs.Bursts.{are_bursts, are_descriptors, is_profile, is_within, is_short_burst, capacity_of};
 ghost use Rattle.minislots.specs.Bursts.{IsSound, AreSound, HasBursts, codeword, parity_bytes, last_codeword, coded};
 ghost use Rattle.minislots.specs.Bursts.{slots_by, bytes_by, last_information, rounded_up, length_of};
@@ -56,6 +56,15 @@ pub enum Bursts {
     Described(Descriptors),
 }
 
+/// How long a data grant is, and its usage.
+#[derive(Clone, Copy, Debug)]
+pub struct GrantSize {
+    /// The minislots that it takes.
+    pub slots: u64,
+    /// Whether it is a short one.
+    pub is_short: bool,
+}
+
 pub(crate) fn is_within(low: u32, high: u32, n: u32) -> bool
     ensures { result ≡ is_within low high n }
 {
@@ -63,13 +72,13 @@ pub(crate) fn is_within(low: u32, high: u32, n: u32) -> bool
 }
 
 // How many of this size hold so many things, the last one perhaps in part.
-fn rounded_up(many: u64, size: u32) -> u64
+fn rounded_up(many: u64, size: u64) -> u64
     requires some { 0 < size }
-    requires fits { many < 2 ^ 60 }
+    requires fits { many + size < 2 ^ 64 }
     ensures value { result ≡ rounded_up many size }
     ensures small { result ≤ many }
 {
-    (many + u64::from(size) - 1) / u64::from(size)
+    (many + size - 1) / size
 }
 
 impl Profile {
@@ -130,19 +139,19 @@ impl Profile {
         full + u64::from(self.last_codeword(bytes % self.information))
     }
 
-    // The minislots of a burst of so many bytes, where a minislot has so many symbols.
-    #[tactic(auto, unfolding(crate::specs::Bursts::slots_by))]
+    // The minislots of a burst of so many bytes, where a minislot has so many symbols. All is counted in bits, so that
+    // one division is enough.
+    #[tactic(auto, using(crate::proofs::BurstLaws::in_bits))]
     fn slots(&self, symbols: u32, bytes: u32) -> u64
         requires sound { IsSound self.now }
         requires some { 0 < symbols }
         ensures value { result ≡ slots_by symbols self.now bytes }
         ensures small { result < 2 ^ 46 }
     {
-        let sent = rounded_up(8 * self.coded(bytes), self.bits);
-        rounded_up(
-            u64::from(self.preamble) + sent + u64::from(self.guard),
-            symbols,
-        )
+        let coded = 8 * self.coded(bytes);
+        let bits = u64::from(self.bits);
+        let spent = bits * u64::from(self.preamble + self.guard);
+        rounded_up(spent + coded, bits * u64::from(symbols))
     }
 
     // The information bytes of a last codeword that has room for at most so many bytes.
@@ -188,29 +197,28 @@ impl Descriptors {
             && self.unsolicited.is_lawful()
     }
 
-    // Whether the profile of short grants serves a data grant of so many bytes, which has so many minislots.
+    // The size of a data grant of so many bytes.
     #[inline(never)]
-    fn serves_short(&self, sizes: u64, bytes: u32, slots: u64) -> bool
+    fn grant_size(&self, sizes: u64, bytes: u32) -> GrantSize
         requires { AreSound self.now }
-        ensures { (most : ℕ) → sizes ≡ short_sizes (Bursts.Described self.now) most
-            → slots ≡ length_of (Bursts.Described self.now) most bytes → result ≡ serves_short self.now most bytes }
-    {
-        u64::from(bytes) < sizes && self.short.slots(self.symbols, bytes) == slots
-    }
-
-    // The minislots of a data grant of so many bytes.
-    #[inline(never)]
-    fn slots(&self, sizes: u64, bytes: u32) -> u64
-        requires { AreSound self.now }
-        ensures value { (most : ℕ) → sizes ≡ short_sizes (Bursts.Described self.now) most
-            → result ≡ length_of (Bursts.Described self.now) most bytes }
-        ensures small { result < 2 ^ 46 }
+        ensures slots { (most : ℕ) → sizes ≡ short_sizes (Bursts.Described self.now) most
+            → result.slots ≡ length_of (Bursts.Described self.now) most bytes }
+        ensures usage { (most : ℕ) → sizes ≡ short_sizes (Bursts.Described self.now) most
+            → result.is_short ≡ serves_short self.now most bytes }
+        ensures small { result.slots < 2 ^ 46 }
     {
         let long = self.long.slots(self.symbols, bytes);
-        if u64::from(bytes) < sizes {
-            return long.min(self.short.slots(self.symbols, bytes));
+        if u64::from(bytes) >= sizes {
+            return GrantSize {
+                slots: long,
+                is_short: false,
+            };
         }
-        long
+        let short = self.short.slots(self.symbols, bytes);
+        GrantSize {
+            slots: long.min(short),
+            is_short: short <= long,
+        }
     }
 
     // The most bytes of a data grant of at most so many minislots.
@@ -314,33 +322,24 @@ impl Bursts {
         }
     }
 
-    /// Whether a data grant of so many bytes, which has so many minislots, is short, by [`Bursts::short_sizes`] of the
-    /// longest of those.
+    /// The size of a data grant of so many bytes, by [`Bursts::short_sizes`] of the longest that is short.
     #[inline(always)]
-    pub(crate) fn is_short(&self, sizes: u64, bytes: u32, slots: u64) -> bool
+    pub(crate) fn grant_size(&self, sizes: u64, bytes: u32) -> GrantSize
         requires { HasBursts self.now }
-        ensures { (most : ℕ) → sizes ≡ short_sizes self.now most → slots ≡ length_of self.now most bytes
-            → result ≡ is_short_burst self.now most bytes }
-    {
-        match self {
-            Bursts::Uniform { .. } => u64::from(bytes) < sizes,
-            Bursts::Described(these) => these.serves_short(sizes, bytes, slots),
-        }
-    }
-
-    /// The minislots of a data grant of so many bytes, by the profile of its usage.
-    #[inline(always)]
-    pub(crate) fn slots(&self, sizes: u64, bytes: u32) -> u64
-        requires { HasBursts self.now }
-        ensures value { (most : ℕ) → sizes ≡ short_sizes self.now most → result ≡ length_of self.now most bytes }
-        ensures small { result < 2 ^ 46 }
+        ensures slots { (most : ℕ) → sizes ≡ short_sizes self.now most → result.slots ≡ length_of self.now most bytes }
+        ensures usage { (most : ℕ) → sizes ≡ short_sizes self.now most
+            → result.is_short ≡ is_short_burst self.now most bytes }
+        ensures small { result.slots < 2 ^ 46 }
     {
         match self {
             Bursts::Uniform {
                 bytes_per_slot,
                 overhead,
-            } => uniform_slots(*bytes_per_slot, *overhead, bytes),
-            Bursts::Described(these) => these.slots(sizes, bytes),
+            } => GrantSize {
+                slots: uniform_slots(*bytes_per_slot, *overhead, bytes),
+                is_short: u64::from(bytes) < sizes,
+            },
+            Bursts::Described(these) => these.grant_size(sizes, bytes),
         }
     }
 
@@ -367,7 +366,7 @@ fn uniform_slots(bytes_per_slot: u32, overhead: u32, bytes: u32) -> u64
     ensures value { result ≡ uniform_slots bytes_per_slot overhead bytes }
     ensures small { result < 2 ^ 46 }
 {
-    u64::from(overhead) + rounded_up(bytes.into(), bytes_per_slot)
+    u64::from(overhead) + rounded_up(bytes.into(), bytes_per_slot.into())
 }
 
 // The bytes in so many minislots beside the overhead.

@@ -168,11 +168,11 @@ impl Config {
         ensures small { result.cap_slots < 2 ^ 46 }
     {
         let short = self.bursts.short_sizes(self.short_max);
-        let cap_slots = self.bursts.slots(short, self.grant_cap);
+        let cap = self.bursts.grant_size(short, self.grant_cap);
         GrantSizes {
             short,
-            cap_slots,
-            cap_is_short: self.bursts.is_short(short, self.grant_cap, cap_slots),
+            cap_slots: cap.slots,
+            cap_is_short: cap.is_short,
         }
     }
 }

@@ -7,7 +7,7 @@ mod config;
 mod stamp;
 mod units;
 
-pub use bursts::{Bursts, Descriptors, Profile};
+pub use bursts::{Bursts, Descriptors, GrantSize, Profile};
 pub use config::{Checked, Config, ConfigFault, FieldRule};
 pub use stamp::Stamp;
 pub use units::wire;

@@ -2,9 +2,11 @@
 
 ghost use Rattle.std.specs.Prelude.{◌≡◌, ℕ, ◌<◌, ◌≤◌, ◌*◌, ◌^◌, min};
 ghost use Rattle.minislots.specs.Bursts.{IsCapacity};
+ghost use Rattle.minislots.specs.Config.{IsLawful};
 ghost use Rattle.minislots.specs.Units.{slots_floor, slots_of_micros, slots_for, bytes_in, wire_of};
 ghost use Rattle.minislots.specs.Units.{is_short, slots_for_unsolicited};
 
+use crate::bursts::GrantSize;
 use crate::config::Checked;
 
 impl Checked {
@@ -35,10 +37,25 @@ impl Checked {
         ensures rises { (fewer : ℕ) → fewer ≤ bytes → slots_for self.now fewer ≤ result }
         ensures small { result < 2 ^ 46 }
     {
+        self.grant_size(bytes).slots
+    }
+
+    /// The minislots of a data grant of `bytes` bytes ([`Checked::slots_for`]), and whether it is a short one: its burst
+    /// by the profile of short grants has at most `short_max` minislots, and no more than by that of long ones.
+    #[inline(always)]
+    pub fn grant_size(&self, bytes: u32) -> GrantSize
+        ensures slots { result.slots ≡ slots_for self.now bytes }
+        ensures usage { result.is_short ≡ is_short self.now bytes }
+        ensures lawful { IsLawful self.now }
+        ensures small { result.slots < 2 ^ 46 }
+    {
         if bytes == self.grant_cap() {
-            return self.sizes().cap_slots;
+            return GrantSize {
+                slots: self.sizes().cap_slots,
+                is_short: self.sizes().cap_is_short,
+            };
         }
-        self.as_bursts().slots(self.sizes().short, bytes)
+        self.as_bursts().grant_size(self.sizes().short, bytes)
     }
 
     /// The most bytes of a data grant of at most `slots` minislots, or 0 where there is none.
@@ -61,19 +78,6 @@ impl Checked {
             return cap;
         }
         self.bytes_in(slots).min(cap)
-    }
-
-    /// Whether a data grant of `bytes` bytes, which has `slots` minislots ([`Checked::slots_for`]), is a short one: its
-    /// burst by the profile of short grants has at most `short_max` minislots, and no more than by that of long ones.
-    #[inline(always)]
-    pub fn is_short(&self, bytes: u32, slots: u64) -> bool
-        requires { slots ≡ slots_for self.now bytes }
-        ensures { result ≡ is_short self.now bytes }
-    {
-        if bytes == self.grant_cap() {
-            return self.sizes().cap_is_short;
-        }
-        self.as_bursts().is_short(self.sizes().short, bytes, slots)
     }
 
     /// The minislots of an unsolicited grant of `bytes` bytes: those of a data grant, or with Advanced PHY bursts those

@@ -1,69 +1,11 @@
 -- The fields of placed flows, one after another.
 use Rattle.std.proofs.Common.{◌≡◌, ◌∙◌, ap, sym, ℕ, ◌+◌, ◌<◌, ◌≤◌, List, [], ◌∷◌, ◌++◌, length, get_or, take, drop}
 use Rattle.std.proofs.Common.{map, set, ◌-◌, append_assoc, arith}
-use Rattle.std.specs.List.{AllByRecursion}
-use Rattle.std.proofs.lemmas.Grind.{flat_map-append}
-use Rattle.std.proofs.lemmas.List.{append-nil, length-append, length-map, map-append, take-append-drop, take_more}
+use Rattle.std.proofs.lemmas.List.{length-map, map-append, take_more}
 use Rattle.std.proofs.lemmas.List.{take_more_set, drop-drop}
 use Rattle.std.proofs.Math.Nat.{mod-eq_of_lt}
-use Rattle.std.proofs.lemmas.List.Elements.{All-from_recursion}
 use Rattle.minislots.specs.declared.config.Config.{Config}
-use Rattle.flow_book.proofs.Steps.{all-item, taken-item}
-use Rattle.periodic.specs.declared.TheConstants.{MAX_SPOTS}
-use Rattle.periodic.specs.declared.bits.Bits.{Bits}
-use Rattle.periodic.specs.declared.spots.PlacedFlow.{PlacedFlow}
-use Rattle.periodic.specs.Placement.{Placed, starts_in, spot_at, spots_of, spots_in}
-use Rattle.periodic.specs.Table.{IsSoundPlaced}
-use Rattle.periodic.specs.Fields.{placed_of, KeepsTimes, IsSoundFlow, AreSoundFlows, AreSoundFields}
-
--- the flows of a sound table are sound
-pub sound-flows : (c : Config) (flows : List PlacedFlow) (rows : List Bits) (most counts : List ℕ)
-    (grants : ℕ) → AreSoundFields c flows rows most counts grants → AreSoundFlows c flows
-sound-flows c flows rows most counts grants are = record {
-  each = are.sound.each;
-  times = are.times;
-  few = are.sound.few;
-}
-
--- one of them is
-pub sound-flow : (c : Config) (flows : List PlacedFlow) (i : ℕ) (f : PlacedFlow) → i < length flows
-    → f ≡ get_or flows i f → AllByRecursion (IsSoundPlaced c) (map placed_of flows)
-    → AllByRecursion (KeepsTimes c) flows → IsSoundFlow c f
-sound-flow c flows i f within is each times = record {
-  sound = all-item placed_of flows i f within is (IsSoundPlaced c) each;
-  times = rw is (All-from_recursion (KeepsTimes c) flows times i f within);
-}
-
--- the spots of one flow more are written behind those before it
-pub spots-more : (c : Config) (k : ℕ) (placed : List Placed) (f : Placed)
-    → spots_in c k (placed ++ f ∷ []) ≡ spots_in c k placed ++ spots_of c k f
-spots-more c k placed f =
-    flat_map-append (spots_of c k) placed (f ∷ []) ∙ ap (λ ss. spots_in c k placed ++ ss) (append-nil (spots_of c k f))
-
--- the spots of the first flows are no more than those of all
-front-few : (c : Config) (k : ℕ) (flows : List PlacedFlow) (n : ℕ)
-    → length (spots_in c k (map placed_of (take n flows))) ≤ length (spots_in c k (map placed_of flows))
-front-few c k flows n =
-    let front = map placed_of (take n flows) in
-    let back = map placed_of (drop n flows) in
-    let parts : map placed_of flows ≡ front ++ back =
-    sym (ap (map placed_of) (take-append-drop n flows)) ∙ map-append placed_of (take n flows) (drop n flows) in
-    let whole : spots_in c k (map placed_of flows) ≡ spots_in c k front ++ spots_in c k back =
-    ap (spots_in c k) parts ∙ flat_map-append (spots_of c k) front back in
-    let long = length-append (spots_in c k front) (spots_in c k back) in
-    omega (arith, ap length whole, long)
-
--- there is room for them
-pub spots-room : (c : Config) (k : ℕ) (flows : List PlacedFlow) (i : ℕ) (f : PlacedFlow) → i < length flows
-    → f ≡ get_or flows i f → AreSoundFlows c flows
-    → length (spots_in c k (map placed_of (take i flows))) + length (spots_of c k (placed_of f)) ≤ MAX_SPOTS
-spots-room c k flows i f within is are =
-    let taken = taken-item placed_of flows i f within is in
-    let front = front-few c k flows (i + 1) in
-    let more = ap length (spots-more c k (map placed_of (take i flows)) (placed_of f)) in
-    let both = length-append (spots_in c k (map placed_of (take i flows))) (spots_of c k (placed_of f)) in
-    let same = ap (λ gs. length (spots_in c k gs)) taken in
-    omega (arith, front, more, both, same, are.few k)
+use Rattle.periodic.specs.Placement.{Placed, starts_in, spot_at, spots_of}
 
 -- one spot more is written behind those before it
 pub put-more : {X : Type 0} (h : ℕ → X) (starts : List ℕ) (i : ℕ) (front spots : List X) (next : ℕ) (s : X)

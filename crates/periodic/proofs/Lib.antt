@@ -27,3 +27,8 @@ pub mod Marking
 pub mod Standing
 pub mod Bounding
 pub mod Counting
+pub mod InOrder
+pub mod Among
+pub mod Grouped
+pub mod Filled
+pub mod Numbered

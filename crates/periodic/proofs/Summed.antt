@@ -1,21 +1,16 @@
 -- The grants per interval, and the starts of a frame, where a flow is taken out.
-use Rattle.std.proofs.Common.{◌≡◌, sym, ap, ◌∙◌, subst, ℕ, ◌+◌, ◌<◌, ◌==◌, false, List, [], ◌∷◌, map, get_or}
-use Rattle.std.proofs.Common.{find, position, length, Some, inl, inr, arith}
+use Rattle.std.proofs.Common.{◌≡◌, sym, ap, ◌∙◌, subst, ℕ, ◌+◌, ◌<◌, ◌==◌, false, List, [], ◌∷◌, get_or}
+use Rattle.std.proofs.Common.{find, length, Some, inl, inr, arith}
 use Rattle.std.specs.List.{AllByRecursion}
 use Rattle.std.proofs.lemmas.Bool.Decides.{nat_tests}
 use Rattle.std.proofs.lemmas.List.{length-append}
 use Rattle.std.proofs.lemmas.List.Sums.{sum_by-cons}
-use Rattle.std.proofs.lemmas.List.Quantifiers.{position-Some}
 use Rattle.minislots.specs.declared.config.Config.{Config}
 use Rattle.sched_calls.specs.FlowSpec.{grants_of}
-use Rattle.periodic.specs.declared.spots.PlacedFlow.{PlacedFlow}
 use Rattle.periodic.specs.Placement.{Placed, spots_of, spots_in}
 use Rattle.periodic.specs.Counts.{AreCounts, AreCounted, MayCount}
-use Rattle.periodic.specs.Table.{placed_grants, without, Ascend, AreSound}
-use Rattle.periodic.specs.Fields.{placed_of, KeepsTimes}
-use Rattle.periodic.proofs.Fields.{sound-flow}
+use Rattle.periodic.specs.Table.{placed_grants, without, Ascend}
 use Rattle.periodic.proofs.Vacated.{found-cases, without-above}
-use Rattle.periodic.proofs.Standing.{flow-found}
 
 -- the grants of the one that is taken out and those of the others are all
 pub grants-without : (sid : ℕ) (f : Placed) (placed : List Placed) → find (λ g. g.sid == sid) placed ≡ Some f
@@ -52,18 +47,6 @@ spots-without c k sid f (g ∷ placed) found up =
           let kept = length-append (spots_of c k g) (spots_in c k (without sid placed)) in
           rw later.0 (omega (arith, all, rest, kept)))
     ]
-
--- so with what the fields of the one keep, at its place
-pub grants-found : (c : Config) (sid : ℕ) (items : List PlacedFlow) (i : ℕ) (f : PlacedFlow)
-    → position (λ g. g.sid == sid) items ≡ Some i → f ≡ get_or items i f → AreSound c (map placed_of items)
-    → AllByRecursion (KeepsTimes c) items
-    → f.grants + placed_grants (without sid (map placed_of items)) ≡ placed_grants (map placed_of items)
-grants-found c sid items i f stands is sound times =
-    let within = (position-Some (λ (g : PlacedFlow). g.sid == sid) items i f stands).0 in
-    let own = (sound-flow c items i f within is sound.each times).times.grants in
-    let rest = grants-without sid (placed_of f) (map placed_of items) (flow-found sid items i f stands is)
-    sound.ascending in
-    omega (arith, own, rest)
 
 module _ (c : Config) (sid : ℕ) (f : Placed) (placed : List Placed) (counts : List ℕ) (are : AreCounts c placed counts)
     (found : find (λ g. g.sid == sid) placed ≡ Some f) (up : Ascend placed) where

@@ -9,4 +9,5 @@ pub mod Bits
 pub mod Rows
 pub mod Counts
 pub mod Fields
+pub mod Groups
 pub mod Search

@@ -4,6 +4,7 @@
 mod adopt;
 mod bits;
 mod counts;
+mod group;
 mod placement;
 mod row;
 mod search;

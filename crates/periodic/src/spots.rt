@@ -7,11 +7,12 @@ ghost use Rattle.minislots.specs.Config.{IsLawful};
 ghost use Rattle.sched_calls.specs.FlowSpec.{is_periodic, size_of, interval_frames, jitter_slots, periodic_slots};
 ghost use Rattle.sched_calls.specs.FlowSpec.{grants_of, first_fault};
 ghost use Rattle.periodic.specs.declared.TheConstants.{MAX_SPOTS};
-ghost use Rattle.periodic.specs.Placement.{starts_in, spot_at, spots_of, spots_in};
+ghost use Rattle.periodic.specs.Placement.{starts_in, spot_at, spots_of};
 ghost use Rattle.periodic.specs.Bits.{bit_for};
 ghost use Rattle.periodic.specs.Rows.{row_at, AreMarked, HaveAtMost, AreBounds};
 ghost use Rattle.periodic.specs.Table.{placed_at};
-ghost use Rattle.periodic.specs.Fields.{placed_of, placed_in, KeepsTimes, IsSoundFlow, AreSoundFlows};
+ghost use Rattle.periodic.specs.Fields.{placed_of, KeepsTimes, IsSoundFlow};
+ghost use Rattle.periodic.specs.Groups.{own_place};
 
 use crate::MAX_SPOTS;
 use crate::bits::Bits;
@@ -131,11 +132,20 @@ impl PlacedFlow {
         ensures { (c : Config) → IsSoundFlow c self.now → place < c.cycle
             → result.now ≡ starts_in c self.now.spec self.now.placement place }
     {
-        let starts = self.placement.starts.as_slice();
         if place % self.interval != self.phase {
-            return &starts[..0];
+            return &self.placement.starts.as_slice()[..0];
         }
-        let first = (place / self.interval) as usize * self.grants;
+        self.own_starts(place / self.interval)
+    }
+
+    // Where it starts in the frame of this number among those of its phase, the first being number 0.
+    fn own_starts(&self, number: u64) -> &[u16]
+        requires sound { (c : Config) × IsSoundFlow c self.now × (own_place self.now number < c.cycle) }
+        ensures { (c : Config) → IsSoundFlow c self.now → own_place self.now number < c.cycle
+            → result.now ≡ starts_in c self.now.spec self.now.placement (own_place self.now number) }
+    {
+        let starts = self.placement.starts.as_slice();
+        let first = number as usize * self.grants;
         &starts[first..first + self.grants]
     }
 
@@ -152,18 +162,20 @@ impl PlacedFlow {
         }
     }
 
-    // Writes what the flow takes of the frame at this place behind so many spots, and answers how many there are then.
-    fn put(&self, place: u64, spots: &mut [Spot; MAX_SPOTS], count: usize) -> usize
-        requires sound { (c : Config) × IsSoundFlow c self.now × (place < c.cycle)
-            × (count + length (spots_of c place (placed_of self.now)) ≤ MAX_SPOTS) }
-        ensures spots { (c : Config) → IsSoundFlow c self.now → place < c.cycle → take result
-            spots.new ≡ take count spots.old ++ spots_of c place (placed_of self.now) }
+    // Writes what the flow takes of the frame of this number among those of its phase behind so many spots, and answers
+    // how many there are then.
+    pub(crate) fn put(&self, number: u64, spots: &mut [Spot; MAX_SPOTS], count: usize) -> usize
+        requires sound { (c : Config) × IsSoundFlow c self.now × (own_place self.now number < c.cycle)
+            × (count + length (spots_of c (own_place self.now number) (placed_of self.now)) ≤ MAX_SPOTS) }
+        ensures spots { (c : Config) → IsSoundFlow c self.now → own_place self.now number < c.cycle
+            → take result spots.new
+            ≡ take count spots.old ++ spots_of c (own_place self.now number) (placed_of self.now) }
         ensures rest { drop result spots.new ≡ drop result spots.old }
         ensures more { count ≤ result }
         ensures most { result ≤ MAX_SPOTS }
     {
         let mut next = count;
-        for start in self.starts(place) {
+        for start in self.own_starts(number) {
             spots[next] = self.spot(*start);
             next += 1;
         }
@@ -186,27 +198,6 @@ impl PlacedFlow {
             widest::mark(bits, most, config, start, end, taken);
         }
     }
-}
-
-// Writes what the flows take of frame `k`, in their order, and answers how many spots these are.
-pub(crate) fn fill(
-    flows: &[PlacedFlow],
-    config: &Checked,
-    k: u64,
-    spots: &mut [Spot; MAX_SPOTS],
-) -> usize
-    requires sound { AreSoundFlows config.now flows.now }
-    ensures spots { take result spots.new ≡ spots_in config.now k (placed_in flows.now) }
-    ensures rest { drop result spots.new ≡ drop result spots.old }
-    ensures most { result ≤ MAX_SPOTS }
-    ensures lawful { IsLawful config.now }
-{
-    let place = k % u64::from(config.cycle());
-    let mut count = 0;
-    for flow in flows {
-        count = flow.put(place, spots, count);
-    }
-    count
 }
 
 // Marks what a flow takes of each frame of the cycle as taken, or as free, and keeps the frames' bounds.

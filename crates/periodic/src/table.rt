@@ -17,9 +17,10 @@ use crate::MAX_SPOTS;
 use crate::adopt::is_lawful;
 use crate::bits::Bits;
 use crate::counts::Counts;
+use crate::group::{Group, fill, put_in, room_for, take_out};
 use crate::placement::{PlaceFault, Spot};
 use crate::search::{Chosen, choose};
-use crate::spots::{PlacedFlow, fill, mark, sort};
+use crate::spots::{PlacedFlow, mark, sort};
 use crate::widest::Widest;
 use minislots::Checked;
 use sched_calls::{FlowSpec, Placement, Starts};
@@ -32,7 +33,8 @@ use std::marker::Model;
 #[derive(Drop)]
 pub struct Table {
     config: Checked,
-    flows: Vec<PlacedFlow>,
+    // In no order of their own.
+    groups: Vec<Group>,
     // What the flows take of each frame of the cycle.
     rows: Vec<Bits>,
     // How many free minislots stand in a row there at most.
@@ -41,20 +43,21 @@ pub struct Table {
     counts: Counts,
     // Their grants per interval.
     grants: usize,
+    // How many flows are placed.
+    len: usize,
 }
 
 impl Model for Table {
-    ghost use Rattle.std.specs.Prelude.{map};
     ghost use Rattle.periodic.specs.Table.{TableView};
 
     ghost Value = { TableView };
 
-    ghost use Rattle.periodic.specs.Fields.{placed_of, AreSoundFields};
+    ghost use Rattle.periodic.specs.Groups.{placed_in, AreSoundFields};
 
-    ghost view = { λ t. record { config = t.config; placed = map placed_of t.flows.items } };
+    ghost view = { λ t. record { config = t.config; placed = placed_in t.groups.items } };
 
-    ghost invariant = { λ t. AreSoundFields t.config t.flows.items t.rows.items
-        t.widest.most t.counts.starts t.grants };
+    ghost invariant = { λ t. AreSoundFields t.config t.groups.items t.rows.items
+        t.widest.most t.counts.starts t.grants t.len };
 }
 
 impl Table {
@@ -67,11 +70,12 @@ impl Table {
         let rows = vec![in alloc; Bits::free(); cycle]?;
         Ok(Table {
             config,
-            flows: Vec::new(alloc),
+            groups: Vec::new(alloc),
             rows,
             widest: Widest::open(),
             counts: Counts::open(),
             grants: 0,
+            len: 0,
         })
     }
 
@@ -88,7 +92,7 @@ impl Table {
         ensures value { result ≡ length self.now.placed }
         ensures sound { AreSound self.now.config self.now.placed }
     {
-        self.flows.len()
+        self.len
     }
 
     /// The grants per interval of the flows that are placed.
@@ -103,7 +107,7 @@ impl Table {
     pub fn is_empty(&self) -> bool
         ensures { result ≡ (length self.now.placed == 0) }
     {
-        self.flows.is_empty()
+        self.len == 0
     }
 
     /// Places a periodic flow, from `next` on: a lawful placement beside those that stand, and its
@@ -191,19 +195,13 @@ impl Table {
         requires { IsPlaced sid self.old.placed }
         ensures { self.new ≡ record self.old { placed = without sid self.old.placed } }
     {
-        let Some(place) = place_of(&self.flows, sid) else {
+        let Some(flow) = take_out(&mut self.groups, sid) else {
             return;
         };
-        mark(
-            &mut self.rows,
-            &mut self.widest,
-            &self.config,
-            &self.flows[place],
-            false,
-        );
-        self.counts.count(&self.config, &self.flows[place], false);
-        self.grants -= self.flows[place].grants;
-        self.flows.retain(|flow| flow.sid != sid);
+        mark(&mut self.rows, &mut self.widest, &self.config, &flow, false);
+        self.counts.count(&self.config, &flow, false);
+        self.grants -= flow.grants;
+        self.len -= 1;
     }
 
     /// Writes what the placed flows take of frame `k`, in the order of their offsets, and answers how
@@ -219,7 +217,7 @@ impl Table {
         ensures ascending { FollowInTurn (take result spots.new) }
         ensures within { AllByRecursion (IsWithinFrame self.now.config) (take result spots.new) }
     {
-        let count = fill(&self.flows, &self.config, k, spots);
+        let count = fill(&self.groups, &self.config, k, spots);
         sort(&mut spots[..count]);
         count
     }
@@ -265,7 +263,7 @@ impl Table {
         )
     }
 
-    // Adds a flow with a placement that is lawful beside those that stand, in order of SID.
+    // Adds a flow with a placement that is lawful beside those that stand, to the group of its interval and phase.
     fn add(
         &mut self,
         sid: u16,
@@ -287,43 +285,23 @@ impl Table {
         ensures config { self.new.config ≡ self.old.config }
         ensures err { OnErr result (self.new ≡ self.old) }
     {
-        let alloc = *self.flows.allocator();
+        let alloc = *self.groups.allocator();
         let kept = Vec::from_slice(alloc, starts)?;
         let answered = Vec::from_slice(alloc, starts)?;
-        let place = place_above(&self.flows, sid).unwrap_or(self.flows.len());
         let placement = Placement {
             reference,
             starts: Starts::from_vec(kept),
         };
         let flow = PlacedFlow::at(&self.config, sid, spec, placement);
-        let grants = flow.grants;
-        self.flows.insert(place, flow)?;
-        mark(
-            &mut self.rows,
-            &mut self.widest,
-            &self.config,
-            &self.flows[place],
-            true,
-        );
-        self.counts.count(&self.config, &self.flows[place], true);
-        self.grants += grants;
+        let place = room_for(&mut self.groups, flow.interval, flow.phase)?;
+        mark(&mut self.rows, &mut self.widest, &self.config, &flow, true);
+        self.counts.count(&self.config, &flow, true);
+        self.grants += flow.grants;
+        self.len += 1;
+        put_in(&mut self.groups, place, flow);
         Ok(Placement {
             reference,
             starts: Starts::from_vec(answered),
         })
     }
-}
-
-// The place of the first flow with a higher SID.
-fn place_above(flows: &[PlacedFlow], sid: u16) -> Option<usize>
-    ensures { result ≡ position (λ f. nat_lt sid f.sid) flows.now }
-{
-    flows.iter().position(|flow| sid < flow.sid)
-}
-
-// The place of the flow with this SID.
-fn place_of(flows: &[PlacedFlow], sid: u16) -> Option<usize>
-    ensures { result ≡ position (λ f. f.sid == sid) flows.now }
-{
-    flows.iter().position(|flow| flow.sid == sid)
 }

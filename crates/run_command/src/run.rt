@@ -1,11 +1,11 @@
 //! A run of a script.
 
-ghost use Rattle.std.specs.Prelude.{◌≡◌, ◌≢◌, ◌⊎◌, [], List, IfOk, OnOk, IfErr};
-ghost use Rattle.sched_calls.specs.Reply.{Answer, HasLine};
+ghost use Rattle.std.specs.Prelude.{◌≡◌, ◌≢◌, ◌⊎◌, [], List, Ok, IfOk, OnOk, IfErr};
+ghost use Rattle.sched_calls.specs.Reply.{Answer, HasLine, IsEncodable};
 ghost use Rattle.text_stream.specs.Watched.{FailsBy};
 ghost use Rattle.text_stream.specs.Writing.{Puts};
 ghost use Rattle.text_stream.specs.RunFault.{TellsFailedRead, TellsFailedWrite, WritesLast};
-ghost use Rattle.sched_history.specs.Answer.{MakesCall, MakesCalls};
+ghost use Rattle.sched_history.specs.Answer.{MakesCalls, answer_in};
 ghost use Rattle.script_reading.specs.Stops.{Stops};
 ghost use Rattle.minislots.specs.Config.{IsLawful};
 ghost use Rattle.history_writing.specs.Fits.{ConfigFits};
@@ -14,26 +14,43 @@ ghost use Rattle.run_command.specs.Run.{line_with, output_asked, AnswersLeaving,
 use crate::output::{RunOutput, Words, output_asked};
 use history_writing::{put_history, put_journal};
 use minislots::{Checked, Config};
-use sched_history::{Call, Reply, Scheduler, Unrecorded, count_unrecorded, make_call};
+use sched_history::{Call, Reply, Scheduler, Unrecorded, count_unrecorded, record_call};
 use sched_lines::LineBuffer;
 use script_reading::read_script;
 use std::alloc::Global;
 use text_stream::{RunFault, Sink, Source, TextFault};
 
+// Puts the line of a reply behind those that wait.
+fn put_reply<W: Sink>(
+    lines: &mut LineBuffer,
+    writer: &mut W,
+    reply: &Reply,
+    words: Words,
+) -> Result<(), TextFault>
+    requires { IsEncodable reply.now }
+    ensures { Puts W.contents W.has_failed writer.old writer.new lines.old lines.new
+        (line_with words (Ok reply.now)) result }
+{
+    match words {
+        Words::Plain => lines.put_reply(writer, reply),
+        Words::Explained => lines.put_explained_reply(writer, reply),
+    }
+}
+
 // Puts the line of an answer behind those that wait.
 fn put_answer<W: Sink>(
     lines: &mut LineBuffer,
     writer: &mut W,
-    answer: &Result<Reply, Unrecorded>,
+    answer: Result<&Reply, Unrecorded>,
     words: Words,
 ) -> Result<(), TextFault>
-    requires { HasLine answer.now }
+    requires { HasLine (answer_in answer) }
     ensures { Puts W.contents W.has_failed writer.old writer.new lines.old lines.new
-        (line_with words answer.now) result }
+        (line_with words (answer_in answer.entry)) result }
 {
-    match words {
-        Words::Plain => lines.put_line(writer, answer),
-        Words::Explained => lines.put_explained(writer, answer),
+    match answer {
+        Ok(reply) => put_reply(lines, writer, reply, words),
+        Err(unrecorded) => lines.put_unrecorded(writer, unrecorded),
     }
 }
 
@@ -56,8 +73,8 @@ fn run_calls<W: Sink>(
 {
     let mut lines = LineBuffer::new();
     for (place, call) in calls.iter().enumerate() {
-        let answer = make_call(scheduler, place, *call);
-        put_answer(&mut lines, writer, &answer, words)?;
+        let answer = record_call(scheduler, place, *call);
+        put_answer(&mut lines, writer, answer, words)?;
     }
     lines.write_out(writer)?;
     Ok(count_unrecorded(scheduler, calls))
@@ -70,7 +87,7 @@ fn make_calls(scheduler: &mut Scheduler, calls: &[Call])
     ensures { (answers : List Answer) × MakesCalls scheduler.old scheduler.new calls.now answers }
 {
     for (place, call) in calls.iter().enumerate() {
-        let _ = make_call(scheduler, place, *call);
+        let _ = record_call(scheduler, place, *call);
     }
 }
 

@@ -2,3 +2,4 @@
 pub mod Answered
 pub mod Made
 pub mod Leaving
+pub mod Reasons

@@ -1,8 +1,11 @@
 -- The answers that calls may get, one after the other.
-use Rattle.std.specs.Prelude.{◌≡◌, ℕ, ◌+◌, ◌<◌, ◌≤◌, List, [], ◌∷◌, ◌++◌, length, Ok, Err}
+use Rattle.std.specs.Prelude.{◌≡◌, ℕ, ◌+◌, ◌<◌, ◌≤◌, List, [], ◌∷◌, ◌++◌, length, Result, Ok, Err}
+use Rattle.std.specs.Borrow.{Bor}
 use Rattle.minislots.specs.declared.config.Config.{Config}
 use Rattle.sched_calls.specs.declared.call.Call.{Call}
+use Rattle.sched_calls.specs.declared.reply.Reply.{Reply}
 use Rattle.sched_calls.specs.declared.reply.Entry.{Entry}
+use Rattle.sched_calls.specs.declared.reply.Unrecorded.{Unrecorded}
 use Rattle.sched_calls.specs.declared.reply.Unrecorded.TheVariants.{HistoryFull, Memory}
 use Rattle.sched_history.specs.History.{IsStep}
 use Rattle.sched_history.specs.Machine.{Machine, MayLackMemory}
@@ -34,6 +37,11 @@ recorded_entries ticket [] answers = []
 recorded_entries ticket (call ∷ calls) [] = []
 recorded_entries ticket (call ∷ calls) (answer ∷ answers) =
     recorded ticket call answer ++ recorded_entries (ticket + 1) calls answers
+
+-- the answer to a call of which the reply is shown
+abbrev pub answer_in : Result (Bor Reply) Unrecorded → Answer
+answer_in (Ok reply) = Ok reply.now
+answer_in (Err unrecorded) = Err unrecorded
 
 -- from one state of a scheduler that keeps its whole history this call, with this answer, led to another
 pub record MakesCall (old new : Machine) (ticket : ℕ) (call : Call) (answer : Answer) : Type 0 where

@@ -20,3 +20,4 @@ pub mod State
 pub mod Ranging
 pub mod Facts
 pub mod Audit
+pub mod Lending

@@ -1,5 +1,5 @@
 -- What a scheduler keeps of its history, and what is true of each scheduler.
-use Rattle.std.specs.Prelude.{◌≡◌, ℕ, ◌+◌, ◌-◌, ◌*◌, ◌/◌, ◌%◌, ◌<◌, ◌≤◌, false, None, List, [], ◌∷◌}
+use Rattle.std.specs.Prelude.{◌≡◌, ℕ, ◌+◌, ◌-◌, ◌*◌, ◌/◌, ◌%◌, ◌<◌, ◌≤◌, Bool, true, false, Option, None, Some, List, [], ◌∷◌}
 use Rattle.std.specs.Prelude.{◌++◌, length, slice_index, vec_capacity}
 use Rattle.std.specs.List.{AllByRecursion}
 use Rattle.minislots.specs.declared.config.Config.{Config}
@@ -10,9 +10,9 @@ use Rattle.flow_book.specs.declared.batches.Batches.{Batches}
 use Rattle.flow_book.specs.Flows.{LiveFlow}
 use Rattle.flow_book.specs.Choice.{HasStartedBy}
 use Rattle.periodic.specs.Placement.{spots_in}
+use Rattle.map_build.specs.declared.frame.PlannedFrame.{PlannedFrame}
 use Rattle.map_build.specs.Plan.{Demand, demand_at}
 use Rattle.sched_history.specs.declared.scheduler.state.State.{State}
-use Rattle.sched_history.specs.declared.scheduler.answering.Answer.{Answer}
 use Rattle.sched_history.specs.declared.scheduler.Scheduler.TheInside.{Inside}
 use Rattle.sched_calls.specs.declared.call.Call.{Call}
 use Rattle.sched_calls.specs.declared.call.Call.TheVariants.{Build}
@@ -92,6 +92,17 @@ pub record IsOpenTo (s : State) (call : Call) (h : List Entry) : Type 0 where
   pub short : length h < MAX_WHOLE_HISTORY
   pub unrefused : refusal_of s.config h call ≡ None
 
+-- the build with this clock, and what is planned for the next frame
+abbrev pub build_of : ℕ → PlannedFrame → PlannedBuild
+build_of now f = record {
+  config = f.overlay.config;
+  clock = now;
+  map = f.map;
+  before = f.overlay.before;
+  flows = f.overlay.flows;
+  met = f.met;
+}
+
 -- The MAP of the build is the lawful one of the next frame after the history, and it is well formed; the flows are
 -- those after it
 pub record IsBuildAfter (c : Config) (h : List Entry) (p : PlannedBuild) : Type 0 where
@@ -104,24 +115,11 @@ pub record IsBuildAfter (c : Config) (h : List Entry) (p : PlannedBuild) : Type 
   pub reserves : (stamp : Stamp) → aged (unmarked p.met (reserves_of h))
       ≡ reserves_of (h ++ record { stamp = stamp; call = Build p.clock; reply = Built p.map } ∷ [])
 
--- The answer to a call after the history, twice, and the fields with one entry more
-pub record IsAnswered (old new : State) (call : Call) (a : Answer) (h : List Entry) : Type 0 where
-  pub twice : a.kept ≡ a.reply
-  pub config : new.config ≡ old.config
-  pub answers : Answers old.config h call a.reply
-  pub encodable : IsEncodable a.reply
-  pub is_after : (stamp : Stamp)
-      → IsStateAfter new (h ++ record { stamp = stamp; call = call; reply = a.reply } ∷ [])
-
 -- after some history the call is open
 abbrev pub IsOpen : State → Call → Type 0
 IsOpen s call = (h : List Entry) × IsOpenTo s call h
 
--- after each history that the fields stand for it is answered
-abbrev pub AnswersOpen : State → State → Call → Answer → Type 0
-AnswersOpen old new call a = (h : List Entry) → IsOpenTo old call h → IsAnswered old new call a h
-
--- and takes memory
+-- after each history that the fields stand for it takes memory
 abbrev pub TakesMemoryOpen : State → Call → Type 0
 TakesMemoryOpen s call = (h : List Entry) → IsOpenTo s call h → TakesMemory s.config h call
 
@@ -155,6 +153,13 @@ pub record IsRecorded (old new : Machine) (stamp : Stamp) (call : Call) (reply :
   pub entered : new ≡ record old { history = old.history ++ record { stamp = stamp; call = call; reply = reply } ∷ [] }
   pub step : IsStep old.config old.history call reply
   pub encodable : IsEncodable reply
+  -- its entry is kept
+  pub kept : new.handed < length new.history
+
+-- It was recorded with some reply, which comes once more where it is asked for
+abbrev pub RecordsWithCopy : Machine → Machine → Stamp → Call → Bool → Option Reply → Type 0
+RecordsWithCopy old new stamp call twice copy =
+    (reply : Reply) × IsRecorded old new stamp call reply × (twice ≡ true → copy ≡ Some reply)
 
 -- Neither the flows nor the time, the Reserves or the header of a history depend on an entry
 pub record IsQuiet (c : Config) (call : Call) (reply : Reply) : Type 0 where

@@ -9,6 +9,7 @@ ghost use Rattle.sched_history.specs.Machine.{past_of, kept_of, is_full, MayLack
 ghost use Rattle.sched_calls.specs.Reply.{IsEncodable};
 ghost use Rattle.sched_history.specs.Planned.{IsPlanAfter};
 ghost use Rattle.sched_history.specs.Refusal.{refusal_of};
+ghost use Rattle.sched_history.specs.State.{RecordsWithCopy};
 
 mod answering;
 mod following;
@@ -27,7 +28,7 @@ pub use handing_over::HandedOver;
 use minislots::{Checked, Stamp};
 pub use planned::Planned;
 pub(crate) use present::Present;
-use recording::note;
+use recording::{newest, note};
 use sched_calls::{Call, Entry, MAX_WHOLE_HISTORY, Refusal, Reply, Unrecorded};
 pub(crate) use state::State;
 use std::alloc::{AllocError, Global};
@@ -58,6 +59,9 @@ impl Model for Scheduler {
 }
 
 impl Scheduler {
+    ghost use Rattle.std.specs.Borrow.{sem};
+    ghost use Rattle.sched_history.specs.Lending.{Records};
+
     /// A scheduler that has recorded no call, with room to keep as many as its configuration says.
     pub fn open(alloc: Global, config: Checked) -> Result<Scheduler, AllocError>
         ensures { IfOk result (λ s. s ≡ record { config = config; history = []; handed = 0 }) }
@@ -74,7 +78,8 @@ impl Scheduler {
     /// Answers a call and records it, with its stamp and its reply. A call that is not recorded changes
     /// nothing: one where as many entries are kept as the configuration allows, or the whole history has
     /// [`MAX_WHOLE_HISTORY`](crate::MAX_WHOLE_HISTORY), before any refusal, and an admission or a build that no refusal
-    /// meets, where memory ran out. Every other call takes no memory.
+    /// meets, where memory ran out. Every other call takes no memory. [`Scheduler::record`] does the same without a second
+    /// reply.
     pub fn call(&mut self, stamp: Stamp, call: Call) -> Result<Reply, Unrecorded>
         // A reply is recorded, and may follow the history.
         ensures recorded { IfOk result (λ reply. self.new ≡ record self.old {
@@ -96,14 +101,59 @@ impl Scheduler {
 
         ensures legal { IsLegal self.new.config self.new.history }
     {
+        match self.make(stamp, call, true) {
+            Ok(copy) => Ok(copy.unwrap()),
+            Err(unrecorded) => Err(unrecorded),
+        }
+    }
+
+    /// Answers a call and records it as [`Scheduler::call`] does, and shows the entry that was recorded. It makes the
+    /// reply once: memory is taken for the MAP of a build or the placement of an admission, and for no copy of it.
+    pub fn record(&mut self, stamp: Stamp, call: Call) -> Result<&Entry, Unrecorded>
+        // An entry is recorded, of this call, with a reply that may follow the history; else nothing changes.
+        ensures* recorded { sem 𝓛 (Records self.entry result) }
+        ensures entry { IfOk result (λ e.
+            e.now ≡ record { stamp = stamp; call = call; reply = e.now.reply }) }
+        ensures step { IfOk result (λ e.
+            IsStep self.old.config self.old.history call e.now.reply) }
+        ensures encodable { IfOk result (λ e. IsEncodable e.now.reply) }
+        ensures room { OnOk result (is_full self.old ≡ false) }
+
+        // Why it is not.
+        ensures full { IsErrOf result Unrecorded.HistoryFull ↔ (is_full self.old ≡ true) }
+        ensures memory { IsErrOf result Unrecorded.Memory
+            → MayLackMemory self.old.config self.old.history call }
+
+        // Where nothing was handed over the whole history is kept.
+        ensures whole { self.old.handed ≡ 0 →
+            is_full self.old ≡ nat_le self.old.config.calls (length self.old.history) }
+    {
+        self.make(stamp, call, false)?;
+        Ok(newest(&self.entries))
+    }
+
+    // Answers a call and records it, and gives the answer once more where it is asked for. A call that is not recorded
+    // changes nothing.
+    fn make(&mut self, stamp: Stamp, call: Call, twice: bool) -> Result<Option<Reply>, Unrecorded>
+        ensures recorded { IfOk result (RecordsWithCopy self.old self.new stamp call twice) }
+        ensures room { OnOk result (is_full self.old ≡ false) }
+        ensures err { OnErr result (self.new ≡ self.old) }
+        ensures full { IsErrOf result Unrecorded.HistoryFull ↔ (is_full self.old ≡ true) }
+        ensures memory { IsErrOf result Unrecorded.Memory
+            → MayLackMemory self.old.config self.old.history call }
+        ensures whole { self.old.handed ≡ 0 →
+            is_full self.old ≡ nat_le self.old.config.calls (length self.old.history) }
+        ensures legal { IsLegal self.new.config self.new.history }
+    {
         if self.is_full() {
             return Err(Unrecorded::HistoryFull);
         }
         if let Some(refusal) = self.refusal_of(call) {
-            return Ok(self.refuse(stamp, call, refusal));
+            self.refuse(stamp, call, refusal);
+            return Ok(Some(Reply::Refused(refusal)));
         }
-        match self.accept(stamp, call) {
-            Ok(reply) => Ok(reply),
+        match self.accept(stamp, call, twice) {
+            Ok(copy) => Ok(copy),
             Err(_) => Err(Unrecorded::Memory),
         }
     }
@@ -151,9 +201,11 @@ impl Scheduler {
         ensures encodable { IsEncodable result }
         ensures legal { IsLegal self.new.config self.new.history }
     {
-        let call = Call::Build { now: planned.clock };
-        let answer = self.state.commit(planned);
-        note(&mut self.ledger, &mut self.entries, stamp, call, answer)
+        let Planned { clock, frame, copy } = planned;
+        let call = Call::Build { now: clock };
+        let reply = self.state.commit(frame);
+        note(&mut self.ledger, &mut self.entries, stamp, call, reply);
+        Reply::Built(copy)
     }
 
     // Whether as many entries are kept as the configuration allows, or there are as many as a whole history may have.

@@ -1,11 +1,11 @@
 //! The lines of a run: one for the answer to each call.
 
-ghost use Rattle.std.specs.Prelude.{◌≡◌, ◌*◌, ◌≤◌, ◌++◌, length, Option};
+ghost use Rattle.std.specs.Prelude.{◌≡◌, ◌*◌, ◌≤◌, ◌++◌, length, Option, Ok, Err};
 ghost use Rattle.std.specs.Prelude.{Some};
 ghost use Rattle.map_codec.specs.WireMap.{IsWellFormed, spelling};
 ghost use Rattle.hex.specs.Hex.{encode_lower};
 ghost use Rattle.sched_lines.specs.Line.{number_text, numbers_text, fault_number, refusal_number, refusal_value};
-ghost use Rattle.sched_lines.specs.Line.{reply_text, answer_text, line_of};
+ghost use Rattle.sched_lines.specs.Line.{reply_text, line_of};
 ghost use Rattle.sched_calls.specs.Reply.{HasLine};
 ghost use Rattle.sched_calls.specs.Reply.{IsEncodable};
 ghost use Rattle.text_stream.specs.Writing.{Writes};
@@ -150,7 +150,7 @@ fn put_payload<W: Sink>(writer: &mut W, word: &[u8], map: &WireMap) -> Result<()
     put_hex(writer, &payload[..len])
 }
 
-fn put_reply<W: Sink>(writer: &mut W, reply: &Reply) -> Result<(), TextFault>
+pub(crate) fn put_reply<W: Sink>(writer: &mut W, reply: &Reply) -> Result<(), TextFault>
     requires { IsEncodable reply.now }
     ensures { Writes W.contents W.has_failed writer.old writer.new (reply_text reply.now) result }
 {
@@ -172,23 +172,30 @@ fn put_reply<W: Sink>(writer: &mut W, reply: &Reply) -> Result<(), TextFault>
     }
 }
 
-// The text of the answer to a call: its reply, or why it was not recorded.
-pub(crate) fn put_answer<W: Sink>(
-    writer: &mut W,
-    answer: &Result<Reply, Unrecorded>,
-) -> Result<(), TextFault>
-    requires { HasLine answer.now }
-    ensures { Writes W.contents W.has_failed writer.old writer.new (answer_text answer.now) result }
+/// The line of a reply.
+#[tactic(auto, unfolding(crate::specs::Line::line_of))]
+pub(crate) fn put_reply_line<W: Sink>(writer: &mut W, reply: &Reply) -> Result<(), TextFault>
+    requires { IsEncodable reply.now }
+    ensures { Writes W.contents W.has_failed writer.old writer.new
+        (line_of (Ok reply.now)) result }
 {
-    match answer {
-        Ok(reply) => put_reply(writer, reply),
-        Err(Unrecorded::HistoryFull) => put(writer, b"history full"),
-        Err(Unrecorded::Memory) => put(writer, b"out of memory"),
+    put_reply(writer, reply)?;
+    put(writer, b"\n")
+}
+
+/// The line of a call that was not recorded: why it was not.
+#[tactic(auto, unfolding(crate::specs::Line::line_of))]
+pub(crate) fn unrecorded_line(unrecorded: Unrecorded) -> &'static [u8]
+    ensures value { result.now ≡ line_of (Err unrecorded) }
+    ensures short { length result.now ≤ 14 }
+{
+    match unrecorded {
+        Unrecorded::HistoryFull => b"history full\n",
+        Unrecorded::Memory => b"out of memory\n",
     }
 }
 
 /// The line of the answer to a call: its reply, or why it was not recorded.
-#[tactic(auto, unfolding(crate::specs::Line::line_of))]
 pub(crate) fn put_line<W: Sink>(
     writer: &mut W,
     answer: &Result<Reply, Unrecorded>,
@@ -196,6 +203,8 @@ pub(crate) fn put_line<W: Sink>(
     requires { HasLine answer.now }
     ensures { Writes W.contents W.has_failed writer.old writer.new (line_of answer.now) result }
 {
-    put_answer(writer, answer)?;
-    put(writer, b"\n")
+    match answer {
+        Ok(reply) => put_reply_line(writer, reply),
+        Err(unrecorded) => put(writer, unrecorded_line(*unrecorded)),
+    }
 }

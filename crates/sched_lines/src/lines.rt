@@ -1,11 +1,11 @@
 //! The lines of a run on their way to a writer.
 
-ghost use Rattle.std.specs.Prelude.{◌≡◌, ◌∷◌, ◌++◌, [], OnOk, codes};
+ghost use Rattle.std.specs.Prelude.{◌≡◌, ◌∷◌, ◌++◌, [], Ok, Err, OnOk, codes};
 ghost use Rattle.hex.specs.Hex.{encode_lower};
 ghost use Rattle.map_codec.specs.WireMap.{IsWellFormed, spelling};
 ghost use Rattle.text_stream.specs.Writing.{Puts, Writes};
 ghost use Rattle.sched_lines.specs.Line.{line_of};
-ghost use Rattle.sched_calls.specs.Reply.{HasLine};
+ghost use Rattle.sched_calls.specs.Reply.{HasLine, IsEncodable};
 
 mod explained;
 
@@ -57,28 +57,52 @@ impl LineBuffer {
         self.waiting.put_map(writer, &payload[..len])
     }
 
-    // Puts the line of any answer behind those that wait: it is made apart first.
+    // Puts the line of any reply behind those that wait: it is made apart first.
     #[inline(never)]
-    fn put_apart<W: Sink>(
-        &mut self,
-        writer: &mut W,
-        answer: &Result<Reply, Unrecorded>,
-    ) -> Result<(), TextFault>
-        requires { HasLine answer.now }
+    fn put_apart<W: Sink>(&mut self, writer: &mut W, reply: &Reply) -> Result<(), TextFault>
+        requires { IsEncodable reply.now }
         ensures { Puts W.contents W.has_failed writer.old writer.new self.old self.new
-            (line_of answer.now) result }
+            (line_of (Ok reply.now)) result }
     {
         self.line.clear();
-        if line::put_line(&mut self.line, answer).is_ok() {
+        if line::put_reply_line(&mut self.line, reply).is_ok() {
             return self.waiting.put(writer, self.line.as_slice());
         }
         self.write_out(writer)?;
-        line::put_line(writer, answer)
+        line::put_reply_line(writer, reply)
     }
 
-    /// Puts the line of an answer behind those that wait. Where there is no room for it, those are written
+    /// Puts the line of a reply behind those that wait. Where there is no room for it, those are written
     /// first; a line that is longer than the buffer is then written too.
     #[tactic(auto, unfolding(crate::specs::Line::line_of))]
+    pub fn put_reply<W: Sink>(&mut self, writer: &mut W, reply: &Reply) -> Result<(), TextFault>
+        requires { IsEncodable reply.now }
+        ensures { Puts W.contents W.has_failed writer.old writer.new self.old self.new
+            (line_of (Ok reply.now)) result }
+    {
+        if self.waiting.push_line(reply) {
+            return Ok(());
+        }
+        match reply {
+            Reply::Built(map) => self.put_map(writer, &map.wire),
+            _ => self.put_apart(writer, reply),
+        }
+    }
+
+    /// Puts the line of a call that was not recorded behind those that wait, which are written first where there is no
+    /// room for it.
+    pub fn put_unrecorded<W: Sink>(
+        &mut self,
+        writer: &mut W,
+        unrecorded: Unrecorded,
+    ) -> Result<(), TextFault>
+        ensures { Puts W.contents W.has_failed writer.old writer.new self.old self.new
+            (line_of (Err unrecorded)) result }
+    {
+        self.waiting.put(writer, line::unrecorded_line(unrecorded))
+    }
+
+    /// Puts the line of an answer behind those that wait: that of its reply, or of a call that was not recorded.
     pub fn put_line<W: Sink>(
         &mut self,
         writer: &mut W,
@@ -88,12 +112,9 @@ impl LineBuffer {
         ensures { Puts W.contents W.has_failed writer.old writer.new self.old self.new
             (line_of answer.now) result }
     {
-        if self.waiting.push_line(answer) {
-            return Ok(());
-        }
         match answer {
-            Ok(Reply::Built(map)) => self.put_map(writer, &map.wire),
-            _ => self.put_apart(writer, answer),
+            Ok(reply) => self.put_reply(writer, reply),
+            Err(unrecorded) => self.put_unrecorded(writer, *unrecorded),
         }
     }
 

@@ -1,14 +1,14 @@
 //! What a refusal means, in words behind its line.
 
-ghost use Rattle.std.specs.Prelude.{◌≡◌};
-ghost use Rattle.sched_calls.specs.Reply.{HasLine};
+ghost use Rattle.std.specs.Prelude.{◌≡◌, Ok};
+ghost use Rattle.sched_calls.specs.Reply.{IsEncodable};
 ghost use Rattle.sched_lines.specs.Meaning.{fault_words, words_before, number_told, words_behind, digits_of};
-ghost use Rattle.sched_lines.specs.Meaning.{meaning_of, refusal_in, remark_of, explained_line};
+ghost use Rattle.sched_lines.specs.Meaning.{meaning_of, refusal_as, remark_of, explained_line};
 ghost use Rattle.text_stream.specs.Writing.{Writes};
 
-use crate::line::put_answer;
+use crate::line::put_reply;
 use itoa::Buffer;
-use sched_calls::{FlowFault, MAX_RESERVES, Refusal, Reply, Unrecorded};
+use sched_calls::{FlowFault, MAX_RESERVES, Refusal, Reply};
 use text_stream::{Sink, TextFault, put};
 
 // What is wrong with a flow's parameters.
@@ -107,12 +107,12 @@ fn put_meaning<W: Sink>(writer: &mut W, refusal: Refusal) -> Result<(), TextFaul
     put(writer, words_behind(refusal))
 }
 
-// The refusal that an answer is, where it is one.
-fn refusal_in(answer: &Result<Reply, Unrecorded>) -> Option<Refusal>
-    ensures { result ≡ refusal_in answer.now }
+// The refusal that a reply is, where it is one.
+fn refusal_as(reply: &Reply) -> Option<Refusal>
+    ensures { result ≡ refusal_as reply.now }
 {
-    match answer {
-        Ok(Reply::Refused(refusal)) => Some(*refusal),
+    match reply {
+        Reply::Refused(refusal) => Some(*refusal),
         _ => None,
     }
 }
@@ -130,18 +130,14 @@ fn put_remark<W: Sink>(writer: &mut W, refusal: Option<Refusal>) -> Result<(), T
     }
 }
 
-/// The line of the answer to a call, with what it means behind it where it is a refusal: two spaces, a number sign and
-/// the words.
+/// The line of a reply, with what it means behind it where it is a refusal: two spaces, a number sign and the words.
 #[tactic(auto, unfolding(crate::specs::Meaning::explained_line))]
-pub fn put_explained<W: Sink>(
-    writer: &mut W,
-    answer: &Result<Reply, Unrecorded>,
-) -> Result<(), TextFault>
-    requires { HasLine answer.now }
+pub fn put_explained<W: Sink>(writer: &mut W, reply: &Reply) -> Result<(), TextFault>
+    requires { IsEncodable reply.now }
     ensures { Writes W.contents W.has_failed writer.old writer.new
-        (explained_line answer.now) result }
+        (explained_line (Ok reply.now)) result }
 {
-    put_answer(writer, answer)?;
-    put_remark(writer, refusal_in(answer))?;
+    put_reply(writer, reply)?;
+    put_remark(writer, refusal_as(reply))?;
     put(writer, b"\n")
 }

@@ -147,7 +147,7 @@ impl Config {
         ensures { result ≡ is_lawful_field self.now ConfigFault.Quantum }
     {
         let sizes = self.bursts.short_sizes(self.short_max);
-        let burst = self.bursts.slots(sizes, self.quantum);
+        let burst = self.bursts.grant_size(sizes, self.quantum).slots;
         is_within(64, 1522, self.quantum)
             && burst + u64::from(self.req_slots) <= u64::from(self.frame)
     }

@@ -18,6 +18,7 @@ use Rattle.sched_calls.specs.declared.reply.Entry.{Entry}
 use Rattle.sched_history.specs.Life.{Life, life_of, flow_in_life}
 use Rattle.sched_history.specs.Time.{IsFirstStart}
 use Rattle.sched_history.specs.History.{Answers, flow_status}
+use Rattle.sched_calls.specs.Reply.{OwnsMemory}
 use Rattle.sched_history.specs.Audit.{is_told, flat_of}
 
 -- the reply that is told so
@@ -88,6 +89,23 @@ IsFlat-told c h (Skip now) r told answers =
 IsFlat-told c h (Status sid) r told answers = IsFlat-status c sid (life_of sid h) r answers
 IsFlat-told c h (Reserve usage slots) r told answers = IsFlat-as r replies.Reserved answers (flat.Reserved, refl)
 IsFlat-told c h (Header header) r told answers = IsFlat-as r replies.Noted answers (flat.Noted, refl)
+
+flat-owns : (r : Reply) (p : FlatReply) → flat_of r ≡ Some p → OwnsMemory r → ⊥
+flat-owns (replies.Admitted None) p e owns = owns
+flat-owns (replies.Admitted (Some placement)) p e owns = absurd cc
+flat-owns replies.Removed p e owns = owns
+flat-owns replies.Taken p e owns = owns
+flat-owns replies.Noted p e owns = owns
+flat-owns replies.Reserved p e owns = owns
+flat-owns (replies.Built m) p e owns = absurd cc
+flat-owns (replies.Skipped next) p e owns = owns
+flat-owns (replies.Flow asked granted outstanding) p e owns = owns
+flat-owns (replies.Refused refusal) p e owns = owns
+
+-- the answer owns no memory
+pub told-owns : (c : Config) (h : List Entry) (call : Call) (r : Reply) → is_told call ≡ true → Answers c h call r
+    → OwnsMemory r → ⊥
+told-owns c h call r told answers owns = let is = IsFlat-told c h call r told answers in flat-owns r is.0 is.1 owns
 
 -- the answer is one
 pub told-one : (c : Config) (h : List Entry) (call : Call) (r r' : Reply) → is_told call ≡ true → Answers c h call r

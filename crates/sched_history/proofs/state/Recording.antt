@@ -1,11 +1,13 @@
 -- A scheduler with one entry more.
-use Rattle.std.proofs.Common.{◌≡◌, ℕ, ◌+◌, ◌<◌, ◌≤◌, false, nat_le, List, [], ◌∷◌, ◌++◌, None, length, drop}
+use Rattle.std.proofs.Common.{◌≡◌, ℕ, ◌+◌, ◌<◌, ◌≤◌, true, false, nat_le, List, [], ◌∷◌, ◌++◌}
+use Rattle.std.proofs.Common.{Option, None, Some, length, drop}
 use Rattle.std.proofs.Common.{refl, sym, ap, ◌∙◌, subst, arith}
 use Rattle.std.specs.Prelude.{vec_capacity}
 use Rattle.std.proofs.lemmas.List.{length_push, drop-append-le}
+use Rattle.std.proofs.lemmas.Option.{same_Some}
 use Rattle.minislots.specs.declared.config.Config.{Config}
 use Rattle.minislots.specs.declared.stamp.Stamp.{Stamp}
-use Rattle.sched_history.specs.declared.scheduler.answering.Answer.{Answer}
+use Rattle.map_build.specs.declared.frame.PlannedFrame.{PlannedFrame}
 use Rattle.sched_history.specs.declared.scheduler.Scheduler.TheInside.{Inside}
 use Rattle.sched_calls.specs.declared.call.Call.{Call}
 use Rattle.sched_calls.specs.declared.call.Call.TheVariants.{Build}
@@ -17,8 +19,8 @@ use Rattle.sched_history.specs.History.{IsStep, IsLegal}
 use Rattle.sched_history.specs.Machine.{Machine, kept_of, is_full}
 use Rattle.sched_calls.specs.Reply.{IsEncodable}
 use Rattle.sched_history.specs.Planned.{PlannedBuild, IsPlanAfter}
-use Rattle.sched_history.specs.State.{IsStateAfter, machine_of, IsSound, IsKeptOf, IsOpenTo, IsBuildAfter, IsAnswered}
-use Rattle.sched_history.specs.State.{IsRecorded}
+use Rattle.sched_history.specs.State.{IsStateAfter, machine_of, IsSound, IsKeptOf, IsOpenTo, IsBuildAfter, IsFollowed}
+use Rattle.sched_history.specs.State.{IsRecorded, RecordsWithCopy, build_of}
 use Rattle.flow_book.proofs.Order.{all-push}
 use Rattle.sched_history.proofs.steps.Passed.{above, neither}
 use Rattle.sched_history.proofs.steps.Steps.{IsLegal-push, IsStep-answered}
@@ -48,6 +50,12 @@ pub room-ledger : (a : Inside) (m : Machine) → machine_of a ≡ m → is_full 
     → length a.ledger < MAX_WHOLE_HISTORY
 room-ledger a m is room = room-whole (machine_of a) (subst (λ n. is_full n ≡ false) (sym is) room)
 
+-- the same configuration with the same history, of which as many entries were handed over
+machine-same : (c d : Config) (h k : List Entry) (m n : ℕ) → c ≡ d → h ≡ k → m ≡ n
+    → ◌≡◌ {A = Machine} (record { config = c; history = h; handed = m })
+    (record { config = d; history = k; handed = n })
+machine-same c d h k m n config history handed = rw (config, history, handed) refl
+
 -- A scheduler with one entry more
 module _ (a b : Inside) (e : Entry) (sound : IsSound a) (ledger : b.ledger ≡ a.ledger ++ e ∷ [])
     (items : b.entries.items ≡ a.entries.items ++ e ∷ []) where
@@ -64,7 +72,11 @@ module _ (a b : Inside) (e : Entry) (sound : IsSound a) (ledger : b.ledger ≡ a
   pub handed-push : (machine_of b).handed ≡ (machine_of a).handed
   handed-push = omega (arith, more, more-kept)
 
-  -- and keeps the one
+  -- has not handed over that one
+  pub kept-more : (machine_of b).handed < length b.ledger
+  kept-more = omega (arith, more, more-kept, few-push)
+
+  -- and keeps it
   kept-push : kept_of (machine_of b) ≡ b.entries.items
   kept-push =
       ap (λ n. drop n b.ledger) handed-push
@@ -136,72 +148,67 @@ IsOpenTo-inside a m is call sound room none = record {
   unrefused = subst (λ n. refusal_of n.config n.history call ≡ None) (sym is) none;
 }
 
--- the same configuration with the same history, of which as many entries were handed over
-machine-same : (c d : Config) (h k : List Entry) (m n : ℕ) → c ≡ d → h ≡ k → m ≡ n
-    → ◌≡◌ {A = Machine} (record { config = c; history = h; handed = m })
-    (record { config = d; history = k; handed = n })
-machine-same c d h k m n config history handed = rw (config, history, handed) refl
-
--- A scheduler in which the answer to an open call is entered
-module _ (a b : Inside) (stamp : Stamp) (call : Call) (t : Answer) (sound : IsSound a)
-    (opens : IsOpenTo a.state call a.ledger) (answered : IsAnswered a.state b.state call t a.ledger)
-    (counted : b.ledger ≡ a.ledger ++ record { stamp = stamp; call = call; reply = t.kept } ∷ [])
-    (entered : b.entries.items ≡ a.entries.items ++ record { stamp = stamp; call = call; reply = t.kept } ∷ []) where
+-- A scheduler in which a call is entered with its reply
+module _ (a b : Inside) (stamp : Stamp) (call : Call) (reply : Reply) (sound : IsSound a)
+    (counted : b.ledger ≡ a.ledger ++ record { stamp = stamp; call = call; reply = reply } ∷ [])
+    (entered : b.entries.items ≡ a.entries.items ++ record { stamp = stamp; call = call; reply = reply } ∷ []) where
   abbrev told : Entry
-  told = record { stamp = stamp; call = call; reply = t.reply }
+  told = record { stamp = stamp; call = call; reply = reply }
 
-  ledger-is : b.ledger ≡ a.ledger ++ told ∷ []
-  ledger-is = counted
-      ∙ ap (λ (r : Reply). a.ledger ++ record { stamp = stamp; call = call; reply = r } ∷ []) answered.twice
+  -- has recorded it, where it is a step
+  pub IsRecorded-step : (m : Machine) → machine_of a ≡ m → b.state.config ≡ a.state.config
+      → IsStep a.state.config a.ledger call reply → IsEncodable reply
+      → IsRecorded m (machine_of b) stamp call reply
+  IsRecorded-step m is config step encodable =
+      subst (λ n. IsRecorded n (machine_of b) stamp call reply) is (record {
+        entered = machine-same b.state.config a.state.config b.ledger _ _ _ config counted
+            (handed-push a b told sound counted entered);
+        step = step;
+        encodable = encodable;
+        kept = kept-more a b told sound counted entered;
+      })
 
-  items-are : b.entries.items ≡ a.entries.items ++ told ∷ []
-  items-are = entered
-      ∙ ap (λ (r : Reply). a.entries.items ++ record { stamp = stamp; call = call; reply = r } ∷ []) answered.twice
+  -- So it is with the answer to an open call
+  module _ (opens : IsOpenTo a.state call a.ledger) (answered : IsFollowed a.state b.state call reply a.ledger) where
+    step-is : IsStep a.state.config a.ledger call reply
+    step-is = IsStep-answered a.state.config a.ledger call reply opens.unrefused answered.answers
 
-  step-is : IsStep a.state.config a.ledger call t.reply
-  step-is = IsStep-answered a.state.config a.ledger call t.reply opens.unrefused answered.answers
+    pub IsRecorded-answered : (m : Machine) → machine_of a ≡ m → IsRecorded m (machine_of b) stamp call reply
+    IsRecorded-answered m is = IsRecorded-step m is answered.config step-is answered.encodable
 
-  -- is sound, where there was room
-  pub IsSound-answered : vec_capacity b.entries ≡ vec_capacity a.entries → is_full (machine_of a) ≡ false → IsSound b
-  IsSound-answered capacity room =
-      IsSound-push a b told sound ledger-is items-are capacity answered.config room step-is answered.encodable
-      (answered.is_after stamp)
-
-  -- and has recorded it
-  pub IsRecorded-answered : (m : Machine) → machine_of a ≡ m → IsRecorded m (machine_of b) stamp call t.reply
-  IsRecorded-answered m is = subst (λ n. IsRecorded n (machine_of b) stamp call t.reply) is (record {
-    entered = machine-same b.state.config a.state.config b.ledger _ _ _ answered.config ledger-is
-        (handed-push a b told sound ledger-is items-are);
-    step = step-is;
-    encodable = answered.encodable;
-  })
+    -- and it is sound, where there was room
+    pub IsSound-answered : vec_capacity b.entries ≡ vec_capacity a.entries → is_full (machine_of a) ≡ false → IsSound b
+    IsSound-answered capacity room =
+        IsSound-push a b told sound counted entered capacity answered.config room step-is answered.encodable
+        (answered.is_after stamp)
 
 -- A scheduler in which a planned build is entered
-module _ (a b : Inside) (m : Machine) (is : machine_of a ≡ m) (stamp : Stamp) (p : PlannedBuild) (t : Answer)
-    (sound : IsSound a) (fits : IsPlanAfter m p)
-    (answered : (h : List Entry) → IsOpenTo a.state (Build p.clock) h → IsBuildAfter a.state.config h p
-    → IsAnswered a.state b.state (Build p.clock) t h)
-    (counted : b.ledger ≡ a.ledger ++ record { stamp = stamp; call = Build p.clock; reply = t.kept } ∷ [])
-    (entered : b.entries.items ≡ a.entries.items
-    ++ record { stamp = stamp; call = Build p.clock; reply = t.kept } ∷ []) where
-  opens-planned : IsOpenTo a.state (Build p.clock) a.ledger
-  opens-planned = IsOpenTo-inside a m is (Build p.clock) sound fits.room fits.unrefused
+module _ (a b : Inside) (m : Machine) (is : machine_of a ≡ m) (stamp : Stamp) (now : ℕ) (frame : PlannedFrame)
+    (reply : Reply) (sound : IsSound a) (fits : IsPlanAfter m (build_of now frame))
+    (answered : (n : ℕ) (h : List Entry) → IsOpenTo a.state (Build n) h
+    → IsBuildAfter a.state.config h (build_of n frame) → IsFollowed a.state b.state (Build n) reply h)
+    (counted : b.ledger ≡ a.ledger ++ record { stamp = stamp; call = Build now; reply = reply } ∷ [])
+    (entered : b.entries.items
+    ≡ a.entries.items ++ record { stamp = stamp; call = Build now; reply = reply } ∷ []) where
+  pub opens-planned : IsOpenTo a.state (Build now) a.ledger
+  opens-planned = IsOpenTo-inside a m is (Build now) sound fits.room fits.unrefused
 
-  answers-planned : IsAnswered a.state b.state (Build p.clock) t a.ledger
+  answers-planned : IsFollowed a.state b.state (Build now) reply a.ledger
   answers-planned =
-      answered a.ledger opens-planned
-      (subst (λ n. IsBuildAfter n.config n.history p) (sym is) (IsBuildAfter-planned m p fits))
+      answered now a.ledger opens-planned
+      (subst (λ n. IsBuildAfter n.config n.history (build_of now frame)) (sym is)
+      (IsBuildAfter-planned m (build_of now frame) fits))
 
   -- is sound
   pub IsSound-planned : vec_capacity b.entries ≡ vec_capacity a.entries → IsSound b
   IsSound-planned capacity =
-      IsSound-answered a b stamp (Build p.clock) t sound opens-planned answers-planned counted entered capacity
+      IsSound-answered a b stamp (Build now) reply sound counted entered opens-planned answers-planned capacity
       (subst (λ n. is_full n ≡ false) (sym is) fits.room)
 
   -- and has recorded it
-  pub IsRecorded-planned : IsRecorded m (machine_of b) stamp (Build p.clock) t.reply
+  pub IsRecorded-planned : IsRecorded m (machine_of b) stamp (Build now) reply
   IsRecorded-planned =
-      IsRecorded-answered a b stamp (Build p.clock) t sound opens-planned answers-planned counted entered m is
+      IsRecorded-answered a b stamp (Build now) reply sound counted entered opens-planned answers-planned m is
 
 -- a recorded call keeps the history legal
 pub IsLegal-recorded : (old new : Machine) (stamp : Stamp) (call : Call) (reply : Reply)
@@ -210,3 +217,21 @@ pub IsLegal-recorded : (old new : Machine) (stamp : Stamp) (call : Call) (reply 
 IsLegal-recorded old new stamp call reply legal recorded =
     rw (recorded.entered)
     (IsLegal-push old.config old.history (record { stamp = stamp; call = call; reply = reply }) legal recorded.step)
+
+-- the entry of a recorded call is the last of those that are kept
+pub kept-newest : (a : Inside) (old new : Machine) (stamp : Stamp) (call : Call) (reply : Reply)
+    → machine_of a ≡ new → IsSound a → IsRecorded old new stamp call reply
+    → a.entries.items ≡ kept_of old ++ record { stamp = stamp; call = call; reply = reply } ∷ []
+kept-newest a old new stamp call reply is sound recorded =
+    let e : Entry = record { stamp = stamp; call = call; reply = reply } in
+    let handed : new.handed ≡ old.handed = ap (λ (m : Machine). m.handed) recorded.entered in
+    let more : length new.history ≡ length old.history + 1 =
+    ap (λ (m : Machine). length m.history) recorded.entered ∙ length_push old.history e in
+    sym sound.kept ∙ ap kept_of is ∙ ap kept_of recorded.entered
+    ∙ drop-append-le old.handed old.history (e ∷ []) (omega (arith, handed, more, recorded.kept))
+
+-- a call was recorded with the reply that is handed out
+pub IsRecorded-copy : (old new : Machine) (stamp : Stamp) (call : Call) (copy : Option Reply) (reply : Reply)
+    → RecordsWithCopy old new stamp call true copy → copy ≡ Some reply → IsRecorded old new stamp call reply
+IsRecorded-copy old new stamp call copy reply recorded is =
+    subst (IsRecorded old new stamp call) (same_Some recorded.0 reply (sym (recorded.2 refl) ∙ is)) recorded.1

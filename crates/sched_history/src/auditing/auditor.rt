@@ -172,6 +172,6 @@ fn reply_after(
     let present = Present { state, ledger };
     match present.refusal_of(call) {
         Some(refusal) => Ok(Reply::Refused(refusal)),
-        None => Ok(state.answer(alloc, call)?.reply),
+        None => Ok(state.answer(alloc, call, false)?.reply),
     }
 }

@@ -1,35 +1,98 @@
 //! The answer to each call that no test refuses, and what it changes.
 
-ghost use Rattle.std.specs.Prelude.{◌≡◌, ◌+◌, List, false, true, IfOk, OnErr};
+ghost use Rattle.std.specs.Prelude.{◌≡◌, ◌+◌, ℕ, List, false, true, Some, IfOk, OnErr};
 ghost use Rattle.sched_calls.specs.FlowSpec.{is_periodic};
+ghost use Rattle.sched_calls.specs.Reply.{OwnsMemory};
 ghost use Rattle.sched_calls.specs.declared.reply.Entry.{Entry};
 ghost use Rattle.sched_history.specs.Time.{IsFirstStart};
-ghost use Rattle.sched_history.specs.State.{IsOpenTo, IsOpen, IsBuildAfter, AnswersOpen, TakesMemoryOpen, IsAnswered};
+ghost use Rattle.sched_history.specs.State.{IsOpenTo, IsOpen, IsBuildAfter, FollowsOpen, TakesMemoryOpen, IsFollowed, build_of};
+ghost use Rattle.sched_history.specs.Audit.{is_told};
 
-use super::planned::Planned;
 use super::refusing::is_periodic;
 use super::state::State;
+use map_build::PlannedFrame;
 use periodic::PlaceFault;
-use sched_calls::{Call, FlowSpec, Header, Opportunity, Refusal, Reply, Usage};
+use sched_calls::{Call, FlowSpec, FrameMap, Header, Opportunity, Refusal, Reply, Usage};
 use std::alloc::{AllocError, Global};
 
-// An answer, and the same again for the history.
+// An answer for the history, and where it is asked for the same again to be handed out.
 #[derive(Drop)]
 pub(crate) struct Answer {
     pub(crate) reply: Reply,
-    pub(super) kept: Reply,
+    pub(super) copy: Option<Reply>,
+}
+
+// A MAP as the answer that is handed out, where one is asked for.
+fn copy_map(alloc: Global, map: &FrameMap, twice: bool) -> Result<Option<Reply>, AllocError>
+    ensures { IfOk result (λ copy. twice ≡ true → copy ≡ Some (Reply.Built map.now)) }
+{
+    if !twice {
+        return Ok(None);
+    }
+    Ok(Some(Reply::Built(map.copy(alloc)?)))
+}
+
+// A reply as the answer that is handed out, where one is asked for.
+fn copy_reply(alloc: Global, reply: &Reply, twice: bool) -> Result<Option<Reply>, AllocError>
+    ensures copied { IfOk result (λ copy. twice ≡ true → copy ≡ Some reply.now) }
+    ensures memory { OnErr result (OwnsMemory reply.now) }
+{
+    if !twice {
+        return Ok(None);
+    }
+    Ok(Some(reply.copy(alloc)?))
 }
 
 impl State {
-    // Answers a call that no test refuses. Where memory runs out nothing changes.
-    pub(crate) fn answer(&mut self, alloc: Global, call: Call) -> Result<Answer, AllocError>
+    // Answers a call that no test refuses, and where it is asked for copies the answer before anything changes. Where
+    // memory runs out nothing changes.
+    pub(crate) fn answer(
+        &mut self,
+        alloc: Global,
+        call: Call,
+        twice: bool,
+    ) -> Result<Answer, AllocError>
         requires { IsOpen self.old call }
-        ensures answered { IfOk result (AnswersOpen self.old self.new call) }
+        ensures answered { IfOk result (λ a. FollowsOpen self.old self.new call a.reply) }
+        ensures copied { IfOk result (λ a. twice ≡ true → a.copy ≡ Some a.reply) }
         ensures err { OnErr result (self.new ≡ self.old) }
         ensures memory { OnErr result (TakesMemoryOpen self.old call) }
     {
         match call {
-            Call::Admit(sid, spec) if is_periodic(spec) => self.admit_placed_flow(alloc, sid, spec),
+            Call::Admit(sid, spec) if is_periodic(spec) => {
+                self.admit_placed_flow(alloc, sid, spec, twice)
+            }
+            Call::Build { now } => self.build(alloc, now, twice),
+            _ => self.answer_told(alloc, call, twice),
+        }
+    }
+
+    // Answers a call that has one answer, without lists.
+    fn answer_told(&mut self, alloc: Global, call: Call, twice: bool) -> Result<Answer, AllocError>
+        requires open { IsOpen self.old call }
+        requires told { is_told call ≡ true }
+        ensures answered { IfOk result (λ a. FollowsOpen self.old self.new call a.reply) }
+        ensures copied { IfOk result (λ a. twice ≡ true → a.copy ≡ Some a.reply) }
+        ensures err { OnErr result (self.new ≡ self.old) }
+        ensures memory { OnErr result (TakesMemoryOpen self.old call) }
+    {
+        let reply = self.make_told(call)?;
+        match copy_reply(alloc, &reply, twice) {
+            Ok(copy) => Ok(Answer { reply, copy }),
+            // A reply without lists takes no memory.
+            Err(_) => unreachable!(),
+        }
+    }
+
+    // Makes such a call, and gives its one answer.
+    pub(super) fn make_told(&mut self, call: Call) -> Result<Reply, AllocError>
+        requires open { IsOpen self.old call }
+        requires told { is_told call ≡ true }
+        ensures answered { IfOk result (FollowsOpen self.old self.new call) }
+        ensures err { OnErr result (self.new ≡ self.old) }
+        ensures memory { OnErr result (TakesMemoryOpen self.old call) }
+    {
+        match call {
             Call::Admit(sid, spec) => self.admit_best_effort(sid, spec),
             Call::Remove(sid) => Ok(self.forget(sid)),
             Call::Ask {
@@ -40,13 +103,11 @@ impl State {
             } => {
                 let bytes = amount.bytes(&self.config) as u32;
                 self.book.ask(sid, bytes, heard);
-                Ok(Answer {
-                    reply: Reply::Taken,
-                    kept: Reply::Taken,
-                })
+                Ok(Reply::Taken)
             }
             Call::Heard { receiver, upto } => Ok(self.hear(receiver, upto)),
-            Call::Build { now } => self.build(alloc, now),
+            // A build is answered by a MAP.
+            Call::Build { .. } => unreachable!(),
             Call::Skip { now } => Ok(self.skip(now)),
             Call::Status(sid) => Ok(self.tell(sid)),
             Call::Reserve { usage, slots } => Ok(self.reserve(usage, slots)),
@@ -55,17 +116,14 @@ impl State {
     }
 
     // Admits a flow that has no place in the cycle.
-    fn admit_best_effort(&mut self, sid: u16, spec: FlowSpec) -> Result<Answer, AllocError>
+    fn admit_best_effort(&mut self, sid: u16, spec: FlowSpec) -> Result<Reply, AllocError>
         requires open { IsOpen self.old (Call.Admit sid spec) }
         requires aperiodic { is_periodic spec ≡ false }
-        ensures answered { IfOk result (AnswersOpen self.old self.new (Call.Admit sid spec)) }
+        ensures answered { IfOk result (FollowsOpen self.old self.new (Call.Admit sid spec)) }
         ensures err { OnErr result (self.new ≡ self.old) }
     {
         self.book.admit(sid, spec)?;
-        Ok(Answer {
-            reply: Reply::Admitted(None),
-            kept: Reply::Admitted(None),
-        })
+        Ok(Reply::Admitted(None))
     }
 
     // Admits a periodic flow, where there is a place for it.
@@ -74,120 +132,105 @@ impl State {
         alloc: Global,
         sid: u16,
         spec: FlowSpec,
+        twice: bool,
     ) -> Result<Answer, AllocError>
         requires open { IsOpen self.old (Call.Admit sid spec) }
         requires periodic { is_periodic spec ≡ true }
-        ensures answered { IfOk result (AnswersOpen self.old self.new (Call.Admit sid spec)) }
+        ensures answered { IfOk result
+            (λ a. FollowsOpen self.old self.new (Call.Admit sid spec) a.reply) }
+        ensures copied { IfOk result (λ a. twice ≡ true → a.copy ≡ Some a.reply) }
         ensures err { OnErr result (self.new ≡ self.old) }
         ensures memory { OnErr result (TakesMemoryOpen self.old (Call.Admit sid spec)) }
     {
-        match self.admit_periodic(alloc, sid, spec) {
-            Ok((placement, kept)) => Ok(Answer {
+        match self.admit_periodic(alloc, sid, spec, twice) {
+            Ok((placement, copy)) => Ok(Answer {
                 reply: Reply::Admitted(Some(placement)),
-                kept: Reply::Admitted(Some(kept)),
+                copy,
             }),
             Err(PlaceFault::NoPlace) => Ok(Answer {
                 reply: Reply::Refused(Refusal::NoPlace),
-                kept: Reply::Refused(Refusal::NoPlace),
+                copy: Some(Reply::Refused(Refusal::NoPlace)),
             }),
             Err(PlaceFault::Memory) => Err(AllocError),
         }
     }
 
     // Forgets a flow.
-    fn forget(&mut self, sid: u16) -> Answer
+    fn forget(&mut self, sid: u16) -> Reply
         requires { IsOpen self.old (Call.Remove sid) }
-        ensures { AnswersOpen self.old self.new (Call.Remove sid) result }
+        ensures { FollowsOpen self.old self.new (Call.Remove sid) result }
     {
         self.remove(sid);
-        Answer {
-            reply: Reply::Removed,
-            kept: Reply::Removed,
-        }
+        Reply::Removed
     }
 
     // Notes a receiver's progress.
-    fn hear(&mut self, receiver: u8, upto: u64) -> Answer
+    fn hear(&mut self, receiver: u8, upto: u64) -> Reply
         requires { IsOpen self.old (Call.Heard receiver upto) }
-        ensures { AnswersOpen self.old self.new (Call.Heard receiver upto) result }
+        ensures { FollowsOpen self.old self.new (Call.Heard receiver upto) result }
     {
         self.progress[usize::from(receiver)] = upto;
-        Answer {
-            reply: Reply::Noted,
-            kept: Reply::Noted,
-        }
+        Reply::Noted
     }
 
     // Keeps a Reserve for the next MAPs.
-    fn reserve(&mut self, usage: Usage, slots: u32) -> Answer
+    fn reserve(&mut self, usage: Usage, slots: u32) -> Reply
         requires { IsOpen self.old (Call.Reserve usage slots) }
-        ensures { AnswersOpen self.old self.new (Call.Reserve usage slots) result }
+        ensures { FollowsOpen self.old self.new (Call.Reserve usage slots) result }
     {
         let slots = slots as u16;
         self.reserves.add(Opportunity { usage, slots });
-        Answer {
-            reply: Reply::Reserved,
-            kept: Reply::Reserved,
-        }
+        Reply::Reserved
     }
 
     // Notes the header of the next MAPs.
-    fn note_header(&mut self, header: Header) -> Answer
+    fn note_header(&mut self, header: Header) -> Reply
         requires { IsOpen self.old (Call.Header header) }
-        ensures { AnswersOpen self.old self.new (Call.Header header) result }
+        ensures { FollowsOpen self.old self.new (Call.Header header) result }
     {
         self.header = header;
-        Answer {
-            reply: Reply::Noted,
-            kept: Reply::Noted,
-        }
+        Reply::Noted
     }
 
     // Builds the MAP of the next frame.
-    fn build(&mut self, alloc: Global, now: u64) -> Result<Answer, AllocError>
-        requires { IsOpen self.old (Call.Build now) }
-        ensures answered { IfOk result (AnswersOpen self.old self.new (Call.Build now)) }
+    fn build(&mut self, alloc: Global, _now: u64, twice: bool) -> Result<Answer, AllocError>
+        requires { IsOpen self.old (Call.Build _now) }
+        ensures answered { IfOk result
+            (λ a. FollowsOpen self.old self.new (Call.Build _now) a.reply) }
+        ensures copied { IfOk result (λ a. twice ≡ true → a.copy ≡ Some a.reply) }
         ensures err { OnErr result (self.new ≡ self.old) }
     {
-        let planned = self.plan(alloc, now)?;
-        Ok(self.commit(planned))
+        let frame = self.plan_frame(alloc)?;
+        let copy = copy_map(alloc, &frame.map, twice)?;
+        Ok(Answer {
+            reply: self.commit(frame),
+            copy,
+        })
     }
 
     // Describes the next frame by the MAP that is planned.
-    pub(super) fn commit(&mut self, planned: Planned) -> Answer
-        requires { (h : List Entry) × IsOpenTo self.old (Call.Build planned.clock) h
-            × IsBuildAfter self.old.config h planned }
-        ensures built { result.reply ≡ Reply.Built planned.map }
-        ensures answered { (h : List Entry) → IsOpenTo self.old (Call.Build planned.clock) h
-            → IsBuildAfter self.old.config h planned
-            → IsAnswered self.old self.new (Call.Build planned.clock) result h }
+    pub(super) fn commit(&mut self, frame: PlannedFrame) -> Reply
+        requires { (now : ℕ) × (h : List Entry) × IsOpenTo self.old (Call.Build now) h
+            × IsBuildAfter self.old.config h (build_of now frame) }
+        ensures built { result ≡ Reply.Built frame.map }
+        ensures answered { (now : ℕ) (h : List Entry) → IsOpenTo self.old (Call.Build now) h
+            → IsBuildAfter self.old.config h (build_of now frame)
+            → IsFollowed self.old self.new (Call.Build now) result h }
     {
-        let Planned {
-            map,
-            kept,
-            overlay,
-            met,
-            ..
-        } = planned;
+        let PlannedFrame { map, overlay, met } = frame;
         self.book.take_in(overlay);
         self.reserves.age(&met);
         self.next += u64::from(self.config.frame());
-        Answer {
-            reply: Reply::Built(map),
-            kept: Reply::Built(kept),
-        }
+        Reply::Built(map)
     }
 
     // Leaves out the frames whose MAP would be late.
-    fn skip(&mut self, now: u64) -> Answer
+    fn skip(&mut self, now: u64) -> Reply
         requires { IsOpen self.old (Call.Skip now) }
-        ensures { AnswersOpen self.old self.new (Call.Skip now) result }
+        ensures { FollowsOpen self.old self.new (Call.Skip now) result }
     {
         self.next = self.start_after(now);
-        Answer {
-            reply: Reply::Skipped(self.next),
-            kept: Reply::Skipped(self.next),
-        }
+        Reply::Skipped(self.next)
     }
 
     // Where the next frame starts after a skip.
@@ -200,22 +243,15 @@ impl State {
     }
 
     // Tells a flow's bytes.
-    pub(super) fn tell(&self, sid: u16) -> Answer
+    pub(super) fn tell(&self, sid: u16) -> Reply
         requires { IsOpen self.now (Call.Status sid) }
-        ensures { AnswersOpen self.now self.now (Call.Status sid) result }
+        ensures { FollowsOpen self.now self.now (Call.Status sid) result }
     {
         let (asked, granted, outstanding) = self.bytes_of(sid);
-        Answer {
-            reply: Reply::Flow {
-                asked,
-                granted,
-                outstanding,
-            },
-            kept: Reply::Flow {
-                asked,
-                granted,
-                outstanding,
-            },
+        Reply::Flow {
+            asked,
+            granted,
+            outstanding,
         }
     }
 }

@@ -32,12 +32,12 @@ impl State {
         match call {
             Call::Admit(sid, spec) if is_periodic(spec) => self.follow_admission(sid, spec, reply),
             Call::Build { now } => self.follow_build(alloc, now, reply),
-            _ => self.follow_told(alloc, call, reply),
+            _ => self.follow_told(call, reply),
         }
     }
 
     // Follows a call that has one answer, without lists: the reply is that one.
-    fn follow_told(&mut self, alloc: Global, call: Call, reply: &Reply) -> Result<bool, AllocError>
+    fn follow_told(&mut self, call: Call, reply: &Reply) -> Result<bool, AllocError>
         requires open { IsOpen self.old call }
         requires told { is_told call ≡ true }
         ensures follows { IfOk result
@@ -50,7 +50,7 @@ impl State {
         if !is_same_flat(&self.told(call), reply) {
             return Ok(false);
         }
-        self.answer(alloc, call)?;
+        self.make_told(call)?;
         Ok(true)
     }
 
@@ -68,7 +68,7 @@ impl State {
             // A build is answered by a MAP.
             Call::Build { .. } => unreachable!(),
             Call::Skip { now } => Reply::Skipped(self.start_after(now)),
-            Call::Status(sid) => self.tell(sid).reply,
+            Call::Status(sid) => self.tell(sid),
             Call::Reserve { .. } => Reply::Reserved,
             Call::Header(_) => Reply::Noted,
         }
@@ -157,21 +157,21 @@ impl State {
     }
 
     // Whether this is the lawful MAP of the next frame. Where it is, the state is that after it.
-    fn follow_map(&mut self, alloc: Global, now: u64, map: &FrameMap) -> Result<bool, AllocError>
-        requires open { IsOpen self.old (Call.Build now) }
+    fn follow_map(&mut self, alloc: Global, _now: u64, map: &FrameMap) -> Result<bool, AllocError>
+        requires open { IsOpen self.old (Call.Build _now) }
         ensures follows { IfOk result (λ is. is ≡ true →
-            FollowsOpen self.old self.new (Call.Build now) (Reply.Built map.now)) }
+            FollowsOpen self.old self.new (Call.Build _now) (Reply.Built map.now)) }
         ensures differs { IfOk result (λ is. is ≡ false →
-            DiffersOpen self.old (Call.Build now) (Reply.Built map.now)) }
+            DiffersOpen self.old (Call.Build _now) (Reply.Built map.now)) }
         ensures same { IfOk result (λ is. is ≡ false → self.new ≡ self.old) }
         ensures err { OnErr result (self.new ≡ self.old) }
-        ensures memory { OnErr result (TakesMemoryOpen self.old (Call.Build now)) }
+        ensures memory { OnErr result (TakesMemoryOpen self.old (Call.Build _now)) }
     {
-        let planned = self.plan(alloc, now)?;
-        if !is_same_map(planned.map(), map) {
+        let frame = self.plan_frame(alloc)?;
+        if !is_same_map(&frame.map, map) {
             return Ok(false);
         }
-        self.commit(planned);
+        self.commit(frame);
         Ok(true)
     }
 }

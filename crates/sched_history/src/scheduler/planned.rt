@@ -2,8 +2,7 @@
 
 ghost use Rattle.std.specs.Prelude.{◌≡◌};
 
-use flow_book::Overlay;
-use map_build::MAX_WAITING;
+use map_build::PlannedFrame;
 use sched_calls::FrameMap;
 use std::marker::Model;
 
@@ -13,13 +12,10 @@ use std::marker::Model;
 #[derive(Drop)]
 pub struct Planned {
     pub(super) clock: u64,
-    pub(super) map: FrameMap,
-    // The same MAP, for the history.
-    pub(super) kept: FrameMap,
-    // The flows with the data grants of the MAP.
-    pub(super) overlay: Overlay,
-    // Which of the Reserves that waited for the MAP it meets.
-    pub(super) met: [bool; MAX_WAITING],
+    // The MAP, with what it changes.
+    pub(super) frame: PlannedFrame,
+    // The same MAP, to be handed out.
+    pub(super) copy: FrameMap,
 }
 
 impl Model for Planned {
@@ -28,16 +24,11 @@ impl Model for Planned {
 
     ghost Value = { PlannedBuild };
 
-    ghost view = { λ p. record {
-      config = p.overlay.config;
-      clock = p.clock;
-      map = p.map;
-      before = p.overlay.before;
-      flows = p.overlay.flows;
-      met = p.met;
-    } };
+    ghost use Rattle.sched_history.specs.State.{build_of};
 
-    ghost invariant = { λ p. p.kept ≡ p.map };
+    ghost view = { λ p. build_of p.clock p.frame };
+
+    ghost invariant = { λ p. p.copy ≡ p.frame.map };
 }
 
 impl Planned {
@@ -45,6 +36,6 @@ impl Planned {
     pub fn map(&self) -> &FrameMap
         ensures { result.now ≡ self.now.map }
     {
-        &self.map
+        &self.frame.map
     }
 }

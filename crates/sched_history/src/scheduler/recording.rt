@@ -1,11 +1,12 @@
 //! How a call is recorded with its answer.
 
-ghost use Rattle.std.specs.Prelude.{◌≡◌, ◌<◌, ◌++◌, ◌∷◌, [], false, None, length, IfOk, OnErr, vec_capacity};
+ghost use Rattle.std.specs.Prelude.{◌≡◌, ◌<◌, ◌++◌, ◌∷◌, [], List, false, None, length, IfOk, OnErr, vec_capacity};
+ghost use Rattle.sched_calls.specs.declared.reply.Entry.{Entry as Recorded};
 ghost use Rattle.sched_calls.specs.declared.reply.TheConstants.{MAX_WHOLE_HISTORY};
 ghost use Rattle.sched_history.specs.Refusal.{refusal_of};
 ghost use Rattle.sched_history.specs.History.{IsStep};
 ghost use Rattle.sched_history.specs.Machine.{is_full, TakesMemory};
-ghost use Rattle.sched_history.specs.State.{IsRecorded};
+ghost use Rattle.sched_history.specs.State.{IsRecorded, RecordsWithCopy};
 
 use super::Scheduler;
 use super::answering::Answer;
@@ -14,59 +15,64 @@ use minislots::Stamp;
 use sched_calls::{Call, Entry, Refusal, Reply};
 use std::alloc::AllocError;
 
-// Records a call as it came, where there is room reserved, and gives its reply.
+// Records a call as it came, where there is room reserved.
 pub(super) fn note(
     ledger: &mut Ledger,
     entries: &mut Vec<Entry>,
     stamp: Stamp,
     call: Call,
-    answer: Answer,
-) -> Reply
+    reply: Reply,
+)
     requires few { length ledger.old < MAX_WHOLE_HISTORY }
     requires room { length entries.old.items < vec_capacity entries.old }
-    ensures reply { result ≡ answer.reply }
     ensures counted { ledger.new
-        ≡ ledger.old ++ record { stamp = stamp; call = call; reply = answer.kept } ∷ [] }
+        ≡ ledger.old ++ record { stamp = stamp; call = call; reply = reply } ∷ [] }
     ensures items { entries.new.items
-        ≡ entries.old.items ++ record { stamp = stamp; call = call; reply = answer.kept } ∷ [] }
+        ≡ entries.old.items ++ record { stamp = stamp; call = call; reply = reply } ∷ [] }
     ensures capacity { vec_capacity entries.new ≡ vec_capacity entries.old }
 {
-    let Answer { reply, kept } = answer;
-    let entry = Entry {
-        stamp,
-        call,
-        reply: kept,
-    };
+    let entry = Entry { stamp, call, reply };
     ledger.add(&entry);
     entries.push_reserved(entry);
-    reply
+}
+
+// The entry that was recorded last.
+pub(super) fn newest(entries: &[Entry]) -> &Entry
+    requires { 0 < length entries.now }
+    ensures { (before : List Recorded) (e : Recorded)
+        → entries.now ≡ before ++ e ∷ [] → result.now ≡ e }
+{
+    &entries[entries.len() - 1]
 }
 
 impl Scheduler {
     // Refuses a call.
-    pub(super) fn refuse(&mut self, stamp: Stamp, call: Call, refusal: Refusal) -> Reply
+    pub(super) fn refuse(&mut self, stamp: Stamp, call: Call, refusal: Refusal)
         requires room { is_full self.old ≡ false }
         requires step { IsStep self.old.config self.old.history call (Reply.Refused refusal) }
-        ensures refused { result ≡ Reply.Refused refusal }
-        ensures recorded { IsRecorded self.old self.new stamp call result }
+        ensures { IsRecorded self.old self.new stamp call (Reply.Refused refusal) }
     {
-        let answer = Answer {
-            reply: Reply::Refused(refusal),
-            kept: Reply::Refused(refusal),
-        };
-        note(&mut self.ledger, &mut self.entries, stamp, call, answer)
+        let reply = Reply::Refused(refusal);
+        note(&mut self.ledger, &mut self.entries, stamp, call, reply);
     }
 
-    // Answers a call that no test refuses.
-    pub(super) fn accept(&mut self, stamp: Stamp, call: Call) -> Result<Reply, AllocError>
+    // Answers a call that no test refuses, and gives the answer once more where it is asked for.
+    pub(super) fn accept(
+        &mut self,
+        stamp: Stamp,
+        call: Call,
+        twice: bool,
+    ) -> Result<Option<Reply>, AllocError>
         requires room { is_full self.old ≡ false }
         requires unrefused { refusal_of self.old.config self.old.history call ≡ None }
-        ensures recorded { IfOk result (IsRecorded self.old self.new stamp call) }
+        ensures recorded { IfOk result (RecordsWithCopy self.old self.new stamp call twice) }
         ensures err { OnErr result (self.new ≡ self.old) }
         ensures memory { OnErr result (TakesMemory self.old.config self.old.history call) }
     {
         let alloc = *self.entries.allocator();
-        let answer = self.state.answer(alloc, call)?;
-        Ok(note(&mut self.ledger, &mut self.entries, stamp, call, answer))
+        let answer = self.state.answer(alloc, call, twice)?;
+        let Answer { reply, copy } = answer;
+        note(&mut self.ledger, &mut self.entries, stamp, call, reply);
+        Ok(copy)
     }
 }

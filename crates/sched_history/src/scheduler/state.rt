@@ -1,6 +1,6 @@
 //! What the scheduler keeps of the present, so that no call reads the history again.
 
-ghost use Rattle.std.specs.Prelude.{◌≡◌, ◌≢◌, ◌+◌, ◌/◌, ◌%◌, ◌<◌, ◌≤◌, ◌^◌, ◌==◌, [], true, None};
+ghost use Rattle.std.specs.Prelude.{◌≡◌, ◌≢◌, ℕ, ◌+◌, ◌/◌, ◌%◌, ◌<◌, ◌≤◌, ◌^◌, ◌==◌, [], true, None, Some};
 ghost use Rattle.std.specs.Prelude.{List, take, find, IfOk, OnErr, OnOk, IfSome, IsErrOf};
 ghost use Rattle.std.specs.List.{AllByRecursion};
 ghost use Rattle.map_codec.specs.WireMap.{IsWellFormed};
@@ -19,7 +19,7 @@ ghost use Rattle.sched_history.specs.Time.{least, IsFirstStart};
 ghost use Rattle.sched_history.specs.History.{flow_status, IsNextMap};
 ghost use Rattle.sched_calls.specs.declared.reply.Entry.{Entry};
 ghost use Rattle.sched_history.specs.Reserves.{waiting_in};
-ghost use Rattle.sched_history.specs.State.{next_demand, IsStateAfter, IsOpenTo, IsOpen, IsBuildAfter};
+ghost use Rattle.sched_history.specs.State.{next_demand, IsStateAfter, IsOpenTo, IsOpen, IsBuildAfter, build_of};
 ghost use Rattle.sched_history.specs.Facts.{IsWithinAsked};
 
 use super::planned::Planned;
@@ -29,7 +29,7 @@ use flow_book::Book;
 use map_build::{PlannedFrame, plan_with_book};
 use minislots::Checked;
 use periodic::{PlaceFault, Table};
-use sched_calls::{Call, FlowSpec, Header, Placement};
+use sched_calls::{Call, FlowSpec, Header, Placement, Reply};
 use std::alloc::{AllocError, Global};
 
 // The live flows, their placements, and the time.
@@ -46,6 +46,21 @@ pub(crate) struct State {
     pub(crate) reserves: Reserves,
     // The header of the next MAP.
     pub(crate) header: Header,
+}
+
+// A placement as the answer that is handed out, where one is asked for.
+fn copy_placement(
+    alloc: Global,
+    placement: &Placement,
+    twice: bool,
+) -> Result<Option<Reply>, AllocError>
+    ensures { IfOk result
+        (λ copy. twice ≡ true → copy ≡ Some (Reply.Admitted (Some placement.now))) }
+{
+    if !twice {
+        return Ok(None);
+    }
+    Ok(Some(Reply::Admitted(Some(placement.copy(alloc)?))))
 }
 
 // The least of some numbers, 0 where there are none.
@@ -125,14 +140,15 @@ impl State {
         self.book.remove(sid);
     }
 
-    // Places and admits a periodic flow. Its placement comes twice: for the reply and for the history.
+    // Places and admits a periodic flow. Where it is asked for, the answer that is handed out comes with its placement.
     // After a fault nothing has changed.
     pub(crate) fn admit_periodic(
         &mut self,
         alloc: Global,
         sid: u16,
         spec: FlowSpec,
-    ) -> Result<(Placement, Placement), PlaceFault>
+        twice: bool,
+    ) -> Result<(Placement, Option<Reply>), PlaceFault>
         requires sid_positive { 0 < sid }
         requires sid_most { sid ≤ 8191 }
         requires is_new { flow_of sid self.old.book.flows ≡ None }
@@ -143,11 +159,11 @@ impl State {
         requires aligned { self.old.next % self.old.table.config.frame ≡ 0 }
         requires most { self.old.next ≤ 2 ^ 61 }
 
-        ensures lawful { IfOk result (λ twice.
-            IsPlacement self.old.table.config self.old.table.placed spec self.old.next twice.0) }
-        ensures twice { IfOk result (λ twice. twice.1 ≡ twice.0) }
-        ensures placed { IfOk result (λ twice. self.new.table.placed ≡ with_placed
-            (record { sid = sid; spec = spec; placement = twice.0 }) self.old.table.placed) }
+        ensures lawful { IfOk result (λ p.
+            IsPlacement self.old.table.config self.old.table.placed spec self.old.next p.0) }
+        ensures copied { IfOk result (λ p. twice ≡ true → p.1 ≡ Some (Reply.Admitted (Some p.0))) }
+        ensures placed { IfOk result (λ p. self.new.table.placed ≡ with_placed
+            (record { sid = sid; spec = spec; placement = p.0 }) self.old.table.placed) }
         ensures flows { OnOk result (self.new.book.flows
             ≡ with_flow (new_flow sid spec) self.old.book.flows) }
         ensures book_config { self.new.book.config ≡ self.old.book.config }
@@ -161,8 +177,8 @@ impl State {
         ensures err { OnErr result (self.new ≡ self.old) }
     {
         let placement = self.table.place(sid, &spec, self.next)?;
-        match self.admit_placed(alloc, sid, spec, &placement) {
-            Ok(kept) => Ok((placement, kept)),
+        match self.admit_placed(alloc, sid, spec, &placement, twice) {
+            Ok(copy) => Ok((placement, copy)),
             Err(_) => {
                 self.table.remove(sid);
                 Err(PlaceFault::Memory)
@@ -170,26 +186,28 @@ impl State {
         }
     }
 
-    // Admits a flow whose placement stands in the table, and copies the placement. Where memory runs
-    // out nothing has changed.
+    // Admits a flow whose placement stands in the table. The answer that is handed out is made before, where it is asked
+    // for. Where memory runs out nothing has changed.
     fn admit_placed(
         &mut self,
         alloc: Global,
         sid: u16,
         spec: FlowSpec,
         placement: &Placement,
-    ) -> Result<Placement, AllocError>
+        twice: bool,
+    ) -> Result<Option<Reply>, AllocError>
         requires { flow_of sid self.old.book.flows ≡ None }
-        ensures copy { IfOk result (λ kept. kept ≡ placement.now) }
+        ensures copied { IfOk result
+            (λ copy. twice ≡ true → copy ≡ Some (Reply.Admitted (Some placement.now))) }
         ensures flows { OnOk result (self.new.book.flows
             ≡ with_flow (new_flow sid spec) self.old.book.flows) }
         ensures config { self.new.book.config ≡ self.old.book.config }
         ensures same { self.new ≡ record self.old { book = self.new.book } }
         ensures err { OnErr result (self.new ≡ self.old) }
     {
-        let kept = placement.copy(alloc)?;
+        let copy = copy_placement(alloc, placement, twice)?;
         self.book.admit(sid, spec)?;
-        Ok(kept)
+        Ok(copy)
     }
 
     // The acknowledge time: the least progress of the receivers.
@@ -232,23 +250,32 @@ impl State {
         )
     }
 
-    // The build of the MAP of the next frame, with all that it fills.
-    pub(crate) fn plan(&self, alloc: Global, now: u64) -> Result<Planned, AllocError>
+    // The MAP of the next frame, with what it changes: whenever it is built.
+    pub(super) fn plan_frame(&self, alloc: Global) -> Result<PlannedFrame, AllocError>
+        requires { (now : ℕ) × (h : List Entry) × IsOpenTo self.now (Call.Build now) h }
+        ensures fits { IfOk result (λ frame. (now : ℕ) (h : List Entry)
+            → IsOpenTo self.now (Call.Build now) h
+            → IsBuildAfter self.now.config h (build_of now frame)) }
+        ensures only { IfOk result (λ frame. (now : ℕ) (h : List Entry)
+            → IsOpenTo self.now (Call.Build now) h
+            → (n : FrameMap) → IsNextMap self.now.config h n → n ≡ frame.map) }
+    {
+        let frame = self.plan_next(alloc)?;
+        Ok(frame)
+    }
+
+    // The build of that MAP, with all that it fills, and the answer to be handed out.
+    pub(super) fn plan(&self, alloc: Global, now: u64) -> Result<Planned, AllocError>
         requires { IsOpen self.now (Call.Build now) }
         ensures clock { IfOk result (λ planned. planned.clock ≡ now) }
         ensures fits { IfOk result (λ planned. (h : List Entry)
             → IsOpenTo self.now (Call.Build now) h → IsBuildAfter self.now.config h planned) }
-        ensures only { IfOk result (λ planned. (h : List Entry) → IsOpenTo self.now
-            (Call.Build now) h → (n : FrameMap) → IsNextMap self.now.config h n → n ≡ planned.map) }
     {
-        let frame = self.plan_next(alloc)?;
-        let PlannedFrame { map, overlay, met } = frame;
+        let frame = self.plan_frame(alloc)?;
         Ok(Planned {
             clock: now,
-            kept: map.copy(alloc)?,
-            map,
-            overlay,
-            met,
+            copy: frame.map.copy(alloc)?,
+            frame,
         })
     }
 }

@@ -1,6 +1,6 @@
 //! Lines that are put together behind those that wait.
 
-ghost use Rattle.std.specs.Prelude.{◌≡◌, ◌+◌, ◌<◌, ◌≤◌, ◌++◌, Some, length};
+ghost use Rattle.std.specs.Prelude.{◌≡◌, ◌+◌, ◌<◌, ◌≤◌, ◌++◌, Some, Ok, length};
 ghost use Rattle.std.specs.Bool.{OnTrue, OnFalse};
 ghost use Rattle.sched_calls.specs.declared.reply.Reply.TheVariants.{Admitted, Flow, Refused};
 ghost use Rattle.sched_lines.specs.Line.{reply_text, line_of};
@@ -8,7 +8,7 @@ ghost use Rattle.sched_lines.specs.declared.page.TheConstants.{ROOM};
 
 use super::Page;
 use crate::line::{refusal_number, refusal_value};
-use sched_calls::{Placement, Refusal, Reply, Unrecorded};
+use sched_calls::{Placement, Refusal, Reply};
 
 /// The most bytes of a line with at most three numbers, and a few more.
 const SHORT: usize = 96;
@@ -90,16 +90,12 @@ impl Page {
         true
     }
 
-    /// Puts the line of an answer behind the bytes, where it is a reply without a MAP, and there is room for any such
-    /// line of its kind.
+    /// Puts the line of a reply behind the bytes, where it has no MAP, and there is room for any such line of its kind.
     #[inline]
-    pub(crate) fn push_line(&mut self, answer: &Result<Reply, Unrecorded>) -> bool
-        ensures put { OnTrue result (self.new ≡ self.old ++ line_of answer.now) }
+    pub(crate) fn push_line(&mut self, reply: &Reply) -> bool
+        ensures put { OnTrue result (self.new ≡ self.old ++ line_of (Ok reply.now)) }
         ensures same { OnFalse result (self.new ≡ self.old) }
     {
-        let Ok(reply) = answer else {
-            return false;
-        };
         if !self.has_room(SHORT) || !self.push_reply(reply) {
             return false;
         }

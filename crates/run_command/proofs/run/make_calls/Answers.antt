@@ -1,5 +1,6 @@
 -- Each call leads the run one step on.
 use Rattle.std.proofs.Common.{◌++◌, ◌∷◌, []}
+use Rattle.sched_history.specs.Answer.{answer_in}
 use Rattle.sched_history.proofs.runs.Made.{MakesCalls-push, MakesCalls-handed}
 use Rattle.run_command.proofs.run.make_calls.Goals as goal
 
@@ -7,11 +8,11 @@ pub loop-place-preserved : goal.loop-place-preserved
 loop-place-preserved c =
     let at = c.loop-place in
     let before = at.invariant in
-    let one = c.make_call in (
-      before.0 ++ one.result ∷ [],
-      MakesCalls-push _ _ _ c.args.calls.now at.place _ before.0 one.result
-          c.loop-place-test.true before.1 one.ensures.made,
+    let one = c.record_call in (
+      before.0 ++ answer_in one.result ∷ [],
+      MakesCalls-push _ _ _ c.args.calls.now at.place _ before.0 (answer_in one.result)
+          c.loop-place-test.true before.1 one.follows.holds-at-none,
     )
 
-pub make_call-requires : goal.make_call-requires
-make_call-requires c = MakesCalls-handed _ _ _ c.loop-place.invariant.0 c.loop-place.invariant.1
+pub record_call-requires : goal.record_call-requires
+record_call-requires c = MakesCalls-handed _ _ _ c.loop-place.invariant.0 c.loop-place.invariant.1

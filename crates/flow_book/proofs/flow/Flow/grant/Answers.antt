@@ -10,3 +10,4 @@ returns-clause-sums c = λ channel keeps started kept.
     (c.take.ensures.exact channel (rate_of f.spec) (burst_of f.spec) f.grants.items keeps.bucket started).1 kept in
     c.note.ensures.sums channel keeps.asks keeps.granted keeps.turn
     (c.take.ensures.taken taken channel (rate_of f.spec) (burst_of f.spec) f.grants.items keeps.bucket started)
+    (c.take.ensures.settled taken f.grants.items keeps.settled started)

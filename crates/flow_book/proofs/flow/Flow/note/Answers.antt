@@ -8,7 +8,7 @@ use Rattle.flow_book.proofs.Sums.{last-more, bytes-added}
 use Rattle.flow_book.proofs.flow.Flow.note.Goals as goal
 
 pub returns-clause-sums : goal.returns-clause-sums
-returns-clause-sums c = λ channel asks sum knows stands.
+returns-clause-sums c = λ channel asks sum knows stands settled.
     let f = c.args.self.now in
     let bytes : f.granted + c.from.result ≡ bytes_of f.grants.items + c.args.bytes =
     omega (arith, sum, c.from.ensures) in
@@ -21,4 +21,5 @@ returns-clause-sums c = λ channel asks sum knows stands.
       granted = bytes ∙ sym (ap bytes_of items ∙ bytes-added f.grants.items c.args.start c.args.bytes);
       turn = (knows.0, rw last turn);
       bucket = rw items stands;
+      settled = rw items settled;
     }

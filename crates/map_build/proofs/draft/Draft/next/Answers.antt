@@ -12,32 +12,33 @@ spot_at-requires-clause-placed c = (c.args.self.now.overlay.config, c.requires.p
 pub next_stop-requires-clause-placed : goal.next_stop-requires-clause-placed
 next_stop-requires-clause-placed c = rw c.config.ensures.value c.requires.placed
 
-pub returns-in-Some : goal.returns-in-Some
-returns-in-Some c =
+pub returns-in-Some-clause-stands : goal.returns-in-Some-clause-stands
+returns-in-Some-clause-stands c =
     let d = c.args.self.now in
     let s = c.in-Some.spot.now in
     let is = spot-here c.args.spots.now d.offset s (sym c.in-Some.ensures) in
-    rw c.allocation_of.ensures
+    rw (c.without_usage.ensures.allocation, c.allocation_of.ensures)
     (Chooses-spot c.args.spots.now c.args.waiting.now s d c.requires.placed is.0 is.1)
 
-pub returns-in-Some-meet : goal.returns-in-Some-meet
-returns-in-Some-meet c =
+pub returns-in-Some-meet-clause-stands : goal.returns-in-Some-meet-clause-stands
+returns-in-Some-meet-clause-stands c =
     let d = c.args.self.now in
     let stop : c.next_stop.result ≡ next_stop d.overlay.config c.args.spots.now d.offset =
     rw c.config.ensures.value at c.next_stop.ensures.value in
     let none : find (λ s. s.offset == d.offset) c.args.spots.now ≡ None = sym c.in_default.ensures in
     let behind = stop-behind d.overlay.config c.args.spots.now d.offset c.requires.inside none in
-    Chooses-offer c.args.spots.now c.args.waiting.now (c.next_stop.result - d.offset) d (ap (λ n. n - d.offset) stop)
+    rw c.without_usage-in-Some-meet.ensures.allocation
+    (Chooses-offer c.args.spots.now c.args.waiting.now (c.next_stop.result - d.offset) d (ap (λ n. n - d.offset) stop)
     (omega (arith, stop, behind)) c.requires.waiting c.requires.ready.marks c.in-Some-meet.offer c.meet.new.self
-    c.in-Some-meet.ensures
+    c.in-Some-meet.ensures)
 
 pub serve-requires : goal.serve-requires
 serve-requires c =
     let same = c.in_default-meet.ensures.0 in
     record { ready = (c.args.waiting.now, rw same c.requires.ready, rw same c.requires.most) }
 
-pub returns-in-Some-serve : goal.returns-in-Some-serve
-returns-in-Some-serve c =
+pub returns-in-Some-serve-clause-stands : goal.returns-in-Some-serve-clause-stands
+returns-in-Some-serve-clause-stands c =
     let d = c.args.self.now in
     let stop : c.next_stop.result ≡ next_stop d.overlay.config c.args.spots.now d.offset =
     rw c.config.ensures.value at c.next_stop.ensures.value in
@@ -45,12 +46,12 @@ returns-in-Some-serve c =
     let behind = stop-behind d.overlay.config c.args.spots.now d.offset c.requires.inside none in
     let unmet = c.in_default-meet.ensures in
     Chooses-grant c.args.spots.now c.args.waiting.now (c.next_stop.result - d.offset) d (ap (λ n. n - d.offset) stop)
-    (omega (arith, stop, behind)) c.requires.waiting c.requires.ready.marks c.in-Some-serve.grant c.serve.new.self
-    unmet.1 (bounds_of _ c.requires.ready.lawful).bursts (rw unmet.0 at (c.in-Some-serve.ensures
+    (omega (arith, stop, behind)) c.requires.waiting c.requires.ready.marks c.in-Some-serve.grant.allocation c.serve.new.self
+    unmet.1 (bounds_of _ c.requires.ready.lawful).bursts (rw unmet.0 at (c.in-Some-serve.ensures.next
     c.args.waiting.now (rw unmet.0 c.requires.ready) (rw unmet.0 c.requires.most)))
 
-pub returns : goal.returns
-returns c =
+pub returns-clause-stands : goal.returns-clause-stands
+returns-clause-stands c =
     let d = c.args.self.now in
     let stop : c.next_stop.result ≡ next_stop d.overlay.config c.args.spots.now d.offset =
     rw c.config.ensures.value at c.next_stop.ensures.value in
@@ -58,8 +59,8 @@ returns c =
     let behind = stop-behind d.overlay.config c.args.spots.now d.offset c.requires.inside none in
     let unmet = c.in_default-meet.ensures in
     let served =
-    c.in_default-serve.ensures c.args.waiting.now (rw unmet.0 c.requires.ready) (rw unmet.0 c.requires.most) in
+    c.in_default-serve.ensures.next c.args.waiting.now (rw unmet.0 c.requires.ready) (rw unmet.0 c.requires.most) in
     let same : c.serve.new.self ≡ d = served.0 ∙ unmet.0 in
-    rw same
+    rw (c.without_usage-2.ensures.allocation, same)
     (Chooses-idle c.args.spots.now c.args.waiting.now (c.next_stop.result - d.offset) d (ap (λ n. n - d.offset) stop)
     (omega (arith, stop, behind)) c.requires.waiting c.requires.ready.marks unmet.1 (rw unmet.0 at served.1))

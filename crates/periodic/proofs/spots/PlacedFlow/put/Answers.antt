@@ -4,6 +4,7 @@ use Rattle.std.proofs.lemmas.Grind.{drop_more_same}
 use Rattle.std.proofs.lemmas.List.{drop-set-lt, take_all, length-set}
 use Rattle.periodic.specs.Placement.{spot_at, starts_in}
 use Rattle.periodic.specs.Fields.{placed_of}
+use Rattle.periodic.specs.Groups.{own_place}
 use Rattle.periodic.proofs.Fields.{put-more, spots-here, count-here}
 use Rattle.periodic.proofs.Profile.{most_spots}
 use Rattle.periodic.proofs.spots.PlacedFlow.put.Goals as goal
@@ -11,12 +12,12 @@ use Rattle.periodic.proofs.spots.PlacedFlow.put.Goals as goal
 pub bounds-spots-next : goal.bounds-spots-next
 bounds-spots-next c =
     let (config, sound, within, few) = c.requires.sound in
-    let here = ap length (c.starts-start-items.ensures config sound within) in
+    let here = ap length (c.own_starts-start-items.ensures config sound within) in
     omega (
       arith,
       few,
       here,
-      count-here config c.args.place (placed_of c.args.self.now) within,
+      count-here config (own_place c.args.self.now c.args.number) (placed_of c.args.self.now) within,
       c.loop-start.invariant.count,
       most_spots,
     )
@@ -27,12 +28,12 @@ offset_bounds-spots-next c = omega (arith, bounds-spots-next c)
 pub returns-clause-most : goal.returns-clause-most
 returns-clause-most c =
     let (config, sound, within, few) = c.requires.sound in
-    let here = ap length (c.starts-start-items.ensures config sound within) in
+    let here = ap length (c.own_starts-start-items.ensures config sound within) in
     omega (
       arith,
       few,
       here,
-      count-here config c.args.place (placed_of c.args.self.now) within,
+      count-here config (own_place c.args.self.now c.args.number) (placed_of c.args.self.now) within,
       c.loop-start.invariant.count,
       most_spots,
     )
@@ -43,8 +44,8 @@ loop-start-preserved c = record {
   count = omega (arith, c.loop-start.invariant.count);
   spots = λ config sound within.
       let f = c.args.self.now in
-      let starts = starts_in config f.spec f.placement c.args.place in
-      let here = c.starts-start-items.ensures config sound within in
+      let starts = starts_in config f.spec f.placement (own_place f c.args.number) in
+      let here = c.own_starts-start-items.ensures config sound within in
       let s : c.spot.result ≡ spot_at config (placed_of f) (get_or starts c.loop-start.start-index 0) =
       c.spot.ensures config sound.times
       ∙ ap (λ xs. spot_at config (placed_of f) (get_or xs c.loop-start.start-index 0)) here in
@@ -55,8 +56,8 @@ loop-start-preserved c = record {
         arith,
         c.loop-start.invariant.long,
         c.requires.sound.3,
-        ap length (c.starts-start-items.ensures c.requires.sound.0 c.requires.sound.1 c.requires.sound.2),
-        count-here c.requires.sound.0 c.args.place (placed_of f) c.requires.sound.2,
+        ap length (c.own_starts-start-items.ensures c.requires.sound.0 c.requires.sound.1 c.requires.sound.2),
+        count-here c.requires.sound.0 (own_place f c.args.number) (placed_of f) c.requires.sound.2,
         c.loop-start.invariant.count,
         most_spots,
       ))
@@ -69,10 +70,10 @@ loop-start-preserved c = record {
 pub returns-clause-spots : goal.returns-clause-spots
 returns-clause-spots c = λ config sound within.
     let f = c.args.self.now in
-    let starts = starts_in config f.spec f.placement c.args.place in
-    let here = c.starts-start-items.ensures config sound within in
+    let starts = starts_in config f.spec f.placement (own_place f c.args.number) in
+    let here = c.own_starts-start-items.ensures config sound within in
     let all : take c.loop-start.start-index starts ≡ starts =
     take_all c.loop-start.start-index starts (omega (arith, ap length here)) in
     c.loop-start.invariant.spots config sound within
     ∙ ap (λ xs. take c.args.count c.args.spots.now ++ xs)
-    (ap (map (spot_at config (placed_of f))) all ∙ sym (spots-here config c.args.place (placed_of f) within))
+    (ap (map (spot_at config (placed_of f))) all ∙ sym (spots-here config (own_place f c.args.number) (placed_of f) within))

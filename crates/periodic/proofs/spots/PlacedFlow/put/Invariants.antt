@@ -4,14 +4,15 @@ use Rattle.minislots.specs.declared.config.Config.{Config}
 use Rattle.periodic.specs.declared.TheConstants.{MAX_SPOTS}
 use Rattle.periodic.specs.Placement.{spot_at, starts_in}
 use Rattle.periodic.specs.Fields.{placed_of, IsSoundFlow}
+use Rattle.periodic.specs.Groups.{own_place}
 use Rattle.periodic.proofs.spots.PlacedFlow.put.Given as goal
 
 abbrev pub invariant-loop-start : goal.invariant-loop-start
 invariant-loop-start l = record {
   long : length l.spots ≡ MAX_SPOTS;
   count : l.next ≡ l.count + l.start-index;
-  spots : (c : Config) → IsSoundFlow c l.self → l.place < c.cycle
+  spots : (c : Config) → IsSoundFlow c l.self → own_place l.self l.number < c.cycle
       → take l.next l.spots ≡ take l.count l.fn.spots
-      ++ map (spot_at c (placed_of l.self)) (take l.start-index (starts_in c l.self.spec l.self.placement l.place));
+      ++ map (spot_at c (placed_of l.self)) (take l.start-index (starts_in c l.self.spec l.self.placement (own_place l.self l.number)));
   rest : drop l.next l.spots ≡ drop l.next l.fn.spots;
 }

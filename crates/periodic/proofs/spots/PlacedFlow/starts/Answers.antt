@@ -1,37 +1,16 @@
--- The starts in a nominal frame are the group behind those of the intervals before it.
-use Rattle.std.proofs.Common.{◌≡◌, ◌≢◌, refl, sym, ap, ◌∙◌, ℕ, ◌+◌, ◌*◌, ◌/◌, ◌%◌, ◌<◌, ◌≤◌, length, arith}
+-- There are starts in a nominal frame alone.
+use Rattle.std.proofs.Common.{◌≢◌, refl, sym, ◌∙◌, ◌%◌}
 use Rattle.std.proofs.lemmas.Bool.{ne_eqb}
-use Rattle.minislots.specs.declared.config.Config.{Config}
-use Rattle.sched_calls.specs.FlowSpec.{interval_frames, grants_of}
-use Rattle.periodic.specs.declared.spots.PlacedFlow.{PlacedFlow}
+use Rattle.sched_calls.specs.FlowSpec.{interval_frames}
 use Rattle.periodic.specs.Placement.{phase_of}
-use Rattle.periodic.specs.Fields.{IsSoundFlow}
-use Rattle.periodic.proofs.Choosing.{starts-at}
-use Rattle.periodic.proofs.Groups.{group-fits, index-within, range-group}
-use Rattle.periodic.proofs.Parameters.{HasPlaces, places_of}
+use Rattle.periodic.proofs.Numbered.{number-place, some-frames}
 use Rattle.periodic.proofs.spots.PlacedFlow.starts.Goals as goal
-
-places : (c : Config) (f : PlacedFlow) → IsSoundFlow c f → HasPlaces c f.spec
-places c f is = places_of c f.spec is.times.lawful is.sound.periodic is.sound.no_fault
-
-some-frames : (c : Config) (f : PlacedFlow) → IsSoundFlow c f → 0 < f.interval
-some-frames c f is = omega (arith, is.times.interval, (places c f is).interval_positive)
-
--- the frame's group is among the starts
-group-within : (c : Config) (f : PlacedFlow) (place : ℕ) → IsSoundFlow c f → place < c.cycle
-    → place / f.interval * f.grants + f.grants ≤ length f.placement.starts
-group-within c f place is within =
-    let frames = interval_frames c f.spec in
-    let low : 0 < frames = (places c f is).interval_positive in
-    let index = index-within frames 0 low c.cycle place (places c f is).divides within in
-    rw (is.times.interval, is.times.grants, is.sound.starts.count)
-    (group-fits (grants_of f.spec) (place / frames) (c.cycle / frames) index)
 
 pub nonzero_rem-place : goal.nonzero_rem-place
 nonzero_rem-place c = some-frames c.requires.sound.0 c.args.self.now c.requires.sound.1
 
-pub nonzero_div-first : goal.nonzero_div-first
-nonzero_div-first c = some-frames c.requires.sound.0 c.args.self.now c.requires.sound.1
+pub nonzero_div-place : goal.nonzero_div-place
+nonzero_div-place c = some-frames c.requires.sound.0 c.args.self.now c.requires.sound.1
 
 pub returns-then-place-self : goal.returns-then-place-self
 returns-then-place-self c = λ config is within.
@@ -42,17 +21,15 @@ returns-then-place-self c = λ config is within.
     λ e. c.if-place-self.true (rw is.times.interval (e ∙ sym is.times.phase)) in
     rw (ne_eqb (c.args.place % frames) phase differ) refl
 
+pub own_starts-requires : goal.own_starts-requires
+own_starts-requires c =
+    let f = c.args.self.now in
+    let (config, sound, within) = c.requires.sound in
+    let same = number-place c.args.place f.interval f.phase c.if-place-self.false in
+    record { sound = (config, sound, rw same within) }
+
 pub returns : goal.returns
 returns c = λ config is within.
     let f = c.args.self.now in
-    let frames = interval_frames config f.spec in
-    let phase = phase_of config f.spec f.placement in
-    let value : f.interval ≡ frames = is.times.interval in
-    let nominal : c.args.place % frames ≡ phase =
-    ap (λ n. c.args.place % n) (sym value) ∙ c.if-place-self.false ∙ is.times.phase in
-    let first : c.args.place / f.interval * f.grants ≡ c.args.place / frames * grants_of f.spec =
-    ap (λ n. c.args.place / n * f.grants) value ∙ ap (λ n. c.args.place / frames * n) is.times.grants in
-    rw c.as_slice-starts.ensures (range-group f.placement.starts (grants_of f.spec) (c.args.place / frames)
-    (c.args.place / f.interval * f.grants) (c.args.place / f.interval * f.grants + f.grants) first
-    (ap (λ n. c.args.place / f.interval * f.grants + n) is.times.grants))
-    ∙ sym (starts-at config f.spec f.placement c.args.place nominal)
+    let same = number-place c.args.place f.interval f.phase c.if-place-self.false in
+    rw same at (c.own_starts.ensures config is (rw same within))

@@ -1,6 +1,5 @@
 -- The rows tell of the placed flows, and the bounds are such.
-use Rattle.std.proofs.Common.{map}
-use Rattle.periodic.specs.Fields.{placed_of}
+use Rattle.periodic.specs.Groups.{placed_in}
 use Rattle.periodic.proofs.table.Table.chosen.Goals as goal
 
 pub choose-requires-clause-bounded : goal.choose-requires-clause-bounded
@@ -11,21 +10,23 @@ invariant_of-self c =
     let is = c.self.invariant in
     record {
       sound = is.sound;
-      times = is.times;
+      each = is.each;
+      filled = is.filled;
       told = is.told;
       bounded = rw c.deref.ensures.value at c.choose.ensures.bounded;
       counted = is.counted;
       summed = is.summed;
+      long = is.long;
     }
 
 pub returns-clause-chosen : goal.returns-clause-chosen
 returns-clause-chosen c =
     let inside = c.self.inside in
-    rw (← c.self.view_is) (c.choose.ensures.chosen (map placed_of inside.flows.items) c.self.invariant.sound
+    rw (← c.self.view_is) (c.choose.ensures.chosen (placed_in inside.groups.items) c.self.invariant.sound
     (rw c.deref.ensures.value c.self.invariant.told) c.self.invariant.counted)
 
 pub returns-clause-absent : goal.returns-clause-absent
 returns-clause-absent c =
     let inside = c.self.inside in
-    rw (← c.self.view_is) (c.choose.ensures.absent (map placed_of inside.flows.items) c.self.invariant.sound
+    rw (← c.self.view_is) (c.choose.ensures.absent (placed_in inside.groups.items) c.self.invariant.sound
     (rw c.deref.ensures.value c.self.invariant.told) c.self.invariant.counted)

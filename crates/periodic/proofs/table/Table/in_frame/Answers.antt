@@ -1,19 +1,29 @@
 -- The spots of the frame's place in the cycle, sorted.
-use Rattle.std.proofs.Common.{◌≡◌, ◌∙◌, ◌≤◌, List, ◌++◌, length, take, map, arith}
+use Rattle.std.proofs.Common.{◌≡◌, refl, ◌∙◌, ◌≤◌, List, ◌++◌, length, take, map, arith}
+use Rattle.std.specs.List.Sorted.{IsPermutation}
 use Rattle.std.proofs.lemmas.List.{take_at, length-take-le}
+use Rattle.std.proofs.lemmas.List.Sorted.{IsPermutation-trans, length_permutation}
 use Rattle.periodic.specs.declared.placement.Spot.{Spot}
 use Rattle.periodic.specs.declared.TheConstants.{MAX_SPOTS}
+use Rattle.periodic.specs.Placement.{spots_in}
 use Rattle.periodic.specs.Fields.{placed_of}
-use Rattle.periodic.proofs.Fields.{sound-flows}
+use Rattle.periodic.specs.Groups.{flows_in, placed_in}
+use Rattle.periodic.proofs.InOrder.{spots-permuted}
 use Rattle.periodic.proofs.Sorted.{IsFrameOf, frame-sorted}
 use Rattle.periodic.proofs.table.Table.in_frame.Goals as goal
 
 pub fill-count-requires : goal.fill-count-requires
 fill-count-requires c =
+    let config = c.self.inside.config in
+    let groups = c.self.inside.groups.items in
+    let flows = map placed_of (flows_in groups) in
+    let k = c.args.k in
+    let few = c.self.invariant.sound.few k in
+    let same = length_permutation (spots_in config k (placed_in groups)) (spots_in config k flows)
+    (spots-permuted config k flows) in
     record {
-      sound = rw c.deref.ensures.value
-          (sound-flows c.self.inside.config c.self.inside.flows.items c.self.inside.rows.items
-          c.self.inside.widest.most c.self.inside.counts.starts c.self.inside.grants c.self.invariant);
+      sound = rw c.deref.ensures.value c.self.invariant.each;
+      few = rw c.deref.ensures.value (omega (arith, few, same));
     }
 
 -- the front of the array is the frame
@@ -22,16 +32,20 @@ in-order : (c : goal.After-sort) (rest : List Spot)
     (take c.fill-count.result (c.sort.new.spots ++ rest))
 in-order c rest =
     let config = c.self.inside.config in
+    let groups = c.self.inside.groups.items in
+    let flows = map placed_of (flows_in groups) in
     let few : c.fill-count.result ≤ MAX_SPOTS = c.fill-count.ensures.most in
     let long : length c.sort.new.spots ≡ c.fill-count.result = c.sort.auto.spots
     ∙ length-take-le c.fill-count.result c.fill-count.new.spots (omega arith) in
     let written = rw c.deref.ensures.value at c.fill-count.ensures.spots in
+    let moved : IsPermutation (spots_in config c.args.k flows) c.sort.new.spots =
+    rw (← written) c.sort.ensures.permutation in
     rw (← c.self.view_is, take_at c.sort.new.spots rest c.fill-count.result long)
-    (frame-sorted config c.args.k (map placed_of c.self.inside.flows.items)
-    (take c.fill-count.result c.fill-count.new.spots)
-    c.sort.new.spots
-    c.fill-count.ensures.lawful c.self.invariant.sound written
-    c.sort.ensures.permutation c.sort.ensures.sorted)
+    (frame-sorted config c.args.k (placed_in groups) (spots_in config c.args.k (placed_in groups))
+    c.sort.new.spots c.fill-count.ensures.lawful c.self.invariant.sound refl
+    (IsPermutation-trans (spots_in config c.args.k (placed_in groups)) (spots_in config c.args.k flows)
+    c.sort.new.spots (spots-permuted config c.args.k flows) moved)
+    c.sort.ensures.sorted)
 
 pub returns-clause-spots : goal.returns-clause-spots
 returns-clause-spots c = (in-order c _).permuted

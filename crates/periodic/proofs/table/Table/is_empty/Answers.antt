@@ -1,12 +1,9 @@
--- As many flows are placed as the vector has.
-use Rattle.std.proofs.Common.{◌≡◌, sym, ap, ◌∙◌, length, rules}
-use Rattle.std.proofs.lemmas.List.{length-map}
+-- The flows are counted.
+use Rattle.std.proofs.Common.{ap, ◌∙◌, length, rules}
 use Rattle.periodic.specs.Table.{TableView}
-use Rattle.periodic.specs.Fields.{placed_of}
 use Rattle.periodic.proofs.table.Table.is_empty.Goals as goal
 
 pub returns : goal.returns
 returns c =
-    let placed : length c.args.self.now.placed ≡ length c.self.inside.flows.items =
-    ap (λ (t : TableView). length t.placed) (sym c.self.view_is) ∙ length-map c.self.inside.flows.items placed_of in
-    rw placed (search rules)
+    let long = c.self.invariant.long ∙ ap (λ (t : TableView). length t.placed) c.self.view_is in
+    rw (← long) (search rules)

@@ -29,22 +29,24 @@ returns-in_err-answer-clause-memory c =
 pub returns-clause-recorded : goal.returns-clause-recorded
 returns-clause-recorded c =
     let a = c.self.inside in
+    let answer = c.in_ok-answer in
     let opens = IsOpenTo-inside a c.args.self.now c.self.view_is c.args.call c.self.invariant c.requires.room
-    c.requires.unrefused in
-    rw (c.note.ensures.reply)
-    (IsRecorded-answered a
-    (record { state = c.answer.new.self; ledger = c.note.new.ledger; entries = c.note.new.entries })
-    c.args.stamp c.args.call
-    c.in_ok-answer.answer c.self.invariant opens (c.in_ok-answer.ensures.answered a.ledger opens)
-    c.note.ensures.counted c.note.ensures.items c.args.self.now c.self.view_is)
+    c.requires.unrefused in (
+      answer.answer.reply,
+      IsRecorded-answered a
+          (record { state = c.answer.new.self; ledger = c.note.new.ledger; entries = c.note.new.entries })
+          c.args.stamp c.args.call answer.answer.reply c.self.invariant c.note.ensures.counted c.note.ensures.items
+          opens (answer.ensures.answered a.ledger opens) c.args.self.now c.self.view_is,
+      answer.ensures.copied,
+    )
 
 pub invariant_of-self-2 : goal.invariant_of-self-2
 invariant_of-self-2 c =
     let a = c.self.inside in
     let opens = IsOpenTo-inside a c.args.self.now c.self.view_is c.args.call c.self.invariant c.requires.room
     c.requires.unrefused in
-    IsSound-answered a _ c.args.stamp c.args.call c.in_ok-answer.answer c.self.invariant opens
-    (c.in_ok-answer.ensures.answered a.ledger opens) c.note.ensures.counted c.note.ensures.items
+    IsSound-answered a _ c.args.stamp c.args.call c.in_ok-answer.answer.reply c.self.invariant
+    c.note.ensures.counted c.note.ensures.items opens (c.in_ok-answer.ensures.answered a.ledger opens)
     c.note.ensures.capacity (subst (λ m. is_full m ≡ false) (sym c.self.view_is) c.requires.room)
 
 pub note-requires-clause-few : goal.note-requires-clause-few

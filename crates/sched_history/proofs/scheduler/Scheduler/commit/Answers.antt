@@ -1,58 +1,75 @@
 -- A planned build is entered.
 use Rattle.std.proofs.Common.{ap, ◌∙◌, sym, subst}
+use Rattle.map_codec.specs.WireMap.{IsWellFormed}
+use Rattle.sched_calls.specs.declared.frame_map.FrameMap.{FrameMap}
 use Rattle.sched_calls.specs.declared.call.Call.TheVariants.{Build}
-use Rattle.sched_history.specs.State.{IsBuildAfter}
+use Rattle.sched_calls.specs.declared.reply.Reply.TheVariants.{Built}
+use Rattle.sched_history.specs.declared.scheduler.Scheduler.TheInside.{Inside}
+use Rattle.sched_history.specs.Planned.{IsPlanAfter}
+use Rattle.sched_history.specs.State.{IsBuildAfter, build_of}
 use Rattle.sched_history.proofs.state.Recording.{IsOpenTo-inside, IsBuildAfter-planned, IsSound-planned}
 use Rattle.sched_history.proofs.state.Recording.{IsRecorded-planned, room-ledger, room-reserved}
 use Rattle.sched_history.proofs.scheduler.Scheduler.commit.Goals as goal
 
-pub commit-answer-requires : goal.commit-answer-requires
-commit-answer-requires c =
+pub commit-reply-requires : goal.commit-reply-requires
+commit-reply-requires c =
     let a = c.self.inside in
-    let m = c.args.self.now in (
+    let m = c.args.self.now in
+    let now = c.planned.inside.clock in
+    let p = build_of now c.planned.inside.frame in
+    let fits = subst (IsPlanAfter m) (sym c.planned.view_is) c.requires in (
+      now,
       a.ledger,
-      IsOpenTo-inside a m c.self.view_is (Build c.args.planned.clock) c.self.invariant c.requires.room
-          c.requires.unrefused,
-      subst (λ n. IsBuildAfter n.config n.history c.args.planned) (sym c.self.view_is)
-          (IsBuildAfter-planned m c.args.planned c.requires),
+      IsOpenTo-inside a m c.self.view_is (Build now) c.self.invariant fits.room fits.unrefused,
+      subst (λ n. IsBuildAfter n.config n.history p) (sym c.self.view_is) (IsBuildAfter-planned m p fits),
     )
 
 pub invariant_of-self : goal.invariant_of-self
 invariant_of-self c =
-    IsSound-planned c.self.inside _ c.args.self.now c.self.view_is c.args.stamp c.args.planned c.commit-answer.result
-    c.self.invariant c.requires c.commit-answer.ensures.answered
-    (rw (ap (λ p. p.clock) c.planned.view_is) at c.note.ensures.counted)
-    (rw (ap (λ p. p.clock) c.planned.view_is) at c.note.ensures.items) c.note.ensures.capacity
+    let m = c.args.self.now in
+    IsSound-planned c.self.inside _ m c.self.view_is c.args.stamp c.planned.inside.clock c.planned.inside.frame
+    c.commit-reply.result c.self.invariant (subst (IsPlanAfter m) (sym c.planned.view_is) c.requires)
+    c.commit-reply.ensures.answered c.note.ensures.counted c.note.ensures.items c.note.ensures.capacity
 
 pub returns-clause-built : goal.returns-clause-built
-returns-clause-built c = c.note.ensures.reply ∙ c.commit-answer.ensures.built
+returns-clause-built c = ap (λ m. Built m) (c.planned.invariant ∙ ap (λ p. p.map) c.planned.view_is)
 
 pub returns-clause-encodable : goal.returns-clause-encodable
-returns-clause-encodable c = rw (returns-clause-built c) (c.requires.encodable)
+returns-clause-encodable c =
+    subst (λ (m : FrameMap). IsWellFormed m.wire)
+    (sym (c.planned.invariant ∙ ap (λ p. p.map) c.planned.view_is)) c.requires.encodable
 
 pub returns-clause-recorded : goal.returns-clause-recorded
-returns-clause-recorded c = rw (c.note.ensures.reply)
-    (IsRecorded-planned c.self.inside (record {
-      state = c.commit-answer.new.self;
+returns-clause-recorded c =
+    let m = c.args.self.now in
+    let now = c.planned.inside.clock in
+    let frame = c.planned.inside.frame in
+    let new : Inside = record {
+      state = c.commit-reply.new.self;
       ledger = c.note.new.ledger;
       entries = c.note.new.entries;
-    })
-    c.args.self.now c.self.view_is c.args.stamp c.args.planned c.commit-answer.result
-    c.self.invariant c.requires c.commit-answer.ensures.answered
-    (rw (ap (λ p. p.clock) c.planned.view_is) at c.note.ensures.counted)
-    (rw (ap (λ p. p.clock) c.planned.view_is) at c.note.ensures.items)).entered
+    } in
+    let one = IsRecorded-planned c.self.inside new m c.self.view_is c.args.stamp now frame c.commit-reply.result
+    c.self.invariant (subst (IsPlanAfter m) (sym c.planned.view_is) c.requires)
+    c.commit-reply.ensures.answered c.note.ensures.counted c.note.ensures.items in
+    let same = c.commit-reply.ensures.built ∙ ap (λ m. Built m) (sym c.planned.invariant) in
+    rw (← same, ← ap (λ p. p.clock) c.planned.view_is) (one.entered)
 
 pub returns-clause-step : goal.returns-clause-step
-returns-clause-step c = rw (c.note.ensures.reply)
-    (IsRecorded-planned c.self.inside (record {
-      state = c.commit-answer.new.self;
+returns-clause-step c =
+    let m = c.args.self.now in
+    let now = c.planned.inside.clock in
+    let frame = c.planned.inside.frame in
+    let new : Inside = record {
+      state = c.commit-reply.new.self;
       ledger = c.note.new.ledger;
       entries = c.note.new.entries;
-    })
-    c.args.self.now c.self.view_is c.args.stamp c.args.planned c.commit-answer.result
-    c.self.invariant c.requires c.commit-answer.ensures.answered
-    (rw (ap (λ p. p.clock) c.planned.view_is) at c.note.ensures.counted)
-    (rw (ap (λ p. p.clock) c.planned.view_is) at c.note.ensures.items)).step
+    } in
+    let one = IsRecorded-planned c.self.inside new m c.self.view_is c.args.stamp now frame c.commit-reply.result
+    c.self.invariant (subst (IsPlanAfter m) (sym c.planned.view_is) c.requires)
+    c.commit-reply.ensures.answered c.note.ensures.counted c.note.ensures.items in
+    let same = c.commit-reply.ensures.built ∙ ap (λ m. Built m) (sym c.planned.invariant) in
+    rw (← same, ← ap (λ p. p.clock) c.planned.view_is) (one.step)
 
 pub returns-clause-legal : goal.returns-clause-legal
 returns-clause-legal c = (invariant_of-self c).legal

@@ -5,7 +5,7 @@ use Rattle.sched_history.specs.History.{IsStep}
 use Rattle.sched_history.specs.Machine.{is_full}
 use Rattle.sched_history.proofs.flows.Refused.{IsQuiet-refused}
 use Rattle.sched_history.proofs.state.Moves.{IsStateAfter-quiet}
-use Rattle.sched_history.proofs.state.Recording.{IsSound-push, room-ledger, room-reserved}
+use Rattle.sched_history.proofs.state.Recording.{IsSound-push, IsRecorded-step, room-ledger, room-reserved}
 use Rattle.sched_history.proofs.scheduler.Scheduler.refuse.Goals as goal
 
 pub invariant_of-self : goal.invariant_of-self
@@ -19,6 +19,15 @@ invariant_of-self c =
     (subst (λ m. IsStep m.config m.history c.args.call reply) was c.requires.step) tt
     (IsStateAfter-quiet a.state a.ledger c.self.invariant.is_after c.args.stamp c.args.call reply
     (IsQuiet-refused a.state.config c.args.call c.args.refusal))
+
+pub returns : goal.returns
+returns c =
+    let a = c.self.inside in
+    let reply = Refused c.args.refusal in
+    IsRecorded-step a (record { state = a.state; ledger = c.note.new.ledger; entries = c.note.new.entries })
+    c.args.stamp c.args.call reply c.self.invariant c.note.ensures.counted c.note.ensures.items
+    c.args.self.now c.self.view_is refl
+    (subst (λ m. IsStep m.config m.history c.args.call reply) (sym c.self.view_is) c.requires.step) tt
 
 pub note-requires-clause-few : goal.note-requires-clause-few
 note-requires-clause-few c = room-ledger c.self.inside c.args.self.now c.self.view_is c.requires.room

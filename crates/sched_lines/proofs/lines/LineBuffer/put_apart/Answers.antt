@@ -7,5 +7,5 @@ pub returns : goal.returns
 returns g c =
     let out = c.in_ok-write_out.ensures in
     rw (sym c.self.view_is)
-    (where_written _ c.put_line-2.result (λ more. Appends-past _ _ _ _ _ _ out.written.0 more out.empty)
-    (λ none. none ∙ out.written.1) c.put_line-2.ensures)
+    (where_written _ c.put_reply_line-2.result (λ more. Appends-past _ _ _ _ _ _ out.written.0 more out.empty)
+    (λ none. none ∙ out.written.1) c.put_reply_line-2.ensures)

@@ -5,4 +5,4 @@ use Rattle.sched_lines.proofs.page.Page.push_line.Goals as goal
 
 pub returns-clause-put : goal.returns-clause-put
 unfolding line_of
-returns-clause-put c = rw (c.push.ensures, c.if-not-push_reply.ensures.put, append_assoc, c.in-Ok.is) refl
+returns-clause-put c = rw (c.push.ensures, c.if-not-push_reply.ensures.put, append_assoc) refl

@@ -22,7 +22,6 @@ returns-clause-answered c = λ h opens.
     let admits = passed-admit s.config h sid spec opens.unrefused in
     let good = good_sid sid admits.good in
     record {
-      twice = refl;
       config = refl;
       answers = answers-best_effort s.config h spec c.requires.aperiodic;
       encodable = tt;

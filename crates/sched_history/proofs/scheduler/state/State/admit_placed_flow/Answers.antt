@@ -53,7 +53,6 @@ returns-in-Ok-clause-answered c = λ h opens.
     let lawful : IsPlacement s.config (table_of h) spec (next_after s.config h) p =
     placement-after s h spec p opens.is_after done.lawful in
     record {
-      twice = ap (λ k. replies.Admitted (Some k)) done.twice;
       config = ap (λ n. n.config) done.same;
       answers = answers-periodic s.config h spec (replies.Admitted (Some p)) c.requires.periodic
           (inl (p, lawful, refl));
@@ -67,7 +66,6 @@ returns-in-Err-NoPlace-clause-answered c = λ h opens.
     let s = c.args.self.now in
     let none = (rw c.in-Err-NoPlace.field-0-is at c.in-Err-NoPlace.ensures).no_place refl in
     rw (c.in-Err-NoPlace.ensures.err) (record {
-      twice = refl;
       config = refl;
       answers = answers-periodic s.config h c.args.spec (replies.Refused NoPlace) c.requires.periodic
           (inr (no_placement-after s h c.args.spec opens.is_after none, refl));

@@ -1,13 +1,20 @@
 -- A build is planned and committed.
+use Rattle.std.proofs.Common.{Some, sym, ap, ◌∙◌}
 use Rattle.sched_history.proofs.scheduler.state.State.build.Goals as goal
+
+pub plan_frame-requires : goal.plan_frame-requires
+plan_frame-requires c = (c.args._now, c.requires.0, c.requires.1)
 
 pub commit-requires : goal.commit-requires
 commit-requires c =
-    let opens = c.requires.1 in
-    let planned = c.in_ok-planned.ensures in
-    (c.requires.0, rw planned.clock opens, planned.fits c.requires.0 opens)
+    let now = c.args._now in
+    let h = c.requires.0 in
+    (now, h, c.requires.1, c.in_ok-frame.ensures.fits now h c.requires.1)
 
 pub returns-clause-answered : goal.returns-clause-answered
 returns-clause-answered c = λ h opens.
-    let planned = c.in_ok-planned.ensures in
-    rw planned.clock at (c.commit.ensures.answered h (rw planned.clock opens) (planned.fits h opens))
+    let now = c.args._now in
+    c.commit.ensures.answered now h opens (c.in_ok-frame.ensures.fits now h opens)
+
+pub returns-clause-copied : goal.returns-clause-copied
+returns-clause-copied c = λ is. c.in_ok-copy.ensures is ∙ ap (λ r. Some r) (sym c.commit.ensures.built)

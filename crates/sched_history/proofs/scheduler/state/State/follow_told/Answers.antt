@@ -10,10 +10,10 @@ pub returns-clause-follows : goal.returns-clause-follows
 returns-clause-follows c = λ is h opens.
     let s = c.args.self.now in
     let call = c.args.call in
-    let answered = c.in_ok-answer.ensures.answered h opens in
+    let answered = c.in_ok-make_told.ensures.answered h opens in
     let told = c.told.ensures h opens in
-    let same : c.in_ok-answer.field-0.reply ≡ c.args.reply.now =
-    told-one s.config h call c.in_ok-answer.field-0.reply c.told.result c.requires.told answered.answers told
+    let same : c.in_ok-make_told.field-0 ≡ c.args.reply.now =
+    told-one s.config h call c.in_ok-make_told.field-0 c.told.result c.requires.told answered.answers told
     ∙ told-same s.config h call c.requires.told c.told.result c.args.reply.now told
     (c.if-not-is_same_flat.ensures.same refl) in
     record {
@@ -21,7 +21,7 @@ returns-clause-follows c = λ is h opens.
       answers = subst (λ r. Answers s.config h call r) same answered.answers;
       encodable = subst (λ r. IsEncodable r) same answered.encodable;
       is_after = λ stamp. subst
-          (λ r. IsStateAfter c.answer.new.self (h ++ record { stamp = stamp; call = call; reply = r } ∷ [])) same
+          (λ r. IsStateAfter c.make_told.new.self (h ++ record { stamp = stamp; call = call; reply = r } ∷ [])) same
           (answered.is_after stamp);
     }
 

@@ -30,7 +30,6 @@ pub returns : goal.returns
 returns c = λ h opens.
     let done = c.remove.ensures in
     record {
-      twice = refl;
       config = ap (λ n. n.config) done.same;
       answers = refl;
       encodable = tt;

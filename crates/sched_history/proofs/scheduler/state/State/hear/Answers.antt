@@ -16,7 +16,6 @@ returns c = λ h opens.
       (bounds_of s.config opens.is_after.lawful).receivers_most,
     ) in
     rw (c.from.ensures) (record {
-      twice = refl;
       config = refl;
       answers = refl;
       encodable = tt;

@@ -5,7 +5,6 @@ use Rattle.sched_history.proofs.scheduler.state.State.note_header.Goals as goal
 
 pub returns : goal.returns
 returns c = λ h opens. record {
-  twice = refl;
   config = refl;
   answers = refl;
   encodable = tt;

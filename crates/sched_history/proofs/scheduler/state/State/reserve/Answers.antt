@@ -29,7 +29,6 @@ pub returns : goal.returns
 returns c = λ h opens.
     let s = c.args.self.now in
     rw (c.add.ensures) (record {
-      twice = refl;
       config = refl;
       answers = refl;
       encodable = tt;

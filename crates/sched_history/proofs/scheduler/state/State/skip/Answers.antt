@@ -7,7 +7,6 @@ pub returns : goal.returns
 returns c = λ h opens.
     let next = c.start_after-self.result in
     record {
-      twice = refl;
       config = refl;
       answers = (next, c.start_after-self.ensures, refl);
       encodable = tt;

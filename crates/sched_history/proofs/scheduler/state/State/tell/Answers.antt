@@ -20,7 +20,6 @@ returns c = λ h opens.
     let sums = c.bytes_of-asked.result in
     let reply = replies.Flow sums.0 sums.1 sums.2 in
     record {
-      twice = refl;
       config = refl;
       answers = status-after s h c.args.sid opens.is_after (passed-status s.config h c.args.sid opens.unrefused) reply
           c.bytes_of-asked.ensures;

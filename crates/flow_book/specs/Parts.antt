@@ -1,0 +1,95 @@
+-- The queue while a MAP is planned, where many wait in two parts: those that it served, and the others.
+use Rattle.std.specs.Prelude.{◌≡◌, ◌≢◌, ℕ, ◌≤◌, ◌⊎◌, Bool, true, false, List, [], filter, map, Option, None, Some}
+use Rattle.std.specs.Prelude.{◌+◌, min, IfSome, slice_get, length, take, drop, insert, if◌then◌else◌}
+use Rattle.std.specs.List.{AllByRecursion}
+use Rattle.minislots.specs.declared.config.Config.{Config}
+use Rattle.flow_book.specs.declared.flow.Flow.{Flow}
+use Rattle.flow_book.specs.declared.queue.Waiting.{Waiting}
+use Rattle.flow_book.specs.declared.parts.Standing.{Standing}
+use Rattle.flow_book.specs.declared.parts.Standing.TheVariants.{Queued, Served}
+use Rattle.flow_book.specs.Choice.{HasStartedBy, IsNext}
+use Rattle.flow_book.specs.Bucket.{most_of, HasOneMore, StaysSettled}
+use Rattle.flow_book.specs.Entry.{live, IsBook, IsTurn}
+use Rattle.flow_book.specs.Sids.{put_in}
+use Rattle.flow_book.specs.Queue.{IsAt, IsIn, IsQueueAmong, IsQueueIn, AreOnce, still_waits}
+
+-- the one that stands there
+abbrev pub one_at : Standing → List Waiting → List Waiting → Option Waiting
+one_at (Queued index) queue served = slice_get queue index
+one_at (Served index) queue served = slice_get served index
+
+-- The flows are a book's and the two parts are theirs, and all their grants have started by this minislot
+pub record HasStartedIn (c : Config) (items : List Flow) (queue served : List Waiting) (start : ℕ) : Type 0 where
+  pub book : IsBook c items
+  pub order : IsQueueIn items queue served
+  pub started : AllByRecursion (HasStartedBy start) (map live items)
+
+-- those before this place come no later than the one of the queue, and the others no earlier: where there is none, none
+-- are behind it
+abbrev pub IsAheadOf : List Waiting → List Waiting → ℕ → Option ℕ → Type 0
+IsAheadOf queue served ahead None = ahead ≡ length served
+IsAheadOf queue served ahead (Some index) =
+    (w : Waiting) → slice_get queue index ≡ Some w → AllByRecursion (λ v. v.turn ≤ w.turn) (take ahead served)
+    × AllByRecursion (λ v. w.turn ≤ v.turn) (drop ahead served)
+
+-- the flow that is served first, in so many minislots, stands here and still waits
+pub record IsNextIn (c : Config) (items : List Flow) (queue served : List Waiting) (start room : ℕ) (at : Standing)
+    : Type 0 where
+  pub waiting : Waiting
+  pub here : one_at at queue served ≡ Some waiting
+  pub waits : still_waits waiting ≡ true
+  pub flow : Flow
+  pub stands : slice_get items waiting.place ≡ Some flow
+  pub next : IsNext c (map live items) start room (live flow)
+
+-- One was put in its turn among those served before, and of the queue the others are left that still wait
+pub record IsPutIn (items : List Flow) (w : Waiting) (served queue_after served_after : List Waiting) : Type 0 where
+  pub left : List Waiting
+  pub among : IsQueueAmong items (λ place. IsIn place left) left
+  pub out : IsIn w.place left → ⊥
+  pub stay : (place : ℕ) → IsIn place served → (place ≡ w.place) ⊎ IsIn place left
+  pub others : IsQueueAmong items (λ place. (IsIn place left → ⊥) × (place ≢ w.place)) (filter still_waits queue_after)
+  pub is : served_after ≡ put_in (λ v. v.turn) w left
+
+-- One was put among the others of the queue before, in its turn where it still waits
+pub record IsPutBack (items : List Flow) (w : Waiting) (queue queue_after : List Waiting) : Type 0 where
+  pub others : List Waiting
+  pub each : AllByRecursion (IsAt items) others
+  pub once : AreOnce others
+  pub new : AllByRecursion (λ v. v.place ≢ w.place) others
+  pub among : IsQueueAmong items (λ other. other ≢ w.place) (filter still_waits others)
+  pub stay : (place : ℕ) → IsIn place queue → (place ≡ w.place) ⊎ IsIn place others
+  pub at : ℕ
+  pub within : at ≤ length others
+  pub is : queue_after ≡ insert others at w
+  pub still : filter still_waits queue_after ≡ (if still_waits w then put_in (λ v. v.turn) w (filter still_waits others)
+      else filter still_waits others)
+
+-- one was put in its turn among those served, where many wait, and else in the queue
+abbrev pub IsPut : Bool → List Flow → Waiting → List Waiting → List Waiting → List Waiting → List Waiting → Type 0
+IsPut true items w queue served queue_after served_after = IsPutIn items w served queue_after served_after
+IsPut false items w queue served queue_after served_after = IsPutBack items w queue queue_after × (served_after ≡ [])
+
+-- One that waited was granted so many bytes at this minislot, the most that it may have of so many, and this is its SID
+pub record IsGranted (w new : Waiting) (start most sid bytes : ℕ) : Type 0 where
+  pub amount : bytes ≡ most_of w.bucket start (min w.wants most)
+  pub wants : new.wants + bytes ≡ w.wants
+  pub place : new.place ≡ w.place
+  pub bucket : HasOneMore w.bucket new.bucket start bytes
+  pub settled : StaysSettled w.bucket new.bucket start bytes
+  pub turn : (rank : ℕ) (last : Option ℕ) (sid : ℕ) → IsTurn rank last sid w.turn → IsTurn rank (Some start) sid new.turn
+  pub later : (rank : ℕ) (last : Option ℕ) (sid : ℕ) → IsTurn rank last sid w.turn → IfSome last (λ m. m ≤ start)
+      → w.turn ≤ new.turn
+  pub is : (rank : ℕ) (last : Option ℕ) (other : ℕ) → IsTurn rank last other new.turn → sid ≡ other
+
+-- The flow that is served first, in so many minislots, was granted the most that it may have of so many bytes, and was
+-- put where it stands from now on
+pub record IsServedFirst (c : Config) (is_long : Bool) (items : List Flow) (queue served queue_after served_after : List
+    Waiting) (start room most sid bytes : ℕ) : Type 0 where
+  pub at : Standing
+  pub waiting : Waiting
+  pub new : Waiting
+  pub here : one_at at queue served ≡ Some waiting
+  pub next : IsNextIn c items queue served start room at
+  pub granted : IsGranted waiting new start most sid bytes
+  pub put : IsPut is_long items new queue served queue_after served_after

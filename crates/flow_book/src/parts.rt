@@ -1,0 +1,262 @@
+//! The flows that wait while a MAP is planned. Where they are many they stand in two parts: those that it served, and
+//! the others.
+
+ghost use Rattle.std.specs.Prelude.{◌≡◌, ◌<◌, ◌≤◌, ◌+◌, ℕ, List, [], map, filter, length, true, false, IfSome, MatchOption};
+ghost use Rattle.std.specs.Prelude.{None, Some, ◌^◌};
+ghost use Rattle.std.specs.Prelude.{option_map, slice_get, vec_capacity};
+ghost use Rattle.minislots.specs.Config.{IsLawful};
+ghost use Rattle.flow_book.specs.declared.flow.Flow.{Flow};
+ghost use Rattle.flow_book.specs.declared.queue.Waiting.{Waiting};
+ghost use Rattle.flow_book.specs.Choice.{NoneEligible};
+ghost use Rattle.flow_book.specs.Entry.{live, IsRoom};
+ghost use Rattle.flow_book.specs.Sids.{AscendBy, put_in};
+ghost use Rattle.flow_book.specs.Queue.{IsOrderIn, IsQueueIn, IsShortQueue, HasRoom, NoneWaitsBefore, still_waits};
+ghost use Rattle.flow_book.specs.declared.parts.Standing.TheVariants.{Queued};
+ghost use Rattle.flow_book.specs.Parts.{one_at, HasStartedIn, IsAheadOf, IsNextIn, IsPutIn, IsPutBack, IsGranted, IsServedFirst};
+
+use crate::flow::{Room, Served};
+use crate::queue::{Waiting, first_able, move_back, place_after, put_on};
+use minislots::Checked;
+
+// Where one stands that waits: in the queue, or among those that the MAP served.
+#[derive(Clone, Copy)]
+pub(crate) enum Standing {
+    Queued(usize),
+    Served(usize),
+}
+
+// The place among those served behind which none comes before this one of the queue: the end where there is none.
+fn ahead_of(queue: &[Waiting], queued: Option<usize>, served: &[Waiting]) -> usize
+    requires within { IfSome queued (λ index. index < length queue.now) }
+    requires ascending { AscendBy (λ w. w.turn) served.now }
+    ensures within { result ≤ length served.now }
+    ensures ahead { IsAheadOf queue.now served.now result queued }
+{
+    match queued {
+        Some(index) => place_after(served, queue[index].turn),
+        None => served.len(),
+    }
+}
+
+// One stands there in the queue.
+fn in_queue(queued: Option<usize>) -> Option<Standing>
+    ensures { result ≡ option_map Queued queued }
+{
+    match queued {
+        Some(index) => Some(Standing::Queued(index)),
+        None => None,
+    }
+}
+
+// Where the flow stands that is served first at this minislot, of those that may be served. None of the queue before
+// the first place wants anything.
+fn first_of(
+    queue: &[Waiting],
+    first: usize,
+    served: &[Waiting],
+    config: &Checked,
+    start: u64,
+    room: Room,
+) -> Option<Standing>
+    requires room { IsRoom config.now room }
+    requires passed { NoneWaitsBefore first queue.now }
+    requires started { (items : List Flow) × HasStartedIn config.now items queue.now served.now start }
+    ensures next { (items : List Flow) → HasStartedIn config.now items queue.now served.now start
+        → MatchOption result (NoneEligible config.now (map live items) start room.slots)
+        (IsNextIn config.now items queue.now served.now start room.slots) }
+    ensures lawful { IsLawful config.now }
+{
+    let queued = first_able(queue, first, config, start, room);
+    if served.is_empty() {
+        return in_queue(queued);
+    }
+    let ahead = ahead_of(queue, queued, served);
+    if let Some(index) = first_able(&served[..ahead], 0, config, start, room) {
+        return Some(Standing::Served(index));
+    }
+    in_queue(queued)
+}
+
+// The one that stands there.
+fn one_at(queue: &[Waiting], served: &[Waiting], standing: Standing) -> Waiting
+    requires { (w : Waiting) × (one_at standing queue.now served.now ≡ Some w) }
+    ensures { one_at standing queue.now served.now ≡ Some result }
+{
+    match standing {
+        Standing::Queued(index) => queue[index],
+        Standing::Served(index) => served[index],
+    }
+}
+
+// Puts one in its turn among those served, where there is room for it.
+fn put_reserved(served: &mut Vec<Waiting>, waiting: Waiting)
+    requires room { length served.old.items < vec_capacity served.old }
+    requires ascending { AscendBy (λ w. w.turn) served.old.items }
+    ensures put { served.new.items ≡ put_in (λ w. w.turn) waiting served.old.items }
+    ensures capacity { vec_capacity served.old ≤ vec_capacity served.new }
+{
+    let index = place_after(served, waiting.turn);
+    let _ = served.insert(index, waiting);
+}
+
+// Puts the one at this place in the queue, which is served and whose turn is no earlier than before, among those served:
+// in the queue it wants nothing any more.
+fn put_queued(queue: &mut Vec<Waiting>, served: &mut Vec<Waiting>, index: usize, waiting: Waiting)
+    requires order { (items : List Flow) × IsQueueIn items queue.old.items served.old.items }
+    requires here { (w : Waiting) × (slice_get queue.old.items index ≡ Some w) × (still_waits w ≡ true)
+        × (w.turn ≤ waiting.turn) }
+    requires room { HasRoom true queue.old.items served.old.items (vec_capacity served.old) }
+    ensures put { (items : List Flow) (w : Waiting)
+        → IsQueueIn items queue.old.items served.old.items → slice_get queue.old.items index ≡ Some w
+        → still_waits w ≡ true → w.place ≡ waiting.place
+        → IsPutIn items waiting served.old.items queue.new.items served.new.items }
+    ensures passed { (first : ℕ) → NoneWaitsBefore first queue.old.items → NoneWaitsBefore first queue.new.items }
+    ensures room { HasRoom true queue.new.items served.new.items (vec_capacity served.new) }
+{
+    put_reserved(served, waiting);
+    queue[index].wants = 0;
+}
+
+// Puts the one that stands there, which is served and whose turn is no earlier than before, among those served.
+fn put_served(
+    queue: &mut Vec<Waiting>,
+    served: &mut Vec<Waiting>,
+    standing: Standing,
+    waiting: Waiting,
+)
+    requires order { (items : List Flow) × IsQueueIn items queue.old.items served.old.items }
+    requires here { (w : Waiting) × (one_at standing queue.old.items served.old.items ≡ Some w)
+        × (still_waits w ≡ true) × (w.turn ≤ waiting.turn) }
+    requires room { HasRoom true queue.old.items served.old.items (vec_capacity served.old) }
+    ensures put { (items : List Flow) (w : Waiting)
+        → IsQueueIn items queue.old.items served.old.items
+        → one_at standing queue.old.items served.old.items ≡ Some w → still_waits w ≡ true → w.place ≡ waiting.place
+        → IsPutIn items waiting served.old.items queue.new.items served.new.items }
+    ensures passed { (first : ℕ) → NoneWaitsBefore first queue.old.items → NoneWaitsBefore first queue.new.items }
+    ensures room { HasRoom true queue.new.items served.new.items (vec_capacity served.new) }
+{
+    match standing {
+        Standing::Queued(index) => put_queued(queue, served, index, waiting),
+        Standing::Served(index) => move_back(served, index, waiting),
+    }
+}
+
+// The first place of the queue from this one on where one waits, or its end.
+fn first_waiting(queue: &[Waiting], first: usize) -> usize
+    requires { NoneWaitsBefore first queue.now }
+    ensures { NoneWaitsBefore result queue.now }
+{
+    let mut at = first;
+    while at < queue.len() && queue[at].wants == 0 {
+        at += 1;
+    }
+    at
+}
+
+// Grants one that waits, at this minislot, the most bytes that it may have of so many, and answers to whom they went.
+fn serve_one(waiting: &mut Waiting, start: u64, most: u64) -> Served
+    requires since { waiting.old.bucket.since ≤ start }
+    requires most { most < 2 ^ 32 }
+    ensures { IsGranted waiting.old waiting.new start most result.sid result.bytes }
+{
+    let bytes = waiting.serve(start, most);
+    Served {
+        sid: waiting.sid(),
+        bytes,
+    }
+}
+
+// Puts the one at this place in a short queue, which is served and whose turn is no earlier than before, back into it.
+fn put_short(queue: &mut Vec<Waiting>, index: usize, waiting: Waiting)
+    requires order { (items : List Flow) × IsShortQueue items queue.old.items }
+    requires here { (w : Waiting) × (slice_get queue.old.items index ≡ Some w) × (still_waits w ≡ true)
+        × (w.turn ≤ waiting.turn) }
+    ensures { (items : List Flow) (w : Waiting) → IsShortQueue items queue.old.items
+        → slice_get queue.old.items index ≡ Some w → still_waits w ≡ true → w.place ≡ waiting.place
+        → IsPutBack items waiting queue.old.items queue.new.items }
+{
+    put_on(queue, index, waiting);
+}
+
+// Serves the first that may be served where few wait.
+fn serve_short(queue: &mut Vec<Waiting>, config: &Checked, start: u64, room: Room) -> Option<Served>
+    requires room { IsRoom config.now room }
+    requires started { (items : List Flow) × IsShortQueue items queue.old.items
+        × HasStartedIn config.now items queue.old.items [] start }
+    ensures next { (items : List Flow) → IsShortQueue items queue.old.items
+        → HasStartedIn config.now items queue.old.items [] start
+        → MatchOption result (NoneEligible config.now (map live items) start room.slots)
+        (λ s. IsServedFirst config.now false items queue.old.items [] queue.new.items [] start room.slots room.bytes
+        s.sid s.bytes) }
+    ensures none { result ≡ None → queue.new ≡ queue.old }
+    ensures lawful { IsLawful config.now }
+{
+    let index = first_able(queue, 0, config, start, room)?;
+    let mut waiting = queue[index];
+    let granted = serve_one(&mut waiting, start, room.bytes);
+    put_short(queue, index, waiting);
+    Some(granted)
+}
+
+// Serves the first that may be served where many wait. None of the queue before the first place wants anything.
+#[inline(never)]
+fn serve_long(
+    queue: &mut Vec<Waiting>,
+    first: &mut usize,
+    served: &mut Vec<Waiting>,
+    config: &Checked,
+    start: u64,
+    room: Room,
+) -> Option<Served>
+    requires room { IsRoom config.now room }
+    requires passed { NoneWaitsBefore first.old queue.old.items }
+    requires reserved { HasRoom true queue.old.items served.old.items (vec_capacity served.old) }
+    requires started { (items : List Flow) × HasStartedIn config.now items queue.old.items served.old.items start }
+    ensures next { (items : List Flow) → HasStartedIn config.now items queue.old.items served.old.items start
+        → MatchOption result (NoneEligible config.now (map live items) start room.slots)
+        (λ s. IsServedFirst config.now true items queue.old.items served.old.items queue.new.items served.new.items start
+        room.slots room.bytes s.sid s.bytes) }
+    ensures none { result ≡ None → (queue.new ≡ queue.old) × (served.new ≡ served.old) }
+    ensures passed { NoneWaitsBefore first.new queue.new.items }
+    ensures reserved { HasRoom true queue.new.items served.new.items (vec_capacity served.new) }
+    ensures lawful { IsLawful config.now }
+{
+    let standing = first_of(queue, *first, served, config, start, room)?;
+    let mut waiting = one_at(queue, served, standing);
+    let granted = serve_one(&mut waiting, start, room.bytes);
+    put_served(queue, served, standing, waiting);
+    *first = first_waiting(queue, *first);
+    Some(granted)
+}
+
+// Serves the first that may be served, and puts it where it stands from now on. Where many wait none of the queue before
+// the first place wants anything.
+pub(crate) fn serve_first(
+    queue: &mut Vec<Waiting>,
+    first: &mut usize,
+    served: &mut Vec<Waiting>,
+    is_long: bool,
+    config: &Checked,
+    start: u64,
+    room: Room,
+) -> Option<Served>
+    requires room { IsRoom config.now room }
+    requires passed { is_long ≡ true → NoneWaitsBefore first.old queue.old.items }
+    requires reserved { HasRoom is_long queue.old.items served.old.items (vec_capacity served.old) }
+    requires started { (items : List Flow) × IsOrderIn is_long items queue.old.items served.old.items
+        × HasStartedIn config.now items queue.old.items served.old.items start }
+    ensures next { (items : List Flow) → IsOrderIn is_long items queue.old.items served.old.items
+        → HasStartedIn config.now items queue.old.items served.old.items start
+        → MatchOption result (NoneEligible config.now (map live items) start room.slots)
+        (λ s. IsServedFirst config.now is_long items queue.old.items served.old.items queue.new.items served.new.items
+        start room.slots room.bytes s.sid s.bytes) }
+    ensures none { result ≡ None → (queue.new ≡ queue.old) × (served.new ≡ served.old) }
+    ensures passed { is_long ≡ true → NoneWaitsBefore first.new queue.new.items }
+    ensures reserved { HasRoom is_long queue.new.items served.new.items (vec_capacity served.new) }
+    ensures lawful { IsLawful config.now }
+{
+    if is_long {
+        return serve_long(queue, first, served, config, start, room);
+    }
+    serve_short(queue, config, start, room)
+}
